@@ -4,6 +4,21 @@
 //! chapters "RV32I Base Integer Instruction Set" 2.1 and "M Standard Extension" 2.0.
 #![tactic(auto)]
 
+mod decoding;
+mod display;
+mod encoding;
+mod fields;
+mod instr;
+mod laws;
+mod op;
 mod pool;
 
+pub use decoding::decode;
+pub use encoding::encode;
+pub use instr::{Instr, Sources};
+pub use laws::{instruction_has_one_word, meaning_is_the_table, word_means_one_instruction};
+pub use op::{Form, Op};
 pub use pool::{PoolId, UnitId};
+
+#[cfg(test)]
+mod tests;
