@@ -1,0 +1,6 @@
+pub mod Memory
+pub mod Words
+pub mod Steps
+pub mod Machine
+pub mod Run
+pub mod Trace

@@ -1,0 +1,178 @@
+//! The in-order machine: registers, pc and memory of one program that runs.
+
+ghost use Rattle.std.specs.Prelude.{◌≡◌};
+
+use std::alloc::{AllocError, Allocator, Global};
+use std::marker::Model;
+
+use tomex_image::Image;
+use tomex_rvdec::{Op, decode};
+
+use crate::end::End;
+use crate::memory::Memory;
+use crate::outcome::{EndKind, Fault, FaultKind, Stepped};
+use crate::step::Step;
+use crate::words::{alu, muldiv, taken};
+
+mod effects;
+
+/// A program that runs in order, a whole instruction at a time.
+///
+/// Fetches read the image as it was loaded: a store never changes what is fetched.
+#[derive(Drop)]
+pub struct Cpu<'a, A: Allocator = Global> {
+    image: &'a Image<A>,
+    pc: u32,
+    regs: [u32; 32],
+    memory: Memory<A>,
+}
+
+impl<'a, A: Allocator> Model for Cpu<'a, A> {
+    ghost use Rattle.std.specs.Prelude.{◌≡◌, length, slice_index};
+    ghost use Rattle.tomex_image.specs.Image.{IsLoaded};
+    ghost use Rattle.tomex_rvexec.specs.Machine.{State};
+
+    ghost Value = { State };
+
+    ghost view = { λ c. record { image = c.image.now; pc = c.pc; regs = c.regs; memory = c.memory.bytes } };
+
+    ghost invariant = { λ c. (c.memory.base ≡ c.image.now.window.base)
+        × (length c.memory.bytes ≡ c.image.now.window.size)
+        × IsLoaded c.image.now.window c.image.now.memory c.image.now.entry
+        × (slice_index c.regs 0 ≡ 0) };
+}
+
+impl<'a, A: Allocator> Cpu<'a, A> {
+    ghost use Rattle.std.specs.Prelude.{◌≡◌, IfOk, IfErr, IfSome, IfNone, slice_index, Some, ◌<◌, IsTrue, false};
+    ghost use Rattle.tomex_rvexec.specs.Machine.{step_of, coming_of, executes, holds, fetched, outcome_of};
+    ghost use Rattle.tomex_rvexec.specs.Run.{start_of, Answers};
+
+    /// The machine before the first step: all registers zero but x2, which is the end of memory
+    /// rounded down to a multiple of 16; the pc at the image's entry.
+    pub fn new(alloc: A, image: &'a Image<A>) -> Result<Self, AllocError>
+        ensures { IfOk result (λ c. c ≡ start_of image.now) }
+    {
+        let mut bytes = Vec::with_capacity(alloc, image.memory().len())?;
+        bytes.extend_from_slice(image.memory())?;
+        let window = image.window();
+        let mut regs = [0; 32];
+        let end = u64::from(window.base()) + u64::from(window.size());
+        regs[2] = (end / 16 * 16 % (1 << 32)) as u32;
+        Ok(Cpu { image, pc: image.entry(), regs, memory: Memory::new(window.base(), bytes) })
+    }
+
+    /// The address of the instruction that comes next.
+    pub fn pc(&self) -> u32
+        ensures { result ≡ self.now.pc }
+    {
+        self.pc
+    }
+
+    fn register(&self, r: u8) -> u32
+        requires { r < 32 }
+        ensures { result ≡ slice_index self.now.regs r }
+    {
+        self.regs[r as usize]
+    }
+
+    /// A fault of the instruction at the pc.
+    fn fault(&self, kind: FaultKind) -> Fault
+        ensures { result ≡ record { kind = kind; pc = self.now.pc } }
+    {
+        Fault { kind, pc: self.pc }
+    }
+
+    /// The word at the pc in the image as it was loaded.
+    fn fetch(&self) -> Option<u32>
+        ensures some { IfSome result (λ w. IsTrue (holds self.now self.now.pc 4) × (w ≡ fetched self.now)) }
+        ensures none { IfNone result (holds self.now self.now.pc 4 ≡ false) }
+    {
+        let place = self.memory.place(self.pc, 4)?;
+        let code = self.image.memory();
+        Some(u32::from_le_bytes([code[place], code[place + 1], code[place + 2], code[place + 3]]))
+    }
+
+    /// The instruction at the pc, with its operands' values.
+    #[tactic(auto, unfolding(crate::specs::Machine::step_of))]
+    fn coming(&self) -> Result<Step, Fault>
+        ensures ok { IfOk result (λ x. (coming_of self.now ≡ Some x) × IsTrue (holds self.now self.now.pc 4)) }
+        ensures err { IfErr result (λ e. Answers (step_of self.now) self.now (Err e) self.now) }
+    {
+        let Some(word) = self.fetch() else {
+            return Err(self.fault(FaultKind::Fetch));
+        };
+        let Some(instr) = decode(word) else {
+            return Err(self.fault(FaultKind::Illegal));
+        };
+        let vj = self.register(instr.rs1());
+        let vk = self.register(instr.rs2());
+        Ok(Step { pc: self.pc, instr, vj, vk })
+    }
+
+    /// Carries out one instruction.
+    fn execute(&mut self, step: &Step) -> Result<Stepped, Fault>
+        ensures { Answers (executes step.now.instr.op step.now self.old) self.old result self.new }
+    {
+        let (op, rd, imm) = (step.instr.op(), step.instr.rd(), step.instr.imm());
+        let (vj, vk) = (step.vj, step.vk);
+        let address = vj.wrapping_add(imm);
+        let target = self.pc.wrapping_add(imm);
+        match op {
+            Op::Lui => self.write(rd, imm),
+            Op::Auipc => self.write(rd, target),
+            Op::Jal => self.jump(rd, target),
+            Op::Jalr => self.jump(rd, address & !1),
+            Op::Beq | Op::Bne | Op::Blt | Op::Bge | Op::Bltu | Op::Bgeu => self.branch(taken(op, vj, vk), target),
+            Op::Lb => self.load_byte(rd, address),
+            Op::Lh => self.load_half(rd, address),
+            Op::Lw => self.load_word(rd, address),
+            Op::Lbu => self.load_byte_unsigned(rd, address),
+            Op::Lhu => self.load_half_unsigned(rd, address),
+            Op::Sb => self.store_byte(address, vk),
+            Op::Sh => self.store_half(address, vk),
+            Op::Sw => self.store_word(address, vk),
+            Op::Addi | Op::Slti | Op::Sltiu | Op::Xori | Op::Ori | Op::Andi | Op::Slli | Op::Srli | Op::Srai => {
+                self.write(rd, alu(op, vj, imm))
+            }
+            Op::Add | Op::Sub | Op::Sll | Op::Slt | Op::Sltu | Op::Xor | Op::Srl | Op::Sra | Op::Or | Op::And => {
+                self.write(rd, alu(op, vj, vk))
+            }
+            Op::Mul | Op::Mulh | Op::Mulhsu | Op::Mulhu | Op::Div | Op::Divu | Op::Rem | Op::Remu => {
+                self.write(rd, muldiv(op, vj, vk))
+            }
+            Op::Fence => {
+                self.pc = self.pc.wrapping_add(4);
+                Ok(Stepped::Next)
+            }
+            Op::Ecall => Ok(Stepped::Ended(EndKind::Ecall)),
+            Op::Ebreak => Ok(Stepped::Ended(EndKind::Ebreak)),
+        }
+    }
+
+    /// One step. After a fault or an end nothing has changed, so the next step answers the same.
+    #[tactic(auto, unfolding(crate::specs::Machine::step_of))]
+    pub fn step(&mut self) -> Result<Stepped, Fault>
+        ensures { Answers (step_of self.old) self.old result self.new }
+    {
+        let step = self.coming()?;
+        self.execute(&step)
+    }
+
+    /// One step, with its record.
+    #[tactic(auto, unfolding(crate::specs::Machine::step_of))]
+    pub(crate) fn recorded_step(&mut self) -> Result<(Step, Stepped), Fault>
+        ensures ok { IfOk result (λ r. (coming_of self.old ≡ Some r.0) × Answers (step_of self.old) self.old (Ok r.1) self.new) }
+        ensures err { IfErr result (λ e. Answers (step_of self.old) self.old (Err e) self.new) }
+    {
+        let step = self.coming()?;
+        let stepped = self.execute(&step)?;
+        Ok((step, stepped))
+    }
+
+    /// The end of a run of so many steps.
+    pub(crate) fn into_end(self, kind: EndKind, steps: u32) -> End<A>
+        ensures { (result.kind ≡ kind) × (result.pc ≡ self.entry.pc) × (result.steps ≡ steps) × (result.regs ≡ self.entry.regs) × (result.memory.bytes ≡ self.entry.memory) × (result.memory.base ≡ self.entry.image.window.base) }
+    {
+        End { kind, pc: self.pc, steps, regs: self.regs, memory: self.memory }
+    }
+}

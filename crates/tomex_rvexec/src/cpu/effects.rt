@@ -1,0 +1,143 @@
+//! What instructions do to the machine: writes of registers, jumps, loads and stores.
+
+ghost use Rattle.std.specs.Prelude.{◌≡◌};
+
+use std::alloc::Allocator;
+
+use super::Cpu;
+use crate::outcome::{Fault, FaultKind, Stepped};
+
+impl<'a, A: Allocator> Cpu<'a, A> {
+    ghost use Rattle.std.specs.Prelude.{◌≡◌, IfOk, IfErr, ◌+◌, ◌-◌, ◌<◌, ◌≤◌, IsTrue, false, length};
+    ghost use Rattle.tomex_rvexec.specs.Machine.{writes, jumps, branches, loads, stores, with_register, holds, base_of, from_byte, from_half};
+    ghost use Rattle.tomex_rvexec.specs.Memory.{byte_read, half_read, word_read, byte_written, half_written, word_written};
+    ghost use Rattle.tomex_rvexec.specs.Run.{Answers};
+
+    fn write_register(&mut self, r: u8, value: u32)
+        requires { r < 32 }
+        ensures { self.new ≡ record self.old { regs = with_register self.old.regs r value } }
+    {
+        if r != 0 {
+            self.regs[r as usize] = value;
+        }
+    }
+
+    /// Writes the register and goes on to the next instruction.
+    pub(super) fn write(&mut self, r: u8, value: u32) -> Result<Stepped, Fault>
+        requires { r < 32 }
+        ensures { Answers (writes self.old r value) self.old result self.new }
+    {
+        self.write_register(r, value);
+        self.pc = self.pc.wrapping_add(4);
+        Ok(Stepped::Next)
+    }
+
+    pub(super) fn jump(&mut self, r: u8, target: u32) -> Result<Stepped, Fault>
+        requires { r < 32 }
+        ensures { Answers (jumps self.old r target) self.old result self.new }
+    {
+        if target % 4 != 0 {
+            return Err(self.fault(FaultKind::MisalignedTarget));
+        }
+        let link = self.pc.wrapping_add(4);
+        self.write_register(r, link);
+        self.pc = target;
+        Ok(Stepped::Next)
+    }
+
+    pub(super) fn branch(&mut self, taken: bool, target: u32) -> Result<Stepped, Fault>
+        ensures { Answers (branches self.old taken target) self.old result self.new }
+    {
+        if !taken {
+            self.pc = self.pc.wrapping_add(4);
+            return Ok(Stepped::Next);
+        }
+        if target % 4 != 0 {
+            return Err(self.fault(FaultKind::MisalignedTarget));
+        }
+        self.pc = target;
+        Ok(Stepped::Next)
+    }
+
+    fn place(&self, address: u32, count: u32) -> Result<usize, Fault>
+        ensures ok { IfOk result (λ i. IsTrue (holds self.now address count) × (i ≡ address - base_of self.now) × (i + count ≤ length self.now.memory)) }
+        ensures err { IfErr result (λ e. (holds self.now address count ≡ false) × (e ≡ record { kind = FaultKind.Access; pc = self.now.pc })) }
+    {
+        match self.memory.place(address, count) {
+            Some(place) => Ok(place),
+            None => Err(self.fault(FaultKind::Access)),
+        }
+    }
+
+    pub(super) fn load_byte(&mut self, r: u8, address: u32) -> Result<Stepped, Fault>
+        requires { r < 32 }
+        ensures { Answers (loads self.old r address 1 (λ m i. from_byte (byte_read m i))) self.old result self.new }
+    {
+        let place = self.place(address, 1)?;
+        let value = u32::from(self.memory.byte(place));
+        self.write(r, if value < 0x80 { value } else { value + 0xffff_ff00 })
+    }
+
+    pub(super) fn load_half(&mut self, r: u8, address: u32) -> Result<Stepped, Fault>
+        requires { r < 32 }
+        ensures { Answers (loads self.old r address 2 (λ m i. from_half (half_read m i))) self.old result self.new }
+    {
+        let place = self.place(address, 2)?;
+        let value = u32::from(self.memory.half(place));
+        self.write(r, if value < 0x8000 { value } else { value + 0xffff_0000 })
+    }
+
+    pub(super) fn load_word(&mut self, r: u8, address: u32) -> Result<Stepped, Fault>
+        requires { r < 32 }
+        ensures { Answers (loads self.old r address 4 (λ m i. word_read m i)) self.old result self.new }
+    {
+        let place = self.place(address, 4)?;
+        let value = self.memory.word(place);
+        self.write(r, value)
+    }
+
+    pub(super) fn load_byte_unsigned(&mut self, r: u8, address: u32) -> Result<Stepped, Fault>
+        requires { r < 32 }
+        ensures { Answers (loads self.old r address 1 (λ m i. byte_read m i)) self.old result self.new }
+    {
+        let place = self.place(address, 1)?;
+        let value = u32::from(self.memory.byte(place));
+        self.write(r, value)
+    }
+
+    pub(super) fn load_half_unsigned(&mut self, r: u8, address: u32) -> Result<Stepped, Fault>
+        requires { r < 32 }
+        ensures { Answers (loads self.old r address 2 (λ m i. half_read m i)) self.old result self.new }
+    {
+        let place = self.place(address, 2)?;
+        let value = u32::from(self.memory.half(place));
+        self.write(r, value)
+    }
+
+    pub(super) fn store_byte(&mut self, address: u32, value: u32) -> Result<Stepped, Fault>
+        ensures { Answers (stores self.old address 1 (λ m i. byte_written m i value)) self.old result self.new }
+    {
+        let place = self.place(address, 1)?;
+        self.memory.set_byte(place, value);
+        self.pc = self.pc.wrapping_add(4);
+        Ok(Stepped::Next)
+    }
+
+    pub(super) fn store_half(&mut self, address: u32, value: u32) -> Result<Stepped, Fault>
+        ensures { Answers (stores self.old address 2 (λ m i. half_written m i value)) self.old result self.new }
+    {
+        let place = self.place(address, 2)?;
+        self.memory.set_half(place, value);
+        self.pc = self.pc.wrapping_add(4);
+        Ok(Stepped::Next)
+    }
+
+    pub(super) fn store_word(&mut self, address: u32, value: u32) -> Result<Stepped, Fault>
+        ensures { Answers (stores self.old address 4 (λ m i. word_written m i value)) self.old result self.new }
+    {
+        let place = self.place(address, 4)?;
+        self.memory.set_word(place, value);
+        self.pc = self.pc.wrapping_add(4);
+        Ok(Stepped::Next)
+    }
+}

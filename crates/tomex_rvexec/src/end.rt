@@ -1,0 +1,41 @@
+ghost use Rattle.std.specs.Prelude.{◌≡◌};
+ghost use Rattle.tomex_rvexec.specs.declared.end.RunError.TheVariants.{Memory};
+
+use std::alloc::{AllocError, AllocFailed, Allocator, Global};
+
+use crate::outcome::{EndKind, Fault};
+use crate::memory;
+
+/// How a program ended.
+#[derive(Drop)]
+pub struct End<A: Allocator = Global> {
+    pub kind: EndKind,
+    pub pc: u32,
+    pub steps: u32,
+    pub regs: [u32; 32],
+    pub memory: memory::Memory<A>,
+}
+
+/// Why a run has no end.
+#[derive(Clone, Copy, Debug, Drop, PartialEq, Eq)]
+pub enum RunError {
+    Fault(Fault),
+    TooLong,
+    Memory,
+}
+
+impl From<AllocError> for RunError {
+    ghost from_gives = { λ _ e. e ≡ Memory };
+
+    fn from(_error: AllocError) -> Self {
+        RunError::Memory
+    }
+}
+
+impl<T: Drop> From<AllocFailed<T>> for RunError {
+    ghost from_gives = { λ _ e. e ≡ Memory };
+
+    fn from(_error: AllocFailed<T>) -> Self {
+        RunError::Memory
+    }
+}

@@ -1,0 +1,27 @@
+//! The in-order machine of RV32IM: runs of an image, step by step, and their traces.
+//!
+//! Source: The RISC-V Instruction Set Manual, Volume I: Unprivileged ISA, version 20191213,
+//! chapters "RV32I Base Integer Instruction Set" 2.1 and "M Standard Extension" 2.0.
+//!
+//! The environment is this project's own: memory is one window, fetches read the image as it
+//! was loaded, a misaligned access is done whole, FENCE does nothing, and ECALL and EBREAK
+//! end the program.
+#![tactic(auto)]
+
+mod cpu;
+mod end;
+mod memory;
+mod outcome;
+mod running;
+mod step;
+mod tracing;
+mod words;
+
+pub use cpu::Cpu;
+pub use end::{End, RunError};
+pub use memory::Memory;
+pub use outcome::{EndKind, Fault, FaultKind, Stepped};
+pub use running::run;
+pub use step::{ByteRange, Operand, Step};
+pub use tracing::trace;
+pub use words::{alu, muldiv, taken};
