@@ -1,0 +1,5 @@
+pub mod Refusals
+pub mod Placing
+pub mod Apart
+pub mod Standing
+pub mod Rows

@@ -1,0 +1,7 @@
+use Rattle.std.proofs.Common.{sym, ◌∙◌}
+use Rattle.tomex_image.proofs.Refusals.{fails_next}
+use Rattle.tomex_image.proofs.elf.executable.segments_in.Goals as goal
+
+pub returns-in-Some-clause-err : goal.returns-in-Some-clause-err
+returns-in-Some-clause-err c = rw c.loop-k.invariant.tests
+    (fails_next _ _ _ _ _ _ _ _ _ _ c.loop-k-test.true c.as_slice.ensures.value c.read_program_header-header.ensures (sym c.header_refusal.ensures ∙ c.in-Some.is))

@@ -1,0 +1,50 @@
+-- The tests of an ELF file in their order, which is this project's own. Sums are those of whole numbers: none wraps.
+use Rattle.std.specs.Prelude.{ℕ, ◌+◌, ◌*◌, ◌%◌, ◌<◌, ◌≤◌, List, [], ◌∷◌, ◌++◌, length, not, nat_eq, nat_lt, nat_le, ◌&&◌, ◌||◌}
+use Rattle.std.specs.List.{list_any}
+use Rattle.tomex_image.specs.declared.error.ImageError.TheVariants.{Empty, Truncated, NotRiscv, NotExec, HeaderSize, Dynamic, Segment, Overlap, TooManySegments, Entry}
+use Rattle.tomex_image.specs.declared.elf.program_header.ProgramHeader.{ProgramHeader}
+use Rattle.tomex_image.specs.declared.elf.segments.TheConstants.{MOST_SEGMENTS}
+use Rattle.tomex_image.specs.FileHeader.{is_riscv, is_executable, header_offset, header_size, header_count, entry_of}
+use Rattle.tomex_image.specs.ProgramHeader.{headers_of, names_interpreter, is_loadable, takes_memory, with_segment, lies_in, shares_byte}
+use Rattle.tomex_image.specs.Tests.{Test, test}
+use Rattle.tomex_image.specs.Window.{Span}
+
+-- the tests of the file header
+abbrev pub file_tests : List ℕ → List Test
+file_tests bytes =
+    test (nat_lt (length bytes) 52) Truncated
+    ∷ test (not (is_riscv bytes)) NotRiscv
+    ∷ test (not (is_executable bytes)) NotExec
+    ∷ test (nat_lt 0 (header_count bytes) && not (nat_eq (header_size bytes) 32)) HeaderSize
+    ∷ test (nat_lt 0 (header_count bytes) && nat_lt (length bytes) (header_offset bytes + 32 * header_count bytes)) Truncated
+    ∷ []
+
+-- the tests of a program header of a file of len bytes, after the segments of the earlier headers
+abbrev pub header_tests : Span → ℕ → List ProgramHeader → ProgramHeader → List Test
+header_tests window len segments h =
+    test (names_interpreter h) Dynamic
+    ∷ test (is_loadable h && nat_lt h.memory_size h.file_size) Segment
+    ∷ test (is_loadable h && nat_lt 0 h.file_size && nat_lt len (h.offset + h.file_size)) Truncated
+    ∷ test (takes_memory h && not (lies_in window h.address h.memory_size)) Segment
+    ∷ test (takes_memory h && nat_le MOST_SEGMENTS (length segments)) TooManySegments
+    ∷ test (takes_memory h && list_any (λ s. shares_byte s h) segments) Overlap
+    ∷ []
+
+-- the tests of the headers one by one, and then those of the whole file
+abbrev pub tests_from : Span → ℕ → ℕ → List ProgramHeader → List ProgramHeader → List Test
+tests_from window len entry segments [] =
+    test (nat_eq (length segments) 0) Empty
+    ∷ test (not (nat_eq (entry % 4) 0) || not (lies_in window entry 4)) Entry
+    ∷ []
+tests_from window len entry segments (h ∷ hs) = header_tests window len segments h ++ tests_from window len entry (with_segment segments h) hs
+
+-- all tests of an ELF file
+abbrev pub elf_tests : List ℕ → Span → List Test
+elf_tests bytes window = file_tests bytes ++ tests_from window (length bytes) (entry_of bytes) [] (headers_of bytes)
+
+-- what the tests promise of each segment of a file of len bytes
+pub record Fits (window : Span) (len : ℕ) (h : ProgramHeader) : Type 0 where
+  pub within_file : 0 < h.file_size → h.offset + h.file_size ≤ len
+  pub not_longer : h.file_size ≤ h.memory_size
+  pub above : window.base ≤ h.address
+  pub below : h.address + h.memory_size ≤ window.base + window.size

@@ -1,0 +1,8 @@
+pub mod Window
+pub mod Image
+pub mod Tests
+pub mod FileHeader
+pub mod ProgramHeader
+pub mod ElfTests
+pub mod Placing
+pub mod Loading
