@@ -117,32 +117,45 @@ faulty = refl
 
 pub div0 : muldiv_of Div 7 0 ≡ 0xffffffff
 div0 = refl
+
 pub rem0 : muldiv_of Rem 7 0 ≡ 7
 rem0 = refl
+
 pub divo : muldiv_of Div 0x80000000 0xffffffff ≡ 0x80000000
 divo = refl
+
 pub remo : muldiv_of Rem 0x80000000 0xffffffff ≡ 0
 remo = refl
+
 pub divn : muldiv_of Div 0xfffffff9 2 ≡ 0xfffffffd
 divn = refl
+
 pub remn : muldiv_of Rem 0xfffffff9 2 ≡ 0xffffffff
 remn = refl
+
 pub divp : muldiv_of Div 7 0xfffffffe ≡ 0xfffffffd
 divp = refl
+
 pub remp : muldiv_of Rem 7 0xfffffffe ≡ 1
 remp = refl
+
 pub mhsu : muldiv_of Mulhsu 0xffffffff 0xffffffff ≡ 0xffffffff
 mhsu = refl
+
 pub mhu : muldiv_of Mulhu 0xffffffff 0xffffffff ≡ 0xfffffffe
 mhu = refl
+
 pub mh : muldiv_of Mulh 0xffffffff 0xffffffff ≡ 0
 mh = refl
+
 pub sra : alu_of Sra 0x80000000 33 ≡ 0xc0000000
 sra = refl
+
 pub sll : alu_of Sll 1 63 ≡ 0x80000000
 sll = refl
+
 pub slt : alu_of Slt 0xffffffff 0 ≡ 1
 slt = refl
+
 pub sub : alu_of Sub 0 1 ≡ 0xffffffff
 sub = refl
-

@@ -2,17 +2,15 @@
 
 ghost use Rattle.std.specs.Prelude.{◌≡◌};
 
-use std::alloc::{AllocError, Allocator, Global};
-use std::marker::Model;
-
-use tomex_image::Image;
-use tomex_rvdec::{Op, decode};
-
 use crate::end::End;
 use crate::memory::Memory;
 use crate::outcome::{EndKind, Fault, FaultKind, Stepped};
 use crate::step::Step;
 use crate::words::{alu, muldiv, taken};
+use std::alloc::{AllocError, Allocator, Global};
+use std::marker::Model;
+use tomex_image::Image;
+use tomex_rvdec::{Op, decode};
 
 mod effects;
 
@@ -58,7 +56,12 @@ impl<'a, A: Allocator> Cpu<'a, A> {
         let mut regs = [0; 32];
         let end = u64::from(window.base()) + u64::from(window.size());
         regs[2] = (end / 16 * 16 % (1 << 32)) as u32;
-        Ok(Cpu { image, pc: image.entry(), regs, memory: Memory::new(window.base(), bytes) })
+        Ok(Cpu {
+            image,
+            pc: image.entry(),
+            regs,
+            memory: Memory::new(window.base(), bytes),
+        })
     }
 
     /// The address of the instruction that comes next.
@@ -89,7 +92,12 @@ impl<'a, A: Allocator> Cpu<'a, A> {
     {
         let place = self.memory.place(self.pc, 4)?;
         let code = self.image.memory();
-        Some(u32::from_le_bytes([code[place], code[place + 1], code[place + 2], code[place + 3]]))
+        Some(u32::from_le_bytes([
+            code[place],
+            code[place + 1],
+            code[place + 2],
+            code[place + 3],
+        ]))
     }
 
     /// The instruction at the pc, with its operands' values.
@@ -106,7 +114,12 @@ impl<'a, A: Allocator> Cpu<'a, A> {
         };
         let vj = self.register(instr.rs1());
         let vk = self.register(instr.rs2());
-        Ok(Step { pc: self.pc, instr, vj, vk })
+        Ok(Step {
+            pc: self.pc,
+            instr,
+            vj,
+            vk,
+        })
     }
 
     /// Carries out one instruction.
@@ -122,7 +135,10 @@ impl<'a, A: Allocator> Cpu<'a, A> {
             Op::Auipc => self.write(rd, target),
             Op::Jal => self.jump(rd, target),
             Op::Jalr => self.jump(rd, address & !1),
-            Op::Beq | Op::Bne | Op::Blt | Op::Bge | Op::Bltu | Op::Bgeu => self.branch(taken(op, vj, vk), target),
+            Op::Beq | Op::Bne | Op::Blt | Op::Bge | Op::Bltu | Op::Bgeu => self.branch(
+                taken(op, vj, vk),
+                target,
+            ),
             Op::Lb => self.load_byte(rd, address),
             Op::Lh => self.load_half(rd, address),
             Op::Lw => self.load_word(rd, address),
@@ -131,15 +147,27 @@ impl<'a, A: Allocator> Cpu<'a, A> {
             Op::Sb => self.store_byte(address, vk),
             Op::Sh => self.store_half(address, vk),
             Op::Sw => self.store_word(address, vk),
-            Op::Addi | Op::Slti | Op::Sltiu | Op::Xori | Op::Ori | Op::Andi | Op::Slli | Op::Srli | Op::Srai => {
-                self.write(rd, alu(op, vj, imm))
-            }
-            Op::Add | Op::Sub | Op::Sll | Op::Slt | Op::Sltu | Op::Xor | Op::Srl | Op::Sra | Op::Or | Op::And => {
-                self.write(rd, alu(op, vj, vk))
-            }
-            Op::Mul | Op::Mulh | Op::Mulhsu | Op::Mulhu | Op::Div | Op::Divu | Op::Rem | Op::Remu => {
-                self.write(rd, muldiv(op, vj, vk))
-            }
+            Op::Addi
+            | Op::Slti
+            | Op::Sltiu
+            | Op::Xori
+            | Op::Ori
+            | Op::Andi
+            | Op::Slli
+            | Op::Srli
+            | Op::Srai => { self.write(rd, alu(op, vj, imm)) }
+            Op::Add
+            | Op::Sub
+            | Op::Sll
+            | Op::Slt
+            | Op::Sltu
+            | Op::Xor
+            | Op::Srl
+            | Op::Sra
+            | Op::Or
+            | Op::And => { self.write(rd, alu(op, vj, vk)) }
+            Op::Mul | Op::Mulh | Op::Mulhsu | Op::Mulhu | Op::Div | Op::Divu | Op::Rem | Op::Remu =>
+                { self.write(rd, muldiv(op, vj, vk)) }
             Op::Fence => {
                 self.pc = self.pc.wrapping_add(4);
                 Ok(Stepped::Next)
@@ -173,6 +201,12 @@ impl<'a, A: Allocator> Cpu<'a, A> {
     pub(crate) fn into_end(self, kind: EndKind, steps: u32) -> End<A>
         ensures { (result.kind ≡ kind) × (result.pc ≡ self.entry.pc) × (result.steps ≡ steps) × (result.regs ≡ self.entry.regs) × (result.memory.bytes ≡ self.entry.memory) × (result.memory.base ≡ self.entry.image.window.base) }
     {
-        End { kind, pc: self.pc, steps, regs: self.regs, memory: self.memory }
+        End {
+            kind,
+            pc: self.pc,
+            steps,
+            regs: self.regs,
+            memory: self.memory,
+        }
     }
 }

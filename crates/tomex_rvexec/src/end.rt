@@ -1,10 +1,9 @@
 ghost use Rattle.std.specs.Prelude.{◌≡◌};
 ghost use Rattle.tomex_rvexec.specs.declared.end.RunError.TheVariants.{Memory};
 
-use std::alloc::{AllocError, AllocFailed, Allocator, Global};
-
-use crate::outcome::{EndKind, Fault};
 use crate::memory;
+use crate::outcome::{EndKind, Fault};
+use std::alloc::{AllocError, AllocFailed, Allocator, Global};
 
 /// How a program ended.
 #[derive(Drop)]

@@ -2,13 +2,11 @@ ghost use Rattle.std.specs.Prelude.{◌≡◌, ℕ, ◌+◌, ◌≤◌, IfOk, If
 ghost use Rattle.tomex_rvexec.specs.Machine.{State};
 ghost use Rattle.tomex_rvexec.specs.Run.{IsEnd, IsRefusal, Leads, start_of};
 
-use std::alloc::Allocator;
-
-use tomex_image::Image;
-
 use crate::cpu::Cpu;
 use crate::end::{End, RunError};
 use crate::outcome::Stepped;
+use std::alloc::Allocator;
+use tomex_image::Image;
 
 /// Runs the image in order, for at most so many steps.
 pub fn run<A: Allocator>(alloc: A, image: &Image<A>, limit: u32) -> Result<End<A>, RunError>

@@ -64,7 +64,10 @@ impl Step {
         ensures register { IfSome result (λ o. o.register < 32) }
     {
         match self.instr.sources().j {
-            Some(register) => Some(Operand { register, value: self.vj }),
+            Some(register) => Some(Operand {
+                register,
+                value: self.vj,
+            }),
             None => None,
         }
     }
@@ -75,7 +78,10 @@ impl Step {
         ensures register { IfSome result (λ o. o.register < 32) }
     {
         match self.instr.sources().k {
-            Some(register) => Some(Operand { register, value: self.vk }),
+            Some(register) => Some(Operand {
+                register,
+                value: self.vk,
+            }),
             None => None,
         }
     }
@@ -89,7 +95,10 @@ impl Step {
             return None;
         }
         let from = u64::from(self.vj.wrapping_add(self.instr.imm()));
-        Some(ByteRange { from, to: from + size })
+        Some(ByteRange {
+            from,
+            to: from + size,
+        })
     }
 
     /// How many bytes the step reads or writes, 0 where it touches no memory.

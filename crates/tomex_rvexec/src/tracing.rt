@@ -3,18 +3,20 @@ ghost use Rattle.tomex_rvexec.specs.Machine.{State};
 ghost use Rattle.tomex_rvexec.specs.Run.{IsRefusal, EndsWithin, Leads, start_of};
 ghost use Rattle.tomex_rvexec.specs.Trace.{steps_from};
 
-use std::alloc::Allocator;
-
-use tomex_image::Image;
-
 use crate::cpu::Cpu;
 use crate::end::RunError;
 use crate::outcome::Stepped;
 use crate::step::Step;
+use std::alloc::Allocator;
+use tomex_image::Image;
 
 /// The steps of a run that ends within the limit.
 #[tactic(auto, using(crate::proofs::Stepping::goes_on, crate::proofs::Stepping::ends_here))]
-pub fn trace<A: Allocator + Clone>(alloc: A, image: &Image<A>, limit: u32) -> Result<Vec<Step, A>, RunError>
+pub fn trace<A: Allocator + Clone>(
+    alloc: A,
+    image: &Image<A>,
+    limit: u32,
+) -> Result<Vec<Step, A>, RunError>
     ensures ok { IfOk result (λ v. v.items ≡ steps_from limit (start_of image.now)) }
     ensures ends { IfOk result (λ v. EndsWithin image.now limit) }
     ensures err { IfErr result (λ e. IsRefusal image.now limit e) }

@@ -2,10 +2,9 @@
 
 ghost use Rattle.std.specs.Prelude.{◌≡◌};
 
-use std::alloc::Allocator;
-
 use super::Cpu;
 use crate::outcome::{Fault, FaultKind, Stepped};
+use std::alloc::Allocator;
 
 impl<'a, A: Allocator> Cpu<'a, A> {
     ghost use Rattle.std.specs.Prelude.{◌≡◌, IfOk, IfErr, ◌+◌, ◌-◌, ◌<◌, ◌≤◌, IsTrue, false, length};
@@ -75,7 +74,14 @@ impl<'a, A: Allocator> Cpu<'a, A> {
     {
         let place = self.place(address, 1)?;
         let value = u32::from(self.memory.byte(place));
-        self.write(r, if value < 0x80 { value } else { value + 0xffff_ff00 })
+        self.write(
+            r,
+            if value < 0x80 {
+                value
+            } else {
+                value + 0xffff_ff00
+            },
+        )
     }
 
     pub(super) fn load_half(&mut self, r: u8, address: u32) -> Result<Stepped, Fault>
@@ -84,7 +90,14 @@ impl<'a, A: Allocator> Cpu<'a, A> {
     {
         let place = self.place(address, 2)?;
         let value = u32::from(self.memory.half(place));
-        self.write(r, if value < 0x8000 { value } else { value + 0xffff_0000 })
+        self.write(
+            r,
+            if value < 0x8000 {
+                value
+            } else {
+                value + 0xffff_0000
+            },
+        )
     }
 
     pub(super) fn load_word(&mut self, r: u8, address: u32) -> Result<Stepped, Fault>

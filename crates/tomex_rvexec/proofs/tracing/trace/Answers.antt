@@ -9,7 +9,7 @@ pub loop-done-preserved : goal.loop-done-preserved
 loop-done-preserved g c =
     let r = c.in-Ok-default-Next.ensures.ok in
     let next : step_of c.loop-done.cpu ≡ Goes c.recorded_step.new.self =
-        next_goes _ _ _ _ c.in-Ok-default-Next.field-0-1-is r.1 in
+    next_goes _ _ _ _ c.in-Ok-default-Next.field-0-1-is r.1 in
     let p = c.in_ok-push-in-Ok-default-Next.ensures.items in
     record {
       leads = leads_on _ _ _ _ c.loop-done.invariant.leads next;
