@@ -1,0 +1,72 @@
+-- The rows that are made one axis after another are the product of the axes.
+use Rattle.std.proofs.Common.{◌≡◌, ◌∙◌, ℕ, List, [], ◌∷◌, ◌++◌, map, refl, sym, ap}
+use Rattle.std.specs.List.{flat_map}
+use Rattle.std.proofs.lemmas.List.Folds.{flat_map-map}
+use Rattle.std.proofs.lemmas.Grind.{flat_map-append}
+use Rattle.std.proofs.lemmas.List.{append-nil}
+use Rattle.tomex_rvdec.specs.declared.pool.PoolId.TheVariants as pools
+use Rattle.tomex_rvdec.specs.declared.pool.UnitId.TheVariants as units
+use Rattle.tomex_config.specs.declared.row.UnitOption.{UnitOption}
+use Rattle.tomex_config.specs.Row.{Row, plain, with_stations, with_option, with_buses}
+use Rattle.tomex_config.specs.Grid.{Lists, rows_of}
+use Rattle.tomex_config.specs.Vary.{vary, option_rows}
+
+-- the part that an axis replaces, and its values
+data Axis : Type 0 where
+  counts : (Row → ℕ → Row) → List ℕ → Axis
+  options : (Row → UnitOption → Row) → List UnitOption → Axis
+
+-- one axis after another
+abbrev chained : List Axis → List Row → List Row
+chained [] rows = rows
+chained (counts part values ∷ axes) rows = chained axes (vary part values rows)
+chained (options part values ∷ axes) rows = chained axes (vary part values rows)
+
+-- each choice of a value from each axis
+abbrev chosen : List Axis → Row → List Row
+chosen [] row = row ∷ []
+chosen (counts part values ∷ axes) row = flat_map (λ value. chosen axes (part row value)) values
+chosen (options part values ∷ axes) row = flat_map (λ value. chosen axes (part row value)) values
+
+flat_map-self : (rows : List Row) → flat_map (λ row. row ∷ []) rows ≡ rows
+flat_map-self [] = refl
+flat_map-self (row ∷ rows) = ap (λ rest. row ∷ rest) (flat_map-self rows)
+
+-- one more axis, before those to come
+flat_map-vary : {V : Type 0} (follows : Row → List Row) (part : Row → V → Row) (values : List V) (rows : List Row)
+  → flat_map follows (vary part values rows) ≡ flat_map (λ row. flat_map (λ value. follows (part row value)) values) rows
+flat_map-vary follows part values [] = refl
+flat_map-vary follows part values (row ∷ rows) =
+    flat_map-append follows (map (part row) values) (vary part values rows)
+    ∙ ap (λ first. first ++ flat_map follows (vary part values rows)) (flat_map-map follows (part row) values)
+    ∙ ap (λ rest. flat_map (λ value. follows (part row value)) values ++ rest) (flat_map-vary follows part values rows)
+
+chained-chosen : (axes : List Axis) (rows : List Row) → chained axes rows ≡ flat_map (chosen axes) rows
+chained-chosen [] rows = sym (flat_map-self rows)
+chained-chosen (counts part values ∷ axes) rows =
+    chained-chosen axes (vary part values rows) ∙ flat_map-vary (chosen axes) part values rows
+chained-chosen (options part values ∷ axes) rows =
+    chained-chosen axes (vary part values rows) ∙ flat_map-vary (chosen axes) part values rows
+
+abbrev all_axes : Lists → List Axis
+all_axes axes =
+    counts (with_stations pools.Alu) axes.alu
+    ∷ counts (with_stations pools.Mul) axes.mul
+    ∷ counts (with_stations pools.Div) axes.div
+    ∷ counts (with_stations pools.Load) axes.load
+    ∷ counts (with_stations pools.Store) axes.store
+    ∷ counts (with_stations pools.Bru) axes.bru
+    ∷ options (with_option units.Alu) axes.alu_units
+    ∷ options (with_option units.Mul) axes.mul_units
+    ∷ options (with_option units.Div) axes.div_units
+    ∷ options (with_option units.Mem) axes.mem_units
+    ∷ options (with_option units.Bru) axes.bru_units
+    ∷ counts with_buses axes.buses
+    ∷ []
+
+flat_map-one : (follows : Row → List Row) (row : Row) → flat_map follows (row ∷ []) ≡ follows row
+flat_map-one follows row = append-nil (follows row)
+
+pub varied_rows : (axes : Lists) → vary with_buses axes.buses (option_rows axes) ≡ rows_of axes
+unfolding rows_of
+varied_rows axes = chained-chosen (all_axes axes) (plain ∷ []) ∙ flat_map-one (chosen (all_axes axes)) plain

@@ -1,0 +1,4 @@
+pub mod Row
+pub mod Cost
+pub mod Grid
+pub mod Vary

@@ -1,0 +1,28 @@
+-- The rows made one axis after another, each part of a first row replaced in turn.
+use Rattle.std.specs.Prelude.{ℕ, List, [], ◌∷◌, map}
+use Rattle.std.specs.List.{flat_map}
+use Rattle.tomex_rvdec.specs.declared.pool.PoolId.TheVariants as pools
+use Rattle.tomex_rvdec.specs.declared.pool.UnitId.TheVariants as units
+use Rattle.tomex_config.specs.Row.{Row, plain, with_stations, with_option}
+use Rattle.tomex_config.specs.Grid.{Lists}
+
+-- each row so far, once with each of the values
+abbrev pub vary : {V : Type 0} → (Row → V → Row) → List V → List Row → List Row
+vary with_value values rows = flat_map (λ row. map (with_value row) values) rows
+
+abbrev pub station_rows : Lists → List Row
+station_rows axes =
+    vary (with_stations pools.Bru) axes.bru
+    (vary (with_stations pools.Store) axes.store
+    (vary (with_stations pools.Load) axes.load
+    (vary (with_stations pools.Div) axes.div
+    (vary (with_stations pools.Mul) axes.mul
+    (vary (with_stations pools.Alu) axes.alu (plain ∷ []))))))
+
+abbrev pub option_rows : Lists → List Row
+option_rows axes =
+    vary (with_option units.Bru) axes.bru_units
+    (vary (with_option units.Mem) axes.mem_units
+    (vary (with_option units.Div) axes.div_units
+    (vary (with_option units.Mul) axes.mul_units
+    (vary (with_option units.Alu) axes.alu_units (station_rows axes)))))

@@ -1,0 +1,17 @@
+//! Configurations of a Tomasulo machine, called rows: their parts, what they cost, and the grid of
+//! all rows that the axes of a study span.
+//!
+//! Source of the parts: R. M. Tomasulo, "An Efficient Algorithm for Exploiting Multiple Arithmetic
+//! Units", 1967, and the chapter on Tomasulo's algorithm in Hennessy and Patterson's "Computer
+//! Architecture: A Quantitative Approach".
+#![tactic(auto)]
+
+mod axis;
+mod price;
+mod product;
+mod row;
+
+pub use axis::Axes;
+pub use price::{cost, Prices};
+pub use product::{grid, GridError};
+pub use row::{Config, UnitOption};

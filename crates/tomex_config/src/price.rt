@@ -1,0 +1,108 @@
+//! What a row costs.
+
+ghost use Rattle.std.specs.Prelude.{◌≡◌, ◌≤◌, ◌*◌, true};
+ghost use Rattle.std.specs.List.{list_all};
+ghost use Rattle.tomex_config.specs.Row.{stations_of, option_of};
+ghost use Rattle.tomex_config.specs.Cost.{is_price, price_of, stations_cost, options_cost, cost_of};
+
+use crate::row::Config;
+use std::marker::Model;
+use tomex_rvdec::{PoolId, UnitId};
+
+/// The price of one reservation station of each pool, and of one common data bus: 0 to 1,000,000
+/// each.
+#[derive(Clone, Copy, Debug, PartialEq, Eq)]
+pub struct Prices {
+    stations: [u32; 6],
+    bus: u32,
+}
+
+impl Model for Prices {
+    ghost use Rattle.tomex_config.specs.Row.{stations_of, option_of};
+ghost use Rattle.tomex_config.specs.Cost.{PriceList, IsPriceList};
+
+    ghost Value = { PriceList };
+
+    ghost view = { λ p. record { stations = p.stations; bus = p.bus } };
+
+    ghost inverse = { λ p. record { stations = p.stations; bus = p.bus } };
+
+    ghost invariant = { λ p. IsPriceList (record { stations = p.stations; bus = p.bus }) };
+}
+
+impl Prices {
+    /// These prices, the stations' in the order of `PoolId::ALL`.
+    #[tactic(auto, using(crate::proofs::Ranges::each_passes))]
+    pub fn new(stations: [u32; 6], bus: u32) -> Prices
+        requires stations { list_all is_price stations ≡ true }
+        requires bus { is_price bus ≡ true }
+        ensures { result ≡ record { stations = stations; bus = bus } }
+    {
+        Prices { stations, bus }
+    }
+
+    /// The price of a station of a pool.
+    pub fn station(&self, pool: PoolId) -> u32
+        ensures price { result ≡ price_of self.now pool }
+        ensures range { result ≤ 1000000 }
+    {
+        self.stations[pool.place()]
+    }
+
+    /// The price of a bus.
+    pub fn bus(&self) -> u32
+        ensures price { result ≡ self.now.bus }
+        ensures range { result ≤ 1000000 }
+    {
+        self.bus
+    }
+}
+
+/// What the stations of one pool cost.
+fn pool_cost(row: &Config, prices: &Prices, pool: PoolId) -> u64
+    ensures cost { result ≡ stations_of row.now pool * price_of prices.now pool }
+    ensures bound { result ≤ 16000000 }
+{
+    u64::from(row.stations(pool)) * u64::from(prices.station(pool))
+}
+
+/// What the stations of all pools cost.
+fn stations_cost(row: &Config, prices: &Prices) -> u64
+    ensures cost { result ≡ stations_cost row.now prices.now }
+    ensures bound { result ≤ 96000000 }
+{
+    let mut total = 0;
+    for pool in PoolId::ALL {
+        total += pool_cost(row, prices, pool);
+    }
+    total
+}
+
+/// What the chosen option for one kind of unit costs.
+fn option_cost(row: &Config, unit: UnitId) -> u64
+    ensures cost { result ≡ (option_of row.now unit).price }
+    ensures bound { result ≤ 1000000 }
+{
+    u64::from(row.option(unit).price)
+}
+
+/// What the chosen options cost.
+fn options_cost(row: &Config) -> u64
+    ensures cost { result ≡ options_cost row.now }
+    ensures bound { result ≤ 5000000 }
+{
+    let mut total = 0;
+    for unit in UnitId::ALL {
+        total += option_cost(row, unit);
+    }
+    total
+}
+
+/// What a row costs: its stations and its buses at these prices, and its options at their own.
+pub fn cost(row: &Config, prices: &Prices) -> u64
+    ensures cost { result ≡ cost_of row.now prices.now }
+    ensures bound { result ≤ 109000000 }
+{
+    let buses = u64::from(row.buses()) * u64::from(prices.bus());
+    stations_cost(row, prices) + options_cost(row) + buses
+}

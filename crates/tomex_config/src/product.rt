@@ -1,0 +1,148 @@
+//! The rows of a grid: the product of its axes, made one axis after another.
+
+ghost use Rattle.std.specs.Prelude.{◌≡◌, IfOk, true};
+ghost use Rattle.std.specs.List.{list_all};
+ghost use Rattle.tomex_config.specs.Row.{is_between, is_option, most_units, with_stations, with_option, with_buses};
+ghost use Rattle.tomex_config.specs.Grid.{lists_of, stations_in_range, options_in_range, in_range, rows_of, grid_of, Gives};
+ghost use Rattle.tomex_config.specs.Vary.{vary, station_rows, option_rows};
+
+use crate::axis::Axes;
+use crate::row::{Config, UnitOption};
+use std::alloc::{AllocError, Allocator};
+use thiserror::Error;
+use tomex_rvdec::{PoolId, UnitId};
+
+/// Why there is no grid of some axes. The first of these that holds is told.
+#[derive(Clone, Copy, Debug, PartialEq, Eq, Error)]
+pub enum GridError {
+    #[error("an axis is empty")]
+    EmptyAxis,
+    #[error("a value is out of range")]
+    OutOfRange,
+    /// There are more than 16,384 rows.
+    #[error("too many configurations")]
+    TooMany,
+    #[error("out of memory")]
+    Memory,
+}
+
+/// Each row, once with each number of stations in a pool.
+#[tactic(auto, using(crate::proofs::Ranges::each_passes))]
+fn vary_stations<A: Allocator>(
+    alloc: A,
+    rows: &[Config],
+    pool: PoolId,
+    counts: &[u8],
+) -> Result<Vec<Config, A>, AllocError>
+    requires { list_all (is_between 1 16) counts.now ≡ true }
+    ensures { IfOk result (λ v. v.items ≡ vary (with_stations pool) counts.now rows.now) }
+{
+    let mut varied = Vec::new(alloc);
+    for row in rows {
+        for count in counts {
+            varied.push(row.with_stations(pool, *count))?;
+        }
+    }
+    Ok(varied)
+}
+
+/// Each row, once with each option for a kind of unit.
+#[tactic(auto, using(crate::proofs::Ranges::each_passes))]
+fn vary_option<A: Allocator>(
+    alloc: A,
+    rows: &[Config],
+    unit: UnitId,
+    options: &[UnitOption],
+) -> Result<Vec<Config, A>, AllocError>
+    requires { list_all (is_option (most_units unit)) options.now ≡ true }
+    ensures { IfOk result (λ v. v.items ≡ vary (with_option unit) options.now rows.now) }
+{
+    let mut varied = Vec::new(alloc);
+    for row in rows {
+        for option in options {
+            varied.push(row.with_option(unit, *option))?;
+        }
+    }
+    Ok(varied)
+}
+
+/// Each row, once with each number of buses.
+#[tactic(auto, using(crate::proofs::Ranges::each_passes))]
+fn vary_buses<A: Allocator>(
+    alloc: A,
+    rows: &[Config],
+    counts: &[u8],
+) -> Result<Vec<Config, A>, AllocError>
+    requires { list_all (is_between 1 8) counts.now ≡ true }
+    ensures { IfOk result (λ v. v.items ≡ vary with_buses counts.now rows.now) }
+{
+    let mut varied = Vec::new(alloc);
+    for row in rows {
+        for count in counts {
+            varied.push(row.with_buses(*count))?;
+        }
+    }
+    Ok(varied)
+}
+
+/// A row for each choice of stations.
+fn station_rows<A: Allocator + Clone>(
+    alloc: A,
+    axes: &Axes<A>,
+) -> Result<Vec<Config, A>, AllocError>
+    requires { stations_in_range (lists_of axes.now) ≡ true }
+    ensures { IfOk result (λ v. v.items ≡ station_rows (lists_of axes.now)) }
+{
+    let rows = [Config::plain()];
+    let rows = vary_stations(alloc.clone()?, rows.as_slice(), PoolId::Alu, axes.alu.as_slice())?;
+    let rows = vary_stations(alloc.clone()?, rows.as_slice(), PoolId::Mul, axes.mul.as_slice())?;
+    let rows = vary_stations(alloc.clone()?, rows.as_slice(), PoolId::Div, axes.div.as_slice())?;
+    let rows = vary_stations(alloc.clone()?, rows.as_slice(), PoolId::Load, axes.load.as_slice())?;
+    let rows = vary_stations(alloc.clone()?, rows.as_slice(), PoolId::Store, axes.store.as_slice())?;
+    vary_stations(alloc, rows.as_slice(), PoolId::Bru, axes.bru.as_slice())
+}
+
+/// A row for each choice of stations and options.
+fn option_rows<A: Allocator + Clone>(alloc: A, axes: &Axes<A>) -> Result<Vec<Config, A>, AllocError>
+    requires stations { stations_in_range (lists_of axes.now) ≡ true }
+    requires options { options_in_range (lists_of axes.now) ≡ true }
+    ensures { IfOk result (λ v. v.items ≡ option_rows (lists_of axes.now)) }
+{
+    let rows = station_rows(alloc.clone()?, axes)?;
+    let rows = vary_option(alloc.clone()?, rows.as_slice(), UnitId::Alu, axes.alu_units.as_slice())?;
+    let rows = vary_option(alloc.clone()?, rows.as_slice(), UnitId::Mul, axes.mul_units.as_slice())?;
+    let rows = vary_option(alloc.clone()?, rows.as_slice(), UnitId::Div, axes.div_units.as_slice())?;
+    let rows = vary_option(alloc.clone()?, rows.as_slice(), UnitId::Mem, axes.mem_units.as_slice())?;
+    vary_option(alloc, rows.as_slice(), UnitId::Bru, axes.bru_units.as_slice())
+}
+
+/// A row for each choice of all parts.
+#[tactic(auto, unfolding(crate::specs::Grid::in_range))]
+fn rows_of<A: Allocator + Clone>(alloc: A, axes: &Axes<A>) -> Result<Vec<Config, A>, AllocError>
+    requires { in_range (lists_of axes.now) ≡ true }
+    ensures { IfOk result (λ v. v.items ≡ rows_of (lists_of axes.now)) }
+{
+    let rows = option_rows(alloc.clone()?, axes)?;
+    vary_buses(alloc, rows.as_slice(), axes.buses.as_slice())
+}
+
+/// The rows of the axes: each choice of a value from each list is a row, and the last axis varies
+/// fastest. There are at most 16,384. A value that stands twice gives two rows.
+#[tactic(auto, unfolding(crate::specs::Grid::grid_of))]
+pub fn grid<A: Allocator + Clone>(alloc: A, axes: &Axes<A>) -> Result<Vec<Config, A>, GridError>
+    ensures { Gives (λ v. v.items) result (grid_of (lists_of axes.now)) }
+{
+    if axes.has_empty() {
+        return Err(GridError::EmptyAxis);
+    }
+    if !axes.is_in_range() {
+        return Err(GridError::OutOfRange);
+    }
+    if axes.is_too_large() {
+        return Err(GridError::TooMany);
+    }
+    match rows_of(alloc, axes) {
+        Ok(rows) => Ok(rows),
+        Err(AllocError) => Err(GridError::Memory),
+    }
+}

@@ -1,0 +1,162 @@
+//! A configuration, also called a row.
+
+ghost use Rattle.std.specs.Prelude.{◌≡◌, ◌≤◌, ◌↔◌, true, IsSome, IfSome};
+ghost use Rattle.std.specs.List.{list_all};
+ghost use Rattle.tomex_config.specs.Row.{IsRow, is_between, is_option, most_units, plain, stations_of, option_of, with_stations, with_option, with_buses};
+
+use std::marker::Model;
+use tomex_rvdec::{PoolId, UnitId};
+
+/// A choice for one kind of functional unit: how many there are, the cycles that each takes for an
+/// operation, and what the choice costs as a whole. It may be out of a row's limits.
+#[derive(Clone, Copy, Debug, PartialEq, Eq)]
+pub struct UnitOption {
+    pub units: u8,
+    pub latency: u8,
+    pub price: u32,
+}
+
+/// A configuration within the limits: 1 to 16 reservation stations in each pool, 1 to 8 units of
+/// each kind but a single branch unit, latencies of 1 to 64 cycles, and 1 to 8 common data buses.
+#[derive(Clone, Copy, Debug, PartialEq, Eq)]
+pub struct Config {
+    stations: [u8; 6],
+    units: [UnitOption; 5],
+    buses: u8,
+}
+
+impl Model for Config {
+    ghost use Rattle.tomex_config.specs.Row.{Row, IsRow};
+
+    ghost Value = { Row };
+
+    ghost view = { λ c. record { stations = c.stations; units = c.units; buses = c.buses } };
+
+    ghost inverse = { λ r. record { stations = r.stations; units = r.units; buses = r.buses } };
+
+    ghost invariant = { λ c. IsRow (record { stations = c.stations; units = c.units; buses = c.buses }) };
+}
+
+/// Whether an option is within the limits, of which `most` is that of its units.
+pub(crate) fn is_option(option: UnitOption, most: u8) -> bool
+    ensures { result ≡ is_option most option }
+{
+    1 <= option.units
+        && option.units <= most
+        && 1 <= option.latency
+        && option.latency <= 64
+        && option.price <= 1_000_000
+}
+
+impl Config {
+    /// The row of these parts, in the order of `PoolId::ALL` and `UnitId::ALL`. `None` where one
+    /// of them is out of the limits.
+    pub fn new(stations: [u8; 6], units: [UnitOption; 5], buses: u8) -> Option<Config>
+        ensures lawful { IsSome result ↔ IsRow (record { stations = stations; units = units; buses = buses }) }
+        ensures parts { IfSome result (λ c. c ≡ record { stations = stations; units = units; buses = buses }) }
+    {
+        let are_stations = stations.iter().all(|count| 1 <= *count && *count <= 16);
+        let are_units = units.iter().all(|option| is_option(*option, 8));
+        if are_stations && are_units && units[4].units == 1 && 1 <= buses && buses <= 8 {
+            Some(Config {
+                stations,
+                units,
+                buses,
+            })
+        } else {
+            None
+        }
+    }
+
+    /// One station a pool, one unit of latency 1 and price 0 a kind, and one bus.
+    pub(crate) fn plain() -> Config
+        ensures { result ≡ plain }
+    {
+        let unit = UnitOption {
+            units: 1,
+            latency: 1,
+            price: 0,
+        };
+        Config {
+            stations: [1; 6],
+            units: [unit; 5],
+            buses: 1,
+        }
+    }
+
+    /// The row with another number of stations in a pool.
+    pub(crate) fn with_stations(&self, pool: PoolId, count: u8) -> Config
+        requires { is_between 1 16 count ≡ true }
+        ensures { result ≡ with_stations pool self.now count }
+    {
+        let mut stations = self.stations;
+        stations[pool.place()] = count;
+        Config { stations, ..*self }
+    }
+
+    /// The row with another option for a kind of unit.
+    pub(crate) fn with_option(&self, unit: UnitId, option: UnitOption) -> Config
+        requires { is_option (most_units unit) option ≡ true }
+        ensures { result ≡ with_option unit self.now option }
+    {
+        let mut units = self.units;
+        units[unit.place()] = option;
+        Config { units, ..*self }
+    }
+
+    /// The row with another number of buses.
+    pub(crate) fn with_buses(&self, count: u8) -> Config
+        requires { is_between 1 8 count ≡ true }
+        ensures { result ≡ with_buses self.now count }
+    {
+        Config {
+            buses: count,
+            ..*self
+        }
+    }
+
+    /// The reservation stations of a pool.
+    pub fn stations(&self, pool: PoolId) -> u8
+        ensures count { result ≡ stations_of self.now pool }
+        ensures range { (1 ≤ result) × (result ≤ 16) }
+        ensures lawful { IsRow self.now }
+    {
+        self.stations[pool.place()]
+    }
+
+    /// The chosen option for a kind of unit.
+    pub fn option(&self, unit: UnitId) -> UnitOption
+        ensures chosen { result ≡ option_of self.now unit }
+        ensures range { is_option (most_units unit) result ≡ true }
+        ensures lawful { IsRow self.now }
+    {
+        self.units[unit.place()]
+    }
+
+    /// The number of units of a kind.
+    pub fn units(&self, unit: UnitId) -> u8
+        ensures count { result ≡ (option_of self.now unit).units }
+        ensures range { (1 ≤ result) × (result ≤ most_units unit) }
+        ensures lawful { IsRow self.now }
+    {
+        self.option(unit).units
+    }
+
+    /// The cycles that a unit of a kind takes for an operation.
+    pub fn latency(&self, unit: UnitId) -> u8
+        ensures cycles { result ≡ (option_of self.now unit).latency }
+        ensures range { (1 ≤ result) × (result ≤ 64) }
+        ensures lawful { IsRow self.now }
+    {
+        self.option(unit).latency
+    }
+
+    /// The common data buses.
+    pub fn buses(&self) -> u8
+        ensures count { result ≡ self.now.buses }
+        ensures range { (1 ≤ result) × (result ≤ 8) }
+        ensures lawful { IsRow self.now }
+    {
+        self.buses
+    }
+}
