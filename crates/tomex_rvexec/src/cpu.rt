@@ -133,12 +133,18 @@ impl<'a, A: Allocator> Cpu<'a, A> {
         match op {
             Op::Lui => self.write(rd, imm),
             Op::Auipc => self.write(rd, target),
+            Op::Addi | Op::Slti | Op::Sltiu => self.write(rd, alu(op, vj, imm)),
+            Op::Xori | Op::Ori | Op::Andi => self.write(rd, alu(op, vj, imm)),
+            Op::Slli | Op::Srli | Op::Srai => self.write(rd, alu(op, vj, imm)),
+            Op::Add | Op::Sub | Op::Slt | Op::Sltu => self.write(rd, alu(op, vj, vk)),
+            Op::Xor | Op::Or | Op::And => self.write(rd, alu(op, vj, vk)),
+            Op::Sll | Op::Srl | Op::Sra => self.write(rd, alu(op, vj, vk)),
+            Op::Mul | Op::Mulh | Op::Mulhsu | Op::Mulhu => self.write(rd, muldiv(op, vj, vk)),
+            Op::Div | Op::Divu | Op::Rem | Op::Remu => self.write(rd, muldiv(op, vj, vk)),
             Op::Jal => self.jump(rd, target),
             Op::Jalr => self.jump(rd, address & !1),
-            Op::Beq | Op::Bne | Op::Blt | Op::Bge | Op::Bltu | Op::Bgeu => self.branch(
-                taken(op, vj, vk),
-                target,
-            ),
+            Op::Beq | Op::Bne => self.branch(taken(op, vj, vk), target),
+            Op::Blt | Op::Bge | Op::Bltu | Op::Bgeu => self.branch(taken(op, vj, vk), target),
             Op::Lb => self.load_byte(rd, address),
             Op::Lh => self.load_half(rd, address),
             Op::Lw => self.load_word(rd, address),
@@ -147,31 +153,7 @@ impl<'a, A: Allocator> Cpu<'a, A> {
             Op::Sb => self.store_byte(address, vk),
             Op::Sh => self.store_half(address, vk),
             Op::Sw => self.store_word(address, vk),
-            Op::Addi
-            | Op::Slti
-            | Op::Sltiu
-            | Op::Xori
-            | Op::Ori
-            | Op::Andi
-            | Op::Slli
-            | Op::Srli
-            | Op::Srai => { self.write(rd, alu(op, vj, imm)) }
-            Op::Add
-            | Op::Sub
-            | Op::Sll
-            | Op::Slt
-            | Op::Sltu
-            | Op::Xor
-            | Op::Srl
-            | Op::Sra
-            | Op::Or
-            | Op::And => { self.write(rd, alu(op, vj, vk)) }
-            Op::Mul | Op::Mulh | Op::Mulhsu | Op::Mulhu | Op::Div | Op::Divu | Op::Rem | Op::Remu =>
-                { self.write(rd, muldiv(op, vj, vk)) }
-            Op::Fence => {
-                self.pc = self.pc.wrapping_add(4);
-                Ok(Stepped::Next)
-            }
+            Op::Fence => Ok(self.go_on()),
             Op::Ecall => Ok(Stepped::Ended(EndKind::Ecall)),
             Op::Ebreak => Ok(Stepped::Ended(EndKind::Ebreak)),
         }

@@ -1,3 +1,5 @@
+//! What a whole run comes to.
+
 ghost use Rattle.std.specs.Prelude.{◌≡◌};
 ghost use Rattle.tomex_rvexec.specs.declared.end.RunError.TheVariants.{Memory};
 
@@ -6,6 +8,8 @@ use crate::outcome::{EndKind, Fault};
 use std::alloc::{AllocError, AllocFailed, Allocator, Global};
 
 /// How a program ended.
+///
+/// `pc` is the address of the ECALL or EBREAK; `steps` counts it too.
 #[derive(Drop)]
 pub struct End<A: Allocator = Global> {
     pub kind: EndKind,
@@ -18,8 +22,11 @@ pub struct End<A: Allocator = Global> {
 /// Why a run has no end.
 #[derive(Clone, Copy, Debug, Drop, PartialEq, Eq)]
 pub enum RunError {
+    /// An instruction can't be carried out.
     Fault(Fault),
+    /// The program makes as many steps as the limit allows, and neither ends nor faults.
     TooLong,
+    /// Memory for the run was refused.
     Memory,
 }
 

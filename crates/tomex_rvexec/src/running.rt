@@ -1,3 +1,5 @@
+//! Whole runs in order.
+
 ghost use Rattle.std.specs.Prelude.{◌≡◌, ℕ, ◌+◌, ◌≤◌, IfOk, IfErr};
 ghost use Rattle.tomex_rvexec.specs.Machine.{State};
 ghost use Rattle.tomex_rvexec.specs.Run.{IsEnd, IsRefusal, Leads, start_of};
@@ -8,7 +10,10 @@ use crate::outcome::Stepped;
 use std::alloc::Allocator;
 use tomex_image::Image;
 
-/// Runs the image in order, for at most so many steps.
+/// Runs the image in order, for at most so many steps. A program whose last allowed step ends
+/// it has ended; one that goes on after it is too long.
+///
+/// Takes the memory's size once, and nothing at each step.
 pub fn run<A: Allocator>(alloc: A, image: &Image<A>, limit: u32) -> Result<End<A>, RunError>
     ensures ok { IfOk result (λ e. IsEnd image.now limit e) }
     ensures err { IfErr result (λ e. IsRefusal image.now limit e) }

@@ -1,3 +1,5 @@
+//! Whole runs in order, with a record of each step.
+
 ghost use Rattle.std.specs.Prelude.{◌≡◌, ℕ, ◌+◌, ◌≤◌, IfOk, IfErr};
 ghost use Rattle.tomex_rvexec.specs.Machine.{State};
 ghost use Rattle.tomex_rvexec.specs.Run.{IsRefusal, EndsWithin, Leads, start_of};
@@ -10,7 +12,9 @@ use crate::step::Step;
 use std::alloc::Allocator;
 use tomex_image::Image;
 
-/// The steps of a run that ends within the limit.
+/// The steps of a run that ends within the limit, in order; the ECALL or EBREAK is the last.
+///
+/// Takes the memory's size once, and 20 bytes a step.
 #[tactic(auto, using(crate::proofs::Stepping::goes_on, crate::proofs::Stepping::ends_here))]
 pub fn trace<A: Allocator + Clone>(
     alloc: A,

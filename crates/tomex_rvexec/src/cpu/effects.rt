@@ -1,14 +1,39 @@
 //! What instructions do to the machine: writes of registers, jumps, loads and stores.
 
 ghost use Rattle.std.specs.Prelude.{◌≡◌};
+ghost use Rattle.tomex_rvexec.specs.Machine.{from_byte, from_half};
 
 use super::Cpu;
 use crate::outcome::{Fault, FaultKind, Stepped};
 use std::alloc::Allocator;
 
+/// A byte whose sign is extended to 32 bits.
+fn from_signed_byte(byte: u8) -> u32
+    ensures { result ≡ from_byte byte }
+{
+    let value = u32::from(byte);
+    if value < 0x80 {
+        value
+    } else {
+        value + 0xffff_ff00
+    }
+}
+
+/// Two bytes whose sign is extended to 32 bits.
+fn from_signed_half(half: u16) -> u32
+    ensures { result ≡ from_half half }
+{
+    let value = u32::from(half);
+    if value < 0x8000 {
+        value
+    } else {
+        value + 0xffff_0000
+    }
+}
+
 impl<'a, A: Allocator> Cpu<'a, A> {
     ghost use Rattle.std.specs.Prelude.{◌≡◌, IfOk, IfErr, ◌+◌, ◌-◌, ◌<◌, ◌≤◌, IsTrue, false, length};
-    ghost use Rattle.tomex_rvexec.specs.Machine.{writes, jumps, branches, loads, stores, with_register, holds, base_of, from_byte, from_half};
+    ghost use Rattle.tomex_rvexec.specs.Machine.{writes, jumps, branches, loads, stores, next_pc, with_register, holds, base_of, from_byte, from_half};
     ghost use Rattle.tomex_rvexec.specs.Memory.{byte_read, half_read, word_read, byte_written, half_written, word_written};
     ghost use Rattle.tomex_rvexec.specs.Run.{Answers};
 
@@ -21,16 +46,25 @@ impl<'a, A: Allocator> Cpu<'a, A> {
         }
     }
 
+    /// Goes on to the next instruction, past the top of 2^32 to address 0.
+    pub(super) fn go_on(&mut self) -> Stepped
+        ensures next { result ≡ Stepped.Next }
+        ensures pc { self.new ≡ record self.old { pc = next_pc self.old } }
+    {
+        self.pc = self.pc.wrapping_add(4);
+        Stepped::Next
+    }
+
     /// Writes the register and goes on to the next instruction.
     pub(super) fn write(&mut self, r: u8, value: u32) -> Result<Stepped, Fault>
         requires { r < 32 }
         ensures { Answers (writes self.old r value) self.old result self.new }
     {
         self.write_register(r, value);
-        self.pc = self.pc.wrapping_add(4);
-        Ok(Stepped::Next)
+        Ok(self.go_on())
     }
 
+    /// Jumps and writes the address of the instruction after the jump.
     pub(super) fn jump(&mut self, r: u8, target: u32) -> Result<Stepped, Fault>
         requires { r < 32 }
         ensures { Answers (jumps self.old r target) self.old result self.new }
@@ -44,12 +78,12 @@ impl<'a, A: Allocator> Cpu<'a, A> {
         Ok(Stepped::Next)
     }
 
+    /// Goes to the target where the branch is taken. A branch that isn't never faults.
     pub(super) fn branch(&mut self, taken: bool, target: u32) -> Result<Stepped, Fault>
         ensures { Answers (branches self.old taken target) self.old result self.new }
     {
         if !taken {
-            self.pc = self.pc.wrapping_add(4);
-            return Ok(Stepped::Next);
+            return Ok(self.go_on());
         }
         if target % 4 != 0 {
             return Err(self.fault(FaultKind::MisalignedTarget));
@@ -58,6 +92,7 @@ impl<'a, A: Allocator> Cpu<'a, A> {
         Ok(Stepped::Next)
     }
 
+    /// Where the bytes of an access begin in memory.
     fn place(&self, address: u32, count: u32) -> Result<usize, Fault>
         ensures ok { IfOk result (λ i. IsTrue (holds self.now address count) × (i ≡ address - base_of self.now) × (i + count ≤ length self.now.memory)) }
         ensures err { IfErr result (λ e. (holds self.now address count ≡ false) × (e ≡ record { kind = FaultKind.Access; pc = self.now.pc })) }
@@ -68,38 +103,27 @@ impl<'a, A: Allocator> Cpu<'a, A> {
         }
     }
 
+    /// Loads a byte and extends its sign.
     pub(super) fn load_byte(&mut self, r: u8, address: u32) -> Result<Stepped, Fault>
         requires { r < 32 }
         ensures { Answers (loads self.old r address 1 (λ m i. from_byte (byte_read m i))) self.old result self.new }
     {
         let place = self.place(address, 1)?;
-        let value = u32::from(self.memory.byte(place));
-        self.write(
-            r,
-            if value < 0x80 {
-                value
-            } else {
-                value + 0xffff_ff00
-            },
-        )
+        let value = self.memory.byte(place);
+        self.write(r, from_signed_byte(value))
     }
 
+    /// Loads two bytes and extends their sign.
     pub(super) fn load_half(&mut self, r: u8, address: u32) -> Result<Stepped, Fault>
         requires { r < 32 }
         ensures { Answers (loads self.old r address 2 (λ m i. from_half (half_read m i))) self.old result self.new }
     {
         let place = self.place(address, 2)?;
-        let value = u32::from(self.memory.half(place));
-        self.write(
-            r,
-            if value < 0x8000 {
-                value
-            } else {
-                value + 0xffff_0000
-            },
-        )
+        let value = self.memory.half(place);
+        self.write(r, from_signed_half(value))
     }
 
+    /// Loads four bytes.
     pub(super) fn load_word(&mut self, r: u8, address: u32) -> Result<Stepped, Fault>
         requires { r < 32 }
         ensures { Answers (loads self.old r address 4 (λ m i. word_read m i)) self.old result self.new }
@@ -109,6 +133,7 @@ impl<'a, A: Allocator> Cpu<'a, A> {
         self.write(r, value)
     }
 
+    /// Loads a byte and extends it with zeros.
     pub(super) fn load_byte_unsigned(&mut self, r: u8, address: u32) -> Result<Stepped, Fault>
         requires { r < 32 }
         ensures { Answers (loads self.old r address 1 (λ m i. byte_read m i)) self.old result self.new }
@@ -118,6 +143,7 @@ impl<'a, A: Allocator> Cpu<'a, A> {
         self.write(r, value)
     }
 
+    /// Loads two bytes and extends them with zeros.
     pub(super) fn load_half_unsigned(&mut self, r: u8, address: u32) -> Result<Stepped, Fault>
         requires { r < 32 }
         ensures { Answers (loads self.old r address 2 (λ m i. half_read m i)) self.old result self.new }
@@ -127,30 +153,30 @@ impl<'a, A: Allocator> Cpu<'a, A> {
         self.write(r, value)
     }
 
+    /// Stores the low byte of a word.
     pub(super) fn store_byte(&mut self, address: u32, value: u32) -> Result<Stepped, Fault>
         ensures { Answers (stores self.old address 1 (λ m i. byte_written m i value)) self.old result self.new }
     {
         let place = self.place(address, 1)?;
         self.memory.set_byte(place, value);
-        self.pc = self.pc.wrapping_add(4);
-        Ok(Stepped::Next)
+        Ok(self.go_on())
     }
 
+    /// Stores the low two bytes of a word.
     pub(super) fn store_half(&mut self, address: u32, value: u32) -> Result<Stepped, Fault>
         ensures { Answers (stores self.old address 2 (λ m i. half_written m i value)) self.old result self.new }
     {
         let place = self.place(address, 2)?;
         self.memory.set_half(place, value);
-        self.pc = self.pc.wrapping_add(4);
-        Ok(Stepped::Next)
+        Ok(self.go_on())
     }
 
+    /// Stores a word.
     pub(super) fn store_word(&mut self, address: u32, value: u32) -> Result<Stepped, Fault>
         ensures { Answers (stores self.old address 4 (λ m i. word_written m i value)) self.old result self.new }
     {
         let place = self.place(address, 4)?;
         self.memory.set_word(place, value);
-        self.pc = self.pc.wrapping_add(4);
-        Ok(Stepped::Next)
+        Ok(self.go_on())
     }
 }
