@@ -4,4 +4,4 @@ pub mod Steps
 pub mod Machine
 pub mod Run
 pub mod Trace
-pub mod Ends
+pub mod Texts

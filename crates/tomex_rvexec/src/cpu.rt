@@ -92,12 +92,13 @@ impl<'a, A: Allocator> Cpu<'a, A> {
     {
         let place = self.memory.place(self.pc, 4)?;
         let code = self.image.memory();
-        Some(u32::from_le_bytes([
+        let word = [
             code[place],
             code[place + 1],
             code[place + 2],
             code[place + 3],
-        ]))
+        ];
+        Some(u32::from_le_bytes(word))
     }
 
     /// The instruction at the pc, with its operands' values.

@@ -32,7 +32,7 @@ fn from_signed_half(half: u16) -> u32
 }
 
 impl<'a, A: Allocator> Cpu<'a, A> {
-    ghost use Rattle.std.specs.Prelude.{◌≡◌, IfOk, IfErr, ◌+◌, ◌-◌, ◌<◌, ◌≤◌, IsTrue, false, length};
+    ghost use Rattle.std.specs.Prelude.{◌≡◌, IfOk, IfErr, ◌+◌, ◌-◌, ◌%◌, ◌<◌, ◌≤◌, IsTrue, true, false, nat_eq, length};
     ghost use Rattle.tomex_rvexec.specs.Machine.{writes, jumps, branches, loads, stores, next_pc, with_register, holds, base_of, from_byte, from_half};
     ghost use Rattle.tomex_rvexec.specs.Memory.{byte_read, half_read, word_read, byte_written, half_written, word_written};
     ghost use Rattle.tomex_rvexec.specs.Run.{Answers};
@@ -64,14 +64,25 @@ impl<'a, A: Allocator> Cpu<'a, A> {
         Ok(self.go_on())
     }
 
+    /// The target of a jump, which has to be a multiple of 4. Whether it is in memory is for
+    /// the next fetch to say.
+    fn aligned(&self, target: u32) -> Result<u32, Fault>
+        ensures ok { IfOk result (λ t. (t ≡ target) × (nat_eq (target % 4) 0 ≡ true)) }
+        ensures err { IfErr result (λ e. (nat_eq (target % 4) 0 ≡ false) × (e ≡ record { kind = FaultKind.MisalignedTarget; pc = self.now.pc })) }
+    {
+        if target % 4 == 0 {
+            Ok(target)
+        } else {
+            Err(self.fault(FaultKind::MisalignedTarget))
+        }
+    }
+
     /// Jumps and writes the address of the instruction after the jump.
     pub(super) fn jump(&mut self, r: u8, target: u32) -> Result<Stepped, Fault>
         requires { r < 32 }
         ensures { Answers (jumps self.old r target) self.old result self.new }
     {
-        if target % 4 != 0 {
-            return Err(self.fault(FaultKind::MisalignedTarget));
-        }
+        let target = self.aligned(target)?;
         let link = self.pc.wrapping_add(4);
         self.write_register(r, link);
         self.pc = target;
@@ -85,10 +96,7 @@ impl<'a, A: Allocator> Cpu<'a, A> {
         if !taken {
             return Ok(self.go_on());
         }
-        if target % 4 != 0 {
-            return Err(self.fault(FaultKind::MisalignedTarget));
-        }
-        self.pc = target;
+        self.pc = self.aligned(target)?;
         Ok(Stepped::Next)
     }
 

@@ -1,0 +1,190 @@
+//! What the operations compute, by vectors from outside, and the machine on small programs.
+
+use crate::{
+    ByteRange, Cpu, EndKind, Fault, FaultKind, RunError, Stepped, alu, muldiv, run, taken, trace,
+};
+use std::test::Fail;
+use tomex_image::{Image, Window, load};
+use tomex_rvdec::Op;
+
+mod vectors;
+
+use vectors::{PRODUCTS, SHIFTED, SHIFTS};
+
+/// The operations of M, in the order of the vectors' columns.
+const M: [Op; 8] = [
+    Op::Mul,
+    Op::Mulh,
+    Op::Mulhsu,
+    Op::Mulhu,
+    Op::Div,
+    Op::Divu,
+    Op::Rem,
+    Op::Remu,
+];
+
+#[test]
+fn products_and_quotients(rt: HostRuntime) {
+    for (a, b, wanted) in PRODUCTS {
+        for (op, value) in M.iter().zip(wanted.as_slice()) {
+            assert_eq!(rt; muldiv(*op, a, b), *value, "{op:?} {a:08x} {b:08x}");
+        }
+    }
+}
+
+#[test]
+fn every_shift(rt: HostRuntime) {
+    let mut amount = 0u32;
+    for [left, right, signed] in SHIFTS {
+        assert_eq!(rt; alu(Op::Sll, SHIFTED, amount), left);
+        assert_eq!(rt; alu(Op::Srl, SHIFTED, amount), right);
+        assert_eq!(rt; alu(Op::Sra, SHIFTED, amount), signed);
+        // A register's amount counts by its low five bits.
+        assert_eq!(rt; alu(Op::Sra, SHIFTED, amount | 0xffff_ffe0), signed);
+        amount = (amount + 1) % 32;
+    }
+}
+
+#[test]
+fn comparisons(rt: HostRuntime) {
+    let (low, high) = (1, 0xffff_ffff);
+    assert_eq!(rt; alu(Op::Slt, high, low), 1);
+    assert_eq!(rt; alu(Op::Sltu, high, low), 0);
+    assert!(rt; taken(Op::Blt, high, low));
+    assert!(rt; !taken(Op::Bltu, high, low));
+    assert!(rt; taken(Op::Bge, low, high));
+    assert!(rt; !taken(Op::Bgeu, low, high));
+    assert!(rt; taken(Op::Beq, high, high));
+    assert!(rt; !taken(Op::Bne, high, high));
+}
+
+/// An image of these words at this base, in a window of 4096 bytes.
+fn image_of(rt: &HostRuntime, base: u32, words: &[u32]) -> Result<Image, Fail> {
+    let mut bytes = Vec::new(rt.alloc());
+    for word in words {
+        bytes.extend_from_slice(&word.to_le_bytes())?;
+    }
+    let window = Window::new(base, 4096).ok_or("no window")?;
+    Ok(load(rt.alloc(), bytes.as_slice(), window)?)
+}
+
+/// `addi x1,x0,5; addi x2,x0,7; mul x3,x1,x2; ebreak`
+const PRODUCT: [u32; 4] = [0x00500093, 0x00700113, 0x022081b3, 0x00100073];
+
+#[test]
+fn steps_to_the_end_and_stays_there(rt: HostRuntime) -> Result<(), Fail> {
+    let image = image_of(&rt, 0, PRODUCT.as_slice())?;
+    let mut cpu = Cpu::new(rt.alloc(), &image)?;
+    for _ in 0..3 {
+        assert_eq!(rt; cpu.step(), Ok(Stepped::Next));
+    }
+    assert_eq!(rt; cpu.step(), Ok(Stepped::Ended(EndKind::Ebreak)));
+    assert_eq!(rt; cpu.step(), Ok(Stepped::Ended(EndKind::Ebreak)));
+    assert_eq!(rt; cpu.pc(), 12);
+    Ok(())
+}
+
+#[test]
+fn runs_within_the_limit(rt: HostRuntime) -> Result<(), Fail> {
+    let image = image_of(&rt, 0, PRODUCT.as_slice())?;
+    let end = run(rt.alloc(), &image, 4).map_err(|_| "no end")?;
+    assert_eq!(rt; end.regs[3], 35);
+    assert_eq!(rt; end.steps, 4);
+    assert!(rt; matches!(run(rt.alloc(), &image, 3), Err(RunError::TooLong)));
+    Ok(())
+}
+
+/// A jump over the word 80c0ff80 at 4, and each load of it and of parts of it: `lb x1,4(x0);
+/// lb x2,6(x0); lbu x3,4(x0); lh x4,5(x0); lhu x5,5(x0); lh x6,6(x0); lw x7,4(x0); ebreak`
+const LOADS: [u32; 10] = [
+    0x0080006f, 0x80c0ff80, 0x00400083, 0x00600103, 0x00404183, 0x00501203, 0x00505283, 0x00601303,
+    0x00402383, 0x00100073,
+];
+
+#[test]
+fn loads_extend_signs(rt: HostRuntime) -> Result<(), Fail> {
+    let image = image_of(&rt, 0, LOADS.as_slice())?;
+    let end = run(rt.alloc(), &image, 9).map_err(|_| "no end")?;
+    assert_eq!(rt; end.regs[1], 0xffff_ff80);
+    assert_eq!(rt; end.regs[2], 0xffff_ffc0);
+    assert_eq!(rt; end.regs[3], 0x0000_0080);
+    assert_eq!(rt; end.regs[4], 0xffff_c0ff);
+    assert_eq!(rt; end.regs[5], 0x0000_c0ff);
+    assert_eq!(rt; end.regs[6], 0xffff_80c0);
+    assert_eq!(rt; end.regs[7], 0x80c0_ff80);
+    Ok(())
+}
+
+/// How a program of one instruction and EBREAK fares in the window fffff000 to 2^32.
+fn at_the_top(rt: &HostRuntime, word: u32) -> Result<Option<Fault>, Fail> {
+    let image = image_of(rt, 0xffff_f000, [word, 0x00100073].as_slice())?;
+    match run(rt.alloc(), &image, 2) {
+        Ok(_) => Ok(None),
+        Err(RunError::Fault(fault)) => Ok(Some(fault)),
+        Err(_) => Err("neither an end nor a fault")?,
+    }
+}
+
+#[test]
+fn accesses_across_the_edges(rt: HostRuntime) -> Result<(), Fail> {
+    let outside = Some(Fault {
+        kind: FaultKind::Access,
+        pc: 0xffff_f000,
+    });
+    // lw x1,-2(x0) and lw x0,-2(x0) have bytes past the top, which don't wrap to 0.
+    assert_eq!(rt; at_the_top(&rt, 0xffe02083)?, outside);
+    assert_eq!(rt; at_the_top(&rt, 0xffe02003)?, outside);
+    // lw x1,-4(x0), lh x1,-2(x0) and lb x1,-1(x0) end at the top.
+    assert_eq!(rt; at_the_top(&rt, 0xffc02083)?, None);
+    assert_eq!(rt; at_the_top(&rt, 0xffe01083)?, None);
+    assert_eq!(rt; at_the_top(&rt, 0xfff00083)?, None);
+    // lh x1,-1(x0) and sh x0,-1(x0) don't; nor does sb x0,0(x0), which is far below the window.
+    assert_eq!(rt; at_the_top(&rt, 0xfff01083)?, outside);
+    assert_eq!(rt; at_the_top(&rt, 0xfe001fa3)?, outside);
+    assert_eq!(rt; at_the_top(&rt, 0x00000023)?, outside);
+    Ok(())
+}
+
+/// `addi x8,x0,256; addi x1,x0,768; sw x1,0(x8); lb x2,1(x8); ebreak`
+const STORE_THEN_LOAD: [u32; 5] = [0x10000413, 0x30000093, 0x00142023, 0x00140103, 0x00100073];
+
+#[test]
+fn traces_accesses(rt: HostRuntime) -> Result<(), Fail> {
+    let image = image_of(&rt, 0, STORE_THEN_LOAD.as_slice())?;
+    let steps = trace(rt.alloc(), &image, 5).map_err(|_| "no trace")?;
+    assert_eq!(rt; steps.len(), 5);
+    assert_eq!(rt;
+        steps[2].bytes(),
+        Some(ByteRange {
+            from: 0x100,
+            to: 0x104
+        })
+    );
+    assert_eq!(rt; steps[2].dest(), None);
+    assert_eq!(rt;
+        steps[3].bytes(),
+        Some(ByteRange {
+            from: 0x101,
+            to: 0x102
+        })
+    );
+    assert_eq!(rt; steps[3].dest(), Some(2));
+    assert_eq!(rt; steps[4].bytes(), None);
+    assert!(rt; matches!(trace(rt.alloc(), &image, 4), Err(RunError::TooLong)));
+    Ok(())
+}
+
+#[test]
+fn faults_say_what_and_where(rt: HostRuntime) -> Result<(), Fail> {
+    let kinds = [
+        (FaultKind::Fetch, "fetch at 0000000c"),
+        (FaultKind::Illegal, "illegal at 0000000c"),
+        (FaultKind::MisalignedTarget, "misaligned target at 0000000c"),
+        (FaultKind::Access, "access at 0000000c"),
+    ];
+    for (kind, text) in kinds {
+        let shown = format!(in rt.alloc(); "{}", Fault { kind, pc: 12 })?;
+        assert_eq!(rt; shown.as_str(), text);
+    }
+    Ok(())
+}
