@@ -28,5 +28,5 @@ pub use mir.Syntax.{Args, Fn, a_type, dnil, dcons}
 pub use mir.Val.{Val, vunit, vint, vptr}
 pub use prog.Memory.{size, align, capped, up}
 pub use types.ByLocal.{alloc_all, pass_all, free_all, look_at, get, through, sets, lands_as}
-pub use types.Kit.{‵, raw, ◌⊛◌, later, given, prop, regoal, Sq, ◌$◌, ◌∵◌, !, qed, done, move, keep, drop, use0, use1, use2, split, join, fsplit, fjoin, feq_i, await, learn, suffices, frame, group}
+pub use types.Kit.{‵, raw, ◌⊛◌, later, given, some, prop, regoal, Sq, ◌$◌, ◌∵◌, !, qed, done, move, keep, drop, use0, use1, use2, split, join, fsplit, fjoin, feq_i, feq_l, await, learn, suffices, frame, group}
 pub use types.Run.{enter, of_opd, addr, fld, stop, unit_lit, no_more, and_then, returns}
