@@ -1,20 +1,7 @@
 -- A call that asks the budget: it is lent the budget, and answers yes or no.
-use Rattle.tomex_refuse.proofs.Steps.{◌≡◌, ℕ, List, [], ◌∷◌, refl, Bor, Lft, Share, Fml, ftrue, fsep, flft, hidden_shr, shr_vals, nothing, Val, vptr, ‵, raw, ◌⊛◌, later, given, some, ◌$◌, ◌∵◌, !, qed, done, move, keep, drop, use1, split, join, fsplit, fjoin, feq_i, feq_l, await, group, id⊢}
-use seplogic.Ra.Ura.{Ura}
-use mathlib.Core.Bool.{Bool}
-use mathlib.Core.Path.{ap}
-use mir.Val.{vbool}
-use base.Logic.{SProp, ent, sep, ex, guard}
-use prog.Memory.{Memory}
-use prog.Routine.{Routine}
-use contract.Monad.{Fun}
-use types.Logic.{Logic, sem}
-use types.Kit.{pick, show, check, updating, now as at_once}
-use denote.Builtin.{bool}
-use denote.Steps.{only}
-use denote.Triple.Statement.{Contract}
-use denote.Triple.Clauses.{lasts}
-use denote.Triple.Spec.{triple_of}
+use Rattle.tomex_refuse.proofs.Steps.{◌≡◌, List, [], ◌∷◌, refl, Bor, Lft, Share, ftrue, fsep, flft, shr_vals, nothing, Val, vptr, ‵, raw, ◌⊛◌, later, some, ◌$◌, ◌∵◌, !, qed, done, move, keep, use1, split, join, fjoin, feq_i, feq_l, await, id⊢, Ura, Bool, ap, vbool, SProp, ent, sep, ex, guard, Memory, Routine, Fun, Logic, sem, pick, show, check, updating, bool, only, Contract, triple_of}
+use types.Kit.{now as at_once}
+use Rattle.tomex_refuse.proofs.Lending.{sees}
 use Rattle.tomex_refuse.specs.contracts.budget.Budget as budget
 use Rattle.tomex_refuse.specs.contracts.budget.Budget.refuses as refuses
 
@@ -28,8 +15,8 @@ module _ {M : Type 1} {𝓤 : Ura M} (𝓛 : Logic 𝓤) (at_mem : Memory → SP
     abbrev pub asked : Asks.Ghost
     asked = (((κ, tt), (q, tt), tt, (r, tt), (shr_vals r, tt)), tt)
 
-    pub asks : ent 𝓤 (sep 𝓤 (sem 𝓛 (hidden_shr budget.the_row κ r.now r.ref_ptr.0 r.ref_ptr.1)) (A.lft κ q)) (Asks.pre asked)
-    asks = qed 𝓛 (‵ (hidden_shr budget.the_row κ r.now r.ref_ptr.0 r.ref_ptr.1) ∷ ‵ (flft κ q) ∷ []) ∵
+    pub asks : ent 𝓤 (sep 𝓤 (sem 𝓛 (sees κ r)) (A.lft κ q)) (Asks.pre asked)
+    asks = qed 𝓛 (‵ (sees κ r) ∷ ‵ (flft κ q) ∷ []) ∵
         feq_i ! (List Val) (vptr r.ref_ptr.0 r.ref_ptr.1 ∷ []) (vptr r.ref_ptr.0 r.ref_ptr.1 ∷ []) refl $ fjoin ! $
         nothing ! $ move ! (1 ∷ 0 ∷ []) $ fjoin ! $ nothing ! $ move ! (2 ∷ 0 ∷ 1 ∷ []) $ join ! $ join ! $ nothing ! $ move ! (1 ∷ 0 ∷ []) $ join ! $ done !
 

@@ -3,17 +3,23 @@ ghost use Rattle.std.specs.Prelude.{◌≡◌};
 use crate::budget::Budget;
 use std::alloc::{AllocError, Allocator};
 
-/// An allocator that asks the inner one as long as its budget lasts, and refuses from then on.
+/// An allocator that asks the inner one as long as its budget lasts, and refuses every block from then on.
 ///
-/// Growing or shrinking a block asks for a new one, so it is counted too. Freeing is not.
+/// Each block counts as one, whatever its size. A list that grows or shrinks asks for a new block, so
+/// that counts too. Freeing does not, and gives nothing back to the budget. A clone shares the budget.
+///
+/// Its contract is that of any allocator: a block that it grants is one of the inner allocator's, and
+/// goes back there. It may refuse at any time, so that it refuses exactly when its budget is spent is
+/// shown by the crate's tests alone.
 #[derive(Clone, Drop)]
 pub struct Refusing<A> {
-    inner: A,
+    /// The allocator that is asked.
+    pub inner: A,
     budget: Budget,
 }
 
 impl<A> Refusing<A> {
-    /// The inner allocator under that budget.
+    /// That allocator under that budget.
     pub fn new(inner: A, budget: Budget) -> Refusing<A>
         ensures { result.inner ≡ inner }
     {

@@ -1,16 +1,7 @@
 -- The budget is asked first. Where it refuses, so does the call; else the inner allocator is asked.
-use Rattle.tomex_refuse.proofs.Steps.{◌≡◌, ℕ, Ok, Err, List, [], ◌∷◌, refl, w64, proved, Al, α, seen, token, Takes, at_takes, Takes-goes, Takes-gives, Answered, Answer, answer_val, Answer-typed, Answer-Ok, Answer-err, answers, ftrue, fsep, flft, ◌⊑◌, ⊑_trans, fact, tables, usize, yes, hidden_shr, bounded, uint_vals, uint_Tells, owns, block_ptr, shr_vals, plain, types_at, heard, nothing, calls_at, Ended, framed, Stays, stay_dropped, Goes-dropped, walk_of, ends_at, inst_fn, Args, Fn, a_type, dnil, dcons, Val, vint, size, align, capped, alloc_all, pass_all, free_all, look_at, get, through, sets, lands_as, ‵, raw, ◌⊛◌, later, given, some, prop, Sq, ◌$◌, ◌∵◌, !, qed, done, move, keep, use0, use1, use2, split, join, fsplit, fjoin, await, learn, suffices, group, enter, of_opd, addr, fld, stop, no_more, and_then, returns}
-use Rattle.tomex_refuse.proofs.Lending.{self, inner_at, budget_at, lends_fields}
+use Rattle.tomex_refuse.proofs.Steps.{◌≡◌, Ok, Err, [], ◌∷◌, refl, w64, proved, Al, seen, token, Takes, at_takes, Takes-goes, Takes-gives, Answered, Answer, answer_val, Answer-typed, Answer-Ok, Answer-err, answers, ftrue, fsep, flft, ◌⊑◌, ⊑_trans, fact, tables, usize, yes, bounded, uint_vals, uint_Tells, owns, block_ptr, shr_vals, plain, types_at, heard, nothing, calls_at, Ended, framed, Stays, stay_dropped, Goes-dropped, walk_of, ends_at, inst_fn, Args, Fn, a_type, dnil, dcons, Val, vint, size, align, capped, alloc_all, pass_all, free_all, look_at, get, through, sets, lands_as, ‵, raw, ◌⊛◌, later, given, some, prop, Sq, ◌$◌, ◌∵◌, !, qed, done, move, keep, use0, use1, use2, split, join, fsplit, fjoin, await, learn, suffices, group, enter, addr, fld, stop, no_more, and_then, returns, after, block_if_ok, Bool, true, false, vbool, pick, at_ret, agg, lit, first, branches, skips, exec, returns_within, env}
+use Rattle.tomex_refuse.proofs.Lending.{self, inner_at, budget_of, sees, lends_fields}
 use Rattle.tomex_refuse.proofs.Asking.{Asks, asked, asks, tells}
-use Rattle.std.proofs.alloc.Shapes.{after}
-use Rattle.std.specs.Allocator.{block_if_ok}
-use mathlib.Core.Bool.{Bool, true, false}
-use mir.Val.{vbool}
-use types.Kit.{pick, at_ret}
-use types.Part.{agg}
-use types.Run.{lit, first, branches, skips, exec, returns_within}
-use types.ByLocal.{env}
-use Rattle.tomex_refuse.specs.contracts.budget.Budget as budget
 use Rattle.tomex_refuse.proofs.budget.Budget.refuses.Met as refuses
 use Rattle.tomex_refuse.specs.contracts.refusing.RefusingAllocator.allocate as f
 use Rattle.tomex_refuse.specs.contracts.refusing.RefusingAllocator.allocate.Key as key
@@ -47,7 +38,7 @@ allocate_spec 𝓤 𝓛 𝓜 𝓡 wired row laws ghosts dict drops met _ =
     let κ = κs.0 in let κ' = κs.1.0 in let q = qs.0 in let it = a.0.now.inner in let at = inner_at Z a.0 in let n = a.1.0 in let m = a.1.1.0 in
     let Fits = (capped (size τ) ≡ n) × (capped (align τ) ≡ m) in
     let y : W.Ghost = ((κs, qs, bounds, a, (shr_vals a.0, (vint w64 n ∷ [], (vint w64 m ∷ [], tt)))), τ) in
-    let B = Asks 𝓛 𝓜.mem 𝓡.returns in let x = asked 𝓛 𝓜.mem 𝓡.returns κ q (record { ref_ptr = budget_at Z a.0; now = a.0.now.budget }) in
+    let b = budget_of Z a.0 in let B = Asks 𝓛 𝓜.mem 𝓡.returns in let x = asked 𝓛 𝓜.mem 𝓡.returns κ q b in
     let G = Takes Z 𝓛 𝓜.mem 𝓡.returns in let z = at_takes Z 𝓛 𝓜.mem 𝓡.returns κ q at it n m τ in
     -- from the result and its block, beside the tokens, the contract's end
     let out : (v : Val) (r : Answer.Denot) → Sq 𝓛 (‵ (Answer.own_val r (v ∷ [])) ∷ ‵ (block_if_ok (token Z it) τ r) ∷ ‵ (flft κ q) ∷ ‵ (fsep (flft κ' qs.1.0) ftrue) ∷ []) (prop (W.post y v)) = λ v r.
@@ -58,15 +49,15 @@ allocate_spec 𝓤 𝓛 𝓜 𝓡 wired row laws ghosts dict drops met _ =
     ∷ (raw (fact 𝓤 (κ' ⊑ row.lives)) ⊛ raw (fact 𝓤 Fits)) ∷ []) ∵
     move ! (1 ∷ []) $ split ! $ heard ! (κ' ⊑ row.lives) (λ lives. heard ! Fits (λ fits.
     split ! $ split ! $ move ! (2 ∷ []) $ fsplit ! $
-    use1 𝓛 (‵ (seen Z κ at it) ⊛ ‵ (hidden_shr budget.the_row κ a.0.now.budget (budget_at Z a.0).0 (budget_at Z a.0).1)) (lends_fields Z 𝓛 κ κ' a.0) $ split ! $
+    use1 𝓛 (‵ (seen Z κ at it) ⊛ ‵ (sees κ b)) (lends_fields Z 𝓛 κ κ' a.0) $ split ! $
     keep ! (1 ∷ 3 ∷ 0 ∷ 4 ∷ []) $
     -- [the budget; the lifetime's token; the inner allocator; the other lifetime's token]
     enter ! _ _ _ _ _ $ alloc_all ! (λ l. pass_all ! refl ((tt, tt), ((tt, record { fits = are.1.0.1 }), ((tt, record { fits = are.1.1.0.1 }), tt))) $
     sets ! (addr ! (through ! refl (fld ! refl (stop !)))) refl (tt, tt) $
-    use2 𝓛 (raw (B.pre x)) (asks 𝓛 𝓜.mem 𝓡.returns κ q (record { ref_ptr = budget_at Z a.0; now = a.0.now.budget })) $
+    use2 𝓛 (raw (B.pre x)) (asks 𝓛 𝓜.mem 𝓡.returns κ q b) $
     calls_at ! (framed 𝓤 𝓛.H 𝓜 𝓣) B (refuses.met 𝓤 𝓛 𝓜 𝓡 (code.calls-tomex_refuse::budget::Budget::refuses 𝓡.env wired)) x
     (and_then ! (get ! refl) (no_more !)) (λ v.
-    use1 𝓛 (later (some (λ (none_left : Bool). given (v ≡ vbool none_left) (‵ (flft κ q))))) (tells 𝓛 𝓜.mem 𝓡.returns κ q (record { ref_ptr = budget_at Z a.0; now = a.0.now.budget }) v) $
+    use1 𝓛 (later (some (λ (none_left : Bool). given (v ≡ vbool none_left) (‵ (flft κ q))))) (tells 𝓛 𝓜.mem 𝓡.returns κ q b v) $
     await ! tt $ pick ! (λ none_left. learn ! (λ e. lands_as ! e refl (tt, tt) $
     first ! $ branches ! (get ! refl)
     (λ _. sets ! (agg ! (no_more !)) refl (tt, tt) $
@@ -80,7 +71,7 @@ allocate_spec 𝓤 𝓛 𝓜 𝓡 wired row laws ghosts dict drops met _ =
     (and_then ! (get ! refl) (and_then ! (get ! refl) (and_then ! (get ! refl) (no_more !)))) (λ w.
     use1 𝓛 (later (raw (Answered Z 𝓛 𝓜.mem 𝓡.returns it τ w) ⊛ ‵ (flft κ q))) (Takes-gives Z 𝓛 𝓜.mem 𝓡.returns κ q at it n m τ w) $ await ! tt $ split ! $
     answers Z ! 𝓜.mem 𝓡.returns it τ w
-    (λ b o granted. fjoin ! $ lands_as ! granted refl (Answer-typed true b o) $ returns ! (look_at ! 0 refl) $ free_all ! refl $
-    use0 𝓛 (‵ (Answer.own_val (Ok (block_ptr b o)) (answer_val true b o ∷ []))) (Answer-Ok 𝓛 b o) $ out (answer_val true b o) (Ok (block_ptr b o)))
+    (λ at_block o granted. fjoin ! $ lands_as ! granted refl (Answer-typed true at_block o) $ returns ! (look_at ! 0 refl) $ free_all ! refl $
+    use0 𝓛 (‵ (Answer.own_val (Ok (block_ptr at_block o)) (answer_val true at_block o ∷ []))) (Answer-Ok 𝓛 at_block o) $ out (answer_val true at_block o) (Ok (block_ptr at_block o)))
     (λ denied. lands_as ! denied refl (Answer-typed false 0 0) $ returns ! (look_at ! 0 refl) $ free_all ! refl $
     nothing ! $ use0 𝓛 (‵ (Answer.own_val (Err (record {})) (answer_val false 0 0 ∷ []))) (Answer-err 𝓛) $ out (answer_val false 0 0) (Err (record {}))))))))))))

@@ -1,13 +1,6 @@
 -- A block goes back to the inner allocator, which granted it.
-use Rattle.tomex_refuse.proofs.Steps.{◌≡◌, ℕ, ◌+◌, List, [], ◌∷◌, refl, w64, Bor, proved, Al, α, seen, token, Gives, at_gives, Gives-goes, Gives-Gives, id⊢, never_e, Lft, Share, Fml, ftrue, fsep, froom, flft, ◌⊑◌, ⊑_trans, fact, tables, usize, RawPtr, RefOf, yes, unhide, bounded, param, uint_vals, uint_Tells, owns, Ptr, block_ptr, rawptr_vals, rawptr_Tells, rawptr_Lawful, in_a_block, room_for, shr_vals, Slot, plain, heard, nothing, calls_at, Ended, on_entry, framed, Stays, stay_dropped, Goes-dropped, walk_of, ends_at, inst_fn, Args, Fn, a_type, dnil, dcons, Val, vunit, vint, vptr, size, align, capped, up, alloc_all, pass_all, free_all, look_at, get, through, sets, lands_as, ‵, raw, ◌⊛◌, later, given, prop, regoal, ◌$◌, ◌∵◌, !, qed, done, move, keep, drop, use1, split, join, fsplit, fjoin, feq_i, await, learn, suffices, group, enter, of_opd, addr, fld, stop, unit_lit, no_more, and_then, returns}
-use Rattle.tomex_refuse.proofs.Lending.{self, Lent, inner_at, lends_fields, budget_at}
-use Rattle.tomex_refuse.specs.contracts.budget.Budget as budget
-use base.Logic.{never, fst∗}
-use types.Logic.{sem}
-use prog.Wp.{WpFn}
-use denote.Signature.{types_at}
-use denote.RawPtr.{null_ptr, ptr_val}
-use denote.Memory.{hidden_shr}
+use Rattle.tomex_refuse.proofs.Steps.{◌≡◌, List, [], ◌∷◌, refl, w64, proved, Al, seen, token, Gives, at_gives, Gives-goes, Gives-Gives, ftrue, fsep, flft, ◌⊑◌, ⊑_trans, fact, tables, usize, RawPtr, yes, bounded, uint_vals, uint_Tells, owns, Ptr, block_ptr, rawptr_vals, rawptr_Tells, in_a_block, room_for, shr_vals, plain, heard, nothing, calls_at, Ended, framed, Stays, stay_dropped, Goes-dropped, walk_of, ends_at, inst_fn, Args, Fn, a_type, dnil, dcons, Val, vunit, vint, vptr, size, align, capped, alloc_all, pass_all, free_all, look_at, get, through, sets, lands_as, ‵, raw, ◌⊛◌, later, given, prop, regoal, ◌$◌, ◌∵◌, !, qed, done, move, keep, use1, split, join, fsplit, fjoin, feq_i, await, learn, suffices, group, enter, of_opd, addr, fld, stop, unit_lit, no_more, and_then, returns, never, fst∗, sem, WpFn, types_at, null_ptr, ptr_val}
+use Rattle.tomex_refuse.proofs.Lending.{self, inner_at, budget_of, sees, lends_fields}
 use Rattle.tomex_refuse.specs.contracts.refusing.RefusingAllocator.deallocate as f
 use Rattle.tomex_refuse.specs.contracts.refusing.RefusingAllocator.deallocate.Key as key
 use Rattle.tomex_refuse.proofs.refusing.RefusingAllocator.deallocate.Statement.{statement}
@@ -51,7 +44,7 @@ deallocate_spec 𝓤 𝓛 𝓜 𝓡 wired row laws ghosts dict drops met _ =
     in_a_block ! a.1.0 held (fst∗ 𝓤 (never 𝓤) (sem 𝓛 (token Z it τ null_ptr))) (λ b o e.
     regoal ! (λ (x : Ptr). prop (WpFn 𝓤 𝓛.H 𝓣.C 𝓣.Λ (body Z) (vptr a.0.ref_ptr.0 a.0.ref_ptr.1 ∷ ptr_val x ∷ vint w64 n ∷ vint w64 m ∷ []) (W.post (y x)))) e refl $
     fsplit ! $ move ! (2 ∷ []) $ split ! $ split ! $ move ! (2 ∷ []) $ fsplit ! $
-    use1 𝓛 (‵ (seen Z κ at it) ⊛ ‵ (hidden_shr budget.the_row κ a.0.now.budget (budget_at Z a.0).0 (budget_at Z a.0).1)) (lends_fields Z 𝓛 κ κ' a.0) $ split ! $
+    use1 𝓛 (‵ (seen Z κ at it) ⊛ ‵ (sees κ (budget_of Z a.0))) (lends_fields Z 𝓛 κ κ' a.0) $ split ! $
     keep ! (5 ∷ 6 ∷ 0 ∷ 3 ∷ 4 ∷ []) $
     -- [the block; its token; the inner allocator; the lifetime's token; the other lifetime's token]
     enter ! _ _ _ _ _ $ alloc_all ! (λ l. pass_all ! refl ((tt, tt), ((tt, tt), ((tt, record { fits = are.1.1.0.1 }), ((tt, record { fits = are.1.1.1.0.1 }), tt)))) $
