@@ -1,0 +1,9 @@
+//! The program `tomex`.
+#![tactic(auto)]
+
+mod files;
+mod sink;
+#[cfg(test)]
+mod tests;
+
+fn main(_rt: HostRuntime) {}
