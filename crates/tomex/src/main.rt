@@ -2,6 +2,7 @@
 #![tactic(auto)]
 
 mod files;
+mod line;
 mod sink;
 #[cfg(test)]
 mod tests;
