@@ -6,7 +6,6 @@ ghost use Rattle.tomex.specs.RunText.{IsRunText, IsRunRefusal, end_line, registe
 
 use std::alloc::{AllocError, Allocator};
 use std::fmt::Write;
-
 use thiserror::Error;
 use tomex_image::{ImageError, Window, load};
 use tomex_rvexec::{End, Fault, RunError, run};

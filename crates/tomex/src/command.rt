@@ -1,0 +1,175 @@
+//! A whole run of the program, over any files and sinks: what it prints, and its exit status.
+
+ghost use Rattle.std.specs.Prelude.{◌≡◌, ◌≤◌, ◌⊎◌, OnOk, IfErr};
+ghost use Rattle.tomex.specs.declared.command.Failure.TheVariants as failures;
+ghost use Rattle.tomex.specs.Statuses.{status_of_failure};
+
+use crate::files::{Files, ReadFault};
+use crate::line::run::RunLine;
+use crate::line::{Line, LineFault, read_line};
+use crate::run::{RunRefusal, run_text};
+use crate::sink::{Sink, write_all_of};
+use std::alloc::{AllocError, Allocator, Global};
+use thiserror::Error;
+use tomex_image::Window;
+
+/// Why a command was not done. Shown behind `tomex: ` on the standard error.
+#[derive(Debug, Drop, Error)]
+pub enum Failure {
+    /// Base and size are no window.
+    #[error("bad window")]
+    BadWindow,
+    /// The image is refused, or its run.
+    #[error("{0}")]
+    Run(RunRefusal),
+    /// A file was not read. Carries its name as written.
+    #[error("cannot read {0}")]
+    CannotRead(String),
+    /// The standard output did not take the whole text.
+    #[error("cannot write")]
+    CannotWrite,
+    /// Memory was refused.
+    #[error("out of memory")]
+    Memory,
+}
+
+impl Failure {
+    /// The exit status: 1 for refused input, 3 for want of memory, a file or a device.
+    pub fn status(&self) -> u8
+        ensures { result ≡ status_of_failure self.now }
+    {
+        match self {
+            Failure::BadWindow => 1,
+            Failure::Run(RunRefusal::Memory) => 3,
+            Failure::Run(_) => 1,
+            Failure::CannotRead(_) | Failure::CannotWrite | Failure::Memory => 3,
+        }
+    }
+}
+
+impl From<AllocError> for Failure {
+    ghost from_gives = { λ _ failure. failure ≡ failures.Memory };
+
+    fn from(_error: AllocError) -> Failure {
+        Failure::Memory
+    }
+}
+
+impl From<RunRefusal> for Failure {
+    ghost from_gives = { λ refusal failure. failure ≡ failures.Run refusal };
+
+    fn from(refusal: RunRefusal) -> Failure {
+        Failure::Run(refusal)
+    }
+}
+
+/// All bytes of a file.
+fn read<F: Files, A: Allocator>(
+    alloc: A,
+    heap: Global,
+    files: &F,
+    name: &str,
+) -> Result<Vec<u8, A>, Failure> {
+    match files.read(alloc, name) {
+        Ok(bytes) => Ok(bytes),
+        Err(ReadFault::Memory) => Err(Failure::Memory),
+        Err(ReadFault::NoFile) => Err(Failure::CannotRead(String::from_str(heap, name)?)),
+    }
+}
+
+/// The text that `run` prints. The window is tested before the file is read.
+fn text_of_run<F: Files, A: Allocator + Clone>(
+    alloc: A,
+    heap: Global,
+    line: RunLine<'_>,
+    files: &F,
+) -> Result<Vec<u8, A>, Failure> {
+    let window = Window::new(line.base, line.size).ok_or(Failure::BadWindow)?;
+    let image = read(alloc.clone()?, heap, files, line.image)?;
+    Ok(run_text(alloc, image.as_slice(), window, line.limit)?)
+}
+
+/// The text that a line asks for.
+fn text_of<F: Files, A: Allocator + Clone>(
+    alloc: A,
+    heap: Global,
+    line: Line<'_>,
+    files: &F,
+) -> Result<Vec<u8, A>, Failure> {
+    match line {
+        Line::Run(line) => text_of_run(alloc, heap, line, files),
+    }
+}
+
+/// Writes the text that a line asks for, and nothing before the whole of it is made.
+fn carry_out<F: Files, O: Sink, A: Allocator + Clone>(
+    alloc: A,
+    heap: Global,
+    line: Line<'_>,
+    files: &F,
+    out: &mut O,
+) -> Result<(), Failure>
+    ensures ok { OnOk result (O.faults out.new ≡ O.faults out.old) }
+    ensures refused { IfErr result (λ failure. status_of_failure failure ≡ 1 → O.taken out.new ≡ O.taken out.old) }
+{
+    let text = text_of(alloc, heap, line, files)?;
+    match write_all_of(out, text.as_slice()) {
+        Ok(()) => Ok(()),
+        Err(_) => Err(Failure::CannotWrite),
+    }
+}
+
+/// Tells a failure on the standard error, and gives its status. A line that can't be written
+/// changes no status; one that there is no memory for becomes `out of memory`.
+fn tell<E: Sink>(heap: Global, failure: &Failure, err: &mut E) -> u8
+    ensures { (result ≡ status_of_failure failure.now) ⊎ (result ≡ 3) }
+{
+    match format!(in heap; "tomex: {failure}\n") {
+        Ok(text) => {
+            let _ = write_all_of(err, text.as_bytes());
+            failure.status()
+        }
+        Err(_) => {
+            let _ = write_all_of(err, b"tomex: out of memory\n".as_slice());
+            3
+        }
+    }
+}
+
+/// Runs the program on a command line, the program's own name first, and gives its exit status:
+/// 0 done, 1 refused input, 2 a refused command line, 3 memory, a file or a device.
+///
+/// Results and help go to `out`. What is wrong goes to `err`: one line `tomex: ..` with 1 and 3,
+/// the parser's text with 2. What is made of images is made in memory of `alloc`; the command
+/// line, and the names and texts of failures, in memory of `heap`.
+pub fn command<F: Files, O: Sink, E: Sink, A: Allocator + Clone>(
+    alloc: A,
+    heap: Global,
+    words: &[String],
+    files: &F,
+    out: &mut O,
+    err: &mut E,
+) -> u8
+    ensures statuses { result ≤ 3 }
+
+    // A refused input or line writes nothing to the standard output; only a whole text is done.
+    ensures refused { (result ≡ 1) ⊎ (result ≡ 2) → O.taken out.new ≡ O.taken out.old }
+    ensures done { result ≡ 0 → O.faults out.new ≡ O.faults out.old }
+{
+    let done = match read_line(heap, words) {
+        Ok(line) => carry_out(alloc, heap, line, files, out),
+        Err(LineFault::Help(text)) => match write_all_of(out, text.as_bytes()) {
+            Ok(()) => Ok(()),
+            Err(_) => Err(Failure::CannotWrite),
+        },
+        Err(LineFault::Usage(text)) => {
+            let _ = write_all_of(err, text.as_bytes());
+            return 2;
+        }
+        Err(LineFault::Memory) => Err(Failure::Memory),
+    };
+    match done {
+        Ok(()) => 0,
+        Err(failure) => tell(heap, &failure, err),
+    }
+}

@@ -1,0 +1,112 @@
+//! The command line, read by `clap`. No other part of the program knows of `clap`.
+//!
+//! Each command has a file here with two functions: `grammar`, what `clap` is to read and to say in
+//! its help, and `line_of`, what was read. A further command is a further file, a variant of `Line`
+//! and a line in each of `grammar` and `line_of` below.
+ghost use Rattle.tomex.specs.Lines.{StandsFor, status_of};
+ghost use Rattle.std.specs.Prelude.{◌≡◌};
+ghost use Rattle.tomex.specs.declared.line.LineFault.TheVariants.{Memory};
+
+pub mod run;
+mod values;
+
+use clap::error::ErrorKind;
+use clap::{ArgMatches, Command};
+use run::RunLine;
+use std::alloc::{AllocError, Global};
+use values::refused;
+
+/// What a command line asks for.
+#[derive(Clone, Copy, Debug)]
+pub enum Line<'a> {
+    Run(RunLine<'a>),
+}
+
+/// A command line that asks for no command.
+#[derive(Debug, Drop)]
+pub enum LineFault {
+    /// It asks for help or the version: the text, for the standard output.
+    Help(String),
+    /// It is refused: what is wrong, for the standard error.
+    Usage(String),
+    /// There was no memory to read it.
+    Memory,
+}
+
+impl LineFault {
+    /// The exit status: 0 for help, 2 for a refused line, 3 for want of memory.
+    pub fn status(&self) -> u8
+        ensures { result ≡ status_of self.now }
+    {
+        match self {
+            LineFault::Help(_) => 0,
+            LineFault::Usage(_) => 2,
+            LineFault::Memory => 3,
+        }
+    }
+}
+
+impl From<AllocError> for LineFault {
+    ghost from_gives = { λ _ fault. fault ≡ Memory };
+
+    fn from(_error: AllocError) -> LineFault {
+        LineFault::Memory
+    }
+}
+
+const ABOUT: &str = "Runs RV32IM programs and times them on a Tomasulo processor";
+
+const LONG_ABOUT: &str = "\
+Runs RV32IM programs and times them on a Tomasulo processor without speculation.
+
+Each command writes its result to the standard output, whole or not at all. What is \
+wrong is said on the standard error.";
+
+const AFTER_LONG_HELP: &str = "\
+Exit status:
+  0  the result was written, or help
+  1  the input was refused
+  2  the command line was refused
+  3  memory, a file or a device was refused
+
+Example:
+  tomex run mul.bin --size 4096";
+
+fn grammar<'a>(alloc: Global) -> Result<Command<'a>, AllocError> {
+    Command::new(alloc, "tomex")
+        .version("0.1.0")
+        .about(ABOUT)
+        .long_about(LONG_ABOUT)
+        .after_long_help(AFTER_LONG_HELP)
+        .subcommand_required(true)
+        .subcommand(run::grammar(alloc)?)
+}
+
+fn line_of<'a>(alloc: Global, matches: &ArgMatches<'a>) -> Result<Line<'a>, LineFault> {
+    match matches.subcommand() {
+        Some(("run", inner)) => Ok(Line::Run(run::line_of(alloc, inner)?)),
+        _ => Err(refused(alloc, "command")),
+    }
+}
+
+/// What an error of the parser says. Want of memory, also for the text itself, is no refused line.
+fn fault_of(alloc: Global, error: &clap::Error) -> LineFault
+    ensures { StandsFor error.now result }
+{
+    if error.kind() == ErrorKind::OutOfMemory {
+        return LineFault::Memory;
+    }
+    match format!(in alloc; "{error}") {
+        Ok(text) if error.use_stderr() => LineFault::Usage(text),
+        Ok(text) => LineFault::Help(text),
+        Err(_) => LineFault::Memory,
+    }
+}
+
+/// Reads a command line, the program's own name first.
+pub fn read_line<'a>(alloc: Global, words: &'a [String]) -> Result<Line<'a>, LineFault> {
+    match grammar(alloc)?.try_get_matches_from(words) {
+        Ok(matches) => line_of(alloc, &matches),
+        Err(error) => Err(fault_of(alloc, &error)),
+    }
+}
