@@ -6,6 +6,8 @@ use crate::sink::{PutFault, Sink, WriteFault, write_all_of};
 use std::alloc::{AllocError, Global};
 use std::test::Fail;
 
+mod commands;
+
 /// A sink in memory: it takes at most `step` bytes a put and `room` in all, and then fails, or takes
 /// nothing where `is_silent`.
 #[derive(Drop)]

@@ -1,10 +1,11 @@
 //! Known words: what they are called, and that they come back from their instructions.
 
 use crate::{decode, encode};
+use std::process::Abort;
 use std::test::Fail;
 
 /// The word means an instruction of this text, and is the one that means it.
-fn is_word_of(rt: &HostRuntime, word: u32, text: &str) -> Result<(), Fail> {
+fn is_word_of<R: Abort + AllocGlobal>(rt: &R, word: u32, text: &str) -> Result<(), Fail> {
     let instr = decode(word).ok_or("no instruction")?;
     let shown = format!(in rt.alloc(); "{instr}")?;
     assert_eq!(rt; shown.as_str(), text);
