@@ -1,7 +1,7 @@
 //! What an ELF file asks for, or the first test that fails.
 ghost use Rattle.std.specs.Prelude.{◌≡◌, ◌+◌, ◌*◌, ◌%◌, ◌<◌, ◌≤◌, IfOk, IfErr, length, [], Some, None};
 ghost use Rattle.std.specs.List.{All, list_any};
-ghost use Rattle.tomex_image.specs.ElfTests.{Fits, elf_tests, header_tests, tests_from};
+ghost use Rattle.tomex_image.specs.ElfTests.{Fits, IsEntry, elf_tests, header_tests, table_tests};
 ghost use Rattle.tomex_image.specs.FileHeader.{entry_of};
 ghost use Rattle.tomex_image.specs.ProgramHeader.{headers_from, lies_in, segments_from, segments_of, shares_byte};
 ghost use Rattle.tomex_image.specs.Tests.{first_failing};
@@ -76,10 +76,12 @@ fn segments_in(
     entry: u32,
 ) -> Result<Segments, ImageError>
     requires { 0 < table.count → table.offset + 32 * table.count ≤ length bytes.now }
-    ensures passed { IfOk result (λ v. first_failing (tests_from window (length bytes.now) entry [] (headers_from bytes.now table.offset table.count)) ≡ None) }
+    ensures passed { IfOk result (λ v.
+        first_failing (table_tests window bytes.now entry table.offset table.count) ≡ None) }
     ensures found { IfOk result (λ v. v ≡ segments_from [] (headers_from bytes.now table.offset table.count)) }
-    ensures entry { IfOk result (λ v. (entry % 4 ≡ 0) × (window.base ≤ entry) × (entry + 4 ≤ window.base + window.size)) }
-    ensures err { IfErr result (λ e. first_failing (tests_from window (length bytes.now) entry [] (headers_from bytes.now table.offset table.count)) ≡ Some e) }
+    ensures entry { IfOk result (λ v. IsEntry window entry) }
+    ensures err { IfErr result (λ e.
+        first_failing (table_tests window bytes.now entry table.offset table.count) ≡ Some e) }
 {
     let mut segments = Segments::new();
     let mut offset = table.offset;
@@ -106,9 +108,9 @@ fn segments_in(
 #[tactic(auto, using(crate::proofs::Refusals::fails_at, crate::proofs::Refusals::passes_at, crate::proofs::Refusals::all_fit))]
 pub fn executable_of(bytes: &[u8], window: Window) -> Result<Executable, ImageError>
     ensures passed { IfOk result (λ r. first_failing (elf_tests bytes.now window) ≡ None) }
-    ensures found { IfOk result (λ r. (r.segments ≡ segments_of bytes.now) × (r.entry ≡ entry_of bytes.now)) }
+    ensures segments { IfOk result (λ r. r.segments ≡ segments_of bytes.now) }
+    ensures entry { IfOk result (λ r. (r.entry ≡ entry_of bytes.now) × IsEntry window r.entry) }
     ensures fit { IfOk result (λ r. All (Fits window (length bytes.now)) r.segments) }
-    ensures entry { IfOk result (λ r. (r.entry % 4 ≡ 0) × (window.base ≤ r.entry) × (r.entry + 4 ≤ window.base + window.size)) }
     ensures err { IfErr result (λ e. first_failing (elf_tests bytes.now window) ≡ Some e) }
 {
     if let Some(error) = file_refusal(bytes) {

@@ -58,7 +58,8 @@ pub fn entry_address(bytes: &[u8]) -> u32
 pub fn file_refusal(bytes: &[u8]) -> Option<ImageError>
     ensures value { result ≡ first_failing (file_tests bytes.now) }
     ensures whole { IfNone result (52 ≤ length bytes.now) }
-    ensures room { IfNone result (0 < header_count bytes.now → header_offset bytes.now + 32 * header_count bytes.now ≤ length bytes.now) }
+    ensures room { IfNone result (0 < header_count bytes.now
+        → header_offset bytes.now + 32 * header_count bytes.now ≤ length bytes.now) }
 {
     if bytes.len() < FILE_HEADER_SIZE {
         return Some(ImageError::Truncated);
