@@ -11,6 +11,7 @@ mod file_header;
 pub mod laws;
 mod placing;
 mod program_header;
+mod refusals;
 mod segments;
 
 use crate::elf::executable::executable_of;
