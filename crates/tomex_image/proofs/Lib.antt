@@ -1,3 +1,4 @@
+-- Lemmas of the crate, and worked files.
 pub mod Refusals
 pub mod Placing
 pub mod Apart

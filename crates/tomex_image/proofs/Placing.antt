@@ -1,4 +1,4 @@
--- A segment copied into memory.
+-- A segment copied into memory: what each byte is then.
 use Rattle.std.proofs.Common.{◌≡◌, ℕ, ◌+◌, ◌-◌, ◌<◌, ◌≤◌, List, length, Bool, true, false, cond, refl, arith, rules, nat_le, nat_lt, ◌&&◌}
 use Rattle.std.specs.Prelude.{slice_index, slice_range}
 use Rattle.std.proofs.lemmas.List.{places}
@@ -6,6 +6,7 @@ use borrow.Rule.Slice.PartMut.{put_mid}
 use Rattle.tomex_image.specs.declared.elf.program_header.ProgramHeader.{ProgramHeader}
 use Rattle.tomex_image.specs.Placing.{is_filled, file_byte}
 
+-- the bytes below, inside and above the part that is put in
 below : (memory part : List ℕ) (a n k : ℕ) → k < a → a + n ≤ length memory → slice_index (put_mid a n memory part) k ≡ slice_index memory k
 below memory part a n k low room = search (rules, places)
 
@@ -15,12 +16,14 @@ inside memory part a n k low high size room = search (rules, places)
 above : (memory part : List ℕ) (a n k : ℕ) → a + n ≤ k → length part ≡ n → a + n ≤ length memory → slice_index (put_mid a n memory part) k ≡ slice_index memory k
 above memory part a n k high size room = grind (arith, places)
 
+-- a part of the file, by its bytes and its length
 part_at : (bytes : List ℕ) (from n j : ℕ) → j < n → from + n ≤ length bytes → slice_index (slice_range bytes from (from + n)) j ≡ slice_index bytes (from + j)
 part_at bytes from n j in' room = search (rules, places)
 
 part_length : (bytes : List ℕ) (from n : ℕ) → from + n ≤ length bytes → length (slice_range bytes from (from + n)) ≡ n
 part_length bytes from n room = grind (arith, places)
 
+-- the segment's part of the file is put in at its address
 pub copied : (memory bytes : List ℕ) (base : ℕ) (h : ProgramHeader) (k : ℕ) → base ≤ h.address → h.address + h.file_size ≤ base + length memory → h.offset + h.file_size ≤ length bytes → k < length memory
     → slice_index (put_mid (h.address - base) h.file_size memory (slice_range bytes h.offset (h.offset + h.file_size))) k ≡ cond (is_filled h (base + k)) (file_byte bytes h (base + k)) (slice_index memory k)
 copied memory bytes base h k low high whole in' = at (nat_le h.address (base + k)) (nat_lt (base + k) (h.address + h.file_size)) refl refl

@@ -1,4 +1,4 @@
--- Lists of tests.
+-- Lists of tests: the first that fails of two lists, and of the headers one by one.
 use Rattle.std.proofs.Common.{◌≡◌, ℕ, suc, ◌+◌, ◌-◌, ◌<◌, ◌≤◌, List, [], ◌∷◌, ◌++◌, length, Some, None, Bool, true, false, cond, refl, arith, sym, ◌∙◌, ap}
 use Rattle.tomex_image.specs.declared.error.ImageError.{ImageError}
 use Rattle.tomex_image.specs.declared.elf.program_header.ProgramHeader.{ProgramHeader}
@@ -9,6 +9,7 @@ use Rattle.std.proofs.lemmas.List.Elements.{All-push}
 use Rattle.tomex_image.specs.Window.{Span}
 use Rattle.tomex_image.specs.Tests.{Test, first_failing}
 
+-- where the first list passes, the second decides
 pub passes_at : (a b : List Test) → first_failing a ≡ None → first_failing (a ++ b) ≡ first_failing b
 passes_at [] b h = refl
 passes_at (t ∷ ts) b h = at_test t.fails refl h (passes_at ts b)
@@ -17,6 +18,7 @@ passes_at (t ∷ ts) b h = at_test t.fails refl h (passes_at ts b)
     at_test true e h later = cc
     at_test false e h later = rw e (later h)
 
+-- where the first list fails, it decides
 pub fails_at : (a b : List Test) (e : ImageError) → first_failing a ≡ Some e → first_failing (a ++ b) ≡ Some e
 fails_at [] b e h = cc
 fails_at (t ∷ ts) b e h = at_test t.fails refl h (fails_at ts b e)
@@ -25,12 +27,14 @@ fails_at (t ∷ ts) b e h = at_test t.fails refl h (fails_at ts b e)
     at_test true g h later = rw g h
     at_test false g h later = rw g (later h)
 
+-- the headers that are left: the next one and the others, or none
 pub headers_next : (bytes : List ℕ) (i count k : ℕ) → k < count → headers_from bytes i (count - k) ≡ header_at bytes i ∷ headers_from bytes (i + 32) (count - (k + 1))
 headers_next bytes i count k h = let e : count - k ≡ suc (count - (k + 1)) = omega arith in rw e refl
 
 pub headers_end : (bytes : List ℕ) (i count k : ℕ) → count ≤ k → headers_from bytes i (count - k) ≡ []
 headers_end bytes i count k h = let e : count - k ≡ 0 = omega arith in rw e refl
 
+-- where both lists pass together, each passes
 pub none_parts : (a b : List Test) → first_failing (a ++ b) ≡ None → (first_failing a ≡ None) × (first_failing b ≡ None)
 none_parts [] b h = (refl, h)
 none_parts (t ∷ ts) b h = at_test t.fails refl h (none_parts ts b)
@@ -39,7 +43,7 @@ none_parts (t ∷ ts) b h = at_test t.fails refl h (none_parts ts b)
     at_test true e h later = cc
     at_test false e h later = let both = later h in (rw e both.0, both.1)
 
--- a segment that passes its tests
+-- what the tests promise of a segment
 pub fits_of : (window : Span) (len : ℕ) (segments : List ProgramHeader) (h : ProgramHeader) → first_failing (header_tests window len segments h) ≡ None → takes_memory h ≡ true → Fits window len h
 fits_of window len segments h passed takes = record {
   within_file = λ some. grind arith;
@@ -48,6 +52,7 @@ fits_of window len segments h passed takes = record {
   below = grind arith;
 }
 
+-- and of all segments
 pub all_fit : (window : Span) (len entry : ℕ) (segments hs : List ProgramHeader) → first_failing (tests_from window len entry segments hs) ≡ None → All (Fits window len) segments → All (Fits window len) (segments_from segments hs)
 all_fit window len entry segments [] passed fit = fit
 all_fit window len entry segments (h ∷ hs) passed fit =
@@ -58,7 +63,7 @@ all_fit window len entry segments (h ∷ hs) passed fit =
     at_header true e p = All-push (Fits window len) segments h fit (fits_of window len segments h p e)
     at_header false e p = fit
 
--- a header that fails, read into h, after the segments held
+-- a header h that was read and fails after the segments held, in a table of which count - k headers are left
 pub fails_next : (window : Span) (bytes : List ℕ) (entry place count k : ℕ) (segments held : List ProgramHeader) (h : ProgramHeader) (e : ImageError) → k < count
     → held ≡ segments → h ≡ header_at bytes place → first_failing (header_tests window (length bytes) held h) ≡ Some e
     → first_failing (tests_from window (length bytes) entry segments (headers_from bytes place (count - k))) ≡ Some e

@@ -1,11 +1,11 @@
 -- The tests of an ELF file in their order, which is this project's own. Sums are those of whole numbers: none wraps.
-use Rattle.std.specs.Prelude.{ℕ, ◌+◌, ◌*◌, ◌%◌, ◌<◌, ◌≤◌, List, [], ◌∷◌, ◌++◌, length, not, nat_eq, nat_lt, nat_le, ◌&&◌, ◌||◌}
+use Rattle.std.specs.Prelude.{◌≡◌, ℕ, ◌+◌, ◌*◌, ◌%◌, ◌<◌, ◌≤◌, List, [], ◌∷◌, ◌++◌, length, not, nat_eq, nat_lt, nat_le, ◌&&◌, ◌||◌}
 use Rattle.std.specs.List.{list_any}
 use Rattle.tomex_image.specs.declared.error.ImageError.TheVariants.{Empty, Truncated, NotRiscv, NotExec, HeaderSize, Dynamic, Segment, Overlap, TooManySegments, Entry}
 use Rattle.tomex_image.specs.declared.elf.program_header.ProgramHeader.{ProgramHeader}
 use Rattle.tomex_image.specs.declared.elf.segments.TheConstants.{MOST_SEGMENTS}
 use Rattle.tomex_image.specs.FileHeader.{is_riscv, is_executable, header_offset, header_size, header_count, entry_of}
-use Rattle.tomex_image.specs.ProgramHeader.{headers_of, names_interpreter, is_loadable, takes_memory, with_segment, lies_in, shares_byte}
+use Rattle.tomex_image.specs.ProgramHeader.{headers_from, names_interpreter, is_loadable, takes_memory, with_segment, lies_in, shares_byte}
 use Rattle.tomex_image.specs.Tests.{Test, test}
 use Rattle.tomex_image.specs.Window.{Span}
 
@@ -38,9 +38,17 @@ tests_from window len entry segments [] =
     ∷ []
 tests_from window len entry segments (h ∷ hs) = header_tests window len segments h ++ tests_from window len entry (with_segment segments h) hs
 
+-- the tests of a table of so many headers at an offset of the file, and of the whole
+abbrev pub table_tests : Span → List ℕ → ℕ → ℕ → ℕ → List Test
+table_tests window bytes entry offset count = tests_from window (length bytes) entry [] (headers_from bytes offset count)
+
 -- all tests of an ELF file
 abbrev pub elf_tests : List ℕ → Span → List Test
-elf_tests bytes window = file_tests bytes ++ tests_from window (length bytes) (entry_of bytes) [] (headers_of bytes)
+elf_tests bytes window = file_tests bytes ++ table_tests window bytes (entry_of bytes) (header_offset bytes) (header_count bytes)
+
+-- what the tests promise of the entry: a word of the window
+abbrev pub IsEntry : Span → ℕ → Type 0
+IsEntry window entry = (entry % 4 ≡ 0) × (window.base ≤ entry) × (entry + 4 ≤ window.base + window.size)
 
 -- what the tests promise of each segment of a file of len bytes
 pub record Fits (window : Span) (len : ℕ) (h : ProgramHeader) : Type 0 where

@@ -1,3 +1,4 @@
+-- What contracts cite: windows, images, and ELF files.
 pub mod Window
 pub mod Image
 pub mod Tests
@@ -6,3 +7,4 @@ pub mod ProgramHeader
 pub mod ElfTests
 pub mod Placing
 pub mod Loading
+pub mod Standing

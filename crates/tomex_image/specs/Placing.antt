@@ -1,7 +1,6 @@
 -- Which byte of memory is which byte of an ELF file: System V ABI, "Program Loading".
-use Rattle.std.specs.Prelude.{◌≡◌, ◌⊎◌, ℕ, ◌+◌, ◌-◌, ◌<◌, ◌≤◌, List, [], ◌∷◌, Bool, nat_lt, nat_le, ◌&&◌, if◌then◌else◌, slice_index}
+use Rattle.std.specs.Prelude.{ℕ, ◌+◌, ◌-◌, List, [], ◌∷◌, Bool, nat_lt, nat_le, ◌&&◌, if◌then◌else◌, slice_index}
 use Rattle.tomex_image.specs.declared.elf.program_header.ProgramHeader.{ProgramHeader}
-use Rattle.tomex_image.specs.Image.{Loaded}
 
 -- the address is in the part of the segment that the file holds
 abbrev pub is_filled : ProgramHeader → ℕ → Bool
@@ -15,15 +14,3 @@ file_byte bytes h a = slice_index bytes (h.offset + (a - h.address))
 abbrev pub byte_of : List ℕ → List ProgramHeader → ℕ → ℕ
 byte_of bytes [] a = 0
 byte_of bytes (h ∷ hs) a = if is_filled h a then file_byte bytes h a else byte_of bytes hs a
-
--- what a segment has at an address of its own: the file's bytes, and zeros behind them
-abbrev pub segment_byte : List ℕ → ProgramHeader → ℕ → ℕ
-segment_byte bytes h a = if nat_lt a (h.address + h.file_size) then file_byte bytes h a else 0
-
--- the memory has the whole segment at its address
-abbrev pub StandsIn : List ℕ → Loaded → ProgramHeader → Type 0
-StandsIn bytes image h = (a : ℕ) → h.address ≤ a → a < h.address + h.memory_size → slice_index image.memory (a - image.window.base) ≡ segment_byte bytes h a
-
--- the address is no byte of the segment
-abbrev pub IsOutside : ℕ → ProgramHeader → Type 0
-IsOutside a h = (a < h.address) ⊎ (h.address + h.memory_size ≤ a)

@@ -7,11 +7,11 @@ use Rattle.tomex_image.specs.Window.{Span}
 -- the header at an offset of the file; p_paddr, p_flags and p_align are ignored
 abbrev pub header_at : List ℕ → ℕ → ProgramHeader
 header_at bytes i = record {
-  kind = word_at bytes i; -- p_type
-  offset = word_at bytes (i + 4); -- p_offset
-  address = word_at bytes (i + 8); -- p_vaddr
-  file_size = word_at bytes (i + 16); -- p_filesz
-  memory_size = word_at bytes (i + 20); -- p_memsz
+  kind = word_at bytes i;  -- p_type
+  offset = word_at bytes (i + 4);  -- p_offset
+  address = word_at bytes (i + 8);  -- p_vaddr
+  file_size = word_at bytes (i + 16);  -- p_filesz
+  memory_size = word_at bytes (i + 20);  -- p_memsz
 }
 
 -- so many headers, of 32 bytes each, from an offset on

@@ -11,6 +11,7 @@ mod file_header;
 pub mod laws;
 mod placing;
 mod program_header;
+mod refusals;
 mod segments;
 
 use crate::elf::executable::executable_of;
@@ -28,7 +29,8 @@ pub fn load_elf<A: Allocator>(
 ) -> Result<Image<A>, ImageError>
     ensures placed { IfOk result (λ i. elf_placed bytes.now window i) }
     ensures passed { IfOk result (λ i. first_failing (elf_tests bytes.now window) ≡ None) }
-    ensures err { IfErr result (λ e. (e ≡ ImageError.Memory) ⊎ (first_failing (elf_tests bytes.now window) ≡ Some e)) }
+    ensures err { IfErr result (λ e. (e ≡ ImageError.Memory)
+        ⊎ (first_failing (elf_tests bytes.now window) ≡ Some e)) }
 {
     let executable = executable_of(bytes, window)?;
     let memory = memory_of(alloc, bytes, window, executable.segments.as_slice())?;

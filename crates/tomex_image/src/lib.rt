@@ -15,5 +15,5 @@ pub use image::Image;
 pub use loading::load;
 pub use window::Window;
 
-//#[cfg(test)]
-//mod tests;
+#[cfg(test)]
+mod tests;

@@ -1,14 +1,15 @@
 //! What an ELF file asks for, or the first test that fails.
 ghost use Rattle.std.specs.Prelude.{◌≡◌, ◌+◌, ◌*◌, ◌%◌, ◌<◌, ◌≤◌, IfOk, IfErr, length, [], Some, None};
-ghost use Rattle.std.specs.List.{All, list_any};
-ghost use Rattle.tomex_image.specs.ElfTests.{Fits, elf_tests, header_tests, tests_from};
+ghost use Rattle.std.specs.List.{All};
+ghost use Rattle.tomex_image.specs.ElfTests.{Fits, IsEntry, elf_tests, table_tests};
 ghost use Rattle.tomex_image.specs.FileHeader.{entry_of};
-ghost use Rattle.tomex_image.specs.ProgramHeader.{headers_from, lies_in, segments_from, segments_of, shares_byte};
+ghost use Rattle.tomex_image.specs.ProgramHeader.{headers_from, segments_from, segments_of};
 ghost use Rattle.tomex_image.specs.Tests.{first_failing};
 
 use crate::elf::file_header::{HeaderTable, entry_address, file_refusal, header_table};
-use crate::elf::program_header::{ProgramHeader, read_program_header};
-use crate::elf::segments::{MOST_SEGMENTS, Segments};
+use crate::elf::program_header::{PROGRAM_HEADER_SIZE, read_program_header};
+use crate::elf::refusals::{header_refusal, is_within};
+use crate::elf::segments::Segments;
 use crate::error::ImageError;
 use crate::window::Window;
 
@@ -18,52 +19,6 @@ use crate::window::Window;
 pub struct Executable {
     pub segments: Segments,
     pub entry: u32,
-}
-
-/// Whether so many bytes from that address on lie in the window.
-fn is_within(window: Window, address: u32, count: u32) -> bool
-    ensures { result ≡ lies_in window address count }
-{
-    let end = u64::from(window.base()) + u64::from(window.size());
-    window.base() <= address && u64::from(address) + u64::from(count) <= end
-}
-
-/// Whether one of the segments has a byte of memory in common with the header's.
-fn overlaps_any(segments: &[ProgramHeader], header: &ProgramHeader) -> bool
-    ensures { result ≡ list_any (λ s. shares_byte s header.now) segments.now }
-{
-    segments.iter().any(|segment| segment.shares_byte(header))
-}
-
-/// The first test of a header that fails, after those segments. The file has `len` bytes.
-fn header_refusal(
-    window: Window,
-    len: usize,
-    segments: &[ProgramHeader],
-    header: &ProgramHeader,
-) -> Option<ImageError>
-    ensures { result ≡ first_failing (header_tests window len segments.now header.now) }
-{
-    let loads = header.is_loadable();
-    let takes = header.takes_memory();
-    if header.names_interpreter() {
-        Some(ImageError::Dynamic)
-    } else if loads && header.memory_size < header.file_size {
-        Some(ImageError::Segment)
-    } else if loads
-        && header.file_size > 0
-        && (len as u64) < u64::from(header.offset) + u64::from(header.file_size)
-    {
-        Some(ImageError::Truncated)
-    } else if takes && !is_within(window, header.address, header.memory_size) {
-        Some(ImageError::Segment)
-    } else if takes && segments.len() >= MOST_SEGMENTS {
-        Some(ImageError::TooManySegments)
-    } else if takes && overlaps_any(segments, header) {
-        Some(ImageError::Overlap)
-    } else {
-        None
-    }
 }
 
 /// The segments of a table of headers, or the first test that fails, of the headers and of the
@@ -76,10 +31,12 @@ fn segments_in(
     entry: u32,
 ) -> Result<Segments, ImageError>
     requires { 0 < table.count → table.offset + 32 * table.count ≤ length bytes.now }
-    ensures passed { IfOk result (λ v. first_failing (tests_from window (length bytes.now) entry [] (headers_from bytes.now table.offset table.count)) ≡ None) }
+    ensures passed { IfOk result (λ v.
+        first_failing (table_tests window bytes.now entry table.offset table.count) ≡ None) }
     ensures found { IfOk result (λ v. v ≡ segments_from [] (headers_from bytes.now table.offset table.count)) }
-    ensures entry { IfOk result (λ v. (entry % 4 ≡ 0) × (window.base ≤ entry) × (entry + 4 ≤ window.base + window.size)) }
-    ensures err { IfErr result (λ e. first_failing (tests_from window (length bytes.now) entry [] (headers_from bytes.now table.offset table.count)) ≡ Some e) }
+    ensures entry { IfOk result (λ v. IsEntry window entry) }
+    ensures err { IfErr result (λ e.
+        first_failing (table_tests window bytes.now entry table.offset table.count) ≡ Some e) }
 {
     let mut segments = Segments::new();
     let mut offset = table.offset;
@@ -91,7 +48,7 @@ fn segments_in(
         if header.takes_memory() {
             segments.push(header);
         }
-        offset += 32;
+        offset += usize::from(PROGRAM_HEADER_SIZE);
     }
     if segments.as_slice().is_empty() {
         return Err(ImageError::Empty);
@@ -106,9 +63,9 @@ fn segments_in(
 #[tactic(auto, using(crate::proofs::Refusals::fails_at, crate::proofs::Refusals::passes_at, crate::proofs::Refusals::all_fit))]
 pub fn executable_of(bytes: &[u8], window: Window) -> Result<Executable, ImageError>
     ensures passed { IfOk result (λ r. first_failing (elf_tests bytes.now window) ≡ None) }
-    ensures found { IfOk result (λ r. (r.segments ≡ segments_of bytes.now) × (r.entry ≡ entry_of bytes.now)) }
+    ensures segments { IfOk result (λ r. r.segments ≡ segments_of bytes.now) }
+    ensures entry { IfOk result (λ r. (r.entry ≡ entry_of bytes.now) × IsEntry window r.entry) }
     ensures fit { IfOk result (λ r. All (Fits window (length bytes.now)) r.segments) }
-    ensures entry { IfOk result (λ r. (r.entry % 4 ≡ 0) × (window.base ≤ r.entry) × (r.entry + 4 ≤ window.base + window.size)) }
     ensures err { IfErr result (λ e. first_failing (elf_tests bytes.now window) ≡ Some e) }
 {
     if let Some(error) = file_refusal(bytes) {

@@ -1,18 +1,19 @@
 //! A law of the definitions, for readers.
-ghost use Rattle.std.specs.Prelude.{◌≡◌, ℕ, List, ◌+◌, ◌-◌, ◌<◌, ◌≤◌, None, IsTrue, slice_index};
+ghost use Rattle.std.specs.Prelude.{ℕ, List};
 ghost use Rattle.std.specs.List.{All};
 ghost use Rattle.tomex_image.specs.Image.{Loaded};
-ghost use Rattle.tomex_image.specs.Loading.{is_elf, placed, refused};
-ghost use Rattle.tomex_image.specs.Placing.{IsOutside, StandsIn};
 ghost use Rattle.tomex_image.specs.ProgramHeader.{segments_of};
+ghost use Rattle.tomex_image.specs.Standing.{IsElfImage, IsZeroOutside, StandsIn};
 ghost use Rattle.tomex_image.specs.Window.{Span};
 
 /// A law: in the image of an ELF file that is not refused, each segment stands at its address, the
 /// bytes that the file holds of it first and zeros behind them, and each byte of the window outside
 /// all segments is zero. So it is no matter in which order segments are placed, which is what the
-/// test for an overlap is for.
+/// test for an overlap is for. The function does nothing: its contract is the law.
 #[tactic(auto, using(crate::proofs::Standing::segments_stand, crate::proofs::Standing::rest_is_zero))]
 pub fn segments_stand_at_their_addresses()
-    ensures segments { (bytes : List ℕ) (window : Span) (image : Loaded) → IsTrue (is_elf bytes) → refused bytes window ≡ None → placed bytes window image → All (StandsIn bytes image) (segments_of bytes) }
-    ensures rest { (bytes : List ℕ) (window : Span) (image : Loaded) (a : ℕ) → IsTrue (is_elf bytes) → refused bytes window ≡ None → placed bytes window image → window.base ≤ a → a < window.base + window.size → All (IsOutside a) (segments_of bytes) → slice_index image.memory (a - window.base) ≡ 0 }
+    ensures segments { (bytes : List ℕ) (window : Span) (image : Loaded) → IsElfImage bytes window image
+        → All (StandsIn bytes image) (segments_of bytes) }
+    ensures rest { (bytes : List ℕ) (window : Span) (image : Loaded) → IsElfImage bytes window image
+        → IsZeroOutside (segments_of bytes) image }
 {}

@@ -13,7 +13,10 @@ fn place(memory: &mut [u8], bytes: &[u8], window: Window, header: &ProgramHeader
     requires filled { length memory.old ≡ window.size }
     requires fits { Fits window (length bytes.now) header.now }
     ensures length { length memory.new ≡ length memory.old }
-    ensures placed { (k : ℕ) → k < length memory.old → slice_index memory.new k ≡ (if is_filled header.now (window.base + k) then file_byte bytes.now header.now (window.base + k) else slice_index memory.old k) }
+    ensures placed { (k : ℕ) → k < length memory.old → slice_index memory.new k
+        ≡ (if is_filled header.now (window.base + k)
+        then file_byte bytes.now header.now (window.base + k)
+        else slice_index memory.old k) }
 {
     if header.file_size > 0 {
         let from = header.offset as usize;
@@ -35,7 +38,8 @@ pub fn memory_of<A: Allocator>(
 ) -> Result<Vec<u8, A>, AllocError>
     requires { All (Fits window (length bytes.now)) segments.now }
     ensures length { IfOk result (λ v. length v.items ≡ window.size) }
-    ensures placed { IfOk result (λ v. (k : ℕ) → k < window.size → slice_index v.items k ≡ byte_of bytes.now segments.now (window.base + k)) }
+    ensures placed { IfOk result (λ v. (k : ℕ) → k < window.size
+        → slice_index v.items k ≡ byte_of bytes.now segments.now (window.base + k)) }
 {
     let size = window.size() as usize;
     let mut memory = Vec::with_capacity(alloc, size)?;

@@ -5,6 +5,9 @@ ghost use Rattle.tomex_image.specs.ProgramHeader.{header_at, is_loadable, names_
 use crate::elf::bytes::read_word;
 use crate::window::Window;
 
+/// The size of a program header, in bytes.
+pub const PROGRAM_HEADER_SIZE: u16 = 32;
+
 /// `p_type` of a segment that is loaded.
 const PT_LOAD: u32 = 1;
 
@@ -66,7 +69,7 @@ impl ProgramHeader {
     }
 }
 
-/// The program header at that offset in the file.
+/// The program header at that offset in the file. `p_paddr`, `p_flags` and `p_align` are ignored.
 pub fn read_program_header(bytes: &[u8], offset: usize) -> ProgramHeader
     requires { offset + 32 ≤ length bytes.now }
     ensures { result ≡ header_at bytes.now offset }

@@ -1,3 +1,4 @@
+-- The return with the refusal of a header: it is the first test that fails.
 use Rattle.std.proofs.Common.{sym, ◌∙◌}
 use Rattle.tomex_image.proofs.Refusals.{fails_next}
 use Rattle.tomex_image.proofs.elf.executable.segments_in.Goals as goal

@@ -1,3 +1,4 @@
+-- The loop over the segments, last first: the segments that were copied are placed.
 use Rattle.std.proofs.Common.{◌≡◌, ◌+◌, ◌≤◌, ◌<◌, ℕ, length, drop}
 use Rattle.std.specs.Prelude.{slice_index}
 use Rattle.tomex_image.specs.Placing.{byte_of}

@@ -1,3 +1,4 @@
+-- The copy of a segment: each byte of memory is the file's or stays.
 use Rattle.std.proofs.Common.{◌≡◌, ◌+◌, ◌-◌, ◌≤◌, length, arith}
 use Rattle.tomex_image.proofs.Placing.{copied}
 use Rattle.tomex_image.proofs.elf.placing.place.Goals as goal
