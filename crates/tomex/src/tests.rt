@@ -6,6 +6,7 @@ use crate::sink::{PutFault, Sink, WriteFault, write_all_of};
 use std::alloc::{AllocError, Global};
 use std::test::Fail;
 
+mod broken_images;
 mod commands;
 
 /// A sink in memory: it takes at most `step` bytes a put and `room` in all, and then fails, or takes
