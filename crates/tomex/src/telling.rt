@@ -5,6 +5,7 @@ use crate::line::LineFault;
 use crate::sink::{Sink, write_all_of};
 
 const OUT_OF_MEMORY: &[u8; 21] = b"tomex: out of memory\n";
+
 const CANNOT_WRITE: &[u8; 20] = b"tomex: cannot write\n";
 
 /// Tells why a line asks for no command, and answers the exit status: help on the output, all else on

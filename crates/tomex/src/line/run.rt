@@ -6,9 +6,20 @@ use super::values::{Bounds, number, number_of, word, word_of};
 use clap::{ArgMatches, Command};
 use std::alloc::{AllocError, Global};
 
-const BASE: Bounds = Bounds { least: 0, greatest: 4_294_967_292 };
-const SIZE: Bounds = Bounds { least: 4, greatest: 1_048_576 };
-const LIMIT: Bounds = Bounds { least: 1, greatest: 262_144 };
+const BASE: Bounds = Bounds {
+    least: 0,
+    greatest: 4_294_967_292,
+};
+
+const SIZE: Bounds = Bounds {
+    least: 4,
+    greatest: 1_048_576,
+};
+
+const LIMIT: Bounds = Bounds {
+    least: 1,
+    greatest: 262_144,
+};
 
 /// A run that was asked for.
 #[derive(Clone, Copy, Debug)]
@@ -46,8 +57,11 @@ prints x0=00000000 to x31=00000000, a line each, and then
   ebreak at 0000000c after 4";
 
 const IMAGE_HELP: &str = "The file of the image";
+
 const BASE_HELP: &str = "The address of memory's first byte, a multiple of 4 up to 4294967292";
+
 const SIZE_HELP: &str = "The size of memory in bytes, a multiple of 4 from 4 to 1048576";
+
 const LIMIT_HELP: &str = "The greatest number of instructions to run, from 1 to 262144";
 
 pub(super) fn grammar<'a>(alloc: Global) -> Result<Command<'a>, AllocError> {
