@@ -1,5 +1,6 @@
 -- What a command line that asks for no command comes to.
-use Rattle.std.specs.Prelude.{ℕ, ◌≢◌, ◌≡◌, ◌⊎◌}
+use Rattle.std.specs.Prelude.{ℕ, ◌≢◌, ◌≡◌, ◌⊎◌, List, Option, string_bytes}
+use Rattle.std.specs.Io.KnownBytes.{Appends}
 use Rattle.clap.specs.Values.{kind_of}
 use Rattle.clap.specs.declared.error.Error.{Error}
 use Rattle.clap.specs.declared.error.kind.ErrorKind.TheVariants.{DisplayHelp, DisplayVersion, OutOfMemory}
@@ -18,3 +19,9 @@ abbrev pub StandsFor : Error → LineFault → Type 0
 StandsFor error (Help text) = (kind_of error ≡ DisplayHelp) ⊎ (kind_of error ≡ DisplayVersion)
 StandsFor error (Usage text) = (kind_of error ≢ DisplayHelp) × (kind_of error ≢ DisplayVersion) × (kind_of error ≢ OutOfMemory)
 StandsFor error Memory = Unit {0}
+
+-- a fault is told with its status, and the output takes nothing but help: all of it, unless it fails
+abbrev pub IsTold : LineFault → ℕ → Option (List ℕ) → Option (List ℕ) → Type 0
+IsTold (Help text) status old new = ((status ≡ 0) × Appends old new (string_bytes text)) ⊎ (status ≡ 3)
+IsTold (Usage text) status old new = (status ≡ 2) × (new ≡ old)
+IsTold Memory status old new = (status ≡ 3) × (new ≡ old)

@@ -6,9 +6,10 @@ ghost use Rattle.tomex.specs.Statuses.{status_of_failure};
 
 use crate::files::{Files, ReadFault};
 use crate::line::run::RunLine;
-use crate::line::{Line, LineFault, read_line};
+use crate::line::{Line, read_line};
 use crate::run::{RunRefusal, run_text};
 use crate::sink::{Sink, write_all_of};
+use crate::telling::tell_line_fault;
 use std::alloc::{AllocError, Allocator, Global};
 use thiserror::Error;
 use tomex_image::Window;
@@ -156,20 +157,11 @@ pub fn command<F: Files, O: Sink, E: Sink, A: Allocator + Clone>(
     ensures refused { (result ≡ 1) ⊎ (result ≡ 2) → O.taken out.new ≡ O.taken out.old }
     ensures done { result ≡ 0 → O.faults out.new ≡ O.faults out.old }
 {
-    let done = match read_line(heap, words) {
-        Ok(line) => carry_out(alloc, heap, line, files, out),
-        Err(LineFault::Help(text)) => match write_all_of(out, text.as_bytes()) {
-            Ok(()) => Ok(()),
-            Err(_) => Err(Failure::CannotWrite),
+    match read_line(heap, words) {
+        Ok(line) => match carry_out(alloc, heap, line, files, out) {
+            Ok(()) => 0,
+            Err(failure) => tell(heap, &failure, err),
         },
-        Err(LineFault::Usage(text)) => {
-            let _ = write_all_of(err, text.as_bytes());
-            return 2;
-        }
-        Err(LineFault::Memory) => Err(Failure::Memory),
-    };
-    match done {
-        Ok(()) => 0,
-        Err(failure) => tell(heap, &failure, err),
+        Err(fault) => tell_line_fault(&fault, out, err),
     }
 }

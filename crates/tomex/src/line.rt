@@ -56,14 +56,13 @@ impl From<AllocError> for LineFault {
 
 const ABOUT: &str = "Runs RV32IM programs and times them on a Tomasulo processor";
 
-const LONG_ABOUT: &str = "\
-Runs RV32IM programs and times them on a Tomasulo processor without speculation.
+const LONG_ABOUT: &str = "Runs RV32IM programs and times them on a Tomasulo processor without
+speculation.
 
-Each command writes its result to the standard output, whole or not at all. What is \
-wrong is said on the standard error.";
+Each command writes its result to the standard output, whole or not at all.
+What is wrong is said on the standard error.";
 
-const AFTER_LONG_HELP: &str = "\
-Exit status:
+const AFTER_LONG_HELP: &str = "Exit status:
   0  the result was written, or help
   1  the input was refused
   2  the command line was refused

@@ -6,40 +6,40 @@ mod files;
 mod line;
 mod run;
 mod sink;
+mod telling;
 #[cfg(test)]
 mod tests;
 
 use command::command;
 use files::HostFiles;
-use sink::{Stream, write_all_of};
-use std::env;
-use std::io::ErrorKind;
+use line::LineFault;
+use sink::Stream;
 use std::process::ExitCode;
+use std::{env, io};
+use telling::tell_line_fault;
 
-/// Reads the command line and runs it on the system's files and streams.
-fn main(rt: HostRuntime) -> ExitCode {
+/// The words of the command line. One that is no UTF-8 text is refused as a mistake in the line.
+fn words_of(rt: &HostRuntime) -> Result<Vec<String>, LineFault> {
     let alloc = rt.alloc();
-    let mut out = Stream::new(rt.stdout());
-    let mut err = Stream::new(rt.stderr());
-    let read: Result<Vec<String>, ErrorKind> = match env::args(&rt) {
-        Ok(words) => words.collect(alloc).map_err(|_| ErrorKind::OutOfMemory),
-        Err(error) => Err(error.kind()),
-    };
-    match read {
-        Ok(words) => {
-            let files = HostFiles::new(&rt);
-            ExitCode::from(command(alloc, alloc, words.as_slice(), &files, &mut out, &mut err))
-        }
-        Err(ErrorKind::OutOfMemory) => {
-            let _ = write_all_of(&mut err, b"tomex: out of memory\n".as_slice());
-            ExitCode::from(3)
-        }
+    match env::args(rt) {
+        Ok(words) => Ok(words.collect(alloc)?),
+        Err(error) if error.kind() == io::ErrorKind::OutOfMemory => Err(LineFault::Memory),
         Err(_) => {
-            let _ = write_all_of(
-                &mut err,
-                b"error: the command line is not UTF-8\n".as_slice(),
-            );
-            ExitCode::from(2)
+            let text = String::from_str(alloc, "error: the command line is not UTF-8\n")?;
+            Err(LineFault::Usage(text))
         }
     }
+}
+
+/// Runs the command line on the system's files and streams.
+fn main(rt: HostRuntime) -> ExitCode {
+    let alloc = rt.alloc();
+    let files = HostFiles::new(&rt);
+    let mut out = Stream::new(rt.stdout());
+    let mut err = Stream::new(rt.stderr());
+    let status = match words_of(&rt) {
+        Ok(words) => command(alloc, alloc, words.as_slice(), &files, &mut out, &mut err),
+        Err(fault) => tell_line_fault(&fault, &mut out, &mut err),
+    };
+    ExitCode::from(status)
 }

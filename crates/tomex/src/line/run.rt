@@ -41,22 +41,19 @@ pub struct RunLine<'a> {
 
 const ABOUT: &str = "Runs an image in order and prints the registers at its end";
 
-const LONG_ABOUT: &str = "\
-Runs an image, one instruction after the other, until it reaches ECALL or EBREAK.
+const LONG_ABOUT: &str = "Runs an image, one instruction after the other, until it reaches ECALL or
+EBREAK. Prints the 32 registers in hexadecimal, a line each, and then how and
+where the program ended and after how many instructions.
 
-Prints the 32 registers in hexadecimal, a line each, and then how and where the \
-program ended and after how many instructions.
+IMAGE is a flat file of RV32IM code and data, as `objcopy -O binary` writes it.
+It is loaded at the base address and starts there. The rest of memory is zero,
+and so are the registers but x2: it holds the end of memory, rounded down to a
+multiple of 16.";
 
-IMAGE is a flat file of RV32IM code and data, as `objcopy -O binary` writes it. It is \
-loaded at the base address and starts there. The rest of memory is zero, and so are \
-the registers but x2, which points past the end of memory, rounded down to a multiple \
-of 16.";
-
-const AFTER_LONG_HELP: &str = "\
-Example:
+const AFTER_LONG_HELP: &str = "Example:
   tomex run mul.bin --base 0 --size 65536 --limit 100
 
-prints x0=00000000 to x31=00000000, a line each, and last
+prints x0=00000000 to x31=00000000, a line each, and then
   ebreak at 0000000c after 4";
 
 const IMAGE_HELP: &str = "The file of the image";
