@@ -5,7 +5,7 @@ ghost use Rattle.std.specs.List.{list_all};
 ghost use Rattle.tomex_config.specs.Row.{is_between, is_option};
 ghost use Rattle.tomex_config.specs.Grid.{lists_of, lengths, has_zero, product, has_empty, stations_in_range, options_in_range, in_range, is_above_limit, is_too_large};
 
-use crate::row::{is_option, UnitOption};
+use crate::row::{UnitOption, is_option};
 use std::alloc::{Allocator, Global};
 
 /// A list of values for each part of a row: the stations of the six pools, the options for the
