@@ -94,37 +94,12 @@ fn station_rows<A: Allocator + Clone>(
     ensures { IfOk result (λ v. v.items ≡ station_rows (lists_of axes.now)) }
 {
     let rows = [Config::plain()];
-    let rows = vary_stations(
-        alloc.clone()?,
-        rows.as_slice(),
-        PoolId::Alu,
-        axes.alu.as_slice(),
-    )?;
-    let rows = vary_stations(
-        alloc.clone()?,
-        rows.as_slice(),
-        PoolId::Mul,
-        axes.mul.as_slice(),
-    )?;
-    let rows = vary_stations(
-        alloc.clone()?,
-        rows.as_slice(),
-        PoolId::Div,
-        axes.div.as_slice(),
-    )?;
-    let rows = vary_stations(
-        alloc.clone()?,
-        rows.as_slice(),
-        PoolId::Load,
-        axes.load.as_slice(),
-    )?;
-    let rows = vary_stations(
-        alloc.clone()?,
-        rows.as_slice(),
-        PoolId::Store,
-        axes.store.as_slice(),
-    )?;
-    vary_stations(alloc, rows.as_slice(), PoolId::Bru, axes.bru.as_slice())
+    let rows = vary_stations(alloc.clone()?, &rows, PoolId::Alu, &axes.alu)?;
+    let rows = vary_stations(alloc.clone()?, &rows, PoolId::Mul, &axes.mul)?;
+    let rows = vary_stations(alloc.clone()?, &rows, PoolId::Div, &axes.div)?;
+    let rows = vary_stations(alloc.clone()?, &rows, PoolId::Load, &axes.load)?;
+    let rows = vary_stations(alloc.clone()?, &rows, PoolId::Store, &axes.store)?;
+    vary_stations(alloc, &rows, PoolId::Bru, &axes.bru)
 }
 
 /// A row for each choice of stations and options.
@@ -134,36 +109,11 @@ fn option_rows<A: Allocator + Clone>(alloc: A, axes: &Axes<A>) -> Result<Vec<Con
     ensures { IfOk result (λ v. v.items ≡ option_rows (lists_of axes.now)) }
 {
     let rows = station_rows(alloc.clone()?, axes)?;
-    let rows = vary_option(
-        alloc.clone()?,
-        rows.as_slice(),
-        UnitId::Alu,
-        axes.alu_units.as_slice(),
-    )?;
-    let rows = vary_option(
-        alloc.clone()?,
-        rows.as_slice(),
-        UnitId::Mul,
-        axes.mul_units.as_slice(),
-    )?;
-    let rows = vary_option(
-        alloc.clone()?,
-        rows.as_slice(),
-        UnitId::Div,
-        axes.div_units.as_slice(),
-    )?;
-    let rows = vary_option(
-        alloc.clone()?,
-        rows.as_slice(),
-        UnitId::Mem,
-        axes.mem_units.as_slice(),
-    )?;
-    vary_option(
-        alloc,
-        rows.as_slice(),
-        UnitId::Bru,
-        axes.bru_units.as_slice(),
-    )
+    let rows = vary_option(alloc.clone()?, &rows, UnitId::Alu, &axes.alu_units)?;
+    let rows = vary_option(alloc.clone()?, &rows, UnitId::Mul, &axes.mul_units)?;
+    let rows = vary_option(alloc.clone()?, &rows, UnitId::Div, &axes.div_units)?;
+    let rows = vary_option(alloc.clone()?, &rows, UnitId::Mem, &axes.mem_units)?;
+    vary_option(alloc, &rows, UnitId::Bru, &axes.bru_units)
 }
 
 /// A row for each choice of all parts.
@@ -173,7 +123,7 @@ fn rows_of<A: Allocator + Clone>(alloc: A, axes: &Axes<A>) -> Result<Vec<Config,
     ensures { IfOk result (λ v. v.items ≡ rows_of (lists_of axes.now)) }
 {
     let rows = option_rows(alloc.clone()?, axes)?;
-    vary_buses(alloc, rows.as_slice(), axes.buses.as_slice())
+    vary_buses(alloc, &rows, &axes.buses)
 }
 
 /// The rows of the axes: each choice of a value from each list is a row, and the last axis varies
