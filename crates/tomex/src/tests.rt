@@ -11,11 +11,12 @@ use tomex_refuse::{Budget, Refusing};
 
 mod broken_images;
 mod commands;
+mod refused_memory;
 
 /// A sink in memory: it takes at most `step` bytes a put and `room` in all, and then fails, or takes
 /// nothing where `is_silent`.
 #[derive(Drop)]
-struct Narrow {
+pub struct Narrow {
     bytes: Vec<u8>,
     room: usize,
     step: usize,

@@ -10,8 +10,8 @@ use std::test::Fail;
 
 /// The one file that there is, `image`; with None there is no file at all.
 #[derive(Clone, Copy)]
-struct Shelf<'a> {
-    image: Option<&'a [u8]>,
+pub struct Shelf<'a> {
+    pub image: Option<&'a [u8]>,
 }
 
 impl<'a> Files for Shelf<'a> {
