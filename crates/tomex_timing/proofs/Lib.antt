@@ -5,3 +5,7 @@ pub mod Limits
 pub mod Least
 pub mod Settled
 pub mod Bound
+pub mod Stations
+pub mod Search
+pub mod Width
+pub mod Histories

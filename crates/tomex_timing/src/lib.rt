@@ -7,7 +7,12 @@
 //! stations and registers show after a cycle.
 #![tactic(auto)]
 
+mod laws;
 mod times;
 mod window;
 
+pub use laws::{
+    each_step_has_one_set_of_times, issues_alone_at_width_one, search_is_the_recurrence,
+    total_is_bounded, younger_steps_change_nothing,
+};
 pub use times::{Done, Times};
