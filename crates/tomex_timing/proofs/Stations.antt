@@ -7,10 +7,12 @@ use Rattle.std.proofs.lemmas.List.Sums.{sum_by-cons}
 use Rattle.tomex_rvdec.specs.declared.pool.PoolId.{PoolId}
 use Rattle.tomex_config.specs.Row.{Row, stations_of}
 use Rattle.tomex_timing.specs.declared.times.Done.{Done}
+use Rattle.tomex_timing.specs.declared.window.Live.{Live}
 use Rattle.tomex_timing.specs.History.{is_number}
 use Rattle.tomex_timing.specs.Station.{is_held, has_station, is_free}
 use Rattle.tomex_timing.specs.Recurrence.{IsLeast}
 use Rattle.tomex_timing.specs.Search.{first_from, least}
+use Rattle.tomex_timing.specs.Window.{is_held_by, has_station_among, is_free_among}
 use Rattle.tomex_timing.proofs.Least.{fails_more}
 
 -- a bounded search finds the least, or there is none below the bound
@@ -46,26 +48,26 @@ split_one false st n = refl
 split_one true None n = refl
 split_one true (Some m) n = split_number m n
 
-split_count : (pool : PoolId) (t n : ℕ) (xs : List Done) → count_by (λ d. is_held pool t d && lower d.at.station (suc n)) xs ≡ count_by (λ d. is_held pool t d && lower d.at.station n) xs + count_by (λ d. is_held pool t d && is_number d.at.station n) xs
-split_count pool t n [] = refl
-split_count pool t n (d ∷ xs) =
-  let e = split_count pool t n xs in
-  let f : one (is_held pool t d && lower d.at.station (suc n)) ≡ one (is_held pool t d && lower d.at.station n) + one (is_held pool t d && is_number d.at.station n) = split_one (is_held pool t d) d.at.station n in
+split_count : {X : Type 0} (held : X → Bool) (station : X → Option ℕ) (n : ℕ) (xs : List X) → count_by (λ d. held d && lower (station d) (suc n)) xs ≡ count_by (λ d. held d && lower (station d) n) xs + count_by (λ d. held d && is_number (station d) n) xs
+split_count held station n [] = refl
+split_count held station n (d ∷ xs) =
+  let e = split_count held station n xs in
+  let f : one (held d && lower (station d) (suc n)) ≡ one (held d && lower (station d) n) + one (held d && is_number (station d) n) = split_one (held d) (station d) n in
   rw (sum_by-cons, sum_by-cons, sum_by-cons) (omega arith)
 
-one_at_least : (q : Done → Bool) (xs : List Done) → list_all (λ d. not (q d)) xs ≡ false → 0 < count_by q xs
+one_at_least : {X : Type 0} (q : X → Bool) (xs : List X) → list_all (λ d. not (q d)) xs ≡ false → 0 < count_by q xs
 one_at_least q [] h = absurd (cc)
 one_at_least q (d ∷ xs) h = elim (cases_Bool (q d)) [
     inl e ↦ rw (sum_by-cons, e) (omega arith)
   | inr e ↦ let k : 0 < count_by q xs = one_at_least q xs (rw e at h) in rw (sum_by-cons, e) (omega arith) ]
 
 -- where the first n numbers are held, n stations are
-pigeons : (pool : PoolId) (t : ℕ) (xs : List Done) (n : ℕ) → ((k : ℕ) → k < n → is_free pool xs t k ≡ false) → n ≤ count_by (λ d. is_held pool t d && lower d.at.station n) xs
-pigeons pool t xs zero h = omega arith
-pigeons pool t xs (suc n) h =
-  let a : n ≤ count_by (λ d. is_held pool t d && lower d.at.station n) xs = pigeons pool t xs n (λ k l. h k (omega arith)) in
-  let b : 0 < count_by (λ d. is_held pool t d && is_number d.at.station n) xs = one_at_least (λ d. is_held pool t d && is_number d.at.station n) xs (h n (omega arith)) in
-  let e = split_count pool t n xs in
+pigeons : {X : Type 0} (held : X → Bool) (station : X → Option ℕ) (xs : List X) (n : ℕ) → ((k : ℕ) → k < n → list_all (λ d. not (held d && is_number (station d) k)) xs ≡ false) → n ≤ count_by (λ d. held d && lower (station d) n) xs
+pigeons held station xs zero h = omega arith
+pigeons held station xs (suc n) h =
+  let a : n ≤ count_by (λ d. held d && lower (station d) n) xs = pigeons held station xs n (λ k l. h k (omega arith)) in
+  let b : 0 < count_by (λ d. held d && is_number (station d) n) xs = one_at_least (λ d. held d && is_number (station d) n) xs (h n (omega arith)) in
+  let e = split_count held station n xs in
   omega arith
 
 one_part : (a b : Bool) → one (a && b) ≤ one a
@@ -73,20 +75,28 @@ one_part false b = omega arith
 one_part true false = omega arith
 one_part true true = omega arith
 
-part_count : (pool : PoolId) (t n : ℕ) (xs : List Done) → count_by (λ d. is_held pool t d && lower d.at.station n) xs ≤ count_by (is_held pool t) xs
-part_count pool t n [] = omega arith
-part_count pool t n (d ∷ xs) =
-  let e = part_count pool t n xs in
-  let f : one (is_held pool t d && lower d.at.station n) ≤ one (is_held pool t d) = one_part (is_held pool t d) (lower d.at.station n) in
+part_count : {X : Type 0} (held : X → Bool) (station : X → Option ℕ) (n : ℕ) (xs : List X) → count_by (λ d. held d && lower (station d) n) xs ≤ count_by (held) xs
+part_count held station n [] = omega arith
+part_count held station n (d ∷ xs) =
+  let e = part_count held station n xs in
+  let f : one (held d && lower (station d) n) ≤ one (held d) = one_part (held d) (lower (station d) n) in
   rw (sum_by-cons, sum_by-cons) (omega arith)
+
+-- where fewer than n are held, one of the first n numbers is free
+pub found : {X : Type 0} (held : X → Bool) (station : X → Option ℕ) (xs : List X) (n : ℕ) → count_by held xs < n
+  → IsLeast (λ k. list_all (λ d. not (held d && is_number (station d) k)) xs) (least (λ k. list_all (λ d. not (held d && is_number (station d) k)) xs) n) × (least (λ k. list_all (λ d. not (held d && is_number (station d) k)) xs) n < n)
+found held station xs n few = elim (least_cases (λ k. list_all (λ d. not (held d && is_number (station d) k)) xs) n) [
+    inl none ↦
+      let a : n ≤ count_by (λ d. held d && lower (station d) n) xs = pigeons held station xs n none in
+      let b = part_count held station n xs in
+      absurd (omega arith)
+  | inr there ↦ there ]
 
 -- the station is found, and is one of the pool's
 pub number_is : (row : Row) (older : List Done) (pool : PoolId) (t : ℕ) → has_station row older (Some pool) t ≡ true
   → IsLeast (is_free pool older t) (least (is_free pool older t) (stations_of row pool)) × (least (is_free pool older t) (stations_of row pool) < stations_of row pool)
-number_is row older pool t h = elim (least_cases (is_free pool older t) (stations_of row pool)) [
-    inl none ↦
-      let a : stations_of row pool ≤ count_by (λ d. is_held pool t d && lower d.at.station (stations_of row pool)) older = pigeons pool t older (stations_of row pool) none in
-      let b = part_count pool t (stations_of row pool) older in
-      let l : count_by (is_held pool t) older < stations_of row pool = ltb-true _ _ h in
-      absurd (omega arith)
-  | inr found ↦ found ]
+number_is row older pool t h = found (is_held pool t) (λ d. d.at.station) older (stations_of row pool) (ltb-true _ _ h)
+
+pub number_among : (row : Row) (live : List Live) (pool : PoolId) (t : ℕ) → has_station_among row live (Some pool) t ≡ true
+  → IsLeast (is_free_among pool live t) (least (is_free_among pool live t) (stations_of row pool)) × (least (is_free_among pool live t) (stations_of row pool) < stations_of row pool)
+number_among row live pool t h = found (is_held_by pool t) (λ l. l.station) live (stations_of row pool) (ltb-true _ _ h)

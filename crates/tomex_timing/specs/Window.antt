@@ -1,7 +1,7 @@
 -- What the evaluator keeps of a history: the steps that may still be in the way of a next one, and what is latest. Its tests are those of the recurrence over what is kept.
-use Rattle.std.specs.Prelude.{ℕ, ◌-◌, ◌+◌, ◌<◌, ◌≤◌, ◌≡◌, ◌==◌, nat_lt, nat_le, Bool, true, not, ◌&&◌, ◌||◌, if◌then◌else◌, List, [], ◌∷◌, ◌++◌, Option, Some, None, slice_index, slice_set, max, length, is_some, count_by, MatchOption}
+use Rattle.std.specs.Prelude.{ℕ, ◌-◌, ◌+◌, ◌<◌, ◌≤◌, ◌≡◌, ◌==◌, nat_lt, nat_le, Bool, true, not, ◌&&◌, ◌||◌, if◌then◌else◌, List, [], ◌∷◌, ◌++◌, Option, Some, None, slice_index, slice_set, max, length, is_some, count_by, MatchOption, All}
 use Rattle.std.specs.Bool.{MatchBool}
-use Rattle.std.specs.List.{list_all, AllByRecursion}
+use Rattle.std.specs.List.{list_all}
 use Rattle.tomex_rvdec.specs.declared.pool.PoolId.{PoolId}
 use Rattle.tomex_rvdec.specs.declared.pool.PoolId.TheVariants.{Load, Store}
 use Rattle.tomex_rvdec.specs.declared.pool.UnitId.{UnitId}
@@ -34,13 +34,11 @@ recent cycle (d ∷ older) = if nat_le cycle d.at.end then recent cycle older ++
 abbrev pub is_memory_pool : Option PoolId → Bool
 is_memory_pool pool = is_in Load pool || is_in Store pool
 
--- the tests for issue
+-- t is the first number from this one on that passes
+abbrev pub IsFirst : ℕ → (ℕ → Bool) → ℕ → Type 0
+IsFirst from p t = IsLeast (λ s. nat_le from s && p s) t
 
-abbrev pub has_slot_among : Row → ℕ → List Live → ℕ → Bool
-has_slot_among row last live t = nat_le last t && nat_lt (count_by (λ l. l.issue == t) live) (width_of row)
-
-abbrev pub is_finished_branch : ℕ → Live → Bool
-is_finished_branch t l = not l.facts.is_branch || nat_lt l.finish t
+-- issue
 
 abbrev pub is_held_by : PoolId → ℕ → Live → Bool
 is_held_by pool t l = is_in pool l.facts.pool && nat_le t l.end
@@ -49,18 +47,19 @@ abbrev pub has_station_among : Row → List Live → Option PoolId → ℕ → B
 has_station_among row live None t = true
 has_station_among row live (Some pool) t = nat_lt (count_by (is_held_by pool t) live) (stations_of row pool)
 
-abbrev pub may_issue : Row → ℕ → List Live → Option PoolId → ℕ → Bool
-may_issue row last live pool t = nat_lt 0 t && has_slot_among row last live t && list_all (is_finished_branch t) live && has_station_among row live pool t
-
 abbrev pub is_free_among : PoolId → List Live → ℕ → ℕ → Bool
 is_free_among pool live t n = list_all (λ l. not (is_held_by pool t l && is_number l.station n)) live
 
--- the test for the address
+abbrev pub has_room : Row → List Live → Option PoolId → ℕ → Bool
+has_room row live pool t = nat_lt (count_by (λ l. l.issue == t) live) (width_of row) && has_station_among row live pool t
 
-abbrev pub may_address : ℕ → ℕ → ℕ → ℕ → Bool
-may_address base last issue t = nat_lt issue t && nat_lt base t && nat_lt last t
+abbrev pub is_finished_branch : ℕ → Live → Bool
+is_finished_branch t l = not l.facts.is_branch || nat_lt l.finish t
 
--- the tests for the start
+abbrev pub may_issue : Row → ℕ → List Live → Option PoolId → ℕ → Bool
+may_issue row from live pool t = nat_le from t && list_all (is_finished_branch t) live && has_room row live pool t
+
+-- start
 
 abbrev pub conflicts_with : Facts → Live → Bool
 conflicts_with f l = shares_byte l.facts.bytes f.bytes && (l.facts.is_store || f.is_store)
@@ -74,10 +73,10 @@ starts_in unit t l = is_of unit l.facts.unit && l.start == t
 abbrev pub has_unit_among : Row → List Live → UnitId → ℕ → Bool
 has_unit_among row live unit t = nat_lt (count_by (starts_in unit t) live) (option_of row unit).units
 
-abbrev pub may_start : Row → ℕ → ℕ → List Live → Facts → UnitId → ℕ → ℕ → ℕ → Bool
-may_start row j k live f unit issue address t = nat_lt issue t && nat_lt address t && (nat_lt j t && nat_lt k t) && list_all (is_finished_conflict f t) live && has_unit_among row live unit t
+abbrev pub may_start : Row → ℕ → List Live → Facts → UnitId → ℕ → Bool
+may_start row from live f unit t = nat_le from t && list_all (is_finished_conflict f t) live && has_unit_among row live unit t
 
--- the tests for the end
+-- end
 
 abbrev pub sends_in : ℕ → Live → Bool
 sends_in t l = is_some l.facts.dest && l.end == t
@@ -85,21 +84,25 @@ sends_in t l = is_some l.facts.dest && l.end == t
 abbrev pub has_bus_among : Row → List Live → ℕ → Bool
 has_bus_among row live t = nat_lt (count_by (sends_in t) live) row.buses
 
-abbrev pub may_end : Row → List Live → ℕ → ℕ → Bool
-may_end row live finish t = nat_lt finish t && has_bus_among row live t
-
--- the cycle from which on an operand's value is there
+-- the end of an operand's producer, of what is kept for the registers
 abbrev pub end_among : List ℕ → Option Operand → ℕ
 end_among ends None = 0
 end_among ends (Some o) = slice_index ends o.register
 
+-- the first cycle in which an operation's issue, address and operands all lie behind
+abbrev pub ready_from : Latest → Step → ℕ → Option ℕ → ℕ
+ready_from latest s issue address = max (max issue (cycle_of address)) (max (end_among latest.ends (j_of s)) (end_among latest.ends (k_of s))) + 1
+
+abbrev pub address_among : Latest → Step → ℕ → Option ℕ
+address_among latest s issue = if is_memory_pool (step_pool s) then Some (max (max issue (end_among latest.ends (j_of s))) latest.address + 1) else None
+
 -- the times of a next step, by what is kept
 pub record IsNext (row : Row) (live : List Live) (latest : Latest) (s : Step) (at : Times) : Type 0 where
-  pub issue : IsLeast (may_issue row latest.issue live (step_pool s)) at.issue
-  pub address : MatchBool (is_memory_pool (step_pool s)) (IsLeast (may_address (end_among latest.ends (j_of s)) latest.address at.issue) (cycle_of at.address)) (at.address ≡ None)
-  pub start : MatchOption (step_unit s) (at.start ≡ at.issue) (λ unit. IsLeast (may_start row (end_among latest.ends (j_of s)) (end_among latest.ends (k_of s)) live (facts_of s) unit at.issue (cycle_of at.address)) at.start)
+  pub issue : IsLeast (may_issue row (max latest.issue 1) live (step_pool s)) at.issue
+  pub address : at.address ≡ address_among latest s at.issue
+  pub start : MatchOption (step_unit s) (at.start ≡ at.issue) (λ unit. IsLeast (may_start row (ready_from latest s at.issue at.address) live (facts_of s) unit) at.start)
   pub finish : MatchOption (step_unit s) (at.finish ≡ at.issue) (λ unit. at.finish ≡ at.start + (option_of row unit).latency - 1)
-  pub end : MatchOption (step_unit s) (at.end ≡ at.issue) (λ unit. MatchBool (is_some (step_dest s)) (IsLeast (may_end row live at.finish) at.end) (at.end ≡ at.finish))
+  pub end : MatchOption (step_unit s) (at.end ≡ at.issue) (λ unit. MatchBool (is_some (step_dest s)) (IsFirst (at.finish + 1) (has_bus_among row live) at.end) (at.end ≡ at.finish))
   pub station : MatchOption (step_pool s) (at.station ≡ None) (λ pool. (n : ℕ) × (at.station ≡ Some n) × IsLeast (is_free_among pool live at.issue) n)
 
 -- what is kept is of this history
@@ -120,7 +123,7 @@ pub record IsBy (g : ℕ) (l : Live) : Type 0 where
 
 -- no time that is kept lies past the greatest end
 pub record IsSettled (live : List Live) (latest : Latest) : Type 0 where
-  pub window : AllByRecursion (IsBy latest.end) live
+  pub window : All (IsBy latest.end) live
   pub ends : (r : ℕ) → r < 32 → slice_index latest.ends r ≤ latest.end
   pub issue : latest.issue ≤ latest.end
   pub address : latest.address ≤ latest.end

@@ -7,6 +7,7 @@
 //! stations and registers show after a cycle.
 #![tactic(auto)]
 
+mod counting;
 mod laws;
 mod times;
 mod window;
