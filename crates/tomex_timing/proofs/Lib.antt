@@ -9,3 +9,5 @@ pub mod Stations
 pub mod Search
 pub mod Width
 pub mod Histories
+pub mod Searching
+pub mod Windows

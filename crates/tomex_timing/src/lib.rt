@@ -9,6 +9,8 @@
 
 mod counting;
 mod laws;
+mod next;
+mod searches;
 mod times;
 mod window;
 
