@@ -11,3 +11,4 @@ pub mod Width
 pub mod Histories
 pub mod Searching
 pub mod Windows
+pub mod Turns

@@ -1,5 +1,5 @@
 -- What the evaluator keeps of a history: the steps that may still be in the way of a next one, and what is latest. Its tests are those of the recurrence over what is kept.
-use Rattle.std.specs.Prelude.{ℕ, ◌-◌, ◌+◌, ◌<◌, ◌≤◌, ◌≡◌, ◌==◌, nat_lt, nat_le, Bool, true, not, ◌&&◌, ◌||◌, if◌then◌else◌, List, [], ◌∷◌, ◌++◌, Option, Some, None, slice_index, slice_set, max, length, is_some, count_by, MatchOption, All}
+use Rattle.std.specs.Prelude.{ℕ, ◌-◌, ◌+◌, ◌<◌, ◌≤◌, ◌≡◌, ◌==◌, nat_lt, nat_le, Bool, true, not, ◌&&◌, ◌||◌, if◌then◌else◌, List, [], ◌∷◌, ◌++◌, Option, Some, None, slice_index, slice_set, replicate, max, length, is_some, count_by, MatchOption, All}
 use Rattle.std.specs.Bool.{MatchBool}
 use Rattle.std.specs.List.{list_all}
 use Rattle.tomex_rvdec.specs.declared.pool.PoolId.{PoolId}
@@ -89,18 +89,18 @@ abbrev pub end_among : List ℕ → Option Operand → ℕ
 end_among ends None = 0
 end_among ends (Some o) = slice_index ends o.register
 
--- the first cycle in which an operation's issue, address and operands all lie behind
-abbrev pub ready_from : Latest → Step → ℕ → Option ℕ → ℕ
-ready_from latest s issue address = max (max issue (cycle_of address)) (max (end_among latest.ends (j_of s)) (end_among latest.ends (k_of s))) + 1
+-- the first cycle after an operation's issue, its address and the ends of its operands' producers
+abbrev pub ready_from : ℕ → Option ℕ → ℕ → ℕ → ℕ
+ready_from issue address j k = max (max issue (cycle_of address)) (max j k) + 1
 
-abbrev pub address_among : Latest → Step → ℕ → Option ℕ
-address_among latest s issue = if is_memory_pool (step_pool s) then Some (max (max issue (end_among latest.ends (j_of s))) latest.address + 1) else None
+abbrev pub address_among : Latest → Option PoolId → ℕ → ℕ → Option ℕ
+address_among latest pool base issue = if is_memory_pool pool then Some (max (max issue base) latest.address + 1) else None
 
 -- the times of a next step, by what is kept
 pub record IsNext (row : Row) (live : List Live) (latest : Latest) (s : Step) (at : Times) : Type 0 where
   pub issue : IsLeast (may_issue row (max latest.issue 1) live (step_pool s)) at.issue
-  pub address : at.address ≡ address_among latest s at.issue
-  pub start : MatchOption (step_unit s) (at.start ≡ at.issue) (λ unit. IsLeast (may_start row (ready_from latest s at.issue at.address) live (facts_of s) unit) at.start)
+  pub address : at.address ≡ address_among latest (step_pool s) (end_among latest.ends (j_of s)) at.issue
+  pub start : MatchOption (step_unit s) (at.start ≡ at.issue) (λ unit. IsLeast (may_start row (ready_from at.issue at.address (end_among latest.ends (j_of s)) (end_among latest.ends (k_of s))) live (facts_of s) unit) at.start)
   pub finish : MatchOption (step_unit s) (at.finish ≡ at.issue) (λ unit. at.finish ≡ at.start + (option_of row unit).latency - 1)
   pub end : MatchOption (step_unit s) (at.end ≡ at.issue) (λ unit. MatchBool (is_some (step_dest s)) (IsFirst (at.finish + 1) (has_bus_among row live) at.end) (at.end ≡ at.finish))
   pub station : MatchOption (step_pool s) (at.station ≡ None) (λ pool. (n : ℕ) × (at.station ≡ Some n) × IsLeast (is_free_among pool live at.issue) n)
@@ -127,6 +127,10 @@ pub record IsSettled (live : List Live) (latest : Latest) : Type 0 where
   pub ends : (r : ℕ) → r < 32 → slice_index latest.ends r ≤ latest.end
   pub issue : latest.issue ≤ latest.end
   pub address : latest.address ≤ latest.end
+
+-- before the first step
+abbrev pub nothing_yet : Latest
+nothing_yet = record { ends = replicate 32 0; issue = 0; address = 0; end = 0 }
 
 -- the ends of the registers' producers after one more step
 abbrev pub written_by : Option ℕ → ℕ → List ℕ → List ℕ

@@ -8,6 +8,7 @@
 #![tactic(auto)]
 
 mod counting;
+pub mod evaluate;
 mod laws;
 mod next;
 mod searches;

@@ -41,17 +41,16 @@ fn issue_of(row: &Config, live: &[Live], latest: &Latest, pool: Option<PoolId>) 
     find_issue(row, live, pool, from, latest.end)
 }
 
-/// The cycle in which a load or store computes its address.
-fn address_of(latest: &Latest, step: &Step, issue: u64) -> Option<u64>
+/// The cycle in which a load or store computes its address, from the end of its base's producer.
+fn address_of(latest: &Latest, pool: Option<PoolId>, base: u64, issue: u64) -> Option<u64>
+    requires base { base ≤ latest.now.end }
     requires issue { issue ≤ latest.now.end + 1 }
-    requires ends { (r : ℕ) → r < 32 → slice_index latest.now.ends r ≤ latest.now.end }
     requires address { latest.now.address ≤ latest.now.end }
     requires small { latest.now.end < 2 ^ 63 }
-    ensures cycle { result ≡ address_among latest.now step.now issue }
+    ensures cycle { result ≡ address_among latest.now pool base issue }
     ensures by { cycle_of result ≤ latest.now.end + 2 }
 {
-    if is_memory(step.pool()) {
-        let base = end_of(latest, step.j());
+    if is_memory(pool) {
         Some(issue.max(base).max(latest.address) + 1)
     } else {
         None
@@ -59,16 +58,13 @@ fn address_of(latest: &Latest, step: &Step, issue: u64) -> Option<u64>
 }
 
 /// The first cycle after a step's issue, its address and the ends of its operands' producers.
-fn ready_of(latest: &Latest, step: &Step, issue: u64, address: Option<u64>) -> u64
-    requires issue { issue ≤ latest.now.end + 1 }
-    requires ends { (r : ℕ) → r < 32 → slice_index latest.now.ends r ≤ latest.now.end }
-    requires address { cycle_of address ≤ latest.now.end + 2 }
-    requires small { latest.now.end < 2 ^ 63 }
-    ensures cycle { result ≡ ready_from latest.now step.now issue address }
-    ensures by { result ≤ latest.now.end + 3 }
+fn ready_of(issue: u64, address: Option<u64>, j: u64, k: u64) -> u64
+    requires issue { issue < 2 ^ 63 + 2 }
+    requires address { cycle_of address < 2 ^ 63 + 2 }
+    requires j { j < 2 ^ 63 }
+    requires k { k < 2 ^ 63 }
+    ensures { result ≡ ready_from issue address j k }
 {
-    let j = end_of(latest, step.j());
-    let k = end_of(latest, step.k());
     issue.max(address.unwrap_or(0)).max(j.max(k)) + 1
 }
 
@@ -131,10 +127,14 @@ pub(crate) fn next_times(
     requires facts { facts.now ≡ facts_of step.now }
     requires settled { IsSettled live.now latest.now }
     requires small { latest.now.end < 2 ^ 63 }
-    ensures { IsNext row.now live.now latest.now step.now result }
+    ensures next { IsNext row.now live.now latest.now step.now result }
+    ensures j { ForSome (j_of step.now) (λ o. o.register < 32) }
+    ensures k { ForSome (k_of step.now) (λ o. o.register < 32) }
 {
+    let j = end_of(latest, step.j());
+    let k = end_of(latest, step.k());
     let issue = issue_of(row, live, latest, facts.pool);
-    let address = address_of(latest, step, issue);
+    let address = address_of(latest, facts.pool, j, issue);
     let station = station_of(row, live, facts.pool, issue);
     let Some(unit) = facts.unit else {
         return Times {
@@ -146,7 +146,7 @@ pub(crate) fn next_times(
             station,
         };
     };
-    let ready = ready_of(latest, step, issue, address);
+    let ready = ready_of(issue, address, j, k);
     let start = start_of(row, live, facts, unit, ready, latest.end);
     let finish = start + u64::from(row.latency(unit)) - 1;
     let end = end_after(row, live, facts.dest, finish, latest.end);

@@ -3,7 +3,7 @@
 
 ghost use Rattle.std.specs.Prelude.{◌≡◌, ◌<◌, IfSome};
 ghost use Rattle.std.specs.Option.{ForSome};
-ghost use Rattle.tomex_timing.specs.Window.{facts_of, live_from, latest_after};
+ghost use Rattle.tomex_timing.specs.Window.{facts_of, live_from, nothing_yet, latest_after};
 
 use crate::times::Times;
 use tomex_rvdec::{PoolId, UnitId};
@@ -75,7 +75,9 @@ impl Live {
 
 impl Latest {
     /// Before the first step.
-    pub fn none() -> Latest {
+    pub fn none() -> Latest
+        ensures { result ≡ nothing_yet }
+    {
         Latest {
             ends: [0; 32],
             issue: 0,
