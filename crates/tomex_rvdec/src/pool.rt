@@ -1,8 +1,10 @@
 //! The parts of a Tomasulo machine that an instruction uses: the pool of
 //! reservation stations in which it waits, and the functional unit that runs it.
 
-ghost use Rattle.std.specs.Prelude.{◌≡◌, ◌<◌};
-ghost use Rattle.tomex_rvdec.specs.Parts.{place_of_pool, place_of_unit};
+ghost use Rattle.std.specs.Prelude.{◌≡◌, ◌<◌, Some};
+ghost use Rattle.tomex_rvdec.specs.Parts.{place_of_pool, place_of_unit, name_of_pool, name_of_unit};
+
+use std::fmt;
 
 /// A pool of reservation stations. The load and store pools are the machine's
 /// load and store buffers.
@@ -41,6 +43,29 @@ impl PoolId {
             PoolId::Bru => 5,
         }
     }
+
+    /// The pool's name in studies and reports.
+    pub fn name(self) -> &'static str
+        ensures { result.now ≡ name_of_pool self }
+    {
+        match self {
+            PoolId::Alu => "alu",
+            PoolId::Mul => "mul",
+            PoolId::Div => "div",
+            PoolId::Load => "load",
+            PoolId::Store => "store",
+            PoolId::Bru => "bru",
+        }
+    }
+}
+
+impl fmt::Display for PoolId {
+    ghost output = { λ pool. Some (name_of_pool pool) };
+
+    fn fmt<W: fmt::Write>(&self, f: &mut fmt::Formatter<W>) -> fmt::Result {
+        let name = self.name();
+        write!(f, "{name}")
+    }
 }
 
 /// A kind of functional unit. Loads and stores share the memory ports, `Mem`.
@@ -75,5 +100,27 @@ impl UnitId {
             UnitId::Mem => 3,
             UnitId::Bru => 4,
         }
+    }
+
+    /// The kind's name in studies and reports.
+    pub fn name(self) -> &'static str
+        ensures { result.now ≡ name_of_unit self }
+    {
+        match self {
+            UnitId::Alu => "alu",
+            UnitId::Mul => "mul",
+            UnitId::Div => "div",
+            UnitId::Mem => "mem",
+            UnitId::Bru => "bru",
+        }
+    }
+}
+
+impl fmt::Display for UnitId {
+    ghost output = { λ unit. Some (name_of_unit unit) };
+
+    fn fmt<W: fmt::Write>(&self, f: &mut fmt::Formatter<W>) -> fmt::Result {
+        let name = self.name();
+        write!(f, "{name}")
     }
 }
