@@ -1,0 +1,5 @@
+//! Reports of studies and runs.
+#![tactic(auto)]
+
+mod csv_text;
+mod times;

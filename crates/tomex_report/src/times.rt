@@ -1,0 +1,172 @@
+//! The times report of a run on one row.
+
+ghost use Rattle.std.specs.Prelude.{◌≡◌, ◌++◌, ◌∷◌, [], IfOk, OnOk, length, codes};
+ghost use Rattle.csv.specs.Records.{fields_of, partial_of};
+ghost use Rattle.tomex_report.specs.Csv.{IsReady, written};
+ghost use Rattle.tomex_report.specs.TimesReport.{cycle_text, station_text, fields_of_step, header, report_of_times, step_records, total_fields};
+ghost use Rattle.tomex_rvexec.specs.Steps.{step_pool};
+ghost use Rattle.tomex_rvexec.specs.Texts.{hex8};
+ghost use Rattle.tomex_rvdec.specs.Text.{instr_text};
+
+use crate::csv_text::{push_decimal, put_record};
+use csv::{ByteRecord, Writer};
+use std::alloc::{AllocError, Allocator, Global};
+use std::fmt::Write;
+use tomex_rvexec::Step;
+use tomex_timing::Times;
+use tomex_timing::evaluate::total;
+
+/// The names of the columns.
+fn header_of(heap: Global) -> Result<ByteRecord, AllocError>
+    ensures { IfOk result (λ made. fields_of made ≡ header) }
+{
+    let mut record = ByteRecord::new(heap);
+    record.push_field(b"step")?;
+    record.push_field(b"pc")?;
+    record.push_field(b"instr")?;
+    record.push_field(b"issue")?;
+    record.push_field(b"addr")?;
+    record.push_field(b"start")?;
+    record.push_field(b"finish")?;
+    record.push_field(b"end")?;
+    record.push_field(b"station")?;
+    Ok(record)
+}
+
+/// The fields of the total.
+fn total_record(heap: Global, total: u64) -> Result<ByteRecord, AllocError>
+    ensures { IfOk result (λ made. fields_of made ≡ total_fields total) }
+{
+    let mut record = ByteRecord::new(heap);
+    let digits = format!(in heap; "{total}")?;
+    record.push_field(b"total")?;
+    record.push_field(b"-")?;
+    record.push_field(b"-")?;
+    record.push_field(b"-")?;
+    record.push_field(b"-")?;
+    record.push_field(b"-")?;
+    record.push_field(b"-")?;
+    record.push_field(digits.as_bytes())?;
+    record.push_field(b"-")?;
+    Ok(record)
+}
+
+/// Adds a cycle, or `-` where there is none.
+fn push_cycle(
+    record: &mut ByteRecord,
+    scratch: &mut String,
+    cycle: Option<u64>,
+) -> Result<(), AllocError>
+    requires { partial_of record.old ≡ [] }
+    ensures fields { OnOk result (fields_of record.new ≡ fields_of record.old ++ cycle_text cycle ∷ []) }
+    ensures whole { OnOk result (partial_of record.new ≡ []) }
+{
+    match cycle {
+        Some(cycle) => push_decimal(record, scratch, cycle),
+        None => record.push_field(b"-"),
+    }
+}
+
+/// Adds what a step is: its address and its instruction.
+fn push_instruction(
+    record: &mut ByteRecord,
+    scratch: &mut String,
+    step: &Step,
+) -> Result<(), AllocError>
+    requires { partial_of record.old ≡ [] }
+    ensures fields { OnOk result (fields_of record.new ≡ fields_of record.old ++ hex8 step.now.pc ∷ instr_text step.now.instr ∷ []) }
+    ensures whole { OnOk result (partial_of record.new ≡ []) }
+{
+    let (pc, instr) = (step.pc, step.instr);
+    scratch.clear();
+    write!(scratch, "{pc:08x}")?;
+    record.push_field(scratch.as_bytes())?;
+    scratch.clear();
+    write!(scratch, "{instr}")?;
+    record.push_field(scratch.as_bytes())
+}
+
+/// Adds a step's station, or `-` where it has none.
+fn push_station(
+    record: &mut ByteRecord,
+    scratch: &mut String,
+    step: &Step,
+    station: Option<u8>,
+) -> Result<(), AllocError>
+    requires { partial_of record.old ≡ [] }
+    ensures fields { OnOk result (fields_of record.new ≡ fields_of record.old ++ station_text (step_pool step.now) station ∷ []) }
+    ensures whole { OnOk result (partial_of record.new ≡ []) }
+{
+    match (step.pool(), station) {
+        (Some(pool), Some(number)) => {
+            scratch.clear();
+            write!(scratch, "{pool}{number}")?;
+            record.push_field(scratch.as_bytes())
+        }
+        _ => record.push_field(b"-"),
+    }
+}
+
+/// Makes a record the one of a step.
+fn fill_record(
+    record: &mut ByteRecord,
+    scratch: &mut String,
+    number: u64,
+    step: &Step,
+    at: &Times,
+) -> Result<(), AllocError>
+    ensures fields { OnOk result (fields_of record.new ≡ fields_of_step number step.now at.now) }
+    ensures whole { OnOk result (partial_of record.new ≡ []) }
+{
+    record.clear();
+    push_decimal(record, scratch, number)?;
+    push_instruction(record, scratch, step)?;
+    push_decimal(record, scratch, at.issue)?;
+    push_cycle(record, scratch, at.address)?;
+    push_decimal(record, scratch, at.start)?;
+    push_decimal(record, scratch, at.finish)?;
+    push_decimal(record, scratch, at.end)?;
+    push_station(record, scratch, step, at.station)
+}
+
+/// Writes the records of the steps, numbered from 1.
+fn put_steps<A: Allocator>(
+    writer: &mut Writer<Vec<u8, A>>,
+    heap: Global,
+    steps: &[Step],
+    times: &[Times],
+) -> Result<(), AllocError>
+    requires ready { IsReady writer.old }
+    requires pairs { length times.now ≡ length steps.now }
+    ensures ready { OnOk result (IsReady writer.new) }
+    ensures text { OnOk result (written (λ v. v.items) writer.new ≡ written (λ v. v.items) writer.old ++ step_records 1 steps.now times.now) }
+{
+    let mut record = ByteRecord::new(heap);
+    let mut scratch = String::new(heap);
+    for (index, step) in steps.iter().enumerate() {
+        let number = index as u64 + 1;
+        fill_record(&mut record, &mut scratch, number, step, &times[index])?;
+        put_record(writer, &record)?;
+    }
+    Ok(())
+}
+
+/// The report of steps that have these times.
+fn text_of_times<A: Allocator>(
+    alloc: A,
+    heap: Global,
+    steps: &[Step],
+    times: &[Times],
+) -> Result<Vec<u8, A>, AllocError>
+    requires pairs { length times.now ≡ length steps.now }
+    ensures { IfOk result (λ text. text.items ≡ report_of_times steps.now times.now) }
+{
+    let mut writer = Writer::from_writer(Vec::new(alloc));
+    put_record(&mut writer, &header_of(heap)?)?;
+    put_steps(&mut writer, heap, steps, times)?;
+    put_record(&mut writer, &total_record(heap, total(times))?)?;
+    match writer.into_inner() {
+        Ok(text) => Ok(text),
+        Err(_) => Err(AllocError),
+    }
+}
