@@ -3,3 +3,5 @@
 
 mod csv_text;
 mod times;
+
+pub use times::times_report;

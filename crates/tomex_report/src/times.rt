@@ -3,8 +3,10 @@
 ghost use Rattle.std.specs.Prelude.{◌≡◌, ◌++◌, ◌∷◌, [], IfOk, OnOk, length, codes};
 ghost use Rattle.csv.specs.Records.{fields_of, partial_of};
 ghost use Rattle.tomex_report.specs.Csv.{IsReady, written};
-ghost use Rattle.tomex_report.specs.TimesReport.{cycle_text, station_text, fields_of_step, header, report_of_times, step_records, total_fields};
+ghost use Rattle.tomex_report.specs.TimesReport.{cycle_text, station_text, fields_of_step, header, report_of_times, step_records, times_report_of, total_fields};
+ghost use Rattle.tomex_rvexec.specs.Run.{start_of};
 ghost use Rattle.tomex_rvexec.specs.Steps.{step_pool};
+ghost use Rattle.tomex_rvexec.specs.Trace.{steps_from};
 ghost use Rattle.tomex_rvexec.specs.Texts.{hex8};
 ghost use Rattle.tomex_rvdec.specs.Text.{instr_text};
 
@@ -12,9 +14,11 @@ use crate::csv_text::{push_decimal, put_record};
 use csv::{ByteRecord, Writer};
 use std::alloc::{AllocError, Allocator, Global};
 use std::fmt::Write;
-use tomex_rvexec::Step;
+use tomex_config::Config;
+use tomex_rvexec::{Step, trace};
+use tomex_sweep::Program;
 use tomex_timing::Times;
-use tomex_timing::evaluate::total;
+use tomex_timing::evaluate::{times, total};
 
 /// The names of the columns.
 fn header_of(heap: Global) -> Result<ByteRecord, AllocError>
@@ -169,4 +173,25 @@ fn text_of_times<A: Allocator>(
         Ok(text) => Ok(text),
         Err(_) => Err(AllocError),
     }
+}
+
+/// The times report of a program on a row: CSV with a header, a record for each step in program
+/// order, and last the total. Cycles are counted from 1, steps too. `-` stands where there is no
+/// address cycle or no station.
+///
+/// What `csv` needs for its records it takes of `heap`.
+pub fn times_report<A: Allocator + Clone>(
+    alloc: A,
+    heap: Global,
+    program: &Program<A>,
+    row: &Config,
+) -> Result<Vec<u8, A>, AllocError>
+    ensures { IfOk result (λ text. text.items ≡ times_report_of row.now (steps_from program.now.limit (start_of program.now.image))) }
+{
+    // A program ends within its limit, so only memory can be wanting.
+    let Ok(steps) = trace(alloc.clone()?, program.image(), program.limit()) else {
+        return Err(AllocError);
+    };
+    let times = times(alloc.clone()?, steps.as_slice(), row)?;
+    text_of_times(alloc, heap, steps.as_slice(), times.as_slice())
 }
