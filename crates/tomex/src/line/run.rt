@@ -1,5 +1,6 @@
 //! `run IMAGE [--base N] [--size N] [--limit N]`
-ghost use Rattle.std.specs.Prelude.{◌≤◌};
+ghost use Rattle.std.specs.Prelude.{◌≤◌, IfErr};
+ghost use Rattle.tomex.specs.Lines.{IsRefusal};
 
 use super::LineFault;
 use super::values::{Bounds, number, number_of, word, word_of};
@@ -75,10 +76,9 @@ pub(super) fn grammar<'a>(alloc: Global) -> Result<Command<'a>, AllocError> {
         .arg(number(alloc, "limit", LIMIT, "262144", LIMIT_HELP))
 }
 
-pub(super) fn line_of<'a>(
-    alloc: Global,
-    matches: &ArgMatches<'a>,
-) -> Result<RunLine<'a>, LineFault> {
+pub(super) fn line_of<'a>(alloc: Global, matches: &ArgMatches<'a>) -> Result<RunLine<'a>, LineFault>
+    ensures { IfErr result IsRefusal }
+{
     Ok(RunLine {
         image: word_of(alloc, matches, "IMAGE")?,
         base: number_of(alloc, matches, "base", BASE)?,
