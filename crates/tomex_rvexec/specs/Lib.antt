@@ -4,3 +4,5 @@ pub mod Steps
 pub mod Machine
 pub mod Run
 pub mod Trace
+pub mod Flow
+pub mod History

@@ -1,0 +1,47 @@
+-- Bytes of a number written into a list, the low one first.
+use Rattle.std.proofs.Common.{◌≡◌, ℕ, zero, suc, ◌+◌, ◌-◌, ◌*◌, ◌/◌, ◌%◌, ◌^◌, ◌<◌, ◌≤◌, ◌⊎◌, List, length, get_or, set, Bool, true, false, cond, refl, sym, ap, ◌∙◌, arith, inl, inr}
+use Rattle.std.specs.Prelude.{slice_index, slice_set, nat_le, nat_lt, ◌&&◌, if◌then◌else◌}
+use Rattle.std.proofs.lemmas.Bool.{cases_eq, cases_lt, cases_Bool, lt-ltb, le-ltb, le-leb, lt-leb, and_left, and_right, and_from}
+use Rattle.std.proofs.lemmas.Grind.{get_or-set_at}
+use Rattle.std.proofs.lemmas.List.{get_or-set_other}
+use Rattle.std.proofs.Math.ListN.{length-set}
+use Rattle.tomex_rvexec.specs.Memory.{byte_written, half_written, word_written}
+
+-- so many bytes of v, from place i on
+abbrev pub bytes_written : ℕ → List ℕ → ℕ → ℕ → List ℕ
+bytes_written zero m i v = m
+bytes_written (suc n) m i v = slice_set (bytes_written n m i v) (i + n) (v / 256 ^ n % 256)
+
+pub length-bytes : (n : ℕ) (m : List ℕ) (i v : ℕ) → length (bytes_written n m i v) ≡ length m
+length-bytes zero m i v = refl
+length-bytes (suc n) m i v = simp length-set (length-bytes n m i v)
+
+pub bytes_at : (n : ℕ) (m : List ℕ) (i v k : ℕ) → i + n ≤ length m → slice_index (bytes_written n m i v) k ≡ (if nat_le i k && nat_lt k (i + n) then v / 256 ^ (k - i) % 256 else slice_index m k)
+bytes_at zero m i v k h = rw (out (cases_lt k i)) refl
+  where
+    out : (k < i) ⊎ (i ≤ k) → (nat_le i k && nat_lt k (i + 0)) ≡ false
+    out (inl l) = and_left (nat_le i k) (nat_lt k (i + 0)) (lt-leb i k l)
+    out (inr g) = and_right (nat_le i k) (nat_lt k (i + 0)) (le-ltb k (i + 0) (omega arith))
+bytes_at (suc n) m i v k h = at (cases_eq k (i + n)) (bytes_at n m i v k (omega arith))
+  where
+    more : (k ≡ i + n → ⊥) → nat_lt k (i + suc n) ≡ nat_lt k (i + n)
+    more other = elim (cases_lt k (i + n)) [
+        inl l ↦ lt-ltb k (i + suc n) (omega arith) ∙ sym (lt-ltb k (i + n) l)
+      | inr g ↦ le-ltb k (i + suc n) (omega arith) ∙ sym (le-ltb k (i + n) g) ]
+    at : (k ≡ i + n) ⊎ (k ≡ i + n → ⊥) → slice_index (bytes_written n m i v) k ≡ (if nat_le i k && nat_lt k (i + n) then v / 256 ^ (k - i) % 256 else slice_index m k) → slice_index (slice_set (bytes_written n m i v) (i + n) (v / 256 ^ n % 256)) k ≡ (if nat_le i k && nat_lt k (i + suc n) then v / 256 ^ (k - i) % 256 else slice_index m k)
+    at (inl e) before =
+        let t : (nat_le i k && nat_lt k (i + suc n)) ≡ true = and_from (nat_le i k) (nat_lt k (i + suc n)) (le-leb i k (omega arith)) (lt-ltb k (i + suc n) (omega arith)) in
+        let d : k - i ≡ n = omega arith in
+        let l : i + n < length (bytes_written n m i v) = omega (arith, length-bytes n m i v) in
+        rw (t, d) (get_or-set_at (bytes_written n m i v) (i + n) k (v / 256 ^ n % 256) 0 e l)
+    at (inr other) before =
+        rw (get_or-set_other (bytes_written n m i v) (i + n) k (v / 256 ^ n % 256) 0 other, more other) before
+
+pub byte_is : (m : List ℕ) (i v : ℕ) → byte_written m i v ≡ bytes_written 1 m i v
+byte_is m i v = let e : i + 0 ≡ i = omega arith in let d : v / 1 ≡ v = omega arith in rw (e, d) refl
+
+pub half_is : (m : List ℕ) (i v : ℕ) → half_written m i v ≡ bytes_written 2 m i v
+half_is m i v = let e : i + 0 ≡ i = omega arith in let d : v / 1 ≡ v = omega arith in rw (e, d) refl
+
+pub word_is : (m : List ℕ) (i v : ℕ) → word_written m i v ≡ bytes_written 4 m i v
+word_is m i v = let e : i + 0 ≡ i = omega arith in let d : v / 1 ≡ v = omega arith in rw (e, d) refl
