@@ -1,18 +1,20 @@
 -- What a step computes from its operands, and what it changes (RV32I, sections 2.4 to 2.6; M,
 -- chapter 7): its result, the pc that follows it, and the bytes that a store leaves. All of it is
 -- a function of the step, and of the bytes that a load reads.
-use Rattle.std.specs.Prelude.{◌≡◌, ◌≢◌, ℕ, ◌+◌, ◌-◌, ◌*◌, ◌/◌, ◌%◌, ◌^◌, ◌<◌, ◌≤◌, Bool, true, false, IsTrue, ◌&&◌, nat_eq, nat_le, nat_lt, if◌then◌else◌, Option, Some, None, slice_index}
+use Rattle.std.specs.Prelude.{◌≡◌, ℕ, ◌+◌, ◌-◌, ◌*◌, ◌/◌, ◌%◌, ◌^◌, ◌<◌, ◌≤◌, Bool, true, false, ◌&&◌, nat_eq, nat_le, nat_lt, if◌then◌else◌, Option, Some, None, IfSome, List, length, slice_index}
 use Rattle.tomex_rvdec.specs.declared.op.Op.{Op}
-use Rattle.tomex_rvdec.specs.declared.op.Op.TheVariants.{Lui, Auipc, Jal, Jalr, Lb, Lh, Lw, Lbu, Lhu}
+use Rattle.tomex_rvdec.specs.declared.op.Op.TheVariants.{Lui, Auipc, Jal, Jalr, Lb, Lh, Lw, Lbu, Lhu, Ecall, Ebreak}
 use Rattle.tomex_rvdec.specs.declared.op.Form.{Form}
 use Rattle.tomex_rvdec.specs.declared.op.Form.TheVariants as forms
 use Rattle.tomex_rvdec.specs.declared.pool.PoolId.{PoolId}
 use Rattle.tomex_rvdec.specs.declared.pool.PoolId.TheVariants as pools
 use Rattle.tomex_rvdec.specs.Meaning.{form_of}
 use Rattle.tomex_rvdec.specs.Operands.{pool_of}
+use Rattle.tomex_rvexec.specs.declared.outcome.EndKind.{EndKind}
+use Rattle.tomex_rvexec.specs.declared.outcome.EndKind.TheVariants as ends
 use Rattle.tomex_rvexec.specs.declared.step.Step.{Step}
 use Rattle.tomex_rvexec.specs.declared.step.ByteRange.{ByteRange}
-use Rattle.tomex_rvexec.specs.Machine.{State, base_of, holds, from_byte, from_half}
+use Rattle.tomex_rvexec.specs.Machine.{State, base_of, from_byte, from_half}
 use Rattle.tomex_rvexec.specs.Steps.{access_size, address_of, bytes_of, is_store, step_dest}
 use Rattle.tomex_rvexec.specs.Words.{sum, alu_of, muldiv_of, is_taken}
 
@@ -84,10 +86,34 @@ stored_byte x a = x.vk / 256 ^ (a - address_of x) % 256
 abbrev pub byte_in : State → ℕ → ℕ
 byte_in s a = slice_index s.memory (a - base_of s)
 
--- what the step x changes in the state s: the pc, its destination, the bytes of its store
+-- the kind of end that a step makes, if any
+abbrev pub end_at : Op → Option EndKind
+end_at Ecall = Some ends.Ecall
+end_at Ebreak = Some ends.Ebreak
+end_at _ = None
+
+abbrev pub end_of : Step → Option EndKind
+end_of x = end_at x.instr.op
+
+-- what holds of the machine at every step: 32 registers, x0 zero, the pc a multiple of 4, and a byte
+-- of memory for each byte of the window
+pub record IsState (s : State) : Type 0 where
+  pub registers : length s.regs ≡ 32
+  pub zero : slice_index s.regs 0 ≡ 0
+  pub aligned : s.pc % 4 ≡ 0
+  pub filled : length s.memory ≡ s.image.window.size
+
+-- what the step x, which goes from s to t, changes: the pc, its destination and the bytes of its store
 pub record Changes (s : State) (x : Step) (t : State) : Type 0 where
   pub image : t.image ≡ s.image
   pub pc : t.pc ≡ next_pc_of x
-  pub result : (r : ℕ) → r < 32 → slice_index t.regs r ≡ (if is_register (step_dest x) r then result_of x (byte_in s) else slice_index s.regs r)
+  pub registers : (r : ℕ) → r < 32 → slice_index t.regs r ≡ (if is_register (step_dest x) r then result_of x (byte_in s) else slice_index s.regs r)
   pub bytes : (a : ℕ) → base_of s ≤ a → byte_in t a ≡ (if overwrites x a then stored_byte x a else byte_in s a)
   pub memory : is_store x ≡ false → t.memory ≡ s.memory
+
+-- what a step that goes on asked of the state s, and found: its target is a multiple of 4, the bytes of
+-- its access lie in memory, and it doesn't end the program
+pub record IsAllowed (s : State) (x : Step) : Type 0 where
+  pub target : next_pc_of x % 4 ≡ 0
+  pub access : IfSome (bytes_of x) (λ b. (base_of s ≤ b.from) × (b.to ≤ base_of s + s.image.window.size))
+  pub on : end_of x ≡ None
