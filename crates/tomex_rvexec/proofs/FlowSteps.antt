@@ -41,17 +41,17 @@ comes s x o c e = at (holds s s.pc 4) (meaning (fetched s)) refl c e
     at true None is c e = cc
     at false m is c e = cc
 
-register_set : (dest : Option ℕ) (v : ℕ) (regs : List ℕ) (r : ℕ) → r < length regs → slice_index (with_dest dest v regs) r ≡ (if is_register dest r then v else slice_index regs r)
+pub register_set : (dest : Option ℕ) (v : ℕ) (regs : List ℕ) (r : ℕ) → r < length regs → slice_index (with_dest dest v regs) r ≡ (if is_register dest r then v else slice_index regs r)
 register_set None v regs r h = refl
 register_set (Some q) v regs r h = elim (cases_eq r q) [
     inl e ↦ rw (eq-eqb q r (sym e)) (get_or-set_at regs q r v 0 e (omega arith))
   | inr other ↦ rw (ne_eqb q r (λ e. other (sym e))) (get_or-set_other regs q r v 0 other) ]
 
-length-dest : (dest : Option ℕ) (v : ℕ) (regs : List ℕ) → length (with_dest dest v regs) ≡ length regs
+pub length-dest : (dest : Option ℕ) (v : ℕ) (regs : List ℕ) → length (with_dest dest v regs) ≡ length regs
 length-dest None v regs = refl
 length-dest (Some q) v regs = simp length-set
 
-never_zero : (f : Form) (rd : ℕ) → is_register (dest_at f rd) 0 ≡ false
+pub never_zero : (f : Form) (rd : ℕ) → is_register (dest_at f rd) 0 ≡ false
 never_zero forms.Store rd = refl
 never_zero forms.Branch rd = refl
 never_zero forms.Fence rd = refl
@@ -86,10 +86,10 @@ stored_within Sw = omega arith
 stored_within op = omega arith
 
 -- the bytes of an access lie in memory
-abbrev IsIn : State → ℕ → ℕ → Type 0
+abbrev pub IsIn : State → ℕ → ℕ → Type 0
 IsIn s from count = (base_of s ≤ from) × (from + count ≤ base_of s + s.image.window.size)
 
-inside : (s : State) (from count : ℕ) → IsTrue (holds s from count) → IsIn s from count
+pub inside : (s : State) (from count : ℕ) → IsTrue (holds s from count) → IsIn s from count
 inside s from count h =
     let two = and_parts (nat_le (base_of s) from) (nat_le (from + count) (base_of s + s.image.window.size)) h in
     (leb-true (base_of s) from two.0, leb-true (from + count) (base_of s + s.image.window.size) two.1)

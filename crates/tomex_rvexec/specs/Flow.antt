@@ -2,6 +2,7 @@
 -- chapter 7): its result, the pc that follows it, and the bytes that a store leaves. All of it is
 -- a function of the step, and of the bytes that a load reads.
 use Rattle.std.specs.Prelude.{◌≡◌, ℕ, ◌+◌, ◌-◌, ◌*◌, ◌/◌, ◌%◌, ◌^◌, ◌<◌, ◌≤◌, Bool, true, false, ◌&&◌, nat_eq, nat_le, nat_lt, if◌then◌else◌, Option, Some, None, IfSome, List, length, slice_index}
+use Rattle.tomex_image.specs.Image.{Loaded}
 use Rattle.tomex_rvdec.specs.declared.op.Op.{Op}
 use Rattle.tomex_rvdec.specs.declared.op.Op.TheVariants.{Lui, Auipc, Jal, Jalr, Lb, Lh, Lw, Lbu, Lhu, Ecall, Ebreak}
 use Rattle.tomex_rvdec.specs.declared.op.Form.{Form}
@@ -111,9 +112,9 @@ pub record Changes (s : State) (x : Step) (t : State) : Type 0 where
   pub bytes : (a : ℕ) → base_of s ≤ a → byte_in t a ≡ (if overwrites x a then stored_byte x a else byte_in s a)
   pub memory : is_store x ≡ false → t.memory ≡ s.memory
 
--- what a step that goes on asked of the state s, and found: its target is a multiple of 4, the bytes of
--- its access lie in memory, and it doesn't end the program
-pub record IsAllowed (s : State) (x : Step) : Type 0 where
+-- what a step that goes on asks of its image: its target is a multiple of 4, the bytes of its access
+-- lie in the window, and it doesn't end the program
+pub record IsAllowed (i : Loaded) (x : Step) : Type 0 where
   pub target : next_pc_of x % 4 ≡ 0
-  pub access : IfSome (bytes_of x) (λ b. (base_of s ≤ b.from) × (b.to ≤ base_of s + s.image.window.size))
+  pub access : IfSome (bytes_of x) (λ b. (i.window.base ≤ b.from) × (b.to ≤ i.window.base + i.window.size))
   pub on : end_of x ≡ None

@@ -1,10 +1,12 @@
 -- A run as the history of its steps, and the values that a history leaves: each register has the
 -- result of the youngest step that writes it, each byte of memory what the youngest store on it left.
-use Rattle.std.specs.Prelude.{ℕ, zero, suc, ◌-◌, List, [], ◌∷◌, if◌then◌else◌, slice_index}
+use Rattle.std.specs.Prelude.{◌≡◌, ℕ, zero, suc, ◌-◌, ◌<◌, ◌≤◌, ⊤, IsTrue, List, [], ◌∷◌, Some, if◌then◌else◌, slice_index}
 use Rattle.tomex_image.specs.Image.{Loaded}
+use Rattle.tomex_rvdec.specs.Meaning.{meaning}
 use Rattle.tomex_rvexec.specs.declared.step.Step.{Step}
-use Rattle.tomex_rvexec.specs.Flow.{is_register, overwrites, result_of, stored_byte}
+use Rattle.tomex_rvexec.specs.Flow.{IsAllowed, byte_in, is_register, next_pc_of, overwrites, result_of, stored_byte}
 use Rattle.tomex_rvexec.specs.Machine.{State, Outcome, Goes, Ends, Faults, step_of, coming_of}
+use Rattle.tomex_rvexec.specs.Memory.{is_inside, word_read}
 use Rattle.tomex_rvexec.specs.Run.{start_of}
 use Rattle.tomex_rvexec.specs.Steps.{step_dest}
 use Rattle.tomex_rvexec.specs.Trace.{onto}
@@ -35,3 +37,29 @@ abbrev pub register_after : Loaded → List Step → ℕ → ℕ
 register_after i [] r = slice_index (start_of i).regs r
 register_after i (x ∷ older) r =
     if is_register (step_dest x) r then result_of x (byte_after i older) else register_after i older r
+
+-- the pc after these steps: what follows the youngest, or the entry
+abbrev pub pc_after : Loaded → List Step → ℕ
+pc_after i [] = i.entry
+pc_after i (x ∷ older) = next_pc_of x
+
+-- these steps leave the image in the state s
+pub record Leaves (i : Loaded) (steps : List Step) (s : State) : Type 0 where
+  pub image : s.image ≡ i
+  pub pc : s.pc ≡ pc_after i steps
+  pub registers : (r : ℕ) → r < 32 → slice_index s.regs r ≡ register_after i steps r
+  pub bytes : (a : ℕ) → i.window.base ≤ a → byte_in s a ≡ byte_after i steps a
+
+-- the step x comes after these: it is the instruction of the image's word at the pc, and each of its
+-- operands is the result of the youngest older step that writes the register
+pub record Follows (i : Loaded) (older : List Step) (x : Step) : Type 0 where
+  pub pc : x.pc ≡ pc_after i older
+  pub fetch : IsTrue (is_inside i.window.base i.window.size x.pc 4)
+  pub instr : meaning (word_read i.memory (x.pc - i.window.base)) ≡ Some x.instr
+  pub vj : x.vj ≡ register_after i older x.instr.rs1
+  pub vk : x.vk ≡ register_after i older x.instr.rs2
+
+-- each of these steps, the youngest first, follows those older than it, and the program goes on after it
+abbrev pub IsFlow : Loaded → List Step → Type 0
+IsFlow i [] = ⊤
+IsFlow i (x ∷ older) = Follows i older x × IsAllowed i x × IsFlow i older
