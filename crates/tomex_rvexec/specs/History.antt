@@ -1,6 +1,6 @@
 -- A run as the history of its steps, and the values that a history leaves: each register has the
 -- result of the youngest step that writes it, each byte of memory what the youngest store on it left.
-use Rattle.std.specs.Prelude.{◌≡◌, ℕ, zero, suc, ◌-◌, ◌<◌, ◌≤◌, ⊤, IsTrue, List, [], ◌∷◌, Some, if◌then◌else◌, slice_index}
+use Rattle.std.specs.Prelude.{◌≡◌, ℕ, zero, suc, ◌-◌, ◌<◌, ◌≤◌, ⊤, IsTrue, List, [], ◌∷◌, Option, Some, if◌then◌else◌, slice_index}
 use Rattle.tomex_image.specs.Image.{Loaded}
 use Rattle.tomex_rvdec.specs.Meaning.{meaning}
 use Rattle.tomex_rvexec.specs.declared.step.Step.{Step}
@@ -22,10 +22,14 @@ abbrev pub state_after : Loaded → ℕ → State
 state_after i zero = start_of i
 state_after i (suc k) = moved (step_of (state_after i k)) (state_after i k)
 
+-- the step after so many others; none where fetch or decoding faults
+abbrev pub step_after : Loaded → ℕ → Option Step
+step_after i k = coming_of (state_after i k)
+
 -- the first steps of a run, the youngest first
 abbrev pub history : Loaded → ℕ → List Step
 history i zero = []
-history i (suc k) = onto (coming_of (state_after i k)) (history i k)
+history i (suc k) = onto (step_after i k) (history i k)
 
 -- the byte of memory at an address after these steps: the youngest store on it left it, or it is the image's
 abbrev pub byte_after : Loaded → List Step → ℕ → ℕ
