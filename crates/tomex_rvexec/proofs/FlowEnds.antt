@@ -1,17 +1,19 @@
 -- A run has one state after so many steps, one end, and one list of steps.
 use Rattle.std.proofs.Common.{◌≡◌, ℕ, zero, suc, ◌+◌, ◌-◌, ◌<◌, ◌≤◌, ◌⊎◌, inl, inr, List, [], ◌∷◌, ◌++◌, Option, Some, None, refl, sym, ap, ◌∙◌, subst, arith, append_assoc, add-one}
-use Rattle.std.specs.Prelude.{reverse}
+use Rattle.std.specs.Prelude.{IsSome, reverse}
 use Rattle.std.proofs.lemmas.Bool.{cases_order, cases_lt, cases_eq}
 use Rattle.std.proofs.lemmas.List.{append-nil, reverse-append}
 use Rattle.tomex_image.specs.Image.{Loaded, IsLoaded}
 use Rattle.tomex_rvexec.specs.declared.outcome.EndKind.{EndKind}
 use Rattle.tomex_rvexec.specs.declared.outcome.FaultKind.{FaultKind}
 use Rattle.tomex_rvexec.specs.declared.step.Step.{Step}
-use Rattle.tomex_rvexec.specs.History.{history, moved, state_after, step_after}
+use Rattle.tomex_rvexec.specs.Flow.{IsAllowed, IsState, end_of}
+use Rattle.tomex_rvexec.specs.History.{Follows, Leaves, history, state_after, step_after}
 use Rattle.tomex_rvexec.specs.Machine.{State, Outcome, Goes, Ends, Faults, coming_of, step_of}
 use Rattle.tomex_rvexec.specs.Run.{EndsWithin, Leads, RunEnds, RunFaults, start_of}
 use Rattle.tomex_rvexec.specs.Trace.{after, onto, steps_from}
-use Rattle.tomex_rvexec.proofs.FlowStates.{Coming, ends_by_step, goes_by_step}
+use Rattle.tomex_rvexec.proofs.FlowRuns.{run_follows, run_leaves, run_state}
+use Rattle.tomex_rvexec.proofs.FlowStates.{Coming, allowed, ends_by, ends_by_step, goes_by_step, step_ends, step_goes}
 
 same_next : (a b s t : State) → a ≡ b → step_of a ≡ Goes s → step_of b ≡ Goes t → s ≡ t
 same_next a b s t e g h = let f : step_of a ≡ step_of b = ap step_of e in cc
@@ -141,3 +143,36 @@ steps_to_end i k limit s kind r h =
 pub same_steps : (i : Loaded) (limit more : ℕ) → limit ≤ more → EndsWithin i limit → steps_from more (start_of i) ≡ steps_from limit (start_of i)
 same_steps i limit more h e =
     steps_to_end i e.0 more e.1 e.2 e.4 (omega (arith, h, e.3)) ∙ sym (steps_to_end i e.0 limit e.1 e.2 e.4 e.3)
+
+-- the steps of a run that ends
+at_end : (i : Loaded) (n : ℕ) (s : State) (kind : EndKind) → RunEnds i n s kind → step_of (state_after i n) ≡ Ends kind
+at_end i n s kind r = subst (λ (z : State). step_of z ≡ Ends kind) (leads_is i n s r.leads) r.ends
+
+before_end : (i : Loaded) (n k : ℕ) (s : State) (kind : EndKind) → RunEnds i n s kind → k < n → GoesOn (state_after i k)
+before_end i n k s kind r h = before n (start_of i) s k h r.leads (state_after i k) (leads_before n i s k (omega arith) r.leads)
+
+pub step_comes : (i : Loaded) (n k : ℕ) (s : State) (kind : EndKind) → RunEnds i n s kind → k ≤ n → IsSome (step_after i k)
+step_comes i n k s kind r h = at (cases_eq k n)
+  where
+    at : (k ≡ n) ⊎ (k ≡ n → ⊥) → IsSome (step_after i k)
+    at (inl e) = subst (λ m. IsSome (step_after i m)) (sym e) (step_ends (state_after i n) kind (at_end i n s kind r))
+    at (inr other) = let g = before_end i n k s kind r (omega arith) in step_goes (state_after i k) g.next g.goes
+
+pub step_joins : (i : Loaded) (k : ℕ) (x : Step) → step_after i k ≡ Some x → history i (k + 1) ≡ x ∷ history i k
+step_joins i k x c = rw (add-one, c) refl
+
+pub step_follows : (i : Loaded) (n k : ℕ) (s : State) (kind : EndKind) (x : Step) → IsLoaded i.window i.memory i.entry → RunEnds i n s kind → k ≤ n → step_after i k ≡ Some x → Follows i (history i k) x
+step_follows i n k s kind x loaded r h c = run_follows i k (state_after i k) x loaded (leads_before n i s k h r.leads) c
+
+pub step_goes_on : (i : Loaded) (n k : ℕ) (s : State) (kind : EndKind) (x : Step) → IsLoaded i.window i.memory i.entry → RunEnds i n s kind → k < n → step_after i k ≡ Some x → IsAllowed i x
+step_goes_on i n k s kind x loaded r h c =
+    let g = before_end i n k s kind r h in
+    let l : Leads (start_of i) k (state_after i k) = leads_before n i s k (omega arith) r.leads in
+    subst (λ (p : Loaded). IsAllowed p x) (run_leaves i k (state_after i k) loaded l).image
+    (allowed (state_after i k) g.next x (run_state i k (state_after i k) loaded l) c g.goes)
+
+pub step_ends_it : (i : Loaded) (n : ℕ) (s : State) (kind : EndKind) (x : Step) → RunEnds i n s kind → step_after i n ≡ Some x → end_of x ≡ Some kind
+step_ends_it i n s kind x r c = ends_by (state_after i n) x kind c (at_end i n s kind r)
+
+pub end_is : (i : Loaded) (n : ℕ) (s : State) (kind : EndKind) → IsLoaded i.window i.memory i.entry → RunEnds i n s kind → Leaves i (history i n) s
+end_is i n s kind loaded r = run_leaves i n s loaded r.leads

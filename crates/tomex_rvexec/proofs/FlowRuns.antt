@@ -81,3 +81,15 @@ reached_next i k s t r e =
 pub reached : (i : Loaded) (k : ℕ) (s : State) → IsLoaded i.window i.memory i.entry → Leads (start_of i) k s → Reached i k s
 reached i zero s loaded l = subst (λ (z : State). Reached i zero z) (sym l) (record { state = start_state i loaded; is = refl; leaves = left_by_start i; flow = tt })
 reached i (suc k) s loaded l = reached_next i k l.0 s (reached i k l.0 loaded l.1) l.2
+
+pub run_leaves : (i : Loaded) (k : ℕ) (s : State) → IsLoaded i.window i.memory i.entry → Leads (start_of i) k s → Leaves i (history i k) s
+run_leaves i k s loaded l = (reached i k s loaded l).leaves
+
+pub run_state : (i : Loaded) (k : ℕ) (s : State) → IsLoaded i.window i.memory i.entry → Leads (start_of i) k s → IsState s
+run_state i k s loaded l = (reached i k s loaded l).state
+
+pub run_flow : (i : Loaded) (k : ℕ) (s : State) → IsLoaded i.window i.memory i.entry → Leads (start_of i) k s → IsFlow i (history i k)
+run_flow i k s loaded l = (reached i k s loaded l).flow
+
+pub run_follows : (i : Loaded) (k : ℕ) (s : State) (x : Step) → IsLoaded i.window i.memory i.entry → Leads (start_of i) k s → coming_of s ≡ Some x → Follows i (history i k) x
+run_follows i k s x loaded l c = follows i (history i k) s x (reached i k s loaded l).leaves c

@@ -1,6 +1,6 @@
 -- What steps ask of a state, and what they keep of it.
 use Rattle.std.proofs.Common.{◌≡◌, ℕ, zero, suc, ◌+◌, ◌-◌, ◌*◌, ◌/◌, ◌%◌, ◌^◌, ◌<◌, ◌≤◌, List, length, Option, Some, None, Bool, true, false, refl, sym, ap, ◌∙◌, subst, arith}
-use Rattle.std.specs.Prelude.{IsTrue, IfSome, nat_eq, if◌then◌else◌, slice_index, option_map}
+use Rattle.std.specs.Prelude.{IsTrue, IfSome, IsSome, nat_eq, if◌then◌else◌, slice_index, option_map}
 use Rattle.std.proofs.lemmas.Bool.{eqb-true, eqb-false}
 use Rattle.tomex_image.specs.Image.{Loaded, IsLoaded}
 use Rattle.tomex_rvdec.specs.declared.op.Op.{Op}
@@ -46,6 +46,12 @@ ends_by_step s kind e = at (holds s s.pc 4) (meaning (fetched s)) refl refl e
     at true (Some y) here means e = record { step = step_at s y; is = rw (here, means) refl }
     at true None here means e = cc
     at false m here means e = cc
+
+pub step_goes : (s t : State) → step_of s ≡ Goes t → IsSome (coming_of s)
+step_goes s t e = let c = goes_by_step s t e in rw c.is refl
+
+pub step_ends : (s : State) (kind : EndKind) → step_of s ≡ Ends kind → IsSome (coming_of s)
+step_ends s kind e = let c = ends_by_step s kind e in rw c.is refl
 
 pub fetch_inside : (s : State) (x : Step) → coming_of s ≡ Some x → IsTrue (holds s s.pc 4)
 fetch_inside s x c = at (holds s s.pc 4) refl c

@@ -1,0 +1,14 @@
+use Rattle.tomex_rvexec.proofs.FlowStates.{by_end, ends_by, step_ends, step_goes}
+use Rattle.tomex_rvexec.proofs.laws.step_is_of_an_instruction.Goals as goal
+
+pub returns-clause-goes : goal.returns-clause-goes
+returns-clause-goes c = step_goes
+
+pub returns-clause-ends : goal.returns-clause-ends
+returns-clause-ends c = step_ends
+
+pub returns-clause-kind : goal.returns-clause-kind
+returns-clause-kind c = ends_by
+
+pub returns-clause-end : goal.returns-clause-end
+returns-clause-end c = by_end
