@@ -9,7 +9,7 @@ use Rattle.tomex_rvdec.specs.Meaning.{form_of}
 use Rattle.tomex_rvdec.specs.Operands.{dest_at, unless_zero}
 use Rattle.tomex_rvexec.specs.declared.outcome.FaultKind.TheVariants.{MisalignedTarget, Access}
 use Rattle.tomex_rvexec.specs.declared.step.Step.{Step}
-use Rattle.tomex_rvexec.specs.Flow.{byte_in, next_at, result_at}
+use Rattle.tomex_rvexec.specs.Flow.{byte_in, memory_of, next_at, result_at}
 use Rattle.tomex_rvexec.specs.Machine.{State, Outcome, Goes, Ends, Faults, base_of, holds, next_pc, with_register, writes, jumps, branches, loads, stores, executes, step_at, from_byte, from_half}
 use Rattle.tomex_rvexec.specs.Memory.{byte_read, half_read, word_read, byte_written, half_written, word_written}
 use Rattle.tomex_rvexec.specs.Steps.{access_size, address_of}
@@ -103,10 +103,10 @@ stores_effect s t address count value written is e = at (holds s address count) 
         (record { image = refl; pc = refl; aligned = next_aligned s.pc; regs = refl; memory = is; inside = λ h. here })
     at false here e = cc
 
-half_is_read : (s : State) (a : ℕ) → base_of s ≤ a → half_read s.memory (a - base_of s) ≡ byte_in s a + 256 * byte_in s (a + 1)
+half_is_read : (s : State) (a : ℕ) → base_of s ≤ a → half_read s.memory (a - base_of s) ≡ byte_in (memory_of s) a + 256 * byte_in (memory_of s) (a + 1)
 half_is_read s a h = let e : a + 1 - base_of s ≡ a - base_of s + 1 = omega arith in rw e refl
 
-word_is_read : (s : State) (a : ℕ) → base_of s ≤ a → word_read s.memory (a - base_of s) ≡ byte_in s a + 256 * byte_in s (a + 1) + 65536 * byte_in s (a + 2) + 16777216 * byte_in s (a + 3)
+word_is_read : (s : State) (a : ℕ) → base_of s ≤ a → word_read s.memory (a - base_of s) ≡ byte_in (memory_of s) a + 256 * byte_in (memory_of s) (a + 1) + 65536 * byte_in (memory_of s) (a + 2) + 16777216 * byte_in (memory_of s) (a + 3)
 word_is_read s a h =
     let e : a + 1 - base_of s ≡ a - base_of s + 1 = omega arith in
     let f : a + 2 - base_of s ≡ a - base_of s + 2 = omega arith in
@@ -114,7 +114,7 @@ word_is_read s a h =
     rw (e, f, g) refl
 
 abbrev pub Carried : Op → Step → State → State → Type 0
-Carried op x s t = Effect s (next_at op x) (dest_at (form_of op) x.instr.rd) (result_at op x (byte_in s)) (address_of x) (access_size op) (stored_size op) x.vk t
+Carried op x s t = Effect s (next_at op x) (dest_at (form_of op) x.instr.rd) (result_at op x (byte_in (memory_of s))) (address_of x) (access_size op) (stored_size op) x.vk t
 
 pub carried : (op : Op) (y : Instruction) (s t : State) → executes op (step_at s y) s ≡ Goes t → Carried op (step_at s y) s t
 carried Jal y s t e = let x = step_at s y in jumps_effect s t y.rd (next_at Jal x) (address_of x) x.vk e
@@ -125,15 +125,15 @@ carried Blt y s t e = let x = step_at s y in branches_effect s t (is_taken Blt x
 carried Bge y s t e = let x = step_at s y in branches_effect s t (is_taken Bge x.vj x.vk) (sum s.pc y.imm) (address_of x) x.vk e
 carried Bltu y s t e = let x = step_at s y in branches_effect s t (is_taken Bltu x.vj x.vk) (sum s.pc y.imm) (address_of x) x.vk e
 carried Bgeu y s t e = let x = step_at s y in branches_effect s t (is_taken Bgeu x.vj x.vk) (sum s.pc y.imm) (address_of x) x.vk e
-carried Lb y s t e = let x = step_at s y in loads_effect s t y.rd (address_of x) 1 x.vk (result_at Lb x (byte_in s)) (λ m i. from_byte (byte_read m i)) (λ h. refl) e
-carried Lh y s t e = let x = step_at s y in loads_effect s t y.rd (address_of x) 2 x.vk (result_at Lh x (byte_in s)) (λ m i. from_half (half_read m i)) (λ h. ap from_half (half_is_read s (address_of x) h)) e
-carried Lw y s t e = let x = step_at s y in loads_effect s t y.rd (address_of x) 4 x.vk (result_at Lw x (byte_in s)) word_read (word_is_read s (address_of x)) e
-carried Lbu y s t e = let x = step_at s y in loads_effect s t y.rd (address_of x) 1 x.vk (result_at Lbu x (byte_in s)) byte_read (λ h. refl) e
-carried Lhu y s t e = let x = step_at s y in loads_effect s t y.rd (address_of x) 2 x.vk (result_at Lhu x (byte_in s)) half_read (half_is_read s (address_of x)) e
+carried Lb y s t e = let x = step_at s y in loads_effect s t y.rd (address_of x) 1 x.vk (result_at Lb x (byte_in (memory_of s))) (λ m i. from_byte (byte_read m i)) (λ h. refl) e
+carried Lh y s t e = let x = step_at s y in loads_effect s t y.rd (address_of x) 2 x.vk (result_at Lh x (byte_in (memory_of s))) (λ m i. from_half (half_read m i)) (λ h. ap from_half (half_is_read s (address_of x) h)) e
+carried Lw y s t e = let x = step_at s y in loads_effect s t y.rd (address_of x) 4 x.vk (result_at Lw x (byte_in (memory_of s))) word_read (word_is_read s (address_of x)) e
+carried Lbu y s t e = let x = step_at s y in loads_effect s t y.rd (address_of x) 1 x.vk (result_at Lbu x (byte_in (memory_of s))) byte_read (λ h. refl) e
+carried Lhu y s t e = let x = step_at s y in loads_effect s t y.rd (address_of x) 2 x.vk (result_at Lhu x (byte_in (memory_of s))) half_read (half_is_read s (address_of x)) e
 carried Sb y s t e = let x = step_at s y in stores_effect s t (address_of x) 1 x.vk (λ m i. byte_written m i x.vk) (byte_is s.memory (address_of x - base_of s) x.vk) e
 carried Sh y s t e = let x = step_at s y in stores_effect s t (address_of x) 2 x.vk (λ m i. half_written m i x.vk) (half_is s.memory (address_of x - base_of s) x.vk) e
 carried Sw y s t e = let x = step_at s y in stores_effect s t (address_of x) 4 x.vk (λ m i. word_written m i x.vk) (word_is s.memory (address_of x - base_of s) x.vk) e
 carried Fence y s t e = let x = step_at s y in goes_effect s t (next_pc s) (address_of x) x.vk (next_aligned s.pc) e
 carried Ecall y s t e = cc
 carried Ebreak y s t e = cc
-carried op y s t e = let x = step_at s y in writes_effect s t y.rd (result_at op x (byte_in s)) (address_of x) x.vk e
+carried op y s t e = let x = step_at s y in writes_effect s t y.rd (result_at op x (byte_in (memory_of s))) (address_of x) x.vk e

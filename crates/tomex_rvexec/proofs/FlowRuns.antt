@@ -7,7 +7,7 @@ use Rattle.tomex_rvdec.specs.declared.op.Op.TheVariants.{Lb, Lh, Lw, Lbu, Lhu}
 use Rattle.tomex_rvdec.specs.Instruction.{Instruction}
 use Rattle.tomex_rvdec.specs.Meaning.{meaning}
 use Rattle.tomex_rvexec.specs.declared.step.Step.{Step}
-use Rattle.tomex_rvexec.specs.Flow.{Changes, IsAllowed, IsState, byte_in, is_register, overwrites, result_at, result_of, stored_byte}
+use Rattle.tomex_rvexec.specs.Flow.{Changes, IsAllowed, IsState, byte_in, memory_of, is_register, overwrites, result_at, result_of, stored_byte}
 use Rattle.tomex_rvexec.specs.History.{Follows, IsFlow, Leaves, byte_after, history, moved, pc_after, register_after, state_after}
 use Rattle.tomex_rvexec.specs.Machine.{State, Outcome, Goes, Ends, Faults, base_of, coming_of, from_byte, from_half, step_at, step_of}
 use Rattle.tomex_rvexec.specs.Memory.{is_inside, word_read}
@@ -33,7 +33,7 @@ left_by_step : (i : Loaded) (older : List Step) (s t : State) (x : Step) → IsS
 left_by_step i older s t x ok l c e =
     let base : base_of s ≡ i.window.base = ap (λ (p : Loaded). p.window.base) l.image in
     let d : Changes s x t = changes s t x ok c e in
-    let same : result_of x (byte_in s) ≡ result_of x (byte_after i older) = same_result x.instr.op x (byte_in s) (byte_after i older) (λ h a low. l.bytes a (omega (arith, low, base, reads_above s t x c e h))) in
+    let same : result_of x (byte_in (memory_of s)) ≡ result_of x (byte_after i older) = same_result x.instr.op x (byte_in (memory_of s)) (byte_after i older) (λ h a low. l.bytes a (omega (arith, low, base, reads_above s t x c e h))) in
     record {
       image = d.image ∙ l.image;
       pc = d.pc;

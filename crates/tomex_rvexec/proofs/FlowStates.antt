@@ -14,7 +14,7 @@ use Rattle.tomex_rvexec.specs.declared.outcome.FaultKind.{FaultKind}
 use Rattle.tomex_rvexec.specs.declared.outcome.FaultKind.TheVariants.{Fetch, MisalignedTarget, Access}
 use Rattle.tomex_rvexec.specs.declared.step.Step.{Step}
 use Rattle.tomex_rvexec.specs.declared.step.ByteRange.{ByteRange}
-use Rattle.tomex_rvexec.specs.Flow.{Changes, IsAllowed, IsState, byte_in, end_at, end_of, next_at, result_of}
+use Rattle.tomex_rvexec.specs.Flow.{Changes, IsAllowed, IsState, byte_in, memory_of, end_at, end_of, next_at, result_of}
 use Rattle.tomex_rvexec.specs.Machine.{State, Outcome, Goes, Ends, Faults, base_of, branches, coming_of, executes, fetched, from_byte, from_half, holds, jumps, loads, next_pc, outcome_of, step_at, step_of, stores, with_register}
 use Rattle.tomex_rvexec.specs.Memory.{byte_read, half_read, word_read, byte_written, half_written, word_written}
 use Rattle.tomex_rvexec.specs.Run.{start_of}
@@ -106,8 +106,8 @@ allowed s t x ok c e =
 
 kept : (s t : State) (y : Instruction) → IsState s → Carried y.op (step_at s y) s t → IsState t
 kept s t y ok f = record {
-  registers = rw (f.regs, length-dest (step_dest (step_at s y)) (result_of (step_at s y) (byte_in s)) s.regs) ok.registers;
-  zero = rw (f.regs, register_set (step_dest (step_at s y)) (result_of (step_at s y) (byte_in s)) s.regs 0 (omega (arith, ok.registers)), never_zero (form_of y.op) y.rd) ok.zero;
+  registers = rw (f.regs, length-dest (step_dest (step_at s y)) (result_of (step_at s y) (byte_in (memory_of s))) s.regs) ok.registers;
+  zero = rw (f.regs, register_set (step_dest (step_at s y)) (result_of (step_at s y) (byte_in (memory_of s))) s.regs 0 (omega (arith, ok.registers)), never_zero (form_of y.op) y.rd) ok.zero;
   aligned = rw f.pc (f.aligned ok.aligned);
   filled = rw (f.image, f.memory, length-bytes (stored_size y.op) s.memory (address_of (step_at s y) - base_of s) (step_at s y).vk) ok.filled;
 }

@@ -18,7 +18,7 @@ use Rattle.tomex_rvexec.specs.declared.outcome.EndKind.{EndKind}
 use Rattle.tomex_rvexec.specs.declared.outcome.FaultKind.TheVariants.{Fetch}
 use Rattle.tomex_rvexec.specs.declared.step.Step.{Step}
 use Rattle.tomex_rvexec.specs.declared.step.ByteRange.{ByteRange}
-use Rattle.tomex_rvexec.specs.Flow.{Changes, IsAllowed, IsState, byte_in, end_at, end_of, is_among, is_register, next_pc_of, overwrites, result_of, stored_byte}
+use Rattle.tomex_rvexec.specs.Flow.{Changes, IsAllowed, IsState, byte_in, memory_of, end_at, end_of, is_among, is_register, next_pc_of, overwrites, result_of, stored_byte}
 use Rattle.tomex_rvexec.specs.Machine.{State, Outcome, Goes, Ends, Faults, base_of, coming_of, executes, fetched, holds, outcome_of, step_at, step_of}
 use Rattle.tomex_rvexec.specs.Run.{Leads, start_of}
 use Rattle.tomex_rvexec.specs.Steps.{access_size, address_of, bytes_of, is_pool, is_store, step_dest}
@@ -94,7 +94,7 @@ inside s from count h =
     let two = and_parts (nat_le (base_of s) from) (nat_le (from + count) (base_of s + s.image.window.size)) h in
     (leb-true (base_of s) from two.0, leb-true (from + count) (base_of s + s.image.window.size) two.1)
 
-byte_set : (n : ℕ) (s : State) (from v a : ℕ) → length s.memory ≡ s.image.window.size → base_of s ≤ a → (0 < n → IsIn s from n) → slice_index (bytes_written n s.memory (from - base_of s) v) (a - base_of s) ≡ (if nat_le from a && nat_lt a (from + n) then v / 256 ^ (a - from) % 256 else byte_in s a)
+byte_set : (n : ℕ) (s : State) (from v a : ℕ) → length s.memory ≡ s.image.window.size → base_of s ≤ a → (0 < n → IsIn s from n) → slice_index (bytes_written n s.memory (from - base_of s) v) (a - base_of s) ≡ (if nat_le from a && nat_lt a (from + n) then v / 256 ^ (a - from) % 256 else byte_in (memory_of s) a)
 byte_set zero s from v a filled low room = rw (below_none from a) refl
 byte_set (suc n) s from v a filled low room =
     let two : IsIn s from (suc n) = room (omega arith) in
@@ -114,7 +114,7 @@ changed s t y ok e =
     record {
       image = e.image;
       pc = e.pc;
-      registers = λ r low. rw e.regs (register_set (step_dest x) (result_of x (byte_in s)) s.regs r (omega (arith, ok.registers, low)));
+      registers = λ r low. rw e.regs (register_set (step_dest x) (result_of x (byte_in (memory_of s))) s.regs r (omega (arith, ok.registers, low)));
       bytes = λ a low. rw (e.image, e.memory, overwrites_is y.op (address_of x) a) (byte_set (stored_size y.op) s (address_of x) x.vk a ok.filled low (λ h.
       let two = inside s (address_of x) (access_size y.op) (e.inside (omega (arith, h, stored_within y.op))) in
       (two.0, omega (arith, two.1, stored_within y.op))));

@@ -16,6 +16,7 @@ use Rattle.tomex_rvexec.specs.declared.outcome.EndKind.TheVariants as ends
 use Rattle.tomex_rvexec.specs.declared.step.Step.{Step}
 use Rattle.tomex_rvexec.specs.declared.step.ByteRange.{ByteRange}
 use Rattle.tomex_rvexec.specs.Machine.{State, base_of, from_byte, from_half}
+use Rattle.tomex_rvexec.specs.Memory.{Bytes}
 use Rattle.tomex_rvexec.specs.Steps.{access_size, address_of, bytes_of, is_store, step_dest}
 use Rattle.tomex_rvexec.specs.Words.{sum, alu_of, muldiv_of, is_taken}
 
@@ -83,9 +84,12 @@ overwrites x a = is_store x && covers x a
 abbrev pub stored_byte : Step → ℕ → ℕ
 stored_byte x a = x.vk / 256 ^ (a - address_of x) % 256
 
--- the byte of memory at an address
-abbrev pub byte_in : State → ℕ → ℕ
-byte_in s a = slice_index s.memory (a - base_of s)
+-- the byte of a memory at an address
+abbrev pub byte_in : Bytes → ℕ → ℕ
+byte_in memory a = slice_index memory.bytes (a - memory.base)
+
+abbrev pub memory_of : State → Bytes
+memory_of s = record { base = base_of s; bytes = s.memory }
 
 -- the kind of end that a step makes, if any
 abbrev pub end_at : Op → Option EndKind
@@ -108,8 +112,8 @@ pub record IsState (s : State) : Type 0 where
 pub record Changes (s : State) (x : Step) (t : State) : Type 0 where
   pub image : t.image ≡ s.image
   pub pc : t.pc ≡ next_pc_of x
-  pub registers : (r : ℕ) → r < 32 → slice_index t.regs r ≡ (if is_register (step_dest x) r then result_of x (byte_in s) else slice_index s.regs r)
-  pub bytes : (a : ℕ) → base_of s ≤ a → byte_in t a ≡ (if overwrites x a then stored_byte x a else byte_in s a)
+  pub registers : (r : ℕ) → r < 32 → slice_index t.regs r ≡ (if is_register (step_dest x) r then result_of x (byte_in (memory_of s)) else slice_index s.regs r)
+  pub bytes : (a : ℕ) → base_of s ≤ a → byte_in (memory_of t) a ≡ (if overwrites x a then stored_byte x a else byte_in (memory_of s) a)
   pub memory : is_store x ≡ false → t.memory ≡ s.memory
 
 -- what a step that goes on asks of its image: its target is a multiple of 4, the bytes of its access

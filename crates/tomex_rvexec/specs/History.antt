@@ -1,10 +1,10 @@
 -- A run as the history of its steps, and the values that a history leaves: each register has the
 -- result of the youngest step that writes it, each byte of memory what the youngest store on it left.
-use Rattle.std.specs.Prelude.{◌≡◌, ℕ, zero, suc, ◌-◌, ◌<◌, ◌≤◌, ⊤, IsTrue, List, [], ◌∷◌, Option, Some, if◌then◌else◌, slice_index}
+use Rattle.std.specs.Prelude.{◌≡◌, ℕ, zero, suc, ◌+◌, ◌-◌, ◌<◌, ◌≤◌, ⊤, IsTrue, List, [], ◌∷◌, Option, Some, if◌then◌else◌, slice_index}
 use Rattle.tomex_image.specs.Image.{Loaded}
 use Rattle.tomex_rvdec.specs.Meaning.{meaning}
 use Rattle.tomex_rvexec.specs.declared.step.Step.{Step}
-use Rattle.tomex_rvexec.specs.Flow.{IsAllowed, byte_in, is_register, next_pc_of, overwrites, result_of, stored_byte}
+use Rattle.tomex_rvexec.specs.Flow.{IsAllowed, byte_in, is_register, memory_of, next_pc_of, overwrites, result_of, stored_byte}
 use Rattle.tomex_rvexec.specs.Machine.{State, Outcome, Goes, Ends, Faults, step_of, coming_of}
 use Rattle.tomex_rvexec.specs.Memory.{is_inside, word_read}
 use Rattle.tomex_rvexec.specs.Run.{start_of}
@@ -33,7 +33,7 @@ history i (suc k) = onto (step_after i k) (history i k)
 
 -- the byte of memory at an address after these steps: the youngest store on it left it, or it is the image's
 abbrev pub byte_after : Loaded → List Step → ℕ → ℕ
-byte_after i [] a = slice_index i.memory (a - i.window.base)
+byte_after i [] a = byte_in (record { base = i.window.base; bytes = i.memory }) a
 byte_after i (x ∷ older) a = if overwrites x a then stored_byte x a else byte_after i older a
 
 -- the value of a register after these steps: the result of the youngest that writes it, or the start's
@@ -52,7 +52,7 @@ pub record Leaves (i : Loaded) (steps : List Step) (s : State) : Type 0 where
   pub image : s.image ≡ i
   pub pc : s.pc ≡ pc_after i steps
   pub registers : (r : ℕ) → r < 32 → slice_index s.regs r ≡ register_after i steps r
-  pub bytes : (a : ℕ) → i.window.base ≤ a → byte_in s a ≡ byte_after i steps a
+  pub bytes : (a : ℕ) → i.window.base ≤ a → byte_in (memory_of s) a ≡ byte_after i steps a
 
 -- the step x comes after these: it is the instruction of the image's word at the pc, and each of its
 -- operands is the result of the youngest older step that writes the register
