@@ -14,7 +14,7 @@ use Rattle.tomex_rvexec.specs.Machine.{State, Outcome, Goes, Ends, Faults, base_
 use Rattle.tomex_rvexec.specs.Memory.{byte_read, half_read, word_read, byte_written, half_written, word_written}
 use Rattle.tomex_rvexec.specs.Steps.{access_size, address_of}
 use Rattle.tomex_rvexec.specs.Words.{is_taken, sum}
-use Rattle.tomex_rvexec.proofs.FlowBytes.{bytes_written, byte_is, half_is, word_is}
+use Rattle.tomex_rvexec.proofs.FlowBytes.{bytes_written, byte_is, half_is, word_is, half_loaded, word_loaded}
 
 -- how many bytes an operation writes
 abbrev pub stored_size : Op → ℕ
@@ -103,16 +103,6 @@ stores_effect s t address count value written is e = at (holds s address count) 
         (record { image = refl; pc = refl; aligned = next_aligned s.pc; regs = refl; memory = is; inside = λ h. here })
     at false here e = cc
 
-half_is_read : (s : State) (a : ℕ) → base_of s ≤ a → half_read s.memory (a - base_of s) ≡ byte_in (memory_of s) a + 256 * byte_in (memory_of s) (a + 1)
-half_is_read s a h = let e : a + 1 - base_of s ≡ a - base_of s + 1 = omega arith in rw e refl
-
-word_is_read : (s : State) (a : ℕ) → base_of s ≤ a → word_read s.memory (a - base_of s) ≡ byte_in (memory_of s) a + 256 * byte_in (memory_of s) (a + 1) + 65536 * byte_in (memory_of s) (a + 2) + 16777216 * byte_in (memory_of s) (a + 3)
-word_is_read s a h =
-    let e : a + 1 - base_of s ≡ a - base_of s + 1 = omega arith in
-    let f : a + 2 - base_of s ≡ a - base_of s + 2 = omega arith in
-    let g : a + 3 - base_of s ≡ a - base_of s + 3 = omega arith in
-    rw (e, f, g) refl
-
 abbrev pub Carried : Op → Step → State → State → Type 0
 Carried op x s t = Effect s (next_at op x) (dest_at (form_of op) x.instr.rd) (result_at op x (byte_in (memory_of s))) (address_of x) (access_size op) (stored_size op) x.vk t
 
@@ -126,10 +116,10 @@ carried Bge y s t e = let x = step_at s y in branches_effect s t (is_taken Bge x
 carried Bltu y s t e = let x = step_at s y in branches_effect s t (is_taken Bltu x.vj x.vk) (sum s.pc y.imm) (address_of x) x.vk e
 carried Bgeu y s t e = let x = step_at s y in branches_effect s t (is_taken Bgeu x.vj x.vk) (sum s.pc y.imm) (address_of x) x.vk e
 carried Lb y s t e = let x = step_at s y in loads_effect s t y.rd (address_of x) 1 x.vk (result_at Lb x (byte_in (memory_of s))) (λ m i. from_byte (byte_read m i)) (λ h. refl) e
-carried Lh y s t e = let x = step_at s y in loads_effect s t y.rd (address_of x) 2 x.vk (result_at Lh x (byte_in (memory_of s))) (λ m i. from_half (half_read m i)) (λ h. ap from_half (half_is_read s (address_of x) h)) e
-carried Lw y s t e = let x = step_at s y in loads_effect s t y.rd (address_of x) 4 x.vk (result_at Lw x (byte_in (memory_of s))) word_read (word_is_read s (address_of x)) e
+carried Lh y s t e = let x = step_at s y in loads_effect s t y.rd (address_of x) 2 x.vk (result_at Lh x (byte_in (memory_of s))) (λ m i. from_half (half_read m i)) (λ h. ap from_half (half_loaded (memory_of s) (address_of x) h)) e
+carried Lw y s t e = let x = step_at s y in loads_effect s t y.rd (address_of x) 4 x.vk (result_at Lw x (byte_in (memory_of s))) word_read (word_loaded (memory_of s) (address_of x)) e
 carried Lbu y s t e = let x = step_at s y in loads_effect s t y.rd (address_of x) 1 x.vk (result_at Lbu x (byte_in (memory_of s))) byte_read (λ h. refl) e
-carried Lhu y s t e = let x = step_at s y in loads_effect s t y.rd (address_of x) 2 x.vk (result_at Lhu x (byte_in (memory_of s))) half_read (half_is_read s (address_of x)) e
+carried Lhu y s t e = let x = step_at s y in loads_effect s t y.rd (address_of x) 2 x.vk (result_at Lhu x (byte_in (memory_of s))) half_read (half_loaded (memory_of s) (address_of x)) e
 carried Sb y s t e = let x = step_at s y in stores_effect s t (address_of x) 1 x.vk (λ m i. byte_written m i x.vk) (byte_is s.memory (address_of x - base_of s) x.vk) e
 carried Sh y s t e = let x = step_at s y in stores_effect s t (address_of x) 2 x.vk (λ m i. half_written m i x.vk) (half_is s.memory (address_of x - base_of s) x.vk) e
 carried Sw y s t e = let x = step_at s y in stores_effect s t (address_of x) 4 x.vk (λ m i. word_written m i x.vk) (word_is s.memory (address_of x - base_of s) x.vk) e

@@ -1,13 +1,14 @@
 -- The state after so many steps of a run is what the history of these steps leaves.
 use Rattle.std.proofs.Common.{◌≡◌, ℕ, zero, suc, ◌+◌, ◌-◌, ◌*◌, ◌<◌, ◌≤◌, List, [], ◌∷◌, Option, Some, None, Bool, true, false, refl, sym, ap, ◌∙◌, subst, arith}
-use Rattle.std.specs.Prelude.{IsTrue, if◌then◌else◌, slice_index}
+use Rattle.std.specs.Prelude.{IsTrue, if◌then◌else◌, nat_eq, nat_le, nat_lt, slice_index}
+use Rattle.std.proofs.lemmas.Bool.{and_from, and_parts, eqb-false, le-leb, leb-true, lt-ltb, ne_eqb}
 use Rattle.tomex_image.specs.Image.{Loaded, IsLoaded}
 use Rattle.tomex_rvdec.specs.declared.op.Op.{Op}
 use Rattle.tomex_rvdec.specs.declared.op.Op.TheVariants.{Lb, Lh, Lw, Lbu, Lhu}
 use Rattle.tomex_rvdec.specs.Instruction.{Instruction}
 use Rattle.tomex_rvdec.specs.Meaning.{meaning}
 use Rattle.tomex_rvexec.specs.declared.step.Step.{Step}
-use Rattle.tomex_rvexec.specs.Flow.{Changes, IsAllowed, IsState, byte_in, memory_of, is_register, overwrites, result_at, result_of, stored_byte}
+use Rattle.tomex_rvexec.specs.Flow.{Changes, IsAllowed, IsState, byte_in, covers, is_among, memory_of, is_register, overwrites, result_at, result_of, stored_byte}
 use Rattle.tomex_rvexec.specs.History.{Follows, IsFlow, Leaves, byte_after, history, moved, pc_after, register_after, state_after}
 use Rattle.tomex_rvexec.specs.Machine.{State, Outcome, Goes, Ends, Faults, base_of, coming_of, from_byte, from_half, step_at, step_of}
 use Rattle.tomex_rvexec.specs.Memory.{is_inside, word_read}
@@ -17,14 +18,31 @@ use Rattle.tomex_rvexec.specs.Trace.{onto}
 use Rattle.tomex_rvexec.proofs.FlowSteps.{changes, comes}
 use Rattle.tomex_rvexec.proofs.FlowStates.{Coming, allowed, fetch_inside, goes_by_step, reads_above, registers_small, start_state, state_kept}
 
--- a result depends on the bytes from the step's address on, and only a load's
-same_result : (op : Op) (x : Step) (f g : ℕ → ℕ) → (0 < access_size op → (a : ℕ) → address_of x ≤ a → f a ≡ g a) → result_at op x f ≡ result_at op x g
-same_result Lb x f g same = let h : 0 < 1 = omega arith in ap from_byte (same h (address_of x) (omega arith))
-same_result Lh x f g same = let h : 0 < 2 = omega arith in rw (same h (address_of x) (omega arith), same h (address_of x + 1) (omega arith)) refl
-same_result Lw x f g same = let h : 0 < 4 = omega arith in rw (same h (address_of x) (omega arith), same h (address_of x + 1) (omega arith), same h (address_of x + 2) (omega arith), same h (address_of x + 3) (omega arith)) refl
-same_result Lbu x f g same = let h : 0 < 1 = omega arith in same h (address_of x) (omega arith)
-same_result Lhu x f g same = let h : 0 < 2 = omega arith in rw (same h (address_of x) (omega arith), same h (address_of x + 1) (omega arith)) refl
-same_result op x f g same = refl
+-- a result depends on the bytes of the access alone
+same_at : (op : Op) (x : Step) (f g : ℕ → ℕ) → ((a : ℕ) → address_of x ≤ a → a < address_of x + access_size op → f a ≡ g a) → result_at op x f ≡ result_at op x g
+same_at Lb x f g same = ap from_byte (same (address_of x) (omega arith) (omega arith))
+same_at Lh x f g same = rw (same (address_of x) (omega arith) (omega arith), same (address_of x + 1) (omega arith) (omega arith)) refl
+same_at Lw x f g same = rw (same (address_of x) (omega arith) (omega arith), same (address_of x + 1) (omega arith) (omega arith), same (address_of x + 2) (omega arith) (omega arith), same (address_of x + 3) (omega arith) (omega arith)) refl
+same_at Lbu x f g same = same (address_of x) (omega arith) (omega arith)
+same_at Lhu x f g same = rw (same (address_of x) (omega arith) (omega arith), same (address_of x + 1) (omega arith) (omega arith)) refl
+same_at op x f g same = refl
+
+covers_at : (from count a : ℕ) → from ≤ a → a < from + count → is_among (if nat_eq count 0 then None else Some (record { from = from; to = from + count })) a ≡ true
+covers_at from count a low high =
+    let e : nat_eq count 0 ≡ false = ne_eqb count 0 (omega arith) in
+    rw e (and_from (nat_le from a) (nat_lt a (from + count)) (le-leb from a low) (lt-ltb a (from + count) high))
+
+pub same_result : (x : Step) (f g : ℕ → ℕ) → ((a : ℕ) → covers x a ≡ true → f a ≡ g a) → result_of x f ≡ result_of x g
+same_result x f g same = same_at x.instr.op x f g (λ a low high. same a (covers_at (address_of x) (access_size x.instr.op) a low high))
+
+covered_above : (from count a base : ℕ) → (0 < count → base ≤ from) → is_among (if nat_eq count 0 then None else Some (record { from = from; to = from + count })) a ≡ true → base ≤ a
+covered_above from count a base above h = at (nat_eq count 0) refl h
+  where
+    at : (b : Bool) → nat_eq count 0 ≡ b → is_among (if b then None else Some (record { from = from; to = from + count })) a ≡ true → base ≤ a
+    at true e h = cc
+    at false e h =
+        let l = leb-true from a (and_parts (nat_le from a) (nat_lt a (from + count)) h).0 in
+        omega (arith, l, above (omega (arith, eqb-false count 0 e)))
 
 left_by_start : (i : Loaded) → Leaves i [] (start_of i)
 left_by_start i = record { image = refl; pc = refl; registers = λ r h. refl; bytes = λ a h. refl }
@@ -33,7 +51,7 @@ left_by_step : (i : Loaded) (older : List Step) (s t : State) (x : Step) → IsS
 left_by_step i older s t x ok l c e =
     let base : base_of s ≡ i.window.base = ap (λ (p : Loaded). p.window.base) l.image in
     let d : Changes s x t = changes s t x ok c e in
-    let same : result_of x (byte_in (memory_of s)) ≡ result_of x (byte_after i older) = same_result x.instr.op x (byte_in (memory_of s)) (byte_after i older) (λ h a low. l.bytes a (omega (arith, low, base, reads_above s t x c e h))) in
+    let same : result_of x (byte_in (memory_of s)) ≡ result_of x (byte_after i older) = same_result x (byte_in (memory_of s)) (byte_after i older) (λ a h. l.bytes a (omega (arith, base, covered_above (address_of x) (access_size x.instr.op) a (base_of s) (reads_above s t x c e) h))) in
     record {
       image = d.image ∙ l.image;
       pc = d.pc;

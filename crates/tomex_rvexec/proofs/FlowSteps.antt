@@ -22,7 +22,7 @@ use Rattle.tomex_rvexec.specs.Flow.{Changes, IsAllowed, IsState, byte_in, memory
 use Rattle.tomex_rvexec.specs.Machine.{State, Outcome, Goes, Ends, Faults, base_of, coming_of, executes, fetched, holds, outcome_of, step_at, step_of}
 use Rattle.tomex_rvexec.specs.Run.{Leads, start_of}
 use Rattle.tomex_rvexec.specs.Steps.{access_size, address_of, bytes_of, is_pool, is_store, step_dest}
-use Rattle.tomex_rvexec.proofs.FlowBytes.{bytes_written, bytes_at, length-bytes}
+use Rattle.tomex_rvexec.proofs.FlowBytes.{below_none, bytes_stored}
 use Rattle.tomex_rvexec.proofs.FlowEffects.{Carried, carried, stored_size, with_dest}
 
 -- the instruction of the step that comes, and what it comes to
@@ -62,11 +62,6 @@ never_zero f rd = at (nat_eq rd 0) refl
     at true e = refl
     at false e = e
 
-below_none : (a b : ℕ) → (nat_le a b && nat_lt b (a + 0)) ≡ false
-below_none a b = elim (cases_lt b a) [
-    inl l ↦ and_left (nat_le a b) (nat_lt b (a + 0)) (lt-leb a b l)
-  | inr g ↦ and_right (nat_le a b) (nat_lt b (a + 0)) (le-ltb b (a + 0) (omega arith)) ]
-
 overwrites_is : (op : Op) (from a : ℕ) → (is_pool pools.Store (pool_of op) && is_among (if nat_eq (access_size op) 0 then None else Some (record { from = from; to = from + access_size op })) a) ≡ (nat_le from a && nat_lt a (from + stored_size op))
 overwrites_is Sb from a = refl
 overwrites_is Sh from a = refl
@@ -94,20 +89,6 @@ inside s from count h =
     let two = and_parts (nat_le (base_of s) from) (nat_le (from + count) (base_of s + s.image.window.size)) h in
     (leb-true (base_of s) from two.0, leb-true (from + count) (base_of s + s.image.window.size) two.1)
 
-byte_set : (n : ℕ) (s : State) (from v a : ℕ) → length s.memory ≡ s.image.window.size → base_of s ≤ a → (0 < n → IsIn s from n) → slice_index (bytes_written n s.memory (from - base_of s) v) (a - base_of s) ≡ (if nat_le from a && nat_lt a (from + n) then v / 256 ^ (a - from) % 256 else byte_in (memory_of s) a)
-byte_set zero s from v a filled low room = rw (below_none from a) refl
-byte_set (suc n) s from v a filled low room =
-    let two : IsIn s from (suc n) = room (omega arith) in
-    let d : a - base_of s - (from - base_of s) ≡ a - from = omega arith in
-    let fits : from - base_of s + suc n ≤ length s.memory = omega arith in
-    let le : nat_le (from - base_of s) (a - base_of s) ≡ nat_le from a = elim (cases_lt a from) [
-        inl l ↦ lt-leb (from - base_of s) (a - base_of s) (omega arith) ∙ sym (lt-leb from a l)
-      | inr g ↦ le-leb (from - base_of s) (a - base_of s) (omega arith) ∙ sym (le-leb from a g) ] in
-    let lt : nat_lt (a - base_of s) (from - base_of s + suc n) ≡ nat_lt a (from + suc n) = elim (cases_lt a (from + suc n)) [
-        inl l ↦ lt-ltb (a - base_of s) (from - base_of s + suc n) (omega arith) ∙ sym (lt-ltb a (from + suc n) l)
-      | inr g ↦ le-ltb (a - base_of s) (from - base_of s + suc n) (omega arith) ∙ sym (le-ltb a (from + suc n) g) ] in
-    rw (← d, ← le, ← lt) (bytes_at (suc n) s.memory (from - base_of s) v (a - base_of s) fits)
-
 changed : (s t : State) (y : Instruction) → IsState s → Carried y.op (step_at s y) s t → Changes s (step_at s y) t
 changed s t y ok e =
     let x = step_at s y in
@@ -115,9 +96,9 @@ changed s t y ok e =
       image = e.image;
       pc = e.pc;
       registers = λ r low. rw e.regs (register_set (step_dest x) (result_of x (byte_in (memory_of s))) s.regs r (omega (arith, ok.registers, low)));
-      bytes = λ a low. rw (e.image, e.memory, overwrites_is y.op (address_of x) a) (byte_set (stored_size y.op) s (address_of x) x.vk a ok.filled low (λ h.
+      bytes = λ a low. rw (e.image, e.memory, overwrites_is y.op (address_of x) a) (bytes_stored (stored_size y.op) (memory_of s) (address_of x) x.vk a low (λ h.
       let two = inside s (address_of x) (access_size y.op) (e.inside (omega (arith, h, stored_within y.op))) in
-      (two.0, omega (arith, two.1, stored_within y.op))));
+      (two.0, omega (arith, two.1, stored_within y.op, ok.filled))));
       memory = λ h. let z = no_store y.op h in e.memory ∙ rw z refl;
     }
 
