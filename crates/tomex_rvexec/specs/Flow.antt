@@ -108,6 +108,12 @@ pub record IsState (s : State) : Type 0 where
   pub aligned : s.pc % 4 ≡ 0
   pub filled : length s.memory ≡ s.image.window.size
 
+-- the pc and the registers are words of 32 bits, and the memory's bytes are bytes
+pub record HasWords (s : State) : Type 0 where
+  pub pc : s.pc < 2 ^ 32
+  pub registers : (r : ℕ) → slice_index s.regs r < 2 ^ 32
+  pub bytes : (k : ℕ) → slice_index s.memory k < 256
+
 -- what the step x, which goes from s to t, changes: the pc, its destination and the bytes of its store
 pub record Changes (s : State) (x : Step) (t : State) : Type 0 where
   pub image : t.image ≡ s.image

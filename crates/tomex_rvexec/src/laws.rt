@@ -1,23 +1,27 @@
 //! Laws of a run, for machines that carry values by tags: what a step computes from its operands,
 //! and where operands come from. These functions do nothing: their contracts are the laws.
 
-ghost use Rattle.std.specs.Prelude.{◌≡◌, ℕ, ◌+◌, ◌<◌, ◌≤◌, IsSome, List, ◌∷◌, Some, reverse};
+ghost use Rattle.std.specs.Prelude.{◌≡◌, ℕ, ◌+◌, ◌<◌, ◌≤◌, IsSome, List, ◌∷◌, None, Some, length, reverse, slice_index, true};
 ghost use Rattle.tomex_image.specs.Image.{Loaded, IsLoaded};
+ghost use Rattle.tomex_image.specs.Window.{IsWindow};
 ghost use Rattle.tomex_rvexec.specs.declared.outcome.EndKind.{EndKind};
 ghost use Rattle.tomex_rvexec.specs.declared.outcome.FaultKind.{FaultKind};
 ghost use Rattle.tomex_rvexec.specs.declared.step.Step.{Step};
-ghost use Rattle.tomex_rvexec.specs.Flow.{Changes, IsAllowed, IsState, end_of};
-ghost use Rattle.tomex_rvexec.specs.History.{Follows, IsFlow, Leaves, history, state_after, step_after};
+ghost use Rattle.tomex_rvexec.specs.Flow.{Changes, HasWords, IsAllowed, IsState, byte_in, covers, end_of, result_of};
+ghost use Rattle.tomex_rvexec.specs.History.{Follows, IsFlow, Leaves, byte_after, history, register_after, state_after, step_after};
 ghost use Rattle.tomex_rvexec.specs.Machine.{State, Ends, Goes, coming_of, step_of};
 ghost use Rattle.tomex_rvexec.specs.Run.{EndsWithin, Leads, RunEnds, RunFaults, start_of};
+ghost use Rattle.tomex_rvexec.specs.Steps.{j_of, k_of, step_pool};
 ghost use Rattle.tomex_rvexec.specs.Trace.{steps_from};
 
 /// A step changes the pc, its destination and the bytes of its store, and nothing else. Its target
-/// is a multiple of 4, its bytes lie in memory, and the machine stays as sound as it was.
+/// is a multiple of 4 and its bytes lie in memory. The result depends on no byte but those of the
+/// step's own access.
 pub fn step_changes_its_destination_and_bytes()
     ensures changes { (s t : State) (x : Step) → IsState s → coming_of s ≡ Some x → step_of s ≡ Goes t → Changes s x t }
     ensures allowed { (s t : State) (x : Step) → IsState s → coming_of s ≡ Some x → step_of s ≡ Goes t → IsAllowed s.image x }
     ensures state { (s t : State) (x : Step) → IsState s → coming_of s ≡ Some x → step_of s ≡ Goes t → IsState t }
+    ensures result { (x : Step) (f g : ℕ → ℕ) → ((a : ℕ) → covers x a ≡ true → f a ≡ g a) → result_of x f ≡ result_of x g }
 {}
 
 /// What goes on or ends is the step of an instruction; it ends the program exactly where the
@@ -37,6 +41,17 @@ pub fn run_is_its_history()
     ensures state { (i : Loaded) (k : ℕ) (s : State) → IsLoaded i.window i.memory i.entry → Leads (start_of i) k s → IsState s }
     ensures flow { (i : Loaded) (k : ℕ) (s : State) → IsLoaded i.window i.memory i.entry → Leads (start_of i) k s → IsFlow i (history i k) }
     ensures follows { (i : Loaded) (k : ℕ) (s : State) (x : Step) → IsLoaded i.window i.memory i.entry → Leads (start_of i) k s → coming_of s ≡ Some x → Follows i (history i k) x }
+    ensures words { (k : ℕ) (i : Loaded) (s : State) → IsWindow i.window.base i.window.size → IsLoaded i.window i.memory i.entry → ((k : ℕ) → slice_index i.memory k < 256) → Leads (start_of i) k s → HasWords s }
+{}
+
+/// A history leaves one list of registers and one memory. x0 is zero after any steps, and an
+/// operand that an instruction with a station doesn't read is zero.
+pub fn history_leaves_one_state()
+    ensures registers { (i : Loaded) (steps : List Step) (s : State) (regs : List ℕ) → Leaves i steps s → IsState s → length regs ≡ 32 → ((r : ℕ) → r < 32 → slice_index regs r ≡ register_after i steps r) → regs ≡ s.regs }
+    ensures memory { (i : Loaded) (steps : List Step) (s : State) (bytes : List ℕ) → Leaves i steps s → IsState s → length bytes ≡ i.window.size → ((a : ℕ) → i.window.base ≤ a → a < i.window.base + i.window.size → byte_in (record { base = i.window.base; bytes = bytes }) a ≡ byte_after i steps a) → bytes ≡ s.memory }
+    ensures zero { (i : Loaded) (steps : List Step) → register_after i steps 0 ≡ 0 }
+    ensures j { (i : Loaded) (older : List Step) (x : Step) → Follows i older x → IsSome (step_pool x) → j_of x ≡ None → x.vj ≡ 0 }
+    ensures k { (i : Loaded) (older : List Step) (x : Step) → Follows i older x → k_of x ≡ None → x.vk ≡ 0 }
 {}
 
 /// A run has one state after so many steps, and a run that leads to one leads to each before it;
