@@ -7,8 +7,10 @@ use Rattle.tomex_rvdec.specs.declared.op.Op.{Op}
 use Rattle.tomex_rvdec.specs.declared.op.Op.TheVariants.{Jal, Jalr, Beq, Bne, Blt, Bge, Bltu, Bgeu, Lb, Lh, Lw, Lbu, Lhu, Sb, Sh, Sw, Ecall, Ebreak}
 use Rattle.tomex_rvdec.specs.declared.op.Form.{Form}
 use Rattle.tomex_rvdec.specs.declared.op.Form.TheVariants as forms
+use Rattle.tomex_rvdec.specs.declared.pool.PoolId.TheVariants as pools
 use Rattle.tomex_rvdec.specs.Instruction.{Instruction}
 use Rattle.tomex_rvdec.specs.Meaning.{form_of, meaning, operands_at, selected}
+use Rattle.tomex_rvdec.specs.Operands.{dest_at, pool_of}
 use Rattle.tomex_rvexec.specs.declared.outcome.EndKind.{EndKind}
 use Rattle.tomex_rvexec.specs.declared.outcome.FaultKind.{FaultKind}
 use Rattle.tomex_rvexec.specs.declared.outcome.FaultKind.TheVariants.{Fetch, MisalignedTarget, Access}
@@ -18,7 +20,7 @@ use Rattle.tomex_rvexec.specs.Flow.{Changes, IsAllowed, IsState, byte_in, memory
 use Rattle.tomex_rvexec.specs.Machine.{State, Outcome, Goes, Ends, Faults, base_of, branches, coming_of, executes, fetched, from_byte, from_half, holds, jumps, loads, next_pc, outcome_of, step_at, step_of, stores, with_register}
 use Rattle.tomex_rvexec.specs.Memory.{byte_read, half_read, word_read, byte_written, half_written, word_written}
 use Rattle.tomex_rvexec.specs.Run.{start_of}
-use Rattle.tomex_rvexec.specs.Steps.{access_size, address_of, step_dest}
+use Rattle.tomex_rvexec.specs.Steps.{access_size, address_of, is_pool, is_store, step_dest}
 use Rattle.tomex_rvexec.specs.Words.{is_taken, sum}
 use Rattle.tomex_rvexec.proofs.FlowBytes.{length-bytes}
 use Rattle.tomex_rvexec.proofs.FlowEffects.{Carried, carried, stored_size}
@@ -181,3 +183,20 @@ by_end s x kind c e =
     let o = comes s x (step_of s) c refl in
     let k : end_at o.instr.op ≡ Some kind = subst (λ (z : Step). end_of z ≡ Some kind) (sym o.step) e in
     sym o.outcome ∙ as_ends o.instr.op (step_at s o.instr) s kind k
+
+-- what ends a program writes nothing
+no_dest : (op : Op) (rd : ℕ) (kind : EndKind) → end_at op ≡ Some kind → dest_at (form_of op) rd ≡ None
+no_dest Ecall rd kind e = refl
+no_dest Ebreak rd kind e = refl
+no_dest op rd kind e = cc
+
+no_bytes : (op : Op) (kind : EndKind) → end_at op ≡ Some kind → is_pool pools.Store (pool_of op) ≡ false
+no_bytes Ecall kind e = refl
+no_bytes Ebreak kind e = refl
+no_bytes op kind e = cc
+
+pub end_writes_no_register : (x : Step) (kind : EndKind) → end_of x ≡ Some kind → step_dest x ≡ None
+end_writes_no_register x kind e = no_dest x.instr.op x.instr.rd kind e
+
+pub end_writes_no_byte : (x : Step) (kind : EndKind) → end_of x ≡ Some kind → is_store x ≡ false
+end_writes_no_byte x kind e = no_bytes x.instr.op kind e

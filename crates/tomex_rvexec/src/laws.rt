@@ -1,7 +1,7 @@
 //! Laws of a run, for machines that carry values by tags: what a step computes from its operands,
 //! and where operands come from. These functions do nothing: their contracts are the laws.
 
-ghost use Rattle.std.specs.Prelude.{◌≡◌, ℕ, ◌+◌, ◌<◌, ◌≤◌, IsSome, List, ◌∷◌, None, Some, length, reverse, slice_index, true};
+ghost use Rattle.std.specs.Prelude.{◌≡◌, ℕ, ◌+◌, ◌<◌, ◌≤◌, IsSome, List, ◌∷◌, None, Some, false, length, reverse, slice_index, true};
 ghost use Rattle.tomex_image.specs.Image.{Loaded, IsLoaded};
 ghost use Rattle.tomex_image.specs.Window.{IsWindow};
 ghost use Rattle.tomex_rvexec.specs.declared.outcome.EndKind.{EndKind};
@@ -11,7 +11,7 @@ ghost use Rattle.tomex_rvexec.specs.Flow.{Changes, HasWords, IsAllowed, IsState,
 ghost use Rattle.tomex_rvexec.specs.History.{Follows, IsFlow, Leaves, byte_after, history, register_after, state_after, step_after};
 ghost use Rattle.tomex_rvexec.specs.Machine.{State, Ends, Goes, coming_of, step_of};
 ghost use Rattle.tomex_rvexec.specs.Run.{EndsWithin, Leads, RunEnds, RunFaults, start_of};
-ghost use Rattle.tomex_rvexec.specs.Steps.{j_of, k_of, step_pool};
+ghost use Rattle.tomex_rvexec.specs.Steps.{is_store, j_of, k_of, step_dest, step_pool};
 ghost use Rattle.tomex_rvexec.specs.Trace.{steps_from};
 
 /// A step changes the pc, its destination and the bytes of its store, and nothing else. Its target
@@ -25,12 +25,14 @@ pub fn step_changes_its_destination_and_bytes()
 {}
 
 /// What goes on or ends is the step of an instruction; it ends the program exactly where the
-/// instruction is ECALL or EBREAK.
+/// instruction is ECALL or EBREAK, which write nothing.
 pub fn step_is_of_an_instruction()
     ensures goes { (s t : State) → step_of s ≡ Goes t → IsSome (coming_of s) }
     ensures ends { (s : State) (kind : EndKind) → step_of s ≡ Ends kind → IsSome (coming_of s) }
     ensures kind { (s : State) (x : Step) (kind : EndKind) → coming_of s ≡ Some x → step_of s ≡ Ends kind → end_of x ≡ Some kind }
     ensures end { (s : State) (x : Step) (kind : EndKind) → coming_of s ≡ Some x → end_of x ≡ Some kind → step_of s ≡ Ends kind }
+    ensures dest { (x : Step) (kind : EndKind) → end_of x ≡ Some kind → step_dest x ≡ None }
+    ensures store { (x : Step) (kind : EndKind) → end_of x ≡ Some kind → is_store x ≡ false }
 {}
 
 /// The state after so many steps of a run is what their history leaves: each register holds the

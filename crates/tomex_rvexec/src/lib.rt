@@ -10,7 +10,7 @@
 
 mod cpu;
 mod end;
-mod laws;
+pub mod laws;
 mod memory;
 mod outcome;
 mod running;
@@ -20,12 +20,6 @@ mod words;
 
 pub use cpu::Cpu;
 pub use end::{End, RunError};
-pub use laws::{
-    history_leaves_one_state, limit_changes_no_run_that_ends, run_has_one_end,
-    run_has_one_state_a_step, run_is_its_history,
-    run_that_ends_is_a_flow_of_steps, step_changes_its_destination_and_bytes,
-    step_is_of_an_instruction,
-};
 pub use memory::Memory;
 pub use outcome::{EndKind, Fault, FaultKind, Stepped};
 pub use running::run;

@@ -1,4 +1,4 @@
-use Rattle.tomex_rvexec.proofs.FlowStates.{by_end, ends_by, step_ends, step_goes}
+use Rattle.tomex_rvexec.proofs.FlowStates.{by_end, end_writes_no_byte, end_writes_no_register, ends_by, step_ends, step_goes}
 use Rattle.tomex_rvexec.proofs.laws.step_is_of_an_instruction.Goals as goal
 
 pub returns-clause-goes : goal.returns-clause-goes
@@ -12,3 +12,9 @@ returns-clause-kind c = ends_by
 
 pub returns-clause-end : goal.returns-clause-end
 returns-clause-end c = by_end
+
+pub returns-clause-dest : goal.returns-clause-dest
+returns-clause-dest c = end_writes_no_register
+
+pub returns-clause-store : goal.returns-clause-store
+returns-clause-store c = end_writes_no_byte
