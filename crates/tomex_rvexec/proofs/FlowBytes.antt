@@ -1,7 +1,7 @@
 -- Bytes of a memory, read and written by address.
-use Rattle.std.proofs.Common.{◌≡◌, ℕ, zero, suc, ◌+◌, ◌-◌, ◌*◌, ◌/◌, ◌%◌, ◌^◌, ◌<◌, ◌≤◌, ◌⊎◌, List, length, get_or, set, Bool, true, false, cond, refl, sym, ap, ◌∙◌, arith, inl, inr}
+use Rattle.std.proofs.Common.{◌≡◌, ℕ, zero, suc, ◌+◌, ◌-◌, ◌*◌, ◌/◌, ◌%◌, ◌^◌, ◌<◌, ◌≤◌, ◌⊎◌, List, length, true, false, refl, sym, ◌∙◌, arith, inl, inr}
 use Rattle.std.specs.Prelude.{slice_index, slice_set, nat_le, nat_lt, ◌&&◌, if◌then◌else◌}
-use Rattle.std.proofs.lemmas.Bool.{cases_eq, cases_lt, cases_Bool, lt-ltb, le-ltb, le-leb, lt-leb, and_left, and_right, and_from}
+use Rattle.std.proofs.lemmas.Bool.{cases_eq, cases_lt, lt-ltb, le-ltb, le-leb, lt-leb, and_left, and_right, and_from}
 use Rattle.std.proofs.lemmas.Grind.{get_or-set_at}
 use Rattle.std.proofs.lemmas.List.{get_or-set_other}
 use Rattle.std.proofs.Math.ListN.{length-set}
@@ -27,8 +27,10 @@ bytes_at (suc n) m i v k h = at (cases_eq k (i + n)) (bytes_at n m i v k (omega 
   where
     more : (k ≡ i + n → ⊥) → nat_lt k (i + suc n) ≡ nat_lt k (i + n)
     more other = elim (cases_lt k (i + n)) [
-        inl l ↦ lt-ltb k (i + suc n) (omega arith) ∙ sym (lt-ltb k (i + n) l)
-      | inr g ↦ le-ltb k (i + suc n) (omega arith) ∙ sym (le-ltb k (i + n) g) ]
+      | inl l ↦ lt-ltb k (i + suc n) (omega arith) ∙ sym (lt-ltb k (i + n) l)
+      | inr g ↦ le-ltb k (i + suc n) (omega arith) ∙ sym (le-ltb k (i + n) g)
+    ]
+
     at : (k ≡ i + n) ⊎ (k ≡ i + n → ⊥) → slice_index (bytes_written n m i v) k ≡ (if nat_le i k && nat_lt k (i + n) then v / 256 ^ (k - i) % 256 else slice_index m k) → slice_index (slice_set (bytes_written n m i v) (i + n) (v / 256 ^ n % 256)) k ≡ (if nat_le i k && nat_lt k (i + suc n) then v / 256 ^ (k - i) % 256 else slice_index m k)
     at (inl e) before =
         let t : (nat_le i k && nat_lt k (i + suc n)) ≡ true = and_from (nat_le i k) (nat_lt k (i + suc n)) (le-leb i k (omega arith)) (lt-ltb k (i + suc n) (omega arith)) in
@@ -59,8 +61,9 @@ word_loaded memory a h =
 
 pub below_none : (a b : ℕ) → (nat_le a b && nat_lt b (a + 0)) ≡ false
 below_none a b = elim (cases_lt b a) [
-    inl l ↦ and_left (nat_le a b) (nat_lt b (a + 0)) (lt-leb a b l)
-  | inr g ↦ and_right (nat_le a b) (nat_lt b (a + 0)) (le-ltb b (a + 0) (omega arith)) ]
+  | inl l ↦ and_left (nat_le a b) (nat_lt b (a + 0)) (lt-leb a b l)
+  | inr g ↦ and_right (nat_le a b) (nat_lt b (a + 0)) (le-ltb b (a + 0) (omega arith))
+]
 
 -- so many bytes of v, from an address on
 pub bytes_stored : (n : ℕ) (memory : Bytes) (from v a : ℕ) → memory.base ≤ a → (0 < n → (memory.base ≤ from) × (from + n ≤ memory.base + length memory.bytes)) → slice_index (bytes_written n memory.bytes (from - memory.base) v) (a - memory.base) ≡ (if nat_le from a && nat_lt a (from + n) then v / 256 ^ (a - from) % 256 else byte_in memory a)
@@ -71,9 +74,11 @@ bytes_stored (suc n) memory from v a low room =
     let within : from + suc n ≤ memory.base + length memory.bytes = two.1 in
     let d : a - memory.base - (from - memory.base) ≡ a - from = omega arith in
     let le : nat_le (from - memory.base) (a - memory.base) ≡ nat_le from a = elim (cases_lt a from) [
-        inl l ↦ lt-leb (from - memory.base) (a - memory.base) (omega arith) ∙ sym (lt-leb from a l)
-      | inr g ↦ le-leb (from - memory.base) (a - memory.base) (omega arith) ∙ sym (le-leb from a g) ] in
+      | inl l ↦ lt-leb (from - memory.base) (a - memory.base) (omega arith) ∙ sym (lt-leb from a l)
+      | inr g ↦ le-leb (from - memory.base) (a - memory.base) (omega arith) ∙ sym (le-leb from a g)
+    ] in
     let lt : nat_lt (a - memory.base) (from - memory.base + suc n) ≡ nat_lt a (from + suc n) = elim (cases_lt a (from + suc n)) [
-        inl l ↦ lt-ltb (a - memory.base) (from - memory.base + suc n) (omega arith) ∙ sym (lt-ltb a (from + suc n) l)
-      | inr g ↦ le-ltb (a - memory.base) (from - memory.base + suc n) (omega arith) ∙ sym (le-ltb a (from + suc n) g) ] in
+      | inl l ↦ lt-ltb (a - memory.base) (from - memory.base + suc n) (omega arith) ∙ sym (lt-ltb a (from + suc n) l)
+      | inr g ↦ le-ltb (a - memory.base) (from - memory.base + suc n) (omega arith) ∙ sym (le-ltb a (from + suc n) g)
+    ] in
     rw (← d, ← le, ← lt) (bytes_at (suc n) memory.bytes (from - memory.base) v (a - memory.base) (omega arith))

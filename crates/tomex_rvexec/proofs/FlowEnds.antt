@@ -1,19 +1,19 @@
 -- A run has one state after so many steps, one end, and one list of steps.
-use Rattle.std.proofs.Common.{◌≡◌, ℕ, zero, suc, ◌+◌, ◌-◌, ◌<◌, ◌≤◌, ◌⊎◌, inl, inr, List, [], ◌∷◌, ◌++◌, Option, Some, None, refl, sym, ap, ◌∙◌, subst, arith, append_assoc, add-one}
+use Rattle.std.proofs.Common.{◌≡◌, ℕ, zero, suc, ◌+◌, ◌-◌, ◌<◌, ◌≤◌, ◌⊎◌, inl, inr, List, [], ◌∷◌, ◌++◌, Some, refl, sym, ap, ◌∙◌, subst, arith, append_assoc, add-one}
 use Rattle.std.specs.Prelude.{IsSome, reverse}
-use Rattle.std.proofs.lemmas.Bool.{cases_order, cases_lt, cases_eq}
+use Rattle.std.proofs.lemmas.Bool.{cases_order, cases_eq}
 use Rattle.std.proofs.lemmas.List.{append-nil, reverse-append}
 use Rattle.tomex_image.specs.Image.{Loaded, IsLoaded}
 use Rattle.tomex_rvexec.specs.declared.outcome.EndKind.{EndKind}
 use Rattle.tomex_rvexec.specs.declared.outcome.FaultKind.{FaultKind}
 use Rattle.tomex_rvexec.specs.declared.step.Step.{Step}
-use Rattle.tomex_rvexec.specs.Flow.{IsAllowed, IsState, end_of}
+use Rattle.tomex_rvexec.specs.Flow.{IsAllowed, end_of}
 use Rattle.tomex_rvexec.specs.History.{Follows, Leaves, history, state_after, step_after}
-use Rattle.tomex_rvexec.specs.Machine.{State, Outcome, Goes, Ends, Faults, coming_of, step_of}
+use Rattle.tomex_rvexec.specs.Machine.{State, Goes, Ends, Faults, coming_of, step_of}
 use Rattle.tomex_rvexec.specs.Run.{EndsWithin, Leads, RunEnds, RunFaults, start_of}
-use Rattle.tomex_rvexec.specs.Trace.{after, onto, steps_from}
+use Rattle.tomex_rvexec.specs.Trace.{steps_from}
 use Rattle.tomex_rvexec.proofs.FlowRuns.{run_follows, run_leaves, run_state}
-use Rattle.tomex_rvexec.proofs.FlowStates.{Coming, allowed, ends_by, ends_by_step, goes_by_step, step_ends, step_goes}
+use Rattle.tomex_rvexec.proofs.FlowStates.{allowed, ends_by, ends_by_step, goes_by_step, step_ends, step_goes}
 
 same_next : (a b s t : State) → a ≡ b → step_of a ≡ Goes s → step_of b ≡ Goes t → s ≡ t
 same_next a b s t e g h = let f : step_of a ≡ step_of b = ap step_of e in cc

@@ -7,14 +7,12 @@ use Rattle.tomex_rvdec.specs.declared.op.Op.{Op}
 use Rattle.tomex_rvdec.specs.declared.op.Op.TheVariants.{Fence}
 use Rattle.tomex_rvdec.specs.declared.op.Form.{Form}
 use Rattle.tomex_rvdec.specs.declared.op.Form.TheVariants as forms
-use Rattle.tomex_rvdec.specs.declared.pool.PoolId.{PoolId}
 use Rattle.tomex_rvdec.specs.Instruction.{Instruction}
 use Rattle.tomex_rvdec.specs.Meaning.{form_of, meaning, operands_at, selected}
 use Rattle.tomex_rvdec.specs.Operands.{pool_of, sources_at, sources_of}
 use Rattle.tomex_rvexec.specs.declared.step.Step.{Step}
-use Rattle.tomex_rvexec.specs.declared.step.Operand.{Operand}
 use Rattle.tomex_rvexec.specs.Flow.{IsState, byte_in}
-use Rattle.tomex_rvexec.specs.History.{Follows, Leaves, byte_after, pc_after, register_after}
+use Rattle.tomex_rvexec.specs.History.{Follows, Leaves, byte_after, register_after}
 use Rattle.tomex_rvexec.specs.Machine.{State}
 use Rattle.tomex_rvexec.specs.Memory.{word_read}
 use Rattle.tomex_rvexec.specs.Steps.{j_of, k_of, operand, step_pool}
@@ -78,6 +76,7 @@ unread_in w y e = at (selected w) e
   where
     waits : (op : Op) → IsSome (pool_of op) → form_of op ≡ forms.Fence → ⊥
     waits op p f = let none = fence_waits_nowhere op f in let q = rw none at p in cc
+
     at : (m : Option Op) → option_map (λ op. operands_at (form_of op) w op) m ≡ Some y → UnreadIn y.op y.rs1 y.rs2
     at None e = cc
     at (Some op) e =

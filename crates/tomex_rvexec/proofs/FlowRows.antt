@@ -1,11 +1,11 @@
 -- The data flow of small programs, computed.
-use Rattle.std.proofs.Common.{ℕ, ◌≡◌, refl, List, [], ◌∷◌, Option, Some, None}
+use Rattle.std.proofs.Common.{ℕ, ◌≡◌, refl, List, [], ◌∷◌}
 use Rattle.std.specs.Prelude.{map}
 use Rattle.tomex_image.specs.Image.{Loaded}
 use Rattle.tomex_rvdec.specs.Meaning.{selected}
 use Rattle.tomex_rvexec.specs.declared.step.Step.{Step}
-use Rattle.tomex_rvexec.specs.Flow.{next_pc_of, result_of}
-use Rattle.tomex_rvexec.specs.History.{history, state_after, byte_after, register_after}
+use Rattle.tomex_rvexec.specs.Flow.{next_pc_of}
+use Rattle.tomex_rvexec.specs.History.{history, byte_after, register_after}
 use Rattle.tomex_rvexec.specs.Machine.{step_of}
 use Rattle.tomex_rvexec.proofs.Rows.{image_at}
 

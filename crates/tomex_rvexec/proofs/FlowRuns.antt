@@ -1,6 +1,6 @@
 -- The state after so many steps of a run is what the history of these steps leaves.
-use Rattle.std.proofs.Common.{◌≡◌, ℕ, zero, suc, ◌+◌, ◌-◌, ◌*◌, ◌<◌, ◌≤◌, List, [], ◌∷◌, Option, Some, None, Bool, true, false, refl, sym, ap, ◌∙◌, subst, arith}
-use Rattle.std.specs.Prelude.{IsTrue, if◌then◌else◌, nat_eq, nat_le, nat_lt, slice_index}
+use Rattle.std.proofs.Common.{◌≡◌, ℕ, zero, suc, ◌+◌, ◌-◌, ◌<◌, ◌≤◌, List, [], ◌∷◌, Some, None, Bool, true, false, refl, sym, ap, ◌∙◌, subst, arith}
+use Rattle.std.specs.Prelude.{IsTrue, if◌then◌else◌, nat_eq, nat_le, nat_lt}
 use Rattle.std.proofs.lemmas.Bool.{and_from, and_parts, eqb-false, le-leb, leb-true, lt-ltb, ne_eqb}
 use Rattle.tomex_image.specs.Image.{Loaded, IsLoaded}
 use Rattle.tomex_rvdec.specs.declared.op.Op.{Op}
@@ -8,15 +8,14 @@ use Rattle.tomex_rvdec.specs.declared.op.Op.TheVariants.{Lb, Lh, Lw, Lbu, Lhu}
 use Rattle.tomex_rvdec.specs.Instruction.{Instruction}
 use Rattle.tomex_rvdec.specs.Meaning.{meaning}
 use Rattle.tomex_rvexec.specs.declared.step.Step.{Step}
-use Rattle.tomex_rvexec.specs.Flow.{Changes, IsAllowed, IsState, byte_in, covers, is_among, memory_of, is_register, overwrites, result_at, result_of, stored_byte}
-use Rattle.tomex_rvexec.specs.History.{Follows, IsFlow, Leaves, byte_after, history, moved, pc_after, register_after, state_after}
-use Rattle.tomex_rvexec.specs.Machine.{State, Outcome, Goes, Ends, Faults, base_of, coming_of, from_byte, from_half, step_at, step_of}
+use Rattle.tomex_rvexec.specs.Flow.{Changes, IsAllowed, IsState, byte_in, covers, is_among, memory_of, result_at, result_of}
+use Rattle.tomex_rvexec.specs.History.{Follows, IsFlow, Leaves, byte_after, history, state_after}
+use Rattle.tomex_rvexec.specs.Machine.{State, Goes, base_of, coming_of, from_byte, step_at, step_of}
 use Rattle.tomex_rvexec.specs.Memory.{is_inside, word_read}
 use Rattle.tomex_rvexec.specs.Run.{Leads, start_of}
-use Rattle.tomex_rvexec.specs.Steps.{access_size, address_of, step_dest}
-use Rattle.tomex_rvexec.specs.Trace.{onto}
+use Rattle.tomex_rvexec.specs.Steps.{access_size, address_of}
 use Rattle.tomex_rvexec.proofs.FlowSteps.{changes, comes}
-use Rattle.tomex_rvexec.proofs.FlowStates.{Coming, allowed, fetch_inside, goes_by_step, reads_above, registers_small, start_state, state_kept}
+use Rattle.tomex_rvexec.proofs.FlowStates.{allowed, fetch_inside, goes_by_step, reads_above, registers_small, start_state, state_kept}
 
 -- a result depends on the bytes of the access alone
 same_at : (op : Op) (x : Step) (f g : ℕ → ℕ) → ((a : ℕ) → address_of x ≤ a → a < address_of x + access_size op → f a ≡ g a) → result_at op x f ≡ result_at op x g

@@ -1,7 +1,7 @@
 -- What steps ask of a state, and what they keep of it.
-use Rattle.std.proofs.Common.{◌≡◌, ℕ, zero, suc, ◌+◌, ◌-◌, ◌*◌, ◌/◌, ◌%◌, ◌^◌, ◌<◌, ◌≤◌, List, length, Option, Some, None, Bool, true, false, refl, sym, ap, ◌∙◌, subst, arith}
-use Rattle.std.specs.Prelude.{IsTrue, IfSome, IsSome, nat_eq, if◌then◌else◌, slice_index, option_map}
-use Rattle.std.proofs.lemmas.Bool.{eqb-true, eqb-false}
+use Rattle.std.proofs.Common.{◌≡◌, ℕ, ◌+◌, ◌-◌, ◌%◌, ◌<◌, ◌≤◌, List, Option, Some, None, Bool, true, false, refl, sym, ◌∙◌, subst, arith}
+use Rattle.std.specs.Prelude.{IsTrue, IfSome, IsSome, nat_eq, if◌then◌else◌, option_map}
+use Rattle.std.proofs.lemmas.Bool.{eqb-false}
 use Rattle.tomex_image.specs.Image.{Loaded, IsLoaded}
 use Rattle.tomex_rvdec.specs.declared.op.Op.{Op}
 use Rattle.tomex_rvdec.specs.declared.op.Op.TheVariants.{Jal, Jalr, Beq, Bne, Blt, Bge, Bltu, Bgeu, Lb, Lh, Lw, Lbu, Lhu, Sb, Sh, Sw, Ecall, Ebreak}
@@ -16,15 +16,15 @@ use Rattle.tomex_rvexec.specs.declared.outcome.FaultKind.{FaultKind}
 use Rattle.tomex_rvexec.specs.declared.outcome.FaultKind.TheVariants.{Fetch, MisalignedTarget, Access}
 use Rattle.tomex_rvexec.specs.declared.step.Step.{Step}
 use Rattle.tomex_rvexec.specs.declared.step.ByteRange.{ByteRange}
-use Rattle.tomex_rvexec.specs.Flow.{Changes, IsAllowed, IsState, byte_in, memory_of, end_at, end_of, next_at, result_of}
-use Rattle.tomex_rvexec.specs.Machine.{State, Outcome, Goes, Ends, Faults, base_of, branches, coming_of, executes, fetched, from_byte, from_half, holds, jumps, loads, next_pc, outcome_of, step_at, step_of, stores, with_register}
+use Rattle.tomex_rvexec.specs.Flow.{IsAllowed, IsState, byte_in, memory_of, end_at, end_of, next_at, result_of}
+use Rattle.tomex_rvexec.specs.Machine.{State, Goes, Ends, Faults, base_of, branches, coming_of, executes, fetched, from_byte, from_half, holds, jumps, loads, next_pc, outcome_of, step_at, step_of, stores, with_register}
 use Rattle.tomex_rvexec.specs.Memory.{byte_read, half_read, word_read, byte_written, half_written, word_written}
 use Rattle.tomex_rvexec.specs.Run.{start_of}
 use Rattle.tomex_rvexec.specs.Steps.{access_size, address_of, is_pool, is_store, step_dest}
 use Rattle.tomex_rvexec.specs.Words.{is_taken, sum}
 use Rattle.tomex_rvexec.proofs.FlowBytes.{length-bytes}
 use Rattle.tomex_rvexec.proofs.FlowEffects.{Carried, carried, stored_size}
-use Rattle.tomex_rvexec.proofs.FlowSteps.{Comes, comes, inside, length-dest, never_zero, register_set}
+use Rattle.tomex_rvexec.proofs.FlowSteps.{comes, inside, length-dest, never_zero, register_set}
 
 -- where a step goes on or ends, it is the step of an instruction
 pub record Coming (s : State) : Type 0 where

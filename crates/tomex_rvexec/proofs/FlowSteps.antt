@@ -1,27 +1,23 @@
 -- A step changes its destination and the bytes of its store, and nothing else.
-use Rattle.std.proofs.Common.{◌≡◌, ℕ, zero, suc, ◌+◌, ◌-◌, ◌*◌, ◌/◌, ◌%◌, ◌^◌, ◌<◌, ◌≤◌, ◌⊎◌, inl, inr, List, length, Option, Some, None, Bool, true, false, refl, sym, ap, ◌∙◌, subst, arith}
-use Rattle.std.specs.Prelude.{IsTrue, IfSome, nat_eq, nat_le, nat_lt, ◌&&◌, if◌then◌else◌, slice_index, slice_set, option_map}
-use Rattle.std.proofs.lemmas.Bool.{and_parts, and_left, and_right, cases_eq, cases_lt, eq-eqb, ne_eqb, leb-true, le-leb, lt-leb, lt-ltb, le-ltb}
+use Rattle.std.proofs.Common.{◌≡◌, ℕ, ◌+◌, ◌<◌, ◌≤◌, inl, inr, List, length, Option, Some, None, Bool, true, false, refl, sym, ◌∙◌, subst, arith}
+use Rattle.std.specs.Prelude.{IsTrue, nat_eq, nat_le, nat_lt, ◌&&◌, if◌then◌else◌, slice_index, option_map}
+use Rattle.std.proofs.lemmas.Bool.{and_parts, cases_eq, eq-eqb, ne_eqb, leb-true}
 use Rattle.std.proofs.lemmas.Grind.{get_or-set_at}
 use Rattle.std.proofs.lemmas.List.{get_or-set_other}
 use Rattle.std.proofs.Math.ListN.{length-set}
-use Rattle.tomex_image.specs.Image.{Loaded, IsLoaded}
 use Rattle.tomex_rvdec.specs.declared.op.Op.{Op}
-use Rattle.tomex_rvdec.specs.declared.op.Op.TheVariants.{Sb, Sh, Sw, Ecall, Ebreak}
+use Rattle.tomex_rvdec.specs.declared.op.Op.TheVariants.{Sb, Sh, Sw}
 use Rattle.tomex_rvdec.specs.declared.op.Form.{Form}
 use Rattle.tomex_rvdec.specs.declared.op.Form.TheVariants as forms
 use Rattle.tomex_rvdec.specs.declared.pool.PoolId.TheVariants as pools
 use Rattle.tomex_rvdec.specs.Instruction.{Instruction}
-use Rattle.tomex_rvdec.specs.Meaning.{form_of, meaning}
+use Rattle.tomex_rvdec.specs.Meaning.{meaning}
 use Rattle.tomex_rvdec.specs.Operands.{dest_at, pool_of}
-use Rattle.tomex_rvexec.specs.declared.outcome.EndKind.{EndKind}
 use Rattle.tomex_rvexec.specs.declared.outcome.FaultKind.TheVariants.{Fetch}
 use Rattle.tomex_rvexec.specs.declared.step.Step.{Step}
-use Rattle.tomex_rvexec.specs.declared.step.ByteRange.{ByteRange}
-use Rattle.tomex_rvexec.specs.Flow.{Changes, IsAllowed, IsState, byte_in, memory_of, end_at, end_of, is_among, is_register, next_pc_of, overwrites, result_of, stored_byte}
-use Rattle.tomex_rvexec.specs.Machine.{State, Outcome, Goes, Ends, Faults, base_of, coming_of, executes, fetched, holds, outcome_of, step_at, step_of}
-use Rattle.tomex_rvexec.specs.Run.{Leads, start_of}
-use Rattle.tomex_rvexec.specs.Steps.{access_size, address_of, bytes_of, is_pool, is_store, step_dest}
+use Rattle.tomex_rvexec.specs.Flow.{Changes, IsState, byte_in, memory_of, is_among, is_register, result_of}
+use Rattle.tomex_rvexec.specs.Machine.{State, Outcome, Goes, Faults, base_of, coming_of, executes, fetched, holds, outcome_of, step_at, step_of}
+use Rattle.tomex_rvexec.specs.Steps.{access_size, address_of, is_pool, step_dest}
 use Rattle.tomex_rvexec.proofs.FlowBytes.{below_none, bytes_stored}
 use Rattle.tomex_rvexec.proofs.FlowEffects.{Carried, carried, stored_size, with_dest}
 
@@ -44,8 +40,9 @@ comes s x o c e = at (holds s s.pc 4) (meaning (fetched s)) refl c e
 pub register_set : (dest : Option ℕ) (v : ℕ) (regs : List ℕ) (r : ℕ) → r < length regs → slice_index (with_dest dest v regs) r ≡ (if is_register dest r then v else slice_index regs r)
 register_set None v regs r h = refl
 register_set (Some q) v regs r h = elim (cases_eq r q) [
-    inl e ↦ rw (eq-eqb q r (sym e)) (get_or-set_at regs q r v 0 e (omega arith))
-  | inr other ↦ rw (ne_eqb q r (λ e. other (sym e))) (get_or-set_other regs q r v 0 other) ]
+  | inl e ↦ rw (eq-eqb q r (sym e)) (get_or-set_at regs q r v 0 e (omega arith))
+  | inr other ↦ rw (ne_eqb q r (λ e. other (sym e))) (get_or-set_other regs q r v 0 other)
+]
 
 pub length-dest : (dest : Option ℕ) (v : ℕ) (regs : List ℕ) → length (with_dest dest v regs) ≡ length regs
 length-dest None v regs = refl
@@ -97,8 +94,8 @@ changed s t y ok e =
       pc = e.pc;
       registers = λ r low. rw e.regs (register_set (step_dest x) (result_of x (byte_in (memory_of s))) s.regs r (omega (arith, ok.registers, low)));
       bytes = λ a low. rw (e.image, e.memory, overwrites_is y.op (address_of x) a) (bytes_stored (stored_size y.op) (memory_of s) (address_of x) x.vk a low (λ h.
-      let two = inside s (address_of x) (access_size y.op) (e.inside (omega (arith, h, stored_within y.op))) in
-      (two.0, omega (arith, two.1, stored_within y.op, ok.filled))));
+          let two = inside s (address_of x) (access_size y.op) (e.inside (omega (arith, h, stored_within y.op))) in
+          (two.0, omega (arith, two.1, stored_within y.op, ok.filled))));
       memory = λ h. let z = no_store y.op h in e.memory ∙ rw z refl;
     }
 

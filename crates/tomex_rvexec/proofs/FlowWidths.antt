@@ -1,5 +1,5 @@
 -- Registers and the pc stay words of 32 bits in a run, and memory's bytes stay bytes.
-use Rattle.std.proofs.Common.{◌≡◌, ℕ, zero, suc, ◌+◌, ◌-◌, ◌*◌, ◌/◌, ◌%◌, ◌^◌, ◌<◌, ◌≤◌, ◌⊎◌, inl, inr, List, length, Option, Some, None, Bool, true, false, cond, refl, sym, subst, arith}
+use Rattle.std.proofs.Common.{◌≡◌, ℕ, zero, suc, ◌+◌, ◌-◌, ◌*◌, ◌/◌, ◌%◌, ◌^◌, ◌<◌, ◌≤◌, ◌⊎◌, inl, inr, List, length, Option, Some, None, Bool, true, false, cond, sym, subst, arith}
 use Rattle.std.specs.Prelude.{nat_lt, replicate, slice_index, slice_set, option_map}
 use Rattle.std.proofs.Math.ListN.{length-set}
 use Rattle.std.proofs.lemmas.Bool.{cases_eq, cases_lt}
@@ -20,9 +20,9 @@ use Rattle.tomex_rvexec.specs.Run.{Leads, start_of}
 use Rattle.tomex_rvexec.specs.Steps.{address_of, step_dest}
 use Rattle.tomex_rvexec.proofs.FlowBytes.{bytes_written}
 use Rattle.tomex_rvexec.proofs.FlowEffects.{Carried, carried, stored_size, with_dest}
-use Rattle.tomex_rvexec.proofs.FlowSteps.{Comes, comes}
-use Rattle.tomex_rvexec.proofs.FlowStates.{Coming, goes_by_step}
-use Rattle.tomex_rvexec.proofs.FlowWords.{Operands, next_word, result_word}
+use Rattle.tomex_rvexec.proofs.FlowSteps.{comes}
+use Rattle.tomex_rvexec.proofs.FlowStates.{goes_by_step}
+use Rattle.tomex_rvexec.proofs.FlowWords.{next_word, result_word}
 
 -- immediates are words
 extended : (b : Bool) (n high : ℕ) → n + high < 2 ^ 32 → cond b n (n + high) < 2 ^ 32
@@ -93,8 +93,9 @@ words_kept s t ok e =
 start_words : (i : Loaded) → IsWindow i.window.base i.window.size → IsLoaded i.window i.memory i.entry → ((k : ℕ) → slice_index i.memory k < 256) → HasWords (start_of i)
 start_words i w l bytes =
     let zeros : (k : ℕ) → slice_index (replicate 32 0) k < 2 ^ 32 = λ k. elim (cases_lt k 32) [
-        inl h ↦ rw (get_or-replicate {A = ℕ} 32 k 0 0 h) (omega arith)
-      | inr h ↦ rw (get_or_past {X = ℕ} (replicate 32 0) k 0 h) (omega arith) ] in
+      | inl h ↦ rw (get_or-replicate {A = ℕ} 32 k 0 0 h) (omega arith)
+      | inr h ↦ rw (get_or_past {X = ℕ} (replicate 32 0) k 0 h) (omega arith)
+    ] in
     record {
       pc = omega (arith, l.below, w.within);
       registers = set_below (replicate 32 0) 2 ((i.window.base + i.window.size) / 16 * 16 % 2 ^ 32) (2 ^ 32) (omega arith) zeros;

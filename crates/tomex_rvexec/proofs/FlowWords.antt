@@ -1,10 +1,10 @@
 -- Results are words of 32 bits.
-use Rattle.std.proofs.Common.{◌≡◌, ℕ, zero, suc, ◌+◌, ◌-◌, ◌*◌, ◌/◌, ◌%◌, ◌^◌, ◌<◌, ◌≤◌, Option, Some, None, Bool, true, false, cond, refl, sym, subst, arith, ℤ, pos, negsuc}
-use Rattle.std.specs.Prelude.{◌*ℤ◌, neg_ℤ, unsigned_abs, int_div, int_rem, int_lt, nat_eq, nat_lt, if◌then◌else◌, bit_and}
-use Rattle.std.specs.Int.{cast_signed, cast_unsigned, int_shr, w32, w64}
+use Rattle.std.proofs.Common.{◌≡◌, ℕ, zero, suc, ◌+◌, ◌-◌, ◌*◌, ◌/◌, ◌%◌, ◌^◌, ◌<◌, ◌≤◌, Option, Some, Bool, true, false, refl, arith, ℤ, pos, negsuc}
+use Rattle.std.specs.Prelude.{◌*ℤ◌, neg_ℤ, unsigned_abs, int_div, int_rem, int_lt, nat_eq, nat_lt, if◌then◌else◌}
+use Rattle.std.specs.Int.{cast_unsigned, int_shr, w32, w64}
 use mir.Val.{sel}
 use Rattle.std.proofs.Math.Nat.{div-le_self, mod-le}
-use Rattle.std.proofs.lemmas.Bool.{eqb-false, ltb-true, ltb-false}
+use Rattle.std.proofs.lemmas.Bool.{ltb-true, ltb-false}
 use Rattle.std.proofs.lemmas.Int.{unsigned_abs-mul}
 use Rattle.std.proofs.lemmas.Nat.{and_le_l, div_below, mod_below, mul-le, mul-lt, or_of_32, xor_of_32}
 use Rattle.tomex_rvdec.specs.declared.op.Op.{Op}
@@ -19,7 +19,7 @@ use Rattle.tomex_rvexec.specs.declared.step.Step.{Step}
 use Rattle.tomex_rvexec.specs.Flow.{computed, loaded, next_at, result_at, second_at}
 use Rattle.tomex_rvexec.specs.Machine.{from_byte, from_half}
 use Rattle.tomex_rvexec.specs.Steps.{address_of}
-use Rattle.tomex_rvexec.specs.Words.{alu_of, difference, flag, high_half, is_taken, muldiv_of, quotient, quotient_unsigned, remainder, remainder_unsigned, shifted_left, shifted_right, shifted_signed, signed, sum}
+use Rattle.tomex_rvexec.specs.Words.{alu_of, flag, high_half, is_taken, muldiv_of, quotient, remainder, signed, sum}
 
 abs_neg : (n : ℕ) → unsigned_abs (neg_ℤ (pos n)) ≡ n
 abs_neg zero = refl

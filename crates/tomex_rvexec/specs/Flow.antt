@@ -1,7 +1,7 @@
 -- What a step computes from its operands, and what it changes (RV32I, sections 2.4 to 2.6; M,
 -- chapter 7): its result, the pc that follows it, and the bytes that a store leaves. All of it is
 -- a function of the step, and of the bytes that a load reads.
-use Rattle.std.specs.Prelude.{◌≡◌, ℕ, ◌+◌, ◌-◌, ◌*◌, ◌/◌, ◌%◌, ◌^◌, ◌<◌, ◌≤◌, Bool, true, false, ◌&&◌, nat_eq, nat_le, nat_lt, if◌then◌else◌, Option, Some, None, IfSome, List, length, slice_index}
+use Rattle.std.specs.Prelude.{◌≡◌, ℕ, ◌+◌, ◌-◌, ◌*◌, ◌/◌, ◌%◌, ◌^◌, ◌<◌, ◌≤◌, Bool, false, ◌&&◌, nat_eq, nat_le, nat_lt, if◌then◌else◌, Option, Some, None, IfSome, length, slice_index}
 use Rattle.tomex_image.specs.Image.{Loaded}
 use Rattle.tomex_rvdec.specs.declared.op.Op.{Op}
 use Rattle.tomex_rvdec.specs.declared.op.Op.TheVariants.{Lui, Auipc, Jal, Jalr, Lb, Lh, Lw, Lbu, Lhu, Ecall, Ebreak}
@@ -17,7 +17,7 @@ use Rattle.tomex_rvexec.specs.declared.step.Step.{Step}
 use Rattle.tomex_rvexec.specs.declared.step.ByteRange.{ByteRange}
 use Rattle.tomex_rvexec.specs.Machine.{State, base_of, from_byte, from_half}
 use Rattle.tomex_rvexec.specs.Memory.{Bytes}
-use Rattle.tomex_rvexec.specs.Steps.{access_size, address_of, bytes_of, is_store, step_dest}
+use Rattle.tomex_rvexec.specs.Steps.{address_of, bytes_of, is_store, step_dest}
 use Rattle.tomex_rvexec.specs.Words.{sum, alu_of, muldiv_of, is_taken}
 
 -- the second operand of an operation: rs2's value, or the immediate

@@ -58,12 +58,7 @@ pub fn history_leaves_one_state()
 
 /// A run has one state after so many steps, and a run that leads to one leads to each before it;
 /// its list of steps is its history, the oldest first.
-#[tactic(auto, using(
-    crate::proofs::FlowEnds::leads_once,
-    crate::proofs::FlowEnds::leads_is,
-    crate::proofs::FlowEnds::leads_before,
-    crate::proofs::FlowEnds::steps_are,
-))]
+#[tactic(auto, using(crate::proofs::FlowEnds::leads_once, crate::proofs::FlowEnds::leads_is, crate::proofs::FlowEnds::leads_before, crate::proofs::FlowEnds::steps_are,))]
 pub fn run_has_one_state_a_step()
     ensures once { (k : ℕ) (old s t : State) → Leads old k s → Leads old k t → s ≡ t }
     ensures after { (i : Loaded) (k : ℕ) (s : State) → Leads (start_of i) k s → s ≡ state_after i k }
@@ -72,11 +67,7 @@ pub fn run_has_one_state_a_step()
 {}
 
 /// Two ends of one run are one, so are two faults, and no run both ends and faults.
-#[tactic(auto, using(
-    crate::proofs::FlowEnds::one_end,
-    crate::proofs::FlowEnds::one_fault,
-    crate::proofs::FlowEnds::no_end_and_fault,
-))]
+#[tactic(auto, using(crate::proofs::FlowEnds::one_end, crate::proofs::FlowEnds::one_fault, crate::proofs::FlowEnds::no_end_and_fault,))]
 pub fn run_has_one_end()
     ensures end { (i : Loaded) (k j : ℕ) (s t : State) (kind other : EndKind) → RunEnds i k s kind → RunEnds i j t other → (k ≡ j) × (s ≡ t) × (kind ≡ other) }
     ensures fault { (i : Loaded) (k j : ℕ) (s t : State) (kind other : FaultKind) → RunFaults i k s kind → RunFaults i j t other → (k ≡ j) × (s ≡ t) × (kind ≡ other) }
@@ -85,11 +76,7 @@ pub fn run_has_one_end()
 
 /// A run that ends within a limit ends within a higher one, by the same list of steps: its history
 /// to the end, the oldest first.
-#[tactic(auto, using(
-    crate::proofs::FlowEnds::ends_within_more,
-    crate::proofs::FlowEnds::same_steps,
-    crate::proofs::FlowEnds::steps_to_end,
-))]
+#[tactic(auto, using(crate::proofs::FlowEnds::ends_within_more, crate::proofs::FlowEnds::same_steps, crate::proofs::FlowEnds::steps_to_end,))]
 pub fn limit_changes_no_run_that_ends()
     ensures more { (i : Loaded) (limit more : ℕ) → limit ≤ more → EndsWithin i limit → EndsWithin i more }
     ensures same { (i : Loaded) (limit more : ℕ) → limit ≤ more → EndsWithin i limit → steps_from more (start_of i) ≡ steps_from limit (start_of i) }
