@@ -54,6 +54,7 @@ result_at op x byte = computed (pool_of op) op x byte
 abbrev pub result_of : Step → (ℕ → ℕ) → ℕ
 result_of x byte = result_at x.instr.op x byte
 
+-- JALR clears the lowest bit of its target
 abbrev pub next_at : Op → Step → ℕ
 next_at Jal x = sum x.pc x.instr.imm
 next_at Jalr x = sum x.vj x.instr.imm / 2 * 2
@@ -63,7 +64,7 @@ next_at op x = if is_taken op x.vj x.vk then sum x.pc x.instr.imm else sum x.pc 
 abbrev pub next_pc_of : Step → ℕ
 next_pc_of x = next_at x.instr.op x
 
--- whether this is the register
+-- whether this is the register, if any
 abbrev pub is_register : Option ℕ → ℕ → Bool
 is_register None r = false
 is_register (Some q) r = nat_eq q r

@@ -1,17 +1,19 @@
 //! Laws of a run, for machines that carry values by tags: what a step computes from its operands,
 //! and where operands come from. These functions do nothing: their contracts are the laws.
 
-ghost use Rattle.std.specs.Prelude.{◌≡◌, ℕ, ◌+◌, ◌<◌, ◌≤◌, IsSome, List, ◌∷◌, None, Some, false, length, reverse, slice_index, true};
+ghost use Rattle.std.specs.Prelude.{◌≡◌, ℕ, ◌+◌, ◌-◌, ◌<◌, ◌≤◌, ◌||◌, IfSome, IsSome, List, ◌∷◌, ◌++◌, None, Some, false, is_some, length, reverse, slice_index, true};
+ghost use Rattle.std.specs.List.{list_any};
 ghost use Rattle.tomex_image.specs.Image.{Loaded, IsLoaded};
 ghost use Rattle.tomex_image.specs.Window.{IsWindow};
+ghost use Rattle.tomex_rvdec.specs.declared.pool.PoolId.TheVariants as pools;
 ghost use Rattle.tomex_rvexec.specs.declared.outcome.EndKind.{EndKind};
 ghost use Rattle.tomex_rvexec.specs.declared.outcome.FaultKind.{FaultKind};
 ghost use Rattle.tomex_rvexec.specs.declared.step.Step.{Step};
-ghost use Rattle.tomex_rvexec.specs.Flow.{Changes, HasWords, IsAllowed, IsState, byte_in, covers, end_of, result_of};
+ghost use Rattle.tomex_rvexec.specs.Flow.{Changes, HasWords, IsAllowed, IsState, byte_in, covers, end_of, is_register, overwrites, result_of, stored_byte};
 ghost use Rattle.tomex_rvexec.specs.History.{Follows, IsFlow, Leaves, byte_after, history, register_after, state_after, step_after};
 ghost use Rattle.tomex_rvexec.specs.Machine.{State, Ends, Goes, coming_of, step_of};
 ghost use Rattle.tomex_rvexec.specs.Run.{EndsWithin, Leads, RunEnds, RunFaults, start_of};
-ghost use Rattle.tomex_rvexec.specs.Steps.{is_store, j_of, k_of, step_dest, step_pool};
+ghost use Rattle.tomex_rvexec.specs.Steps.{bytes_of, is_pool, is_store, j_of, k_of, step_dest, step_pool, step_unit};
 ghost use Rattle.tomex_rvexec.specs.Trace.{steps_from};
 
 /// A step changes the pc, its destination and the bytes of its store, and nothing else. Its target
@@ -44,6 +46,26 @@ pub fn run_is_its_history()
     ensures flow { (i : Loaded) (k : ℕ) (s : State) → IsLoaded i.window i.memory i.entry → Leads (start_of i) k s → IsFlow i (history i k) }
     ensures follows { (i : Loaded) (k : ℕ) (s : State) (x : Step) → IsLoaded i.window i.memory i.entry → Leads (start_of i) k s → coming_of s ≡ Some x → Follows i (history i k) x }
     ensures words { (k : ℕ) (i : Loaded) (s : State) → IsWindow i.window.base i.window.size → IsLoaded i.window i.memory i.entry → ((k : ℕ) → slice_index i.memory k < 256) → Leads (start_of i) k s → HasWords s }
+{}
+
+/// The youngest step that writes a register gives its value, and the youngest store on a byte the
+/// byte; where there is none, the register has the start's value, and the byte is the image's.
+pub fn youngest_writer_gives_the_value()
+    ensures writer { (i : Loaded) (newer older : List Step) (x : Step) (r : ℕ) → list_any (λ y. is_register (step_dest y) r) newer ≡ false → is_register (step_dest x) r ≡ true → register_after i (newer ++ x ∷ older) r ≡ result_of x (byte_after i older) }
+    ensures start { (i : Loaded) (steps : List Step) (r : ℕ) → list_any (λ y. is_register (step_dest y) r) steps ≡ false → register_after i steps r ≡ slice_index (start_of i).regs r }
+    ensures store { (i : Loaded) (newer older : List Step) (x : Step) (a : ℕ) → list_any (λ y. overwrites y a) newer ≡ false → overwrites x a ≡ true → byte_after i (newer ++ x ∷ older) a ≡ stored_byte x a }
+    ensures image { (i : Loaded) (steps : List Step) (a : ℕ) → list_any (λ y. overwrites y a) steps ≡ false → byte_after i steps a ≡ slice_index i.memory (a - i.window.base) }
+{}
+
+/// What a step says of itself agrees: it has a unit exactly where it has a pool, touches bytes
+/// exactly where it is a load or a store, then one byte at least, and what has no pool, and a store,
+/// writes no register.
+pub fn step_says_one_thing_of_itself()
+    ensures unit { (x : Step) → is_some (step_unit x) ≡ is_some (step_pool x) }
+    ensures memory { (x : Step) → is_some (bytes_of x) ≡ (is_pool pools.Load (step_pool x) || is_store x) }
+    ensures bytes { (x : Step) → IfSome (bytes_of x) (λ b. b.from < b.to) }
+    ensures pool { (x : Step) → step_pool x ≡ None → step_dest x ≡ None }
+    ensures store { (x : Step) → is_store x ≡ true → step_dest x ≡ None }
 {}
 
 /// A history leaves one list of registers and one memory. x0 is zero after any steps, and an
