@@ -1,6 +1,6 @@
 -- What a step says of itself agrees.
 use Rattle.std.proofs.Common.{◌≡◌, ℕ, ◌+◌, ◌<◌, Option, Some, None, Bool, true, false, refl, arith}
-use Rattle.std.specs.Prelude.{IfSome, IsSome, is_some, nat_eq, ◌||◌, if◌then◌else◌}
+use Rattle.std.specs.Prelude.{IfSome, is_some, nat_eq, ◌||◌, if◌then◌else◌}
 use Rattle.std.proofs.lemmas.Bool.{eqb-false}
 use Rattle.tomex_rvdec.specs.declared.op.Op.{Op}
 use Rattle.tomex_rvdec.specs.declared.op.Op.TheVariants.{Lb, Lh, Lw, Lbu, Lhu, Sb, Sh, Sw, Fence, Ecall, Ebreak}
