@@ -1,0 +1,122 @@
+//! A program of a study: an image that is known to end.
+
+ghost use Rattle.std.specs.Prelude.{◌≡◌, ◌≤◌, IfOk, IfErr, string_bytes};
+ghost use Rattle.tomex_sweep.specs.Watch.{IsWatch};
+ghost use Rattle.tomex_sweep.specs.Program.{IsProgram, IsUnfit, refusal_of};
+ghost use Rattle.tomex_sweep.specs.declared.program.ProgramError.TheVariants as unfit;
+
+use crate::watch::WatchRange;
+use std::alloc::{Allocator, Global};
+use std::marker::Model;
+use thiserror::Error;
+use tomex_image::Image;
+use tomex_rvexec::{Fault, RunError, run};
+
+/// A program, which ends within its limit of 1 to 262,144 steps, by a run in order of its image.
+/// At most 8 ranges of its memory are watched, each inside it, together of at most 4,096 bytes.
+#[derive(Debug, Drop)]
+pub struct Program<A: Allocator = Global> {
+    name: String<A>,
+    image: Image<A>,
+    limit: u32,
+    watch: Vec<WatchRange, A>,
+}
+
+impl<A: Allocator> Model for Program<A> {
+    ghost use Rattle.std.specs.Prelude.{string_bytes};
+    ghost use Rattle.tomex_sweep.specs.Program.{Workload, IsProgram};
+
+    ghost Value = { Workload };
+
+    ghost view = { λ p.
+        record { name = string_bytes p.name; image = p.image; limit = p.limit; watch = p.watch.items } };
+
+    ghost invariant = { λ p.
+        IsProgram (record { name = string_bytes p.name; image = p.image; limit = p.limit; watch = p.watch.items }) };
+}
+
+/// Why an image is no program of a study.
+#[derive(Clone, Copy, Debug, Drop, Error, PartialEq, Eq)]
+pub enum ProgramError {
+    /// An instruction of its run can't be carried out.
+    #[error("fault: {0}")]
+    Fault(Fault),
+    /// Its run makes as many steps as the limit allows, and neither ends nor faults.
+    #[error("too long")]
+    TooLong,
+    /// Memory for its run was refused.
+    #[error("out of memory")]
+    Memory,
+}
+
+impl From<RunError> for ProgramError {
+    ghost from_gives = { λ error e. refusal_of e ≡ error };
+
+    fn from(error: RunError) -> Self {
+        match error {
+            RunError::Fault(fault) => ProgramError::Fault(fault),
+            RunError::TooLong => ProgramError::TooLong,
+            RunError::Memory => ProgramError::Memory,
+        }
+    }
+}
+
+impl<A: Allocator> Program<A> {
+    /// The program of this image, which is run to find whether it ends. The run takes as much
+    /// memory as the image has.
+    pub fn new(
+        alloc: A,
+        name: String<A>,
+        image: Image<A>,
+        limit: u32,
+        watch: Vec<WatchRange, A>,
+    ) -> Result<Program<A>, ProgramError>
+        requires some_steps { 1 ≤ limit }
+        requires few_steps { limit ≤ 262144 }
+        requires watch { IsWatch image.window watch.items }
+        ensures parts { IfOk result
+            (λ p. p ≡ record { name = string_bytes name; image = image; limit = limit; watch = watch.items }) }
+        ensures program { IfOk result (λ p. IsProgram p) }
+        ensures unfit { IfErr result (λ e. IsUnfit image limit e) }
+    {
+        run(alloc, &image, limit)?;
+        Ok(Program {
+            name,
+            image,
+            limit,
+            watch,
+        })
+    }
+
+    /// The name by which the study calls it.
+    pub fn name(&self) -> &str
+        ensures value { result.now ≡ self.now.name }
+        ensures program { IsProgram self.now }
+    {
+        self.name.as_str()
+    }
+
+    /// Its memory before it runs.
+    pub fn image(&self) -> &Image<A>
+        ensures value { result.now ≡ self.now.image }
+        ensures program { IsProgram self.now }
+    {
+        &self.image
+    }
+
+    /// The most steps that it may make. It makes no more.
+    pub fn limit(&self) -> u32
+        ensures value { result ≡ self.now.limit }
+        ensures program { IsProgram self.now }
+    {
+        self.limit
+    }
+
+    /// The ranges of its memory that a report shows at its end.
+    pub fn watch(&self) -> &[WatchRange]
+        ensures value { result.now ≡ self.now.watch }
+        ensures program { IsProgram self.now }
+    {
+        self.watch.as_slice()
+    }
+}
