@@ -56,11 +56,13 @@ length-timed_of : (row : Row) (ys : List Step) → length (timed_of row ys) ≡ 
 length-timed_of row [] = refl
 length-timed_of row (y ∷ ys) = ap suc (length-timed_of row ys)
 
+pub length-history : (row : Row) (xs : List Step) → length (history row xs) ≡ length xs
+length-history row xs = length-timed_of row (reverse xs) ∙ length-reverse xs
+
 pub history_bound : (row : Row) (xs : List Step) → IsRow row → greatest_end (history row xs) ≤ 67 * length xs
 history_bound row xs good =
   let a : greatest_end (history row xs) ≤ 67 * length (history row xs) = total_bound row (history row xs) good (are_timed row xs good) in
-  let e : length (history row xs) ≡ length (reverse xs) = length-timed_of row (reverse xs) in
-  let f : length (reverse xs) ≡ length xs = length-reverse xs in
+  let e : length (history row xs) ≡ length xs = length-history row xs in
   omega arith
 
 pub times_bound : (row : Row) (xs : List Step) → IsRow row → total_of (times_in row xs) ≤ 67 * length xs

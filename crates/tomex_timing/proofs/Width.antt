@@ -16,7 +16,7 @@ pub issue_from : (row : Row) (older : List Done) (s : Step) (t : ℕ) → can_is
 issue_from row older s t h = leb-true (last_issue older) t (and_parts _ _ (and_parts _ _ (and_parts _ _ (and_parts _ _ h).0).0).1).0
 
 -- what issued by some cycle doesn't issue later
-none_later : (row : Row) (h : List Done) (t : ℕ) → AreTimed row h → last_issue h < t → count_by (λ d. d.at.issue == t) h ≡ 0
+pub none_later : (row : Row) (h : List Done) (t : ℕ) → AreTimed row h → last_issue h < t → count_by (λ d. d.at.issue == t) h ≡ 0
 none_later row [] t timed l = refl
 none_later row (d ∷ h) t timed l =
   let k : last_issue h ≤ d.at.issue = issue_from row h d.step d.at.issue timed.0.issue.0 in

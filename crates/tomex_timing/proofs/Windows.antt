@@ -1,17 +1,17 @@
 -- The recurrence over what the evaluator keeps is the recurrence over the whole history.
-use Rattle.std.proofs.Common.{ℕ, ◌+◌, ◌-◌, ◌<◌, ◌≤◌, ◌≡◌, ◌∙◌, Bool, true, false, cond, arith, refl, List, [], ◌∷◌, ◌++◌, Option, Some, None, ap, inl, inr, sym, max}
+use Rattle.std.proofs.Common.{ℕ, suc, ◌+◌, ◌-◌, ◌<◌, ◌≤◌, ◌≡◌, ◌∙◌, Bool, true, false, cond, arith, refl, List, [], ◌∷◌, ◌++◌, Option, Some, None, ap, inl, inr, sym, max}
 use Rattle.std.specs.Prelude.{nat_lt, nat_le, ◌==◌, not, ◌&&◌, ◌||◌, is_some, count_by, slice_index, length, MatchOption}
 use Rattle.std.specs.Bool.{MatchBool}
 use Rattle.std.specs.Option.{ForSome}
 use Rattle.std.specs.List.{list_all, filter}
 use Rattle.std.proofs.lemmas.List.Elements.{filter-append}
 use Rattle.std.proofs.lemmas.List.{append-nil, get_or-set_same, get_or-set_other, length-set}
-use Rattle.std.proofs.lemmas.Bool.{cases_Bool, cases_eq, eq-eqb, ltb-true, leb-true, leb-false, lt-ltb, le-ltb, le-leb, lt-leb, ne_eqb, and_parts, and_from, and_right, or_right, MatchBool-at_true, MatchBool-at_false}
+use Rattle.std.proofs.lemmas.Bool.{cases_Bool, cases_eq, cases_order, eq-eqb, ltb-true, leb-true, leb-false, lt-ltb, le-ltb, le-leb, lt-leb, ne_eqb, and_parts, and_from, and_right, or_right, MatchBool-at_true, MatchBool-at_false}
 use Rattle.std.proofs.lemmas.List.Sums.{sum_by-cons, sum_by-append}
 use Rattle.std.proofs.lemmas.List.Folds.{list_all-append}
 use Rattle.tomex_rvdec.specs.declared.pool.PoolId.{PoolId}
 use Rattle.tomex_rvdec.specs.declared.pool.UnitId.{UnitId}
-use Rattle.tomex_rvexec.specs.Steps.{step_pool, step_unit, step_dest, j_of, k_of}
+use Rattle.tomex_rvexec.specs.Steps.{step_pool, step_unit, step_dest, j_of, k_of, is_branch}
 use Rattle.tomex_rvexec.specs.declared.step.Operand.{Operand}
 use Rattle.tomex_rvexec.specs.declared.step.Step.{Step}
 use Rattle.tomex_config.specs.Row.{Row, IsRow, option_of}
@@ -22,13 +22,13 @@ use Rattle.tomex_timing.specs.declared.window.Live.{Live}
 use Rattle.tomex_timing.specs.declared.window.Latest.{Latest}
 use Rattle.tomex_timing.specs.History.{is_in, is_of, is_number, is_memory, cycle_of, writer_end, source_end, last_issue, last_address, greatest_end}
 use Rattle.tomex_timing.specs.Station.{has_station, is_free}
-use Rattle.tomex_timing.specs.Recurrence.{IsLeast, IsTimed, AreTimed, can_issue, can_address, can_start, can_end, width_of}
-use Rattle.tomex_timing.specs.Window.{facts_of, live_of, recent, is_held_by, has_station_among, is_free_among, has_room, is_finished_branch, may_issue, is_finished_conflict, starts_in, has_unit_among, may_start, sends_in, has_bus_among, IsFirst, end_among, ready_from, address_among, IsNext, IsKept, written_by, addressed_by, latest_after}
+use Rattle.tomex_timing.specs.Recurrence.{IsLeast, IsTimed, AreTimed, can_issue, can_address, can_start, can_end, width_of, has_slot, are_branches_finished}
+use Rattle.tomex_timing.specs.Window.{facts_of, live_of, recent, is_held_by, has_station_among, is_free_among, branch_finish, is_finished_conflict, starts_in, has_unit_among, may_start, sends_in, has_bus_among, IsFirst, end_among, ready_from, address_among, IsNext, IsKept, written_by, addressed_by, latest_after}
 use Rattle.tomex_timing.proofs.Bound.{InReach, in_reach, timed_by}
-use Rattle.tomex_timing.proofs.Limits.{latency_low}
+use Rattle.tomex_timing.proofs.Limits.{latency_low, width_low}
 use Rattle.tomex_timing.proofs.Search.{address_pos}
 use Rattle.tomex_timing.proofs.Searching.{least_agree}
-use Rattle.tomex_timing.proofs.Width.{issue_from}
+use Rattle.tomex_timing.proofs.Width.{issue_from, none_later}
 
 -- no time of a step lies past its end
 pub record IsClosed (l : Live) : Type 0 where
@@ -94,26 +94,6 @@ max_split a b t = elim (cases_Bool (nat_le a t)) [
       | inr f ↦ let y : t < b = leb-false b t f in rw (e, f) (lt-leb (max a b) t (omega arith)) ]
   | inr e ↦ let x : t < a = leb-false a t e in rw e (lt-leb (max a b) t (omega arith)) ]
 
--- the same tests in another order
-reorder : (low late slot branches station : Bool) → (((late && low) && branches) && (slot && station)) ≡ (((low && (late && slot)) && branches) && station)
-reorder false false c d e = refl
-reorder false true c d e = refl
-reorder true false c d e = refl
-reorder true true true d e = refl
-reorder true true false true e = refl
-reorder true true false false e = refl
-
-pub issue_agree : (row : Row) (h : List Done) (s : Step) (t : ℕ) → AreClosed h → may_issue row (max (last_issue h) 1) (recent (last_issue h) h) (step_pool s) t ≡ can_issue row h s t
-issue_agree row h s t close =
-  rw (max_split (last_issue h) 1 t) (elim (cases_Bool (nat_le (last_issue h) t)) [
-      inl e ↦
-        let l : last_issue h ≤ t = leb-true (last_issue h) t e in
-        rw (count_recent (λ (x : Live). x.issue == t) (last_issue h) (λ x k m. ne_eqb x.issue t (λ (e : x.issue ≡ t). absurd (omega (arith, k.issue)))) h close,
-            all_recent (is_finished_branch t) (last_issue h) (λ x k m. or_right (not x.facts.is_branch) (nat_lt x.finish t) (lt-ltb x.finish t (omega (arith, k.finish)))) h close,
-            station_agree row h (step_pool s) (last_issue h) t close l)
-          (reorder (nat_lt 0 t) (nat_le (last_issue h) t) _ _ _)
-    | inr e ↦ elim (cases_Bool (nat_lt 0 t)) [ inl f ↦ rw (e, f) refl | inr f ↦ rw (e, f) refl ] ])
-
 -- a cycle from the next one on is later
 after_split : (a t : ℕ) → nat_le (a + 1) t ≡ nat_lt a t
 after_split a t = elim (cases_Bool (nat_lt a t)) [
@@ -121,6 +101,53 @@ after_split a t = elim (cases_Bool (nat_lt a t)) [
   | inr e ↦ elim (cases_Bool (nat_le (a + 1) t)) [
         inl f ↦ let l : a + 1 ≤ t = leb-true (a + 1) t f in absurd (let k : nat_lt a t ≡ true = lt-ltb a t (omega arith) in cc)
       | inr f ↦ f ∙ sym e ] ]
+
+-- the room for an issue is in the cycle of the last issue, where fewer than the width have it, and in each later one
+slot_split : (row : Row) (h : List Done) (t : ℕ) → AreTimed row h
+  → nat_le (cond (nat_lt (count_by (λ d. d.at.issue == last_issue h) h) (width_of row)) (last_issue h) (last_issue h + 1)) t ≡ has_slot row h t
+slot_split row h t timed = elim (cases_order (last_issue h) t) [
+    inl e ↦ elim (cases_Bool (nat_lt (count_by (λ d. d.at.issue == last_issue h) h) (width_of row))) [
+        inl f ↦ rw (f, ← e, f, le-leb (last_issue h) (last_issue h) (omega arith)) refl
+      | inr f ↦ rw (f, ← e, f, lt-leb (last_issue h + 1) (last_issue h) (omega arith), le-leb (last_issue h) (last_issue h) (omega arith)) refl ]
+  | inr (inl l) ↦ rw (none_later row h t timed l, lt-ltb 0 (width_of row) (width_low row), le-leb (last_issue h) t (omega arith)) (either (nat_lt (count_by (λ d. d.at.issue == last_issue h) h) (width_of row)) l)
+  | inr (inr l) ↦ rw (lt-leb (last_issue h) t l) (neither (nat_lt (count_by (λ d. d.at.issue == last_issue h) h) (width_of row)) l) ]
+  where
+    either : (b : Bool) → last_issue h < t → nat_le (cond b (last_issue h) (last_issue h + 1)) t ≡ true
+    either true l = le-leb (last_issue h) t (omega arith)
+    either false l = le-leb (last_issue h + 1) t (omega arith)
+    neither : (b : Bool) → t < last_issue h → nat_le (cond b (last_issue h) (last_issue h + 1)) t ≡ false
+    neither true l = lt-leb (last_issue h) t l
+    neither false l = lt-leb (last_issue h + 1) t (omega arith)
+
+swap_and : (a b c : Bool) → (a && (b && c)) ≡ (b && (a && c))
+swap_and true true c = refl
+swap_and true false c = refl
+swap_and false true c = refl
+swap_and false false c = refl
+
+-- later than the latest finish of a branch is later than each
+branch_split : (h : List Done) (t : ℕ) → nat_le (branch_finish h + 1) t ≡ (nat_lt 0 t && are_branches_finished h t)
+branch_split [] t = elim (cases_Bool (nat_lt 0 t)) [ inl e ↦ rw e refl | inr e ↦ rw e refl ]
+branch_split (d ∷ h) t = elim (cases_Bool (is_branch d.step)) [
+    inl e ↦
+      let s : max d.at.finish (branch_finish h) + 1 ≡ max (d.at.finish + 1) (branch_finish h + 1) = omega arith in
+      rw (e, s, max_split (d.at.finish + 1) (branch_finish h + 1) t, after_split d.at.finish t, branch_split h t) (swap_and (nat_lt d.at.finish t) (nat_lt 0 t) (are_branches_finished h t))
+  | inr e ↦ rw e (branch_split h t) ]
+
+-- the same conjuncts in another order
+reorder : (slot pos branches station : Bool) → ((slot && (pos && branches)) && station) ≡ (((pos && slot) && branches) && station)
+reorder true true c d = refl
+reorder true false c d = refl
+reorder false true c d = refl
+reorder false false c d = refl
+
+pub issue_agree : (row : Row) (h : List Done) (s : Step) (t : ℕ) → AreTimed row h → AreClosed h
+  → (nat_le (max (cond (nat_lt (count_by (λ d. d.at.issue == last_issue h) h) (width_of row)) (last_issue h) (last_issue h + 1)) (branch_finish h + 1)) t && has_station_among row (recent (last_issue h) h) (step_pool s) t) ≡ can_issue row h s t
+issue_agree row h s t timed close =
+  rw (max_split (cond (nat_lt (count_by (λ d. d.at.issue == last_issue h) h) (width_of row)) (last_issue h) (last_issue h + 1)) (branch_finish h + 1) t, slot_split row h t timed, branch_split h t)
+    (elim (cases_Bool (nat_le (last_issue h) t)) [
+        inl e ↦ rw (station_agree row h (step_pool s) (last_issue h) t close (leb-true (last_issue h) t e)) (reorder (has_slot row h t) (nat_lt 0 t) (are_branches_finished h t) (has_station row h (step_pool s) t))
+      | inr e ↦ elim (cases_Bool (nat_lt 0 t)) [ inl f ↦ rw (e, f) refl | inr f ↦ rw (e, f) refl ] ])
 
 ready_split : (issue address j k t : ℕ) → nat_le (max (max issue address) (max j k) + 1) t ≡ ((nat_lt issue t && nat_lt address t) && (nat_lt j t && nat_lt k t))
 ready_split issue address j k t =
@@ -193,14 +220,14 @@ address_part true h s issue a e = rw e (address_agree h s issue)
 address_part false h s issue a e = e
 
 pub next_is : (row : Row) (h : List Done) (s : Step) (at : Times) (live : List Live) (latest : Latest)
-  → IsRow row → ForSome (j_of s) (λ o. o.register < 32) → ForSome (k_of s) (λ o. o.register < 32) → AreClosed h → IsKept h live latest → IsNext row live latest s at → IsTimed row h s at
-next_is row h s at live latest good small_j small_k close kept next =
+  → IsRow row → ForSome (j_of s) (λ o. o.register < 32) → ForSome (k_of s) (λ o. o.register < 32) → AreTimed row h → AreClosed h → IsKept h live latest → IsNext row live latest s at → IsTimed row h s at
+next_is row h s at live latest good small_j small_k timed close kept next =
   let c : latest.issue ≡ last_issue h = kept.issue in
   let w : live ≡ recent (last_issue h) h = kept.window in
   let j : end_among latest.ends (j_of s) ≡ source_end h (j_of s) = source_agree h latest.ends (j_of s) kept.ends small_j in
   let k : end_among latest.ends (k_of s) ≡ source_end h (k_of s) = source_agree h latest.ends (k_of s) kept.ends small_k in
-  let ni : IsLeast (may_issue row (max (last_issue h) 1) (recent (last_issue h) h) (step_pool s)) at.issue = rw (c, w) at next.issue in
-  let issue : IsLeast (can_issue row h s) at.issue = least_agree (may_issue row (max (last_issue h) 1) (recent (last_issue h) h) (step_pool s)) (can_issue row h s) at.issue (λ t. issue_agree row h s t close) ni in
+  let ni : IsFirst (max (cond (nat_lt (count_by (λ d. d.at.issue == last_issue h) h) (width_of row)) (last_issue h) (last_issue h + 1)) (branch_finish h + 1)) (has_station_among row (recent (last_issue h) h) (step_pool s)) at.issue = rw (c, w, kept.issued, kept.branch) at next.issue in
+  let issue : IsLeast (can_issue row h s) at.issue = least_agree (λ t. nat_le (max (cond (nat_lt (count_by (λ d. d.at.issue == last_issue h) h) (width_of row)) (last_issue h) (last_issue h + 1)) (branch_finish h + 1)) t && has_station_among row (recent (last_issue h) h) (step_pool s) t) (can_issue row h s) at.issue (λ t. issue_agree row h s t timed close) ni in
   let l : last_issue h ≤ at.issue = issue_from row h s at.issue issue.0 in
   let na : at.address ≡ cond (is_memory s) (Some (max (max at.issue (source_end h (j_of s))) (last_address h) + 1)) None = rw (j, kept.address) at next.address in
   let from : ℕ = max (max at.issue (cycle_of at.address)) (max (source_end h (j_of s)) (source_end h (k_of s))) + 1 in
@@ -248,10 +275,23 @@ length-written_by : (dest : Option ℕ) (end : ℕ) (written : List ℕ) → len
 length-written_by None end written = refl
 length-written_by (Some r) end written = length-set written r end
 
+-- the count of those that issue in the last cycle of issue
+issued_kept : (row : Row) (h : List Done) (issue issued : ℕ) → AreTimed row h → last_issue h ≤ issue → issued ≡ count_by (λ d. d.at.issue == last_issue h) h
+  → cond (issue == last_issue h) (issued + 1) 1 ≡ suc (count_by (λ d. d.at.issue == issue) h)
+issued_kept row h issue issued timed l e = elim (cases_eq issue (last_issue h)) [
+    inl f ↦ let b : (issue == last_issue h) ≡ true = eq-eqb issue (last_issue h) f in rw (b, f, e) (omega arith)
+  | inr n ↦
+      let b : (issue == last_issue h) ≡ false = ne_eqb issue (last_issue h) n in
+      let less : last_issue h < issue = elim (cases_order (last_issue h) issue) [ inl f ↦ absurd (n (sym f)) | inr (inl k) ↦ k | inr (inr k) ↦ absurd (omega arith) ] in
+      rw (b, none_later row h issue timed less) refl ]
+
+count_first : (d : Done) (h : List Done) → count_by (λ x. x.at.issue == d.at.issue) (d ∷ h) ≡ suc (count_by (λ x. x.at.issue == d.at.issue) h)
+count_first d h = rw (sum_by-cons, eq-eqb d.at.issue d.at.issue refl) (omega arith)
+
 pub kept_on : (row : Row) (h : List Done) (s : Step) (at : Times) (live : List Live) (latest : Latest)
-  → ForSome (step_dest s) (λ r. r < 32) → IsKept h live latest → IsTimed row h s at → at.issue ≤ at.end
-  → IsKept (record { step = s; at = at } ∷ h) (filter (λ l. nat_le at.issue l.end) live ++ (live_of (record { step = s; at = at }) ∷ [])) (latest_after (step_dest s) at latest)
-kept_on row h s at live latest small kept timed later =
+  → ForSome (step_dest s) (λ r. r < 32) → AreTimed row h → IsKept h live latest → IsTimed row h s at → at.issue ≤ at.end
+  → IsKept (record { step = s; at = at } ∷ h) (filter (λ l. nat_le at.issue l.end) live ++ (live_of (record { step = s; at = at }) ∷ [])) (latest_after (facts_of s) at latest)
+kept_on row h s at live latest small before kept timed later =
   let l : last_issue h ≤ at.issue = issue_from row h s at.issue timed.issue.0 in
   let d : Done = record { step = s; at = at } in
   let t : nat_le at.issue at.end ≡ true = le-leb at.issue at.end later in
@@ -260,6 +300,8 @@ kept_on row h s at live latest small kept timed later =
     ends = writer_kept h d (step_dest s) at.end latest.ends refl refl kept.count kept.ends small;
     count = length-written_by (step_dest s) at.end latest.ends ∙ kept.count;
     issue = refl;
+    issued = rw kept.issue (issued_kept row h at.issue latest.issued before l kept.issued ∙ sym (count_first d h));
+    branch = rw kept.branch refl;
     address = address_kept (is_memory s) at.address latest.address
         (λ e. let a : IsLeast (can_address h s at.issue) (cycle_of at.address) = MatchBool-at_true _ _ e timed.address in address_pos h s at.issue (cycle_of at.address) a.0)
         (λ e. MatchBool-at_false (IsLeast (can_address h s at.issue) (cycle_of at.address)) _ e timed.address) ∙ ap (λ k. cond (is_memory s) (cycle_of at.address) k) kept.address;

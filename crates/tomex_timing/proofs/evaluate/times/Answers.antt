@@ -5,7 +5,7 @@ use Rattle.std.proofs.lemmas.Grind.{common_steps}
 use Rattle.tomex_rvexec.specs.Steps.{step_dest, j_of, k_of}
 use Rattle.tomex_timing.specs.Search.{times_in}
 use Rattle.tomex_timing.proofs.Histories.{are_timed, times_bound}
-use Rattle.tomex_timing.proofs.Turns.{start_kept, settled_at, end_bound, turn_at}
+use Rattle.tomex_timing.proofs.Turns.{start_kept, settled_at, end_bound, issued_bound, turn_at}
 use Rattle.tomex_timing.proofs.evaluate.times.Goals as goal
 
 pub loop-step-init : goal.loop-step-init
@@ -20,6 +20,11 @@ next_times-at-requires-clause-settled g c =
 pub next_times-at-requires-clause-small : goal.next_times-at-requires-clause-small
 next_times-at-requires-clause-small g c =
   let by : c.loop-step.latest.end ≤ 67 * c.loop-step.step-index = end_bound c.args.row.now c.args.steps.now c.loop-step.step-index c.loop-step.live.items c.loop-step.latest c.buses-buses.ensures.lawful (omega arith) c.loop-step.invariant.kept in
+  omega arith
+
+pub note-requires-clause-few : goal.note-requires-clause-few
+note-requires-clause-few g c =
+  let by : c.loop-step.latest.issued ≤ c.loop-step.step-index = issued_bound c.args.row.now c.args.steps.now c.loop-step.step-index c.loop-step.live.items c.loop-step.latest (omega arith) c.loop-step.invariant.kept in
   omega arith
 
 pub loop-step-preserved : goal.loop-step-preserved
