@@ -1,6 +1,6 @@
 -- Searches for the first cycle that passes a test.
 use Rattle.std.proofs.Common.{ℕ, ◌+◌, ◌<◌, ◌≤◌, ◌≡◌, Bool, true, false, arith, refl, sym, ◌∙◌, List, [], ◌∷◌, Option, Some, None, inl, inr}
-use Rattle.std.specs.Prelude.{nat_lt, nat_le, ◌==◌, ◌&&◌, count_by, All}
+use Rattle.std.specs.Prelude.{nat_le, ◌==◌, ◌&&◌, All}
 use Rattle.std.proofs.lemmas.Bool.{cases_Bool, cases_order, both_ways, lt-ltb, lt-leb, le-leb, leb-true, ne_eqb, and_from, and_right}
 use Rattle.std.proofs.lemmas.List.Elements.{recursion_from_All}
 use Rattle.tomex_rvdec.specs.declared.pool.PoolId.{PoolId}
@@ -28,36 +28,41 @@ pub goes_on : (p : ℕ → Bool) (from t n : ℕ) → p n ≡ true → IsSearchi
 goes_on p from t n passes searching fails = record {
   begun = omega (arith, searching.begun);
   below = λ s f l. elim (cases_order s t) [
-      inl e ↦ rw e fails
+    | inl e ↦ rw e fails
     | inr (inl k) ↦ searching.below s f k
-    | inr (inr k) ↦ absurd (omega arith) ];
+    | inr (inr k) ↦ absurd (omega arith)
+  ];
   by = elim (cases_order t n) [
-      inl e ↦ absurd (both_ways _ fails (rw e passes))
+    | inl e ↦ absurd (both_ways _ fails (rw e passes))
     | inr (inl k) ↦ omega arith
-    | inr (inr k) ↦ absurd (omega (arith, searching.by)) ] }
+    | inr (inr k) ↦ absurd (omega (arith, searching.by))
+  ];
+}
 
 -- and has found the first where t passes
 pub found : (p : ℕ → Bool) (from t n : ℕ) → IsSearching p from t n → p t ≡ true → IsFirst from p t
-found p from t n searching here =
-  (and_from (nat_le from t) (p t) (le-leb from t searching.begun) here,
-   λ s l. elim (cases_Bool (nat_le from s)) [
-       inl e ↦ let k : from ≤ s = leb-true from s e in and_right (nat_le from s) (p s) (searching.below s k l)
-     | inr e ↦ rw e refl ])
+found p from t n searching here = (
+  and_from (nat_le from t) (p t) (le-leb from t searching.begun) here,
+  λ s l. elim (cases_Bool (nat_le from s)) [
+    | inl e ↦ let k : from ≤ s = leb-true from s e in and_right (nat_le from s) (p s) (searching.below s k l)
+    | inr e ↦ rw e refl
+  ],
+)
 
 pub station_after : (row : Row) (live : List Live) (pool : Option PoolId) (g t : ℕ) → IsRow row → All (IsBy g) live → g < t → has_station_among row live pool t ≡ true
 station_after row live None g t good h l = refl
 station_after row live (Some pool) g t good h l =
-  rw (count_none (is_held_by pool t) (IsBy g) (λ x by. and_right (is_in pool x.facts.pool) (nat_le t x.end) (lt-leb t x.end (omega (arith, by.end)))) live (recursion_from_All (IsBy g) live h))
+    rw (count_none (is_held_by pool t) (IsBy g) (λ x by. and_right (is_in pool x.facts.pool) (nat_le t x.end) (lt-leb t x.end (omega (arith, by.end)))) live (recursion_from_All (IsBy g) live h))
     (lt-ltb 0 (stations_of row pool) (stations_low row pool good))
 
 pub unit_after : (row : Row) (live : List Live) (unit : UnitId) (g t : ℕ) → IsRow row → All (IsBy g) live → g < t → has_unit_among row live unit t ≡ true
 unit_after row live unit g t good h l =
-  rw (count_none (starts_in unit t) (IsBy g) (λ x by. and_right (is_of unit x.facts.unit) (x.start == t) (ne_eqb x.start t (λ (e : x.start ≡ t). absurd (omega (arith, by.start))))) live (recursion_from_All (IsBy g) live h))
+    rw (count_none (starts_in unit t) (IsBy g) (λ x by. and_right (is_of unit x.facts.unit) (x.start == t) (ne_eqb x.start t (λ (e : x.start ≡ t). absurd (omega (arith, by.start))))) live (recursion_from_All (IsBy g) live h))
     (lt-ltb 0 (option_of row unit).units (units_low row unit good))
 
 pub bus_after : (row : Row) (live : List Live) (g t : ℕ) → IsRow row → All (IsBy g) live → g < t → has_bus_among row live t ≡ true
 bus_after row live g t good h l =
-  rw (count_none (sends_in t) (IsBy g) (λ x by. and_right (is_some x.facts.dest) (x.end == t) (ne_eqb x.end t (λ (e : x.end ≡ t). absurd (omega (arith, by.end))))) live (recursion_from_All (IsBy g) live h))
+    rw (count_none (sends_in t) (IsBy g) (λ x by. and_right (is_some x.facts.dest) (x.end == t) (ne_eqb x.end t (λ (e : x.end ≡ t). absurd (omega (arith, by.end))))) live (recursion_from_All (IsBy g) live h))
     (lt-ltb 0 row.buses (buses_low row good))
 
 shares_none : (a : Option ByteRange) → shares_byte a None ≡ false
@@ -68,8 +73,8 @@ shares_none (Some a) = refl
 no_conflicts : (f : Facts) (live : List Live) (t : ℕ) → f.bytes ≡ None → list_all (is_finished_conflict f t) live ≡ true
 no_conflicts f [] t e = refl
 no_conflicts f (l ∷ live) t e =
-  let s : shares_byte l.facts.bytes f.bytes ≡ false = rw e (shares_none l.facts.bytes) in
-  rw (s, no_conflicts f live t e) refl
+    let s : shares_byte l.facts.bytes f.bytes ≡ false = rw e (shares_none l.facts.bytes) in
+    rw (s, no_conflicts f live t e) refl
 
 pub from_alone : (f : Facts) (live : List Live) (from : ℕ) → is_none f.bytes ≡ true → (t : ℕ) → nat_le from t ≡ (nat_le from t && list_all (is_finished_conflict f t) live)
 from_alone f live from e t = rw (no_conflicts f live t (is_none_is f.bytes e)) (and_one (nat_le from t))
@@ -77,6 +82,7 @@ from_alone f live from e t = rw (no_conflicts f live t (is_none_is f.bytes e)) (
     is_none_is : (b : Option ByteRange) → is_none b ≡ true → b ≡ None
     is_none_is None e = refl
     is_none_is (Some b) e = absurd (cc)
+
     and_one : (a : Bool) → a ≡ (a && true)
     and_one true = refl
     and_one false = refl

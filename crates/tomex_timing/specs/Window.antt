@@ -147,10 +147,10 @@ addressed_by (Some t) before = t
 
 abbrev pub latest_after : Facts → Times → Latest → Latest
 latest_after f at latest = record {
-    ends = written_by f.dest at.end latest.ends;
-    issue = at.issue;
-    issued = if at.issue == latest.issue then latest.issued + 1 else 1;
-    branch = if f.is_branch then max at.finish latest.branch else latest.branch;
-    address = addressed_by at.address latest.address;
-    end = max at.end latest.end
-  }
+  ends = written_by f.dest at.end latest.ends;
+  issue = at.issue;
+  issued = if at.issue == latest.issue then latest.issued + 1 else 1;
+  branch = if f.is_branch then max at.finish latest.branch else latest.branch;
+  address = addressed_by at.address latest.address;
+  end = max at.end latest.end;
+}

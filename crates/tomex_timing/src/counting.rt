@@ -86,7 +86,9 @@ fn started_in(live: &[Live], unit: UnitId, cycle: u64) -> usize
 fn sent_in(live: &[Live], cycle: u64) -> usize
     ensures { result ≡ count_by (sends_in cycle) live.now }
 {
-    live.iter().filter(|step| step.facts.dest.is_some() && step.end == cycle).count()
+    live.iter()
+        .filter(|step| step.facts.dest.is_some() && step.end == cycle)
+        .count()
 }
 
 /// Whether no step has the pool's station of this number in the cycle.

@@ -82,14 +82,7 @@ fn ready_of(issue: u64, address: Option<u64>, j: u64, k: u64) -> u64
 }
 
 /// The cycle in which an operation starts, which is ready from a cycle on.
-fn start_of(
-    row: &Config,
-    live: &[Live],
-    facts: &Facts,
-    unit: UnitId,
-    ready: u64,
-    bound: u64,
-) -> u64
+fn start_of(row: &Config, live: &[Live], facts: &Facts, unit: UnitId, ready: u64, bound: u64) -> u64
     requires row { IsRow row.now }
     requires live { All (IsBy bound) live.now }
     requires ready { ready ≤ bound + 3 }

@@ -1,11 +1,11 @@
 //! Runs of small programs, traced and timed.
 
-use crate::evaluate::{times, total};
 use crate::Times;
+use crate::evaluate::{times, total};
 use std::test::Fail;
 use tomex_config::{Config, UnitOption};
-use tomex_image::{load, Window};
-use tomex_rvexec::{trace, Step};
+use tomex_image::{Window, load};
+use tomex_rvexec::{Step, trace};
 
 /// One unit of this latency.
 fn unit(latency: u8) -> UnitOption {

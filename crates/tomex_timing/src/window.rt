@@ -101,7 +101,11 @@ impl Latest {
         if let Some(register) = facts.dest {
             self.ends[register as usize] = at.end;
         }
-        self.issued = if at.issue == self.issue { self.issued + 1 } else { 1 };
+        self.issued = if at.issue == self.issue {
+            self.issued + 1
+        } else {
+            1
+        };
         self.issue = at.issue;
         if facts.is_branch {
             self.branch = at.finish.max(self.branch);

@@ -6,5 +6,5 @@ use Rattle.tomex_timing.proofs.counting.past_conflicts.Goals as goal
 
 pub returns-then-is_none-clause-from : goal.returns-then-is_none-clause-from
 returns-then-is_none-clause-from c =
-  let none : is_none c.args.facts.now.bytes ≡ true = search rules in
-  from_alone c.args.facts.now c.args.live.now c.args.from none
+    let none : is_none c.args.facts.now.bytes ≡ true = search rules in
+    from_alone c.args.facts.now c.args.live.now c.args.from none
