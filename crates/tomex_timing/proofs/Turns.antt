@@ -32,7 +32,7 @@ recursion-append P (y ∷ xs) x h k = (h.0, recursion-append P xs x h.1 k)
 recent_by : (g c : ℕ) (h : List Done) → AllBy g h → AllByRecursion (IsBy g) (recent c h)
 recent_by g c [] h = tt
 recent_by g c (d ∷ older) h = elim (cases_Bool (nat_le c d.at.end)) [
-  | inl e ↦ rw e (recursion-append (IsBy g) (recent c older) (live_of d) (recent_by g c older h.1) (record { issue = h.0.issue; start = h.0.start; finish = h.0.finish; end = h.0.end }))
+  | inl e ↦ rw e (recursion-append (IsBy g) (recent c older) (live_of d) (recent_by g c older h.1) (record { start = h.0.start; finish = h.0.finish; end = h.0.end }))
   | inr e ↦ rw e (recent_by g c older h.1)
 ]
 

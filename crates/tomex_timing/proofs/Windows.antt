@@ -31,7 +31,6 @@ use Rattle.tomex_timing.proofs.Width.{issue_from, none_later}
 
 -- no time of a step lies past its end
 pub record IsClosed (l : Live) : Type 0 where
-  pub issue : l.issue ≤ l.end
   pub start : l.start ≤ l.end
   pub finish : l.finish ≤ l.end
 
@@ -43,7 +42,7 @@ pub closed : (row : Row) (h : List Done) → IsRow row → AreTimed row h → Ar
 closed row [] good timed = tt
 closed row (d ∷ older) good timed =
     let r : InReach (greatest_end older) d.at = in_reach row older d.step d.at (greatest_end older) good (timed_by row older good timed.1) timed.0 in
-    (record { issue = r.issue; start = r.start; finish = r.finish }, closed row older good timed.1)
+    (record { start = r.start; finish = r.finish }, closed row older good timed.1)
 
 abbrev one : Bool → ℕ
 one b = cond b 1 0

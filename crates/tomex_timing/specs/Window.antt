@@ -21,7 +21,7 @@ abbrev pub facts_of : Step → Facts
 facts_of s = record { pool = step_pool s; unit = step_unit s; dest = step_dest s; bytes = bytes_of s; is_store = is_store s; is_branch = is_branch s }
 
 abbrev pub live_from : Facts → Times → Live
-live_from f at = record { facts = f; issue = at.issue; start = at.start; finish = at.finish; end = at.end; station = at.station }
+live_from f at = record { facts = f; start = at.start; finish = at.finish; end = at.end; station = at.station }
 
 abbrev pub live_of : Done → Live
 live_of d = live_from (facts_of d.step) d.at
@@ -118,7 +118,6 @@ pub record IsKept (h : List Done) (live : List Live) (latest : Latest) : Type 0 
 
 -- no time of the step lies past the cycle
 pub record IsBy (g : ℕ) (l : Live) : Type 0 where
-  pub issue : l.issue ≤ g
   pub start : l.start ≤ g
   pub finish : l.finish ≤ g
   pub end : l.end ≤ g

@@ -24,7 +24,6 @@ pub(crate) struct Facts {
 #[derive(Clone, Copy)]
 pub(crate) struct Live {
     pub facts: Facts,
-    pub issue: u64,
     pub start: u64,
     pub finish: u64,
     pub end: u64,
@@ -68,7 +67,6 @@ impl Live {
     {
         Live {
             facts,
-            issue: at.issue,
             start: at.start,
             finish: at.finish,
             end: at.end,
