@@ -52,16 +52,14 @@ units_low row unit good =
     let two = between 1 8 o.units (and_parts _ _ (and_parts _ _ (option_is row unit good)).0).0 in
     omega (arith, two.0)
 
+latency_is : (row : Row) (unit : UnitId) → IsRow row → is_between 1 64 (option_of row unit).latency ≡ true
+latency_is row unit good = (and_parts _ _ (and_parts _ _ (option_is row unit good)).0).1
+
 pub latency_low : (row : Row) (unit : UnitId) → IsRow row → 0 < (option_of row unit).latency
-latency_low row unit good =
-    let o = option_of row unit in
-    let two = between 1 64 o.latency (and_parts _ _ (and_parts _ _ (option_is row unit good)).0).1 in
-    omega (arith, two.0)
+latency_low row unit good = let two = between 1 64 (option_of row unit).latency (latency_is row unit good) in omega (arith, two.0)
 
 pub latency_high : (row : Row) (unit : UnitId) → IsRow row → (option_of row unit).latency ≤ 64
-latency_high row unit good =
-    let o = option_of row unit in
-    (between 1 64 o.latency (and_parts _ _ (and_parts _ _ (option_is row unit good)).0).1).1
+latency_high row unit good = (between 1 64 (option_of row unit).latency (latency_is row unit good)).1
 
 pub buses_low : (row : Row) → IsRow row → 0 < row.buses
 buses_low row good = let two = between 1 8 row.buses good.buses in omega (arith, two.0)
