@@ -1,0 +1,72 @@
+-- A run's history grows by one step at a time, and what stands in it stays.
+use Rattle.std.proofs.Common.{ℕ, ◌+◌, ◌≤◌, ◌*◌, ◌<◌, ◌≡◌, ◌∙◌, arith, refl, List, [], ◌∷◌, ◌++◌, ap, sym, suc, max, length, map, reverse, append_assoc}
+use Rattle.std.specs.Prelude.{slice_index_or, take}
+use Rattle.std.proofs.lemmas.List.{reverse-append, length-reverse, map-append, take_more, append-nil}
+use Rattle.tomex_rvexec.specs.declared.step.Step.{Step}
+use Rattle.tomex_config.specs.Row.{Row, IsRow}
+use Rattle.tomex_timing.specs.declared.times.Done.{Done}
+use Rattle.tomex_timing.specs.declared.times.Times.{Times}
+use Rattle.tomex_timing.specs.History.{greatest_end}
+use Rattle.tomex_timing.specs.Recurrence.{AreTimed}
+use Rattle.tomex_timing.specs.Search.{times_of, timed_of, history, times_in, total_of}
+use Rattle.tomex_timing.specs.Laws.{YoungerChangeNothing}
+use Rattle.tomex_timing.proofs.Bound.{total_bound}
+use Rattle.tomex_timing.proofs.Search.{timed_is}
+
+-- the whole history has the recurrence's times
+pub are_timed : (row : Row) (xs : List Step) → IsRow row → AreTimed row (history row xs)
+are_timed row xs good = timed_is row (reverse xs) good
+
+pub history_more : (row : Row) (xs : List Step) (x : Step) → history row (xs ++ (x ∷ [])) ≡ record { step = x; at = times_of row (history row xs) x } ∷ history row xs
+history_more row xs x = ap (timed_of row) (reverse-append xs (x ∷ []))
+
+reverse_more : (d : Done) (h : List Done) → reverse (d ∷ h) ≡ reverse h ++ (d ∷ [])
+reverse_more d h = reverse-append (d ∷ []) h
+
+pub times_more : (row : Row) (xs : List Step) (x : Step) → times_in row (xs ++ (x ∷ [])) ≡ times_in row xs ++ (times_of row (history row xs) x ∷ [])
+times_more row xs x =
+    let a = history_more row xs x in
+    let d : Done = record { step = x; at = times_of row (history row xs) x } in
+    let b : times_in row (xs ++ (x ∷ [])) ≡ map (λ d. d.at) (reverse (d ∷ history row xs)) = ap (λ h. map (λ d. d.at) (reverse h)) a in
+    let c : map (λ (d : Done). d.at) (reverse (d ∷ history row xs)) ≡ map (λ d. d.at) (reverse (history row xs) ++ (d ∷ [])) = ap (λ h. map (λ (d : Done). d.at) h) (reverse_more d (history row xs)) in
+    b ∙ (c ∙ map-append (λ d. d.at) (reverse (history row xs)) (d ∷ []))
+
+pub younger_change_nothing : YoungerChangeNothing
+younger_change_nothing row xs [] = ([], ap (times_in row) (append-nil xs) ∙ sym (append-nil (times_in row xs)))
+younger_change_nothing row xs (y ∷ ys) =
+    let rest = younger_change_nothing row (xs ++ (y ∷ [])) ys in
+    let t : Times = times_of row (history row xs) y in
+    let a : times_in row (xs ++ (y ∷ ys)) ≡ times_in row ((xs ++ (y ∷ [])) ++ ys) = ap (times_in row) (sym (append_assoc xs (y ∷ []) ys)) in
+    let b : times_in row (xs ++ (y ∷ [])) ++ rest.0 ≡ (times_in row xs ++ (t ∷ [])) ++ rest.0 = ap (λ ts. ts ++ rest.0) (times_more row xs y) in
+    (t ∷ rest.0, a ∙ (rest.1 ∙ (b ∙ append_assoc (times_in row xs) (t ∷ []) rest.0)))
+
+total_push : (ts : List Times) (t : Times) → total_of (ts ++ (t ∷ [])) ≡ max t.end (total_of ts)
+total_push [] t = refl
+total_push (x ∷ ts) t = let e : total_of (ts ++ (t ∷ [])) ≡ max t.end (total_of ts) = total_push ts t in omega arith
+
+-- the greatest end, either way round
+total_of-history : (h : List Done) → total_of (map (λ d. d.at) (reverse h)) ≡ greatest_end h
+total_of-history [] = refl
+total_of-history (d ∷ h) =
+    let a : map (λ (d : Done). d.at) (reverse (d ∷ h)) ≡ map (λ d. d.at) (reverse h ++ (d ∷ [])) = ap (λ h. map (λ (d : Done). d.at) h) (reverse_more d h) in
+    let b : map (λ (d : Done). d.at) (reverse h ++ (d ∷ [])) ≡ map (λ d. d.at) (reverse h) ++ (d.at ∷ []) = map-append (λ d. d.at) (reverse h) (d ∷ []) in
+    ap total_of (a ∙ b) ∙ (total_push (map (λ d. d.at) (reverse h)) d.at ∙ ap (λ k. max d.at.end k) (total_of-history h))
+
+length-timed_of : (row : Row) (ys : List Step) → length (timed_of row ys) ≡ length ys
+length-timed_of row [] = refl
+length-timed_of row (y ∷ ys) = ap suc (length-timed_of row ys)
+
+pub length-history : (row : Row) (xs : List Step) → length (history row xs) ≡ length xs
+length-history row xs = length-timed_of row (reverse xs) ∙ length-reverse xs
+
+pub history_bound : (row : Row) (xs : List Step) → IsRow row → greatest_end (history row xs) ≤ 67 * length xs
+history_bound row xs good =
+    let a : greatest_end (history row xs) ≤ 67 * length (history row xs) = total_bound row (history row xs) good (are_timed row xs good) in
+    let e : length (history row xs) ≡ length xs = length-history row xs in
+    omega arith
+
+pub times_bound : (row : Row) (xs : List Step) → IsRow row → total_of (times_in row xs) ≤ 67 * length xs
+times_bound row xs good = rw (total_of-history (history row xs)) (history_bound row xs good)
+
+pub total_more : (ts : List Times) (i : ℕ) (e : Times) → i < length ts → total_of (take (i + 1) ts) ≡ max (slice_index_or ts i e).end (total_of (take i ts))
+total_more ts i e l = rw (take_more ts i e l) (total_push (take i ts) (slice_index_or ts i e))

@@ -1,0 +1,14 @@
+pub mod Programs
+pub mod Rows
+pub mod TablesRows
+pub mod Limits
+pub mod Least
+pub mod Settled
+pub mod Bound
+pub mod Stations
+pub mod Search
+pub mod Width
+pub mod Histories
+pub mod Searching
+pub mod Windows
+pub mod Turns

@@ -1,0 +1,25 @@
+//! When each step of a run issues, gets its address, starts, finishes and ends on a Tomasulo machine
+//! without speculation: a recurrence over the steps of the in-order run, and its evaluation.
+//!
+//! Sources: R. M. Tomasulo, "An Efficient Algorithm for Exploiting Multiple Arithmetic Units", 1967,
+//! and the chapter on Tomasulo's algorithm in Hennessy and Patterson's "Computer Architecture: A
+//! Quantitative Approach". `specs/Recurrence.antt` is the definition; `specs/Tables.antt` says what
+//! stations and registers show after a cycle.
+#![tactic(auto)]
+
+mod counting;
+pub mod evaluate;
+mod laws;
+mod next;
+mod searches;
+mod times;
+mod window;
+
+pub use laws::{
+    each_step_has_one_set_of_times, issues_alone_at_width_one, search_is_the_recurrence,
+    total_is_bounded, younger_steps_change_nothing,
+};
+pub use times::{Done, Times};
+
+#[cfg(test)]
+mod tests;

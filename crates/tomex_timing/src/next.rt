@@ -1,0 +1,168 @@
+//! The times of the next step, by what is kept of those before.
+
+ghost use Rattle.std.specs.Prelude.{◌≡◌, ℕ, ◌+◌, ◌-◌, ◌^◌, ◌<◌, ◌≤◌, true, Some, None, max, is_some, slice_index, MatchOption, All};
+ghost use Rattle.std.specs.Bool.{MatchBool};
+ghost use Rattle.std.specs.Option.{ForSome};
+ghost use Rattle.tomex_rvexec.specs.Steps.{step_pool, j_of, k_of};
+ghost use Rattle.tomex_config.specs.Row.{IsRow};
+ghost use Rattle.tomex_timing.specs.History.{cycle_of};
+ghost use Rattle.tomex_timing.specs.Recurrence.{IsLeast, width_of};
+ghost use Rattle.tomex_timing.specs.Window.{IsBy, IsSettled, IsNext, IsFirst, facts_of, issue_from, may_start, has_station_among, has_bus_among, is_free_among, end_among, ready_from, address_among};
+
+use crate::counting::{is_memory, past_conflicts};
+use crate::searches::{find_end, find_issue, find_start, find_station};
+use crate::times::Times;
+use crate::window::{Facts, Latest, Live};
+use tomex_config::Config;
+use tomex_rvdec::{PoolId, UnitId};
+use tomex_rvexec::{Operand, Step};
+
+/// The end of an operand's producer, 0 where there is none.
+fn end_of(latest: &Latest, operand: Option<Operand>) -> u64
+    requires register { ForSome operand (λ o. o.register < 32) }
+    ensures { result ≡ end_among latest.now.ends operand }
+{
+    match operand {
+        None => 0,
+        Some(operand) => latest.ends[operand.register as usize],
+    }
+}
+
+/// How many instructions issue in a cycle at most.
+#[tactic(auto, unfolding(crate::specs::Recurrence::width_of))]
+fn width(row: &Config) -> u64
+    ensures { result ≡ width_of row.now }
+{
+    let _row = row;
+    1
+}
+
+/// The first cycle that is in program order, with room for an issue, and later than each branch's
+/// finish.
+fn issue_from(row: &Config, latest: &Latest) -> u64
+    requires issue { latest.now.issue ≤ latest.now.end }
+    requires branch { latest.now.branch ≤ latest.now.end }
+    requires small { latest.now.end < 2 ^ 63 }
+    ensures from { result ≡ issue_from row.now latest.now }
+    ensures by { result ≤ latest.now.end + 1 }
+{
+    let from = if latest.issued < width(row) {
+        latest.issue
+    } else {
+        latest.issue + 1
+    };
+    from.max(latest.branch + 1)
+}
+
+/// The cycle in which a load or store computes its address, from the end of its base's producer.
+fn address_of(latest: &Latest, pool: Option<PoolId>, base: u64, issue: u64) -> Option<u64>
+    requires base { base ≤ latest.now.end }
+    requires issue { issue ≤ latest.now.end + 1 }
+    requires address { latest.now.address ≤ latest.now.end }
+    requires small { latest.now.end < 2 ^ 63 }
+    ensures cycle { result ≡ address_among latest.now pool base issue }
+    ensures by { cycle_of result ≤ latest.now.end + 2 }
+{
+    if is_memory(pool) {
+        Some(issue.max(base).max(latest.address) + 1)
+    } else {
+        None
+    }
+}
+
+/// The first cycle after a step's issue, its address and the ends of its operands' producers.
+fn ready_of(issue: u64, address: Option<u64>, j: u64, k: u64) -> u64
+    requires issue { issue < 2 ^ 63 + 2 }
+    requires address { cycle_of address < 2 ^ 63 + 2 }
+    requires j { j < 2 ^ 63 }
+    requires k { k < 2 ^ 63 }
+    ensures { result ≡ ready_from issue address j k }
+{
+    issue.max(address.unwrap_or(0)).max(j.max(k)) + 1
+}
+
+/// The cycle in which an operation starts, which is ready from a cycle on.
+fn start_of(row: &Config, live: &[Live], facts: &Facts, unit: UnitId, ready: u64, bound: u64) -> u64
+    requires row { IsRow row.now }
+    requires live { All (IsBy bound) live.now }
+    requires ready { ready ≤ bound + 3 }
+    requires small { bound < 2 ^ 63 }
+    ensures least { IsLeast (may_start row.now ready live.now facts.now unit) result }
+    ensures by { result ≤ bound + 3 }
+{
+    let from = past_conflicts(live, facts, ready, bound);
+    find_start(row, live, unit, from, bound)
+}
+
+/// The end of a step that finishes.
+fn end_after(row: &Config, live: &[Live], dest: Option<u8>, finish: u64, bound: u64) -> u64
+    requires row { IsRow row.now }
+    requires live { All (IsBy bound) live.now }
+    requires finish { finish ≤ bound + 66 }
+    requires small { bound < 2 ^ 63 }
+    ensures least { MatchBool (is_some dest) (IsFirst (finish + 1) (has_bus_among row.now live.now) result) (result ≡ finish) }
+{
+    if dest.is_some() {
+        find_end(row, live, finish + 1, bound)
+    } else {
+        finish
+    }
+}
+
+/// The station of a step that takes one.
+fn station_of(row: &Config, live: &[Live], pool: Option<PoolId>, issue: u64) -> Option<u8>
+    requires row { IsRow row.now }
+    requires left { has_station_among row.now live.now pool issue ≡ true }
+    ensures least { MatchOption pool (result ≡ None) (λ p. (n : ℕ) × (result ≡ Some n) × IsLeast (is_free_among p live.now issue) n) }
+{
+    match pool {
+        None => None,
+        Some(pool) => Some(find_station(row, live, pool, issue)),
+    }
+}
+
+/// The times of the next step.
+pub(crate) fn next_times(
+    row: &Config,
+    live: &[Live],
+    latest: &Latest,
+    step: &Step,
+    facts: &Facts,
+) -> Times
+    requires row { IsRow row.now }
+    requires facts { facts.now ≡ facts_of step.now }
+    requires settled { IsSettled live.now latest.now }
+    requires small { latest.now.end < 2 ^ 63 }
+    ensures next { IsNext row.now live.now latest.now step.now result }
+    ensures j { ForSome (j_of step.now) (λ o. o.register < 32) }
+    ensures k { ForSome (k_of step.now) (λ o. o.register < 32) }
+{
+    let j = end_of(latest, step.j());
+    let k = end_of(latest, step.k());
+    let from = issue_from(row, latest);
+    let issue = find_issue(row, live, facts.pool, from, latest.end);
+    let address = address_of(latest, facts.pool, j, issue);
+    let station = station_of(row, live, facts.pool, issue);
+    let Some(unit) = facts.unit else {
+        return Times {
+            issue,
+            address,
+            start: issue,
+            finish: issue,
+            end: issue,
+            station,
+        };
+    };
+    let ready = ready_of(issue, address, j, k);
+    let start = start_of(row, live, facts, unit, ready, latest.end);
+    let finish = start + u64::from(row.latency(unit)) - 1;
+    let end = end_after(row, live, facts.dest, finish, latest.end);
+    Times {
+        issue,
+        address,
+        start,
+        finish,
+        end,
+        station,
+    }
+}
