@@ -162,14 +162,15 @@ ready_split : (issue address j k t : ℕ) → nat_le (max (max issue address) (m
 ready_split issue address j k t =
     let e : max (max issue address) (max j k) + 1 ≡ max (max (issue + 1) (address + 1)) (max (j + 1) (k + 1)) = omega arith in
     rw (
-        e,
-        max_split (max (issue + 1) (address + 1)) (max (j + 1) (k + 1)) t,
-        max_split (issue + 1) (address + 1) t,
-        max_split (j + 1) (k + 1) t,
-        after_split issue t,
-        after_split address t,
-        after_split j t,
-        after_split k t) refl
+      e,
+      max_split (max (issue + 1) (address + 1)) (max (j + 1) (k + 1)) t,
+      max_split (issue + 1) (address + 1) t,
+      max_split (j + 1) (k + 1) t,
+      after_split issue t,
+      after_split address t,
+      after_split j t,
+      after_split k t,
+    ) refl
 
 pub start_agree : (row : Row) (h : List Done) (s : Step) (unit : UnitId) (issue address c t : ℕ) → AreClosed h → c ≤ issue
     → may_start row (max (max issue address) (max (source_end h (j_of s)) (source_end h (k_of s))) + 1) (recent c h) (facts_of s) unit t ≡ can_start row h s unit issue address t
