@@ -20,6 +20,12 @@ StandsFor error (Help text) = (kind_of error ≡ DisplayHelp) ⊎ (kind_of error
 StandsFor error (Usage text) = (kind_of error ≢ DisplayHelp) × (kind_of error ≢ DisplayVersion) × (kind_of error ≢ OutOfMemory)
 StandsFor error Memory = Unit {0}
 
+-- a line is refused, or memory: it did not ask for help
+abbrev pub IsRefusal : LineFault → Type 0
+IsRefusal (Help text) = ⊥
+IsRefusal (Usage text) = Unit {0}
+IsRefusal Memory = Unit {0}
+
 -- a fault is told with its status, and the output takes nothing but help: all of it, unless it fails
 abbrev pub IsTold : LineFault → ℕ → Option (List ℕ) → Option (List ℕ) → Type 0
 IsTold (Help text) status old new = ((status ≡ 0) × Appends old new (string_bytes text)) ⊎ (status ≡ 3)

@@ -3,8 +3,8 @@
 //! Each command has a file here with two functions: `grammar`, what `clap` is to read and to say in
 //! its help, and `line_of`, what was read. A further command is a further file, a variant of `Line`
 //! and a line in each of `grammar` and `line_of` below.
-ghost use Rattle.tomex.specs.Lines.{StandsFor, status_of};
-ghost use Rattle.std.specs.Prelude.{◌≡◌};
+ghost use Rattle.tomex.specs.Lines.{IsRefusal, StandsFor, status_of};
+ghost use Rattle.std.specs.Prelude.{◌≡◌, IfErr};
 ghost use Rattle.tomex.specs.declared.line.LineFault.TheVariants.{Memory};
 
 pub mod run;
@@ -81,7 +81,9 @@ fn grammar<'a>(alloc: Global) -> Result<Command<'a>, AllocError> {
         .subcommand(run::grammar(alloc)?)
 }
 
-fn line_of<'a>(alloc: Global, matches: &ArgMatches<'a>) -> Result<Line<'a>, LineFault> {
+fn line_of<'a>(alloc: Global, matches: &ArgMatches<'a>) -> Result<Line<'a>, LineFault>
+    ensures { IfErr result IsRefusal }
+{
     match matches.subcommand() {
         Some(("run", inner)) => Ok(Line::Run(run::line_of(alloc, inner)?)),
         _ => Err(refused(alloc, "command")),

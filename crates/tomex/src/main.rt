@@ -19,7 +19,7 @@ use std::{env, io};
 use telling::tell_line_fault;
 
 /// The words of the command line. One that is no UTF-8 text is refused as a mistake in the line.
-fn words_of(rt: &HostRuntime) -> Result<Vec<String>, LineFault> {
+fn words_of(rt: &(impl env::Env + AllocGlobal)) -> Result<Vec<String>, LineFault> {
     let alloc = rt.alloc();
     match env::args(rt) {
         Ok(words) => Ok(words.collect(alloc)?),

@@ -10,6 +10,7 @@
 
 mod cpu;
 mod end;
+pub mod laws;
 mod memory;
 mod outcome;
 mod running;

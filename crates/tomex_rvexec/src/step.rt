@@ -25,9 +25,10 @@ pub struct Step {
     /// The address of the instruction.
     pub pc: u32,
     pub instr: Instr,
-    /// The value of rs1, and zero where the instruction doesn't read it.
+    /// The value of the register that the rs1 field names. Zero where the operation has no such
+    /// field; FENCE has one, which it keeps and doesn't read.
     pub vj: u32,
-    /// The value of rs2, and zero where the instruction doesn't read it.
+    /// The value of the register that the rs2 field names, and zero where there is no such field.
     pub vk: u32,
 }
 

@@ -41,7 +41,7 @@ fn every_shift(rt: HostRuntime) {
         assert_eq!(rt; alu(Op::Sra, SHIFTED, amount), signed);
         // A register's amount counts by its low five bits.
         assert_eq!(rt; alu(Op::Sra, SHIFTED, amount | 0xffff_ffe0), signed);
-        amount = (amount + 1) % 32;
+        amount = amount.wrapping_add(1) % 32;
     }
 }
 

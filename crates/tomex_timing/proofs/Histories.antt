@@ -25,20 +25,20 @@ reverse_more d h = reverse-append (d ∷ []) h
 
 pub times_more : (row : Row) (xs : List Step) (x : Step) → times_in row (xs ++ (x ∷ [])) ≡ times_in row xs ++ (times_of row (history row xs) x ∷ [])
 times_more row xs x =
-  let a = history_more row xs x in
-  let d : Done = record { step = x; at = times_of row (history row xs) x } in
-  let b : times_in row (xs ++ (x ∷ [])) ≡ map (λ d. d.at) (reverse (d ∷ history row xs)) = ap (λ h. map (λ d. d.at) (reverse h)) a in
-  let c : map (λ (d : Done). d.at) (reverse (d ∷ history row xs)) ≡ map (λ d. d.at) (reverse (history row xs) ++ (d ∷ [])) = ap (λ h. map (λ (d : Done). d.at) h) (reverse_more d (history row xs)) in
-  b ∙ (c ∙ map-append (λ d. d.at) (reverse (history row xs)) (d ∷ []))
+    let a = history_more row xs x in
+    let d : Done = record { step = x; at = times_of row (history row xs) x } in
+    let b : times_in row (xs ++ (x ∷ [])) ≡ map (λ d. d.at) (reverse (d ∷ history row xs)) = ap (λ h. map (λ d. d.at) (reverse h)) a in
+    let c : map (λ (d : Done). d.at) (reverse (d ∷ history row xs)) ≡ map (λ d. d.at) (reverse (history row xs) ++ (d ∷ [])) = ap (λ h. map (λ (d : Done). d.at) h) (reverse_more d (history row xs)) in
+    b ∙ (c ∙ map-append (λ d. d.at) (reverse (history row xs)) (d ∷ []))
 
 pub younger_change_nothing : YoungerChangeNothing
 younger_change_nothing row xs [] = ([], ap (times_in row) (append-nil xs) ∙ sym (append-nil (times_in row xs)))
 younger_change_nothing row xs (y ∷ ys) =
-  let rest = younger_change_nothing row (xs ++ (y ∷ [])) ys in
-  let t : Times = times_of row (history row xs) y in
-  let a : times_in row (xs ++ (y ∷ ys)) ≡ times_in row ((xs ++ (y ∷ [])) ++ ys) = ap (times_in row) (sym (append_assoc xs (y ∷ []) ys)) in
-  let b : times_in row (xs ++ (y ∷ [])) ++ rest.0 ≡ (times_in row xs ++ (t ∷ [])) ++ rest.0 = ap (λ ts. ts ++ rest.0) (times_more row xs y) in
-  (t ∷ rest.0, a ∙ (rest.1 ∙ (b ∙ append_assoc (times_in row xs) (t ∷ []) rest.0)))
+    let rest = younger_change_nothing row (xs ++ (y ∷ [])) ys in
+    let t : Times = times_of row (history row xs) y in
+    let a : times_in row (xs ++ (y ∷ ys)) ≡ times_in row ((xs ++ (y ∷ [])) ++ ys) = ap (times_in row) (sym (append_assoc xs (y ∷ []) ys)) in
+    let b : times_in row (xs ++ (y ∷ [])) ++ rest.0 ≡ (times_in row xs ++ (t ∷ [])) ++ rest.0 = ap (λ ts. ts ++ rest.0) (times_more row xs y) in
+    (t ∷ rest.0, a ∙ (rest.1 ∙ (b ∙ append_assoc (times_in row xs) (t ∷ []) rest.0)))
 
 total_push : (ts : List Times) (t : Times) → total_of (ts ++ (t ∷ [])) ≡ max t.end (total_of ts)
 total_push [] t = refl
@@ -48,20 +48,22 @@ total_push (x ∷ ts) t = let e : total_of (ts ++ (t ∷ [])) ≡ max t.end (tot
 total_of-history : (h : List Done) → total_of (map (λ d. d.at) (reverse h)) ≡ greatest_end h
 total_of-history [] = refl
 total_of-history (d ∷ h) =
-  let a : map (λ (d : Done). d.at) (reverse (d ∷ h)) ≡ map (λ d. d.at) (reverse h ++ (d ∷ [])) = ap (λ h. map (λ (d : Done). d.at) h) (reverse_more d h) in
-  let b : map (λ (d : Done). d.at) (reverse h ++ (d ∷ [])) ≡ map (λ d. d.at) (reverse h) ++ (d.at ∷ []) = map-append (λ d. d.at) (reverse h) (d ∷ []) in
-  ap total_of (a ∙ b) ∙ (total_push (map (λ d. d.at) (reverse h)) d.at ∙ ap (λ k. max d.at.end k) (total_of-history h))
+    let a : map (λ (d : Done). d.at) (reverse (d ∷ h)) ≡ map (λ d. d.at) (reverse h ++ (d ∷ [])) = ap (λ h. map (λ (d : Done). d.at) h) (reverse_more d h) in
+    let b : map (λ (d : Done). d.at) (reverse h ++ (d ∷ [])) ≡ map (λ d. d.at) (reverse h) ++ (d.at ∷ []) = map-append (λ d. d.at) (reverse h) (d ∷ []) in
+    ap total_of (a ∙ b) ∙ (total_push (map (λ d. d.at) (reverse h)) d.at ∙ ap (λ k. max d.at.end k) (total_of-history h))
 
 length-timed_of : (row : Row) (ys : List Step) → length (timed_of row ys) ≡ length ys
 length-timed_of row [] = refl
 length-timed_of row (y ∷ ys) = ap suc (length-timed_of row ys)
 
+pub length-history : (row : Row) (xs : List Step) → length (history row xs) ≡ length xs
+length-history row xs = length-timed_of row (reverse xs) ∙ length-reverse xs
+
 pub history_bound : (row : Row) (xs : List Step) → IsRow row → greatest_end (history row xs) ≤ 67 * length xs
 history_bound row xs good =
-  let a : greatest_end (history row xs) ≤ 67 * length (history row xs) = total_bound row (history row xs) good (are_timed row xs good) in
-  let e : length (history row xs) ≡ length (reverse xs) = length-timed_of row (reverse xs) in
-  let f : length (reverse xs) ≡ length xs = length-reverse xs in
-  omega arith
+    let a : greatest_end (history row xs) ≤ 67 * length (history row xs) = total_bound row (history row xs) good (are_timed row xs good) in
+    let e : length (history row xs) ≡ length xs = length-history row xs in
+    omega arith
 
 pub times_bound : (row : Row) (xs : List Step) → IsRow row → total_of (times_in row xs) ≤ 67 * length xs
 times_bound row xs good = rw (total_of-history (history row xs)) (history_bound row xs good)

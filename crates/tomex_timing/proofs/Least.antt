@@ -1,33 +1,37 @@
 -- The least number that passes a test: it is one, and a bounded search finds it.
-use Rattle.std.proofs.Common.{ℕ, zero, suc, ◌+◌, ◌<◌, ◌≤◌, ◌≡◌, Bool, true, false, cond, ⊎_elim, IsTrue, arith, refl, ◌⊎◌, inl, inr, subst, add-zero, zero-add}
-use Rattle.std.proofs.lemmas.Bool.{cases_Bool, cases_order, both_ways, cond-true, cond-false, true_from_ne_false}
+use Rattle.std.proofs.Common.{ℕ, zero, suc, ◌+◌, ◌<◌, ◌≤◌, ◌≡◌, Bool, false, IsTrue, arith, inl, inr, subst, add-zero, zero-add}
+use Rattle.std.proofs.lemmas.Bool.{cases_Bool, cases_order, both_ways}
 use Rattle.tomex_timing.specs.Recurrence.{IsLeast}
 use Rattle.tomex_timing.specs.Search.{first_from, least}
 
 pub least_same : (p : ℕ → Bool) (a b : ℕ) → IsLeast p a → IsLeast p b → a ≡ b
 least_same p a b x y = elim (cases_order a b) [
-    inl e ↦ e
+  | inl e ↦ e
   | inr (inl l) ↦ absurd (both_ways _ (y.1 a l) x.0)
-  | inr (inr l) ↦ absurd (both_ways _ (x.1 b l) y.0) ]
+  | inr (inr l) ↦ absurd (both_ways _ (x.1 b l) y.0)
+]
 
 pub least_le : (p : ℕ → Bool) (a t : ℕ) → IsLeast p a → IsTrue (p t) → a ≤ t
 least_le p a t x y = elim (cases_order a t) [
-    inl e ↦ omega arith
+  | inl e ↦ omega arith
   | inr (inl l) ↦ omega arith
-  | inr (inr l) ↦ absurd (both_ways _ (x.1 t l) y) ]
+  | inr (inr l) ↦ absurd (both_ways _ (x.1 t l) y)
+]
 
 -- one more number that fails
 pub fails_more : (p : ℕ → Bool) (t : ℕ) → ((s : ℕ) → s < t → p s ≡ false) → p t ≡ false → (s : ℕ) → s < suc t → p s ≡ false
 fails_more p t below here s l = elim (cases_order s t) [
-    inl e ↦ rw e here
+  | inl e ↦ rw e here
   | inr (inl k) ↦ below s k
-  | inr (inr k) ↦ absurd (omega arith) ]
+  | inr (inr k) ↦ absurd (omega arith)
+]
 
 first_from_is : (p : ℕ → Bool) (t n : ℕ) → ((s : ℕ) → s < t → p s ≡ false) → IsTrue (p (t + n)) → IsLeast p (first_from p t n)
 first_from_is p t zero below here = (rw add-zero at here, below)
 first_from_is p t (suc n) below here = elim (cases_Bool (p t)) [
-    inl e ↦ rw e (e, below)
-  | inr e ↦ rw e (first_from_is p (suc t) n (fails_more p t below e) (subst (λ k. IsTrue (p k)) (omega arith) here)) ]
+  | inl e ↦ rw e (e, below)
+  | inr e ↦ rw e (first_from_is p (suc t) n (fails_more p t below e) (subst (λ k. IsTrue (p k)) (omega arith) here))
+]
 
 pub least_is : (p : ℕ → Bool) (n : ℕ) → IsTrue (p n) → IsLeast p (least p n)
 least_is p n here = first_from_is p 0 n (λ s l. absurd (omega arith)) (rw zero-add here)

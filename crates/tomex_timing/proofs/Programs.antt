@@ -1,14 +1,12 @@
 -- Short runs, step by step, and rows to time them on.
-use Rattle.std.proofs.Common.{ℕ, List, [], ◌∷◌, Option, Some, None}
-use Rattle.std.specs.Prelude.{replicate, slice_set}
+use Rattle.std.proofs.Common.{ℕ, List, [], ◌∷◌}
 use Rattle.tomex_rvdec.specs.Instruction.{Instruction}
 use Rattle.tomex_rvdec.specs.declared.op.Op.{Op}
 use Rattle.tomex_rvdec.specs.declared.op.Op.TheVariants.{Addi, Mul, Sw, Lb, Jal, Jalr, Ebreak}
 use Rattle.tomex_rvdec.specs.declared.pool.PoolId.TheVariants as pools
 use Rattle.tomex_rvdec.specs.declared.pool.UnitId.{UnitId}
-use Rattle.tomex_rvdec.specs.declared.pool.UnitId.TheVariants as units
 use Rattle.tomex_rvexec.specs.declared.step.Step.{Step}
-use Rattle.tomex_config.specs.Row.{Row, plain, with_stations, with_option, with_buses}
+use Rattle.tomex_config.specs.Row.{Row, plain, with_stations, with_option}
 
 -- an instruction that takes these values from rs1 and rs2
 abbrev pub step : ℕ → Instruction → ℕ → ℕ → Step

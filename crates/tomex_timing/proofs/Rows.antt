@@ -1,8 +1,8 @@
 -- The times of short runs, computed by the definition itself.
-use Rattle.std.proofs.Common.{ℕ, ◌≡◌, refl, List, [], ◌∷◌, Option, Some, None}
+use Rattle.std.proofs.Common.{ℕ, ◌≡◌, refl, [], ◌∷◌, Some, None}
 use Rattle.tomex_rvdec.specs.declared.pool.PoolId.TheVariants as pools
 use Rattle.tomex_rvdec.specs.declared.pool.UnitId.TheVariants as units
-use Rattle.tomex_config.specs.Row.{Row, plain, with_stations, with_option, with_buses}
+use Rattle.tomex_config.specs.Row.{plain, with_stations, with_option, with_buses}
 use Rattle.tomex_timing.specs.declared.times.Times.{Times}
 use Rattle.tomex_timing.specs.Recurrence.{width_of}
 use Rattle.tomex_timing.specs.Search.{times_in, times_of, total_of}

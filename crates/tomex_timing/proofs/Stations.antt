@@ -19,15 +19,16 @@ use Rattle.tomex_timing.proofs.Least.{fails_more}
 first_from_cases : (p : ℕ → Bool) (t n : ℕ) → ((s : ℕ) → s < t → p s ≡ false) → ((s : ℕ) → s < t + n → p s ≡ false) ⊎ (IsLeast p (first_from p t n) × (first_from p t n < t + n))
 first_from_cases p t zero below = inl (λ s l. below s (omega arith))
 first_from_cases p t (suc n) below = elim (cases_Bool (p t)) [
-    inl e ↦ rw e (inr ((e, below), omega arith))
+  | inl e ↦ rw e (inr ((e, below), omega arith))
   | inr e ↦
       let k : suc t + n ≡ t + suc n = omega arith in
-      rw (e, ← k) (first_from_cases p (suc t) n (fails_more p t below e)) ]
+      rw (e, ← k) (first_from_cases p (suc t) n (fails_more p t below e))
+]
 
 pub least_cases : (p : ℕ → Bool) (n : ℕ) → ((s : ℕ) → s < n → p s ≡ false) ⊎ (IsLeast p (least p n) × (least p n < n))
 least_cases p n =
-  let z : 0 + n ≡ n = omega arith in
-  rw z at (first_from_cases p 0 n (λ s l. absurd (omega arith)))
+    let z : 0 + n ≡ n = omega arith in
+    rw z at (first_from_cases p 0 n (λ s l. absurd (omega arith)))
 
 -- the step has a station of the pool whose number is lower
 abbrev lower : Option ℕ → ℕ → Bool
@@ -39,9 +40,10 @@ one b = cond b 1 0
 
 split_number : (m n : ℕ) → one (nat_lt m (suc n)) ≡ one (nat_lt m n) + one (m == n)
 split_number m n = elim (cases_order m n) [
-    inl e ↦ rw (e, lt-ltb n (suc n) (omega arith), le-ltb n n (omega arith), eq-eqb n n refl) refl
+  | inl e ↦ rw (e, lt-ltb n (suc n) (omega arith), le-ltb n n (omega arith), eq-eqb n n refl) refl
   | inr (inl l) ↦ rw (lt-ltb m (suc n) (omega arith), lt-ltb m n l, ne_eqb m n (λ (e : m ≡ n). absurd (omega arith))) refl
-  | inr (inr l) ↦ rw (le-ltb m (suc n) (omega arith), le-ltb m n (omega arith), ne_eqb m n (λ (e : m ≡ n). absurd (omega arith))) refl ]
+  | inr (inr l) ↦ rw (le-ltb m (suc n) (omega arith), le-ltb m n (omega arith), ne_eqb m n (λ (e : m ≡ n). absurd (omega arith))) refl
+]
 
 split_one : (b : Bool) (st : Option ℕ) (n : ℕ) → one (b && lower st (suc n)) ≡ one (b && lower st n) + one (b && is_number st n)
 split_one false st n = refl
@@ -51,24 +53,25 @@ split_one true (Some m) n = split_number m n
 split_count : {X : Type 0} (held : X → Bool) (station : X → Option ℕ) (n : ℕ) (xs : List X) → count_by (λ d. held d && lower (station d) (suc n)) xs ≡ count_by (λ d. held d && lower (station d) n) xs + count_by (λ d. held d && is_number (station d) n) xs
 split_count held station n [] = refl
 split_count held station n (d ∷ xs) =
-  let e = split_count held station n xs in
-  let f : one (held d && lower (station d) (suc n)) ≡ one (held d && lower (station d) n) + one (held d && is_number (station d) n) = split_one (held d) (station d) n in
-  rw (sum_by-cons, sum_by-cons, sum_by-cons) (omega arith)
+    let e = split_count held station n xs in
+    let f : one (held d && lower (station d) (suc n)) ≡ one (held d && lower (station d) n) + one (held d && is_number (station d) n) = split_one (held d) (station d) n in
+    rw (sum_by-cons, sum_by-cons, sum_by-cons) (omega arith)
 
 one_at_least : {X : Type 0} (q : X → Bool) (xs : List X) → list_all (λ d. not (q d)) xs ≡ false → 0 < count_by q xs
 one_at_least q [] h = absurd (cc)
 one_at_least q (d ∷ xs) h = elim (cases_Bool (q d)) [
-    inl e ↦ rw (sum_by-cons, e) (omega arith)
-  | inr e ↦ let k : 0 < count_by q xs = one_at_least q xs (rw e at h) in rw (sum_by-cons, e) (omega arith) ]
+  | inl e ↦ rw (sum_by-cons, e) (omega arith)
+  | inr e ↦ let k : 0 < count_by q xs = one_at_least q xs (rw e at h) in rw (sum_by-cons, e) (omega arith)
+]
 
 -- where the first n numbers are held, n stations are
 pigeons : {X : Type 0} (held : X → Bool) (station : X → Option ℕ) (xs : List X) (n : ℕ) → ((k : ℕ) → k < n → list_all (λ d. not (held d && is_number (station d) k)) xs ≡ false) → n ≤ count_by (λ d. held d && lower (station d) n) xs
 pigeons held station xs zero h = omega arith
 pigeons held station xs (suc n) h =
-  let a : n ≤ count_by (λ d. held d && lower (station d) n) xs = pigeons held station xs n (λ k l. h k (omega arith)) in
-  let b : 0 < count_by (λ d. held d && is_number (station d) n) xs = one_at_least (λ d. held d && is_number (station d) n) xs (h n (omega arith)) in
-  let e = split_count held station n xs in
-  omega arith
+    let a : n ≤ count_by (λ d. held d && lower (station d) n) xs = pigeons held station xs n (λ k l. h k (omega arith)) in
+    let b : 0 < count_by (λ d. held d && is_number (station d) n) xs = one_at_least (λ d. held d && is_number (station d) n) xs (h n (omega arith)) in
+    let e = split_count held station n xs in
+    omega arith
 
 one_part : (a b : Bool) → one (a && b) ≤ one a
 one_part false b = omega arith
@@ -78,25 +81,26 @@ one_part true true = omega arith
 part_count : {X : Type 0} (held : X → Bool) (station : X → Option ℕ) (n : ℕ) (xs : List X) → count_by (λ d. held d && lower (station d) n) xs ≤ count_by (held) xs
 part_count held station n [] = omega arith
 part_count held station n (d ∷ xs) =
-  let e = part_count held station n xs in
-  let f : one (held d && lower (station d) n) ≤ one (held d) = one_part (held d) (lower (station d) n) in
-  rw (sum_by-cons, sum_by-cons) (omega arith)
+    let e = part_count held station n xs in
+    let f : one (held d && lower (station d) n) ≤ one (held d) = one_part (held d) (lower (station d) n) in
+    rw (sum_by-cons, sum_by-cons) (omega arith)
 
 -- where fewer than n are held, one of the first n numbers is free
 pub found : {X : Type 0} (held : X → Bool) (station : X → Option ℕ) (xs : List X) (n : ℕ) → count_by held xs < n
-  → IsLeast (λ k. list_all (λ d. not (held d && is_number (station d) k)) xs) (least (λ k. list_all (λ d. not (held d && is_number (station d) k)) xs) n) × (least (λ k. list_all (λ d. not (held d && is_number (station d) k)) xs) n < n)
+    → IsLeast (λ k. list_all (λ d. not (held d && is_number (station d) k)) xs) (least (λ k. list_all (λ d. not (held d && is_number (station d) k)) xs) n) × (least (λ k. list_all (λ d. not (held d && is_number (station d) k)) xs) n < n)
 found held station xs n few = elim (least_cases (λ k. list_all (λ d. not (held d && is_number (station d) k)) xs) n) [
-    inl none ↦
+  | inl none ↦
       let a : n ≤ count_by (λ d. held d && lower (station d) n) xs = pigeons held station xs n none in
       let b = part_count held station n xs in
       absurd (omega arith)
-  | inr there ↦ there ]
+  | inr there ↦ there
+]
 
 -- the station is found, and is one of the pool's
 pub number_is : (row : Row) (older : List Done) (pool : PoolId) (t : ℕ) → has_station row older (Some pool) t ≡ true
-  → IsLeast (is_free pool older t) (least (is_free pool older t) (stations_of row pool)) × (least (is_free pool older t) (stations_of row pool) < stations_of row pool)
+    → IsLeast (is_free pool older t) (least (is_free pool older t) (stations_of row pool)) × (least (is_free pool older t) (stations_of row pool) < stations_of row pool)
 number_is row older pool t h = found (is_held pool t) (λ d. d.at.station) older (stations_of row pool) (ltb-true _ _ h)
 
 pub number_among : (row : Row) (live : List Live) (pool : PoolId) (t : ℕ) → has_station_among row live (Some pool) t ≡ true
-  → IsLeast (is_free_among pool live t) (least (is_free_among pool live t) (stations_of row pool)) × (least (is_free_among pool live t) (stations_of row pool) < stations_of row pool)
+    → IsLeast (is_free_among pool live t) (least (is_free_among pool live t) (stations_of row pool)) × (least (is_free_among pool live t) (stations_of row pool) < stations_of row pool)
 number_among row live pool t h = found (is_held_by pool t) (λ l. l.station) live (stations_of row pool) (ltb-true _ _ h)

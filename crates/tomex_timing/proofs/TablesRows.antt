@@ -5,11 +5,11 @@ use Rattle.tomex_rvdec.specs.declared.op.Op.TheVariants.{Addi, Mul, Sw, Lb, Jalr
 use Rattle.tomex_rvdec.specs.declared.pool.PoolId.{PoolId}
 use Rattle.tomex_rvdec.specs.declared.pool.PoolId.TheVariants as pools
 use Rattle.tomex_rvdec.specs.declared.pool.UnitId.TheVariants as units
-use Rattle.tomex_config.specs.Row.{Row, plain}
+use Rattle.tomex_config.specs.Row.{plain}
 use Rattle.tomex_timing.specs.declared.times.Done.{Done}
 use Rattle.tomex_timing.specs.Recurrence.{width_of}
 use Rattle.tomex_timing.specs.Search.{history, times_of}
-use Rattle.tomex_timing.specs.Tables.{Tag, Value, Waits, Unread, Busy, Tables, tables_of}
+use Rattle.tomex_timing.specs.Tables.{Tag, Value, Waits, Unread, Busy, tables_of}
 use Rattle.tomex_timing.proofs.Programs.{instr, product, overwritten, stored_and_loaded, jump_to_product, two_alu_stations, with_latency}
 
 abbrev tag : PoolId → ℕ → Tag
@@ -24,11 +24,12 @@ product_run = history (with_latency units.Mul two_alu_stations 3) product
 
 -- the first operand of the product came with the bus in the cycle of its issue; the second is still awaited
 product_after_3 : tables_of 3 product_run ≡ record {
-    cycle = 3;
-    busy = record { tag = tag pools.Alu 1; instr = instr Addi 2 0 0 7; j = Value 0; k = Unread; a = None }
+  cycle = 3;
+  busy = record { tag = tag pools.Alu 1; instr = instr Addi 2 0 0 7; j = Value 0; k = Unread; a = None }
       ∷ record { tag = tag pools.Mul 0; instr = instr Mul 3 1 2 0; j = Value 5; k = Waits (tag pools.Alu 1); a = None }
       ∷ [];
-    registers = slice_set (slice_set no_writers 2 (Some (tag pools.Alu 1))) 3 (Some (tag pools.Mul 0)) }
+  registers = slice_set (slice_set no_writers 2 (Some (tag pools.Alu 1))) 3 (Some (tag pools.Mul 0));
+}
 unfolding times_of width_of
 product_after_3 = refl
 
@@ -48,9 +49,10 @@ overwritten_product = record { tag = tag pools.Mul 0; instr = instr Mul 5 1 2 0;
 
 -- the younger writer of x5 is the one that the register waits for
 overwritten_after_3 : tables_of 3 overwritten_run ≡ record {
-    cycle = 3;
-    busy = record { tag = tag pools.Alu 0; instr = instr Addi 5 0 0 1; j = Value 0; k = Unread; a = None } ∷ overwritten_product ∷ [];
-    registers = slice_set no_writers 5 (Some (tag pools.Alu 0)) }
+  cycle = 3;
+  busy = record { tag = tag pools.Alu 0; instr = instr Addi 5 0 0 1; j = Value 0; k = Unread; a = None } ∷ overwritten_product ∷ [];
+  registers = slice_set no_writers 5 (Some (tag pools.Alu 0));
+}
 unfolding times_of width_of
 overwritten_after_3 = refl
 
@@ -60,29 +62,32 @@ unfolding times_of width_of
 overwritten_after_4 = refl
 
 accesses_after_5 : tables_of 5 (history (with_latency units.Mem two_alu_stations 2) (stored_and_loaded 1)) ≡ record {
-    cycle = 5;
-    busy = record { tag = tag pools.Load 0; instr = instr Lb 2 8 0 1; j = Value 256; k = Unread; a = Some 257 }
+  cycle = 5;
+  busy = record { tag = tag pools.Load 0; instr = instr Lb 2 8 0 1; j = Value 256; k = Unread; a = Some 257 }
       ∷ record { tag = tag pools.Store 0; instr = instr Sw 0 8 1 0; j = Value 256; k = Value 768; a = Some 256 }
       ∷ [];
-    registers = slice_set no_writers 2 (Some (tag pools.Load 0)) }
+  registers = slice_set no_writers 2 (Some (tag pools.Load 0));
+}
 unfolding times_of width_of
 accesses_after_5 = refl
 
 -- before its address cycle the load shows its offset
 accesses_after_4 : tables_of 4 (history (with_latency units.Mem two_alu_stations 2) (stored_and_loaded 1)) ≡ record {
-    cycle = 4;
-    busy = record { tag = tag pools.Load 0; instr = instr Lb 2 8 0 1; j = Value 256; k = Unread; a = Some 1 }
+  cycle = 4;
+  busy = record { tag = tag pools.Load 0; instr = instr Lb 2 8 0 1; j = Value 256; k = Unread; a = Some 1 }
       ∷ record { tag = tag pools.Store 0; instr = instr Sw 0 8 1 0; j = Value 256; k = Value 768; a = Some 256 }
       ∷ [];
-    registers = slice_set no_writers 2 (Some (tag pools.Load 0)) }
+  registers = slice_set no_writers 2 (Some (tag pools.Load 0));
+}
 unfolding times_of width_of
 accesses_after_4 = refl
 
 jump_after_3 : tables_of 3 (history (with_latency units.Mul two_alu_stations 3) jump_to_product) ≡ record {
-    cycle = 3;
-    busy = record { tag = tag pools.Mul 0; instr = instr Mul 6 5 5 0; j = Value 4; k = Value 4; a = None }
+  cycle = 3;
+  busy = record { tag = tag pools.Mul 0; instr = instr Mul 6 5 5 0; j = Value 4; k = Value 4; a = None }
       ∷ record { tag = tag pools.Bru 0; instr = instr Jalr 0 6 0 0; j = Waits (tag pools.Mul 0); k = Unread; a = None }
       ∷ [];
-    registers = slice_set no_writers 6 (Some (tag pools.Mul 0)) }
+  registers = slice_set no_writers 6 (Some (tag pools.Mul 0));
+}
 unfolding times_of width_of
 jump_after_3 = refl

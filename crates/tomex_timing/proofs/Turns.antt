@@ -1,12 +1,13 @@
 -- The turns of the evaluator's loop.
-use Rattle.std.proofs.Common.{ℕ, ◌+◌, ◌*◌, ◌<◌, ◌≤◌, ◌≡◌, ◌∙◌, arith, refl, List, [], ◌∷◌, ◌++◌, Option, Some, None, ap, inl, inr, sym, max, length, take, replicate, true, false}
-use Rattle.std.specs.Prelude.{nat_le, slice_index_or, slice_index, All, IfSome}
+use Rattle.std.proofs.Common.{ℕ, ◌+◌, ◌*◌, ◌<◌, ◌≤◌, ◌≡◌, ◌∙◌, arith, refl, List, [], ◌∷◌, ◌++◌, Option, Some, None, ap, inl, inr, sym, length, take, Bool}
+use Rattle.std.specs.Prelude.{nat_le, slice_index_or, All, IfSome, count_by, ◌==◌}
+use Rattle.std.proofs.lemmas.List.Sums.{sum_by-cons}
 use Rattle.std.specs.Option.{ForSome}
 use Rattle.std.specs.List.{filter, AllByRecursion}
 use Rattle.std.proofs.lemmas.Bool.{cases_Bool}
 use Rattle.std.proofs.lemmas.List.{get_or-replicate, length-take-le, take_more}
 use Rattle.std.proofs.lemmas.List.Elements.{All-from_recursion}
-use Rattle.tomex_rvexec.specs.Steps.{step_dest, j_of, k_of}
+use Rattle.tomex_rvexec.specs.Steps.{step_dest, j_of, k_of, is_branch}
 use Rattle.tomex_rvexec.specs.declared.step.Step.{Step}
 use Rattle.tomex_config.specs.Row.{Row, IsRow}
 use Rattle.tomex_timing.specs.declared.times.Done.{Done}
@@ -17,11 +18,11 @@ use Rattle.tomex_timing.specs.declared.window.Latest.{Latest}
 use Rattle.tomex_timing.specs.History.{last_issue, greatest_end}
 use Rattle.tomex_timing.specs.Recurrence.{IsTimed, AreTimed}
 use Rattle.tomex_timing.specs.Search.{times_of, history, times_in}
-use Rattle.tomex_timing.specs.Window.{live_of, live_from, facts_of, recent, IsBy, IsKept, IsNext, IsSettled, nothing_yet, latest_after}
+use Rattle.tomex_timing.specs.Window.{live_of, live_from, facts_of, recent, IsBy, IsKept, IsNext, IsSettled, branch_finish, nothing_yet, latest_after}
 use Rattle.tomex_timing.proofs.Bound.{InReach, in_reach, timed_by}
-use Rattle.tomex_timing.proofs.Histories.{are_timed, history_more, times_more, history_bound}
+use Rattle.tomex_timing.proofs.Histories.{are_timed, history_more, times_more, history_bound, length-history}
 use Rattle.tomex_timing.proofs.Search.{times_are, times_same}
-use Rattle.tomex_timing.proofs.Settled.{AllBy, IsDoneBy, writer_end_by, last_issue_by, last_address_by}
+use Rattle.tomex_timing.proofs.Settled.{AllBy, writer_end_by, last_issue_by, last_address_by}
 use Rattle.tomex_timing.proofs.Windows.{closed, next_is, kept_on}
 
 recursion-append : (P : Live → Type 0) (xs : List Live) (x : Live) → AllByRecursion P xs → P x → AllByRecursion P (xs ++ (x ∷ []))
@@ -31,57 +32,80 @@ recursion-append P (y ∷ xs) x h k = (h.0, recursion-append P xs x h.1 k)
 recent_by : (g c : ℕ) (h : List Done) → AllBy g h → AllByRecursion (IsBy g) (recent c h)
 recent_by g c [] h = tt
 recent_by g c (d ∷ older) h = elim (cases_Bool (nat_le c d.at.end)) [
-    inl e ↦ rw e (recursion-append (IsBy g) (recent c older) (live_of d) (recent_by g c older h.1) (record { issue = h.0.issue; start = h.0.start; finish = h.0.finish; end = h.0.end }))
-  | inr e ↦ rw e (recent_by g c older h.1) ]
+  | inl e ↦ rw e (recursion-append (IsBy g) (recent c older) (live_of d) (recent_by g c older h.1) (record { start = h.0.start; finish = h.0.finish; end = h.0.end }))
+  | inr e ↦ rw e (recent_by g c older h.1)
+]
+
+branch_finish_by : (g : ℕ) (h : List Done) → AllBy g h → branch_finish h ≤ g
+branch_finish_by g [] h = omega arith
+branch_finish_by g (d ∷ older) h = elim (cases_Bool (is_branch d.step)) [
+  | inl e ↦ let k : branch_finish older ≤ g = branch_finish_by g older h.1 in let f : d.at.finish ≤ g = h.0.finish in rw e (omega arith)
+  | inr e ↦ rw e (branch_finish_by g older h.1)
+]
 
 settled : (row : Row) (h : List Done) (live : List Live) (latest : Latest) → IsRow row → AreTimed row h → IsKept h live latest → IsSettled live latest
 settled row h live latest good timed kept =
-  let by : AllBy (greatest_end h) h = timed_by row h good timed in
-  let all : All (IsBy (greatest_end h)) (recent (last_issue h) h) = All-from_recursion (IsBy (greatest_end h)) (recent (last_issue h) h) (recent_by (greatest_end h) (last_issue h) h by) in
-  record {
-    window = rw (kept.window, kept.end) all;
-    ends = λ r l. rw (kept.ends r l, kept.end) (writer_end_by (greatest_end h) h r by);
-    issue = rw (kept.issue, kept.end) (last_issue_by (greatest_end h) h by);
-    address = rw (kept.address, kept.end) (last_address_by (greatest_end h) h by) }
+    let by : AllBy (greatest_end h) h = timed_by row h good timed in
+    let all : All (IsBy (greatest_end h)) (recent (last_issue h) h) = All-from_recursion (IsBy (greatest_end h)) (recent (last_issue h) h) (recent_by (greatest_end h) (last_issue h) h by) in
+    record {
+      window = rw (kept.window, kept.end) all;
+      ends = λ r l. rw (kept.ends r l, kept.end) (writer_end_by (greatest_end h) h r by);
+      branch = rw (kept.branch, kept.end) (branch_finish_by (greatest_end h) h by);
+      issue = rw (kept.issue, kept.end) (last_issue_by (greatest_end h) h by);
+      address = rw (kept.address, kept.end) (last_address_by (greatest_end h) h by);
+    }
 
 -- nothing is kept of no steps
 pub start_kept : (row : Row) → IsKept (history row []) [] nothing_yet
-start_kept row = record { window = refl; ends = λ r l. get_or-replicate 32 r 0 0 l; count = refl; issue = refl; address = refl; end = refl }
+start_kept row = record { window = refl; ends = λ r l. get_or-replicate 32 r 0 0 l; count = refl; issue = refl; issued = refl; branch = refl; address = refl; end = refl }
 
 pub settled_at : (row : Row) (steps : List Step) (i : ℕ) (live : List Live) (latest : Latest) → IsRow row → IsKept (history row (take i steps)) live latest → IsSettled live latest
 settled_at row steps i live latest good kept = settled row (history row (take i steps)) live latest good (are_timed row (take i steps) good) kept
 
 pub end_bound : (row : Row) (steps : List Step) (i : ℕ) (live : List Live) (latest : Latest) → IsRow row → i ≤ length steps → IsKept (history row (take i steps)) live latest → latest.end ≤ 67 * i
 end_bound row steps i live latest good l kept =
-  let b : greatest_end (history row (take i steps)) ≤ 67 * length (take i steps) = history_bound row (take i steps) good in
-  let e : length (take i steps) ≡ i = length-take-le i steps l in
-  let k : latest.end ≡ greatest_end (history row (take i steps)) = kept.end in
-  omega arith
+    let b : greatest_end (history row (take i steps)) ≤ 67 * length (take i steps) = history_bound row (take i steps) good in
+    let e : length (take i steps) ≡ i = length-take-le i steps l in
+    let k : latest.end ≡ greatest_end (history row (take i steps)) = kept.end in
+    omega arith
+
+count_le : {X : Type 0} (p : X → Bool) (xs : List X) → count_by p xs ≤ length xs
+count_le p [] = omega arith
+count_le p (x ∷ xs) = let k = count_le p xs in elim (cases_Bool (p x)) [ inl e ↦ rw (sum_by-cons, e) (omega arith) | inr e ↦ rw (sum_by-cons, e) (omega arith) ]
+
+pub issued_bound : (row : Row) (steps : List Step) (i : ℕ) (live : List Live) (latest : Latest) → i ≤ length steps → IsKept (history row (take i steps)) live latest → latest.issued ≤ i
+issued_bound row steps i live latest l kept =
+    let h = history row (take i steps) in
+    let a : count_by (λ d. d.at.issue == last_issue (history row (take i steps))) (history row (take i steps)) ≤ length (history row (take i steps)) = count_le (λ d. d.at.issue == last_issue (history row (take i steps))) (history row (take i steps)) in
+    let b : length (history row (take i steps)) ≡ length (take i steps) = length-history row (take i steps) in
+    let e : length (take i steps) ≡ i = length-take-le i steps l in
+    let k : latest.issued ≡ count_by (λ d. d.at.issue == last_issue (history row (take i steps))) (history row (take i steps)) = kept.issued in
+    omega arith
 
 -- one step more: what is kept, and the times so far
 turn : (row : Row) (xs : List Step) (x : Step) (at : Times) (live : List Live) (latest : Latest)
-  → IsRow row → ForSome (j_of x) (λ o. o.register < 32) → ForSome (k_of x) (λ o. o.register < 32) → ForSome (step_dest x) (λ r. r < 32) → IsKept (history row xs) live latest → IsNext row live latest x at
-  → IsKept (history row (xs ++ (x ∷ []))) (filter (λ l. nat_le at.issue l.end) live ++ (live_from (facts_of x) at ∷ [])) (latest_after (step_dest x) at latest)
+    → IsRow row → ForSome (j_of x) (λ o. o.register < 32) → ForSome (k_of x) (λ o. o.register < 32) → ForSome (step_dest x) (λ r. r < 32) → IsKept (history row xs) live latest → IsNext row live latest x at
+    → IsKept (history row (xs ++ (x ∷ []))) (filter (λ l. nat_le at.issue l.end) live ++ (live_from (facts_of x) at ∷ [])) (latest_after (facts_of x) at latest)
     × (times_in row (xs ++ (x ∷ [])) ≡ times_in row xs ++ (at ∷ []))
 turn row xs x at live latest good small_j small_k small kept next =
-  let timed : AreTimed row (history row xs) = are_timed row xs good in
-  let is : IsTimed row (history row xs) x at = next_is row (history row xs) x at live latest good small_j small_k (closed row (history row xs) good timed) kept next in
-  let same : at ≡ times_of row (history row xs) x = times_same row (history row xs) x at (times_of row (history row xs) x) is (times_are row (history row xs) x good timed) in
-  let r : InReach (greatest_end (history row xs)) at = in_reach row (history row xs) x at (greatest_end (history row xs)) good (timed_by row (history row xs) good timed) is in
-  let k = kept_on row (history row xs) x at live latest small kept is r.issue in
-  let m : history row (xs ++ (x ∷ [])) ≡ record { step = x; at = at } ∷ history row xs = rw same (history_more row xs x) in
-  (rw m k, times_more row xs x ∙ ap (λ t. times_in row xs ++ (t ∷ [])) (sym same))
+    let timed : AreTimed row (history row xs) = are_timed row xs good in
+    let is : IsTimed row (history row xs) x at = next_is row (history row xs) x at live latest good small_j small_k timed (closed row (history row xs) good timed) kept next in
+    let same : at ≡ times_of row (history row xs) x = times_same row (history row xs) x at (times_of row (history row xs) x) is (times_are row (history row xs) x good timed) in
+    let r : InReach (greatest_end (history row xs)) at = in_reach row (history row xs) x at (greatest_end (history row xs)) good (timed_by row (history row xs) good timed) is in
+    let k = kept_on row (history row xs) x at live latest small timed kept is r.issue in
+    let m : history row (xs ++ (x ∷ [])) ≡ record { step = x; at = at } ∷ history row xs = rw same (history_more row xs x) in
+    (rw m k, times_more row xs x ∙ ap (λ t. times_in row xs ++ (t ∷ [])) (sym same))
 
 for_some : (o : Option ℕ) → IfSome o (λ r. r < 32) → ForSome o (λ r. r < 32)
 for_some None h x e = absurd (cc)
 for_some (Some r) h x e = let k : r ≡ x = cc in rw (← k) h
 
 pub turn_at : (row : Row) (steps : List Step) (i : ℕ) (x : Step) (facts : Facts) (at : Times) (live : List Live) (latest : Latest)
-  → IsRow row → i < length steps → slice_index_or steps i x ≡ x → facts ≡ facts_of x → IfSome facts.dest (λ r. r < 32) → ForSome (j_of x) (λ o. o.register < 32) → ForSome (k_of x) (λ o. o.register < 32)
-  → IsKept (history row (take i steps)) live latest → IsNext row live latest x at
-  → IsKept (history row (take (i + 1) steps)) (filter (λ l. nat_le at.issue l.end) live ++ (live_from facts at ∷ [])) (latest_after facts.dest at latest)
+    → IsRow row → i < length steps → slice_index_or steps i x ≡ x → facts ≡ facts_of x → IfSome facts.dest (λ r. r < 32) → ForSome (j_of x) (λ o. o.register < 32) → ForSome (k_of x) (λ o. o.register < 32)
+    → IsKept (history row (take i steps)) live latest → IsNext row live latest x at
+    → IsKept (history row (take (i + 1) steps)) (filter (λ l. nat_le at.issue l.end) live ++ (live_from facts at ∷ [])) (latest_after facts at latest)
     × (times_in row (take (i + 1) steps) ≡ times_in row (take i steps) ++ (at ∷ []))
 turn_at row steps i x facts at live latest good l is of small small_j small_k kept next =
-  let m : take (i + 1) steps ≡ take i steps ++ (x ∷ []) = take_more steps i x l ∙ ap (λ y. take i steps ++ (y ∷ [])) is in
-  let small_dest : IfSome (step_dest x) (λ r. r < 32) = rw of at small in
-  rw (m, of) (turn row (take i steps) x at live latest good small_j small_k (for_some (step_dest x) small_dest) kept next)
+    let m : take (i + 1) steps ≡ take i steps ++ (x ∷ []) = take_more steps i x l ∙ ap (λ y. take i steps ++ (y ∷ [])) is in
+    let small_dest : IfSome (step_dest x) (λ r. r < 32) = rw of at small in
+    rw (m, of) (turn row (take i steps) x at live latest good small_j small_k (for_some (step_dest x) small_dest) kept next)

@@ -9,37 +9,40 @@ use Rattle.tomex_config.specs.Row.{Row}
 use Rattle.tomex_timing.specs.declared.times.Done.{Done}
 use Rattle.tomex_timing.specs.History.{last_issue}
 use Rattle.tomex_timing.specs.Station.{has_station}
-use Rattle.tomex_timing.specs.Recurrence.{IsTimed, AreTimed, can_issue, are_branches_finished}
+use Rattle.tomex_timing.specs.Recurrence.{AreTimed, can_issue, are_branches_finished}
 use Rattle.tomex_timing.specs.Laws.{IssuesAlone, IssuesRise}
 
 pub issue_from : (row : Row) (older : List Done) (s : Step) (t : ℕ) → can_issue row older s t ≡ true → last_issue older ≤ t
 issue_from row older s t h = leb-true (last_issue older) t (and_parts _ _ (and_parts _ _ (and_parts _ _ (and_parts _ _ h).0).0).1).0
 
 -- what issued by some cycle doesn't issue later
-none_later : (row : Row) (h : List Done) (t : ℕ) → AreTimed row h → last_issue h < t → count_by (λ d. d.at.issue == t) h ≡ 0
+pub none_later : (row : Row) (h : List Done) (t : ℕ) → AreTimed row h → last_issue h < t → count_by (λ d. d.at.issue == t) h ≡ 0
 none_later row [] t timed l = refl
 none_later row (d ∷ h) t timed l =
-  let k : last_issue h ≤ d.at.issue = issue_from row h d.step d.at.issue timed.0.issue.0 in
-  rw (sum_by-cons, ne_eqb d.at.issue t (λ (e : d.at.issue ≡ t). absurd (omega arith)), none_later row h t timed.1 (omega arith)) refl
+    let k : last_issue h ≤ d.at.issue = issue_from row h d.step d.at.issue timed.0.issue.0 in
+    rw (sum_by-cons, ne_eqb d.at.issue t (λ (e : d.at.issue ≡ t). absurd (omega arith)), none_later row h t timed.1 (omega arith)) refl
 
 some_there : (d : Done) (h : List Done) (t : ℕ) → d.at.issue ≡ t → 0 < count_by (λ d. d.at.issue == t) (d ∷ h)
 some_there d h t e = rw (sum_by-cons, eq-eqb d.at.issue t e) (omega arith)
 
 slot_alone : (row : Row) (h : List Done) (t : ℕ) → AreTimed row h → (nat_lt 0 t && (nat_le (last_issue h) t && nat_lt (count_by (λ d. d.at.issue == t) h) 1)) ≡ nat_lt (last_issue h) t
 slot_alone row [] t timed = elim (cases_Bool (nat_lt 0 t)) [
-    inl e ↦ rw (e, le-leb 0 t (omega arith)) refl
-  | inr e ↦ rw e refl ]
+  | inl e ↦ rw (e, le-leb 0 t (omega arith)) refl
+  | inr e ↦ rw e refl
+]
 slot_alone row (d ∷ h) t timed = elim (cases_order d.at.issue t) [
-    inl e ↦
+  | inl e ↦
       let p : 0 < count_by (λ d. d.at.issue == t) (d ∷ h) = some_there d h t e in
       rw (le-ltb (count_by (λ d. d.at.issue == t) (d ∷ h)) 1 (omega arith), le-ltb d.at.issue t (omega arith)) (last_false _ _)
   | inr (inl l) ↦ rw (none_later row (d ∷ h) t timed l, lt-ltb d.at.issue t l, le-leb d.at.issue t (omega arith), lt-ltb 0 t (omega arith)) refl
-  | inr (inr l) ↦ rw (lt-leb d.at.issue t l, le-ltb d.at.issue t (omega arith)) (mid_false _) ]
+  | inr (inr l) ↦ rw (lt-leb d.at.issue t l, le-ltb d.at.issue t (omega arith)) (mid_false _)
+]
   where
     last_false : (a b : Bool) → (a && (b && false)) ≡ false
     last_false false b = refl
     last_false true true = refl
     last_false true false = refl
+
     mid_false : (a : Bool) → (a && false) ≡ false
     mid_false true = refl
     mid_false false = refl
@@ -49,5 +52,5 @@ issues_alone row h s t one timed = rw one (ap (λ b. b && are_branches_finished 
 
 pub issues_rise : IssuesRise
 issues_rise row d h one timed =
-  let e = issues_alone row h d.step d.at.issue one timed.1 in
-  ltb-true (last_issue h) d.at.issue (and_parts _ _ (and_parts _ _ (sym e ∙ timed.0.issue.0)).0).0
+    let e = issues_alone row h d.step d.at.issue one timed.1 in
+    ltb-true (last_issue h) d.at.issue (and_parts _ _ (and_parts _ _ (sym e ∙ timed.0.issue.0)).0).0

@@ -21,24 +21,23 @@ IsLeast p t = IsTrue (p t) × ((s : ℕ) → s < t → p s ≡ false)
 unfoldable pub width_of : Row → ℕ
 width_of row = 1
 
--- Issue. Hennessy and Patterson: instructions issue in program order, where a station is left. This project: there is no speculation, so nothing issues before each older branch (a conditional branch or JALR) has finished.
-
 -- in program order, at most the width of them in a cycle
 abbrev pub has_slot : Row → List Done → ℕ → Bool
 has_slot row older t = nat_le (last_issue older) t && nat_lt (count_by (λ d. d.at.issue == t) older) (width_of row)
 
+-- each older branch, a conditional one or JALR, has finished
 abbrev pub are_branches_finished : List Done → ℕ → Bool
 are_branches_finished older t = list_all (λ d. not (is_branch d.step) || nat_lt d.at.finish t) older
 
+-- Issue. Hennessy and Patterson: in program order, where a reservation station is left. This project: nothing is speculated, so later than the finish of each older branch.
 abbrev pub can_issue : Row → List Done → Step → ℕ → Bool
 can_issue row older s t = nat_lt 0 t && has_slot row older t && are_branches_finished older t && has_station row older (step_pool s) t
 
--- Address. Hennessy and Patterson: loads and stores compute their addresses in program order. This project: one in a cycle, after the end of the base register's producer.
+-- Address. Hennessy and Patterson: loads and stores compute their addresses in program order, from the base register. This project: one in a cycle.
 abbrev pub can_address : List Done → Step → ℕ → ℕ → Bool
 can_address older s issue t = nat_lt issue t && nat_lt (source_end older (j_of s)) t && nat_lt (last_address older) t
 
--- Start. Tomasulo: an operation starts once its operands have come over the data bus, on a unit that is left. This project: the oldest are served first, and a unit starts one operation in a cycle.
-
+-- the producers of both operands have ended
 abbrev pub has_operands : List Done → Step → ℕ → Bool
 has_operands older s t = nat_lt (source_end older (j_of s)) t && nat_lt (source_end older (k_of s)) t
 
@@ -53,17 +52,19 @@ conflicts a b = shares_byte (bytes_of a) (bytes_of b) && (is_store a || is_store
 abbrev pub are_conflicts_finished : List Done → Step → ℕ → Bool
 are_conflicts_finished older s t = list_all (λ d. not (conflicts d.step s) || nat_lt d.at.finish t) older
 
+-- a unit of the kind is left: each starts one operation in a cycle
 abbrev pub has_unit : Row → List Done → UnitId → ℕ → Bool
 has_unit row older unit t = nat_lt (count_by (λ d. is_of unit (step_unit d.step) && d.at.start == t) older) (option_of row unit).units
 
+-- Start. Tomasulo: once the operands have come over the common data bus and a unit is left. Hennessy and Patterson: an access waits for older ones to its bytes, unless both are loads. This project: units are pipelined, and the oldest operations are served first.
 abbrev pub can_start : Row → List Done → Step → UnitId → ℕ → ℕ → ℕ → Bool
 can_start row older s unit issue address t = nat_lt issue t && nat_lt address t && has_operands older s t && are_conflicts_finished older s t && has_unit row older unit t
 
--- End. Tomasulo: a result is sent over the common data bus. This project: there may be several buses, and the oldest are served first.
-
+-- a bus is left
 abbrev pub has_bus : Row → List Done → ℕ → Bool
 has_bus row older t = nat_lt (count_by (λ d. is_some (step_dest d.step) && d.at.end == t) older) row.buses
 
+-- End. Tomasulo: after the unit, the result is sent over the common data bus. This project: there may be several buses, and the oldest results are served first.
 abbrev pub can_end : Row → List Done → ℕ → ℕ → Bool
 can_end row older finish t = nat_lt finish t && has_bus row older t
 

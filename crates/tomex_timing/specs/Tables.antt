@@ -1,9 +1,8 @@
 -- The tables after a cycle, of the history of a whole run: the busy stations, their fields, and the register status.
 -- The fields are those of Hennessy and Patterson's tables: V and Q of both operands, A, and Qi of each register.
-use Rattle.std.specs.Prelude.{ℕ, ◌==◌, nat_lt, nat_le, Bool, true, false, ◌&&◌, if◌then◌else◌, List, [], ◌∷◌, ◌++◌, Option, Some, None, map}
+use Rattle.std.specs.Prelude.{ℕ, nat_lt, nat_le, Bool, ◌&&◌, if◌then◌else◌, List, [], ◌∷◌, ◌++◌, Option, Some, None, map}
 use Rattle.std.specs.List.{filter_map, range_with_len}
 use Rattle.tomex_rvdec.specs.Instruction.{Instruction}
-use Rattle.tomex_rvdec.specs.Parts.{place_of_pool}
 use Rattle.tomex_rvdec.specs.declared.pool.PoolId.{PoolId}
 use Rattle.tomex_rvdec.specs.declared.pool.PoolId.TheVariants.{Alu, Mul, Div, Load, Store, Bru}
 use Rattle.tomex_rvexec.specs.Steps.{step_pool, step_dest, j_of, k_of, address_of}
@@ -74,9 +73,9 @@ busy_of t tag d older = record { tag = tag; instr = d.step.instr; j = field_of t
 abbrev pub shown : ℕ → List Done → Tag → Option Busy
 shown t [] tag = None
 shown t (d ∷ older) tag =
-  if is_under_way t d && is_in tag.pool (step_pool d.step) && is_number d.at.station tag.number
-  then Some (busy_of t tag d older)
-  else shown t older tag
+    if is_under_way t d && is_in tag.pool (step_pool d.step) && is_number d.at.station tag.number
+    then Some (busy_of t tag d older)
+    else shown t older tag
 
 -- Qi: the station of the register's youngest issued writer, where that one hasn't ended
 abbrev pub qi_of : ℕ → List Done → ℕ → Option Tag

@@ -21,7 +21,7 @@ abbrev pub facts_of : Step → Facts
 facts_of s = record { pool = step_pool s; unit = step_unit s; dest = step_dest s; bytes = bytes_of s; is_store = is_store s; is_branch = is_branch s }
 
 abbrev pub live_from : Facts → Times → Live
-live_from f at = record { facts = f; issue = at.issue; start = at.start; finish = at.finish; end = at.end; station = at.station }
+live_from f at = record { facts = f; start = at.start; finish = at.finish; end = at.end; station = at.station }
 
 abbrev pub live_of : Done → Live
 live_of d = live_from (facts_of d.step) d.at
@@ -50,14 +50,9 @@ has_station_among row live (Some pool) t = nat_lt (count_by (is_held_by pool t) 
 abbrev pub is_free_among : PoolId → List Live → ℕ → ℕ → Bool
 is_free_among pool live t n = list_all (λ l. not (is_held_by pool t l && is_number l.station n)) live
 
-abbrev pub has_room : Row → List Live → Option PoolId → ℕ → Bool
-has_room row live pool t = nat_lt (count_by (λ l. l.issue == t) live) (width_of row) && has_station_among row live pool t
-
-abbrev pub is_finished_branch : ℕ → Live → Bool
-is_finished_branch t l = not l.facts.is_branch || nat_lt l.finish t
-
-abbrev pub may_issue : Row → ℕ → List Live → Option PoolId → ℕ → Bool
-may_issue row from live pool t = nat_le from t && list_all (is_finished_branch t) live && has_room row live pool t
+-- the first cycle that is in program order, with room for an issue, and later than each branch's finish
+abbrev pub issue_from : Row → Latest → ℕ
+issue_from row latest = max (if nat_lt latest.issued (width_of row) then latest.issue else latest.issue + 1) (latest.branch + 1)
 
 -- start
 
@@ -98,12 +93,17 @@ address_among latest pool base issue = if is_memory_pool pool then Some (max (ma
 
 -- the times of a next step, by what is kept
 pub record IsNext (row : Row) (live : List Live) (latest : Latest) (s : Step) (at : Times) : Type 0 where
-  pub issue : IsLeast (may_issue row (max latest.issue 1) live (step_pool s)) at.issue
+  pub issue : IsFirst (issue_from row latest) (has_station_among row live (step_pool s)) at.issue
   pub address : at.address ≡ address_among latest (step_pool s) (end_among latest.ends (j_of s)) at.issue
   pub start : MatchOption (step_unit s) (at.start ≡ at.issue) (λ unit. IsLeast (may_start row (ready_from at.issue at.address (end_among latest.ends (j_of s)) (end_among latest.ends (k_of s))) live (facts_of s) unit) at.start)
   pub finish : MatchOption (step_unit s) (at.finish ≡ at.issue) (λ unit. at.finish ≡ at.start + (option_of row unit).latency - 1)
   pub end : MatchOption (step_unit s) (at.end ≡ at.issue) (λ unit. MatchBool (is_some (step_dest s)) (IsFirst (at.finish + 1) (has_bus_among row live) at.end) (at.end ≡ at.finish))
   pub station : MatchOption (step_pool s) (at.station ≡ None) (λ pool. (n : ℕ) × (at.station ≡ Some n) × IsLeast (is_free_among pool live at.issue) n)
+
+-- the latest finish of a branch, 0 where there is none
+abbrev pub branch_finish : List Done → ℕ
+branch_finish [] = 0
+branch_finish (d ∷ older) = if is_branch d.step then max d.at.finish (branch_finish older) else branch_finish older
 
 -- what is kept is of this history
 pub record IsKept (h : List Done) (live : List Live) (latest : Latest) : Type 0 where
@@ -111,12 +111,13 @@ pub record IsKept (h : List Done) (live : List Live) (latest : Latest) : Type 0 
   pub ends : (r : ℕ) → r < 32 → slice_index latest.ends r ≡ writer_end h r
   pub count : length latest.ends ≡ 32
   pub issue : latest.issue ≡ last_issue h
+  pub issued : latest.issued ≡ count_by (λ d. d.at.issue == last_issue h) h
+  pub branch : latest.branch ≡ branch_finish h
   pub address : latest.address ≡ last_address h
   pub end : latest.end ≡ greatest_end h
 
 -- no time of the step lies past the cycle
 pub record IsBy (g : ℕ) (l : Live) : Type 0 where
-  pub issue : l.issue ≤ g
   pub start : l.start ≤ g
   pub finish : l.finish ≤ g
   pub end : l.end ≤ g
@@ -126,11 +127,12 @@ pub record IsSettled (live : List Live) (latest : Latest) : Type 0 where
   pub window : All (IsBy latest.end) live
   pub ends : (r : ℕ) → r < 32 → slice_index latest.ends r ≤ latest.end
   pub issue : latest.issue ≤ latest.end
+  pub branch : latest.branch ≤ latest.end
   pub address : latest.address ≤ latest.end
 
 -- before the first step
 abbrev pub nothing_yet : Latest
-nothing_yet = record { ends = replicate 32 0; issue = 0; address = 0; end = 0 }
+nothing_yet = record { ends = replicate 32 0; issue = 0; issued = 0; branch = 0; address = 0; end = 0 }
 
 -- the ends of the registers' producers after one more step
 abbrev pub written_by : Option ℕ → ℕ → List ℕ → List ℕ
@@ -142,5 +144,12 @@ abbrev pub addressed_by : Option ℕ → ℕ → ℕ
 addressed_by None before = before
 addressed_by (Some t) before = t
 
-abbrev pub latest_after : Option ℕ → Times → Latest → Latest
-latest_after dest at latest = record { ends = written_by dest at.end latest.ends; issue = at.issue; address = addressed_by at.address latest.address; end = max at.end latest.end }
+abbrev pub latest_after : Facts → Times → Latest → Latest
+latest_after f at latest = record {
+  ends = written_by f.dest at.end latest.ends;
+  issue = at.issue;
+  issued = if at.issue == latest.issue then latest.issued + 1 else 1;
+  branch = if f.is_branch then max at.finish latest.branch else latest.branch;
+  address = addressed_by at.address latest.address;
+  end = max at.end latest.end;
+}

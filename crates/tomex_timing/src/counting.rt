@@ -3,8 +3,8 @@
 ghost use Rattle.std.specs.Prelude.{◌≡◌, ℕ, ◌+◌, ◌^◌, ◌<◌, ◌≤◌, ◌==◌, ◌&&◌, ◌||◌, not, max, nat_lt, nat_le, count_by, All};
 ghost use Rattle.std.specs.List.{list_all};
 ghost use Rattle.tomex_timing.specs.History.{is_in, is_of, is_number};
-ghost use Rattle.tomex_timing.specs.Recurrence.{shares_byte, width_of};
-ghost use Rattle.tomex_timing.specs.Window.{IsBy, is_held_by, has_station_among, is_free_among, has_room, is_finished_branch, conflicts_with, is_finished_conflict, starts_in, has_unit_among, sends_in, has_bus_among, is_memory_pool};
+ghost use Rattle.tomex_timing.specs.Recurrence.{shares_byte};
+ghost use Rattle.tomex_timing.specs.Window.{IsBy, is_held_by, has_station_among, is_free_among, conflicts_with, is_finished_conflict, starts_in, has_unit_among, sends_in, has_bus_among, is_memory_pool};
 
 use crate::window::{Facts, Live};
 use tomex_config::Config;
@@ -64,22 +64,6 @@ fn conflicts(facts: &Facts, older: &Live) -> bool
     (older.facts.is_store || facts.is_store) && shares_byte(older.facts.bytes, facts.bytes)
 }
 
-/// How many instructions issue in a cycle at most.
-#[tactic(auto, unfolding(crate::specs::Recurrence::width_of))]
-fn width(row: &Config) -> usize
-    ensures { result ≡ width_of row.now }
-{
-    let _row = row;
-    1
-}
-
-/// How many of the steps issue in the cycle.
-fn issued_in(live: &[Live], cycle: u64) -> usize
-    ensures { result ≡ count_by (λ l. l.issue == cycle) live.now }
-{
-    live.iter().filter(|step| step.issue == cycle).count()
-}
-
 /// How many of the pool's stations are held in the cycle.
 fn held_in(live: &[Live], pool: PoolId, cycle: u64) -> usize
     ensures { result ≡ count_by (is_held_by pool cycle) live.now }
@@ -102,7 +86,9 @@ fn started_in(live: &[Live], unit: UnitId, cycle: u64) -> usize
 fn sent_in(live: &[Live], cycle: u64) -> usize
     ensures { result ≡ count_by (sends_in cycle) live.now }
 {
-    live.iter().filter(|step| step.facts.dest.is_some() && step.end == cycle).count()
+    live.iter()
+        .filter(|step| step.facts.dest.is_some() && step.end == cycle)
+        .count()
 }
 
 /// Whether no step has the pool's station of this number in the cycle.
@@ -115,20 +101,13 @@ pub(crate) fn is_free(live: &[Live], pool: PoolId, cycle: u64, number: u8) -> bo
 }
 
 /// Whether a station of the pool is left in the cycle.
-fn has_station(row: &Config, live: &[Live], pool: Option<PoolId>, cycle: u64) -> bool
+pub(crate) fn has_station(row: &Config, live: &[Live], pool: Option<PoolId>, cycle: u64) -> bool
     ensures { result ≡ has_station_among row.now live.now pool cycle }
 {
     match pool {
         None => true,
         Some(pool) => held_in(live, pool, cycle) < row.stations(pool) as usize,
     }
-}
-
-/// Whether fewer issue in the cycle than may, and a station is left.
-pub(crate) fn has_room(row: &Config, live: &[Live], pool: Option<PoolId>, cycle: u64) -> bool
-    ensures { result ≡ has_room row.now live.now pool cycle }
-{
-    issued_in(live, cycle) < width(row) && has_station(row, live, pool, cycle)
 }
 
 /// Whether a unit of the kind is left in the cycle.
@@ -158,20 +137,6 @@ fn later(cycle: u64, waits: bool, finish: u64) -> u64
     }
 }
 
-/// The first cycle from `from` on that is later than each branch's finish.
-pub(crate) fn past_branches(live: &[Live], from: u64, bound: u64) -> u64
-    requires live { All (IsBy bound) live.now }
-    requires small { bound < 2 ^ 63 }
-    ensures from { (t : ℕ) → nat_le result t ≡ (nat_le from t && list_all (is_finished_branch t) live.now) }
-    ensures by { result ≤ max from (bound + 1) }
-{
-    let mut cycle = from;
-    for step in live {
-        cycle = later(cycle, step.facts.is_branch, step.finish);
-    }
-    cycle
-}
-
 /// The first cycle from `from` on that is later than the finish of each step that the facts conflict
 /// with.
 pub(crate) fn past_conflicts(live: &[Live], facts: &Facts, from: u64, bound: u64) -> u64
@@ -180,6 +145,9 @@ pub(crate) fn past_conflicts(live: &[Live], facts: &Facts, from: u64, bound: u64
     ensures from { (t : ℕ) → nat_le result t ≡ (nat_le from t && list_all (is_finished_conflict facts.now t) live.now) }
     ensures by { result ≤ max from (bound + 1) }
 {
+    if facts.bytes.is_none() {
+        return from;
+    }
     let mut cycle = from;
     for step in live {
         cycle = later(cycle, conflicts(facts, step), step.finish);

@@ -43,7 +43,7 @@ pub fn times<A: Allocator + Clone>(
         let at = next_times(row, &live, &latest, step, &facts);
         keep_recent(&mut live, at.issue);
         live.push(Live::new(facts, &at))?;
-        latest.note(facts.dest, &at);
+        latest.note(&facts, &at);
         result.push(at)?;
     }
     Ok(result)

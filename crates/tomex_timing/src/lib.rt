@@ -20,3 +20,6 @@ pub use laws::{
     total_is_bounded, younger_steps_change_nothing,
 };
 pub use times::{Done, Times};
+
+#[cfg(test)]
+mod tests;

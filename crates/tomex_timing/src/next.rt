@@ -6,10 +6,10 @@ ghost use Rattle.std.specs.Option.{ForSome};
 ghost use Rattle.tomex_rvexec.specs.Steps.{step_pool, j_of, k_of};
 ghost use Rattle.tomex_config.specs.Row.{IsRow};
 ghost use Rattle.tomex_timing.specs.History.{cycle_of};
-ghost use Rattle.tomex_timing.specs.Recurrence.{IsLeast};
-ghost use Rattle.tomex_timing.specs.Window.{IsBy, IsSettled, IsNext, IsFirst, facts_of, may_issue, may_start, has_station_among, has_bus_among, is_free_among, end_among, ready_from, address_among};
+ghost use Rattle.tomex_timing.specs.Recurrence.{IsLeast, width_of};
+ghost use Rattle.tomex_timing.specs.Window.{IsBy, IsSettled, IsNext, IsFirst, facts_of, issue_from, may_start, has_station_among, has_bus_among, is_free_among, end_among, ready_from, address_among};
 
-use crate::counting::{is_memory, past_branches, past_conflicts};
+use crate::counting::{is_memory, past_conflicts};
 use crate::searches::{find_end, find_issue, find_start, find_station};
 use crate::times::Times;
 use crate::window::{Facts, Latest, Live};
@@ -28,17 +28,30 @@ fn end_of(latest: &Latest, operand: Option<Operand>) -> u64
     }
 }
 
-/// The cycle in which a step issues.
-fn issue_of(row: &Config, live: &[Live], latest: &Latest, pool: Option<PoolId>) -> u64
-    requires row { IsRow row.now }
-    requires settled { IsSettled live.now latest.now }
+/// How many instructions issue in a cycle at most.
+#[tactic(auto, unfolding(crate::specs::Recurrence::width_of))]
+fn width(row: &Config) -> u64
+    ensures { result ≡ width_of row.now }
+{
+    let _row = row;
+    1
+}
+
+/// The first cycle that is in program order, with room for an issue, and later than each branch's
+/// finish.
+fn issue_from(row: &Config, latest: &Latest) -> u64
+    requires issue { latest.now.issue ≤ latest.now.end }
+    requires branch { latest.now.branch ≤ latest.now.end }
     requires small { latest.now.end < 2 ^ 63 }
-    ensures least { IsLeast (may_issue row.now (max latest.now.issue 1) live.now pool) result }
-    ensures left { has_station_among row.now live.now pool result ≡ true }
+    ensures from { result ≡ issue_from row.now latest.now }
     ensures by { result ≤ latest.now.end + 1 }
 {
-    let from = past_branches(live, latest.issue.max(1), latest.end);
-    find_issue(row, live, pool, from, latest.end)
+    let from = if latest.issued < width(row) {
+        latest.issue
+    } else {
+        latest.issue + 1
+    };
+    from.max(latest.branch + 1)
 }
 
 /// The cycle in which a load or store computes its address, from the end of its base's producer.
@@ -69,14 +82,7 @@ fn ready_of(issue: u64, address: Option<u64>, j: u64, k: u64) -> u64
 }
 
 /// The cycle in which an operation starts, which is ready from a cycle on.
-fn start_of(
-    row: &Config,
-    live: &[Live],
-    facts: &Facts,
-    unit: UnitId,
-    ready: u64,
-    bound: u64,
-) -> u64
+fn start_of(row: &Config, live: &[Live], facts: &Facts, unit: UnitId, ready: u64, bound: u64) -> u64
     requires row { IsRow row.now }
     requires live { All (IsBy bound) live.now }
     requires ready { ready ≤ bound + 3 }
@@ -133,7 +139,8 @@ pub(crate) fn next_times(
 {
     let j = end_of(latest, step.j());
     let k = end_of(latest, step.k());
-    let issue = issue_of(row, live, latest, facts.pool);
+    let from = issue_from(row, latest);
+    let issue = find_issue(row, live, facts.pool, from, latest.end);
     let address = address_of(latest, facts.pool, j, issue);
     let station = station_of(row, live, facts.pool, issue);
     let Some(unit) = facts.unit else {

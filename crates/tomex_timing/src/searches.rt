@@ -3,15 +3,15 @@
 ghost use Rattle.std.specs.Prelude.{◌≡◌, ℕ, ◌+◌, ◌^◌, ◌<◌, ◌≤◌, true, Some, All};
 ghost use Rattle.tomex_config.specs.Row.{IsRow};
 ghost use Rattle.tomex_timing.specs.Recurrence.{IsLeast};
-ghost use Rattle.tomex_timing.specs.Window.{IsBy, IsFirst, has_room, has_station_among, has_unit_among, has_bus_among, is_free_among};
+ghost use Rattle.tomex_timing.specs.Window.{IsBy, IsFirst, has_station_among, has_unit_among, has_bus_among, is_free_among};
 
-use crate::counting::{has_bus, has_room, has_unit, is_free};
+use crate::counting::{has_bus, has_station, has_unit, is_free};
 use crate::window::Live;
 use tomex_config::Config;
 use tomex_rvdec::{PoolId, UnitId};
 
-/// The first cycle from `from` on in which the step may issue, where no branch is in the way. Nothing
-/// that is kept lies past the cycle `bound`.
+/// The first cycle from `from` on with a station of the pool left. Nothing that is kept lies past the
+/// cycle `bound`.
 pub(crate) fn find_issue(
     row: &Config,
     live: &[Live],
@@ -23,11 +23,11 @@ pub(crate) fn find_issue(
     requires live { All (IsBy bound) live.now }
     requires from { from ≤ bound + 1 }
     requires small { bound < 2 ^ 63 }
-    ensures first { IsFirst from (has_room row.now live.now pool) result }
+    ensures first { IsFirst from (has_station_among row.now live.now pool) result }
     ensures by { result ≤ bound + 1 }
 {
     let mut cycle = from;
-    while !has_room(row, live, pool, cycle) {
+    while !has_station(row, live, pool, cycle) {
         cycle += 1;
     }
     cycle

@@ -1,7 +1,7 @@
 //! What the evaluator keeps of the steps before: those that may still be in the way of a next one,
 //! and what is latest.
 
-ghost use Rattle.std.specs.Prelude.{◌≡◌, ◌<◌, IfSome};
+ghost use Rattle.std.specs.Prelude.{◌≡◌, ◌<◌, ◌^◌, IfSome};
 ghost use Rattle.std.specs.Option.{ForSome};
 ghost use Rattle.tomex_timing.specs.Window.{facts_of, live_from, nothing_yet, latest_after};
 
@@ -24,7 +24,6 @@ pub(crate) struct Facts {
 #[derive(Clone, Copy)]
 pub(crate) struct Live {
     pub facts: Facts,
-    pub issue: u64,
     pub start: u64,
     pub finish: u64,
     pub end: u64,
@@ -37,6 +36,10 @@ pub(crate) struct Latest {
     /// The end of each register's youngest writer.
     pub ends: [u64; 32],
     pub issue: u64,
+    /// How many issued in that cycle.
+    pub issued: u64,
+    /// The latest finish of a branch.
+    pub branch: u64,
     pub address: u64,
     /// The greatest end.
     pub end: u64,
@@ -64,7 +67,6 @@ impl Live {
     {
         Live {
             facts,
-            issue: at.issue,
             start: at.start,
             finish: at.finish,
             end: at.end,
@@ -81,23 +83,34 @@ impl Latest {
         Latest {
             ends: [0; 32],
             issue: 0,
+            issued: 0,
+            branch: 0,
             address: 0,
             end: 0,
         }
     }
 
     /// Notes a step with its times.
-    pub fn note(&mut self, dest: Option<u8>, at: &Times)
-        requires { ForSome dest (λ r. r < 32) }
-        ensures { self.new ≡ latest_after dest at.now self.old }
+    pub fn note(&mut self, facts: &Facts, at: &Times)
+        requires register { ForSome facts.now.dest (λ r. r < 32) }
+        requires few { self.old.issued < 2 ^ 63 }
+        ensures { self.new ≡ latest_after facts.now at.now self.old }
     {
-        if let Some(register) = dest {
+        if let Some(register) = facts.dest {
             self.ends[register as usize] = at.end;
         }
+        self.issued = if at.issue == self.issue {
+            self.issued + 1
+        } else {
+            1
+        };
         self.issue = at.issue;
+        if facts.is_branch {
+            self.branch = at.finish.max(self.branch);
+        }
         if let Some(cycle) = at.address {
             self.address = cycle;
         }
-        self.end = self.end.max(at.end);
+        self.end = at.end.max(self.end);
     }
 }

@@ -1,5 +1,6 @@
 //! `run IMAGE [--base N] [--size N] [--limit N]`
-ghost use Rattle.std.specs.Prelude.{◌≤◌};
+ghost use Rattle.std.specs.Prelude.{◌≤◌, IfErr};
+ghost use Rattle.tomex.specs.Lines.{IsRefusal};
 
 use super::LineFault;
 use super::values::{Bounds, number, number_of, word, word_of};
@@ -45,12 +46,15 @@ const LONG_ABOUT: &str = "Runs an image, one instruction after the other, until 
 EBREAK. Prints the 32 registers in hexadecimal, a line each, and then how and
 where the program ended and after how many instructions.
 
-IMAGE is a flat file of RV32IM code and data, as `objcopy -O binary` writes it.
-It is loaded at the base address and starts there. The rest of memory is zero,
-and so are the registers but x2: it holds the end of memory, rounded down to a
-multiple of 16.";
+IMAGE is a flat file of RV32IM code and data, as `objcopy -O binary` writes it,
+or a 32-bit ELF executable that is linked statically for RISC-V. A flat file is
+loaded at the base address and starts there; an ELF file says itself where its
+segments stand, which must be inside memory, and where it starts. The rest of
+memory is zero, and so are the registers but x2: it holds the end of memory,
+rounded down to a multiple of 16.";
 
-const AFTER_LONG_HELP: &str = "Example:
+const AFTER_LONG_HELP: &str = "Examples:
+  tomex run primes.elf --base 65536 --size 262144
   tomex run mul.bin --base 0 --size 65536 --limit 100
 
 prints x0=00000000 to x31=00000000, a line each, and then
@@ -75,10 +79,9 @@ pub(super) fn grammar<'a>(alloc: Global) -> Result<Command<'a>, AllocError> {
         .arg(number(alloc, "limit", LIMIT, "262144", LIMIT_HELP))
 }
 
-pub(super) fn line_of<'a>(
-    alloc: Global,
-    matches: &ArgMatches<'a>,
-) -> Result<RunLine<'a>, LineFault> {
+pub(super) fn line_of<'a>(alloc: Global, matches: &ArgMatches<'a>) -> Result<RunLine<'a>, LineFault>
+    ensures { IfErr result IsRefusal }
+{
     Ok(RunLine {
         image: word_of(alloc, matches, "IMAGE")?,
         base: number_of(alloc, matches, "base", BASE)?,

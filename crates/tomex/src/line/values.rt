@@ -1,5 +1,6 @@
 //! The values of a line: what `clap` is to read, and what it read.
-ghost use Rattle.std.specs.Prelude.{◌≤◌, IfOk};
+ghost use Rattle.std.specs.Prelude.{◌≤◌, IfOk, IfErr};
+ghost use Rattle.tomex.specs.Lines.{IsRefusal};
 
 use super::LineFault;
 use clap::{Arg, ArgMatches, value_parser};
@@ -35,7 +36,9 @@ pub fn word<'a>(alloc: Global, name: &'a str, help: &'a str) -> Arg<'a> {
 }
 
 /// A line is refused for this part of it.
-pub fn refused(alloc: Global, name: &str) -> LineFault {
+pub fn refused(alloc: Global, name: &str) -> LineFault
+    ensures { IsRefusal result }
+{
     match format!(in alloc; "error: {name} missing or out of range\n") {
         Ok(text) => LineFault::Usage(text),
         Err(_) => LineFault::Memory,
@@ -50,7 +53,8 @@ pub fn number_of(
     name: &str,
     bounds: Bounds,
 ) -> Result<u32, LineFault>
-    ensures { IfOk result (λ number. (bounds.least ≤ number) × (number ≤ bounds.greatest)) }
+    ensures within { IfOk result (λ number. (bounds.least ≤ number) × (number ≤ bounds.greatest)) }
+    ensures refused { IfErr result IsRefusal }
 {
     match matches.get_one::<u32>(name) {
         Some(number) if bounds.least <= number && number <= bounds.greatest => Ok(number),
@@ -63,7 +67,9 @@ pub fn word_of<'a>(
     alloc: Global,
     matches: &ArgMatches<'a>,
     name: &str,
-) -> Result<&'a str, LineFault> {
+) -> Result<&'a str, LineFault>
+    ensures { IfErr result IsRefusal }
+{
     match matches.get_str(name) {
         Some(text) => Ok(text),
         None => Err(refused(alloc, name)),

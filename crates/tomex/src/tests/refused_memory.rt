@@ -100,9 +100,16 @@ impl Attempt for Run {
             Err(outcome) => return Ok(outcome),
         };
         match run(heap, &image, 4) {
-            Ok(end) if end.regs[3] == 35 => Ok(Try::Answered),
+            Ok(end) => {
+                let product = end.regs[3];
+                Ok(if product == 35 {
+                    Try::Answered
+                } else {
+                    Try::Wrong
+                })
+            }
             Err(RunError::Memory) => Ok(Try::Refused),
-            _ => Ok(Try::Wrong),
+            Err(_) => Ok(Try::Wrong),
         }
     }
 }

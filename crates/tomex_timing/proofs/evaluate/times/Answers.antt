@@ -1,40 +1,45 @@
 -- Each turn of the loop keeps what is kept, and adds the step's times.
-use Rattle.std.proofs.Common.{rules, ◌≡◌, ◌≤◌, ◌<◌, ◌*◌, ◌^◌, arith, length, slice_index_or, sym, ◌∙◌}
-use Rattle.std.specs.Option.{ForSome}
+use Rattle.std.proofs.Common.{rules, ◌≡◌, ◌≤◌, ◌*◌, arith, slice_index_or, sym}
 use Rattle.std.proofs.lemmas.Grind.{common_steps}
-use Rattle.tomex_rvexec.specs.Steps.{step_dest, j_of, k_of}
 use Rattle.tomex_timing.specs.Search.{times_in}
 use Rattle.tomex_timing.proofs.Histories.{are_timed, times_bound}
-use Rattle.tomex_timing.proofs.Turns.{start_kept, settled_at, end_bound, turn_at}
+use Rattle.tomex_timing.proofs.Turns.{start_kept, settled_at, end_bound, issued_bound, turn_at}
 use Rattle.tomex_timing.proofs.evaluate.times.Goals as goal
 
 pub loop-step-init : goal.loop-step-init
 loop-step-init g c = record {
   kept = rw (c.new-live.ensures.items, c.none-latest.ensures) (start_kept c.args.row.now);
-  times = c.new-result.ensures.items }
+  times = c.new-result.ensures.items;
+}
 
 pub next_times-at-requires-clause-settled : goal.next_times-at-requires-clause-settled
 next_times-at-requires-clause-settled g c =
-  rw c.deref.ensures.value (settled_at c.args.row.now c.args.steps.now c.loop-step.step-index c.loop-step.live.items c.loop-step.latest c.buses-buses.ensures.lawful c.loop-step.invariant.kept)
+    rw c.deref.ensures.value (settled_at c.args.row.now c.args.steps.now c.loop-step.step-index c.loop-step.live.items c.loop-step.latest c.buses-buses.ensures.lawful c.loop-step.invariant.kept)
 
 pub next_times-at-requires-clause-small : goal.next_times-at-requires-clause-small
 next_times-at-requires-clause-small g c =
-  let by : c.loop-step.latest.end ≤ 67 * c.loop-step.step-index = end_bound c.args.row.now c.args.steps.now c.loop-step.step-index c.loop-step.live.items c.loop-step.latest c.buses-buses.ensures.lawful (omega arith) c.loop-step.invariant.kept in
-  omega arith
+    let by : c.loop-step.latest.end ≤ 67 * c.loop-step.step-index = end_bound c.args.row.now c.args.steps.now c.loop-step.step-index c.loop-step.live.items c.loop-step.latest c.buses-buses.ensures.lawful (omega arith) c.loop-step.invariant.kept in
+    omega arith
+
+pub note-requires-clause-few : goal.note-requires-clause-few
+note-requires-clause-few g c =
+    let by : c.loop-step.latest.issued ≤ c.loop-step.step-index = issued_bound c.args.row.now c.args.steps.now c.loop-step.step-index c.loop-step.live.items c.loop-step.latest (omega arith) c.loop-step.invariant.kept in
+    omega arith
 
 pub loop-step-preserved : goal.loop-step-preserved
 loop-step-preserved g c =
-  let n = rw c.deref.ensures.value at c.next_times-at.ensures.next in
-  let is : slice_index_or c.args.steps.now c.loop-step.step-index c.step-item.result ≡ c.step-item.result = search rules in
-  let s = turn_at c.args.row.now c.args.steps.now c.loop-step.step-index c.step-item.result c.of-facts.result c.next_times-at.result c.loop-step.live.items c.loop-step.latest c.buses-buses.ensures.lawful c.loop-step-test.true is c.of-facts.ensures.facts c.of-facts.ensures.register c.next_times-at.ensures.j c.next_times-at.ensures.k c.loop-step.invariant.kept n in
-  record {
-    kept = rw (c.in_ok-push.ensures.items, c.keep_recent.ensures, c.note.ensures, c.new.ensures) s.0;
-    times = rw (c.in_ok-push-2.ensures.items, c.loop-step.invariant.times) (sym s.1) }
+    let n = rw c.deref.ensures.value at c.next_times-at.ensures.next in
+    let is : slice_index_or c.args.steps.now c.loop-step.step-index c.step-item.result ≡ c.step-item.result = search rules in
+    let s = turn_at c.args.row.now c.args.steps.now c.loop-step.step-index c.step-item.result c.of-facts.result c.next_times-at.result c.loop-step.live.items c.loop-step.latest c.buses-buses.ensures.lawful c.loop-step-test.true is c.of-facts.ensures.facts c.of-facts.ensures.register c.next_times-at.ensures.j c.next_times-at.ensures.k c.loop-step.invariant.kept n in
+    record {
+      kept = rw (c.in_ok-push.ensures.items, c.keep_recent.ensures, c.note.ensures, c.new.ensures) s.0;
+      times = rw (c.in_ok-push-2.ensures.items, c.loop-step.invariant.times) (sym s.1);
+    }
 
 pub returns-clause-recurrence : goal.returns-clause-recurrence
 returns-clause-recurrence g c = are_timed c.args.row.now c.args.steps.now c.buses-buses.ensures.lawful
 
 pub returns-clause-bound : goal.returns-clause-bound
 returns-clause-bound g c =
-  let e : c.loop-step.result.items ≡ times_in c.args.row.now c.args.steps.now = grind (arith, common_steps) in
-  rw e (times_bound c.args.row.now c.args.steps.now c.buses-buses.ensures.lawful)
+    let e : c.loop-step.result.items ≡ times_in c.args.row.now c.args.steps.now = grind (arith, common_steps) in
+    rw e (times_bound c.args.row.now c.args.steps.now c.buses-buses.ensures.lawful)

@@ -1,5 +1,5 @@
 -- One step more.
-use Rattle.std.proofs.Common.{rules, sym}
+use Rattle.std.proofs.Common.{sym}
 use Rattle.tomex_timing.proofs.Histories.{total_more}
 use Rattle.tomex_timing.proofs.evaluate.total.Goals as goal
 

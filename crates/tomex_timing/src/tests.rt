@@ -1,0 +1,89 @@
+//! Runs of small programs, traced and timed.
+
+use crate::Times;
+use crate::evaluate::{times, total};
+use std::test::Fail;
+use tomex_config::{Config, UnitOption};
+use tomex_image::{Window, load};
+use tomex_rvexec::{Step, trace};
+
+/// One unit of this latency.
+fn unit(latency: u8) -> UnitOption {
+    UnitOption {
+        units: 1,
+        latency,
+        price: 0,
+    }
+}
+
+/// The trace of a program at address 0.
+fn trace_of(rt: &HostRuntime, words: &[u32]) -> Result<Vec<Step>, Fail> {
+    let mut bytes = Vec::new(rt.alloc());
+    for word in words {
+        bytes.extend_from_slice(&word.to_le_bytes())?;
+    }
+    let window = Window::new(0, 65536).ok_or("no window")?;
+    let image = load(rt.alloc(), bytes.as_slice(), window)?;
+    Ok(trace(rt.alloc(), &image, 1000).map_err(|_| "no trace")?)
+}
+
+/// `addi x1,x0,499; addi x1,x1,-1; bne x1,x0,-4; ebreak`
+const LOOP: [u32; 4] = [0x1f300093, 0xfff08093, 0xfe009ee3, 0x00100073];
+
+#[test]
+fn a_loop_takes_its_cycles(rt: HostRuntime) -> Result<(), Fail> {
+    let steps = trace_of(&rt, LOOP.as_slice())?;
+    assert_eq!(rt; steps.len(), 1000);
+    for (latency, cycles) in [(1, 2000), (10, 6500)] {
+        let units = [unit(latency), unit(1), unit(1), unit(1), unit(1)];
+        let row = Config::new([1; 6], units, 1).ok_or("no row")?;
+        let timed = times(rt.alloc(), steps.as_slice(), &row)?;
+        assert_eq!(rt; timed.len(), 1000);
+        assert_eq!(rt; total(timed.as_slice()), cycles);
+    }
+    Ok(())
+}
+
+/// `addi x8,x0,256; lb x1,0(x8); lb x2,0(x8); ebreak`
+const TWO_LOADS: [u32; 4] = [0x10000413, 0x00040083, 0x00040103, 0x00100073];
+
+/// The times of a load in its buffer's first or second station.
+fn load_times(cycles: [u64; 5], station: u8) -> Times {
+    Times {
+        issue: cycles[0],
+        address: Some(cycles[1]),
+        start: cycles[2],
+        finish: cycles[3],
+        end: cycles[4],
+        station: Some(station),
+    }
+}
+
+#[test]
+fn loads_of_one_byte_do_not_wait_for_each_other(rt: HostRuntime) -> Result<(), Fail> {
+    let steps = trace_of(&rt, TWO_LOADS.as_slice())?;
+    assert_eq!(rt; steps.len(), 4);
+    let first = load_times([2, 4, 5, 6, 7], 0);
+    for (stations, second, cycles) in [
+        (2, load_times([3, 5, 6, 7, 8], 1), 8),
+        (1, load_times([8, 9, 10, 11, 12], 0), 12),
+    ] {
+        let units = [unit(1), unit(1), unit(1), unit(2), unit(1)];
+        let row = Config::new([1, 1, 1, stations, 1, 1], units, 1).ok_or("no row")?;
+        let timed = times(rt.alloc(), steps.as_slice(), &row)?;
+        assert_eq!(rt; timed.len(), 4);
+        assert_eq!(rt; timed[1], first);
+        assert_eq!(rt; timed[2], second);
+        assert_eq!(rt; total(timed.as_slice()), cycles);
+    }
+    Ok(())
+}
+
+#[test]
+fn no_steps_take_no_cycles(rt: HostRuntime) -> Result<(), Fail> {
+    let row = Config::new([1; 6], [unit(1); 5], 1).ok_or("no row")?;
+    let steps: Vec<Step> = Vec::new(rt.alloc());
+    let timed = times(rt.alloc(), steps.as_slice(), &row)?;
+    assert_eq!(rt; total(timed.as_slice()), 0);
+    Ok(())
+}
