@@ -1,3 +1,5 @@
 pub mod Ranges
 pub mod Lengths
 pub mod Varied
+pub mod Counted
+pub mod Rows

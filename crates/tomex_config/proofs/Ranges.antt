@@ -23,8 +23,8 @@ fits_any Mem o h = h
 
 -- an option for one kind leaves a single branch unit
 pub one_branch_unit : (unit : UnitId) (o : UnitOption) (units : List UnitOption) → is_option (most_units unit) o ≡ true
-  → length units ≡ 5 → (slice_index_or units 4 plain_option).units ≡ 1
-  → (slice_index_or (slice_set units (place_of_unit unit) o) 4 plain_option).units ≡ 1
+    → length units ≡ 5 → (slice_index_or units 4 plain_option).units ≡ 1
+    → (slice_index_or (slice_set units (place_of_unit unit) o) 4 plain_option).units ≡ 1
 one_branch_unit Bru o units h n one = grind (arith, common_steps)
 one_branch_unit Alu o units h n one = grind (arith, common_steps)
 one_branch_unit Mul o units h n one = grind (arith, common_steps)

@@ -12,7 +12,7 @@ use Rattle.tomex_config.specs.Grid.{Lists, rows_of}
 use Rattle.tomex_config.specs.Vary.{vary, option_rows}
 
 -- the part that an axis replaces, and its values
-data Axis : Type 0 where
+pub data Axis : Type 0 where
   counts : (Row → ℕ → Row) → List ℕ → Axis
   options : (Row → UnitOption → Row) → List UnitOption → Axis
 
@@ -23,7 +23,7 @@ chained (counts part values ∷ axes) rows = chained axes (vary part values rows
 chained (options part values ∷ axes) rows = chained axes (vary part values rows)
 
 -- each choice of a value from each axis
-abbrev chosen : List Axis → Row → List Row
+abbrev pub chosen : List Axis → Row → List Row
 chosen [] row = row ∷ []
 chosen (counts part values ∷ axes) row = flat_map (λ value. chosen axes (part row value)) values
 chosen (options part values ∷ axes) row = flat_map (λ value. chosen axes (part row value)) values
@@ -34,7 +34,7 @@ flat_map-self (row ∷ rows) = ap (λ rest. row ∷ rest) (flat_map-self rows)
 
 -- one more axis, before those to come
 flat_map-vary : {V : Type 0} (follows : Row → List Row) (part : Row → V → Row) (values : List V) (rows : List Row)
-  → flat_map follows (vary part values rows) ≡ flat_map (λ row. flat_map (λ value. follows (part row value)) values) rows
+    → flat_map follows (vary part values rows) ≡ flat_map (λ row. flat_map (λ value. follows (part row value)) values) rows
 flat_map-vary follows part values [] = refl
 flat_map-vary follows part values (row ∷ rows) =
     flat_map-append follows (map (part row) values) (vary part values rows)
@@ -48,7 +48,7 @@ chained-chosen (counts part values ∷ axes) rows =
 chained-chosen (options part values ∷ axes) rows =
     chained-chosen axes (vary part values rows) ∙ flat_map-vary (chosen axes) part values rows
 
-abbrev all_axes : Lists → List Axis
+abbrev pub all_axes : Lists → List Axis
 all_axes axes =
     counts (with_stations pools.Alu) axes.alu
     ∷ counts (with_stations pools.Mul) axes.mul

@@ -24,19 +24,19 @@ pub record Lists : Type 0 where
 
 abbrev pub lists_of : {A : Type 0} → Axes A → Lists
 lists_of axes = record {
-    alu = axes.alu.items;
-    mul = axes.mul.items;
-    div = axes.div.items;
-    load = axes.load.items;
-    store = axes.store.items;
-    bru = axes.bru.items;
-    alu_units = axes.alu_units.items;
-    mul_units = axes.mul_units.items;
-    div_units = axes.div_units.items;
-    mem_units = axes.mem_units.items;
-    bru_units = axes.bru_units.items;
-    buses = axes.buses.items;
-  }
+  alu = axes.alu.items;
+  mul = axes.mul.items;
+  div = axes.div.items;
+  load = axes.load.items;
+  store = axes.store.items;
+  bru = axes.bru.items;
+  alu_units = axes.alu_units.items;
+  mul_units = axes.mul_units.items;
+  div_units = axes.div_units.items;
+  mem_units = axes.mem_units.items;
+  bru_units = axes.bru_units.items;
+  buses = axes.buses.items;
+}
 
 -- what follows for each value, one value after another
 infixl 20 ◌>>=◌
@@ -61,7 +61,7 @@ rows_of axes = do
   record {
     stations = alu ∷ mul ∷ div ∷ load ∷ store ∷ bru ∷ [];
     units = alu_units ∷ mul_units ∷ div_units ∷ mem_units ∷ bru_units ∷ [];
-    buses = buses
+    buses = buses;
   } ∷ []
 
 abbrev pub lengths : Lists → List ℕ

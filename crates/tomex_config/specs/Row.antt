@@ -47,10 +47,10 @@ pub record IsRow (row : Row) : Type 0 where
 -- one of each part
 abbrev pub plain : Row
 plain = record {
-    stations = 1 ∷ 1 ∷ 1 ∷ 1 ∷ 1 ∷ 1 ∷ [];
-    units = plain_option ∷ plain_option ∷ plain_option ∷ plain_option ∷ plain_option ∷ [];
-    buses = 1
-  }
+  stations = 1 ∷ 1 ∷ 1 ∷ 1 ∷ 1 ∷ 1 ∷ [];
+  units = plain_option ∷ plain_option ∷ plain_option ∷ plain_option ∷ plain_option ∷ [];
+  buses = 1;
+}
 
 -- the row with another part
 abbrev pub with_stations : PoolId → Row → ℕ → Row

@@ -5,7 +5,7 @@ ghost use Rattle.std.specs.List.{list_all};
 ghost use Rattle.tomex_config.specs.Row.{is_between, is_option};
 ghost use Rattle.tomex_config.specs.Grid.{lists_of, lengths, has_zero, product, has_empty, stations_in_range, options_in_range, in_range, is_above_limit, is_too_large};
 
-use crate::row::{is_option, UnitOption};
+use crate::row::{UnitOption, is_option};
 use std::alloc::{Allocator, Global};
 
 /// A list of values for each part of a row: the stations of the six pools, the options for the
@@ -103,22 +103,22 @@ impl<A: Allocator> Axes<A> {
     fn are_stations_in_range(&self) -> bool
         ensures { result ≡ stations_in_range (lists_of self.now) }
     {
-        are_counts(self.alu.as_slice(), 16)
-            && are_counts(self.mul.as_slice(), 16)
-            && are_counts(self.div.as_slice(), 16)
-            && are_counts(self.load.as_slice(), 16)
-            && are_counts(self.store.as_slice(), 16)
-            && are_counts(self.bru.as_slice(), 16)
+        are_counts(&self.alu, 16)
+            && are_counts(&self.mul, 16)
+            && are_counts(&self.div, 16)
+            && are_counts(&self.load, 16)
+            && are_counts(&self.store, 16)
+            && are_counts(&self.bru, 16)
     }
 
     fn are_options_in_range(&self) -> bool
         ensures { result ≡ options_in_range (lists_of self.now) }
     {
-        are_options(self.alu_units.as_slice(), 8)
-            && are_options(self.mul_units.as_slice(), 8)
-            && are_options(self.div_units.as_slice(), 8)
-            && are_options(self.mem_units.as_slice(), 8)
-            && are_options(self.bru_units.as_slice(), 1)
+        are_options(&self.alu_units, 8)
+            && are_options(&self.mul_units, 8)
+            && are_options(&self.div_units, 8)
+            && are_options(&self.mem_units, 8)
+            && are_options(&self.bru_units, 1)
     }
 
     /// Whether an axis has no value.
@@ -134,9 +134,7 @@ impl<A: Allocator> Axes<A> {
     pub fn is_in_range(&self) -> bool
         ensures { result ≡ in_range (lists_of self.now) }
     {
-        self.are_stations_in_range()
-            && self.are_options_in_range()
-            && are_counts(self.buses.as_slice(), 8)
+        self.are_stations_in_range() && self.are_options_in_range() && are_counts(&self.buses, 8)
     }
 
     /// Whether there are more than 16,384 rows. It takes no memory, and may be asked of any axes.

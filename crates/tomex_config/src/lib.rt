@@ -10,8 +10,10 @@ mod axis;
 mod price;
 mod product;
 mod row;
+#[cfg(test)]
+mod tests;
 
 pub use axis::Axes;
-pub use price::{cost, Prices};
-pub use product::{grid, GridError};
+pub use price::{Prices, cost};
+pub use product::{GridError, grid};
 pub use row::{Config, UnitOption};

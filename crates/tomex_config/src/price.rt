@@ -18,8 +18,7 @@ pub struct Prices {
 }
 
 impl Model for Prices {
-    ghost use Rattle.tomex_config.specs.Row.{stations_of, option_of};
-ghost use Rattle.tomex_config.specs.Cost.{PriceList, IsPriceList};
+    ghost use Rattle.tomex_config.specs.Cost.{PriceList, IsPriceList};
 
     ghost Value = { PriceList };
 

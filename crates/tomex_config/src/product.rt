@@ -1,6 +1,6 @@
 //! The rows of a grid: the product of its axes, made one axis after another.
 
-ghost use Rattle.std.specs.Prelude.{◌≡◌, IfOk, true};
+ghost use Rattle.std.specs.Prelude.{◌≡◌, ◌≤◌, length, IfOk, true};
 ghost use Rattle.std.specs.List.{list_all};
 ghost use Rattle.tomex_config.specs.Row.{is_between, is_option, most_units, with_stations, with_option, with_buses};
 ghost use Rattle.tomex_config.specs.Grid.{lists_of, stations_in_range, options_in_range, in_range, rows_of, grid_of, Gives};
@@ -71,14 +71,14 @@ fn vary_option<A: Allocator>(
 fn vary_buses<A: Allocator>(
     alloc: A,
     rows: &[Config],
-    counts: &[u8],
+    buses: &[u8],
 ) -> Result<Vec<Config, A>, AllocError>
-    requires { list_all (is_between 1 8) counts.now ≡ true }
-    ensures { IfOk result (λ v. v.items ≡ vary with_buses counts.now rows.now) }
+    requires { list_all (is_between 1 8) buses.now ≡ true }
+    ensures { IfOk result (λ v. v.items ≡ vary with_buses buses.now rows.now) }
 {
     let mut varied = Vec::new(alloc);
     for row in rows {
-        for count in counts {
+        for count in buses {
             varied.push(row.with_buses(*count))?;
         }
     }
@@ -94,12 +94,12 @@ fn station_rows<A: Allocator + Clone>(
     ensures { IfOk result (λ v. v.items ≡ station_rows (lists_of axes.now)) }
 {
     let rows = [Config::plain()];
-    let rows = vary_stations(alloc.clone()?, rows.as_slice(), PoolId::Alu, axes.alu.as_slice())?;
-    let rows = vary_stations(alloc.clone()?, rows.as_slice(), PoolId::Mul, axes.mul.as_slice())?;
-    let rows = vary_stations(alloc.clone()?, rows.as_slice(), PoolId::Div, axes.div.as_slice())?;
-    let rows = vary_stations(alloc.clone()?, rows.as_slice(), PoolId::Load, axes.load.as_slice())?;
-    let rows = vary_stations(alloc.clone()?, rows.as_slice(), PoolId::Store, axes.store.as_slice())?;
-    vary_stations(alloc, rows.as_slice(), PoolId::Bru, axes.bru.as_slice())
+    let rows = vary_stations(alloc.clone()?, &rows, PoolId::Alu, &axes.alu)?;
+    let rows = vary_stations(alloc.clone()?, &rows, PoolId::Mul, &axes.mul)?;
+    let rows = vary_stations(alloc.clone()?, &rows, PoolId::Div, &axes.div)?;
+    let rows = vary_stations(alloc.clone()?, &rows, PoolId::Load, &axes.load)?;
+    let rows = vary_stations(alloc.clone()?, &rows, PoolId::Store, &axes.store)?;
+    vary_stations(alloc, &rows, PoolId::Bru, &axes.bru)
 }
 
 /// A row for each choice of stations and options.
@@ -109,11 +109,11 @@ fn option_rows<A: Allocator + Clone>(alloc: A, axes: &Axes<A>) -> Result<Vec<Con
     ensures { IfOk result (λ v. v.items ≡ option_rows (lists_of axes.now)) }
 {
     let rows = station_rows(alloc.clone()?, axes)?;
-    let rows = vary_option(alloc.clone()?, rows.as_slice(), UnitId::Alu, axes.alu_units.as_slice())?;
-    let rows = vary_option(alloc.clone()?, rows.as_slice(), UnitId::Mul, axes.mul_units.as_slice())?;
-    let rows = vary_option(alloc.clone()?, rows.as_slice(), UnitId::Div, axes.div_units.as_slice())?;
-    let rows = vary_option(alloc.clone()?, rows.as_slice(), UnitId::Mem, axes.mem_units.as_slice())?;
-    vary_option(alloc, rows.as_slice(), UnitId::Bru, axes.bru_units.as_slice())
+    let rows = vary_option(alloc.clone()?, &rows, UnitId::Alu, &axes.alu_units)?;
+    let rows = vary_option(alloc.clone()?, &rows, UnitId::Mul, &axes.mul_units)?;
+    let rows = vary_option(alloc.clone()?, &rows, UnitId::Div, &axes.div_units)?;
+    let rows = vary_option(alloc.clone()?, &rows, UnitId::Mem, &axes.mem_units)?;
+    vary_option(alloc, &rows, UnitId::Bru, &axes.bru_units)
 }
 
 /// A row for each choice of all parts.
@@ -123,14 +123,15 @@ fn rows_of<A: Allocator + Clone>(alloc: A, axes: &Axes<A>) -> Result<Vec<Config,
     ensures { IfOk result (λ v. v.items ≡ rows_of (lists_of axes.now)) }
 {
     let rows = option_rows(alloc.clone()?, axes)?;
-    vary_buses(alloc, rows.as_slice(), axes.buses.as_slice())
+    vary_buses(alloc, &rows, &axes.buses)
 }
 
 /// The rows of the axes: each choice of a value from each list is a row, and the last axis varies
 /// fastest. There are at most 16,384. A value that stands twice gives two rows.
-#[tactic(auto, unfolding(crate::specs::Grid::grid_of))]
+#[tactic(auto, using(crate::proofs::Counted::row_count), unfolding(crate::specs::Grid::grid_of))]
 pub fn grid<A: Allocator + Clone>(alloc: A, axes: &Axes<A>) -> Result<Vec<Config, A>, GridError>
-    ensures { Gives (λ v. v.items) result (grid_of (lists_of axes.now)) }
+    ensures exact { Gives (λ v. v.items) result (grid_of (lists_of axes.now)) }
+    ensures count { IfOk result (λ v. (1 ≤ length v.items) × (length v.items ≤ 16384)) }
 {
     if axes.has_empty() {
         return Err(GridError::EmptyAxis);

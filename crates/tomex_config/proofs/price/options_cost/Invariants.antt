@@ -6,6 +6,6 @@ use Rattle.tomex_config.proofs.price.options_cost.Given as goal
 
 abbrev pub invariant-loop-unit : goal.invariant-loop-unit
 invariant-loop-unit l = record {
-    cost : l.total ≡ sum_by (λ unit. (option_of l.row unit).price) (take l.unit-index all_units);
-    bound : l.total ≤ l.unit-index * 1000000
-  }
+  cost : l.total ≡ sum_by (λ unit. (option_of l.row unit).price) (take l.unit-index all_units);
+  bound : l.total ≤ l.unit-index * 1000000;
+}

@@ -6,6 +6,6 @@ use Rattle.tomex_config.proofs.price.stations_cost.Given as goal
 
 abbrev pub invariant-loop-pool : goal.invariant-loop-pool
 invariant-loop-pool l = record {
-    cost : l.total ≡ sum_by (λ pool. stations_of l.row pool * price_of l.prices pool) (take l.pool-index all_pools);
-    bound : l.total ≤ l.pool-index * 16000000
-  }
+  cost : l.total ≡ sum_by (λ pool. stations_of l.row pool * price_of l.prices pool) (take l.pool-index all_pools);
+  bound : l.total ≤ l.pool-index * 16000000;
+}

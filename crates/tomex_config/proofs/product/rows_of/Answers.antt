@@ -8,6 +8,6 @@ use Rattle.tomex_config.proofs.product.rows_of.Goals as goal
 
 pub returns : goal.returns
 returns g c =
-    let product : vary with_buses c.as_slice-2.result.now c.as_slice.result.now ≡ rows_of (lists_of c.args.axes.now) =
-        rw (c.as_slice.ensures.value, c.as_slice-2.ensures.value, c.in_ok-rows.ensures) (varied_rows (lists_of c.args.axes.now)) in
+    let product : vary with_buses c.deref-2.result.now c.deref.result.now ≡ rows_of (lists_of c.args.axes.now) =
+    rw (c.deref.ensures.value, c.deref-2.ensures.value, c.in_ok-rows.ensures) (varied_rows (lists_of c.args.axes.now)) in
     rw (sym product) c.vary_buses.ensures

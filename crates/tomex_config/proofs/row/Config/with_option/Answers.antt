@@ -1,5 +1,5 @@
 -- The new option stands within the limits, and a branch unit stays alone.
-use Rattle.std.proofs.Common.{◌≡◌, true, length, arith, rules}
+use Rattle.std.proofs.Common.{◌≡◌, true, arith}
 use Rattle.std.proofs.lemmas.Grind.{common_steps}
 use Rattle.std.proofs.lemmas.List.Elements.{All-set}
 use Rattle.tomex_config.specs.Row.{is_option}
@@ -10,10 +10,10 @@ pub invariant_of-result : goal.invariant_of-result
 invariant_of-result c =
     let inv = c.self.invariant in
     record {
-        pools = inv.pools;
-        stations = inv.stations;
-        kinds = grind (arith, common_steps, inv.kinds);
-        units = All-set (λ o. is_option 8 o ≡ true) c.self.inside.units c.place.result c.args.option (fits_any c.args.unit c.args.option c.requires) inv.units;
-        branch_unit = rw c.place.ensures.place (one_branch_unit c.args.unit c.args.option c.self.inside.units c.requires inv.kinds inv.branch_unit);
-        buses = inv.buses;
+      pools = inv.pools;
+      stations = inv.stations;
+      kinds = grind (arith, common_steps, inv.kinds);
+      units = All-set (λ o. is_option 8 o ≡ true) c.self.inside.units c.place.result c.args.option (fits_any c.args.unit c.args.option c.requires) inv.units;
+      branch_unit = rw c.place.ensures.place (one_branch_unit c.args.unit c.args.option c.self.inside.units c.requires inv.kinds inv.branch_unit);
+      buses = inv.buses;
     }

@@ -1,0 +1,111 @@
+//! What no contract says: that the calls succeed where there is memory, and the errors' texts. Each
+//! worked grid is made once.
+
+use crate::{Axes, Config, GridError, Prices, UnitOption, cost, grid};
+use std::alloc::{AllocError, Global};
+use std::test::Fail;
+
+const PLAIN: UnitOption = UnitOption {
+    units: 1,
+    latency: 1,
+    price: 0,
+};
+
+/// One value for each part: a single plain row.
+fn single(alloc: Global) -> Result<Axes, AllocError> {
+    Ok(Axes {
+        alu: vec![in alloc; 1]?,
+        mul: vec![in alloc; 1]?,
+        div: vec![in alloc; 1]?,
+        load: vec![in alloc; 1]?,
+        store: vec![in alloc; 1]?,
+        bru: vec![in alloc; 1]?,
+        alu_units: vec![in alloc; PLAIN]?,
+        mul_units: vec![in alloc; PLAIN]?,
+        div_units: vec![in alloc; PLAIN]?,
+        mem_units: vec![in alloc; PLAIN]?,
+        bru_units: vec![in alloc; PLAIN]?,
+        buses: vec![in alloc; 1]?,
+    })
+}
+
+/// The values 1 to 16.
+fn sixteen(alloc: Global) -> Result<Vec<u8>, AllocError> {
+    Ok(vec![in alloc; 1, 2, 3, 4, 5, 6, 7, 8, 9, 10, 11, 12, 13, 14, 15, 16]?)
+}
+
+/// A plain row but for these parts.
+fn row(alu: u8, mul: u8, div: u8, buses: u8) -> Option<Config> {
+    Config::new([alu, mul, div, 1, 1, 1], [PLAIN; 5], buses)
+}
+
+#[test]
+fn most_rows_and_one_bus_more(rt: HostRuntime) -> Result<(), Fail> {
+    let mut axes = single(rt.alloc())?;
+    axes.alu = sixteen(rt.alloc())?;
+    axes.mul = sixteen(rt.alloc())?;
+    axes.div = sixteen(rt.alloc())?;
+    axes.buses = vec![in rt.alloc(); 1, 2, 3, 4]?;
+    let rows = grid(rt.alloc(), &axes)?;
+    assert_eq!(rt; rows.len(), 16_384);
+    assert_eq!(rt; rows.get(0).copied(), row(1, 1, 1, 1));
+    assert_eq!(rt; rows.get(3).copied(), row(1, 1, 1, 4));
+    assert_eq!(rt; rows.get(4).copied(), row(1, 1, 2, 1));
+    assert_eq!(rt; rows.get(64).copied(), row(1, 2, 1, 1));
+    assert_eq!(rt; rows.get(1_024).copied(), row(2, 1, 1, 1));
+    assert_eq!(rt; rows.get(16_383).copied(), row(16, 16, 16, 4));
+    axes.buses.push(5)?;
+    assert_eq!(rt; grid(rt.alloc(), &axes).err(), Some(GridError::TooMany));
+    Ok(())
+}
+
+#[test]
+fn a_value_twice_gives_two_rows(rt: HostRuntime) -> Result<(), Fail> {
+    let mut axes = single(rt.alloc())?;
+    axes.mul = vec![in rt.alloc(); 2, 2]?;
+    let rows = grid(rt.alloc(), &axes)?;
+    assert_eq!(rt; rows.len(), 2);
+    assert_eq!(rt; rows.get(0).copied(), row(1, 2, 1, 1));
+    assert_eq!(rt; rows.get(1).copied(), row(1, 2, 1, 1));
+    Ok(())
+}
+
+#[test]
+fn refusals_in_order(rt: HostRuntime) -> Result<(), Fail> {
+    let mut axes = single(rt.alloc())?;
+    axes.bru_units = vec![in rt.alloc(); UnitOption { units: 2, ..PLAIN }]?;
+    assert_eq!(rt; grid(rt.alloc(), &axes).err(), Some(GridError::OutOfRange));
+    axes.buses = Vec::new(rt.alloc());
+    assert_eq!(rt; grid(rt.alloc(), &axes).err(), Some(GridError::EmptyAxis));
+    assert!(rt; !axes.is_too_large());
+    Ok(())
+}
+
+#[test]
+fn costs_of_two_rows(rt: HostRuntime) -> Result<(), Fail> {
+    let mut axes = single(rt.alloc())?;
+    axes.alu = vec![in rt.alloc(); 2, 1]?;
+    axes.mul_units = vec![in rt.alloc(); UnitOption { price: 50, ..PLAIN }]?;
+    axes.buses = vec![in rt.alloc(); 2]?;
+    let prices = Prices::new([10, 100, 0, 0, 0, 0], 7);
+    let rows = grid(rt.alloc(), &axes)?;
+    assert_eq!(rt; rows.len(), 2);
+    for (row, want) in rows.iter().zip([184, 174]) {
+        assert_eq!(rt; cost(row, &prices), want);
+    }
+    Ok(())
+}
+
+#[test]
+fn texts_of_errors(rt: HostRuntime) -> Result<(), Fail> {
+    for (error, text) in [
+        (GridError::EmptyAxis, "an axis is empty"),
+        (GridError::OutOfRange, "a value is out of range"),
+        (GridError::TooMany, "too many configurations"),
+        (GridError::Memory, "out of memory"),
+    ] {
+        let shown = format!(in rt.alloc(); "{error}")?;
+        assert_eq!(rt; shown.as_str(), text);
+    }
+    Ok(())
+}
