@@ -9,3 +9,4 @@ pub mod Prices
 pub mod Axes
 pub mod Units
 pub mod Document
+pub mod Grid

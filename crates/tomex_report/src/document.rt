@@ -7,6 +7,7 @@ ghost use Rattle.tomex_report.specs.Document.{members_of, outline_of, document_o
 
 mod axes;
 mod entry;
+mod laws;
 mod lists;
 mod numbers;
 mod prices;
@@ -16,6 +17,7 @@ mod units;
 mod watch;
 
 pub use entry::Entry;
+pub use laws::documents_have_a_grid;
 pub use watch::WatchRange;
 
 use crate::error::StudyError;

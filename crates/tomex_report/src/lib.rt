@@ -7,6 +7,7 @@ mod error;
 mod files;
 mod place;
 
+pub use document::documents_have_a_grid;
 pub use error::StudyError;
 pub use files::file_names;
 pub use place::{Key, Place};
