@@ -1,5 +1,5 @@
 -- The axes of a document span a grid.
-use Rattle.std.proofs.Common.{◌≡◌, ◌==◌, ◌&&◌, ℕ, Bool, true, false, List, [], ◌∷◌, length, Ok, Err, refl, subst}
+use Rattle.std.proofs.Common.{◌≡◌, ◌==◌, ◌&&◌, ℕ, Bool, true, false, List, [], ◌∷◌, length, Ok, refl, subst}
 use Rattle.std.proofs.lemmas.Bool.{and_from}
 use Rattle.std.specs.List.{list_all}
 use Rattle.toml.specs.Data.{Members}
@@ -9,7 +9,6 @@ use Rattle.tomex_config.specs.Grid.{Lists, has_zero, stations_in_range, options_
 use Rattle.tomex_report.specs.declared.error.StudyError.TheVariants.{TooMany}
 use Rattle.tomex_report.specs.declared.place.Key.TheVariants as key
 use Rattle.tomex_report.specs.declared.place.Place.TheVariants as place
-use Rattle.tomex_report.specs.Readings.{Reading, ◌>>=◌}
 use Rattle.tomex_report.specs.Table.{known_keys, table_at}
 use Rattle.tomex_report.specs.Lists.{counts_at, tables_at}
 use Rattle.tomex_report.specs.Units.{UnitTables, unit_tables, options_of}
@@ -100,13 +99,13 @@ spans : (axes : Lists) → IsAxis (is_between 1 16) axes.alu → IsAxis (is_betw
 unfolding has_empty in_range
 spans axes alu mul div load store bru alu_units mul_units div_units mem_units bru_units buses = record {
   some = none_of (length axes.alu) (length axes.mul) (length axes.div) (length axes.load) (length axes.store) (length axes.bru) (length axes.alu_units) (length axes.mul_units) (length axes.div_units) (length axes.mem_units) (length axes.bru_units) (length axes.buses)
-    alu.some mul.some div.some load.some store.some bru.some alu_units.some mul_units.some div_units.some mem_units.some bru_units.some buses.some;
+      alu.some mul.some div.some load.some store.some bru.some alu_units.some mul_units.some div_units.some mem_units.some bru_units.some buses.some;
   within = and_from (stations_in_range axes) (options_in_range axes && list_all (is_between 1 8) axes.buses)
-    (all_six (list_all (is_between 1 16) axes.alu) (list_all (is_between 1 16) axes.mul) (list_all (is_between 1 16) axes.div) (list_all (is_between 1 16) axes.load) (list_all (is_between 1 16) axes.store) (list_all (is_between 1 16) axes.bru)
+      (all_six (list_all (is_between 1 16) axes.alu) (list_all (is_between 1 16) axes.mul) (list_all (is_between 1 16) axes.div) (list_all (is_between 1 16) axes.load) (list_all (is_between 1 16) axes.store) (list_all (is_between 1 16) axes.bru)
       alu.within mul.within div.within load.within store.within bru.within)
-    (and_from (options_in_range axes) (list_all (is_between 1 8) axes.buses)
+      (and_from (options_in_range axes) (list_all (is_between 1 8) axes.buses)
       (all_five (list_all (is_option 8) axes.alu_units) (list_all (is_option 8) axes.mul_units) (list_all (is_option 8) axes.div_units) (list_all (is_option 8) axes.mem_units) (list_all (is_option 1) axes.bru_units)
-        alu_units.within mul_units.within div_units.within mem_units.within bru_units.within)
+      alu_units.within mul_units.within div_units.within mem_units.within bru_units.within)
       buses.within);
 }
 
@@ -128,9 +127,19 @@ axes_of_are members unit axes given =
     let mems = options_of_are units.Mem tables.mem mem have.mem mem_is in
     let brus = options_of_are units.Bru tables.bru bru have.bru bru_is in
     let found : Lists = record {
-      alu = counts.alu; mul = counts.mul; div = counts.div; load = counts.load; store = counts.store; bru = counts.bru;
-      alu_units = alu; mul_units = mul; div_units = div; mem_units = mem; bru_units = bru;
-      buses = counts.buses } in
+      alu = counts.alu;
+      mul = counts.mul;
+      div = counts.div;
+      load = counts.load;
+      store = counts.store;
+      bru = counts.bru;
+      alu_units = alu;
+      mul_units = mul;
+      div_units = div;
+      mem_units = mem;
+      bru_units = bru;
+      buses = counts.buses;
+    } in
     let lawful : AreAxes found = spans found are.alu are.mul are.div are.load are.store are.bru alus muls divs mems brus are.buses in
     subst (λ (ls : Lists). AreAxes ls) (same_value found axes (Ok found) refl given_7) lawful
 

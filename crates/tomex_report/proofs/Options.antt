@@ -1,5 +1,5 @@
 -- The options that are read are within the limits of their kind, and each kind has one.
-use Rattle.std.proofs.Common.{◌≡◌, ℕ, ◌+◌, ◌&&◌, ◌==◌, nat_le, Bool, true, false, List, [], ◌∷◌, length, Option, Some, None, Ok, Err, refl, inl, inr, subst}
+use Rattle.std.proofs.Common.{◌≡◌, ℕ, ◌+◌, ◌&&◌, ◌==◌, nat_le, Bool, true, false, List, [], ◌∷◌, length, Option, Some, None, Ok, refl, inl, inr, subst}
 use Rattle.std.proofs.lemmas.Bool.{cases_Bool, and_parts}
 use Rattle.std.specs.List.{list_all}
 use Rattle.toml.specs.Data.{Data, Items, no_items, item, Members, as_array, as_table}
@@ -13,7 +13,6 @@ use Rattle.tomex_report.specs.declared.place.Key.TheVariants as key
 use Rattle.tomex_report.specs.declared.place.Place.{Place}
 use Rattle.tomex_report.specs.declared.place.Place.TheVariants as place
 use Rattle.tomex_report.specs.Place.{key_of_unit}
-use Rattle.tomex_report.specs.Readings.{Reading, ◌>>=◌}
 use Rattle.tomex_report.specs.Table.{value_at, known_keys}
 use Rattle.tomex_report.specs.Numbers.{between, number_at}
 use Rattle.tomex_report.specs.Lists.{items_count, all_items, is_table, tables_from, tables_or, tables_at}
@@ -33,9 +32,9 @@ option_of_is place most members option given =
     let (price, (price_is, given_4)) = first_value (number_at place key.Price (between 0 1000000) 0 members) _ option given_3 in
     let found : UnitOption = record { units = units; latency = latency; price = price } in
     let lawful : is_option most found ≡ true = all_three (is_between 1 most units) (is_between 1 64 latency) (nat_le price 1000000)
-      (is_between_from 1 most units (number_at_within place key.Units (between 1 most) 1 members units units_is))
-      (is_between_from 1 64 latency (number_at_within place key.Latency (between 1 64) 1 members latency latency_is))
-      (and_parts (nat_le 0 price) (nat_le price 1000000) (is_between_from 0 1000000 price (number_at_within place key.Price (between 0 1000000) 0 members price price_is))).1 in
+    (is_between_from 1 most units (number_at_within place key.Units (between 1 most) 1 members units units_is))
+    (is_between_from 1 64 latency (number_at_within place key.Latency (between 1 64) 1 members latency latency_is))
+    (and_parts (nat_le 0 price) (nat_le price 1000000) (is_between_from 0 1000000 price (number_at_within place key.Price (between 0 1000000) 0 members price price_is))).1 in
     subst (λ (o : UnitOption). is_option most o ≡ true) (same_value found option (Ok found) refl given_4) lawful
 
 option_from_is : (unit : UnitId) (number : ℕ) (members : Option Members) (option : UnitOption)
@@ -51,7 +50,7 @@ options_from_are unit number (item value values) options given =
     let (option, (option_is, given_1)) = first_value (option_from unit number (as_table value)) _ options given in
     let (rest, (rest_is, given_2)) = first_value (options_from unit (number + 1) values) _ options given_1 in
     let whole : list_all (is_option (most_units unit)) (option ∷ rest) ≡ true =
-      rw (option_from_is unit number (as_table value) option option_is) (options_from_are unit (number + 1) values rest rest_is) in
+    rw (option_from_is unit number (as_table value) option option_is) (options_from_are unit (number + 1) values rest rest_is) in
     subst (λ (os : List UnitOption). list_all (is_option (most_units unit)) os ≡ true) (same_value (option ∷ rest) options (Ok (option ∷ rest)) refl given_2) whole
 
 some_options : (unit : UnitId) (number : ℕ) (values : Items) (options : List UnitOption) → (items_count values == 0) ≡ false
@@ -90,17 +89,17 @@ options_of_are unit (Some values) options some given = record {
 tables_from_some : (place : Place) (key : Key) (values : Option Items) (tables : Items) → tables_from place key values ≡ Ok tables → (items_count tables == 0) ≡ false
 tables_from_some place key None tables given = absurd (fault_is_no_value (Kind place key) tables given)
 tables_from_some place key (Some values) tables given = elim (cases_Bool (all_items is_table values)) [
-    | inl all ↦ (let (some, same) = not_met (items_count values == 0) values tables (Range place key) (rw all at given) in
+  | inl all ↦ (let (some, same) = not_met (items_count values == 0) values tables (Range place key) (rw all at given) in
       subst (λ (ts : Items). (items_count ts == 0) ≡ false) same some)
-    | inr others ↦ absurd (fault_is_no_value (Kind place key) tables (rw others at given))
-  ]
+  | inr others ↦ absurd (fault_is_no_value (Kind place key) tables (rw others at given))
+]
 
 tables_or_have : (place : Place) (key : Key) (value : Option Data) (tables : Option Items) → tables_or place key value ≡ Ok tables → HasTables tables
 tables_or_have place key None tables given = subst (λ (ts : Option Items). HasTables ts) (same_value None tables (Ok None) refl given) tt
 tables_or_have place key (Some value) tables given =
     let (found, (found_is, given_1)) = first_value (tables_from place key (as_array value)) _ tables given in
     subst (λ (ts : Option Items). HasTables ts) (same_value (Some found) tables (Ok (Some found)) refl given_1)
-      (tables_from_some place key (as_array value) found found_is)
+    (tables_from_some place key (as_array value) found found_is)
 
 pub tables_at_have : (place : Place) (key : Key) (members : Members) (tables : Option Items) → tables_at place key members ≡ Ok tables → HasTables tables
 unfolding tables_at

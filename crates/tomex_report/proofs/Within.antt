@@ -1,5 +1,5 @@
 -- The numbers and lists that are read are within their limits.
-use Rattle.std.proofs.Common.{◌≡◌, ◌≢◌, ℕ, ◌%◌, ◌&&◌, ◌==◌, suc, nat_le, Bool, true, false, List, [], ◌∷◌, length, Option, Some, None, Ok, Err, pos, negsuc, refl, arith, inl, inr, subst}
+use Rattle.std.proofs.Common.{◌≡◌, ℕ, ◌%◌, ◌&&◌, ◌==◌, suc, nat_le, Bool, true, false, List, [], ◌∷◌, length, Option, Some, None, Ok, pos, negsuc, refl, arith, inl, inr, subst}
 use Rattle.std.proofs.lemmas.Bool.{cases_Bool, eqb-true}
 use Rattle.std.specs.List.{list_all}
 use Rattle.toml.specs.Data.{Data, string, integer, float, boolean, datetime, array, table, Items, no_items, item, Members, as_array}
@@ -56,9 +56,9 @@ pub record IsAxis {X : Type 0} (test : X → Bool) (values : List X) : Type 0 wh
 
 pub not_zero : (n : ℕ) → (suc n == 0) ≡ false
 not_zero n = elim (cases_Bool (suc n == 0)) [
-    | inl none ↦ (let zero_is : suc n ≡ 0 = eqb-true (suc n) 0 none in absurd (omega (arith, zero_is)))
-    | inr some ↦ some
-  ]
+  | inl none ↦ (let zero_is : suc n ≡ 0 = eqb-true (suc n) 0 none in absurd (omega (arith, zero_is)))
+  | inr some ↦ some
+]
 
 -- each of the values that a reading gives passes the test
 pub each_passes : {X : Type 0} (read : Data → Reading X) (test : X → Bool) → ((value : Data) (x : X) → read value ≡ Ok x → test x ≡ true)
@@ -80,15 +80,15 @@ some_counts_are place key most (item value values) ns given =
     record {
       some = subst (λ (ys : List ℕ). (length ys == 0) ≡ false) (same_value (x ∷ rest) ns (Ok (x ∷ rest)) refl given_3) (not_zero (length rest));
       within = each_passes (number_of place key (between 1 most)) (is_between 1 most)
-        (λ v n is. is_between_from 1 most n (number_of_within place key (between 1 most) v n is)) (item value values) ns given;
+          (λ v n is. is_between_from 1 most n (number_of_within place key (between 1 most) v n is)) (item value values) ns given;
     }
 
 counts_from_are : (place : Place) (key : Key) (most : ℕ) (values : Option Items) (ns : List ℕ) → counts_from place key most values ≡ Ok ns → IsAxis (is_between 1 most) ns
 counts_from_are place key most None ns given = absurd (fault_is_no_value (Kind place key) ns given)
 counts_from_are place key most (Some values) ns given = elim (cases_Bool (all_items is_integer values)) [
-    | inl integers ↦ some_counts_are place key most values ns (rw integers at given)
-    | inr others ↦ absurd (fault_is_no_value (Kind place key) ns (rw others at given))
-  ]
+  | inl integers ↦ some_counts_are place key most values ns (rw integers at given)
+  | inr others ↦ absurd (fault_is_no_value (Kind place key) ns (rw others at given))
+]
 
 counts_or_are : (place : Place) (key : Key) (most : ℕ) (value : Option Data) (ns : List ℕ) → is_between 1 most 1 ≡ true
     → counts_or place key most value ≡ Ok ns → IsAxis (is_between 1 most) ns

@@ -1,5 +1,5 @@
 -- Arrays of the document: of integers, and of tables.
-use Rattle.std.specs.Prelude.{ℕ, suc, Bool, true, false, ◌&&◌, ◌==◌, List, [], ◌∷◌, Option, Some, None, Ok, Err, is_some, if◌then◌else◌}
+use Rattle.std.specs.Prelude.{ℕ, suc, Bool, true, ◌&&◌, ◌==◌, List, [], ◌∷◌, Option, Some, None, Ok, Err, is_some, if◌then◌else◌}
 use Rattle.toml.specs.Data.{Data, Items, no_items, item, Members, as_integer, as_array, as_table}
 use Rattle.tomex_report.specs.declared.place.Key.{Key}
 use Rattle.tomex_report.specs.declared.place.Place.{Place}

@@ -1,5 +1,5 @@
 -- Integers of the document, and their limits.
-use Rattle.std.specs.Prelude.{ℕ, ℤ, pos, negsuc, ◌%◌, Bool, ◌&&◌, ◌==◌, nat_le, Option, Some, None, Ok, Err, if◌then◌else◌}
+use Rattle.std.specs.Prelude.{ℕ, pos, negsuc, ◌%◌, Bool, ◌&&◌, ◌==◌, nat_le, Option, Some, None, Ok, Err, if◌then◌else◌}
 use Rattle.toml.specs.Data.{Data, integer, Members}
 use Rattle.tomex_report.specs.declared.place.Key.{Key}
 use Rattle.tomex_report.specs.declared.place.Place.{Place}

@@ -16,13 +16,11 @@ mod table;
 mod units;
 mod watch;
 
-pub use entry::Entry;
-pub use laws::documents_have_a_grid;
-pub use watch::WatchRange;
-
 use crate::error::StudyError;
 use crate::place::{Key, Place};
 use axes::axes_of;
+pub use entry::Entry;
+pub use laws::documents_have_a_grid;
 use prices::prices_of;
 use programs::{program_tables, programs_of};
 use std::alloc::{Allocator, Global};
@@ -30,6 +28,7 @@ use std::marker::Model;
 use table::{known_keys, table_at};
 use tomex_config::{Axes, Prices};
 use toml::Table;
+pub use watch::WatchRange;
 
 /// A study before its programs' files are read.
 #[derive(Debug, Drop)]

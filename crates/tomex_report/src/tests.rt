@@ -177,8 +177,14 @@ fn texts_of_the_programs_refusals(rt: HostRuntime) -> Result<(), Fail> {
     };
     for (error, wanted) in [
         (StudyError::Files, "study: wrong number of files"),
-        (StudyError::Image(name()?, ImageError::NotRiscv), "program loop: image: not RISC-V"),
-        (StudyError::Fault(name()?, fault), "program loop: fault: misaligned target at 0000000c"),
+        (
+            StudyError::Image(name()?, ImageError::NotRiscv),
+            "program loop: image: not RISC-V",
+        ),
+        (
+            StudyError::Fault(name()?, fault),
+            "program loop: fault: misaligned target at 0000000c",
+        ),
         (StudyError::TooLong(name()?), "program loop: too long"),
         (StudyError::Memory, "out of memory"),
     ] {

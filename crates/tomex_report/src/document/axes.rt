@@ -33,7 +33,15 @@ struct Counts<A: Allocator> {
 fn axis_counts<A: Allocator + Clone>(alloc: A, table: &Table) -> Result<Counts<A>, StudyError>
     ensures { Gives (λ c. record { alu = c.alu.items; mul = c.mul.items; div = c.div.items; load = c.load.items; store = c.store.items; bru = c.bru.items; buses = c.buses.items }) result (axis_counts (table_view table.now)) }
 {
-    let keys = [Key::Alu, Key::Mul, Key::Div, Key::Load, Key::Store, Key::Bru, Key::Buses];
+    let keys = [
+        Key::Alu,
+        Key::Mul,
+        Key::Div,
+        Key::Load,
+        Key::Store,
+        Key::Bru,
+        Key::Buses,
+    ];
     known_keys(table, Place::Axes, keys.as_slice())?;
     let alu = counts_at(alloc.clone()?, table, Place::Axes, Key::Alu, 16)?;
     let mul = counts_at(alloc.clone()?, table, Place::Axes, Key::Mul, 16)?;

@@ -52,12 +52,7 @@ fn number_from(number: u32, place: Place, key: Key, limits: Limits) -> Result<u3
 }
 
 /// An integer within the limits.
-pub fn number_of(
-    value: &Value,
-    place: Place,
-    key: Key,
-    limits: Limits,
-) -> Result<u32, StudyError>
+pub fn number_of(value: &Value, place: Place, key: Key, limits: Limits) -> Result<u32, StudyError>
     requires { 0 < limits.step }
     ensures read { result ≡ number_of place key limits (view value.now) }
     ensures within { IfOk result (λ n. is_within limits n ≡ true) }

@@ -25,7 +25,15 @@ fn price_at(table: &Table, key: Key) -> Result<u32, StudyError>
 pub fn prices_of(table: &Table) -> Result<Prices, StudyError>
     ensures { Reads (λ p. p) result (prices_of (table_view table.now)) }
 {
-    let keys = [Key::Alu, Key::Mul, Key::Div, Key::Load, Key::Store, Key::Bru, Key::Bus];
+    let keys = [
+        Key::Alu,
+        Key::Mul,
+        Key::Div,
+        Key::Load,
+        Key::Store,
+        Key::Bru,
+        Key::Bus,
+    ];
     known_keys(table, Place::Prices, keys.as_slice())?;
     let alu = price_at(table, Key::Alu)?;
     let mul = price_at(table, Key::Mul)?;

@@ -104,7 +104,13 @@ fn size_most(base: u32) -> u32
 fn window_at(table: &Table, place: Place) -> Result<Window, StudyError>
     ensures { Reads (λ w. w) result (window_at place (table_view table.now)) }
 {
-    let base = number_at(table, place, Key::Base, Limits::words_between(0, 4_294_967_292), 0)?;
+    let base = number_at(
+        table,
+        place,
+        Key::Base,
+        Limits::words_between(0, 4_294_967_292),
+        0,
+    )?;
     let limits = Limits::words_between(4, size_most(base));
     let size = number_at(table, place, Key::Size, limits, 65_536)?;
     match Window::new(base, size) {
@@ -122,12 +128,25 @@ fn program_of<A: Allocator + Clone>(
 ) -> Result<Entry<A>, StudyError>
     ensures { Gives (λ e. e) result (program_of place earlier.now (table_view table.now)) }
 {
-    let keys = [Key::Name, Key::File, Key::Base, Key::Size, Key::Limit, Key::Watch];
+    let keys = [
+        Key::Name,
+        Key::File,
+        Key::Base,
+        Key::Size,
+        Key::Limit,
+        Key::Watch,
+    ];
     known_keys(table, place, keys.as_slice())?;
     let name = name_at(alloc.clone()?, table, place, earlier)?;
     let file = file_at(alloc.clone()?, table, place)?;
     let window = window_at(table, place)?;
-    let limit = number_at(table, place, Key::Limit, Limits::between(1, 262_144), 262_144)?;
+    let limit = number_at(
+        table,
+        place,
+        Key::Limit,
+        Limits::between(1, 262_144),
+        262_144,
+    )?;
     let watch = watch_at(alloc, table, place, window)?;
     Ok(Entry::new(name, file, window, limit, watch))
 }
@@ -146,7 +165,12 @@ pub fn programs_of<A: Allocator + Clone>(
         let Some(table) = value.as_table() else {
             return Err(StudyError::Kind(Place::Top, Key::Program));
         };
-        let entry = program_of(alloc.clone()?, table, Place::Program(number), entries.as_slice())?;
+        let entry = program_of(
+            alloc.clone()?,
+            table,
+            Place::Program(number),
+            entries.as_slice(),
+        )?;
         entries.push(entry)?;
         number += 1;
     }

@@ -61,8 +61,18 @@ fn most_units(unit: UnitId) -> u8
 fn option_of(table: &Table, place: Place, most: u8) -> Result<UnitOption, StudyError>
     ensures { result ≡ option_of place most (table_view table.now) }
 {
-    known_keys(table, place, [Key::Units, Key::Latency, Key::Price].as_slice())?;
-    let units = number_at(table, place, Key::Units, Limits::between(1, u32::from(most)), 1)?;
+    known_keys(
+        table,
+        place,
+        [Key::Units, Key::Latency, Key::Price].as_slice(),
+    )?;
+    let units = number_at(
+        table,
+        place,
+        Key::Units,
+        Limits::between(1, u32::from(most)),
+        1,
+    )?;
     let latency = number_at(table, place, Key::Latency, Limits::between(1, 64), 1)?;
     let price = number_at(table, place, Key::Price, Limits::between(0, 1_000_000), 0)?;
     Ok(UnitOption {

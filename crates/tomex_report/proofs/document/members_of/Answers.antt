@@ -16,9 +16,9 @@ members_of-some bytes document text parsed = rw (is_utf8-from_IsUtf8 bytes text,
 members_of-none : (bytes : List ℕ) → (IsUtf8 bytes → parse_document bytes ≡ None) → members_of bytes ≡ Err Syntax
 unfolding members_of
 members_of-none bytes refused = elim (cases_Bool (is_utf8 bytes)) [
-    | inl is_text ↦ rw (is_text, refused (IsUtf8-from_is_utf8 bytes is_text)) refl
-    | inr other ↦ rw other refl
-  ]
+  | inl is_text ↦ rw (is_text, refused (IsUtf8-from_is_utf8 bytes is_text)) refl
+  | inr other ↦ rw other refl
+]
 
 pub returns-in-Ok : goal.returns-in-Ok
 returns-in-Ok c = members_of-some _ _ c.in-Ok.ensures.ok.0 c.in-Ok.ensures.ok.1

@@ -1,5 +1,4 @@
 -- A test of the values is one of the items.
-use Rattle.std.proofs.Common.{◌≡◌}
 use Rattle.tomex_report.specs.Lists.{is_integer}
 use Rattle.tomex_report.proofs.Items.{list_all_items}
 use Rattle.tomex_report.proofs.document.lists.are_integers.Goals as goal

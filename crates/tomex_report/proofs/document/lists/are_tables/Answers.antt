@@ -1,5 +1,4 @@
 -- A test of the values is one of the items.
-use Rattle.std.proofs.Common.{◌≡◌}
 use Rattle.tomex_report.specs.Lists.{is_table}
 use Rattle.tomex_report.proofs.Items.{list_all_items}
 use Rattle.tomex_report.proofs.document.lists.are_tables.Goals as goal

@@ -1,5 +1,5 @@
 -- The keys of the map are those of the members.
-use Rattle.std.proofs.Common.{◌≡◌, ◌||◌, not, ℕ, List, [], ◌∷◌, map, ap, refl, String, Global, string_bytes}
+use Rattle.std.proofs.Common.{◌≡◌, ◌||◌, not, List, [], ◌∷◌, map, ap, refl, String, Global, string_bytes}
 use Rattle.std.specs.List.{list_any}
 use Rattle.toml.specs.View.{members_view}
 use Rattle.toml.specs.declared.value.Value.{Value}

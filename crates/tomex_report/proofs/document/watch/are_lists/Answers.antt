@@ -1,5 +1,4 @@
 -- A test of the values is one of the items.
-use Rattle.std.proofs.Common.{◌≡◌}
 use Rattle.tomex_report.specs.Watch.{is_integers}
 use Rattle.tomex_report.proofs.Items.{list_all_items}
 use Rattle.tomex_report.proofs.document.watch.are_lists.Goals as goal
