@@ -1,7 +1,19 @@
-//! Reports of studies and runs.
+//! What goes into an exploration and what comes out of it. So far: the document of a study, which
+//! names programs, prices and lists of machine parts, and the times report of a program on one row.
 #![tactic(auto)]
 
 mod csv_text;
+mod document;
+mod error;
+mod files;
+mod place;
 mod times;
 
+pub use document::documents_have_a_grid;
+pub use error::StudyError;
+pub use files::file_names;
+pub use place::{Key, Place};
 pub use times::times_report;
+
+#[cfg(test)]
+mod tests;
