@@ -26,6 +26,7 @@ pub record IsWatch (window : Span) (ranges : List WatchRange) : Type 0 where
   pub inside : All (λ range. is_watchable window range ≡ true) ranges
   pub short : watched_bytes ranges ≤ 4096
 
+-- an array is there, of integers alone
 abbrev pub is_integers_from : Option Items → Bool
 is_integers_from None = false
 is_integers_from (Some values) = all_items is_integer values
@@ -61,6 +62,7 @@ watch_from place window None = Err (Kind place key.Watch)
 watch_from place window (Some values) =
     if all_items is_integers values then ranges_of place window values else Err (Kind place key.Watch)
 
+-- where no array is given, no ranges
 abbrev pub watch_or : Place → Span → Option Data → Reading (List WatchRange)
 watch_or place window None = Ok []
 watch_or place window (Some value) = watch_from place window (as_array value)
