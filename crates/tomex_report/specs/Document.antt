@@ -20,6 +20,7 @@ pub record Document : Type 0 where
   pub prices : PriceList
   pub axes : Lists
 
+-- the members of the top, or bytes that TOML refuses
 abbrev pub members_or : Option Members → Reading Members
 members_or None = Err Syntax
 members_or (Some members) = Ok members
@@ -41,9 +42,11 @@ outline_of top = do
   axes ← axes_of axes unit
   if is_too_large axes then Err TooMany else Ok (record { programs = programs; prices = prices; axes = axes })
 
+-- what the bytes stand for
 unfoldable pub document_of : List ℕ → Reading Document
 document_of bytes = members_of bytes >>= outline_of
 
+-- the file of each program
 abbrev pub files_of : List ProgramEntry → List (List ℕ)
 files_of programs = map (λ program. program.file) programs
 

@@ -8,6 +8,7 @@ use Rattle.tomex_report.specs.Readings.{Reading, ◌>>=◌}
 use Rattle.tomex_report.specs.Table.{value_at}
 use Rattle.tomex_report.specs.Numbers.{between, number_of}
 
+-- how many values there are
 abbrev pub items_count : Items → ℕ
 items_count no_items = 0
 items_count (item value values) = suc (items_count values)
@@ -17,9 +18,11 @@ abbrev pub all_items : (Data → Bool) → Items → Bool
 all_items test no_items = true
 all_items test (item value values) = test value && all_items test values
 
+-- the value is an integer
 abbrev pub is_integer : Data → Bool
 is_integer value = is_some (as_integer value)
 
+-- the value is a table
 abbrev pub is_table : Data → Bool
 is_table value = is_some (as_table value)
 
@@ -28,6 +31,7 @@ abbrev pub each : {X : Type 0} → (Data → Reading X) → Items → Reading (L
 each read no_items = Ok []
 each read (item value values) = read value >>= (λ x. each read values >>= (λ xs. Ok (x ∷ xs)))
 
+-- at least one count, each from 1 to most
 abbrev pub some_counts : Place → Key → ℕ → Items → Reading (List ℕ)
 some_counts place key most no_items = Err (Range place key)
 some_counts place key most values = each (number_of place key (between 1 most)) values
@@ -38,6 +42,7 @@ counts_from place key most None = Err (Kind place key)
 counts_from place key most (Some values) =
     if all_items is_integer values then some_counts place key most values else Err (Kind place key)
 
+-- where no array is given, a single count of 1
 abbrev pub counts_or : Place → Key → ℕ → Option Data → Reading (List ℕ)
 counts_or place key most None = Ok (1 ∷ [])
 counts_or place key most (Some value) = counts_from place key most (as_array value)
@@ -53,6 +58,7 @@ tables_from place key (Some values) =
     if all_items is_table values then (if items_count values == 0 then Err (Range place key) else Ok values)
     else Err (Kind place key)
 
+-- an array that may not be there
 abbrev pub tables_or : Place → Key → Option Data → Reading (Option Items)
 tables_or place key None = Ok None
 tables_or place key (Some value) = tables_from place key (as_array value) >>= (λ tables. Ok (Some tables))

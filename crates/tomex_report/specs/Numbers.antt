@@ -16,9 +16,11 @@ between low high = record { low = low; high = high; step = 1 }
 abbrev pub words_between : ℕ → ℕ → Limits
 words_between low high = record { low = low; high = high; step = 4 }
 
+-- the number is one of these
 abbrev pub is_within : Limits → ℕ → Bool
 is_within limits n = nat_le limits.low n && nat_le n limits.high && n % limits.step == 0
 
+-- a number, tested
 abbrev pub number_from : Place → Key → Limits → ℕ → Reading ℕ
 number_from place key limits n = if is_within limits n then Ok n else Err (Range place key)
 

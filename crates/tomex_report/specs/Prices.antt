@@ -9,9 +9,11 @@ use Rattle.tomex_report.specs.Readings.{Reading, ◌>>=◌}
 use Rattle.tomex_report.specs.Table.{known_keys}
 use Rattle.tomex_report.specs.Numbers.{between, number_at}
 
+-- the price at a key, 0 to 1,000,000
 abbrev pub price_at : Key → Members → Reading ℕ
 price_at key members = number_at place.Prices key (between 0 1000000) 0 members
 
+-- the place of the prices
 unfoldable pub prices_of : Members → Reading PriceList
 prices_of members = do
   _ ← known_keys place.Prices (key.Alu ∷ key.Mul ∷ key.Div ∷ key.Load ∷ key.Store ∷ key.Bru ∷ key.Bus ∷ []) members

@@ -29,6 +29,7 @@ pub record ProgramEntry : Type 0 where
 abbrev pub is_name_byte : ℕ → Bool
 is_name_byte b = (nat_le 97 b && nat_le b 122) || (nat_le 48 b && nat_le b 57) || (b == 95) || (b == 45)
 
+-- 1 to 32 of these bytes
 abbrev pub is_name : List ℕ → Bool
 is_name text = nat_le 1 (length text) && nat_le (length text) 32 && list_all is_name_byte text
 
@@ -45,10 +46,12 @@ pub record IsProgramEntry (entry : ProgramEntry) : Type 0 where
 abbrev pub is_taken : List ProgramEntry → List ℕ → Bool
 is_taken earlier text = list_any (λ entry. bytes_eq entry.name text) earlier
 
+-- a text, or a value of wrong kind
 abbrev pub text_from : Place → Key → Option (List ℕ) → Reading (List ℕ)
 text_from place key None = Err (Kind place key)
 text_from place key (Some text) = Ok text
 
+-- a value that has to be there, as a text
 abbrev pub text_or : Place → Key → Option Data → Reading (List ℕ)
 text_or place key None = Err (MissingKey place key)
 text_or place key (Some value) = text_from place key (as_str value)
@@ -57,11 +60,13 @@ text_or place key (Some value) = text_from place key (as_str value)
 unfoldable pub text_at : Place → Key → Members → Reading (List ℕ)
 text_at place key members = text_or place key (value_at key members)
 
+-- the name, which no earlier program has
 unfoldable pub name_at : Place → List ProgramEntry → Members → Reading (List ℕ)
 name_at place earlier members = do
   name ← text_at place key.Name members
   if is_name name && not (is_taken earlier name) then Ok name else Err (Range place key.Name)
 
+-- the name of the file, which isn't empty
 unfoldable pub file_at : Place → Members → Reading (List ℕ)
 file_at place members = do
   file ← text_at place key.File members
@@ -71,6 +76,7 @@ file_at place members = do
 abbrev pub size_most : ℕ → ℕ
 size_most base = min 1048576 (4294967296 - base)
 
+-- the window that the image is to stand in
 unfoldable pub window_at : Place → Members → Reading Span
 window_at place members = do
   base ← number_at place key.Base (words_between 0 4294967292) 0 members
@@ -88,6 +94,7 @@ program_of place earlier members = do
   watch ← watch_at place window members
   Ok (record { name = name; file = file; window = window; limit = limit; watch = watch })
 
+-- a program, or a value that is no table
 abbrev pub program_from : ℕ → List ProgramEntry → Option Members → Reading ProgramEntry
 program_from number earlier None = Err (Kind place.Top key.Program)
 program_from number earlier (Some members) = program_of (place.Program number) earlier members
@@ -98,9 +105,11 @@ programs_of number earlier no_items = Ok earlier
 programs_of number earlier (item value values) =
     program_from number earlier (as_table value) >>= (λ program. programs_of (number + 1) (earlier ++ program ∷ []) values)
 
+-- at most 8 of them
 abbrev pub few_programs : Items → Reading Items
 few_programs tables = if nat_le (items_count tables) 8 then Ok tables else Err (Range place.Top key.Program)
 
+-- an array that has to be there
 abbrev pub program_tables_or : Option Data → Reading Items
 program_tables_or None = Err (MissingKey place.Top key.Program)
 program_tables_or (Some value) = tables_from place.Top key.Program (as_array value) >>= few_programs

@@ -26,10 +26,12 @@ has_other_key keys (member name value members) = not (is_one_of keys name) || ha
 unfoldable pub known_keys : Place → List Key → Members → Reading (Unit {0})
 known_keys place keys members = if has_other_key keys members then Err (UnknownKey place) else Ok tt
 
+-- a table, or a value of wrong kind
 abbrev pub table_from : Place → Key → Option Members → Reading Members
 table_from place key None = Err (Kind place key)
 table_from place key (Some members) = Ok members
 
+-- a value that may not be there, as a table
 abbrev pub table_or : Place → Key → Option Data → Reading Members
 table_or place key None = Ok no_members
 table_or place key (Some value) = table_from place key (as_table value)

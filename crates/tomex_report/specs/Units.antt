@@ -42,6 +42,7 @@ option_of place most members = do
   price ← number_at place key.Price (between 0 1000000) 0 members
   Ok (record { units = units; latency = latency; price = price })
 
+-- an option, or a value that is no table
 abbrev pub option_from : UnitId → ℕ → Option Members → Reading UnitOption
 option_from unit number None = Err (Kind place.Unit (key_of_unit unit))
 option_from unit number (Some members) = option_of (place.Option unit number) (most_units unit) members
