@@ -6,3 +6,5 @@ pub mod Outcomes
 pub mod Within
 pub mod Options
 pub mod Gridded
+pub mod Counted
+pub mod Studies

@@ -86,7 +86,7 @@ options_of_are unit (Some values) options some given = record {
   within = options_from_are unit 1 values options given;
 }
 
-tables_from_some : (place : Place) (key : Key) (values : Option Items) (tables : Items) → tables_from place key values ≡ Ok tables → (items_count tables == 0) ≡ false
+pub tables_from_some : (place : Place) (key : Key) (values : Option Items) (tables : Items) → tables_from place key values ≡ Ok tables → (items_count tables == 0) ≡ false
 tables_from_some place key None tables given = absurd (fault_is_no_value (Kind place key) tables given)
 tables_from_some place key (Some values) tables given = elim (cases_Bool (all_items is_table values)) [
   | inl all ↦ (let (some, same) = not_met (items_count values == 0) values tables (Range place key) (rw all at given) in

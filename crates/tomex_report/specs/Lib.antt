@@ -12,3 +12,4 @@ pub mod Axes
 pub mod Units
 pub mod Document
 pub mod Grid
+pub mod Study

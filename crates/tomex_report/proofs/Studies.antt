@@ -1,0 +1,105 @@
+-- Files that are not what their entries ask for, and programs one after another.
+use Rattle.std.proofs.Common.{◌≡◌, ◌≢◌, ◌⊎◌, Ok, Err, inl, inr, ℕ, zero, suc, List, [], ◌∷◌, ◌++◌, take, Option, Some, None, ◌+◌, ◌<◌, ◌≤◌, ◌∙◌, ap, sym, refl, arith, add-one, length, get_or, map}
+use Rattle.std.specs.Prelude.{slice_get}
+use Rattle.std.proofs.lemmas.Option.{slice_get_read, slice_get-map}
+use Rattle.tomex_image.specs.Image.{Loaded}
+use Rattle.tomex_image.specs.Window.{Span}
+use Rattle.tomex_image.specs.Loading.{placed, refused}
+use Rattle.tomex_sweep.specs.Program.{IsUnfit, Workload, refusal_of}
+use Rattle.tomex_sweep.specs.declared.program.ProgramError.{ProgramError}
+use Rattle.tomex_report.specs.Program.{ProgramEntry}
+use Rattle.tomex_report.specs.Study.{AreProgramsOf, FailsToEnd, IsFileRefusal, IsFirstRefusal, IsProgramOf, IsStudyRefusal}
+use Rattle.tomex_report.specs.declared.error.StudyError.{StudyError}
+use Rattle.tomex_report.specs.declared.error.StudyError.TheVariants.{Syntax, UnknownKey, MissingKey, Kind, Range, TooMany, Files, Image, Fault, TooLong, Memory}
+use Rattle.tomex_report.specs.Document.{Document, document_of}
+use Rattle.tomex_report.proofs.Counted.{document_has_programs}
+
+-- an image of the entry's window, whose run is refused within the entry's limit
+pub fails : (entry : ProgramEntry) (file : List ℕ) (window : Span) (limit : ℕ) (image : Loaded) (told error : ProgramError) → window ≡ entry.window → limit ≡ entry.limit → placed file window image → refused file window ≡ None → told ≡ error → IsUnfit image limit told → FailsToEnd entry file (refusal_of error)
+fails entry file window limit image told error in_window within here accepted same refusal =
+    rw (← in_window, ← within, ← same) (image, here, accepted, refusal)
+
+-- one program more
+pub one_more : (place : ℕ) (entries : List ProgramEntry) (files : List (List ℕ)) (programs : List Workload) (entry : ProgramEntry) (file : List ℕ) (program : Workload)
+    → slice_get entries place ≡ Some entry → slice_get files place ≡ Some file
+    → AreProgramsOf (take place entries) (take place files) programs → IsProgramOf entry file program
+    → AreProgramsOf (take (suc place) entries) (take (suc place) files) (programs ++ program ∷ [])
+one_more zero (e ∷ es) (f ∷ fs) [] entry file program entry_is file_is older is =
+    let same_entry : e ≡ entry = cc in
+    let same_file : f ≡ file = cc in
+    rw (same_entry, same_file) (is, tt)
+one_more zero (e ∷ es) (f ∷ fs) (p ∷ ps) entry file program entry_is file_is older is = absurd older
+one_more (suc place) (e ∷ es) (f ∷ fs) [] entry file program entry_is file_is older is = absurd older
+one_more (suc place) (e ∷ es) (f ∷ fs) (p ∷ ps) entry file program entry_is file_is older is =
+    (older.0, one_more place es fs ps entry file program entry_is file_is older.1 is)
+one_more place [] files programs entry file program entry_is file_is older is = absurd (let none : None ≡ Some entry = entry_is in cc)
+one_more place (e ∷ es) [] programs entry file program entry_is file_is older is = absurd (let none : None ≡ Some file = file_is in cc)
+
+-- the first program that is refused, if memory was not
+pub first_refusal : (place : ℕ) (entries : List ProgramEntry) (files : List (List ℕ)) (programs : List Workload) (entry : ProgramEntry) (file : List ℕ) (error : StudyError)
+    → slice_get entries place ≡ Some entry → slice_get files place ≡ Some file
+    → AreProgramsOf (take place entries) (take place files) programs
+    → (error ≡ Memory) ⊎ IsFileRefusal entry file error → (error ≡ Memory) ⊎ IsFirstRefusal entries files error
+first_refusal place entries files programs entry file error entry_is file_is older (inl memory) = inl memory
+first_refusal place entries files programs entry file error entry_is file_is older (inr refusal) =
+    inr (record { place = place; programs = programs; older = older; entry = entry; entry_is = entry_is; file = file; file_is = file_is; refusal = refusal })
+
+-- the same of what stands at a place of the files, and of the programs after a push
+pub pushed : (place : ℕ) (entries : List ProgramEntry) (files : List (List ℕ)) (programs after : List Workload) (entry : ProgramEntry) (file : List ℕ) (program : Workload)
+    → slice_get entries place ≡ Some entry → slice_get files place ≡ Some file
+    → AreProgramsOf (take place entries) (take place files) programs → IsProgramOf entry file program
+    → after ≡ programs ++ program ∷ []
+    → AreProgramsOf (take (place + 1) entries) (take (place + 1) files) after
+pushed place entries files programs after entry file program entry_is file_is older is grown =
+    rw (add-one, grown) (one_more place entries files programs entry file program entry_is file_is older is)
+
+-- what is read at a place
+pub item_is : {X : Type 0} (xs : List X) (place : ℕ) (x : X) → place < length xs → x ≡ get_or xs place x → slice_get xs place ≡ Some x
+item_is xs place x within read = slice_get_read xs (length xs) place x refl within read
+
+-- and how contracts see it
+pub seen_is : {X Y : Type 0} (seen : X → Y) (xs : List X) (n place : ℕ) (x : X) (y : Y) → length xs ≡ n → place < n → x ≡ get_or xs place x → y ≡ seen x → slice_get (map seen xs) place ≡ Some y
+seen_is seen xs n place x y count within read is =
+    let there : place < length xs = omega (arith, count, within) in
+    slice_get-map seen xs place ∙ rw (item_is xs place x there read) (ap Some (sym is))
+
+-- a refused document
+pub document_refused : (bytes : List ℕ) (files : List (List ℕ)) (error : StudyError) → (error ≢ Memory → document_of bytes ≡ Err error) → IsStudyRefusal bytes files error
+document_refused bytes files Memory given = inl refl
+document_refused bytes files Syntax given = inr (inl (given (λ h. cc)))
+document_refused bytes files (UnknownKey place) given = inr (inl (given (λ h. cc)))
+document_refused bytes files (MissingKey place key) given = inr (inl (given (λ h. cc)))
+document_refused bytes files (Kind place key) given = inr (inl (given (λ h. cc)))
+document_refused bytes files (Range place key) given = inr (inl (given (λ h. cc)))
+document_refused bytes files TooMany given = inr (inl (given (λ h. cc)))
+document_refused bytes files Files given = inr (inl (given (λ h. cc)))
+document_refused bytes files (Image name error) given = inr (inl (given (λ h. cc)))
+document_refused bytes files (Fault name fault) given = inr (inl (given (λ h. cc)))
+document_refused bytes files (TooLong name) given = inr (inl (given (λ h. cc)))
+
+-- as many files as programs, one of which is refused
+pub file_refused : (bytes : List ℕ) (files : List (List ℕ)) (document : Document) (error : StudyError) → document_of bytes ≡ Ok document → length files ≡ length document.programs
+    → (error ≡ Memory) ⊎ IsFirstRefusal document.programs files error → IsStudyRefusal bytes files error
+file_refused bytes files document error read count (inl memory) = inl memory
+file_refused bytes files document error read count (inr first) = inr (inr (document, read, inr (count, first)))
+
+-- another number of files
+pub count_refused : (bytes : List ℕ) (files : List (List ℕ)) (document : Document) → document_of bytes ≡ Ok document → length files ≢ length document.programs → IsStudyRefusal bytes files Files
+count_refused bytes files document read count = inr (inr (document, read, inl (refl, count)))
+
+-- a program for each entry
+pub length-programs : (entries : List ProgramEntry) (files : List (List ℕ)) (programs : List Workload) → AreProgramsOf entries files programs → length programs ≡ length entries
+length-programs [] [] [] are = refl
+length-programs [] [] (p ∷ ps) are = absurd are
+length-programs [] (f ∷ fs) programs are = absurd are
+length-programs (e ∷ es) [] programs are = absurd are
+length-programs (e ∷ es) (f ∷ fs) [] are = absurd are
+length-programs (e ∷ es) (f ∷ fs) (p ∷ ps) are = ap suc (length-programs es fs ps are.1)
+
+-- as many programs as a document has: 1 to 8
+pub some_programs : (bytes : List ℕ) (document : Document) (entries : List ProgramEntry) (files : List (List ℕ)) (programs : List Workload) → document_of bytes ≡ Ok document → entries ≡ document.programs
+    → AreProgramsOf entries files programs → (1 ≤ length programs) × (length programs ≤ 8)
+some_programs bytes document entries files programs read same are =
+    let has = document_has_programs bytes document read in
+    let count : length programs ≡ length document.programs = length-programs entries files programs are ∙ ap length same in
+    (omega (arith, count, has.0), omega (arith, count, has.1))

@@ -1,0 +1,21 @@
+-- The files before the one at hand are programs; it is one more, or the first that is refused.
+use Rattle.std.proofs.Common.{◌≡◌, Some}
+use Rattle.tomex_report.proofs.Studies.{first_refusal, item_is, pushed, seen_is}
+use Rattle.tomex_report.proofs.study.programs_of.Goals as goal
+
+pub returns-in-Err-clause-err : goal.returns-in-Err-clause-err
+returns-in-Err-clause-err g c =
+    first_refusal c.loop-place.place c.args.entries.now _ _ _ _ _
+    (item_is _ _ _ c.loop-place-test.true c.index-entries-place.is)
+    (seen_is _ c.args.files.now _ _ c.index-files-place.result _ c.requires c.loop-place-test.true c.index-files-place.is c.as_slice.ensures.value)
+    c.loop-place.invariant
+    c.in-Err.ensures.err
+
+pub loop-place-preserved : goal.loop-place-preserved
+loop-place-preserved g c =
+    pushed c.loop-place.place c.args.entries.now _ _ _ _ _ _
+    (item_is _ _ _ c.loop-place-test.true c.index-entries-place.is)
+    (seen_is _ c.args.files.now _ _ c.index-files-place.result _ c.requires c.loop-place-test.true c.index-files-place.is c.as_slice.ensures.value)
+    c.loop-place.invariant
+    c.in-Ok.ensures.ok
+    c.in_ok-push-in-Ok.ensures.items

@@ -1,0 +1,97 @@
+//! Whole studies: the document, and the programs that its files hold.
+
+ghost use Rattle.std.specs.Prelude.{◌≡◌, ◌≢◌, ◌≤◌, ◌⊎◌, length, map, IfOk, IfErr, string_bytes};
+ghost use Rattle.tomex_report.specs.Study.{AreProgramsOf, IsFileRefusal, IsFirstRefusal, IsProgramOf, IsStudyOf, IsStudyRefusal};
+
+use crate::document::{Entry, document_of};
+use crate::error::StudyError;
+use std::alloc::{Allocator, Global};
+use tomex_config::grid;
+use tomex_image::{ImageError, load};
+use tomex_sweep::{Program, ProgramError, Study};
+
+/// The program of an entry and its file, which is loaded and run. The name that a refusal tells is
+/// made in `heap`.
+fn program_of<A: Allocator + Clone>(
+    alloc: A,
+    heap: Global,
+    entry: &Entry<A>,
+    file: &[u8],
+) -> Result<Program<A>, StudyError>
+    ensures ok { IfOk result (λ program. IsProgramOf entry.now file.now program) }
+    ensures err { IfErr result (λ error. (error ≡ StudyError.Memory) ⊎ IsFileRefusal entry.now file.now error) }
+{
+    let told = String::from_str(heap, entry.name())?;
+    let (window, limit) = (entry.window(), entry.limit());
+    let image = match load(alloc.clone()?, file, window) {
+        Ok(image) => image,
+        Err(ImageError::Memory) => return Err(StudyError::Memory),
+        Err(error) => return Err(StudyError::Image(told, error)),
+    };
+    let name = String::from_str(alloc.clone()?, entry.name())?;
+    let mut watch = Vec::new(alloc.clone()?);
+    watch.extend_from_slice(entry.watch())?;
+    match Program::new(alloc, name, image, limit, watch) {
+        Ok(program) => Ok(program),
+        Err(ProgramError::Fault(fault)) => Err(StudyError::Fault(told, fault)),
+        Err(ProgramError::TooLong) => Err(StudyError::TooLong(told)),
+        Err(ProgramError::Memory) => Err(StudyError::Memory),
+    }
+}
+
+/// The programs of the entries and their files, in order, up to the first that is refused.
+fn programs_of<A: Allocator + Clone>(
+    alloc: A,
+    heap: Global,
+    entries: &[Entry<A>],
+    files: &[Vec<u8, A>],
+) -> Result<Vec<Program<A>, A>, StudyError>
+    requires { length files.now ≡ length entries.now }
+    ensures ok { IfOk result (λ v. AreProgramsOf entries.now (map (λ f. f.items) files.now) v.items) }
+    ensures err { IfErr result (λ error. (error ≡ StudyError.Memory) ⊎ IsFirstRefusal entries.now (map (λ f. f.items) files.now) error) }
+{
+    let mut programs = Vec::new(alloc.clone()?);
+    for (place, entry) in entries.iter().enumerate() {
+        match program_of(alloc.clone()?, heap, entry, files[place].as_slice()) {
+            Ok(program) => programs.push(program)?,
+            Err(error) => return Err(error),
+        }
+    }
+    Ok(programs)
+}
+
+/// The study that the bytes and the programs' files stand for, or the first test that they fail:
+/// those of the document, then that there is a file for each program, then program by program
+/// that its file is an image and that its run ends.
+///
+/// The document is read, and the names that refusals tell are made, in `heap`; all else in `alloc`.
+pub fn read_study<A: Allocator + Clone>(
+    alloc: A,
+    heap: Global,
+    study: &[u8],
+    files: &[Vec<u8, A>],
+) -> Result<Study<A>, StudyError>
+    ensures ok { IfOk result (λ s. IsStudyOf study.now (map (λ f. f.items) files.now) s) }
+    ensures err { IfErr result (λ error. IsStudyRefusal study.now (map (λ f. f.items) files.now) error) }
+{
+    let outline = match document_of(alloc.clone()?, heap, study) {
+        Ok(outline) => outline,
+        Err(error) => return Err(error),
+    };
+    if files.len() != outline.programs.len() {
+        return Err(StudyError::Files);
+    }
+    let entries = outline.programs.as_slice();
+    let programs = match programs_of(alloc.clone()?, heap, entries, files) {
+        Ok(programs) => programs,
+        Err(error) => return Err(error),
+    };
+    // The axes of a document span a grid, so only memory can be wanting.
+    let Ok(rows) = grid(alloc.clone()?, &outline.axes) else {
+        return Err(StudyError::Memory);
+    };
+    match Study::new(alloc, programs, rows, outline.prices) {
+        Ok(study) => Ok(study),
+        Err(_) => Err(StudyError::Memory),
+    }
+}
