@@ -1,14 +1,19 @@
 -- The exit statuses of failures.
 use Rattle.std.specs.Prelude.{ℕ}
+use Rattle.tomex_report.specs.declared.error.StudyError.TheVariants as studies
 use Rattle.tomex.specs.declared.run.RunRefusal.TheVariants as refusals
 use Rattle.tomex.specs.declared.command.Failure.{Failure}
-use Rattle.tomex.specs.declared.command.Failure.TheVariants.{BadWindow, Run, CannotRead, CannotWrite, Memory}
+use Rattle.tomex.specs.declared.command.Failure.TheVariants.{BadWindow, Run, Study, NoSuchRow, NoSuchProgram, CannotRead, CannotWrite, Memory}
 
 -- 1 for input that is refused, 3 for want of memory, a file or a device
 abbrev pub status_of_failure : Failure → ℕ
 status_of_failure BadWindow = 1
 status_of_failure (Run refusals.Memory) = 3
 status_of_failure (Run refusal) = 1
+status_of_failure (Study studies.Memory) = 3
+status_of_failure (Study error) = 1
+status_of_failure NoSuchRow = 1
+status_of_failure NoSuchProgram = 1
 status_of_failure (CannotRead name) = 3
 status_of_failure CannotWrite = 3
 status_of_failure Memory = 3

@@ -6,13 +6,16 @@ ghost use Rattle.tomex.specs.Statuses.{status_of_failure};
 
 use crate::files::{Files, ReadFault};
 use crate::line::run::RunLine;
+use crate::line::times::TimesLine;
 use crate::line::{Line, read_line};
 use crate::run::{RunRefusal, run_text};
 use crate::sink::{Sink, write_all_of};
 use crate::telling::tell_line_fault;
-use std::alloc::{AllocError, Allocator, Global};
+use std::alloc::{AllocError, AllocFailed, Allocator, Global};
 use thiserror::Error;
 use tomex_image::Window;
+use tomex_report::{StudyError, file_names, read_study, times_report};
+use tomex_sweep::Study;
 
 /// Why a command was not done. Shown behind `tomex: ` on the standard error.
 #[derive(Debug, Drop, Error)]
@@ -23,6 +26,15 @@ pub enum Failure {
     /// The image is refused, or its run.
     #[error("{0}")]
     Run(RunRefusal),
+    /// The study is refused, or a program of it.
+    #[error("{0}")]
+    Study(StudyError),
+    /// The study has no configuration of that number.
+    #[error("no such row")]
+    NoSuchRow,
+    /// The study has no program of that name.
+    #[error("no such program")]
+    NoSuchProgram,
     /// A file was not read. Carries its name as written.
     #[error("cannot read {0}")]
     CannotRead(String),
@@ -43,6 +55,8 @@ impl Failure {
             Failure::BadWindow => 1,
             Failure::Run(RunRefusal::Memory) => 3,
             Failure::Run(_) => 1,
+            Failure::Study(StudyError::Memory) => 3,
+            Failure::Study(_) | Failure::NoSuchRow | Failure::NoSuchProgram => 1,
             Failure::CannotRead(_) | Failure::CannotWrite | Failure::Memory => 3,
         }
     }
@@ -56,11 +70,27 @@ impl From<AllocError> for Failure {
     }
 }
 
+impl<T: Drop> From<AllocFailed<T>> for Failure {
+    ghost from_gives = { λ _ failure. failure ≡ failures.Memory };
+
+    fn from(_error: AllocFailed<T>) -> Failure {
+        Failure::Memory
+    }
+}
+
 impl From<RunRefusal> for Failure {
     ghost from_gives = { λ refusal failure. failure ≡ failures.Run refusal };
 
     fn from(refusal: RunRefusal) -> Failure {
         Failure::Run(refusal)
+    }
+}
+
+impl From<StudyError> for Failure {
+    ghost from_gives = { λ error failure. failure ≡ failures.Study error };
+
+    fn from(error: StudyError) -> Failure {
+        Failure::Study(error)
     }
 }
 
@@ -90,6 +120,35 @@ fn text_of_run<F: Files, A: Allocator + Clone>(
     Ok(run_text(alloc, image.as_slice(), window, line.limit)?)
 }
 
+/// The study of a file, and of the files that it names.
+fn study_in<F: Files, A: Allocator + Clone>(
+    alloc: A,
+    heap: Global,
+    files: &F,
+    name: &str,
+) -> Result<Study<A>, Failure> {
+    let bytes = read(alloc.clone()?, heap, files, name)?;
+    let names = file_names(alloc.clone()?, heap, bytes.as_slice())?;
+    let mut contents = Vec::new(alloc.clone()?);
+    for name in names.as_slice() {
+        contents.push(read(alloc.clone()?, heap, files, name.as_str())?)?;
+    }
+    Ok(read_study(alloc, heap, bytes.as_slice(), contents.as_slice())?)
+}
+
+/// The text that `times` prints. The row is looked for before the program.
+fn text_of_times<F: Files, A: Allocator + Clone>(
+    alloc: A,
+    heap: Global,
+    line: TimesLine<'_>,
+    files: &F,
+) -> Result<Vec<u8, A>, Failure> {
+    let study = study_in(alloc.clone()?, heap, files, line.study)?;
+    let row = study.row(line.config as usize).ok_or(Failure::NoSuchRow)?;
+    let program = study.program(line.program).ok_or(Failure::NoSuchProgram)?;
+    Ok(times_report(alloc, heap, program, row)?)
+}
+
 /// The text that a line asks for.
 fn text_of<F: Files, A: Allocator + Clone>(
     alloc: A,
@@ -99,6 +158,7 @@ fn text_of<F: Files, A: Allocator + Clone>(
 ) -> Result<Vec<u8, A>, Failure> {
     match line {
         Line::Run(line) => text_of_run(alloc, heap, line, files),
+        Line::Times(line) => text_of_times(alloc, heap, line, files),
     }
 }
 

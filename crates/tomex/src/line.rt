@@ -8,18 +8,21 @@ ghost use Rattle.std.specs.Prelude.{◌≡◌, IfErr};
 ghost use Rattle.tomex.specs.declared.line.LineFault.TheVariants.{Memory};
 
 pub mod run;
+pub mod times;
 mod values;
 
 use clap::error::ErrorKind;
 use clap::{ArgMatches, Command};
 use run::RunLine;
 use std::alloc::{AllocError, Global};
+use times::TimesLine;
 use values::refused;
 
 /// What a command line asks for.
 #[derive(Clone, Copy, Debug)]
 pub enum Line<'a> {
     Run(RunLine<'a>),
+    Times(TimesLine<'a>),
 }
 
 /// A command line that asks for no command.
@@ -78,7 +81,8 @@ fn grammar<'a>(alloc: Global) -> Result<Command<'a>, AllocError> {
         .long_about(LONG_ABOUT)
         .after_long_help(AFTER_LONG_HELP)
         .subcommand_required(true)
-        .subcommand(run::grammar(alloc)?)
+        .subcommand(run::grammar(alloc)?)?
+        .subcommand(times::grammar(alloc)?)
 }
 
 fn line_of<'a>(alloc: Global, matches: &ArgMatches<'a>) -> Result<Line<'a>, LineFault>
@@ -86,6 +90,7 @@ fn line_of<'a>(alloc: Global, matches: &ArgMatches<'a>) -> Result<Line<'a>, Line
 {
     match matches.subcommand() {
         Some(("run", inner)) => Ok(Line::Run(run::line_of(alloc, inner)?)),
+        Some(("times", inner)) => Ok(Line::Times(times::line_of(alloc, inner)?)),
         _ => Err(refused(alloc, "command")),
     }
 }

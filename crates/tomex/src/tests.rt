@@ -12,6 +12,7 @@ use tomex_refuse::{Budget, Refusing};
 mod broken_images;
 mod commands;
 mod refused_memory;
+mod times;
 
 /// A sink in memory: it takes at most `step` bytes a put and `room` in all, and then fails, or takes
 /// nothing where `is_silent`.
@@ -102,6 +103,9 @@ fn told(alloc: Global, line: &str) -> Result<String, AllocError> {
     match read_line(alloc, words.as_slice()) {
         Ok(Line::Run(run)) => {
             format!(in alloc; "run {} {} {} {}", run.image, run.base, run.size, run.limit)
+        }
+        Ok(Line::Times(times)) => {
+            format!(in alloc; "times {} {} {}", times.study, times.config, times.program)
         }
         Err(LineFault::Help(text)) => format!(in alloc; "help {text}"),
         Err(LineFault::Usage(text)) => format!(in alloc; "usage {text}"),

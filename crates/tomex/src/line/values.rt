@@ -30,6 +30,15 @@ pub fn number<'a>(
         .help(help)
 }
 
+/// A decimal number that a command needs, in its place.
+pub fn numeral<'a>(alloc: Global, name: &'a str, bounds: Bounds, help: &'a str) -> Arg<'a> {
+    let range = i64::from(bounds.least)..=i64::from(bounds.greatest);
+    Arg::new(alloc, name)
+        .required(true)
+        .value_parser(value_parser!(u32).range(range))
+        .help(help)
+}
+
 /// A word that a command needs.
 pub fn word<'a>(alloc: Global, name: &'a str, help: &'a str) -> Arg<'a> {
     Arg::new(alloc, name).required(true).help(help)
