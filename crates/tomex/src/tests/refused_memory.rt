@@ -2,6 +2,7 @@
 
 use super::Narrow;
 use super::commands::{ELF, Shelf};
+use super::times::{Desk, PRODUCT, REPORT, STUDY};
 use crate::command::command;
 use crate::run::{RunRefusal, run_text};
 use std::alloc::{AllocError, Global};
@@ -33,7 +34,7 @@ trait Attempt {
 /// How many tries are refused before the first that is answered, each with one more block than
 /// the one before. None where a try came out wrong.
 fn refusals<C: Attempt>(alloc: Global, call: &C) -> Result<Option<u64>, AllocError> {
-    for granted in 0..100u64 {
+    for granted in 0..1000u64 {
         let budget = Budget::new(alloc, granted)?;
         match call.attempt(Refusing::new(alloc, budget))? {
             Try::Answered => return Ok(Some(granted)),
@@ -184,6 +185,49 @@ impl Attempt for Program {
             _ => Ok(Try::Wrong),
         }
     }
+}
+
+/// Prints a times report: reads a study and its file, and makes rows, a program and its times.
+#[derive(Clone, Copy)]
+struct Times {
+    other: Global,
+}
+
+impl Attempt for Times {
+    fn attempt(&self, heap: Heap) -> Result<Try, AllocError> {
+        let mut words = Vec::new(self.other);
+        for word in ["tomex", "times", "study", "1", "mul"] {
+            words.push(String::from_str(self.other, word)?)?;
+        }
+        let desk = Desk {
+            study: STUDY.as_bytes(),
+            program: Some(PRODUCT.as_slice()),
+        };
+        let mut out = Narrow::new(self.other, 10_000, 1000);
+        let mut err = Narrow::new(self.other, 10_000, 1000);
+        let status = command(
+            heap,
+            self.other,
+            words.as_slice(),
+            &desk,
+            &mut out,
+            &mut err,
+        );
+        let told = err.bytes.as_slice() == b"tomex: out of memory\n".as_slice();
+        match status {
+            0 if out.bytes.as_slice() == REPORT.as_bytes() => Ok(Try::Answered),
+            3 if told && out.bytes.is_empty() => Ok(Try::Refused),
+            _ => Ok(Try::Wrong),
+        }
+    }
+}
+
+#[test]
+fn studies_and_times(rt: HostRuntime) -> Result<(), Fail> {
+    // The study's bytes and its file's, names, the program, rows, costs, steps, times and the text.
+    let report = Times { other: rt.alloc() };
+    assert!(rt; matches!(refusals(rt.alloc(), &report)?, Some(granted) if granted > 10));
+    Ok(())
 }
 
 #[test]

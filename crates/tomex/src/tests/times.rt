@@ -10,9 +10,9 @@ use std::test::Fail;
 
 /// A study, and the one file that it may name, `mul.bin`.
 #[derive(Clone, Copy)]
-struct Desk<'a> {
-    study: &'a [u8],
-    program: Option<&'a [u8]>,
+pub struct Desk<'a> {
+    pub study: &'a [u8],
+    pub program: Option<&'a [u8]>,
 }
 
 impl<'a> Files for Desk<'a> {
@@ -36,14 +36,14 @@ impl<'a> Files for Desk<'a> {
 }
 
 /// `addi x1,x0,5; addi x2,x0,7; mul x3,x1,x2; ebreak`
-const PRODUCT: &[u8; 16] = b"\x93\x00\x50\x00\x13\x01\x70\x00\xb3\x81\x20\x02\x73\x00\x10\x00";
+pub const PRODUCT: &[u8; 16] = b"\x93\x00\x50\x00\x13\x01\x70\x00\xb3\x81\x20\x02\x73\x00\x10\x00";
 
 /// Two rows, of two alu stations and of one.
-const STUDY: &str = "[[program]]\nname = \"mul\"\nfile = \"mul.bin\"\n\
+pub const STUDY: &str = "[[program]]\nname = \"mul\"\nfile = \"mul.bin\"\n\
     [axes]\nalu = [2, 1]\n[[unit.mul]]\nlatency = 3\n";
 
 /// The report of the second row.
-const REPORT: &str = "step,pc,instr,issue,addr,start,finish,end,station\n\
+pub const REPORT: &str = "step,pc,instr,issue,addr,start,finish,end,station\n\
     1,00000000,\"addi x1,x0,5\",1,-,2,2,3,alu0\n\
     2,00000004,\"addi x2,x0,7\",4,-,5,5,6,alu0\n\
     3,00000008,\"mul x3,x1,x2\",5,-,7,9,10,mul0\n\
