@@ -13,12 +13,12 @@ use Rattle.tomex_rvdec.specs.Instruction.{Instruction}
 use Rattle.tomex_rvdec.specs.Meaning.{form_of, meaning, operands_at, selected}
 use Rattle.tomex_rvdec.specs.Operands.{pool_of, sources_at, sources_of}
 use Rattle.tomex_rvexec.specs.declared.step.Step.{Step}
-use Rattle.tomex_rvexec.specs.Flow.{IsState, byte_in, is_register, overwrites, result_of, stored_byte}
+use Rattle.tomex_rvexec.specs.Flow.{IsState, byte_in, overwrites, result_of, stored_byte}
 use Rattle.tomex_rvexec.specs.History.{Follows, Leaves, byte_after, register_after}
 use Rattle.tomex_rvexec.specs.Machine.{State}
 use Rattle.tomex_rvexec.specs.Memory.{word_read}
 use Rattle.tomex_rvexec.specs.Run.{start_of}
-use Rattle.tomex_rvexec.specs.Steps.{j_of, k_of, operand, step_dest, step_pool}
+use Rattle.tomex_rvexec.specs.Steps.{j_of, k_of, operand, step_dest, step_pool, is_number}
 use Rattle.tomex_rvexec.proofs.FlowSteps.{never_zero}
 
 pub same_registers : (i : Loaded) (steps : List Step) (s : State) (regs : List ℕ) → Leaves i steps s → IsState s → length regs ≡ 32 → ((r : ℕ) → r < 32 → slice_index regs r ≡ register_after i steps r) → regs ≡ s.regs
@@ -104,18 +104,18 @@ unread_k i older x h e =
     h.vk ∙ (ap (λ r. register_after i older r) z ∙ zero_after i older)
 
 -- the youngest that writes a register gives its value, the youngest store on a byte the byte
-pub youngest_writer : (i : Loaded) (newer older : List Step) (x : Step) (r : ℕ) → list_any (λ (y : Step). is_register (step_dest y) r) newer ≡ false → is_register (step_dest x) r ≡ true → register_after i (newer ++ x ∷ older) r ≡ result_of x (byte_after i older)
+pub youngest_writer : (i : Loaded) (newer older : List Step) (x : Step) (r : ℕ) → list_any (λ (y : Step). is_number (step_dest y) r) newer ≡ false → is_number (step_dest x) r ≡ true → register_after i (newer ++ x ∷ older) r ≡ result_of x (byte_after i older)
 youngest_writer i [] older x r none h = rw h refl
 youngest_writer i (y ∷ newer) older x r none h =
-    let two = or_parts (is_register (step_dest y) r) (list_any (λ (y : Step). is_register (step_dest y) r) newer) none in
-    let first : is_register (step_dest y) r ≡ false = two.0 in
+    let two = or_parts (is_number (step_dest y) r) (list_any (λ (y : Step). is_number (step_dest y) r) newer) none in
+    let first : is_number (step_dest y) r ≡ false = two.0 in
     rw first (youngest_writer i newer older x r two.1 h)
 
-pub no_writer : (i : Loaded) (steps : List Step) (r : ℕ) → list_any (λ (y : Step). is_register (step_dest y) r) steps ≡ false → register_after i steps r ≡ slice_index (start_of i).regs r
+pub no_writer : (i : Loaded) (steps : List Step) (r : ℕ) → list_any (λ (y : Step). is_number (step_dest y) r) steps ≡ false → register_after i steps r ≡ slice_index (start_of i).regs r
 no_writer i [] r none = refl
 no_writer i (y ∷ steps) r none =
-    let two = or_parts (is_register (step_dest y) r) (list_any (λ (y : Step). is_register (step_dest y) r) steps) none in
-    let first : is_register (step_dest y) r ≡ false = two.0 in
+    let two = or_parts (is_number (step_dest y) r) (list_any (λ (y : Step). is_number (step_dest y) r) steps) none in
+    let first : is_number (step_dest y) r ≡ false = two.0 in
     rw first (no_writer i steps r two.1)
 
 pub youngest_store : (i : Loaded) (newer older : List Step) (x : Step) (a : ℕ) → list_any (λ (y : Step). overwrites y a) newer ≡ false → overwrites x a ≡ true → byte_after i (newer ++ x ∷ older) a ≡ stored_byte x a

@@ -20,7 +20,7 @@ use Rattle.tomex_rvexec.specs.Flow.{IsAllowed, IsState, byte_in, memory_of, end_
 use Rattle.tomex_rvexec.specs.Machine.{State, Goes, Ends, Faults, base_of, branches, coming_of, executes, fetched, from_byte, from_half, holds, jumps, loads, next_pc, outcome_of, step_at, step_of, stores, with_register}
 use Rattle.tomex_rvexec.specs.Memory.{byte_read, half_read, word_read, byte_written, half_written, word_written}
 use Rattle.tomex_rvexec.specs.Run.{start_of}
-use Rattle.tomex_rvexec.specs.Steps.{access_size, address_of, is_pool, is_store, step_dest}
+use Rattle.tomex_rvexec.specs.Steps.{access_size, address_of, is_in, is_store, step_dest}
 use Rattle.tomex_rvexec.specs.Words.{is_taken, sum}
 use Rattle.tomex_rvexec.proofs.FlowBytes.{length-bytes}
 use Rattle.tomex_rvexec.proofs.FlowEffects.{Carried, carried, stored_size}
@@ -190,7 +190,7 @@ no_dest Ecall rd kind e = refl
 no_dest Ebreak rd kind e = refl
 no_dest op rd kind e = cc
 
-no_bytes : (op : Op) (kind : EndKind) → end_at op ≡ Some kind → is_pool pools.Store (pool_of op) ≡ false
+no_bytes : (op : Op) (kind : EndKind) → end_at op ≡ Some kind → is_in pools.Store (pool_of op) ≡ false
 no_bytes Ecall kind e = refl
 no_bytes Ebreak kind e = refl
 no_bytes op kind e = cc

@@ -15,9 +15,9 @@ use Rattle.tomex_rvdec.specs.Meaning.{meaning}
 use Rattle.tomex_rvdec.specs.Operands.{dest_at, pool_of}
 use Rattle.tomex_rvexec.specs.declared.outcome.FaultKind.TheVariants.{Fetch}
 use Rattle.tomex_rvexec.specs.declared.step.Step.{Step}
-use Rattle.tomex_rvexec.specs.Flow.{Changes, IsState, byte_in, memory_of, is_among, is_register, result_of}
+use Rattle.tomex_rvexec.specs.Flow.{Changes, IsState, byte_in, memory_of, is_among, result_of}
 use Rattle.tomex_rvexec.specs.Machine.{State, Outcome, Goes, Faults, base_of, coming_of, executes, fetched, holds, outcome_of, step_at, step_of}
-use Rattle.tomex_rvexec.specs.Steps.{access_size, address_of, is_pool, step_dest}
+use Rattle.tomex_rvexec.specs.Steps.{access_size, address_of, is_in, step_dest, is_number}
 use Rattle.tomex_rvexec.proofs.FlowBytes.{below_none, bytes_stored}
 use Rattle.tomex_rvexec.proofs.FlowEffects.{Carried, carried, stored_size, with_dest}
 
@@ -37,7 +37,7 @@ comes s x o c e = at (holds s s.pc 4) (meaning (fetched s)) refl c e
     at true None is c e = cc
     at false m is c e = cc
 
-pub register_set : (dest : Option ℕ) (v : ℕ) (regs : List ℕ) (r : ℕ) → r < length regs → slice_index (with_dest dest v regs) r ≡ (if is_register dest r then v else slice_index regs r)
+pub register_set : (dest : Option ℕ) (v : ℕ) (regs : List ℕ) (r : ℕ) → r < length regs → slice_index (with_dest dest v regs) r ≡ (if is_number dest r then v else slice_index regs r)
 register_set None v regs r h = refl
 register_set (Some q) v regs r h = elim (cases_eq r q) [
   | inl e ↦ rw (eq-eqb q r (sym e)) (get_or-set_at regs q r v 0 e (omega arith))
@@ -48,24 +48,24 @@ pub length-dest : (dest : Option ℕ) (v : ℕ) (regs : List ℕ) → length (wi
 length-dest None v regs = refl
 length-dest (Some q) v regs = simp length-set
 
-pub never_zero : (f : Form) (rd : ℕ) → is_register (dest_at f rd) 0 ≡ false
+pub never_zero : (f : Form) (rd : ℕ) → is_number (dest_at f rd) 0 ≡ false
 never_zero forms.Store rd = refl
 never_zero forms.Branch rd = refl
 never_zero forms.Fence rd = refl
 never_zero forms.Whole rd = refl
 never_zero f rd = at (nat_eq rd 0) refl
   where
-    at : (b : Bool) → nat_eq rd 0 ≡ b → is_register (if b then None else Some rd) 0 ≡ false
+    at : (b : Bool) → nat_eq rd 0 ≡ b → is_number (if b then None else Some rd) 0 ≡ false
     at true e = refl
     at false e = e
 
-overwrites_is : (op : Op) (from a : ℕ) → (is_pool pools.Store (pool_of op) && is_among (if nat_eq (access_size op) 0 then None else Some (record { from = from; to = from + access_size op })) a) ≡ (nat_le from a && nat_lt a (from + stored_size op))
+overwrites_is : (op : Op) (from a : ℕ) → (is_in pools.Store (pool_of op) && is_among (if nat_eq (access_size op) 0 then None else Some (record { from = from; to = from + access_size op })) a) ≡ (nat_le from a && nat_lt a (from + stored_size op))
 overwrites_is Sb from a = refl
 overwrites_is Sh from a = refl
 overwrites_is Sw from a = refl
 overwrites_is op from a = sym (below_none from a)
 
-no_store : (op : Op) → is_pool pools.Store (pool_of op) ≡ false → stored_size op ≡ 0
+no_store : (op : Op) → is_in pools.Store (pool_of op) ≡ false → stored_size op ≡ 0
 no_store Sb h = cc
 no_store Sh h = cc
 no_store Sw h = cc

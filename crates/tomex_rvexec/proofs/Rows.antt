@@ -1,7 +1,7 @@
 -- Worked rows.
-use Rattle.std.proofs.Common.{ℕ, ◌≡◌, ◌+◌, ◌++◌, refl, List, [], ◌∷◌, Option, Some, None}
+use Rattle.std.proofs.Common.{ℕ, ◌≡◌, ◌+◌, ◌++◌, refl, List, [], ◌∷◌}
 use Rattle.std.specs.Prelude.{replicate, slice_index, length, map}
-use Rattle.tomex_rvdec.specs.declared.op.Op.TheVariants.{Div, Divu, Rem, Remu, Mulhsu, Mulhu, Mulh, Sra, Sll, Slt, Sub}
+use Rattle.tomex_rvdec.specs.declared.op.Op.TheVariants.{Div, Rem, Mulhsu, Mulhu, Mulh, Sra, Sll, Slt, Sub}
 use Rattle.tomex_rvexec.specs.Words.{alu_of, muldiv_of}
 use Rattle.tomex_image.specs.Image.{Loaded}
 use Rattle.tomex_rvdec.specs.Meaning.{selected}
@@ -9,11 +9,11 @@ use Rattle.tomex_rvexec.specs.declared.step.Step.{Step}
 use Rattle.tomex_rvexec.specs.declared.outcome.EndKind.{EndKind}
 use Rattle.tomex_rvexec.specs.declared.outcome.FaultKind.{FaultKind}
 use Rattle.tomex_rvexec.specs.declared.outcome.EndKind.TheVariants as ends
-use Rattle.tomex_rvexec.specs.declared.outcome.FaultKind.TheVariants.{Fetch, Illegal, MisalignedTarget, Access}
-use Rattle.tomex_rvexec.specs.Machine.{State, Outcome, Goes, Ends, Faults, step_of, coming_of}
+use Rattle.tomex_rvexec.specs.declared.outcome.FaultKind.TheVariants.{Fetch, MisalignedTarget, Access}
+use Rattle.tomex_rvexec.specs.Machine.{State, Outcome, Goes, Ends, Faults, step_of}
 use Rattle.tomex_rvexec.specs.Run.{start_of}
 use Rattle.tomex_rvexec.specs.Trace.{steps_from}
-use Rattle.std.specs.Prelude.{◌-◌, ◌/◌, ◌%◌, zero, suc, slice_set}
+use Rattle.std.specs.Prelude.{◌-◌, ◌/◌, ◌%◌, zero, suc}
 
 abbrev pub bytes_of : ℕ → List ℕ
 bytes_of w = w % 256 ∷ w / 256 % 256 ∷ w / 65536 % 256 ∷ w / 16777216 ∷ []

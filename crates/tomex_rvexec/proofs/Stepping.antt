@@ -1,8 +1,7 @@
 -- Steps of a run, one at a time.
-use Rattle.std.proofs.Common.{◌≡◌, ℕ, suc, ◌+◌, ◌-◌, ◌<◌, List, [], ◌∷◌, ◌++◌, arith, refl, sym, ap, ◌∙◌, append_assoc, Option, Some, None, Ok, Err, add-one}
-use Rattle.tomex_rvexec.specs.declared.outcome.Fault.{Fault}
+use Rattle.std.proofs.Common.{◌≡◌, ℕ, suc, ◌+◌, ◌-◌, ◌<◌, List, [], ◌∷◌, ◌++◌, arith, refl, sym, ap, ◌∙◌, append_assoc, Some, Ok, add-one}
 use Rattle.tomex_rvexec.specs.declared.outcome.Stepped.{Stepped}
-use Rattle.tomex_rvexec.specs.declared.outcome.Stepped.TheVariants.{Next, Ended}
+use Rattle.tomex_rvexec.specs.declared.outcome.Stepped.TheVariants.{Next}
 use Rattle.tomex_rvexec.specs.Run.{Leads, Answers}
 use Rattle.tomex_rvexec.specs.declared.outcome.EndKind.{EndKind}
 use Rattle.tomex_rvexec.specs.declared.step.Step.{Step}

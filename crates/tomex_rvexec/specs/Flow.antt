@@ -1,7 +1,7 @@
 -- What a step computes from its operands, and what it changes (RV32I, sections 2.4 to 2.6; M,
 -- chapter 7): its result, the pc that follows it, and the bytes that a store leaves. All of it is
 -- a function of the step, and of the bytes that a load reads.
-use Rattle.std.specs.Prelude.{◌≡◌, ℕ, ◌+◌, ◌-◌, ◌*◌, ◌/◌, ◌%◌, ◌^◌, ◌<◌, ◌≤◌, Bool, false, ◌&&◌, nat_eq, nat_le, nat_lt, if◌then◌else◌, Option, Some, None, IfSome, length, slice_index}
+use Rattle.std.specs.Prelude.{◌≡◌, ℕ, ◌+◌, ◌-◌, ◌*◌, ◌/◌, ◌%◌, ◌^◌, ◌<◌, ◌≤◌, Bool, false, ◌&&◌, nat_le, nat_lt, if◌then◌else◌, Option, Some, None, IfSome, length, slice_index}
 use Rattle.tomex_image.specs.Image.{Loaded}
 use Rattle.tomex_rvdec.specs.declared.op.Op.{Op}
 use Rattle.tomex_rvdec.specs.declared.op.Op.TheVariants.{Lui, Auipc, Jal, Jalr, Lb, Lh, Lw, Lbu, Lhu, Ecall, Ebreak}
@@ -17,7 +17,7 @@ use Rattle.tomex_rvexec.specs.declared.step.Step.{Step}
 use Rattle.tomex_rvexec.specs.declared.step.ByteRange.{ByteRange}
 use Rattle.tomex_rvexec.specs.Machine.{State, base_of, from_byte, from_half}
 use Rattle.tomex_rvexec.specs.Memory.{Bytes}
-use Rattle.tomex_rvexec.specs.Steps.{address_of, bytes_of, is_store, step_dest}
+use Rattle.tomex_rvexec.specs.Steps.{address_of, bytes_of, is_number, is_store, step_dest}
 use Rattle.tomex_rvexec.specs.Words.{sum, alu_of, muldiv_of, is_taken}
 
 -- the second operand of an operation: rs2's value, or the immediate
@@ -63,11 +63,6 @@ next_at op x = if is_taken op x.vj x.vk then sum x.pc x.instr.imm else sum x.pc 
 -- the pc after a step: the target of a jump or of a branch that is taken, else the next instruction
 abbrev pub next_pc_of : Step → ℕ
 next_pc_of x = next_at x.instr.op x
-
--- whether this is the register, if any
-abbrev pub is_register : Option ℕ → ℕ → Bool
-is_register None r = false
-is_register (Some q) r = nat_eq q r
 
 abbrev pub is_among : Option ByteRange → ℕ → Bool
 is_among None a = false
@@ -119,7 +114,7 @@ pub record HasWords (s : State) : Type 0 where
 pub record Changes (s : State) (x : Step) (t : State) : Type 0 where
   pub image : t.image ≡ s.image
   pub pc : t.pc ≡ next_pc_of x
-  pub registers : (r : ℕ) → r < 32 → slice_index t.regs r ≡ (if is_register (step_dest x) r then result_of x (byte_in (memory_of s)) else slice_index s.regs r)
+  pub registers : (r : ℕ) → r < 32 → slice_index t.regs r ≡ (if is_number (step_dest x) r then result_of x (byte_in (memory_of s)) else slice_index s.regs r)
   pub bytes : (a : ℕ) → base_of s ≤ a → byte_in (memory_of t) a ≡ (if overwrites x a then stored_byte x a else byte_in (memory_of s) a)
   pub memory : is_store x ≡ false → t.memory ≡ s.memory
 

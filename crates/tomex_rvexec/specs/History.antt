@@ -4,11 +4,11 @@ use Rattle.std.specs.Prelude.{◌≡◌, ℕ, zero, suc, ◌-◌, ◌<◌, ◌�
 use Rattle.tomex_image.specs.Image.{Loaded}
 use Rattle.tomex_rvdec.specs.Meaning.{meaning}
 use Rattle.tomex_rvexec.specs.declared.step.Step.{Step}
-use Rattle.tomex_rvexec.specs.Flow.{IsAllowed, byte_in, is_register, memory_of, next_pc_of, overwrites, result_of, stored_byte}
+use Rattle.tomex_rvexec.specs.Flow.{IsAllowed, byte_in, memory_of, next_pc_of, overwrites, result_of, stored_byte}
 use Rattle.tomex_rvexec.specs.Machine.{State, Outcome, Goes, Ends, Faults, step_of, coming_of}
 use Rattle.tomex_rvexec.specs.Memory.{is_inside, word_read}
 use Rattle.tomex_rvexec.specs.Run.{start_of}
-use Rattle.tomex_rvexec.specs.Steps.{step_dest}
+use Rattle.tomex_rvexec.specs.Steps.{step_dest, is_number}
 use Rattle.tomex_rvexec.specs.Trace.{onto}
 
 -- a step that ends or faults leaves the state as it was
@@ -40,7 +40,7 @@ byte_after i (x ∷ older) a = if overwrites x a then stored_byte x a else byte_
 abbrev pub register_after : Loaded → List Step → ℕ → ℕ
 register_after i [] r = slice_index (start_of i).regs r
 register_after i (x ∷ older) r =
-    if is_register (step_dest x) r then result_of x (byte_after i older) else register_after i older r
+    if is_number (step_dest x) r then result_of x (byte_after i older) else register_after i older r
 
 -- the pc after these steps: what follows the youngest, or the entry
 abbrev pub pc_after : Loaded → List Step → ℕ

@@ -1,10 +1,11 @@
 -- What a step of a run says of itself: its operands, its destination, the bytes that it touches.
-use Rattle.std.specs.Prelude.{ℕ, ◌+◌, Option, Some, None, if◌then◌else◌, nat_eq, Bool, true, false, option_map}
+use Rattle.std.specs.Prelude.{ℕ, ◌+◌, ◌==◌, Option, Some, None, if◌then◌else◌, nat_eq, Bool, false, option_map}
 use Rattle.tomex_rvdec.specs.declared.op.Op.{Op}
 use Rattle.tomex_rvdec.specs.declared.op.Op.TheVariants.{Lb, Lh, Lw, Lbu, Lhu, Sb, Sh, Sw}
 use Rattle.tomex_rvdec.specs.declared.pool.PoolId.{PoolId}
 use Rattle.tomex_rvdec.specs.declared.pool.PoolId.TheVariants as pools
 use Rattle.tomex_rvdec.specs.declared.pool.UnitId.{UnitId}
+use Rattle.tomex_rvdec.specs.Parts.{place_of_pool}
 use Rattle.tomex_rvdec.specs.Operands.{pool_of, unit_of, sources_of, dest_of}
 use Rattle.tomex_rvexec.specs.declared.step.Step.{Step}
 use Rattle.tomex_rvexec.specs.declared.step.Operand.{Operand}
@@ -53,18 +54,19 @@ step_unit x = unit_of x.instr.op
 abbrev pub step_dest : Step → Option ℕ
 step_dest x = dest_of x.instr
 
-abbrev pub is_pool : PoolId → Option PoolId → Bool
-is_pool pools.Store (Some pools.Store) = true
-is_pool pools.Bru (Some pools.Bru) = true
-is_pool pools.Load (Some pools.Load) = true
-is_pool pools.Alu (Some pools.Alu) = true
-is_pool pools.Mul (Some pools.Mul) = true
-is_pool pools.Div (Some pools.Div) = true
-is_pool _ _ = false
+-- what takes a station takes one of this pool
+abbrev pub is_in : PoolId → Option PoolId → Bool
+is_in pool None = false
+is_in pool (Some other) = place_of_pool other == place_of_pool pool
+
+-- a number that is there, and is this one
+abbrev pub is_number : Option ℕ → ℕ → Bool
+is_number None n = false
+is_number (Some m) n = m == n
 
 -- conditional branches and JALR: what comes after them isn't known before they have finished
 abbrev pub is_branch : Step → Bool
-is_branch x = is_pool pools.Bru (step_pool x)
+is_branch x = is_in pools.Bru (step_pool x)
 
 abbrev pub is_store : Step → Bool
-is_store x = is_pool pools.Store (step_pool x)
+is_store x = is_in pools.Store (step_pool x)

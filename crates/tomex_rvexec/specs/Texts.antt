@@ -1,5 +1,5 @@
 -- Texts that reports share: hexadecimal numbers, and the names of a program's two ends.
-use Rattle.std.specs.Prelude.{ℕ, ◌-◌, ◌^◌, Bool, false, List, [], codes}
+use Rattle.std.specs.Prelude.{ℕ, ◌-◌, ◌^◌, false, List, [], codes}
 use Rattle.std.specs.Fmt.{digits, padded_integral, format_spec}
 use Rattle.tomex_rvexec.specs.declared.outcome.EndKind.{EndKind}
 use Rattle.tomex_rvexec.specs.declared.outcome.EndKind.TheVariants.{Ecall, Ebreak}

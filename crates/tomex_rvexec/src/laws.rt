@@ -9,11 +9,11 @@ ghost use Rattle.tomex_rvdec.specs.declared.pool.PoolId.TheVariants as pools;
 ghost use Rattle.tomex_rvexec.specs.declared.outcome.EndKind.{EndKind};
 ghost use Rattle.tomex_rvexec.specs.declared.outcome.FaultKind.{FaultKind};
 ghost use Rattle.tomex_rvexec.specs.declared.step.Step.{Step};
-ghost use Rattle.tomex_rvexec.specs.Flow.{Changes, HasWords, IsAllowed, IsState, byte_in, covers, end_of, is_register, overwrites, result_of, stored_byte};
+ghost use Rattle.tomex_rvexec.specs.Flow.{Changes, HasWords, IsAllowed, IsState, byte_in, covers, end_of, overwrites, result_of, stored_byte};
 ghost use Rattle.tomex_rvexec.specs.History.{Follows, IsFlow, Leaves, byte_after, history, register_after, state_after, step_after};
 ghost use Rattle.tomex_rvexec.specs.Machine.{State, Ends, Goes, coming_of, step_of};
 ghost use Rattle.tomex_rvexec.specs.Run.{EndsWithin, Leads, RunEnds, RunFaults, start_of};
-ghost use Rattle.tomex_rvexec.specs.Steps.{bytes_of, is_pool, is_store, j_of, k_of, step_dest, step_pool, step_unit};
+ghost use Rattle.tomex_rvexec.specs.Steps.{bytes_of, is_in, is_store, j_of, k_of, step_dest, step_pool, step_unit, is_number};
 ghost use Rattle.tomex_rvexec.specs.Trace.{steps_from};
 
 /// A step changes the pc, its destination and the bytes of its store, and nothing else. Its target
@@ -51,8 +51,8 @@ pub fn run_is_its_history()
 /// The youngest step that writes a register gives its value, and the youngest store on a byte the
 /// byte; where there is none, the register has the start's value, and the byte is the image's.
 pub fn youngest_writer_gives_the_value()
-    ensures writer { (i : Loaded) (newer older : List Step) (x : Step) (r : ℕ) → list_any (λ y. is_register (step_dest y) r) newer ≡ false → is_register (step_dest x) r ≡ true → register_after i (newer ++ x ∷ older) r ≡ result_of x (byte_after i older) }
-    ensures start { (i : Loaded) (steps : List Step) (r : ℕ) → list_any (λ y. is_register (step_dest y) r) steps ≡ false → register_after i steps r ≡ slice_index (start_of i).regs r }
+    ensures writer { (i : Loaded) (newer older : List Step) (x : Step) (r : ℕ) → list_any (λ y. is_number (step_dest y) r) newer ≡ false → is_number (step_dest x) r ≡ true → register_after i (newer ++ x ∷ older) r ≡ result_of x (byte_after i older) }
+    ensures start { (i : Loaded) (steps : List Step) (r : ℕ) → list_any (λ y. is_number (step_dest y) r) steps ≡ false → register_after i steps r ≡ slice_index (start_of i).regs r }
     ensures store { (i : Loaded) (newer older : List Step) (x : Step) (a : ℕ) → list_any (λ y. overwrites y a) newer ≡ false → overwrites x a ≡ true → byte_after i (newer ++ x ∷ older) a ≡ stored_byte x a }
     ensures image { (i : Loaded) (steps : List Step) (a : ℕ) → list_any (λ y. overwrites y a) steps ≡ false → byte_after i steps a ≡ slice_index i.memory (a - i.window.base) }
 {}
@@ -62,7 +62,7 @@ pub fn youngest_writer_gives_the_value()
 /// writes no register.
 pub fn step_says_one_thing_of_itself()
     ensures unit { (x : Step) → is_some (step_unit x) ≡ is_some (step_pool x) }
-    ensures memory { (x : Step) → is_some (bytes_of x) ≡ (is_pool pools.Load (step_pool x) || is_store x) }
+    ensures memory { (x : Step) → is_some (bytes_of x) ≡ (is_in pools.Load (step_pool x) || is_store x) }
     ensures bytes { (x : Step) → IfSome (bytes_of x) (λ b. b.from < b.to) }
     ensures pool { (x : Step) → step_pool x ≡ None → step_dest x ≡ None }
     ensures store { (x : Step) → is_store x ≡ true → step_dest x ≡ None }

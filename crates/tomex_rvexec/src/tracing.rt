@@ -1,6 +1,6 @@
 //! Whole runs in order, with a record of each step.
 
-ghost use Rattle.std.specs.Prelude.{◌≡◌, ℕ, ◌+◌, ◌≤◌, IfOk, IfErr};
+ghost use Rattle.std.specs.Prelude.{◌≡◌, ℕ, ◌+◌, ◌≤◌, length, IfOk, IfErr};
 ghost use Rattle.tomex_rvexec.specs.Machine.{State};
 ghost use Rattle.tomex_rvexec.specs.Run.{IsRefusal, EndsWithin, Leads, start_of};
 ghost use Rattle.tomex_rvexec.specs.Trace.{steps_from};
@@ -22,6 +22,7 @@ pub fn trace<A: Allocator + Clone>(
     limit: u32,
 ) -> Result<Vec<Step, A>, RunError>
     ensures ok { IfOk result (λ v. v.items ≡ steps_from limit (start_of image.now)) }
+    ensures few { IfOk result (λ v. length v.items ≤ limit) }
     ensures ends { IfOk result (λ v. EndsWithin image.now limit) }
     ensures err { IfErr result (λ e. IsRefusal image.now limit e) }
 {

@@ -1,7 +1,7 @@
 -- A run's history grows by one step at a time, and what stands in it stays.
 use Rattle.std.proofs.Common.{ℕ, ◌+◌, ◌≤◌, ◌*◌, ◌<◌, ◌≡◌, ◌∙◌, arith, refl, List, [], ◌∷◌, ◌++◌, ap, sym, suc, max, length, map, reverse, append_assoc}
 use Rattle.std.specs.Prelude.{slice_index_or, take}
-use Rattle.std.proofs.lemmas.List.{reverse-append, length-reverse, map-append, take_more, append-nil}
+use Rattle.std.proofs.lemmas.List.{reverse-append, length-map, length-reverse, map-append, take_more, append-nil}
 use Rattle.tomex_rvexec.specs.declared.step.Step.{Step}
 use Rattle.tomex_config.specs.Row.{Row, IsRow}
 use Rattle.tomex_timing.specs.declared.times.Done.{Done}
@@ -58,6 +58,10 @@ length-timed_of row (y ∷ ys) = ap suc (length-timed_of row ys)
 
 pub length-history : (row : Row) (xs : List Step) → length (history row xs) ≡ length xs
 length-history row xs = length-timed_of row (reverse xs) ∙ length-reverse xs
+
+-- each step has its times
+pub length-times_in : (row : Row) (xs : List Step) → length (times_in row xs) ≡ length xs
+length-times_in row xs = length-map _ _ ∙ (length-reverse (history row xs) ∙ length-history row xs)
 
 pub history_bound : (row : Row) (xs : List Step) → IsRow row → greatest_end (history row xs) ≤ 67 * length xs
 history_bound row xs good =

@@ -9,7 +9,8 @@ use Rattle.tomex_config.specs.Row.{Row, IsRow, stations_of, option_of}
 use Rattle.tomex_rvexec.specs.declared.step.ByteRange.{ByteRange}
 use Rattle.tomex_timing.specs.declared.window.Facts.{Facts}
 use Rattle.tomex_timing.specs.declared.window.Live.{Live}
-use Rattle.tomex_timing.specs.History.{is_in, is_of}
+use Rattle.tomex_rvexec.specs.Steps.{is_in}
+use Rattle.tomex_timing.specs.History.{is_of}
 use Rattle.tomex_timing.specs.Recurrence.{IsLeast, shares_byte}
 use Rattle.tomex_timing.specs.Window.{IsBy, IsFirst, is_held_by, has_station_among, starts_in, has_unit_among, sends_in, has_bus_among, is_finished_conflict}
 use Rattle.std.specs.List.{list_all}

@@ -1,27 +1,17 @@
 -- A history: the steps of a run with their times, the youngest first, so that what stands behind a step is what is older than it.
 use Rattle.std.specs.Prelude.{ℕ, ◌==◌, Bool, false, ◌||◌, if◌then◌else◌, List, [], ◌∷◌, Option, Some, None, max}
-use Rattle.tomex_rvdec.specs.Parts.{place_of_pool, place_of_unit}
-use Rattle.tomex_rvdec.specs.declared.pool.PoolId.{PoolId}
+use Rattle.tomex_rvdec.specs.Parts.{place_of_unit}
 use Rattle.tomex_rvdec.specs.declared.pool.PoolId.TheVariants.{Load, Store}
 use Rattle.tomex_rvdec.specs.declared.pool.UnitId.{UnitId}
-use Rattle.tomex_rvexec.specs.Steps.{step_pool, step_dest}
+use Rattle.tomex_rvexec.specs.Steps.{is_in, is_number, step_pool, step_dest}
 use Rattle.tomex_rvexec.specs.declared.step.Operand.{Operand}
 use Rattle.tomex_rvexec.specs.declared.step.Step.{Step}
 use Rattle.tomex_timing.specs.declared.times.Done.{Done}
-
--- what takes a station takes one of this pool
-abbrev pub is_in : PoolId → Option PoolId → Bool
-is_in pool None = false
-is_in pool (Some other) = place_of_pool other == place_of_pool pool
 
 -- what uses a unit uses one of this kind
 abbrev pub is_of : UnitId → Option UnitId → Bool
 is_of unit None = false
 is_of unit (Some other) = place_of_unit other == place_of_unit unit
-
-abbrev pub is_number : Option ℕ → ℕ → Bool
-is_number None n = false
-is_number (Some m) n = m == n
 
 -- loads and stores
 abbrev pub is_memory : Step → Bool

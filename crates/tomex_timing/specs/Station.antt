@@ -2,10 +2,9 @@
 use Rattle.std.specs.Prelude.{ℕ, nat_lt, nat_le, Bool, true, not, ◌&&◌, List, Option, Some, None, count_by}
 use Rattle.std.specs.List.{list_all}
 use Rattle.tomex_rvdec.specs.declared.pool.PoolId.{PoolId}
-use Rattle.tomex_rvexec.specs.Steps.{step_pool}
+use Rattle.tomex_rvexec.specs.Steps.{step_pool, is_in, is_number}
 use Rattle.tomex_config.specs.Row.{Row, stations_of}
 use Rattle.tomex_timing.specs.declared.times.Done.{Done}
-use Rattle.tomex_timing.specs.History.{is_in, is_number}
 
 -- the step still has a station of the pool in the cycle: one that ends in it gives it back after it
 abbrev pub is_held : PoolId → ℕ → Done → Bool

@@ -5,10 +5,10 @@ use Rattle.std.specs.List.{filter_map, range_with_len}
 use Rattle.tomex_rvdec.specs.Instruction.{Instruction}
 use Rattle.tomex_rvdec.specs.declared.pool.PoolId.{PoolId}
 use Rattle.tomex_rvdec.specs.declared.pool.PoolId.TheVariants.{Alu, Mul, Div, Load, Store, Bru}
-use Rattle.tomex_rvexec.specs.Steps.{step_pool, step_dest, j_of, k_of, address_of}
+use Rattle.tomex_rvexec.specs.Steps.{step_pool, step_dest, j_of, k_of, address_of, is_in, is_number}
 use Rattle.tomex_rvexec.specs.declared.step.Operand.{Operand}
 use Rattle.tomex_timing.specs.declared.times.Done.{Done}
-use Rattle.tomex_timing.specs.History.{is_in, is_number, is_memory, cycle_of}
+use Rattle.tomex_timing.specs.History.{is_memory, cycle_of}
 
 -- a station's name, which waiting operands and registers carry
 pub record Tag : Type 0 where

@@ -5,7 +5,7 @@ use Rattle.std.specs.List.{list_all}
 use Rattle.tomex_rvdec.specs.declared.pool.PoolId.{PoolId}
 use Rattle.tomex_rvdec.specs.declared.pool.PoolId.TheVariants.{Load, Store}
 use Rattle.tomex_rvdec.specs.declared.pool.UnitId.{UnitId}
-use Rattle.tomex_rvexec.specs.Steps.{step_pool, step_unit, step_dest, j_of, k_of, bytes_of, is_branch, is_store}
+use Rattle.tomex_rvexec.specs.Steps.{step_pool, step_unit, step_dest, j_of, k_of, bytes_of, is_branch, is_store, is_in, is_number}
 use Rattle.tomex_rvexec.specs.declared.step.Operand.{Operand}
 use Rattle.tomex_rvexec.specs.declared.step.Step.{Step}
 use Rattle.tomex_config.specs.Row.{Row, stations_of, option_of}
@@ -14,7 +14,7 @@ use Rattle.tomex_timing.specs.declared.times.Times.{Times}
 use Rattle.tomex_timing.specs.declared.window.Facts.{Facts}
 use Rattle.tomex_timing.specs.declared.window.Live.{Live}
 use Rattle.tomex_timing.specs.declared.window.Latest.{Latest}
-use Rattle.tomex_timing.specs.History.{is_in, is_of, is_number, cycle_of, last_issue, last_address, writer_end, greatest_end}
+use Rattle.tomex_timing.specs.History.{is_of, cycle_of, last_issue, last_address, writer_end, greatest_end}
 use Rattle.tomex_timing.specs.Recurrence.{IsLeast, shares_byte, width_of}
 
 abbrev pub facts_of : Step → Facts

@@ -2,7 +2,8 @@
 
 ghost use Rattle.std.specs.Prelude.{◌≡◌, ℕ, ◌+◌, ◌^◌, ◌<◌, ◌≤◌, ◌==◌, ◌&&◌, ◌||◌, not, max, nat_lt, nat_le, count_by, All};
 ghost use Rattle.std.specs.List.{list_all};
-ghost use Rattle.tomex_timing.specs.History.{is_in, is_of, is_number};
+ghost use Rattle.tomex_rvexec.specs.Steps.{is_in, is_number};
+ghost use Rattle.tomex_timing.specs.History.{is_of};
 ghost use Rattle.tomex_timing.specs.Recurrence.{shares_byte};
 ghost use Rattle.tomex_timing.specs.Window.{IsBy, is_held_by, has_station_among, is_free_among, conflicts_with, is_finished_conflict, starts_in, has_unit_among, sends_in, has_bus_among, is_memory_pool};
 

@@ -32,6 +32,7 @@ pub fn times<A: Allocator + Clone>(
     requires few { length steps.now < 2 ^ 56 }
     ensures exact { IfOk result (λ v. v.items ≡ times_in row.now steps.now) }
     ensures recurrence { IfOk result (λ v. AreTimed row.now (history row.now steps.now)) }
+    ensures pairs { IfOk result (λ v. length v.items ≡ length steps.now) }
     ensures bound { IfOk result (λ v. total_of v.items ≤ 67 * length steps.now) }
 {
     let mut result = Vec::new(alloc.clone()?);

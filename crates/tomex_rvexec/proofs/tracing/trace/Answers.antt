@@ -1,7 +1,6 @@
-use Rattle.std.proofs.Common.{◌≡◌, ◌-◌, ◌++◌, ◌+◌, ℕ, List, [], ◌∷◌}
-use Rattle.tomex_rvexec.specs.Machine.{State, Goes, step_of, coming_of}
-use Rattle.tomex_rvexec.specs.Trace.{steps_from}
-use Rattle.tomex_rvexec.specs.Run.{start_of, Leads, Answers}
+use Rattle.std.proofs.Common.{◌≡◌}
+use Rattle.std.proofs.lemmas.List.{length_push}
+use Rattle.tomex_rvexec.specs.Machine.{Goes, step_of}
 use Rattle.tomex_rvexec.proofs.Stepping.{kept, next_goes, leads_on}
 use Rattle.tomex_rvexec.proofs.tracing.trace.Goals as goal
 
@@ -13,5 +12,6 @@ loop-done-preserved g c =
     let p = c.in_ok-push-in-Ok-default-Next.ensures.items in
     record {
       leads = leads_on _ _ _ _ c.loop-done.invariant.leads next;
+      count = rw (p, ← c.loop-done.invariant.count) (length_push _ _);
       steps = rw p (kept _ _ _ _ _ _ _ c.loop-done-test.true r.0 next c.loop-done.invariant.steps);
     }

@@ -2,7 +2,7 @@
 use Rattle.std.proofs.Common.{rules, ◌≡◌, ◌≤◌, ◌*◌, arith, slice_index_or, sym}
 use Rattle.std.proofs.lemmas.Grind.{common_steps}
 use Rattle.tomex_timing.specs.Search.{times_in}
-use Rattle.tomex_timing.proofs.Histories.{are_timed, times_bound}
+use Rattle.tomex_timing.proofs.Histories.{are_timed, length-times_in, times_bound}
 use Rattle.tomex_timing.proofs.Turns.{start_kept, settled_at, end_bound, issued_bound, turn_at}
 use Rattle.tomex_timing.proofs.evaluate.times.Goals as goal
 
@@ -38,6 +38,11 @@ loop-step-preserved g c =
 
 pub returns-clause-recurrence : goal.returns-clause-recurrence
 returns-clause-recurrence g c = are_timed c.args.row.now c.args.steps.now c.buses-buses.ensures.lawful
+
+pub returns-clause-pairs : goal.returns-clause-pairs
+returns-clause-pairs g c =
+    let e : c.loop-step.result.items ≡ times_in c.args.row.now c.args.steps.now = grind (arith, common_steps) in
+    rw e (length-times_in c.args.row.now c.args.steps.now)
 
 pub returns-clause-bound : goal.returns-clause-bound
 returns-clause-bound g c =
