@@ -1,13 +1,12 @@
 -- A document has as many programs as tables, and so 1 to 8.
-use Rattle.std.proofs.Common.{◌≡◌, ◌==◌, ◌+◌, ◌≤◌, ◌++◌, ◌∙◌, ℕ, suc, Bool, true, false, nat_le, List, [], ◌∷◌, length, Ok, Err, Option, Some, None, refl, subst, sym, arith, length-append}
+use Rattle.std.proofs.Common.{◌≡◌, ◌==◌, ◌+◌, ◌≤◌, ◌++◌, ◌∙◌, ℕ, true, false, nat_le, List, [], ◌∷◌, length, Ok, Option, Some, None, refl, subst, arith, length-append}
 use Rattle.toml.specs.Data.{Data, Items, no_items, item, Members, as_table, as_array}
 use Rattle.tomex_report.specs.declared.error.StudyError.TheVariants.{MissingKey, Range, TooMany}
 use Rattle.tomex_report.specs.declared.place.Key.TheVariants as key
 use Rattle.tomex_report.specs.declared.place.Place.TheVariants as place
-use Rattle.tomex_report.specs.Readings.{Reading, ◌>>=◌}
 use Rattle.tomex_report.specs.Table.{value_at, known_keys, table_at}
 use Rattle.tomex_report.specs.Lists.{items_count, tables_from}
-use Rattle.tomex_report.specs.Program.{ProgramEntry, program_from, programs_of, few_programs, program_tables_or, program_tables}
+use Rattle.tomex_report.specs.Program.{ProgramEntry, program_from, programs_of, program_tables_or, program_tables}
 use Rattle.tomex_report.specs.Prices.{prices_of}
 use Rattle.tomex_report.specs.Axes.{axes_of}
 use Rattle.tomex_config.specs.Grid.{is_too_large}

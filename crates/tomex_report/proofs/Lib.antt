@@ -1,4 +1,3 @@
-pub mod Lengths
 pub mod Items
 pub mod Pairs
 pub mod Programs

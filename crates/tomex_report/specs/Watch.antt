@@ -1,5 +1,5 @@
 -- The ranges of memory that a program's entry asks to be shown.
-use Rattle.std.specs.Prelude.{◌≡◌, ◌≤◌, ℕ, ◌+◌, ◌-◌, Bool, true, false, ◌&&◌, nat_le, List, [], length, sum_by, All, Option, Some, None, Ok, Err, if◌then◌else◌}
+use Rattle.std.specs.Prelude.{◌+◌, ◌-◌, Bool, false, nat_le, List, [], length, Option, Some, None, Ok, Err, if◌then◌else◌}
 use Rattle.toml.specs.Data.{Data, Items, no_items, item, Members, as_array}
 use Rattle.tomex_image.specs.Window.{Span}
 use Rattle.tomex_report.specs.declared.place.Key.TheVariants as key

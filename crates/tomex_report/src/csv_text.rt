@@ -12,13 +12,13 @@ use std::fmt::Write;
 /// Writes a record. Over a list of bytes only memory can fail.
 pub fn put_record<A: Allocator>(
     writer: &mut Writer<Vec<u8, A>>,
-    record: &ByteRecord,
+    fields: &ByteRecord,
 ) -> Result<(), AllocError>
     requires { IsReady writer.old }
     ensures ready { OnOk result (IsReady writer.new) }
-    ensures text { OnOk result (written (λ v. v.items) writer.new ≡ written (λ v. v.items) writer.old ++ record_text (fields_of record.now)) }
+    ensures text { OnOk result (written (λ v. v.items) writer.new ≡ written (λ v. v.items) writer.old ++ record_text (fields_of fields.now)) }
 {
-    match writer.write_byte_record(record) {
+    match writer.write_byte_record(fields) {
         Ok(()) => Ok(()),
         Err(_) => Err(AllocError),
     }
@@ -26,15 +26,15 @@ pub fn put_record<A: Allocator>(
 
 /// Adds a field of decimal digits to a record, by way of a text that is used again.
 pub fn push_decimal(
-    record: &mut ByteRecord,
+    fields: &mut ByteRecord,
     scratch: &mut String,
     number: u64,
 ) -> Result<(), AllocError>
-    requires { partial_of record.old ≡ [] }
-    ensures fields { OnOk result (fields_of record.new ≡ fields_of record.old ++ decimal number ∷ []) }
-    ensures whole { OnOk result (partial_of record.new ≡ []) }
+    requires { partial_of fields.old ≡ [] }
+    ensures fields { OnOk result (fields_of fields.new ≡ fields_of fields.old ++ decimal number ∷ []) }
+    ensures whole { OnOk result (partial_of fields.new ≡ []) }
 {
     scratch.clear();
     write!(scratch, "{number}")?;
-    record.push_field(scratch.as_bytes())
+    fields.push_field(scratch.as_bytes())
 }

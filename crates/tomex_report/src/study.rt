@@ -74,10 +74,7 @@ pub fn read_study<A: Allocator + Clone>(
     ensures ok { IfOk result (λ s. IsStudyOf study.now (map (λ f. f.items) files.now) s) }
     ensures err { IfErr result (λ error. IsStudyRefusal study.now (map (λ f. f.items) files.now) error) }
 {
-    let outline = match document_of(alloc.clone()?, heap, study) {
-        Ok(outline) => outline,
-        Err(error) => return Err(error),
-    };
+    let outline = document_of(alloc.clone()?, heap, study)?;
     if files.len() != outline.programs.len() {
         return Err(StudyError::Files);
     }
@@ -90,8 +87,5 @@ pub fn read_study<A: Allocator + Clone>(
     let Ok(rows) = grid(alloc.clone()?, &outline.axes) else {
         return Err(StudyError::Memory);
     };
-    match Study::new(alloc, programs, rows, outline.prices) {
-        Ok(study) => Ok(study),
-        Err(_) => Err(StudyError::Memory),
-    }
+    Ok(Study::new(alloc, programs, rows, outline.prices)?)
 }

@@ -1,11 +1,11 @@
-//! What no clause says: that a study is read where there is memory, the texts of the refusals, and
-//! that damaged studies are answered.
+//! What no clause says: that a study is read where there is memory, and the texts of the refusals.
 
 use crate::{StudyError, file_names};
 use std::test::Fail;
 use tomex_image::ImageError;
 use tomex_rvexec::{Fault, FaultKind};
 
+mod reading;
 mod studies;
 
 use studies::{AT_TOP, IN_PROGRAMS, LAWFUL, ORDERED, STUDY_L, STUDY_M, WATCHED};
@@ -190,45 +190,6 @@ fn texts_of_the_programs_refusals(rt: HostRuntime) -> Result<(), Fail> {
     ] {
         let text = format!(in rt.alloc(); "{error}")?;
         assert_eq!(rt; text.as_str(), wanted);
-    }
-    Ok(())
-}
-
-/// Whether a damaged study is read, or refused by a name of the document's tests.
-fn answers(rt: &HostRuntime, study: &[u8]) -> bool {
-    match file_names(rt.alloc(), rt.alloc(), study) {
-        Ok(names) => names.len() == 1,
-        Err(
-            StudyError::Syntax
-            | StudyError::UnknownKey(_)
-            | StudyError::MissingKey(..)
-            | StudyError::Kind(..)
-            | StudyError::Range(..)
-            | StudyError::TooMany,
-        ) => true,
-        Err(_) => false,
-    }
-}
-
-#[test]
-fn every_beginning(rt: HostRuntime) {
-    let study = STUDY_L.as_bytes();
-    for length in 0..study.len() {
-        assert!(&rt; answers(&rt, &study[..length]), "{length}");
-    }
-}
-
-#[test]
-fn every_byte_damaged(rt: HostRuntime) -> Result<(), Fail> {
-    let study = STUDY_L.as_bytes();
-    for value in [0x00, 0x22, 0xff] {
-        for place in 0..study.len() {
-            let mut damaged = study.to_vec(rt.alloc())?;
-            if place < damaged.len() {
-                damaged[place] = value;
-            }
-            assert!(&rt; answers(&rt, &damaged), "{value} at {place}");
-        }
     }
     Ok(())
 }

@@ -57,80 +57,80 @@ fn total_record(heap: Global, total: u64) -> Result<ByteRecord, AllocError>
 
 /// Adds a cycle, or `-` where there is none.
 fn push_cycle(
-    record: &mut ByteRecord,
+    fields: &mut ByteRecord,
     scratch: &mut String,
     cycle: Option<u64>,
 ) -> Result<(), AllocError>
-    requires { partial_of record.old ≡ [] }
-    ensures fields { OnOk result (fields_of record.new ≡ fields_of record.old ++ cycle_text cycle ∷ []) }
-    ensures whole { OnOk result (partial_of record.new ≡ []) }
+    requires { partial_of fields.old ≡ [] }
+    ensures fields { OnOk result (fields_of fields.new ≡ fields_of fields.old ++ cycle_text cycle ∷ []) }
+    ensures whole { OnOk result (partial_of fields.new ≡ []) }
 {
     match cycle {
-        Some(cycle) => push_decimal(record, scratch, cycle),
-        None => record.push_field(b"-"),
+        Some(cycle) => push_decimal(fields, scratch, cycle),
+        None => fields.push_field(b"-"),
     }
 }
 
 /// Adds what a step is: its address and its instruction.
 fn push_instruction(
-    record: &mut ByteRecord,
+    fields: &mut ByteRecord,
     scratch: &mut String,
     step: &Step,
 ) -> Result<(), AllocError>
-    requires { partial_of record.old ≡ [] }
-    ensures fields { OnOk result (fields_of record.new ≡ fields_of record.old ++ hex8 step.now.pc ∷ instr_text step.now.instr ∷ []) }
-    ensures whole { OnOk result (partial_of record.new ≡ []) }
+    requires { partial_of fields.old ≡ [] }
+    ensures fields { OnOk result (fields_of fields.new ≡ fields_of fields.old ++ hex8 step.now.pc ∷ instr_text step.now.instr ∷ []) }
+    ensures whole { OnOk result (partial_of fields.new ≡ []) }
 {
     let (pc, instr) = (step.pc, step.instr);
     scratch.clear();
     write!(scratch, "{pc:08x}")?;
-    record.push_field(scratch.as_bytes())?;
+    fields.push_field(scratch.as_bytes())?;
     scratch.clear();
     write!(scratch, "{instr}")?;
-    record.push_field(scratch.as_bytes())
+    fields.push_field(scratch.as_bytes())
 }
 
 /// Adds a step's station, or `-` where it has none.
 fn push_station(
-    record: &mut ByteRecord,
+    fields: &mut ByteRecord,
     scratch: &mut String,
     step: &Step,
     station: Option<u8>,
 ) -> Result<(), AllocError>
-    requires { partial_of record.old ≡ [] }
-    ensures fields { OnOk result (fields_of record.new ≡ fields_of record.old ++ station_text (step_pool step.now) station ∷ []) }
-    ensures whole { OnOk result (partial_of record.new ≡ []) }
+    requires { partial_of fields.old ≡ [] }
+    ensures fields { OnOk result (fields_of fields.new ≡ fields_of fields.old ++ station_text (step_pool step.now) station ∷ []) }
+    ensures whole { OnOk result (partial_of fields.new ≡ []) }
 {
     match (step.pool(), station) {
         (Some(pool), Some(number)) => {
             scratch.clear();
             write!(scratch, "{pool}{number}")?;
-            record.push_field(scratch.as_bytes())
+            fields.push_field(scratch.as_bytes())
         }
-        _ => record.push_field(b"-"),
+        _ => fields.push_field(b"-"),
     }
 }
 
 /// Makes a record the one of a step.
 fn fill_record(
-    record: &mut ByteRecord,
+    fields: &mut ByteRecord,
     scratch: &mut String,
     number: u64,
     step: &Step,
     at: &Times,
 ) -> Result<(), AllocError>
-    ensures fields { OnOk result (fields_of record.new ≡ fields_of_step number step.now at.now) }
-    ensures whole { OnOk result (partial_of record.new ≡ []) }
+    ensures fields { OnOk result (fields_of fields.new ≡ fields_of_step number step.now at.now) }
+    ensures whole { OnOk result (partial_of fields.new ≡ []) }
 {
-    record.clear();
-    push_decimal(record, scratch, number)?;
-    push_instruction(record, scratch, step)?;
-    push_decimal(record, scratch, at.issue)?;
-    push_cycle(record, scratch, at.address)?;
-    push_decimal(record, scratch, at.start)?;
-    push_decimal(record, scratch, at.finish)?;
-    push_decimal(record, scratch, at.end)?;
-    push_station(record, scratch, step, at.station)
+    fields.clear();
+    push_decimal(fields, scratch, number)?;
+    push_instruction(fields, scratch, step)?;
+    push_decimal(fields, scratch, at.issue)?;
+    push_cycle(fields, scratch, at.address)?;
+    push_decimal(fields, scratch, at.start)?;
+    push_decimal(fields, scratch, at.finish)?;
+    push_decimal(fields, scratch, at.end)?;
+    push_station(fields, scratch, step, at.station)
 }
 
 /// Writes the records of the steps, numbered from 1.

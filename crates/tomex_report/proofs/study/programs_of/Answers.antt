@@ -1,5 +1,4 @@
 -- The files before the one at hand are programs; it is one more, or the first that is refused.
-use Rattle.std.proofs.Common.{◌≡◌, Some}
 use Rattle.tomex_report.proofs.Studies.{first_refusal, item_is, pushed, seen_is}
 use Rattle.tomex_report.proofs.study.programs_of.Goals as goal
 
