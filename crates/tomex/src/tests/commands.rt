@@ -69,7 +69,7 @@ fn run_into<R: AllocGlobal>(
 }
 
 /// The text of a run that ends: the registers that aren't zero, and the last line.
-fn text_of(alloc: Global, registers: &[(usize, u32)], last: &str) -> Result<String, Fail> {
+pub fn text_of(alloc: Global, registers: &[(usize, u32)], last: &str) -> Result<String, Fail> {
     let mut text = String::new(alloc);
     for register in 0..32usize {
         let mut value = 0;
@@ -123,10 +123,10 @@ fn fails<R: Abort + AllocGlobal>(
 }
 
 /// `addi x1,x0,5; addi x2,x0,7; mul x3,x1,x2; ebreak`
-const PRODUCT: &[u8; 16] = b"\x93\x00\x50\x00\x13\x01\x70\x00\xb3\x81\x20\x02\x73\x00\x10\x00";
+pub const PRODUCT: &[u8; 16] = b"\x93\x00\x50\x00\x13\x01\x70\x00\xb3\x81\x20\x02\x73\x00\x10\x00";
 
 /// The registers at the end of the product.
-const PRODUCT_END: [(usize, u32); 3] = [(1, 5), (2, 7), (3, 0x23)];
+pub const PRODUCT_END: [(usize, u32); 3] = [(1, 5), (2, 7), (3, 0x23)];
 
 #[test]
 fn flat_images_end(rt: HostRuntime) -> Result<(), Fail> {

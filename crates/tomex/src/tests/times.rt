@@ -2,6 +2,7 @@
 ghost use Rattle.std.specs.Prelude.{None};
 
 use super::Narrow;
+use super::commands::PRODUCT;
 use crate::command::command;
 use crate::files::{Files, ReadFault};
 use std::alloc::Allocator;
@@ -34,9 +35,6 @@ impl<'a> Files for Desk<'a> {
         }
     }
 }
-
-/// `addi x1,x0,5; addi x2,x0,7; mul x3,x1,x2; ebreak`
-pub const PRODUCT: &[u8; 16] = b"\x93\x00\x50\x00\x13\x01\x70\x00\xb3\x81\x20\x02\x73\x00\x10\x00";
 
 /// Two rows, of two alu stations and of one.
 pub const STUDY: &str = "[[program]]\nname = \"mul\"\nfile = \"mul.bin\"\n\
