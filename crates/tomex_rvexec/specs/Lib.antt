@@ -1,6 +1,7 @@
 pub mod Memory
 pub mod Words
 pub mod Steps
+pub mod Fetch
 pub mod Machine
 pub mod Flow
 pub mod History

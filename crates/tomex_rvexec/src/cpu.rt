@@ -10,16 +10,20 @@ use crate::words::{alu, muldiv, taken};
 use std::alloc::{AllocError, Allocator, Global};
 use std::marker::Model;
 use tomex_image::Image;
-use tomex_rvdec::{Op, decode};
+use tomex_rvdec::Op;
 
+mod decode_cache;
 mod effects;
+mod fetcher;
+
+use fetcher::Fetcher;
 
 /// A program that runs in order, a whole instruction at a time.
 ///
 /// Fetches read the image as it was loaded: a store never changes what is fetched.
 #[derive(Drop)]
 pub struct Cpu<'a, A: Allocator = Global> {
-    image: &'a Image<A>,
+    fetcher: Fetcher<'a, A>,
     pc: u32,
     regs: [u32; 32],
     memory: Memory<A>,
@@ -32,17 +36,17 @@ impl<'a, A: Allocator> Model for Cpu<'a, A> {
 
     ghost Value = { State };
 
-    ghost view = { λ c. record { image = c.image.now; pc = c.pc; regs = c.regs; memory = c.memory.bytes } };
+    ghost view = { λ c. record { image = c.fetcher; pc = c.pc; regs = c.regs; memory = c.memory.bytes } };
 
-    ghost invariant = { λ c. (c.memory.base ≡ c.image.now.window.base)
-        × (length c.memory.bytes ≡ c.image.now.window.size)
-        × IsLoaded c.image.now.window c.image.now.memory c.image.now.entry
+    ghost invariant = { λ c. (c.memory.base ≡ c.fetcher.window.base)
+        × (length c.memory.bytes ≡ c.fetcher.window.size)
+        × IsLoaded c.fetcher.window c.fetcher.memory c.fetcher.entry
         × (slice_index c.regs 0 ≡ 0) };
 }
 
 impl<'a, A: Allocator> Cpu<'a, A> {
     ghost use Rattle.std.specs.Prelude.{◌≡◌, IfOk, IfErr, IfSome, IfNone, slice_index, Some, ◌<◌, IsTrue, false};
-    ghost use Rattle.tomex_rvexec.specs.Machine.{step_of, coming_of, executes, holds, fetched, outcome_of};
+    ghost use Rattle.tomex_rvexec.specs.Machine.{step_of, coming_of, executes, holds};
     ghost use Rattle.tomex_rvexec.specs.Run.{start_of, Answers};
 
     /// The machine before the first step: all registers zero but x2, which is the end of memory
@@ -57,7 +61,7 @@ impl<'a, A: Allocator> Cpu<'a, A> {
         let end = u64::from(window.base()) + u64::from(window.size());
         regs[2] = (end / 16 * 16 % (1 << 32)) as u32;
         Ok(Cpu {
-            image,
+            fetcher: Fetcher::new(image),
             pc: image.entry(),
             regs,
             memory: Memory::new(window.base(), bytes),
@@ -71,6 +75,7 @@ impl<'a, A: Allocator> Cpu<'a, A> {
         self.pc
     }
 
+    #[inline(always)]
     fn register(&self, r: u8) -> u32
         requires { r < 32 }
         ensures { result ≡ slice_index self.now.regs r }
@@ -85,33 +90,17 @@ impl<'a, A: Allocator> Cpu<'a, A> {
         Fault { kind, pc: self.pc }
     }
 
-    /// The word at the pc in the image as it was loaded.
-    fn fetch(&self) -> Option<u32>
-        ensures some { IfSome result (λ w. IsTrue (holds self.now self.now.pc 4) × (w ≡ fetched self.now)) }
-        ensures none { IfNone result (holds self.now self.now.pc 4 ≡ false) }
-    {
-        let place = self.memory.place(self.pc, 4)?;
-        let code = self.image.memory();
-        let word = [
-            code[place],
-            code[place + 1],
-            code[place + 2],
-            code[place + 3],
-        ];
-        Some(u32::from_le_bytes(word))
-    }
-
     /// The instruction at the pc, with its operands' values.
+    #[inline(always)]
     #[tactic(auto, unfolding(crate::specs::Machine::step_of))]
-    fn coming(&self) -> Result<Step, Fault>
-        ensures ok { IfOk result (λ x. (coming_of self.now ≡ Some x) × IsTrue (holds self.now self.now.pc 4)) }
-        ensures err { IfErr result (λ e. Answers (step_of self.now) self.now (Err e) self.now) }
+    fn coming(&mut self) -> Result<Step, Fault>
+        ensures ok { IfOk result (λ x. (coming_of self.old ≡ Some x) × IsTrue (holds self.old self.old.pc 4)) }
+        ensures err { IfErr result (λ e. Answers (step_of self.old) self.old (Err e) self.old) }
+        ensures same { self.new ≡ self.old }
     {
-        let Some(word) = self.fetch() else {
-            return Err(self.fault(FaultKind::Fetch));
-        };
-        let Some(instr) = decode(word) else {
-            return Err(self.fault(FaultKind::Illegal));
+        let instr = match self.fetcher.fetch(self.pc) {
+            Ok(instr) => instr,
+            Err(kind) => return Err(self.fault(kind)),
         };
         let vj = self.register(instr.rs1());
         let vk = self.register(instr.rs2());
@@ -124,6 +113,7 @@ impl<'a, A: Allocator> Cpu<'a, A> {
     }
 
     /// Carries out one instruction.
+    #[inline(always)]
     fn execute(&mut self, step: &Step) -> Result<Stepped, Fault>
         ensures { Answers (executes step.now.instr.op step.now self.old) self.old result self.new }
     {
@@ -162,6 +152,7 @@ impl<'a, A: Allocator> Cpu<'a, A> {
 
     /// One step. After a fault or an end nothing has changed, so the next step answers the same.
     #[tactic(auto, unfolding(crate::specs::Machine::step_of))]
+    #[inline(always)]
     pub fn step(&mut self) -> Result<Stepped, Fault>
         ensures { Answers (step_of self.old) self.old result self.new }
     {

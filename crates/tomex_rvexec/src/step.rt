@@ -22,9 +22,10 @@ pub struct ByteRange {
 /// steps can say two things of one instruction.
 #[derive(Clone, Copy, Debug, PartialEq, Eq)]
 pub struct Step {
+    // First, so that the machine's hot loop reads its fields in the words that it wrote.
+    pub instr: Instr,
     /// The address of the instruction.
     pub pc: u32,
-    pub instr: Instr,
     /// The value of the register that the rs1 field names. Zero where the operation has no such
     /// field; FENCE has one, which it keeps and doesn't read.
     pub vj: u32,

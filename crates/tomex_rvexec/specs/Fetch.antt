@@ -1,0 +1,30 @@
+-- Which instruction stands at an address of an image as it was loaded (RV32I, section 1.5
+-- "Base Instruction-Length Encoding": parcels are little-endian).
+use Rattle.std.specs.Prelude.{◌≡◌, ℕ, ◌-◌, if◌then◌else◌, Option, Some, None, Result, Ok, Err, All, ⊤}
+use Rattle.tomex_image.specs.Image.{Loaded}
+use Rattle.tomex_rvdec.specs.Instruction.{Instruction}
+use Rattle.tomex_rvdec.specs.Meaning.{meaning}
+use Rattle.tomex_rvexec.specs.declared.cpu.decode_cache.DecodeCache.{DecodeCache}
+use Rattle.tomex_rvexec.specs.declared.cpu.decode_cache.Line.{Line}
+use Rattle.tomex_rvexec.specs.declared.outcome.FaultKind.{FaultKind}
+use Rattle.tomex_rvexec.specs.declared.outcome.FaultKind.TheVariants.{Fetch, Illegal}
+use Rattle.tomex_rvexec.specs.Memory.{is_inside, word_read}
+
+abbrev pub legal : Option Instruction → Result Instruction FaultKind
+legal None = Err Illegal
+legal (Some x) = Ok x
+
+-- the instruction that the word at an address means, or the fault of its fetch or its decoding
+abbrev pub instruction_at : Loaded → ℕ → Result Instruction FaultKind
+instruction_at i pc =
+    if is_inside i.window.base i.window.size pc 4
+    then legal (meaning (word_read i.memory (pc - i.window.base)))
+    else Err Fetch
+
+-- what a line of a decode cache may hold: nothing, or what stands at the address that it names
+abbrev pub IsLine : Loaded → Option Line → Type 0
+IsLine i None = ⊤
+IsLine i (Some line) = instruction_at i line.pc ≡ Ok line.instr
+
+abbrev pub IsCacheOf : Loaded → DecodeCache → Type 0
+IsCacheOf i cache = All (IsLine i) cache.lines

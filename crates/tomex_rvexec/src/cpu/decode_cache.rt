@@ -1,0 +1,54 @@
+//! A cache of decoded instructions.
+
+ghost use Rattle.std.specs.Prelude.{◌≡◌, IfSome, Ok};
+ghost use Rattle.tomex_image.specs.Image.{Loaded};
+ghost use Rattle.tomex_rvexec.specs.Fetch.{instruction_at, IsCacheOf};
+
+use tomex_rvdec::Instr;
+
+/// How many instructions are kept.
+const LINES: usize = 1024;
+
+/// An instruction, and the address that it stands at.
+#[derive(Clone, Copy)]
+pub struct Line {
+    pub pc: u32,
+    pub instr: Instr,
+}
+
+/// The instructions that were decoded of late, by address: a direct-mapped cache with a line for
+/// each word of 4 KiB, so that a loop is decoded once.
+#[derive(Clone, Copy)]
+pub struct DecodeCache {
+    pub lines: [Option<Line>; LINES],
+}
+
+impl DecodeCache {
+    /// A cache in which nothing is kept.
+    pub fn new() -> Self
+        ensures { (i : Loaded) → IsCacheOf i result }
+    {
+        DecodeCache {
+            lines: [None; LINES],
+        }
+    }
+
+    /// The instruction at an address, if it is kept.
+    #[inline(always)]
+    pub fn get(&self, pc: u32) -> Option<Instr>
+        ensures { IfSome result (λ x. (i : Loaded) → IsCacheOf i self.now → instruction_at i pc ≡ Ok x) }
+    {
+        let line = self.lines[pc as usize / 4 % LINES];
+        match line {
+            Some(line) if line.pc == pc => Some(line.instr),
+            _ => None,
+        }
+    }
+
+    /// Keeps an instruction in the place of the one that its line held.
+    pub fn keep(&mut self, pc: u32, instr: Instr)
+        ensures { (i : Loaded) → IsCacheOf i self.old → instruction_at i pc ≡ Ok instr → IsCacheOf i self.new }
+    {
+        self.lines[pc as usize / 4 % LINES] = Some(Line { pc, instr });
+    }
+}
