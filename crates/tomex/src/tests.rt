@@ -11,6 +11,7 @@ use tomex_refuse::{Budget, Refusing};
 
 mod broken_images;
 mod commands;
+mod elf_images;
 mod refused_memory;
 mod times;
 

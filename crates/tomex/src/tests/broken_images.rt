@@ -1,7 +1,7 @@
 //! Broken files: whatever their bytes, they are refused by name, or what they load runs to an end,
 //! a fault or the limit.
 
-use super::commands::ELF;
+use super::elf_images::ELF;
 use std::test::Fail;
 use tomex_image::{ImageError, Window, load};
 use tomex_rvexec::{FaultKind, RunError, run};

@@ -1,6 +1,7 @@
 //! Whole runs of the program, whose command line takes other memory.
 
-use super::super::commands::{ELF, PRODUCT, PRODUCT_END, Shelf, text_of};
+use super::super::commands::{PRODUCT, PRODUCT_END, Shelf, text_of};
+use super::super::elf_images::ELF;
 use super::super::times::{Desk, REPORT, STUDY};
 use super::super::{Narrow, words};
 use super::{Attempt, Heap, Try, refusals};

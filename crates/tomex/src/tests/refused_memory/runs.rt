@@ -1,6 +1,6 @@
 //! Images, machines, runs, traces and the text of a run.
 
-use super::super::commands::ELF;
+use super::super::elf_images::ELF;
 use super::{Attempt, Heap, Try, refusals};
 use crate::run::{RunRefusal, run_text};
 use std::alloc::AllocError;

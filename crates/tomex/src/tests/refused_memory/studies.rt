@@ -1,6 +1,7 @@
 //! Grids, studies and their programs, times and times reports.
 
-use super::super::commands::{ELF, PRODUCT};
+use super::super::commands::PRODUCT;
+use super::super::elf_images::ELF;
 use super::super::times::{REPORT, STUDY};
 use super::{Attempt, Heap, Try, refusals};
 use std::alloc::{AllocError, Global};
