@@ -1,5 +1,5 @@
 //! Whole runs of the program over files in memory: what they print, and their statuses.
-ghost use Rattle.std.specs.Prelude.{◌<◌, None};
+ghost use Rattle.std.specs.Prelude.{None};
 
 use super::Narrow;
 use crate::command::command;

@@ -1,4 +1,5 @@
 //! Runs of an ELF file, whole, cut short and with bytes changed.
+ghost use Rattle.std.specs.Prelude.{◌<◌};
 
 use super::commands::{PRODUCT_END, ends, fails};
 use std::test::Fail;
