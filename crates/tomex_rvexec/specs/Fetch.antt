@@ -1,6 +1,6 @@
 -- Which instruction stands at an address of an image as it was loaded (RV32I, section 1.5
 -- "Base Instruction-Length Encoding": parcels are little-endian).
-use Rattle.std.specs.Prelude.{◌≡◌, ℕ, ◌-◌, if◌then◌else◌, Option, Some, None, Result, Ok, Err, All, ⊤}
+use Rattle.std.specs.Prelude.{◌≡◌, ◌==◌, ℕ, ◌-◌, ◌/◌, ◌%◌, slice_index_or, if◌then◌else◌, Option, Some, None, Result, Ok, Err, All, ⊤}
 use Rattle.tomex_image.specs.Image.{Loaded}
 use Rattle.tomex_rvdec.specs.Instruction.{Instruction}
 use Rattle.tomex_rvdec.specs.Meaning.{meaning}
@@ -21,7 +21,19 @@ instruction_at i pc =
     then legal (meaning (word_read i.memory (pc - i.window.base)))
     else Err Fetch
 
--- what a line of a decode cache may hold: nothing, or what stands at the address that it names
+-- the line of a decode cache that an address falls to
+abbrev pub line_of : ℕ → ℕ
+line_of pc = pc / 4 % 1024
+
+abbrev pub instruction_in : Option Line → ℕ → Option Instruction
+instruction_in None pc = None
+instruction_in (Some line) pc = if line.pc == pc then Some line.instr else None
+
+-- the instruction that a decode cache keeps of an address
+abbrev pub kept_at : DecodeCache → ℕ → Option Instruction
+kept_at cache pc = instruction_in (slice_index_or cache.lines (line_of pc) None) pc
+
+-- what a line may hold: nothing, or what stands in the image at the address that it names
 abbrev pub IsLine : Loaded → Option Line → Type 0
 IsLine i None = ⊤
 IsLine i (Some line) = instruction_at i line.pc ≡ Ok line.instr

@@ -94,6 +94,33 @@ fn runs_within_the_limit(rt: HostRuntime) -> Result<(), Fail> {
     Ok(())
 }
 
+/// `addi x1,x1,1; jal x0,4092`
+const NEAR: [u32; 2] = [0x00108093, 0x7fd0006f];
+
+/// At 4096: `addi x4,x4,2; addi x3,x0,6; beq x4,x3,8; jal x0,-4108; ebreak`
+const FAR: [u32; 5] = [0x00220213, 0x00600193, 0x00320463, 0xff5fe06f, 0x00100073];
+
+#[test]
+fn instructions_that_share_a_line_of_the_cache(rt: HostRuntime) -> Result<(), Fail> {
+    let mut bytes = Vec::new(rt.alloc());
+    for word in NEAR {
+        bytes.extend_from_slice(&word.to_le_bytes())?;
+    }
+    bytes.resize(4096, 0)?;
+    for word in FAR {
+        bytes.extend_from_slice(&word.to_le_bytes())?;
+    }
+    let window = Window::new(0, 8192).ok_or("no window")?;
+    let image = load(rt.alloc(), bytes.as_slice(), window)?;
+    // Three rounds, in which each half's first two instructions put out the other's.
+    let end = run(rt.alloc(), &image, 18).map_err(|_| "no end")?;
+    assert_eq!(rt; end.regs[1], 3);
+    assert_eq!(rt; end.regs[4], 6);
+    assert_eq!(rt; end.pc, 4112);
+    assert_eq!(rt; end.steps, 18);
+    Ok(())
+}
+
 /// A jump over the word 80c0ff80 at 4, and each load of it and of parts of it: `lb x1,4(x0);
 /// lb x2,6(x0); lbu x3,4(x0); lh x4,5(x0); lhu x5,5(x0); lh x6,6(x0); lw x7,4(x0); ebreak`
 const LOADS: [u32; 10] = [

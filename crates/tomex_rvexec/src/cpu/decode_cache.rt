@@ -1,8 +1,8 @@
 //! A cache of decoded instructions.
 
-ghost use Rattle.std.specs.Prelude.{◌≡◌, IfSome, Ok};
+ghost use Rattle.std.specs.Prelude.{◌≡◌, slice_set, IfSome, Some, Ok};
 ghost use Rattle.tomex_image.specs.Image.{Loaded};
-ghost use Rattle.tomex_rvexec.specs.Fetch.{instruction_at, IsCacheOf};
+ghost use Rattle.tomex_rvexec.specs.Fetch.{instruction_at, kept_at, line_of, IsCacheOf};
 
 use tomex_rvdec::Instr;
 
@@ -36,7 +36,8 @@ impl DecodeCache {
     /// The instruction at an address, if it is kept.
     #[inline(always)]
     pub fn get(&self, pc: u32) -> Option<Instr>
-        ensures { IfSome result (λ x. (i : Loaded) → IsCacheOf i self.now → instruction_at i pc ≡ Ok x) }
+        ensures value { result ≡ kept_at self.now pc }
+        ensures of_image { IfSome result (λ x. (i : Loaded) → IsCacheOf i self.now → instruction_at i pc ≡ Ok x) }
     {
         let line = self.lines[pc as usize / 4 % LINES];
         match line {
@@ -47,7 +48,8 @@ impl DecodeCache {
 
     /// Keeps an instruction in the place of the one that its line held.
     pub fn keep(&mut self, pc: u32, instr: Instr)
-        ensures { (i : Loaded) → IsCacheOf i self.old → instruction_at i pc ≡ Ok instr → IsCacheOf i self.new }
+        ensures line { self.new.lines ≡ slice_set self.old.lines (line_of pc) (Some (record { pc = pc; instr = instr })) }
+        ensures of_image { (i : Loaded) → IsCacheOf i self.old → instruction_at i pc ≡ Ok instr → IsCacheOf i self.new }
     {
         self.lines[pc as usize / 4 % LINES] = Some(Line { pc, instr });
     }
