@@ -1,7 +1,9 @@
 //! Laws of a run, for machines that carry values by tags: what a step computes from its operands,
-//! and where operands come from. These functions do nothing: their contracts are the laws.
+//! and where operands come from. Last, a law of the texts that show addresses and bytes.
+//!
+//! These functions do nothing: their contracts are the laws.
 
-ghost use Rattle.std.specs.Prelude.{◌≡◌, ℕ, ◌+◌, ◌-◌, ◌<◌, ◌≤◌, ◌||◌, IfSome, IsSome, List, ◌∷◌, ◌++◌, None, Some, false, is_some, length, reverse, slice_index, true};
+ghost use Rattle.std.specs.Prelude.{◌≡◌, ℕ, ◌+◌, ◌-◌, ◌^◌, ◌<◌, ◌≤◌, ◌||◌, IfSome, IsSome, List, ◌∷◌, ◌++◌, None, Some, false, is_some, length, reverse, slice_index, true};
 ghost use Rattle.std.specs.List.{list_any};
 ghost use Rattle.tomex_image.specs.Image.{Loaded, IsLoaded};
 ghost use Rattle.tomex_image.specs.Window.{IsWindow};
@@ -14,6 +16,7 @@ ghost use Rattle.tomex_rvexec.specs.History.{Follows, IsFlow, Leaves, byte_after
 ghost use Rattle.tomex_rvexec.specs.Machine.{State, Ends, Goes, coming_of, step_of};
 ghost use Rattle.tomex_rvexec.specs.Run.{EndsWithin, Leads, RunEnds, RunFaults, start_of};
 ghost use Rattle.tomex_rvexec.specs.Steps.{bytes_of, is_in, is_store, j_of, k_of, step_dest, step_pool, step_unit, is_number};
+ghost use Rattle.tomex_rvexec.specs.Texts.{hex2, hex8, last_digits};
 ghost use Rattle.tomex_rvexec.specs.Trace.{steps_from};
 
 /// A step changes the pc, its destination and the bytes of its store, and nothing else. Its target
@@ -114,4 +117,11 @@ pub fn run_that_ends_is_a_flow_of_steps()
     ensures on { (i : Loaded) (n k : ℕ) (s : State) (kind : EndKind) (x : Step) → IsLoaded i.window i.memory i.entry → RunEnds i n s kind → k < n → step_after i k ≡ Some x → IsAllowed i x }
     ensures kind { (i : Loaded) (n : ℕ) (s : State) (kind : EndKind) (x : Step) → RunEnds i n s kind → step_after i n ≡ Some x → end_of x ≡ Some kind }
     ensures end { (i : Loaded) (n : ℕ) (s : State) (kind : EndKind) → IsLoaded i.window i.memory i.entry → RunEnds i n s kind → Leaves i (history i n) s }
+{}
+
+/// An address or a register's value is shown by its eight digits in base 16, and a byte by its two.
+#[tactic(auto, using(crate::proofs::Hexadecimal::eight_digits, crate::proofs::Hexadecimal::two_digits))]
+pub fn hexadecimal_texts_are_digits()
+    ensures word { (n : ℕ) → n < 2 ^ 32 → hex8 n ≡ last_digits 8 n }
+    ensures byte { (n : ℕ) → n < 2 ^ 8 → hex2 n ≡ last_digits 2 n }
 {}
