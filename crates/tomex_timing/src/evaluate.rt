@@ -38,6 +38,7 @@ pub fn times<A: Allocator + Clone>(
     let mut result = Vec::new(alloc.clone()?);
     let mut live: Vec<Live, A> = Vec::new(alloc);
     let mut latest = Latest::none();
+    // Read for what the row's type keeps, which the proof needs.
     let _buses = row.buses();
     for step in steps {
         let facts = Facts::of(step);

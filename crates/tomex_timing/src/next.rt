@@ -33,6 +33,7 @@ fn end_of(latest: &Latest, operand: Option<Operand>) -> u64
 fn width(row: &Config) -> u64
     ensures { result ≡ width_of row.now }
 {
+    // Rows have one width so far.
     let _row = row;
     1
 }

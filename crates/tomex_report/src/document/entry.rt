@@ -48,6 +48,7 @@ impl<A: Allocator> Entry<A> {
         requires watch { IsWatch window watch.items }
         ensures { result ≡ record { name = string_bytes name; file = string_bytes file; window = window; limit = limit; watch = watch.items } }
     {
+        // Read for what the window's type keeps, which the proof needs.
         let _size = window.size();
         Entry {
             name,
