@@ -62,8 +62,8 @@ const ABOUT: &str = "Runs RV32IM programs and times them on a Tomasulo processor
 const LONG_ABOUT: &str = "Runs RV32IM programs and times them on a Tomasulo processor without
 speculation.
 
-Each command writes its result to the standard output, whole or not at all.
-What is wrong is said on the standard error.";
+Each command makes the whole of its result before it writes any of it to the
+standard output. What is wrong is said on the standard error.";
 
 const AFTER_LONG_HELP: &str = "Exit status:
   0  the result was written, or help
@@ -71,8 +71,9 @@ const AFTER_LONG_HELP: &str = "Exit status:
   2  the command line was refused
   3  memory, a file or a device was refused
 
-Example:
-  tomex run mul.bin --size 4096";
+Examples:
+  tomex run mul.bin --size 4096
+  tomex times study.toml 0 mul";
 
 fn grammar<'a>(alloc: Global) -> Result<Command<'a>, AllocError> {
     Command::new(alloc, "tomex")

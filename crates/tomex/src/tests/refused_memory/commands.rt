@@ -1,12 +1,12 @@
 //! Whole runs of the program, whose command line takes other memory.
 
-use super::super::commands::{PRODUCT, PRODUCT_END, Shelf, text_of};
-use super::super::elf_images::ELF;
-use super::super::times::{Desk, REPORT, STUDY};
-use super::super::{Narrow, words};
 use super::{Attempt, Heap, Try, refusals};
 use crate::command::command;
 use crate::files::Files;
+use crate::tests::commands::{PRODUCT, PRODUCT_END, Shelf, text_of};
+use crate::tests::elf_images::ELF;
+use crate::tests::times::{Desk, REPORT, STUDY};
+use crate::tests::{Narrow, words};
 use std::alloc::{AllocError, Global};
 use std::test::Fail;
 

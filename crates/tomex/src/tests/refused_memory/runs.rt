@@ -1,8 +1,8 @@
 //! Images, machines, runs, traces and the text of a run.
 
-use super::super::elf_images::ELF;
 use super::{Attempt, Heap, Try, refusals};
 use crate::run::{RunRefusal, run_text};
+use crate::tests::elf_images::ELF;
 use std::alloc::AllocError;
 use std::test::Fail;
 use tomex_image::{Image, ImageError, Window, load};

@@ -1,9 +1,9 @@
 //! Grids, studies and their programs, times and times reports.
 
-use super::super::commands::PRODUCT;
-use super::super::elf_images::ELF;
-use super::super::times::{REPORT, STUDY};
 use super::{Attempt, Heap, Try, refusals};
+use crate::tests::commands::PRODUCT;
+use crate::tests::elf_images::ELF;
+use crate::tests::times::{REPORT, STUDY};
 use std::alloc::{AllocError, Global};
 use std::test::Fail;
 use tomex_config::{Axes, Config, GridError, Prices, UnitOption, grid};
