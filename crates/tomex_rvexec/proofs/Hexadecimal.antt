@@ -58,8 +58,8 @@ unfolding padded_integral char_count digits
 padded_digits k n small room =
     let p = padded_to k 64 n [] small room in
     let text : digits_onto 64 16 false n [] ≡ p.shown = p.is ∙ append-nil p.shown in
-    let zeros : suc k - length p.shown - 0 - 0 ≡ suc k - length p.shown = omega arith in
-    rw (text, zeros, append-nil p.shown) p.padded
+    let room_left : suc k - length p.shown - 0 - 0 ≡ suc k - length p.shown = omega arith in
+    rw (text, room_left, append-nil p.shown) p.padded
 
 pub eight_digits : (n : ℕ) → n < 2 ^ 32 → hex8 n ≡ last_digits 8 n
 eight_digits n small = padded_digits 7 n small (omega arith)

@@ -10,6 +10,11 @@ use Rattle.tomex_rvexec.specs.declared.outcome.FaultKind.{FaultKind}
 use Rattle.tomex_rvexec.specs.declared.outcome.FaultKind.TheVariants.{Fetch, Illegal}
 use Rattle.tomex_rvexec.specs.Memory.{is_inside, word_read}
 
+-- the word at an address of an image
+abbrev pub word_at : Loaded → ℕ → ℕ
+word_at i pc = word_read i.memory (pc - i.window.base)
+
+-- a word that means nothing is illegal
 abbrev pub legal : Option Instruction → Result Instruction FaultKind
 legal None = Err Illegal
 legal (Some x) = Ok x
@@ -18,13 +23,14 @@ legal (Some x) = Ok x
 abbrev pub instruction_at : Loaded → ℕ → Result Instruction FaultKind
 instruction_at i pc =
     if is_inside i.window.base i.window.size pc 4
-    then legal (meaning (word_read i.memory (pc - i.window.base)))
+    then legal (meaning (word_at i pc))
     else Err Fetch
 
 -- the line of a decode cache that an address falls to
 abbrev pub line_of : ℕ → ℕ
 line_of pc = pc / 4 % 1024
 
+-- the instruction that a line holds of an address, which it has to name
 abbrev pub instruction_in : Option Line → ℕ → Option Instruction
 instruction_in None pc = None
 instruction_in (Some line) pc = if line.pc == pc then Some line.instr else None
@@ -38,5 +44,6 @@ abbrev pub IsLine : Loaded → Option Line → Type 0
 IsLine i None = ⊤
 IsLine i (Some line) = instruction_at i line.pc ≡ Ok line.instr
 
+-- all that is kept stands in the image
 abbrev pub IsCacheOf : Loaded → DecodeCache → Type 0
 IsCacheOf i cache = All (IsLine i) cache.lines

@@ -12,6 +12,7 @@ use Rattle.tomex_rvexec.specs.declared.outcome.EndKind.{EndKind}
 use Rattle.tomex_rvexec.specs.declared.outcome.EndKind.TheVariants as ends
 use Rattle.tomex_rvexec.specs.declared.outcome.FaultKind.{FaultKind}
 use Rattle.tomex_rvexec.specs.declared.outcome.FaultKind.TheVariants.{Fetch, Illegal, MisalignedTarget, Access}
+use Rattle.tomex_rvexec.specs.Fetch.{word_at}
 use Rattle.tomex_rvexec.specs.Words.{sum, alu_of, muldiv_of, is_taken}
 use Rattle.tomex_rvexec.specs.Memory.{is_inside, byte_read, half_read, word_read, byte_written, half_written, word_written}
 
@@ -130,7 +131,7 @@ executes Ebreak x s = Ends ends.Ebreak
 
 -- the word that is fetched
 abbrev pub fetched : State → ℕ
-fetched s = word_read s.image.memory (s.pc - base_of s)
+fetched s = word_at s.image s.pc
 
 -- an instruction at the pc, with the values of its source registers
 abbrev pub step_at : State → Instruction → Step

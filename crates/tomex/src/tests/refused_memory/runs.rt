@@ -26,7 +26,7 @@ struct Load;
 impl Attempt for Load {
     fn attempt(&self, heap: Heap) -> Result<Try, AllocError> {
         match image_in(heap) {
-            Ok(image) => Ok(Try::right_if(image.memory().len() == 4096)),
+            Ok(image) => Ok(Try::right_if(image.entry() == 65536 && image.memory().len() == 4096)),
             Err(outcome) => Ok(outcome),
         }
     }
