@@ -1,2 +1,3 @@
 -- What the proofs of the program share.
 mod Pieces
+mod BoardPlans

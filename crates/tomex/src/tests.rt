@@ -9,6 +9,7 @@ use std::alloc::{AllocError, Global};
 use std::test::Fail;
 use tomex_refuse::{Budget, Refusing};
 
+mod boards;
 mod broken_images;
 mod commands;
 mod elf_images;

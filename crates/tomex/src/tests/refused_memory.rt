@@ -3,6 +3,7 @@
 use std::alloc::{AllocError, Global};
 use tomex_refuse::{Budget, Refusing};
 
+mod boards;
 mod commands;
 mod runs;
 mod studies;

@@ -1,0 +1,16 @@
+pub mod Lists
+pub mod Onward
+pub mod RowWords
+pub mod Claims
+pub mod Closes
+pub mod Bests
+pub mod Bands
+pub mod Looks
+pub mod Shares
+pub mod RowMarks
+pub mod Ends
+pub mod Costs
+pub mod Rising
+pub mod Distinct
+pub mod Joining
+pub mod Finishes

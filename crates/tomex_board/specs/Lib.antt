@@ -1,0 +1,11 @@
+pub mod Plans
+pub mod Words
+pub mod Marks
+pub mod Bands
+pub mod Views
+pub mod Rule
+pub mod Steps
+pub mod Known
+pub mod Looking
+pub mod Finishing
+pub mod Laws

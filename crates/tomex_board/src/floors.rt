@@ -1,0 +1,84 @@
+//! The floors of the price bands.
+
+ghost use Rattle.std.specs.Prelude.{ℕ, ◌≡◌, ◌≤◌, ◌<◌, ◌*◌, ◌/◌, length, slice_get, slice_index, IfOk, IfSome, IfNone};
+ghost use Rattle.tomex_board.specs.Bands.{distinct_costs, floors_among, floors_of, IsBandOf};
+
+use std::alloc::{AllocError, Allocator};
+use std::collections::BTreeSet;
+
+/// How many bands a board has. Where its rows have fewer distinct costs, the others aren't used.
+pub(crate) const BANDS: usize = 64;
+
+/// The keys of a set as a list.
+fn listed<A: Allocator>(alloc: A, rising: &BTreeSet<u64, A>) -> Result<Vec<u64, A>, AllocError>
+    ensures { IfOk result (λ v. v.items ≡ rising.now.keys) }
+{
+    rising.iter().copied().collect(alloc)
+}
+
+/// The distinct costs, rising.
+fn distinct_costs<A: Allocator + Clone>(alloc: A, costs: &[u64]) -> Result<Vec<u64, A>, AllocError>
+    ensures { IfOk result (λ v. v.items ≡ distinct_costs costs.now) }
+{
+    let mut rising = BTreeSet::new(alloc.clone()?);
+    for cost in costs {
+        rising.insert(*cost)?;
+    }
+    listed(alloc, &rising)
+}
+
+/// The `k`th of the costs that are evenly spread among rising ones.
+fn spread(rising: &[u64], k: usize) -> u64
+    requires many { (64 < length rising.now) × (length rising.now ≤ 16384) }
+    requires band { k < 64 }
+    ensures { result ≡ slice_index rising.now (k * length rising.now / 64) }
+{
+    rising[k * rising.len() / BANDS]
+}
+
+/// The floor of the band `k`, where the distinct costs are handed in, rising: all of them are floors
+/// where there are at most 64, else 64 that are evenly spread. `None` from the number of bands on.
+pub fn floor(costs: &[u64], k: usize) -> Option<u64>
+    requires few { length costs.now ≤ 16384 }
+    ensures { result ≡ slice_get (floors_among costs.now) k }
+{
+    if k >= costs.len() || k >= BANDS {
+        None
+    } else if costs.len() <= BANDS {
+        Some(costs[k])
+    } else {
+        Some(spread(costs, k))
+    }
+}
+
+/// The floors of the bands of rows with these costs.
+pub(crate) fn floors_of<A: Allocator + Clone>(
+    alloc: A,
+    costs: &[u64],
+) -> Result<Vec<u64, A>, AllocError>
+    requires few { length costs.now ≤ 16384 }
+    ensures { IfOk result (λ v. v.items ≡ floors_of costs.now) }
+{
+    let rising = distinct_costs(alloc.clone()?, costs)?;
+    if rising.len() <= BANDS {
+        return Ok(rising);
+    }
+    let mut floors = Vec::new(alloc);
+    for k in 0..BANDS {
+        floors.push(spread(&rising, k))?;
+    }
+    Ok(floors)
+}
+
+/// The first band whose floor is no less than the cost.
+pub(crate) fn band_of(floors: &[u64], cost: u64) -> Option<usize>
+    ensures some { IfSome result (IsBandOf floors.now cost) }
+    ensures none { IfNone result ((k : ℕ) → k < length floors.now → slice_index floors.now k < cost) }
+{
+    for k in 0..floors.len() {
+        if cost <= floors[k] {
+            return Some(k);
+        }
+    }
+    None
+}

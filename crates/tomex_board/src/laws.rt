@@ -1,0 +1,36 @@
+//! The words and floors of a board, for whoever reads one, and laws of its rule. The functions without
+//! arguments do nothing: their contracts are the laws.
+
+ghost use Rattle.tomex_board.specs.Laws.{MarksAreLawful, NotedIsNotOpen, HandsAreApart, WordsSayMarks, JoinTakesLesserBest, CostsAreKept, DistinctCostsRise, FloorsRise, BandIsLeast};
+
+pub use crate::floors::floor;
+pub use crate::words::{band_word, mark_word};
+
+/// At every moment the rows' words say lawful marks, and no two marks have one word.
+pub fn marks_are_lawful()
+    ensures lawful { MarksAreLawful }
+    ensures words { WordsSayMarks }
+{}
+
+/// A row is in one hand only. What any seat has noted isn't open, so no row is claimed twice.
+pub fn no_row_is_claimed_twice()
+    ensures hands { HandsAreApart }
+    ensures noted { NotedIsNotOpen }
+{}
+
+/// For each band a joined seat has the lesser of the two seats' best words.
+pub fn a_joined_seat_has_the_lesser_best()
+    ensures { JoinTakesLesserBest }
+{}
+
+/// The distinct costs are the costs, each once, rising.
+pub fn distinct_costs_are_the_costs()
+    ensures kept { CostsAreKept }
+    ensures rise { DistinctCostsRise }
+{}
+
+/// The floors rise, so the band of a cost has the least floor that is no less.
+pub fn floors_rise()
+    ensures rise { FloorsRise }
+    ensures least { BandIsLeast }
+{}
