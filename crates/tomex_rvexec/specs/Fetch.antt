@@ -4,8 +4,8 @@ use Rattle.std.specs.Prelude.{◌≡◌, ◌==◌, ℕ, ◌-◌, ◌/◌, ◌%�
 use Rattle.tomex_image.specs.Image.{Loaded}
 use Rattle.tomex_rvdec.specs.Instruction.{Instruction}
 use Rattle.tomex_rvdec.specs.Meaning.{meaning}
-use Rattle.tomex_rvexec.specs.declared.cpu.decode_cache.DecodeCache.{DecodeCache}
-use Rattle.tomex_rvexec.specs.declared.cpu.decode_cache.Line.{Line}
+use Rattle.tomex_rvexec.specs.declared.decode_cache.DecodeCache.{DecodeCache}
+use Rattle.tomex_rvexec.specs.declared.decode_cache.Line.{Line}
 use Rattle.tomex_rvexec.specs.declared.outcome.FaultKind.{FaultKind}
 use Rattle.tomex_rvexec.specs.declared.outcome.FaultKind.TheVariants.{Fetch, Illegal}
 use Rattle.tomex_rvexec.specs.Memory.{is_inside, word_read}

@@ -4,6 +4,7 @@ pub mod Steps
 pub mod Fetch
 pub mod Machine
 pub mod Flow
+pub mod Access
 pub mod History
 pub mod Run
 pub mod Trace

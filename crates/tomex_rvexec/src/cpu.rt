@@ -3,6 +3,7 @@
 ghost use Rattle.std.specs.Prelude.{◌≡◌};
 
 use crate::end::End;
+use crate::fetcher::Fetcher;
 use crate::memory::Memory;
 use crate::outcome::{EndKind, Fault, FaultKind, Stepped};
 use crate::step::Step;
@@ -12,11 +13,7 @@ use std::marker::Model;
 use tomex_image::Image;
 use tomex_rvdec::Op;
 
-mod decode_cache;
 mod effects;
-mod fetcher;
-
-use fetcher::Fetcher;
 
 /// A program that runs in order, a whole instruction at a time.
 ///

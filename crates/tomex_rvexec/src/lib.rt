@@ -8,10 +8,14 @@
 //! end the program.
 #![tactic(auto)]
 
+mod access;
 mod cpu;
+mod decode_cache;
 mod end;
+mod fetcher;
 pub mod laws;
 mod memory;
+mod operation;
 mod outcome;
 mod running;
 mod step;
@@ -20,7 +24,9 @@ mod words;
 
 pub use cpu::Cpu;
 pub use end::{End, RunError};
+pub use fetcher::{Fetcher, instruction_at};
 pub use memory::Memory;
+pub use operation::{next_pc, result, store};
 pub use outcome::{EndKind, Fault, FaultKind, Stepped};
 pub use running::run;
 pub use step::{ByteRange, Operand, Step};

@@ -9,7 +9,10 @@ use Rattle.tomex_config.specs.Row.{plain}
 use Rattle.tomex_timing.specs.declared.times.Done.{Done}
 use Rattle.tomex_timing.specs.Recurrence.{width_of}
 use Rattle.tomex_timing.specs.Search.{history, times_of}
-use Rattle.tomex_timing.specs.Tables.{Tag, Value, Waits, Unread, Busy, tables_of}
+use Rattle.tomex_timing.specs.declared.tables.Busy.{Busy}
+use Rattle.tomex_timing.specs.declared.tables.Field.TheVariants.{Value, Waits, Unread}
+use Rattle.tomex_timing.specs.declared.tables.Tag.{Tag}
+use Rattle.tomex_timing.specs.Tables.{tables_of}
 use Rattle.tomex_timing.proofs.Programs.{instr, product, overwritten, stored_and_loaded, jump_to_product, two_alu_stations, with_latency}
 
 abbrev tag : PoolId → ℕ → Tag

@@ -7,27 +7,12 @@ use Rattle.tomex_rvdec.specs.declared.pool.PoolId.{PoolId}
 use Rattle.tomex_rvdec.specs.declared.pool.PoolId.TheVariants.{Alu, Mul, Div, Load, Store, Bru}
 use Rattle.tomex_rvexec.specs.Steps.{step_pool, step_dest, j_of, k_of, address_of, is_in, is_number}
 use Rattle.tomex_rvexec.specs.declared.step.Operand.{Operand}
+use Rattle.tomex_timing.specs.declared.tables.Busy.{Busy}
+use Rattle.tomex_timing.specs.declared.tables.Field.{Field}
+use Rattle.tomex_timing.specs.declared.tables.Field.TheVariants.{Value, Waits, Unread}
+use Rattle.tomex_timing.specs.declared.tables.Tag.{Tag}
 use Rattle.tomex_timing.specs.declared.times.Done.{Done}
 use Rattle.tomex_timing.specs.History.{is_memory, cycle_of}
-
--- a station's name, which waiting operands and registers carry
-pub record Tag : Type 0 where
-  pub pool : PoolId
-  pub number : ℕ
-
--- what a station shows of an operand: V, or Q, or neither where the instruction doesn't read it
-pub data Field : Type 0 where
-  Value : ℕ → Field
-  Waits : Tag → Field
-  Unread : Field
-
--- a busy station
-pub record Busy : Type 0 where
-  pub tag : Tag
-  pub instr : Instruction
-  pub j : Field
-  pub k : Field
-  pub a : Option ℕ
 
 pub record Tables : Type 0 where
   pub cycle : ℕ

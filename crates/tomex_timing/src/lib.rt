@@ -12,6 +12,7 @@ pub mod evaluate;
 mod laws;
 mod next;
 mod searches;
+mod tables;
 mod times;
 mod window;
 
@@ -19,6 +20,7 @@ pub use laws::{
     each_step_has_one_set_of_times, issues_alone_at_width_one, search_is_the_recurrence,
     total_is_bounded, younger_steps_change_nothing,
 };
+pub use tables::{Busy, Field, Tag};
 pub use times::{Done, Times};
 
 #[cfg(test)]

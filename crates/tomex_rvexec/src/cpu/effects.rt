@@ -1,39 +1,12 @@
 //! What instructions do to the machine: writes of registers, jumps, loads and stores.
 
-ghost use Rattle.std.specs.Prelude.{◌≡◌};
-ghost use Rattle.tomex_rvexec.specs.Machine.{from_byte, from_half};
-
 use super::Cpu;
 use crate::outcome::{Fault, FaultKind, Stepped};
 use std::alloc::Allocator;
 
-/// A byte whose sign is extended to 32 bits.
-fn from_signed_byte(byte: u8) -> u32
-    ensures { result ≡ from_byte byte }
-{
-    let value = u32::from(byte);
-    if value < 0x80 {
-        value
-    } else {
-        value + 0xffff_ff00
-    }
-}
-
-/// Two bytes whose sign is extended to 32 bits.
-fn from_signed_half(half: u16) -> u32
-    ensures { result ≡ from_half half }
-{
-    let value = u32::from(half);
-    if value < 0x8000 {
-        value
-    } else {
-        value + 0xffff_0000
-    }
-}
-
 impl<'a, A: Allocator> Cpu<'a, A> {
-    ghost use Rattle.std.specs.Prelude.{◌≡◌, IfOk, IfErr, ◌+◌, ◌-◌, ◌%◌, ◌<◌, ◌≤◌, IsTrue, true, false, nat_eq, length};
-    ghost use Rattle.tomex_rvexec.specs.Machine.{writes, jumps, branches, loads, stores, next_pc, with_register, holds, base_of, from_byte, from_half};
+    ghost use Rattle.std.specs.Prelude.{◌≡◌, IfOk, IfErr, ◌%◌, ◌<◌, true, false, nat_eq};
+    ghost use Rattle.tomex_rvexec.specs.Machine.{writes, jumps, branches, loads, stores, next_pc, with_register, from_byte, from_half};
     ghost use Rattle.tomex_rvexec.specs.Memory.{byte_read, half_read, word_read, byte_written, half_written, word_written};
     ghost use Rattle.tomex_rvexec.specs.Run.{Answers};
 
@@ -100,25 +73,15 @@ impl<'a, A: Allocator> Cpu<'a, A> {
         Ok(Stepped::Next)
     }
 
-    /// Where the bytes of an access begin in memory.
-    fn place(&self, address: u32, count: u32) -> Result<usize, Fault>
-        ensures ok { IfOk result (λ i. IsTrue (holds self.now address count) × (i ≡ address - base_of self.now) × (i + count ≤ length self.now.memory)) }
-        ensures err { IfErr result (λ e. (holds self.now address count ≡ false) × (e ≡ record { kind = FaultKind.Access; pc = self.now.pc })) }
-    {
-        match self.memory.place(address, count) {
-            Some(place) => Ok(place),
-            None => Err(self.fault(FaultKind::Access)),
-        }
-    }
-
     /// Loads a byte and extends its sign.
     pub(super) fn load_byte(&mut self, r: u8, address: u32) -> Result<Stepped, Fault>
         requires { r < 32 }
         ensures { Answers (loads self.old r address 1 (λ m i. from_byte (byte_read m i))) self.old result self.new }
     {
-        let place = self.place(address, 1)?;
-        let value = self.memory.byte(place);
-        self.write(r, from_signed_byte(value))
+        match self.memory.load_byte(address) {
+            Some(value) => self.write(r, value),
+            None => Err(self.fault(FaultKind::Access)),
+        }
     }
 
     /// Loads two bytes and extends their sign.
@@ -126,9 +89,10 @@ impl<'a, A: Allocator> Cpu<'a, A> {
         requires { r < 32 }
         ensures { Answers (loads self.old r address 2 (λ m i. from_half (half_read m i))) self.old result self.new }
     {
-        let place = self.place(address, 2)?;
-        let value = self.memory.half(place);
-        self.write(r, from_signed_half(value))
+        match self.memory.load_half(address) {
+            Some(value) => self.write(r, value),
+            None => Err(self.fault(FaultKind::Access)),
+        }
     }
 
     /// Loads four bytes.
@@ -136,9 +100,10 @@ impl<'a, A: Allocator> Cpu<'a, A> {
         requires { r < 32 }
         ensures { Answers (loads self.old r address 4 (λ m i. word_read m i)) self.old result self.new }
     {
-        let place = self.place(address, 4)?;
-        let value = self.memory.word(place);
-        self.write(r, value)
+        match self.memory.load_word(address) {
+            Some(value) => self.write(r, value),
+            None => Err(self.fault(FaultKind::Access)),
+        }
     }
 
     /// Loads a byte and extends it with zeros.
@@ -146,9 +111,10 @@ impl<'a, A: Allocator> Cpu<'a, A> {
         requires { r < 32 }
         ensures { Answers (loads self.old r address 1 (λ m i. byte_read m i)) self.old result self.new }
     {
-        let place = self.place(address, 1)?;
-        let value = u32::from(self.memory.byte(place));
-        self.write(r, value)
+        match self.memory.load_byte_unsigned(address) {
+            Some(value) => self.write(r, value),
+            None => Err(self.fault(FaultKind::Access)),
+        }
     }
 
     /// Loads two bytes and extends them with zeros.
@@ -156,35 +122,42 @@ impl<'a, A: Allocator> Cpu<'a, A> {
         requires { r < 32 }
         ensures { Answers (loads self.old r address 2 (λ m i. half_read m i)) self.old result self.new }
     {
-        let place = self.place(address, 2)?;
-        let value = u32::from(self.memory.half(place));
-        self.write(r, value)
+        match self.memory.load_half_unsigned(address) {
+            Some(value) => self.write(r, value),
+            None => Err(self.fault(FaultKind::Access)),
+        }
     }
 
     /// Stores the low byte of a word.
     pub(super) fn store_byte(&mut self, address: u32, value: u32) -> Result<Stepped, Fault>
         ensures { Answers (stores self.old address 1 (λ m i. byte_written m i value)) self.old result self.new }
     {
-        let place = self.place(address, 1)?;
-        self.memory.set_byte(place, value);
-        Ok(self.go_on())
+        if self.memory.store_byte(address, value) {
+            Ok(self.go_on())
+        } else {
+            Err(self.fault(FaultKind::Access))
+        }
     }
 
     /// Stores the low two bytes of a word.
     pub(super) fn store_half(&mut self, address: u32, value: u32) -> Result<Stepped, Fault>
         ensures { Answers (stores self.old address 2 (λ m i. half_written m i value)) self.old result self.new }
     {
-        let place = self.place(address, 2)?;
-        self.memory.set_half(place, value);
-        Ok(self.go_on())
+        if self.memory.store_half(address, value) {
+            Ok(self.go_on())
+        } else {
+            Err(self.fault(FaultKind::Access))
+        }
     }
 
     /// Stores a word.
     pub(super) fn store_word(&mut self, address: u32, value: u32) -> Result<Stepped, Fault>
         ensures { Answers (stores self.old address 4 (λ m i. word_written m i value)) self.old result self.new }
     {
-        let place = self.place(address, 4)?;
-        self.memory.set_word(place, value);
-        Ok(self.go_on())
+        if self.memory.store_word(address, value) {
+            Ok(self.go_on())
+        } else {
+            Err(self.fault(FaultKind::Access))
+        }
     }
 }

@@ -1,0 +1,118 @@
+-- Turns of a loop over the members of a set, the least first.
+use Rattle.std.proofs.Common.{ℕ, zero, suc, ◌+◌, ◌-◌, Bool, true, false, ◌≡◌, ◌≤◌, ◌<◌, ◌∙◌, arith, inl, inr, ap, refl, sym}
+use Rattle.std.specs.Prelude.{◌==◌, ◌&&◌, not, nat_le}
+use Rattle.std.proofs.lemmas.Bool.{cases_Bool, cases_order, both_ways, eqb-true, eqb-false, le-leb, leb-true, lt-leb, and_parts, and_right}
+use Rattle.tomex_bus.specs.Sets.{has, IsWith, IsWithout}
+use Rattle.tomex_bus.proofs.Bits.{none_in}
+
+pub none_rest : (rest x : ℕ) → rest ≡ 0 → has rest x ≡ false
+none_rest rest x e = rw e (none_in x)
+
+-- what is left of a set is in it
+pub inside_left : (set rest left x : ℕ) → ((y : ℕ) → y < 128 → has rest y ≡ true → has set y ≡ true) → IsWithout rest x left → (y : ℕ) → y < 128 → has left y ≡ true → has set y ≡ true
+inside_left set rest left x inside without y l e = elim (cases_Bool (x == y)) [
+  | inl k ↦ let same : x ≡ y = eqb-true x y k in absurd (both_ways (has left x) without.same (rw same e))
+  | inr k ↦ inside y l (sym (without.others y l (λ z. eqb-false x y k (sym z))) ∙ e)
+]
+
+-- those of the members that were looked at that pass a test
+pub record AreFound (set rest found : ℕ) (test : ℕ → Bool) : Type 0 where
+  pub inside : (x : ℕ) → x < 128 → has rest x ≡ true → has set x ≡ true
+  pub looked : (x : ℕ) → x < 128 → has found x ≡ (has set x && not (has rest x) && test x)
+
+pub first_found : (set : ℕ) (test : ℕ → Bool) → AreFound set set 0 test
+first_found set test = record { inside = λ x l e. e; looked = λ x l. none_in x ∙ none_of (has set x) (test x) }
+  where
+    none_of : (a b : Bool) → false ≡ ((a && not a) && b)
+    none_of true b = refl
+    none_of false b = refl
+
+pub one_found : (set rest found left x more : ℕ) (test : ℕ → Bool) → AreFound set rest found test → IsWithout rest x left → x < 128 → has rest x ≡ true → IsWith found x more → test x ≡ true → AreFound set left more test
+one_found set rest found left x more test so without small member with passes = record {
+  inside = inside_left set rest left x so.inside without;
+  looked = λ y l. elim (cases_Bool (x == y)) [
+    | inl k ↦
+        let same : x ≡ y = eqb-true x y k in
+        rw (← same, with.same, so.inside x small member, without.same, passes) refl
+    | inr k ↦
+        let apart : y ≡ x → ⊥ = λ z. eqb-false x y k (sym z) in
+        with.others y apart ∙ (so.looked y l ∙ ap (λ b. (has set y && not b) && test y) (sym (without.others y l apart)))
+  ];
+}
+
+fails_both : (a b c d : Bool) → d ≡ false → c ≡ (a && d) → c ≡ (b && d)
+fails_both a b c true e f = absurd (cc)
+fails_both a b c false e f = f ∙ (and_right a false refl ∙ sym (and_right b false refl))
+
+pub none_found : (set rest found left x : ℕ) (test : ℕ → Bool) → AreFound set rest found test → IsWithout rest x left → x < 128 → has rest x ≡ true → test x ≡ false → AreFound set left found test
+none_found set rest found left x test so without small member fails = record {
+  inside = inside_left set rest left x so.inside without;
+  looked = λ y l. elim (cases_Bool (x == y)) [
+    | inl k ↦
+        let same : x ≡ y = eqb-true x y k in
+        rw (← same) (fails_both (has set x && not (has rest x)) (has set x && not (has left x)) (has found x) (test x) fails (so.looked x small))
+    | inr k ↦
+        let apart : y ≡ x → ⊥ = λ z. eqb-false x y k (sym z) in
+        so.looked y l ∙ ap (λ b. (has set y && not b) && test y) (sym (without.others y l apart))
+  ];
+}
+
+pub all_found : (set rest found : ℕ) (test : ℕ → Bool) → AreFound set rest found test → rest ≡ 0 → (x : ℕ) → x < 128 → has found x ≡ (has set x && test x)
+all_found set rest found test so empty x l = so.looked x l ∙ rw (none_rest rest x empty) (one_and (has set x) (test x))
+  where
+    one_and : (a b : Bool) → ((a && not false) && b) ≡ (a && b)
+    one_and true b = refl
+    one_and false b = refl
+
+-- the members from a number on are left
+pub record AreFrom (set rest k : ℕ) : Type 0 where
+  pub left : (x : ℕ) → x < 128 → has rest x ≡ (has set x && nat_le k x)
+
+pub all_left : (set : ℕ) → AreFrom set set 0
+all_left set = record { left = λ x l. rw (le-leb 0 x (omega arith)) (sym (and_right_true (has set x))) }
+  where
+    and_right_true : (a : Bool) → (a && true) ≡ a
+    and_right_true true = refl
+    and_right_true false = refl
+
+pub least_from : (set rest k x : ℕ) → AreFrom set rest k → x < 128 → has rest x ≡ true → k ≤ x
+least_from set rest k x so l e = leb-true k x (and_parts (has set x) (nat_le k x) (sym (so.left x l) ∙ e)).1
+
+pub least_in : (set rest k x : ℕ) → AreFrom set rest k → x < 128 → has rest x ≡ true → has set x ≡ true
+least_in set rest k x so l e = (and_parts (has set x) (nat_le k x) (sym (so.left x l) ∙ e)).0
+
+-- none is passed over
+pub none_between : (set rest k x : ℕ) → AreFrom set rest k → x < 128 → ((i : ℕ) → i < x → has rest i ≡ false) → (j : ℕ) → k ≤ j → j < x → has set j ≡ false
+none_between set rest k x so l least j from to = elim (cases_Bool (has set j)) [
+  | inr e ↦ e
+  | inl e ↦ absurd (both_ways (has rest j) (least j to) (so.left j (omega arith) ∙ rw (e, le-leb k j from) refl))
+]
+
+pub none_after : (set rest k : ℕ) → AreFrom set rest k → rest ≡ 0 → (j : ℕ) → k ≤ j → j < 128 → has set j ≡ false
+none_after set rest k so empty j from to = elim (cases_Bool (has set j)) [
+  | inr e ↦ e
+  | inl e ↦ absurd (both_ways (has rest j) (none_rest rest j empty) (so.left j to ∙ rw (e, le-leb k j from) refl))
+]
+
+pub left_from : (set rest left k x : ℕ) → AreFrom set rest k → x < 128 → has rest x ≡ true → ((i : ℕ) → i < x → has rest i ≡ false) → IsWithout rest x left → AreFrom set left (x + 1)
+left_from set rest left k x so small member least without = record {
+  left = λ y l. elim (cases_order y x) [
+    | inl e ↦ rw e (without.same ∙ sym (rw (lt-leb (x + 1) x (omega arith)) (and_right (has set x) false refl)))
+    | inr (inl less) ↦ without.others y l (λ z. absurd (omega arith)) ∙ (least y less ∙ sym (rw (lt-leb (x + 1) y (omega arith)) (and_right (has set y) false refl)))
+    | inr (inr more) ↦
+        let from : k ≤ x = least_from set rest k x so small member in
+        without.others y l (λ z. absurd (omega arith)) ∙ (so.left y l ∙ rw (le-leb k y (omega arith), le-leb (x + 1) y (omega arith)) refl)
+  ];
+}
+
+-- what each number that is no member keeps is kept up to the next member
+pub up_to : (P : ℕ → Type 0) (set k n : ℕ) → ((j : ℕ) → k ≤ j → j < k + n → has set j ≡ false) → ((j : ℕ) → has set j ≡ false → P j → P (j + 1)) → P k → P (k + n)
+up_to P set k zero none skip so = let e : k + 0 ≡ k = omega arith in rw e so
+up_to P set k (suc n) none skip so =
+    let e : k + suc n ≡ k + n + 1 = omega arith in
+    rw e (skip (k + n) (none (k + n) (omega arith) (omega arith)) (up_to P set k n (λ j from to. none j from (omega arith)) skip so))
+
+pub skip_to : (P : ℕ → Type 0) (set k x : ℕ) → k ≤ x → ((j : ℕ) → k ≤ j → j < x → has set j ≡ false) → ((j : ℕ) → has set j ≡ false → P j → P (j + 1)) → P k → P x
+skip_to P set k x l none skip so =
+    let e : k + (x - k) ≡ x = omega arith in
+    rw e at (up_to P set k (x - k) (λ j from to. none j from (omega arith)) skip so)

@@ -1,0 +1,48 @@
+//! The oldest of those that are ready.
+
+ghost use Rattle.std.specs.Prelude.{ℕ, ◌≡◌, ◌<◌, ◌≤◌, true, slice_index};
+ghost use Rattle.tomex_bus.specs.Sets.{has};
+ghost use Rattle.tomex_bus.specs.Picks.{IsPicked};
+
+use crate::sets::{lowest, with, without};
+
+/// The member of the least age; the ages are by number.
+#[inline(always)]
+pub fn oldest(set: u128, ages: &[u32; 128]) -> usize
+    requires { 0 < set }
+    ensures below { result < 128 }
+    ensures member { has set result ≡ true }
+    ensures least { (i : ℕ) → i < 128 → has set i ≡ true → slice_index ages.now result ≤ slice_index ages.now i }
+{
+    let mut best = lowest(set);
+    let mut rest = without(set, best);
+    'members: while rest != 0 {
+        let number = lowest(rest);
+        rest = without(rest, number);
+        if ages[number] < ages[best] {
+            best = number;
+        }
+    }
+    best
+}
+
+/// The n oldest of the ready ones, all of them where there are no more than n.
+///
+/// Ages are by number: the count of instructions that issued before, so no two that are ready have
+/// one age. It serves units, memory ports and common data buses.
+#[inline(always)]
+pub fn pick(ready: u128, ages: &[u32; 128], n: u8) -> u128
+    ensures { IsPicked ready ages.now n result }
+{
+    let mut rest = ready;
+    let mut picked = 0;
+    for turn in 0..n {
+        if rest == 0 {
+            return picked;
+        }
+        let number = oldest(rest, ages);
+        rest = without(rest, number);
+        picked = with(picked, number);
+    }
+    picked
+}

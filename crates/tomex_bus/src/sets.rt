@@ -1,0 +1,51 @@
+//! Sets of numbers below 128, a bit each.
+
+ghost use Rattle.std.specs.Prelude.{ℕ, ◌≡◌, ◌<◌, ◌||◌, true, false};
+ghost use Rattle.tomex_bus.specs.Sets.{has, IsWith, IsWithout};
+
+/// Whether a number is in the set.
+#[inline(always)]
+pub fn has(set: u128, number: usize) -> bool
+    requires { number < 128 }
+    ensures { result ≡ has set number }
+{
+    set >> number & 1 == 1
+}
+
+/// The set and the number.
+#[inline(always)]
+pub fn with(set: u128, number: usize) -> u128
+    requires { number < 128 }
+    ensures { IsWith set number result }
+{
+    set | 1 << number
+}
+
+/// The set but for the number.
+#[inline(always)]
+pub fn without(set: u128, number: usize) -> u128
+    requires { number < 128 }
+    ensures others { IsWithout set number result }
+    ensures less { has set number ≡ true → result < set }
+{
+    set & !(1 << number)
+}
+
+/// The least member.
+#[inline(always)]
+pub fn lowest(set: u128) -> usize
+    requires { 0 < set }
+    ensures below { result < 128 }
+    ensures member { has set result ≡ true }
+    ensures least { (i : ℕ) → i < result → has set i ≡ false }
+{
+    set.trailing_zeros() as usize
+}
+
+/// The members of both sets.
+#[inline(always)]
+pub fn union(a: u128, b: u128) -> u128
+    ensures { (x : ℕ) → has result x ≡ (has a x || has b x) }
+{
+    a | b
+}

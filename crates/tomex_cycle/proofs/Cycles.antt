@@ -1,0 +1,155 @@
+-- The phases, one after the other, make a cycle.
+use Rattle.std.proofs.Common.{ℕ, ◌+◌, ◌<◌, ◌≤◌, ◌≡◌, ◌∙◌, Bool, true, false, arith, refl, List, [], ◌∷◌, ◌++◌, Option, Some, None, sym, inl, inr, subst}
+use Rattle.std.specs.Prelude.{nat_lt, MatchOption, if◌then◌else◌, Result, Ok, Err, not}
+use Rattle.std.proofs.lemmas.Bool.{cases_Bool, ltb-true, lt-leb, and_parts}
+use Rattle.tomex_image.specs.Image.{Loaded, IsLoaded}
+use Rattle.tomex_config.specs.Row.{Row, IsRow}
+use Rattle.tomex_rvdec.specs.declared.pool.PoolId.{PoolId}
+use Rattle.tomex_rvdec.specs.declared.pool.PoolId.TheVariants as pools
+use Rattle.tomex_rvdec.specs.declared.pool.UnitId.{UnitId}
+use Rattle.tomex_rvdec.specs.Operands.{unit_at}
+use Rattle.tomex_rvexec.specs.declared.outcome.EndKind.{EndKind}
+use Rattle.tomex_rvexec.specs.declared.outcome.Fault.{Fault}
+use Rattle.tomex_rvexec.specs.Flow.{overwrites}
+use Rattle.tomex_rvexec.specs.Machine.{State}
+use Rattle.tomex_rvexec.specs.Memory.{Bytes}
+use Rattle.tomex_rvexec.specs.Run.{RunEnds}
+use Rattle.tomex_rvexec.specs.Steps.{step_pool, is_in, is_store}
+use Rattle.tomex_timing.specs.declared.times.Done.{Done}
+use Rattle.tomex_timing.specs.History.{cycle_of}
+use Rattle.tomex_timing.specs.Recurrence.{AreTimed, IsTimed, IsLeast, can_start}
+use Rattle.tomex_cycle.specs.declared.fetch.Fetch.{Fetch}
+use Rattle.tomex_cycle.specs.Run.{run_to, byte_at, IsHistory}
+use Rattle.tomex_cycle.specs.Views.{clocks, ShowsMemory}
+use Rattle.tomex_cycle.specs.Phases.{IsIssuedTo, IsSnapshot, IsYetToIssue, MakesStarts, MakesAddress, MakesIssue, MakesEnds}
+use Rattle.tomex_timing.specs.History.{greatest_end}
+use Rattle.tomex_cycle.specs.Phases.{is_done}
+use Rattle.tomex_cycle.specs.declared.progress.Progress.{Progress}
+use Rattle.tomex_cycle.specs.declared.progress.Progress.TheVariants.{Running, Ended}
+use Rattle.tomex_cycle.proofs.Totals.{done_is}
+use Rattle.tomex_cycle.proofs.Runs.{rest_to, run_history, run_timed, AreLater}
+use Rattle.tomex_tags.specs.Pools.{AreBusy, Pools}
+use Rattle.tomex_tags.specs.declared.register_status.RegStatus.{RegStatus}
+
+start_later : (pool : Option PoolId) (issue start : ℕ) (older : List Done) (P : UnitId → ℕ → Bool)
+    → ((u : UnitId) (x : ℕ) → P u x ≡ true → issue < x) → is_in pools.Store pool ≡ true → MatchOption (unit_at pool) (start ≡ issue) (λ u. IsLeast (P u) start) → issue < start
+start_later None issue start older P later store timed = absurd (cc)
+start_later (Some pool) issue start older P later store timed = later _ start timed.0
+
+pub can_start_later : (row : Row) (d : Done) (older : List Done) (u : UnitId) (t : ℕ) → can_start row older d.step u d.at.issue (cycle_of d.at.address) t ≡ true → d.at.issue < t
+can_start_later row d older u t h =
+    let two = and_parts (nat_lt d.at.issue t) (nat_lt (cycle_of d.at.address) t) (and_parts _ _ (and_parts _ _ (and_parts _ _ h).0).0).0 in
+    ltb-true d.at.issue t two.0
+
+-- a store starts after its issue
+pub store_later : (row : Row) (d : Done) (older : List Done) → IsTimed row older d.step d.at → is_store d.step ≡ true → d.at.issue < d.at.start
+store_later row d older timed store =
+    start_later (step_pool d.step) d.at.issue d.at.start older (λ u. can_start row older d.step u d.at.issue (cycle_of d.at.address)) (can_start_later row d older) store timed.start
+
+-- what issues later hasn't written memory yet
+bytes_later : (row : Row) (i : Loaded) (newer h : List Done) (t u a : ℕ) → AreTimed row (newer ++ h) → AreLater t newer → u ≡ t + 1 → byte_at i u (newer ++ h) a ≡ byte_at i u h a
+bytes_later row i [] h t u a timed later e = refl
+bytes_later row i (d ∷ newer) h t u a timed later e =
+    let rest : byte_at i u (newer ++ h) a ≡ byte_at i u h a = bytes_later row i newer h t u a timed.1 later.1 e in
+    elim (cases_Bool (overwrites d.step a)) [
+      | inl o ↦
+          let store : is_store d.step ≡ true = (and_parts _ _ o).0 in
+          let l : d.at.issue < d.at.start = store_later row d (newer ++ h) timed.0 store in
+          let k : t < d.at.issue = later.0 in
+          rw (o, lt-leb d.at.start u (omega arith)) rest
+      | inr o ↦ rw o rest
+    ]
+
+memory_issued : (row : Row) (i : Loaded) (n k m t u : ℕ) (s : State) (kind : EndKind) (bytes : Bytes) → IsRow row → RunEnds i n s kind → (k ≤ n → IsYetToIssue i row k t) → k ≤ m → m ≤ n + 1 → u ≡ t + 1
+    → ShowsMemory i u (run_to row i k) bytes → ShowsMemory i u (run_to row i m) bytes
+memory_issued row i n k m t u s kind bytes good ends next low high e shown =
+    let rest = rest_to row i n k m t s kind good ends next low high in
+    let timed : AreTimed row (rest.0 ++ run_to row i k) = rw (← rest.1.same) (run_timed row i m good) in
+    record {
+      base = shown.base;
+      size = shown.size;
+      bytes = λ a from to. shown.bytes a from to ∙ rw rest.1.same (sym (bytes_later row i rest.0 (run_to row i k) t u a timed rest.1.later e));
+    }
+
+-- what a cycle makes of a snapshot up to its issue
+pub record IsUnderWay (i : Loaded) (row : Row) (n t next before : ℕ) (fault : Option Fault) (result : Result ℕ Fault) (stations : Pools) (registers : RegStatus) (fetch : Fetch) (memory : Bytes) : Type 0 where
+  pub good : fault ≡ None
+  pub count : ℕ
+  pub issued : result ≡ Ok count
+  pub low : before ≤ count
+  pub after : IsIssuedTo i row n next (clocks next next t) count stations registers fetch
+  pub bytes : ShowsMemory i next (run_to row i count) memory
+
+-- and as a whole
+pub record IsMade (i : Loaded) (row : Row) (n next : ℕ) (fault : Option Fault) (result : Result ℕ Fault) (stations : Pools) (registers : RegStatus) (fetch : Fetch) (memory : Bytes) : Type 0 where
+  pub good : fault ≡ None
+  pub count : ℕ
+  pub issued : result ≡ Ok count
+  pub snapshot : IsSnapshot i row n next count stations registers fetch memory
+
+pub issue_made : (i : Loaded) (row : Row) (n t next count : ℕ) (s : State) (kind : EndKind) (fault : Option Fault) (result : Result ℕ Fault)
+    (st0 st1 st2 st3 : Pools) (rg0 rg1 : RegStatus) (ft0 ft1 : Fetch) (m0 m1 : Bytes)
+    → MakesStarts row next st0 m0 fault st1 m1 → MakesAddress next st1 st2 → MakesIssue i row next count st2 rg0 ft0 result st3 rg1 ft1
+    → RunEnds i n s kind → n < 262144 → next ≡ t + 1 → IsRow row → IsLoaded i.window i.memory i.entry → IsSnapshot i row n t count st0 rg0 ft0 m0
+    → IsUnderWay i row n t next count fault result st3 rg1 ft1 m1
+issue_made i row n t next count s kind fault result st0 st1 st2 st3 rg0 rg1 ft0 ft1 m0 m1 starts addresses issues ends l e good loaded old =
+    let few : count ≤ n + 1 = old.issue.few in
+    let h0 : IsHistory i row (run_to row i count) = run_history row i n count s kind good loaded ends few in
+    let a = starts i (run_to row i count) t e h0 old.issue.issued old.issue.slots old.bytes in
+    let b = addresses i row (run_to row i count) t e h0 old.issue.issued a.1 in
+    let shown : IsIssuedTo i row n t (clocks next next t) count st2 rg0 ft0 = record { few = few; slots = b; status = old.issue.status; from = old.issue.from; issued = old.issue.issued; next = old.issue.next } in
+    let d = issues n s kind t ends l e good loaded shown in
+    record {
+      good = a.0;
+      count = d.0;
+      issued = d.1;
+      low = d.2;
+      after = d.3;
+      bytes = memory_issued row i n count d.0 t next s kind m1 good ends old.issue.next d.2 d.3.few e a.2;
+    }
+
+pub cycle_made : (i : Loaded) (row : Row) (n t next count : ℕ) (s : State) (kind : EndKind) (fault : Option Fault) (result : Result ℕ Fault)
+    (st3 st4 : Pools) (rg1 rg2 : RegStatus) (ft1 ft2 : Fetch) (m1 : Bytes)
+    → IsUnderWay i row n t next count fault result st3 rg1 ft1 m1 → MakesEnds row next st3 rg1 ft1 st4 rg2 ft2
+    → RunEnds i n s kind → next ≡ t + 1 → IsRow row → IsLoaded i.window i.memory i.entry
+    → IsMade i row n next fault result st4 rg2 ft2 m1
+cycle_made i row n t next count s kind fault result st3 st4 rg1 rg2 ft1 ft2 m1 on end_phase ends e good loaded =
+    let h1 : IsHistory i row (run_to row i on.count) = run_history row i n on.count s kind good loaded ends on.after.few in
+    let f = end_phase i (run_to row i on.count) t e h1 on.after.issued on.after.slots on.after.status on.after.from in
+    record {
+      good = on.good;
+      count = on.count;
+      issued = on.issued;
+      snapshot = record {
+        issue = record { few = on.after.few; slots = f.0; status = f.1; from = f.2; issued = on.after.issued; next = on.after.next };
+        bytes = on.bytes;
+      };
+    }
+
+pub some_none : {A : Type 0} (o : Option A) (x : A) → o ≡ Some x → o ≡ None → ⊥
+some_none o x e f = cc
+
+pub err_ok : {A E : Type 0} (r : Result A E) (x : A) (y : E) → r ≡ Ok x → r ≡ Err y → ⊥
+err_ok r x y e f = cc
+
+pub ok_same : {A E : Type 0} (r : Result A E) (x y : A) → r ≡ Ok x → r ≡ Ok y → x ≡ y
+ok_same r x y e f = cc
+
+-- nothing that starts in a run faults
+pub starts_good : (i : Loaded) (row : Row) (n t next count : ℕ) (s : State) (kind : EndKind) (fault : Option Fault) (st0 st1 : Pools) (rg0 : RegStatus) (ft0 : Fetch) (m0 m1 : Bytes)
+    → MakesStarts row next st0 m0 fault st1 m1 → RunEnds i n s kind → next ≡ t + 1 → IsRow row → IsLoaded i.window i.memory i.entry → IsSnapshot i row n t count st0 rg0 ft0 m0 → fault ≡ None
+starts_good i row n t next count s kind fault st0 st1 rg0 ft0 m0 m1 starts ends e good loaded old =
+    (starts i (run_to row i count) t e (run_history row i n count s kind good loaded ends old.issue.few) old.issue.issued old.issue.slots old.bytes).0
+
+progress_same : (a : Bool) (over : Bool) (p : Progress) → over ≡ not a → p ≡ (if over then Ended else Running) → p ≡ (if a then Running else Ended)
+progress_same true over p e f = rw e at f
+progress_same false over p e f = rw e at f
+
+pub cycle_answer : (i : Loaded) (row : Row) (n next count : ℕ) (s : State) (kind : EndKind) (fault : Option Fault) (result : Result ℕ Fault) (st : Pools) (rg : RegStatus) (ft : Fetch) (m : Bytes) (over : Bool) (p : Progress)
+    → IsMade i row n next fault result st rg ft m → RunEnds i n s kind → IsRow row → IsLoaded i.window i.memory i.entry
+    → result ≡ Ok count → AreBusy st.slots st.busy st.ages → over ≡ is_done ft st.busy → p ≡ (if over then Ended else Running)
+    → IsSnapshot i row n next count st rg ft m × (p ≡ (if nat_lt next (greatest_end (run_to row i (n + 1))) then Running else Ended))
+cycle_answer i row n next count s kind fault result st rg ft m over p made ends good loaded issued filled e f =
+    let same : made.count ≡ count = ok_same result made.count count made.issued issued in
+    let shown : IsSnapshot i row n next count st rg ft m = subst (λ (x : ℕ). IsSnapshot i row n next x st rg ft m) same made.snapshot in
+    (shown, progress_same (nat_lt next (greatest_end (run_to row i (n + 1)))) over p (e ∙ done_is row i n next count s kind st rg ft good loaded ends shown.issue filled) f)

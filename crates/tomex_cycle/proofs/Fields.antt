@@ -1,0 +1,214 @@
+-- Operands: which are there, and what a broadcast makes of those that wait.
+use Rattle.std.proofs.Common.{ℕ, ◌+◌, ◌<◌, ◌≤◌, ◌≡◌, ◌∙◌, Bool, true, false, arith, refl, List, [], ◌∷◌, ◌++◌, Option, Some, None, ap, sym, inl, inr, append_assoc, ◌⊎◌}
+use Rattle.std.specs.Prelude.{nat_lt, if◌then◌else◌, ◌&&◌, ◌==◌, not, is_some, is_none, MatchOption}
+use Rattle.std.proofs.lemmas.Bool.{cases_Bool, ltb-true, ltb-false, lt-ltb, le-ltb, both_ways, and_parts, eqb-true, eqb-false, eq-eqb}
+use Rattle.tomex_image.specs.Image.{Loaded}
+use Rattle.tomex_config.specs.Row.{Row, IsRow}
+use Rattle.tomex_rvdec.specs.declared.pool.PoolId.{PoolId}
+use Rattle.tomex_rvdec.specs.declared.pool.UnitId.{UnitId}
+use Rattle.tomex_rvdec.specs.Operands.{unit_at}
+use Rattle.tomex_rvexec.proofs.FlowFields.{dest_needs_pool}
+use Rattle.tomex_timing.specs.History.{cycle_of}
+use Rattle.tomex_timing.specs.Recurrence.{IsLeast, can_start}
+use Rattle.tomex_cycle.proofs.Cycles.{can_start_later}
+use Rattle.tomex_rvexec.specs.declared.step.Operand.{Operand}
+use Rattle.tomex_rvexec.specs.Flow.{result_of}
+use Rattle.tomex_rvexec.specs.History.{byte_after, register_after}
+use Rattle.tomex_rvexec.specs.Steps.{is_number, step_dest, step_pool}
+use Rattle.tomex_timing.specs.declared.tables.Field.TheVariants.{Value, Waits}
+use Rattle.tomex_timing.specs.declared.tables.Tag.{Tag}
+use Rattle.tomex_timing.specs.declared.times.Done.{Done}
+use Rattle.tomex_timing.specs.History.{source_end, writer_end}
+use Rattle.tomex_timing.specs.Recurrence.{AreTimed, IsTimed}
+use Rattle.tomex_timing.specs.Tables.{field_of, field_from, producer, tag_of, unsent_tag}
+use Rattle.tomex_cycle.specs.Run.{AreIssuedBy, steps_in}
+use Rattle.tomex_cycle.specs.Views.{holds_place, place_of, sent_at}
+use Rattle.tomex_cycle.proofs.Places.{is_vacant, vacant}
+use Rattle.tomex_cycle.proofs.Totals.{place_there, reach}
+use Rattle.tomex_tags.specs.Operands.{heard, is_there}
+use Rattle.tomex_tags.specs.Places.{place_at, place_of_tag}
+
+-- the tag of a step that hasn't ended
+tag_from : (tag : Option Tag) → is_some (place_at tag) ≡ true → (t : Tag) × (tag ≡ Some t)
+tag_from None e = absurd (cc)
+tag_from (Some t) e = (t, refl)
+
+pub tag_there : (row : Row) (d : Done) (older : List Done) (t : ℕ) → IsTimed row older d.step d.at → d.at.issue ≤ t → t < d.at.end → (tag : Tag) × (tag_of d ≡ Some tag)
+tag_there row d older t timed l k = tag_from (tag_of d) (place_there row d older timed (omega arith))
+
+none_test : (row : Row) (t : ℕ) (h : List Done) (r : ℕ) → AreTimed row h → AreIssuedBy t h → is_none (producer t h r) ≡ nat_lt (writer_end h r) (t + 1)
+none_test row t [] r timed issued = rw (lt-ltb 0 (t + 1) (omega arith)) refl
+none_test row t (d ∷ older) r timed issued = elim (cases_Bool (is_number (step_dest d.step) r)) [
+  | inr e ↦ rw e (none_test row t older r timed.1 issued.1)
+  | inl e ↦ elim (cases_Bool (nat_lt t d.at.end)) [
+    | inl l ↦
+        let k : t < d.at.end = ltb-true _ _ l in
+        let tag = tag_there row d older t timed.0 issued.0 k in
+        rw (e, l, tag.1, le-ltb d.at.end (t + 1) (omega arith)) refl
+    | inr l ↦
+        let k : d.at.end ≤ t = ltb-false _ _ l in
+        rw (e, l, lt-ltb d.at.end (t + 1) (omega arith)) refl
+  ]
+]
+
+there_from : (v : ℕ) (tag : Option Tag) → is_there (field_from v tag) ≡ is_none tag
+there_from v None = refl
+there_from v (Some tag) = refl
+
+-- an operand is there after cycle t just where its producer has ended before the next one: the recurrence's test
+pub there_test : (row : Row) (t : ℕ) (h : List Done) (o : Option Operand) → AreTimed row h → AreIssuedBy t h → is_there (field_of t h o) ≡ nat_lt (source_end h o) (t + 1)
+there_test row t h None timed issued = rw (lt-ltb 0 (t + 1) (omega arith)) refl
+there_test row t h (Some o) timed issued = there_from o.value (producer t h o.register) ∙ none_test row t h o.register timed issued
+
+-- who holds no place sends nothing from it
+pub silent : (i : Loaded) (t u x : ℕ) (h : List Done) → u ≡ t + 1 → is_vacant t x h ≡ true → sent_at i u h x ≡ None
+silent i t u x [] e free = refl
+silent i t u x (d ∷ older) e free = elim (cases_Bool (is_number (place_of d) x && (is_some (step_dest d.step) && (d.at.end == u)))) [
+  | inr k ↦ rw k (silent i t u x older e (and_parts (not (holds_place t x d)) (is_vacant t x older) free).1)
+  | inl k ↦
+      let a = and_parts (is_number (place_of d) x) (is_some (step_dest d.step) && (d.at.end == u)) k in
+      let b : d.at.end ≡ u = eqb-true _ _ (and_parts (is_some (step_dest d.step)) (d.at.end == u) a.1).1 in
+      let held : holds_place t x d ≡ true = rw (a.0, lt-ltb t d.at.end (omega arith)) refl in
+      let z : not (holds_place t x d) ≡ true = (and_parts (not (holds_place t x d)) (is_vacant t x older) free).0 in
+      let f : not true ≡ true = rw held at z in
+      absurd (cc)
+]
+
+-- what w sends from its place in cycle u
+abbrev sends : Loaded → ℕ → Done → List Done → Option ℕ
+sends i u w older = if w.at.end == u then Some (result_of w.step (byte_after i (steps_in older))) else None
+
+sent_here : (i : Loaded) (row : Row) (t u x : ℕ) (w : Done) (older : List Done) → IsRow row → AreTimed row (w ∷ older) → w.at.issue ≤ u → u ≡ t + 1 → is_some (step_dest w.step) ≡ true → is_number (place_of w) x ≡ true → sent_at i u (w ∷ older) x ≡ sends i u w older
+sent_here i row t u x w older good timed l e dest at = elim (cases_Bool (w.at.end == u)) [
+  | inl k ↦ rw (at, dest, k) refl
+  | inr k ↦ rw (at, dest, k) (silent i t u x older e (vacant row w older t x good timed (omega arith) at))
+]
+
+some_false : {A : Type 0} (x : A) (b : Bool) → b ≡ true → b ≡ false → ⊥
+some_false x b e f = both_ways b f e
+
+-- and nothing younger is sent from it
+pub sent_newer : (i : Loaded) (row : Row) (t u x : ℕ) (newer h : List Done) → IsRow row → AreTimed row (newer ++ h) → AreIssuedBy u (newer ++ h) → u ≡ t + 1 → ((n : Done) (between : List Done) → is_vacant t x (between ++ h) ≡ true → ⊥) → sent_at i u (newer ++ h) x ≡ sent_at i u h x
+sent_newer i row t u x [] h good timed issued e held = refl
+sent_newer i row t u x (n ∷ newer) h good timed issued e held = elim (cases_Bool (is_number (place_of n) x)) [
+  | inl at ↦ absurd (held n newer (vacant row n (newer ++ h) t x good timed (let l : n.at.issue ≤ u = issued.0 in omega arith) at))
+  | inr at ↦ rw at (sent_newer i row t u x newer h good timed.1 issued.1 e held)
+]
+
+-- what a broadcast makes of an operand that waits for w
+heard_one : (v u t : ℕ) (tag : Tag) (w : ℕ) (sent : ℕ → Option ℕ) (b : Bool) → sent (place_of_tag tag) ≡ (if b then Some v else None) → heard sent (Waits tag) ≡ field_from v (if b then None else Some tag)
+heard_one v u t tag w sent true e = rw e refl
+heard_one v u t tag w sent false e = rw e refl
+
+pub unit_later : (pool : Option PoolId) (issue start : ℕ) (P : UnitId → ℕ → Bool) → ((u : UnitId) (x : ℕ) → P u x ≡ true → issue < x) → is_some pool ≡ true → MatchOption (unit_at pool) (start ≡ issue) (λ u. IsLeast (P u) start) → issue < start
+unit_later None issue start P later some timed = absurd (cc)
+unit_later (Some pool) issue start P later some timed = later _ start timed.0
+
+pool_cases : (pool : Option PoolId) → (pool ≡ None) ⊎ (is_some pool ≡ true)
+pool_cases None = inl refl
+pool_cases (Some p) = inr refl
+
+-- what writes a register ends after its issue
+pub dest_later : (row : Row) (d : Done) (older : List Done) → IsRow row → AreTimed row (d ∷ older) → is_some (step_dest d.step) ≡ true → d.at.issue < d.at.end
+dest_later row d older good timed dest = elim (pool_cases (step_pool d.step)) [
+  | inl e ↦
+      let z : step_dest d.step ≡ None = dest_needs_pool d.step e in
+      let f : is_some {T = ℕ} None ≡ true = rw z at dest in
+      absurd (cc)
+  | inr e ↦
+      let r = reach row d older good timed in
+      let l : d.at.issue < d.at.start = unit_later (step_pool d.step) d.at.issue d.at.start (λ u. can_start row older d.step u d.at.issue (cycle_of d.at.address)) (can_start_later row d older) e timed.0.start in
+      let k : d.at.start ≤ d.at.end = r.start in
+      omega arith
+]
+
+-- the youngest writer of a register, if any
+pub data Writer (i : Loaded) (r : ℕ) (h : List Done) : Type 0 where
+  nobody : ((t : ℕ) → producer t h r ≡ None) → Writer i r h
+  writes : (newer : List Done) (w : Done) (older : List Done) → h ≡ newer ++ (w ∷ older) → is_some (step_dest w.step) ≡ true → ((t : ℕ) → producer t h r ≡ unsent_tag t w)
+      → register_after i (steps_in h) r ≡ result_of w.step (byte_after i (steps_in older)) → Writer i r h
+
+dest_some : (o : Option ℕ) (r : ℕ) → is_number o r ≡ true → is_some o ≡ true
+dest_some None r e = e
+dest_some (Some q) r e = refl
+
+writer_on : (i : Loaded) (r : ℕ) (d : Done) (older : List Done) → is_number (step_dest d.step) r ≡ false → Writer i r older → Writer i r (d ∷ older)
+writer_on i r d older e (nobody none) = nobody (λ t. rw e (none t))
+writer_on i r d older e (writes newer w o split dest from value) = writes (d ∷ newer) w o (ap (λ xs. d ∷ xs) split) dest (λ t. rw e (from t)) (rw e value)
+
+pub writer_is : (i : Loaded) (r : ℕ) (h : List Done) → Writer i r h
+writer_is i r [] = nobody (λ t. refl)
+writer_is i r (d ∷ older) = elim (cases_Bool (is_number (step_dest d.step) r)) [
+  | inl e ↦ writes [] d older refl (dest_some (step_dest d.step) r e) (λ t. rw e refl) (rw e refl)
+  | inr e ↦ writer_on i r d older e (writer_is i r older)
+]
+
+pub not_vacant : (t x : ℕ) (newer : List Done) (w : Done) (older : List Done) → holds_place t x w ≡ true → is_vacant t x (newer ++ (w ∷ older)) ≡ true → ⊥
+not_vacant t x [] w older held free =
+    let z : not (holds_place t x w) ≡ true = (and_parts (not (holds_place t x w)) (is_vacant t x older) free).0 in
+    let f : not true ≡ true = rw held at z in
+    absurd (cc)
+not_vacant t x (n ∷ newer) w older held free = not_vacant t x newer w older held (and_parts (not (holds_place t x n)) (is_vacant t x (newer ++ (w ∷ older))) free).1
+
+pub timed_part : (row : Row) (newer h : List Done) → AreTimed row (newer ++ h) → AreTimed row h
+timed_part row [] h timed = timed
+timed_part row (d ∷ newer) h timed = timed_part row newer h timed.1
+
+pub issued_part : (t : ℕ) (newer h : List Done) → AreIssuedBy t (newer ++ h) → AreIssuedBy t h
+issued_part t [] h issued = issued
+issued_part t (d ∷ newer) h issued = issued_part t newer h issued.1
+
+-- what is sent from the place of w, which holds it
+pub sent_by : (i : Loaded) (row : Row) (t u x : ℕ) (newer : List Done) (w : Done) (older : List Done) → IsRow row → AreTimed row (newer ++ (w ∷ older)) → AreIssuedBy u (newer ++ (w ∷ older)) → u ≡ t + 1 → is_some (step_dest w.step) ≡ true → holds_place t x w ≡ true
+    → sent_at i u (newer ++ (w ∷ older)) x ≡ sends i u w older
+sent_by i row t u x newer w older good timed issued e dest held =
+    let at : is_number (place_of w) x ≡ true = (and_parts (is_number (place_of w) x) (nat_lt t w.at.end) held).0 in
+    let l : w.at.issue ≤ u = (issued_part u newer (w ∷ older) issued).0 in
+    sent_newer i row t u x newer (w ∷ older) good timed issued e (λ n between free. not_vacant t x between w older held free)
+    ∙ sent_here i row t u x w older good (timed_part row newer (w ∷ older) timed) l e dest at
+
+waits_of : (v : ℕ) (w : Done) (t : ℕ) (tag : Tag) → tag_of w ≡ Some tag → t < w.at.end → field_from v (unsent_tag t w) ≡ Waits tag
+waits_of v w t tag e l = rw (lt-ltb t w.at.end l, e) refl
+
+value_of : (v : ℕ) (w : Done) (t : ℕ) → w.at.end ≤ t → field_from v (unsent_tag t w) ≡ Value v
+value_of v w t l = rw (le-ltb t w.at.end l) refl
+
+place_is : (w : Done) (tag : Tag) (t : ℕ) → tag_of w ≡ Some tag → t < w.at.end → holds_place t (place_of_tag tag) w ≡ true
+place_is w tag t e l = rw (e, lt-ltb t w.at.end l, eq-eqb (place_of_tag tag) (place_of_tag tag) refl) refl
+
+heard_from : (i : Loaded) (row : Row) (t u v : ℕ) (newer : List Done) (w : Done) (older : List Done) → IsRow row → AreTimed row (newer ++ (w ∷ older)) → AreIssuedBy u (newer ++ (w ∷ older)) → u ≡ t + 1 → is_some (step_dest w.step) ≡ true → v ≡ result_of w.step (byte_after i (steps_in older))
+    → heard (sent_at i u (newer ++ (w ∷ older))) (field_from v (unsent_tag t w)) ≡ field_from v (unsent_tag u w)
+heard_from i row t u v newer w older good timed issued e dest value = elim (cases_Bool (nat_lt t w.at.end)) [
+  | inr l ↦
+      let k : w.at.end ≤ t = ltb-false _ _ l in
+      rw (value_of v w t k, value_of v w u (omega arith)) refl
+  | inl l ↦
+      let k : t < w.at.end = ltb-true _ _ l in
+      let late : w.at.issue < w.at.end = dest_later row w older good (timed_part row newer (w ∷ older) timed) dest in
+      let tag = tag_from (tag_of w) (place_there row w older (timed_part row newer (w ∷ older) timed).0 late) in
+      let sent : sent_at i u (newer ++ (w ∷ older)) (place_of_tag tag.0) ≡ sends i u w older = sent_by i row t u (place_of_tag tag.0) newer w older good timed issued e dest (place_is w tag.0 t tag.1 k) in
+      elim (cases_Bool (w.at.end == u)) [
+        | inl m ↦
+            let n : w.at.end ≡ u = eqb-true _ _ m in
+            let f : sends i u w older ≡ Some (result_of w.step (byte_after i (steps_in older))) = rw m refl in
+            rw (waits_of v w t tag.0 tag.1 k, value_of v w u (omega arith)) (rw (sent, f, value) refl)
+        | inr m ↦
+            let n : w.at.end ≡ u → ⊥ = eqb-false _ _ m in
+            let f : sends i u w older ≡ None = rw m refl in
+            rw (waits_of v w t tag.0 tag.1 k, waits_of v w u tag.0 tag.1 (omega arith)) (rw (sent, f) refl)
+      ]
+]
+
+heard_by : (i : Loaded) (row : Row) (t u : ℕ) (newer older : List Done) (o : Operand) → IsRow row → AreTimed row (newer ++ older) → AreIssuedBy u (newer ++ older) → u ≡ t + 1 → o.value ≡ register_after i (steps_in older) o.register → Writer i o.register older
+    → heard (sent_at i u (newer ++ older)) (field_of t older (Some o)) ≡ field_of u older (Some o)
+heard_by i row t u newer older o good timed issued e value (nobody none) = rw (none t, none u) refl
+heard_by i row t u newer older o good timed issued e value (writes between w behind split dest from result) =
+    let whole : newer ++ older ≡ (newer ++ between) ++ (w ∷ behind) = ap (λ xs. newer ++ xs) split ∙ sym (append_assoc newer between (w ∷ behind)) in
+    let one : heard (sent_at i u ((newer ++ between) ++ (w ∷ behind))) (field_from o.value (unsent_tag t w)) ≡ field_from o.value (unsent_tag u w)
+    = heard_from i row t u o.value (newer ++ between) w behind good (rw (← whole) timed) (rw (← whole) issued) e dest (value ∙ result) in
+    rw (from t, from u, whole) one
+
+-- the broadcasts of a cycle make each operand what it is after that cycle
+pub heard_is : (i : Loaded) (row : Row) (t u : ℕ) (newer older : List Done) (o : Operand) → IsRow row → AreTimed row (newer ++ older) → AreIssuedBy u (newer ++ older) → u ≡ t + 1 → o.value ≡ register_after i (steps_in older) o.register
+    → heard (sent_at i u (newer ++ older)) (field_of t older (Some o)) ≡ field_of u older (Some o)
+heard_is i row t u newer older o good timed issued e value = heard_by i row t u newer older o good timed issued e value (writer_is i o.register older)

@@ -1,0 +1,217 @@
+-- The first snapshot, the end and the tables.
+use Rattle.std.proofs.Common.{ℕ, ◌+◌, ◌<◌, ◌≤◌, ◌≡◌, ◌∙◌, false, arith, refl, List, [], ◌∷◌, ◌++◌, Option, Some, None, ap, sym, inl, inr, length, replicate, slice_index_or, subst}
+use Rattle.std.specs.Prelude.{slice_index, map}
+use Rattle.std.specs.List.{filter_map, range_with_len}
+use Rattle.std.proofs.lemmas.Bool.{cases_Bool, cases_order, lt-ltb, le-ltb, lt-leb, le-leb}
+use Rattle.std.proofs.lemmas.List.{get_or-replicate}
+use Rattle.tomex_image.specs.Image.{Loaded, IsLoaded}
+use Rattle.tomex_config.specs.Row.{Row, IsRow}
+use Rattle.tomex_rvexec.specs.declared.outcome.EndKind.{EndKind}
+use Rattle.tomex_rvexec.specs.declared.step.Step.{Step}
+use Rattle.tomex_rvexec.specs.History.{step_after}
+use Rattle.tomex_rvexec.specs.Machine.{State}
+use Rattle.tomex_rvexec.specs.Memory.{Bytes}
+use Rattle.tomex_rvexec.specs.Run.{RunEnds, EndsWithin, start_of}
+use Rattle.tomex_rvexec.specs.Steps.{is_number, step_dest}
+use Rattle.tomex_timing.specs.declared.tables.Busy.{Busy}
+use Rattle.tomex_timing.specs.declared.tables.Tag.{Tag}
+use Rattle.tomex_timing.specs.declared.times.Done.{Done}
+use Rattle.tomex_timing.specs.History.{greatest_end}
+use Rattle.tomex_timing.specs.Tables.{Tables, tables_of, shown, qi_of, all_tags}
+use Rattle.tomex_cycle.specs.declared.fetch.Fetch.{Fetch}
+use Rattle.tomex_cycle.specs.declared.fetch.Fetch.TheVariants.{At, Stopped}
+use Rattle.tomex_cycle.specs.declared.progress.Progress.{Progress}
+use Rattle.tomex_cycle.specs.declared.progress.Progress.TheVariants.{Running}
+use Rattle.tomex_cycle.specs.Run.{run_to, run_of, AreIssuedBy, IsHistory}
+use Rattle.tomex_cycle.specs.Views.{clocks, ShowsRegisters, ShowsStations}
+use Rattle.tomex_cycle.specs.Phases.{IsIssuedTo, IsSnapshot, IsYetToIssue}
+use Rattle.tomex_cycle.specs.Seen.{Seen}
+use Rattle.tomex_rvexec.specs.Flow.{IsState, overwrites}
+use Rattle.tomex_rvexec.specs.History.{Follows, Leaves, byte_after, register_after, history as first_steps}
+use Rattle.tomex_rvexec.specs.Steps.{is_store}
+use Rattle.tomex_rvexec.proofs.FlowEnds.{step_ends_it, step_follows, step_joins, end_is}
+use Rattle.tomex_rvexec.proofs.FlowHistories.{same_registers, same_memory}
+use Rattle.tomex_rvexec.proofs.FlowRuns.{run_state}
+use Rattle.tomex_rvexec.proofs.FlowStates.{end_writes_no_register, end_writes_no_byte}
+use Rattle.tomex_timing.specs.Tables.{producer}
+use Rattle.tomex_timing.proofs.Bound.{timed_by}
+use Rattle.tomex_timing.proofs.Settled.{AllBy}
+use Rattle.tomex_cycle.specs.Run.{steps_in, byte_at}
+use Rattle.tomex_cycle.specs.Sound.{IsSound, IsAfter}
+use Rattle.tomex_cycle.proofs.Runs.{run_timed, steps_are, run_none, run_whole, run_history, rest_to, AreLater}
+use Rattle.tomex_cycle.proofs.Totals.{more_left, stops}
+use Rattle.tomex_tags.specs.Pools.{Pools}
+use Rattle.tomex_tags.specs.declared.register_status.RegStatus.{RegStatus}
+use Rattle.tomex_tags.specs.declared.station.Station.{Station}
+
+none_issued : (row : Row) (i : Loaded) → IsYetToIssue i row 0 0
+none_issued row i x e s l =
+    let z : s ≡ 0 = omega arith in
+    rw z refl
+
+none_at : {A : Type 0} (n : ℕ) (xs : List (Option A)) → xs ≡ replicate n None → (x : ℕ) → x < n → slice_index_or xs x None ≡ None
+none_at n xs e x l = rw (e, get_or-replicate) refl
+
+shows_none : (i : Loaded) (st : Pools) → length st.slots ≡ 96 → ((x : ℕ) → x < 96 → slice_index_or st.slots x None ≡ None) → st.ages ≡ replicate 128 0 → ShowsStations i (clocks 0 0 0) [] st
+shows_none i st places slots ages = record { places = places; slots = slots; ages_count = rw ages refl; ages = λ x l. rw ages (get_or-replicate 128 x 0 0 (omega arith)) }
+
+slots_count : length (replicate {A = Option Station} 96 None) ≡ 96
+slots_count = refl
+
+tags_count : length (replicate {A = Option Tag} 32 None) ≡ 32
+tags_count = refl
+
+start_count : (i : Loaded) → length (start_of i).regs ≡ 32
+start_count i = refl
+
+-- before the first cycle
+pub start_shown : (i : Loaded) (row : Row) (n : ℕ) (st : Pools) (rg : RegStatus) (ft : Fetch) (m : Bytes)
+    → st.slots ≡ replicate 96 None → st.ages ≡ replicate 128 0 → rg.tags ≡ replicate 32 None → rg.values ≡ (start_of i).regs
+    → ft ≡ At i.entry → m.base ≡ i.window.base → m.bytes ≡ i.memory → length i.memory ≡ i.window.size → IsSnapshot i row n 0 0 st rg ft m
+start_shown i row n st rg ft m slots ages tags values from base bytes size =
+    let e : run_to row i 0 ≡ [] = run_none row i in
+    record {
+      issue = record {
+        few = omega arith;
+        slots = rw e (shows_none i st (ap length slots ∙ slots_count) (none_at 96 st.slots slots) ages);
+        status = rw e (record { count = ap length values ∙ start_count i; status = ap length tags ∙ tags_count; tags = none_at 32 rg.tags tags; values = λ r l q. ap (λ xs. slice_index xs r) values });
+        from = rw e from;
+        issued = rw e tt;
+        next = λ l. none_issued row i;
+      };
+      bytes = rw e (record { base = base; size = ap length bytes ∙ size; bytes = λ a low high. rw (base, bytes) refl });
+    }
+
+pub sound_start : (i : Loaded) (row : Row) (count : ℕ) (st : Pools) (rg : RegStatus) (ft : Fetch) (m : Bytes) → IsRow row → IsLoaded i.window i.memory i.entry
+    → ((r : Row) (n : ℕ) → IsSnapshot i r n 0 count st rg ft m) → count ≡ 0 → IsSound i row 0 Running count st rg ft m
+sound_start i row count st rg ft m good loaded seen none = record {
+  lawful = good;
+  loaded = loaded;
+  low = omega arith;
+  after = λ n s kind l ends.
+      let k : 0 < greatest_end (run_to row i (n + 1)) = more_left row i n count 0 s kind good ends (omega arith) (seen row n).issue.next in
+      record { high = omega arith; answer = rw (lt-ltb 0 (greatest_end (run_to row i (n + 1))) k) refl; snapshot = seen row n };
+}
+
+-- what issues later isn't in the tables
+shown_later : (t : ℕ) (newer h : List Done) (tag : Tag) → AreLater t newer → shown t (newer ++ h) tag ≡ shown t h tag
+shown_later t [] h tag later = refl
+shown_later t (d ∷ newer) h tag later = rw (lt-leb d.at.issue t later.0) (shown_later t newer h tag later.1)
+
+qi_later : (t : ℕ) (newer h : List Done) (r : ℕ) → AreLater t newer → qi_of t (newer ++ h) r ≡ qi_of t h r
+qi_later t [] h r later = refl
+qi_later t (d ∷ newer) h r later = rw (lt-leb d.at.issue t later.0) (qi_later t newer h r later.1)
+
+filter_same : {A B : Type 0} (f g : A → Option B) → ((x : A) → f x ≡ g x) → (xs : List A) → filter_map f xs ≡ filter_map g xs
+filter_same f g same [] = refl
+filter_same f g same (x ∷ xs) = rw (same x, filter_same f g same xs) refl
+
+map_same : {A B : Type 0} (f g : A → B) → ((x : A) → f x ≡ g x) → (xs : List A) → map f xs ≡ map g xs
+map_same f g same [] = refl
+map_same f g same (x ∷ xs) = rw (same x, map_same f g same xs) refl
+
+tables_later : (t : ℕ) (newer h : List Done) → AreLater t newer → tables_of t (newer ++ h) ≡ tables_of t h
+tables_later t newer h later =
+    let a : filter_map (shown t (newer ++ h)) all_tags ≡ filter_map (shown t h) all_tags = filter_same (shown t (newer ++ h)) (shown t h) (λ tag. shown_later t newer h tag later) all_tags in
+    let b : map (qi_of t (newer ++ h)) (range_with_len 0 32) ≡ map (qi_of t h) (range_with_len 0 32) = map_same (qi_of t (newer ++ h)) (qi_of t h) (λ r. qi_later t newer h r later) (range_with_len 0 32) in
+    let f : List Busy → Tables = λ x. record { cycle = t; busy = x; registers = map (qi_of t (newer ++ h)) (range_with_len 0 32) } in
+    let g : List (Option Tag) → Tables = λ x. record { cycle = t; busy = filter_map (shown t h) all_tags; registers = x } in
+    ap f a ∙ ap g b
+
+-- the tables of the whole run are those of what has issued
+pub tables_whole : (row : Row) (i : Loaded) (n count t : ℕ) (s : State) (kind : EndKind) → IsRow row → RunEnds i n s kind → n < 262144 → count ≤ n + 1 → (count ≤ n → IsYetToIssue i row count t) → tables_of t (run_of row i) ≡ tables_of t (run_to row i count)
+tables_whole row i n count t s kind good ends l few next =
+    let rest = rest_to row i n count (n + 1) t s kind good ends next few (omega arith) in
+    let e : run_of row i ≡ rest.0 ++ run_to row i count = run_whole row i n s kind ends l ∙ rest.1.same in
+    ap (tables_of t) e ∙ tables_later t rest.0 (run_to row i count) rest.1.later
+
+-- the machine's tables, pointwise
+pub whole_tables : (row : Row) (i : Loaded) (cycle : ℕ) (last : Progress) (count : ℕ) (st : Pools) (rg : RegStatus) (ft : Fetch) (m : Bytes) (tables : Tables)
+    → ((i : Loaded) (h : List Done) (row : Row) → IsHistory i row h → AreIssuedBy cycle h → ShowsStations i (clocks cycle cycle cycle) h st → ShowsRegisters i cycle h rg → tables ≡ tables_of cycle h)
+    → IsSound i row cycle last count st rg ft m → EndsWithin i 262144 → tables ≡ tables_of cycle (run_of row i)
+whole_tables row i cycle last count st rg ft m tables made sound ends =
+    let after : IsAfter i row ends.0 cycle last count st rg ft m = sound.after ends.0 ends.1 ends.2 ends.3 ends.4 in
+    let shot : IsIssuedTo i row ends.0 cycle (clocks cycle cycle cycle) count st rg ft = after.snapshot.issue in
+    let h : IsHistory i row (run_to row i count) = run_history row i ends.0 count ends.1 ends.2 sound.lawful sound.loaded ends.4 shot.few in
+    made i (run_to row i count) row h shot.issued shot.slots shot.status ∙ sym (tables_whole row i ends.0 count cycle ends.1 ends.2 sound.lawful ends.4 ends.3 shot.few shot.next)
+
+pub tables_seen : (row : Row) (i : Loaded) (cycle : ℕ) (last : Progress) (seen : Seen) (count : ℕ) (st : Pools) (rg : RegStatus) (ft : Fetch) (m : Bytes) (tables : Tables)
+    → ◌≡◌ {A = Seen} (record { image = i; row = row; cycle = cycle; last = last }) seen
+    → ((i : Loaded) (h : List Done) (row : Row) → IsHistory i row h → AreIssuedBy cycle h → ShowsStations i (clocks cycle cycle cycle) h st → ShowsRegisters i cycle h rg → tables ≡ tables_of cycle h)
+    → IsSound i row cycle last count st rg ft m → EndsWithin seen.image 262144 → tables ≡ tables_of seen.cycle (run_of seen.row seen.image)
+tables_seen row i cycle last seen count st rg ft m tables e made sound =
+    let P : Seen → Type 0 = λ x. EndsWithin x.image 262144 → tables ≡ tables_of x.cycle (run_of x.row x.image) in
+    subst P e (λ ends. whole_tables row i cycle last count st rg ft m tables made sound ends)
+
+no_writer : (t : ℕ) (h : List Done) (r : ℕ) → greatest_end h ≤ t → producer t h r ≡ None
+no_writer t [] r l = refl
+no_writer t (d ∷ older) r l = elim (cases_Bool (is_number (step_dest d.step) r)) [
+  | inl e ↦ rw (e, le-ltb t d.at.end (omega arith)) refl
+  | inr e ↦ rw e (no_writer t older r (omega arith))
+]
+
+end_values : (i : Loaded) (x : Step) (steps : List Step) (r : ℕ) → step_dest x ≡ None → register_after i (x ∷ steps) r ≡ register_after i steps r
+end_values i x steps r e = rw e refl
+
+bytes_ended : (i : Loaded) (t g a : ℕ) (h : List Done) → AllBy g h → g ≤ t → byte_at i t h a ≡ byte_after i (steps_in h) a
+bytes_ended i t g a [] by l = refl
+bytes_ended i t g a (d ∷ older) by l =
+    let k : d.at.start ≤ g = by.0.start in
+    elim (cases_Bool (overwrites d.step a)) [
+      | inl e ↦ rw (e, le-leb d.at.start t (omega arith)) refl
+      | inr e ↦ rw e (bytes_ended i t g a older by.1 l)
+    ]
+
+bytes_kept : (i : Loaded) (x : Step) (steps : List Step) (a : ℕ) → is_store x ≡ false → byte_after i (x ∷ steps) a ≡ byte_after i steps a
+bytes_kept i x steps a e = rw e refl
+
+-- what a run that is over leaves
+pub record IsOver (i : Loaded) (n : ℕ) (s : State) (kind : EndKind) (count : ℕ) (rg : RegStatus) (ft : Fetch) (m : Bytes) : Type 0 where
+  pub steps : count ≡ n + 1
+  pub stopped : ft ≡ Stopped kind s.pc
+  pub regs : rg.values ≡ s.regs
+  pub base : m.base ≡ s.image.window.base
+  pub bytes : m.bytes ≡ s.memory
+
+all_issued : (row : Row) (i : Loaded) (n t count : ℕ) (s : State) (kind : EndKind) (st : Pools) (rg : RegStatus) (ft : Fetch) → IsRow row → RunEnds i n s kind → IsIssuedTo i row n t (clocks t t t) count st rg ft → greatest_end (run_to row i (n + 1)) ≤ t → count ≡ n + 1
+all_issued row i n t count s kind st rg ft good ends shot l = elim (cases_order count (n + 1)) [
+  | inl e ↦ e
+  | inr (inl less) ↦ let k : t < greatest_end (run_to row i (n + 1)) = more_left row i n count t s kind good ends (omega arith) shot.next in absurd (omega arith)
+  | inr (inr more) ↦ let k : count ≤ n + 1 = shot.few in absurd (omega arith)
+]
+
+steps_last : (row : Row) (i : Loaded) (n : ℕ) (x : Step) → step_after i n ≡ Some x → steps_in (run_to row i (n + 1)) ≡ x ∷ first_steps i n
+steps_last row i n x e = steps_are row i (n + 1) ∙ step_joins i n x e
+
+over_at : (row : Row) (i : Loaded) (n t : ℕ) (s : State) (kind : EndKind) (st : Pools) (rg : RegStatus) (ft : Fetch) (m : Bytes) → IsRow row → IsLoaded i.window i.memory i.entry → RunEnds i n s kind → IsSnapshot i row n t (n + 1) st rg ft m → greatest_end (run_to row i (n + 1)) ≤ t → IsOver i n s kind (n + 1) rg ft m
+over_at row i n t s kind st rg ft m good loaded ends shot l =
+    let h : List Done = run_to row i (n + 1) in
+    let last = stops row i n t s kind ends in
+    let kind_is = step_ends_it i n s kind last.0 ends last.1 in
+    let steps : steps_in (run_to row i (n + 1)) ≡ last.0 ∷ first_steps i n = steps_last row i n last.0 last.1 in
+    let leaves : Leaves i (first_steps i n) s = end_is i n s kind loaded ends in
+    let state : IsState s = run_state i n s loaded ends.leads in
+    let follows : Follows i (first_steps i n) last.0 = step_follows i n n s kind last.0 loaded ends (omega arith) last.1 in
+    let pc : last.0.pc ≡ s.pc = follows.pc ∙ sym leaves.pc in
+    let no_dest : step_dest last.0 ≡ None = end_writes_no_register last.0 kind kind_is in
+    let no_store : is_store last.0 ≡ false = end_writes_no_byte last.0 kind kind_is in
+    let by = timed_by row h good (run_timed row i (n + 1) good) in
+    let fetch : ft ≡ Stopped kind last.0.pc = shot.issue.from ∙ last.2 in
+    let size : length m.bytes ≡ i.window.size = shot.bytes.size in
+    let base : m.base ≡ i.window.base = shot.bytes.base in
+    record {
+      steps = refl;
+      stopped = fetch ∙ ap (λ (x : ℕ). Stopped kind x) pc;
+      regs = same_registers i (first_steps i n) s rg.values leaves state shot.issue.status.count (λ r k. shot.issue.status.values r k (no_writer t h r l) ∙ (ap (λ xs. register_after i xs r) steps ∙ end_values i last.0 (first_steps i n) r no_dest));
+      base = base ∙ sym (ap (λ x. x.window.base) leaves.image);
+      bytes = same_memory i (first_steps i n) s m.bytes leaves state size (λ a low high. rw base at (shot.bytes.bytes a low high) ∙ (bytes_ended i t (greatest_end h) a h by l ∙ (ap (λ xs. byte_after i xs a) steps ∙ bytes_kept i last.0 (first_steps i n) a no_store)));
+    }
+
+pub is_over_at : (row : Row) (i : Loaded) (n t count : ℕ) (s : State) (kind : EndKind) (st : Pools) (rg : RegStatus) (ft : Fetch) (m : Bytes) → IsRow row → IsLoaded i.window i.memory i.entry → RunEnds i n s kind → IsSnapshot i row n t count st rg ft m → greatest_end (run_to row i (n + 1)) ≤ t → IsOver i n s kind count rg ft m
+is_over_at row i n t count s kind st rg ft m good loaded ends shot l =
+    let e : count ≡ n + 1 = all_issued row i n t count s kind st rg ft good ends shot.issue l in
+    let P : ℕ → Type 0 = λ x. IsSnapshot i row n t x st rg ft m → IsOver i n s kind x rg ft m in
+    subst P (sym e) (λ seen. over_at row i n t s kind st rg ft m good loaded ends seen l) shot
+
+pub stopped_same : (kind k : EndKind) (pc p : ℕ) (ft : Fetch) → ft ≡ Stopped kind pc → ft ≡ Stopped k p → (k ≡ kind) × (p ≡ pc)
+stopped_same kind k pc p ft e f = (cc, cc)

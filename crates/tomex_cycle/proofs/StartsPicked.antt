@@ -1,0 +1,458 @@
+-- The pass over the order picks the stations that the recurrence starts.
+use Rattle.std.proofs.Common.{length, slice_index, slice_index_or, append_assoc, ℕ, ◌+◌, ◌<◌, ◌≤◌, ◌≡◌, ◌∙◌, Bool, true, false, arith, refl, List, [], ◌∷◌, ◌++◌, Option, Some, None, ap, sym, inl, inr}
+use Rattle.std.specs.Prelude.{nat_lt, nat_le, if◌then◌else◌, ◌&&◌, ◌||◌, ◌==◌, not, is_some, is_none, count_by, MatchOption}
+use Rattle.std.proofs.lemmas.Bool.{MatchBool-at_false, cases_Bool, ltb-true, ltb-false, lt-ltb, le-ltb, leb-true, leb-false, le-leb, and_parts, and_right, or_right, eq-eqb, eqb-true, ne_eqb}
+use Rattle.tomex_image.specs.Image.{Loaded}
+use Rattle.tomex_config.specs.Row.{Row, IsRow, option_of}
+use Rattle.tomex_rvdec.specs.declared.pool.UnitId.{UnitId}
+use Rattle.tomex_rvdec.specs.declared.pool.UnitId.TheVariants as units
+use Rattle.tomex_rvdec.specs.Parts.{place_of_unit}
+use Rattle.tomex_rvexec.specs.declared.step.ByteRange.{ByteRange}
+use Rattle.tomex_rvexec.specs.declared.step.Step.{Step}
+use Rattle.tomex_rvexec.specs.Steps.{address_of, bytes_of, is_number, is_store, j_of, k_of, step_pool, step_unit}
+use Rattle.tomex_rvexec.proofs.FlowFields.{bytes_of_memory, unit_with_pool}
+use Rattle.tomex_timing.specs.declared.tables.Tag.{Tag}
+use Rattle.tomex_timing.specs.declared.times.Done.{Done}
+use Rattle.tomex_timing.specs.History.{cycle_of, is_memory, is_of, last_address, source_end}
+use Rattle.tomex_timing.specs.Recurrence.{AreTimed, IsTimed, IsLeast, are_conflicts_finished, can_address, can_start, conflicts, has_unit, shares_byte}
+use Rattle.tomex_timing.specs.Tables.{field_of, field_from, producer, tag_at, tag_of}
+use Rattle.tomex_cycle.specs.Run.{AreIssuedBy}
+use Rattle.tomex_cycle.specs.Starts.{wanted, is_waiting, kind_if, is_among, kind_of, IsStarting, AreReady}
+use Rattle.tomex_cycle.specs.Views.{ShowsStations, clocks, holds_place, order_of, place_of, station_at, station_of}
+use Rattle.tomex_cycle.proofs.Addresses.{address_is, address_rises, field_parts, order_here, number_is_some}
+use Rattle.tomex_cycle.proofs.Totals.{issued_more}
+use Rattle.tomex_cycle.proofs.Places.{place_low, order-append}
+use Rattle.tomex_cycle.proofs.Fields.{there_test, tag_there, timed_part, issued_part}
+use Rattle.tomex_cycle.proofs.Places.{low, station_here, is_vacant, vacant, least_test}
+use Rattle.tomex_cycle.proofs.Totals.{reach}
+use Rattle.tomex_membuf.specs.Order.{is_before, is_clear, lets}
+use Rattle.tomex_tags.specs.Contents.{bytes_in, step_in}
+use Rattle.tomex_tags.specs.Operands.{is_there, value_in}
+use Rattle.tomex_tags.specs.Places.{place_at, place_of_tag}
+use Rattle.tomex_tags.specs.Pools.{Pools, AreBusy}
+use Rattle.tomex_tags.specs.declared.station.Station.{Station}
+use Rattle.tomex_bus.specs.Picks.{IsByAge}
+use Rattle.tomex_cycle.proofs.Serving.{AreAlone, goes_at, AreServed, Serves, picked_goes}
+use Rattle.tomex_bus.specs.Sets.{has}
+use Rattle.tomex_cycle.proofs.Orders.{order_is}
+use Rattle.tomex_rvdec.specs.declared.pool.PoolId.{PoolId}
+use Rattle.tomex_timing.specs.Station.{is_free}
+
+and_swap : (a b c : Bool) → (a && (b && c)) ≡ ((a && b) && c)
+and_swap true b c = refl
+and_swap false b c = refl
+
+and_turn : (a b : Bool) → (a && b) ≡ (b && a)
+and_turn true true = refl
+and_turn true false = refl
+and_turn false true = refl
+and_turn false false = refl
+
+clear-append : (slots : List (Option Station)) (xs : List ℕ) (x : ℕ) (s : Station) (next : ℕ) → is_clear slots (xs ++ (x ∷ [])) s next ≡ (lets (slice_index_or slots x None) s next && is_clear slots xs s next)
+clear-append slots [] x s next = refl
+clear-append slots (y ∷ xs) x s next =
+    let before = clear-append slots xs x s next in
+    ap (λ b. lets (slice_index_or slots y None) s next && b) before
+    ∙ (and_swap (lets (slice_index_or slots y None) s next) (lets (slice_index_or slots x None) s next) (is_clear slots xs s next)
+    ∙ (ap (λ b. b && is_clear slots xs s next) (and_turn (lets (slice_index_or slots y None) s next) (lets (slice_index_or slots x None) s next))
+    ∙ sym (and_swap (lets (slice_index_or slots x None) s next) (lets (slice_index_or slots y None) s next) (is_clear slots xs s next))))
+
+-- Readiness.
+
+finish_is : (start t finish : ℕ) → is_none (if nat_le start t then Some finish else None) ≡ nat_lt t start
+finish_is start t finish = elim (cases_Bool (nat_le start t)) [
+  | inl e ↦ let l : start ≤ t = leb-true _ _ e in rw (e, le-ltb t start l) refl
+  | inr e ↦ let l : t < start = leb-false _ _ e in rw (e, lt-ltb t start l) refl
+]
+
+addressed_is : (memory : Bool) (a t u address : ℕ) → u ≡ t + 1 → (memory ≡ false → a ≡ 0) → (not memory || is_some (if memory && nat_le a t then Some address else None)) ≡ nat_lt a u
+addressed_is false a t u address e none = let z : a ≡ 0 = none refl in rw (lt-ltb a u (omega arith)) refl
+addressed_is true a t u address e none = elim (cases_Bool (nat_le a t)) [
+  | inl l ↦ let k : a ≤ t = leb-true _ _ l in rw (l, lt-ltb a u (omega arith)) refl
+  | inr l ↦ let k : t < a = leb-false _ _ l in rw (l, le-ltb a u (omega arith)) refl
+]
+
+no_address : (row : Row) (d : Done) (older : List Done) → IsTimed row older d.step d.at → is_memory d.step ≡ false → cycle_of d.at.address ≡ 0
+no_address row d older timed e =
+    let z : d.at.address ≡ None = MatchBool-at_false (IsLeast (can_address older d.step d.at.issue) (cycle_of d.at.address)) _ e timed.address in
+    rw z refl
+
+regroup : (a j k m n : Bool) → m ≡ n → ((a && (j && k)) && m) ≡ (((a && j) && k) && n)
+regroup true j k m n e = ap (λ b. (j && k) && b) e
+regroup false j k m n e = refl
+
+-- the operands are there, the address is, and it hasn't started
+pub ready_is : (i : Loaded) (row : Row) (t u : ℕ) (d : Done) (older : List Done) → AreTimed row (d ∷ older) → AreIssuedBy t (d ∷ older) → u ≡ t + 1
+    → is_waiting (station_of i (clocks t t t) d older) ≡ (nat_lt t d.at.start && nat_lt (source_end older (j_of d.step)) u && nat_lt (source_end older (k_of d.step)) u && nat_lt (cycle_of d.at.address) u)
+ready_is i row t u d older timed issued e =
+    let j : is_there (field_of t older (j_of d.step)) ≡ nat_lt (source_end older (j_of d.step)) (t + 1) = there_test row t older (j_of d.step) timed.1 issued.1 in
+    let k : is_there (field_of t older (k_of d.step)) ≡ nat_lt (source_end older (k_of d.step)) (t + 1) = there_test row t older (k_of d.step) timed.1 issued.1 in
+    let a = addressed_is (is_memory d.step) (cycle_of d.at.address) t u (address_of d.step) e (no_address row d older timed.0) in
+    rw (e, j, k, finish_is d.at.start t d.at.finish) (regroup (nat_lt t d.at.start) (nat_lt (source_end older (j_of d.step)) (t + 1)) (nat_lt (source_end older (k_of d.step)) (t + 1)) _ _ (rw e at a))
+
+-- Older accesses.
+
+pub there_value : (v : ℕ) (p : Option Tag) → is_there (field_from v p) ≡ true → value_in (field_from v p) ≡ v
+there_value v None e = refl
+there_value v (Some tag) e = absurd (cc)
+
+-- the base of an address that is computed is there
+base_there : (row : Row) (t : ℕ) (d : Done) (older : List Done) → AreTimed row (d ∷ older) → AreIssuedBy t (d ∷ older) → is_memory d.step ≡ true → cycle_of d.at.address ≤ t → value_in (field_of t older (j_of d.step)) ≡ d.step.vj
+base_there row t d older timed issued m l =
+    let least = address_is row d older timed.0 m in
+    let two = and_parts (nat_lt d.at.issue (cycle_of d.at.address) && nat_lt (source_end older (j_of d.step)) (cycle_of d.at.address)) (nat_lt (last_address older) (cycle_of d.at.address)) least.0 in
+    let source : source_end older (j_of d.step) < cycle_of d.at.address = ltb-true _ _ (and_parts (nat_lt d.at.issue (cycle_of d.at.address)) (nat_lt (source_end older (j_of d.step)) (cycle_of d.at.address)) two.0).1 in
+    let f : field_of t older (j_of d.step) ≡ field_from d.step.vj (producer t older d.step.instr.rs1) = field_parts t d older m in
+    let there : is_there (field_of t older (j_of d.step)) ≡ true = there_test row t older (j_of d.step) timed.1 issued.1 ∙ lt-ltb (source_end older (j_of d.step)) (t + 1) (omega arith) in
+    rw f (there_value d.step.vj (producer t older d.step.instr.rs1) (rw f at there))
+
+none_of : {A : Type 0} (o : Option A) → is_some o ≡ false → o ≡ None
+none_of None e = refl
+none_of (Some x) e = absurd (cc)
+
+no_bytes : (x : Step) → is_memory x ≡ false → bytes_of x ≡ None
+no_bytes x e = none_of (bytes_of x) (bytes_of_memory x ∙ e)
+
+-- the bytes of a step depend on its instruction and its base
+bytes_same : (x y : Step) → x.instr ≡ y.instr → x.vj ≡ y.vj → bytes_of x ≡ bytes_of y
+bytes_same x y e f = rw (e, f) refl
+
+-- an older access shows its bytes once its address is computed
+bytes_are : (i : Loaded) (row : Row) (t : ℕ) (d : Done) (older : List Done) → AreTimed row (d ∷ older) → AreIssuedBy t (d ∷ older) → (is_memory d.step ≡ true → cycle_of d.at.address ≤ t) → bytes_in (station_of i (clocks t t t) d older) ≡ bytes_of d.step
+bytes_are i row t d older timed issued l = elim (cases_Bool (is_memory d.step)) [
+  | inr m ↦ rw m (sym (no_bytes d.step m))
+  | inl m ↦ rw (m, le-leb (cycle_of d.at.address) t (l m)) (bytes_same (step_in (station_of i (clocks t t t) d older)) d.step refl (base_there row t d older timed issued m (l m)))
+]
+
+share_none : (o : Option ByteRange) → shares_byte o None ≡ false
+share_none None = refl
+share_none (Some b) = refl
+
+before_is : (start finish t u : ℕ) → u ≡ t + 1 → start ≤ finish → is_before (if nat_le start t then Some finish else None) u ≡ nat_lt finish u
+before_is start finish t u e l = elim (cases_Bool (nat_le start t)) [
+  | inl k ↦ rw k refl
+  | inr k ↦ let m : t < start = leb-false _ _ k in rw (k, le-ltb finish u (omega arith)) refl
+]
+
+lets_none : (o : Option Station) (s : Station) (next : ℕ) → bytes_in s ≡ None → lets o s next ≡ true
+lets_none None s next e = refl
+lets_none (Some other) s next e = rw (e, share_none (bytes_in other)) refl
+
+-- no access: nothing to wait for
+clear_none : (slots : List (Option Station)) (xs : List ℕ) (s : Station) (next : ℕ) → bytes_in s ≡ None → is_clear slots xs s next ≡ true
+clear_none slots [] s next e = refl
+clear_none slots (x ∷ xs) s next e = rw (lets_none (slice_index_or slots x None) s next e) (clear_none slots xs s next e)
+
+conflicts_none : (h : List Done) (x : Step) (u : ℕ) → bytes_of x ≡ None → are_conflicts_finished h x u ≡ true
+conflicts_none [] x u e = refl
+conflicts_none (d ∷ older) x u e =
+    let one : (not (conflicts d.step x) || nat_lt d.at.finish u) ≡ true = rw (e, share_none (bytes_of d.step)) refl in
+    rw one (conflicts_none older x u e)
+
+lets_is : (i : Loaded) (row : Row) (t u : ℕ) (d : Done) (older : List Done) (s : Station) (x : Step) → IsRow row → AreTimed row (d ∷ older) → AreIssuedBy t (d ∷ older) → u ≡ t + 1 → (is_memory d.step ≡ true → cycle_of d.at.address ≤ t)
+    → bytes_in s ≡ bytes_of x → is_store (step_in s) ≡ is_store x → lets (Some (station_of i (clocks t t t) d older)) s u ≡ (not (conflicts d.step x) || nat_lt d.at.finish u)
+lets_is i row t u d older s x good timed issued e l bytes store =
+    let order : d.at.start ≤ d.at.finish = (reach row d older good timed).order in
+    rw (bytes_are i row t d older timed issued l, bytes, store, before_is d.at.start d.at.finish t u e order) refl
+
+-- a busy step of a history, in its place
+pub record IsSeen (i : Loaded) (t : ℕ) (st : Pools) (d : Done) (older : List Done) : Type 0 where
+  pub x : ℕ
+  pub place : place_of d ≡ Some x
+  pub small : x < 96
+  pub held : holds_place t x d ≡ true
+  pub slot : slice_index_or st.slots x None ≡ Some (station_of i (clocks t t t) d older)
+  pub order : order_of t (d ∷ older) ≡ order_of t older ++ (x ∷ [])
+
+pub seen : (i : Loaded) (row : Row) (t : ℕ) (st : Pools) (h newer : List Done) (d : Done) (older : List Done) → IsRow row → AreTimed row h → AreIssuedBy t h → ShowsStations i (clocks t t t) h st → h ≡ newer ++ (d ∷ older) → nat_lt t d.at.end ≡ true → IsSeen i t st d older
+seen i row t st h newer d older good timed issued shown e l =
+    let here : AreTimed row (newer ++ (d ∷ older)) = rw e at timed in
+    let by : AreIssuedBy t (newer ++ (d ∷ older)) = rw e at issued in
+    let k : t < d.at.end = ltb-true _ _ l in
+    let part : AreTimed row (d ∷ older) = timed_part row newer (d ∷ older) here in
+    let at : d.at.issue ≤ t = (issued_part t newer (d ∷ older) by).0 in
+    let tag = tag_there row d older t part.0 at k in
+    let place : place_of d ≡ Some (place_of_tag tag.0) = ap place_at tag.1 in
+    let held : holds_place t (place_of_tag tag.0) d ≡ true = rw (place, l, eq-eqb (place_of_tag tag.0) (place_of_tag tag.0) refl) refl in
+    let small : place_of_tag tag.0 < 96 = place_low (step_pool d.step) d.at.station (place_of_tag tag.0) (low row (d ∷ older) good part).0 place in
+    let there : station_at i (clocks t t t) (newer ++ (d ∷ older)) (place_of_tag tag.0) ≡ Some (station_of i (clocks t t t) d older) = station_here i row (clocks t t t) newer d older (place_of_tag tag.0) good here (issued_more t (t + 1) (newer ++ (d ∷ older)) (omega arith) by) held in
+    record {
+      x = place_of_tag tag.0;
+      place = place;
+      small = small;
+      held = held;
+      slot = shown.slots (place_of_tag tag.0) small ∙ (ap (λ xs. station_at i (clocks t t t) xs (place_of_tag tag.0)) e ∙ there);
+      order = order_here t (place_of_tag tag.0) d older place l;
+    }
+
+-- the older accesses that a station with an address waits for are those of the recurrence
+pub clear_is : (i : Loaded) (row : Row) (t u : ℕ) (st : Pools) (h newer part : List Done) (s : Station) (x : Step) → IsRow row → AreTimed row h → AreIssuedBy t h → ShowsStations i (clocks t t t) h st → h ≡ newer ++ part → u ≡ t + 1
+    → last_address part ≤ t → bytes_in s ≡ bytes_of x → is_store (step_in s) ≡ is_store x → is_clear st.slots (order_of t part) s u ≡ are_conflicts_finished part x u
+clear_is i row t u st h newer [] s x good timed issued shown e f last bytes store = refl
+clear_is i row t u st h newer (d ∷ older) s x good timed issued shown e f last bytes store =
+    let part : AreTimed row (d ∷ older) = timed_part row newer (d ∷ older) (rw e at timed) in
+    let by : AreIssuedBy t (d ∷ older) = issued_part t newer (d ∷ older) (rw e at issued) in
+    let made : is_memory d.step ≡ true → cycle_of d.at.address ≤ t = λ m. rw m at last in
+    let before : last_address older ≤ t = elim (cases_Bool (is_memory d.step)) [
+      | inl m ↦ let k : last_address older < cycle_of d.at.address = address_rises row d older part.0 m in let l : cycle_of d.at.address ≤ t = made m in omega arith
+      | inr m ↦ rw m at last
+    ] in
+    let rest : is_clear st.slots (order_of t older) s u ≡ are_conflicts_finished older x u = clear_is i row t u st h (newer ++ (d ∷ [])) older s x good timed issued shown (e ∙ sym (append_assoc newer (d ∷ []) older)) f before bytes store in
+    elim (cases_Bool (nat_lt t d.at.end)) [
+      | inr l ↦
+          let k : d.at.end ≤ t = ltb-false _ _ l in
+          let r : d.at.finish ≤ d.at.end = (reach row d older good part).finish in
+          rw (l, lt-ltb d.at.finish u (omega arith), or_right (not (conflicts d.step x)) true refl) rest
+      | inl l ↦
+          let at = seen i row t st h newer d older good timed issued shown e l in
+          let one : lets (slice_index_or st.slots at.x None) s u ≡ (not (conflicts d.step x) || nat_lt d.at.finish u) = ap (λ o. lets o s u) (at.slot) ∙ lets_is i row t u d older s x good part by f made bytes store in
+          ap (λ xs. is_clear st.slots xs s u) at.order ∙ (clear-append st.slots (order_of t older) at.x s u ∙ rw (one, rest) refl)
+    ]
+
+-- Which start.
+
+-- the step uses a unit, and starts in the cycle
+abbrev pub starts_in : ℕ → Done → Bool
+starts_in u d = is_some (step_unit d.step) && (d.at.start == u)
+
+-- what holds the place starts in the cycle
+abbrev pub starts_at : ℕ → ℕ → List Done → ℕ → Bool
+starts_at t u [] x = false
+starts_at t u (d ∷ older) x = if holds_place t x d then starts_in u d else starts_at t u older x
+
+-- how many operations of a kind start in the cycle
+abbrev pub count_of : UnitId → ℕ → List Done → ℕ
+count_of unit u h = count_by (λ d. is_of unit (step_unit d.step) && (d.at.start == u)) h
+
+tests_three : (i a c b w : Bool) → i ≡ true → (a ≡ true → c ≡ b) → ((((((true && true) && true) && a) && c) && w) ≡ ((((i && a) && (true && true)) && b) && w))
+tests_three i true c b w e f = rw (e, f refl) refl
+tests_three i false c b w e f = rw e refl
+
+tests_off : (a b w : Bool) → false ≡ ((((true && a) && false) && b) && w)
+tests_off true b w = refl
+tests_off false b w = refl
+
+-- the tests of the pass and of the recurrence, one after the other
+tests_same : (i a j k c b w : Bool) → i ≡ true → (a ≡ true → j ≡ true → k ≡ true → c ≡ b) → ((((((true && j) && k) && a) && c) && w) ≡ ((((i && a) && (j && k)) && b) && w))
+tests_same i a true true c b w e f = tests_three i a c b w e (λ z. f z refl refl)
+tests_same i a true false c b w e f = rw e (tests_off a b w)
+tests_same i a false k c b w e f = rw e (tests_off a b w)
+
+least_from : (o : Option UnitId) (unit : UnitId) (P : Type 0) (Q : UnitId → Type 0) → o ≡ Some unit → MatchOption o P Q → Q unit
+least_from None unit P Q e h = absurd (cc)
+least_from (Some v) unit P Q e h = let f : v ≡ unit = cc in rw (← f) h
+
+pub start_least : (row : Row) (d : Done) (older : List Done) (unit : UnitId) → IsTimed row older d.step d.at → step_unit d.step ≡ Some unit → IsLeast (can_start row older d.step unit d.at.issue (cycle_of d.at.address)) d.at.start
+start_least row d older unit timed e = least_from (step_unit d.step) unit (d.at.start ≡ d.at.issue) (λ v. IsLeast (can_start row older d.step v d.at.issue (cycle_of d.at.address)) d.at.start) e timed.start
+
+clear_here : (i : Loaded) (row : Row) (t u : ℕ) (st : Pools) (h newer : List Done) (d : Done) (older : List Done) → IsRow row → AreTimed row h → AreIssuedBy t h → ShowsStations i (clocks t t t) h st → h ≡ newer ++ (d ∷ older) → u ≡ t + 1 → cycle_of d.at.address < u
+    → is_clear st.slots (order_of t older) (station_of i (clocks t t t) d older) u ≡ are_conflicts_finished older d.step u
+clear_here i row t u st h newer d older good timed issued shown e f l =
+    let part : AreTimed row (d ∷ older) = timed_part row newer (d ∷ older) (rw e at timed) in
+    let by : AreIssuedBy t (d ∷ older) = issued_part t newer (d ∷ older) (rw e at issued) in
+    let bytes : bytes_in (station_of i (clocks t t t) d older) ≡ bytes_of d.step = bytes_are i row t d older part by (λ m. omega arith) in
+    elim (cases_Bool (is_memory d.step)) [
+      | inr m ↦
+          let none : bytes_of d.step ≡ None = no_bytes d.step m in
+          clear_none st.slots (order_of t older) (station_of i (clocks t t t) d older) u (bytes ∙ none) ∙ sym (conflicts_none older d.step u none)
+      | inl m ↦
+          let k : last_address older < cycle_of d.at.address = address_rises row d older part.0 m in
+          clear_is i row t u st h (newer ++ (d ∷ [])) older (station_of i (clocks t t t) d older) d.step good timed issued shown (e ∙ sym (append_assoc newer (d ∷ []) older)) f (omega arith) bytes refl
+    ]
+
+-- an operation that is ready starts where a unit of its kind is left: the recurrence's test
+pub begins_is : (i : Loaded) (row : Row) (t u : ℕ) (st : Pools) (h newer : List Done) (d : Done) (older : List Done) (unit : UnitId) → IsRow row → AreTimed row h → AreIssuedBy t h → ShowsStations i (clocks t t t) h st → h ≡ newer ++ (d ∷ older) → u ≡ t + 1
+    → step_unit d.step ≡ Some unit
+    → (is_waiting (station_of i (clocks t t t) d older) && is_clear st.slots (order_of t older) (station_of i (clocks t t t) d older) u && nat_lt (count_of unit u older) (option_of row unit).units) ≡ (d.at.start == u)
+begins_is i row t u st h newer d older unit good timed issued shown e f some =
+    let part : AreTimed row (d ∷ older) = timed_part row newer (d ∷ older) (rw e at timed) in
+    let by : AreIssuedBy t (d ∷ older) = issued_part t newer (d ∷ older) (rw e at issued) in
+    let ready = ready_is i row t u d older part by f in
+    elim (cases_Bool (nat_lt t d.at.start)) [
+      | inr l ↦
+          let k : d.at.start ≤ t = ltb-false _ _ l in
+          rw (ready, l, ne_eqb d.at.start u (λ (z : d.at.start ≡ u). absurd (omega arith))) refl
+      | inl l ↦
+          let k : t < d.at.start = ltb-true _ _ l in
+          let test : can_start row older d.step unit d.at.issue (cycle_of d.at.address) u ≡ (d.at.start == u) = least_test (can_start row older d.step unit d.at.issue (cycle_of d.at.address)) d.at.start u (start_least row d older unit part.0 some) (omega arith) in
+          let issue : nat_lt d.at.issue u ≡ true = lt-ltb d.at.issue u (let z : d.at.issue ≤ t = by.0 in omega arith) in
+          let clear : nat_lt (cycle_of d.at.address) u ≡ true → is_clear st.slots (order_of t older) (station_of i (clocks t t t) d older) u ≡ are_conflicts_finished older d.step u = λ a. clear_here i row t u st h newer d older good timed issued shown e f (ltb-true _ _ a) in
+          rw (ready, l) (tests_same (nat_lt d.at.issue u) (nat_lt (cycle_of d.at.address) u) (nat_lt (source_end older (j_of d.step)) u) (nat_lt (source_end older (k_of d.step)) u) _ _ (has_unit row older unit u) issue (λ a b c. clear a) ∙ test)
+    ]
+
+-- operations of one kind that start in the cycle
+abbrev pub starts_of : UnitId → ℕ → Done → Bool
+starts_of unit u d = is_of unit (step_unit d.step) && (d.at.start == u)
+
+pub unit_low : (unit : UnitId) → place_of_unit unit < 5
+unit_low units.Alu = omega arith
+unit_low units.Mul = omega arith
+unit_low units.Div = omega arith
+unit_low units.Mem = omega arith
+unit_low units.Bru = omega arith
+
+none_of_start : (u start : ℕ) (unit : UnitId) (o : Option UnitId) → (start == u) ≡ false → (is_of unit o && (start == u)) ≡ false
+none_of_start u start unit o e = rw e (and_right (is_of unit o) false refl)
+
+unit_same : (v w : UnitId) → place_of_unit v ≡ place_of_unit w → v ≡ w
+unit_same units.Alu units.Alu e = refl
+unit_same units.Mul units.Mul e = refl
+unit_same units.Div units.Div e = refl
+unit_same units.Mem units.Mem e = refl
+unit_same units.Bru units.Bru e = refl
+unit_same units.Alu units.Mul e = absurd (omega arith)
+unit_same units.Alu units.Div e = absurd (omega arith)
+unit_same units.Alu units.Mem e = absurd (omega arith)
+unit_same units.Alu units.Bru e = absurd (omega arith)
+unit_same units.Mul units.Alu e = absurd (omega arith)
+unit_same units.Mul units.Div e = absurd (omega arith)
+unit_same units.Mul units.Mem e = absurd (omega arith)
+unit_same units.Mul units.Bru e = absurd (omega arith)
+unit_same units.Div units.Alu e = absurd (omega arith)
+unit_same units.Div units.Mul e = absurd (omega arith)
+unit_same units.Div units.Mem e = absurd (omega arith)
+unit_same units.Div units.Bru e = absurd (omega arith)
+unit_same units.Mem units.Alu e = absurd (omega arith)
+unit_same units.Mem units.Mul e = absurd (omega arith)
+unit_same units.Mem units.Div e = absurd (omega arith)
+unit_same units.Mem units.Bru e = absurd (omega arith)
+unit_same units.Bru units.Alu e = absurd (omega arith)
+unit_same units.Bru units.Mul e = absurd (omega arith)
+unit_same units.Bru units.Div e = absurd (omega arith)
+unit_same units.Bru units.Mem e = absurd (omega arith)
+
+kind_none : (c : Bool) (n : ℕ) (w : Bool) → (is_number (kind_if c None) n && w) ≡ false
+kind_none true n w = refl
+kind_none false n w = refl
+
+kind_other : (c w : Bool) (k n : ℕ) → (k == n) ≡ false → (is_number (kind_if c (Some k)) n && w) ≡ false
+kind_other true w k n e = rw e refl
+kind_other false w k n e = refl
+
+kind_here : (c w : Bool) (k n : ℕ) → (k == n) ≡ true → (is_number (kind_if c (Some k)) n && w) ≡ (c && w)
+kind_here true w k n e = rw e refl
+kind_here false w k n e = refl
+
+-- what is wanted for the station of a step
+wants_is : (ready b : Bool) (unit : UnitId) (o : Option UnitId) (left : UnitId → Bool) → ((v : UnitId) → o ≡ Some v → (ready && left v) ≡ b) → (is_number (kind_if ready (kind_of o)) (place_of_unit unit) && left unit) ≡ (is_of unit o && b)
+wants_is ready b unit None left test = kind_none ready (place_of_unit unit) (left unit)
+wants_is ready b unit (Some v) left test = elim (cases_Bool (place_of_unit v == place_of_unit unit)) [
+  | inr e ↦ rw e (kind_other ready (left unit) (place_of_unit v) (place_of_unit unit) e)
+  | inl e ↦
+      let same : v ≡ unit = unit_same v unit (eqb-true _ _ e) in
+      kind_here ready (left unit) (place_of_unit v) (place_of_unit unit) e ∙ (ap (λ u. ready && left u) (sym same) ∙ (test v refl ∙ sym (rw e refl)))
+]
+
+-- a busy place splits the order into its elders and the others
+order_split : (t p : ℕ) (newer : List Done) (d : Done) (older : List Done) → holds_place t p d ≡ true → order_of t (newer ++ (d ∷ older)) ≡ order_of t older ++ (p ∷ order_of t newer)
+order_split t p newer d older held =
+    let two = and_parts (is_number (place_of d) p) (nat_lt t d.at.end) held in
+    let place : place_of d ≡ Some p = number_is_some (place_of d) p two.0 in
+    order-append t newer (d ∷ older) ∙ (ap (λ xs. xs ++ order_of t newer) (order_here t p d older place two.1) ∙ append_assoc (order_of t older) (p ∷ []) (order_of t newer))
+
+none_with : (pool : Option PoolId) (station : Option ℕ) (p : PoolId) (R : PoolId → ℕ → Type 0) → pool ≡ Some p → tag_at pool station ≡ None → MatchOption pool (station ≡ None) (λ p. (n : ℕ) × (station ≡ Some n) × R p n) → ⊥
+none_with None station p R e f s = cc
+none_with (Some q) None p R e f s = let g : None ≡ Some s.0 = s.1 in cc
+none_with (Some q) (Some n) p R e f s = cc
+
+place_none : (tag : Option Tag) → place_at tag ≡ None → tag ≡ None
+place_none None e = refl
+place_none (Some t) e = absurd (cc)
+
+pool_none : (pool : Option PoolId) → ((p : PoolId) → pool ≡ Some p → ⊥) → pool ≡ None
+pool_none None never = refl
+pool_none (Some p) never = absurd (never p refl)
+
+-- what has no station uses no unit
+no_pool_unit : (row : Row) (d : Done) (older : List Done) → IsTimed row older d.step d.at → place_of d ≡ None → step_unit d.step ≡ None
+no_pool_unit row d older timed e =
+    let none : tag_of d ≡ None = place_none (tag_of d) e in
+    let pool : step_pool d.step ≡ None = pool_none (step_pool d.step) (λ p f. none_with (step_pool d.step) d.at.station p (λ p n. IsLeast (is_free p older d.at.issue) n) f none timed.station) in
+    none_of (step_unit d.step) (unit_with_pool d.step ∙ ap is_some pool)
+
+-- one step of a kind is served by the recurrence
+one_serves : (i : Loaded) (row : Row) (t u : ℕ) (st : Pools) (sets : List ℕ) (unit : UnitId) (h newer : List Done) (d : Done) (older : List Done) → IsRow row → AreTimed row h → AreIssuedBy t h → ShowsStations i (clocks t t t) h st → IsByAge st.busy st.ages (order_of t h) → AreReady st u sets → u ≡ t + 1 → h ≡ newer ++ (d ∷ older)
+    → Serves t (option_of row unit).units (slice_index sets (place_of_unit unit)) (starts_of unit u) d older
+one_serves i row t u st sets unit h newer d older good timed issued shown by ready f e =
+    let part : AreTimed row (d ∷ older) = timed_part row newer (d ∷ older) (rw e at timed) in
+    let reached = reach row d older good part in
+    record {
+      idle = λ l. let k : d.at.end ≤ t = ltb-false _ _ l in let r : d.at.start ≤ d.at.end = reached.start in none_of_start u d.at.start unit (step_unit d.step) (ne_eqb d.at.start u (λ (z : d.at.start ≡ u). absurd (omega arith)));
+      nowhere = λ none. no_unit (step_unit d.step) (no_pool_unit row d older part.0 none);
+      ready = λ x held.
+          let late : nat_lt t d.at.end ≡ true = (and_parts (is_number (place_of d) x) (nat_lt t d.at.end) held).1 in
+          let at = seen i row t st h newer d older good timed issued shown e late in
+          let same : at.x ≡ x = one_place (place_of d) at.x x at.place (and_parts (is_number (place_of d) x) (nat_lt t d.at.end) held).0 in
+          let small : x < 96 = rw same at at.small in
+          let slot : slice_index_or st.slots x None ≡ Some (station_of i (clocks t t t) d older) = rw same at at.slot in
+          let order : order_of t h ≡ order_of t older ++ (x ∷ order_of t newer) = ap (order_of t) e ∙ order_split t x newer d older held in
+          let wants : has (slice_index sets (place_of_unit unit)) x ≡ is_number (wanted st.slots (order_of t older) u (slice_index_or st.slots x None)) (place_of_unit unit) = ready.wants (place_of_unit unit) x (order_of t older) (order_of t newer) (unit_low unit) (omega arith) (rw order at by) in
+          sym (ap (λ b. b && nat_lt (count_by (starts_of unit u) older) (option_of row unit).units) (wants ∙ ap (λ o. is_number (wanted st.slots (order_of t older) u o) (place_of_unit unit)) slot)
+          ∙ wants_is (is_waiting (station_of i (clocks t t t) d older) && is_clear st.slots (order_of t older) (station_of i (clocks t t t) d older) u) (d.at.start == u) unit (step_unit d.step) (λ v. nat_lt (count_of v u older) (option_of row v).units) (λ v some. begins_is i row t u st h newer d older v good timed issued shown e f some));
+    }
+  where
+    one_place : (o : Option ℕ) (a b : ℕ) → o ≡ Some a → is_number o b ≡ true → a ≡ b
+    one_place None a b e h = absurd (cc)
+    one_place (Some c) a b e h = let f : c ≡ b = eqb-true c b h in let g : c ≡ a = cc in sym g ∙ f
+
+    no_unit : (o : Option UnitId) → o ≡ None → (is_of unit o && (d.at.start == u)) ≡ false
+    no_unit o e = rw e refl
+
+all_serve : (i : Loaded) (row : Row) (t u : ℕ) (st : Pools) (sets : List ℕ) (unit : UnitId) (h newer part : List Done) → IsRow row → AreTimed row h → AreIssuedBy t h → ShowsStations i (clocks t t t) h st → IsByAge st.busy st.ages (order_of t h) → AreReady st u sets → u ≡ t + 1 → h ≡ newer ++ part
+    → AreServed t (option_of row unit).units (slice_index sets (place_of_unit unit)) (starts_of unit u) part
+all_serve i row t u st sets unit h newer [] good timed issued shown by ready f e = tt
+all_serve i row t u st sets unit h newer (d ∷ older) good timed issued shown by ready f e = (
+  one_serves i row t u st sets unit h newer d older good timed issued shown by ready f e,
+  all_serve i row t u st sets unit h (newer ++ (d ∷ [])) older good timed issued shown by ready f (e ∙ sym (append_assoc newer (d ∷ []) older)),
+)
+
+-- nobody older goes from a place that is held
+goes_free : (t x : ℕ) (goes : Done → Bool) (h : List Done) → is_vacant t x h ≡ true → goes_at t goes h x ≡ false
+goes_free t x goes [] e = refl
+goes_free t x goes (d ∷ older) e = elim (cases_Bool (holds_place t x d)) [
+  | inr h ↦ rw h (goes_free t x goes older (and_parts (not (holds_place t x d)) (is_vacant t x older) e).1)
+  | inl h ↦ let g : not true ≡ true = rw h at (and_parts (not (holds_place t x d)) (is_vacant t x older) e).0 in absurd (cc)
+]
+
+pub all_alone : (row : Row) (t : ℕ) (goes : Done → Bool) (h : List Done) → IsRow row → AreTimed row h → AreIssuedBy (t + 1) h → AreAlone t goes h
+all_alone row t goes [] good timed issued = tt
+all_alone row t goes (d ∷ older) good timed issued = (
+  (λ x held. goes_free t x goes older (vacant row d older t x good timed issued.0 (and_parts (is_number (place_of d) x) (nat_lt t d.at.end) held).0)),
+  all_alone row t goes older good timed.1 issued.1,
+)
+
+-- of all kinds together
+kinds_at : (t u : ℕ) (h : List Done) (x : ℕ) → (goes_at t (starts_of units.Alu u) h x || (goes_at t (starts_of units.Mul u) h x || (goes_at t (starts_of units.Div u) h x || (goes_at t (starts_of units.Mem u) h x || (goes_at t (starts_of units.Bru u) h x || false))))) ≡ starts_at t u h x
+kinds_at t u [] x = refl
+kinds_at t u (d ∷ older) x = elim (cases_Bool (holds_place t x d)) [
+  | inr h ↦ rw h (kinds_at t u older x)
+  | inl h ↦ rw h (one_kind (step_unit d.step) (d.at.start == u))
+]
+  where
+    one_kind : (o : Option UnitId) (b : Bool) → ((is_of units.Alu o && b) || ((is_of units.Mul o && b) || ((is_of units.Div o && b) || ((is_of units.Mem o && b) || ((is_of units.Bru o && b) || false))))) ≡ (is_some o && b)
+    one_kind None b = refl
+    one_kind (Some units.Alu) false = refl
+    one_kind (Some units.Mul) false = refl
+    one_kind (Some units.Div) false = refl
+    one_kind (Some units.Mem) false = refl
+    one_kind (Some units.Bru) false = refl
+    one_kind (Some units.Alu) true = refl
+    one_kind (Some units.Mul) true = refl
+    one_kind (Some units.Div) true = refl
+    one_kind (Some units.Mem) true = refl
+    one_kind (Some units.Bru) true = refl
+
+pub five : (xs : List ℕ) (x : ℕ) → length xs ≡ 5 → is_among xs x ≡ (has (slice_index xs 0) x || (has (slice_index xs 1) x || (has (slice_index xs 2) x || (has (slice_index xs 3) x || (has (slice_index xs 4) x || false)))))
+five (a ∷ b ∷ c ∷ d ∷ e ∷ []) x count = refl
+five _ x count = absurd (omega arith)
+
+-- the places that start are those whose steps start
+pub starting_is : (i : Loaded) (row : Row) (t u x : ℕ) (st : Pools) (h : List Done) (starting : ℕ) → IsRow row → AreTimed row h → AreIssuedBy t h → ShowsStations i (clocks t t t) h st → AreBusy st.slots st.busy st.ages → IsStarting row st u starting → u ≡ t + 1 → x < 128
+    → has starting x ≡ starts_at t u h x
+starting_is i row t u x st h starting good timed issued shown filled begins e l =
+    let more : AreIssuedBy (t + 1) h = issued_more t (t + 1) h (omega arith) issued in
+    let by : IsByAge st.busy st.ages (order_of t h) = order_is i row (clocks t t t) h st good timed more shown filled in
+    let kind : (unit : UnitId) → has (slice_index begins.kinds (place_of_unit unit)) x ≡ goes_at t (starts_of unit u) h x = λ unit.
+    picked_goes t (option_of row unit).units st.busy (slice_index begins.ready (place_of_unit unit)) (slice_index begins.kinds (place_of_unit unit)) st.ages (starts_of unit u) h by (λ y m. begins.are_ready.inside (place_of_unit unit) y (unit_low unit) m) (begins.units unit)
+    (all_serve i row t u st begins.ready unit h [] h good timed issued shown by begins.are_ready e refl) (all_alone row t (starts_of unit u) h good timed more) x l in
+    begins.all x l ∙ (five begins.kinds x begins.count ∙ (rw (kind units.Alu, kind units.Mul, kind units.Div, kind units.Mem, kind units.Bru) (kinds_at t u h x)))

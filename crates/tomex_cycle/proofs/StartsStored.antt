@@ -1,0 +1,87 @@
+-- What a store leaves in memory.
+use Rattle.std.proofs.Common.{length, slice_index_or, suc, Option, Some, None, ℕ, ◌+◌, ◌<◌, ◌≤◌, ◌≡◌, ◌∙◌, true, false, arith, refl, List, ap, sym}
+use Rattle.std.specs.Prelude.{if◌then◌else◌, IfSome}
+use Rattle.tomex_rvexec.specs.declared.step.ByteRange.{ByteRange}
+use Rattle.tomex_rvexec.specs.Access.{HasStored, IsInside}
+use Rattle.tomex_rvexec.specs.Flow.{byte_in, overwrites, stored_byte}
+use Rattle.tomex_rvexec.specs.Memory.{Bytes}
+use Rattle.tomex_rvexec.specs.Steps.{bytes_of}
+use Rattle.tomex_cycle.specs.Starts.{AllInside, HaveStored, stored_at, written_by, AreLow}
+use Rattle.tomex_tags.specs.Contents.{step_in}
+use Rattle.tomex_tags.specs.declared.station.Station.{Station}
+use Rattle.tomex_bus.specs.Sets.{has, IsWithout}
+use Rattle.tomex_bus.proofs.Members.{AreFrom, all_left, least_from, least_in, left_from, none_after, none_between, skip_to}
+
+-- The stores of the picked places, one after the other.
+
+pub inside_as : (o : Option ByteRange) (a b m n : ℕ) → a ≡ b → m ≡ n → IfSome o (λ r. (b ≤ r.from) × (r.to ≤ b + n)) → IfSome o (λ r. (a ≤ r.from) × (r.to ≤ a + m))
+inside_as o a b m n e f inside = rw (e, f) inside
+
+pub none_stored : (slots : List (Option Station)) (picked : ℕ) (m : Bytes) → HaveStored slots picked 0 m m
+none_stored slots picked m = record { base = refl; size = refl; bytes = λ a l. refl }
+
+written_more : (slots : List (Option Station)) (picked : ℕ) (byte : ℕ → ℕ) (k a : ℕ) → written_by slots picked byte (k + 1) a ≡ stored_at (has picked k) (slice_index_or slots k None) a (written_by slots picked byte k a)
+written_more slots picked byte k a = let e : k + 1 ≡ suc k = omega arith in rw e refl
+
+stored_skip : (o : Option Station) (a before : ℕ) → stored_at false o a before ≡ before
+stored_skip None a before = refl
+stored_skip (Some s) a before = refl
+
+pub skip_stored : (slots : List (Option Station)) (picked : ℕ) (k : ℕ) (old now : Bytes) → has picked k ≡ false → HaveStored slots picked k old now → HaveStored slots picked (k + 1) old now
+skip_stored slots picked k old now e before = record {
+  base = before.base;
+  size = before.size;
+  bytes = λ a l. before.bytes a l ∙ sym (written_more slots picked (byte_in old) k a ∙ rw e (stored_skip (slice_index_or slots k None) a (written_by slots picked (byte_in old) k a)));
+}
+
+stored_by : (slots : List (Option Station)) (picked : ℕ) (k : ℕ) (old now new : Bytes) (o : Option Station) → slice_index_or slots k None ≡ o → has picked k ≡ true
+    → ((s : Station) → o ≡ Some s → HasStored (step_in s) now new) → (o ≡ None → new ≡ now) → ((s : Station) → o ≡ Some s → IsInside old (step_in s)) → HaveStored slots picked k old now → HaveStored slots picked (k + 1) old new
+stored_by slots picked k old now new None e pick some none inside before =
+    let same : new ≡ now = none refl in
+    record {
+      base = ap (λ (m : Bytes). m.base) same ∙ before.base;
+      size = ap (λ (m : Bytes). length m.bytes) same ∙ before.size;
+      bytes = λ a l. ap (λ (m : Bytes). byte_in m a) same ∙ (before.bytes a l ∙ sym (written_more slots picked (byte_in old) k a ∙ rw e refl));
+    }
+stored_by slots picked k old now new (Some s) e pick some none inside before =
+    let one : HasStored (step_in s) now new = some s refl in
+    let b : now.base ≡ old.base = before.base in
+    record {
+      base = one.base ∙ before.base;
+      size = one.size ∙ before.size;
+      bytes = λ a l.
+          one.bytes (inside_as (bytes_of (step_in s)) now.base old.base (length now.bytes) (length old.bytes) before.base before.size (inside s refl)) a (omega arith)
+          ∙ (ap (λ (n : ℕ). if overwrites (step_in s) a then stored_byte (step_in s) a else n) (before.bytes a l) ∙ sym (written_more slots picked (byte_in old) k a ∙ rw (e, pick) refl));
+    }
+
+pub more_stored : (slots : List (Option Station)) (picked : ℕ) (k : ℕ) (old now new : Bytes) → k < 96 → has picked k ≡ true
+    → ((s : Station) → slice_index_or slots k None ≡ Some s → HasStored (step_in s) now new) → (slice_index_or slots k None ≡ None → new ≡ now) → AllInside old picked slots → HaveStored slots picked k old now → HaveStored slots picked (k + 1) old new
+more_stored slots picked k old now new l pick some none inside before = stored_by slots picked k old now new (slice_index_or slots k None) refl pick some none (inside k l pick) before
+
+-- The loop over the picked places, the least first.
+
+pub record IsStored (slots : List (Option Station)) (picked rest : ℕ) (old now : Bytes) : Type 0 where
+  pub k : ℕ
+  pub from : AreFrom picked rest k
+  pub high : k ≤ 96
+  pub stored : HaveStored slots picked k old now
+
+pub first_stored : (slots : List (Option Station)) (picked : ℕ) (m : Bytes) → IsStored slots picked picked m m
+first_stored slots picked m = record { k = 0; from = all_left picked; high = omega arith; stored = none_stored slots picked m }
+
+pub member_stored : (slots : List (Option Station)) (picked rest left x : ℕ) (old now new : Bytes) → AreLow picked → AllInside old picked slots → x < 128 → has rest x ≡ true → ((i : ℕ) → i < x → has rest i ≡ false) → IsWithout rest x left
+    → ((s : Station) → slice_index_or slots x None ≡ Some s → HasStored (step_in s) now new) → (slice_index_or slots x None ≡ None → new ≡ now) → IsStored slots picked rest old now → IsStored slots picked left old new
+member_stored slots picked rest left x old now new low inside l member least without some none so =
+    let pick : has picked x ≡ true = least_in picked rest so.k x so.from l member in
+    let below : x < 96 = low x l pick in
+    let before : HaveStored slots picked x old now = skip_to (λ j. HaveStored slots picked j old now) picked so.k x (least_from picked rest so.k x so.from l member) (none_between picked rest so.k x so.from l least) (λ j e b. skip_stored slots picked j old now e b) so.stored in
+    record {
+      k = x + 1;
+      from = left_from picked rest left so.k x so.from l member least without;
+      high = omega arith;
+      stored = more_stored slots picked x old now new below pick some none inside before;
+    }
+
+pub all_stored : (slots : List (Option Station)) (picked rest : ℕ) (old now : Bytes) → AreLow picked → rest ≡ 0 → IsStored slots picked rest old now → HaveStored slots picked 96 old now
+all_stored slots picked rest old now low empty so =
+    skip_to (λ j. HaveStored slots picked j old now) picked so.k 96 so.high (λ j from to. none_after picked rest so.k so.from empty j from (omega arith)) (λ j e b. skip_stored slots picked j old now e b) so.stored

@@ -1,0 +1,115 @@
+-- What contracts see of a machine follows from what holds of each one.
+use Rattle.std.proofs.Common.{ℕ, ◌+◌, ◌<◌, ◌≤◌, ◌≡◌, ◌∙◌, ◌^◌, true, arith, refl, ap, inl, inr, min, subst}
+use Rattle.std.specs.Prelude.{nat_lt, if◌then◌else◌}
+use Rattle.std.proofs.lemmas.Bool.{cases_Bool, ltb-true, ltb-false, le-ltb}
+use Rattle.tomex_image.specs.Image.{Loaded, IsLoaded}
+use Rattle.tomex_config.specs.Row.{Row, IsRow}
+use Rattle.tomex_rvexec.specs.declared.outcome.EndKind.{EndKind}
+use Rattle.tomex_rvexec.specs.Machine.{State}
+use Rattle.tomex_rvexec.specs.Memory.{Bytes}
+use Rattle.tomex_rvexec.specs.Run.{RunEnds, EndsWithin}
+use Rattle.tomex_timing.specs.History.{greatest_end}
+use Rattle.tomex_cycle.specs.declared.fetch.Fetch.{Fetch}
+use Rattle.tomex_cycle.specs.declared.progress.Progress.{Progress}
+use Rattle.tomex_cycle.specs.declared.progress.Progress.TheVariants.{Running, Ended}
+use Rattle.tomex_cycle.specs.Run.{run_to, total}
+use Rattle.tomex_cycle.specs.Phases.{IsSnapshot}
+use Rattle.tomex_cycle.specs.Seen.{Seen, seen_after, is_end}
+use Rattle.tomex_cycle.specs.Sound.{IsSound, IsAfter}
+use Rattle.tomex_cycle.proofs.Runs.{run_whole}
+use Rattle.tomex_tags.specs.Pools.{Pools}
+use Rattle.tomex_tags.specs.declared.register_status.RegStatus.{RegStatus}
+
+pub total_is : (row : Row) (i : Loaded) (n : ℕ) (s : State) (kind : EndKind) → RunEnds i n s kind → n < 262144 → total row i ≡ greatest_end (run_to row i (n + 1))
+total_is row i n s kind ends l = ap greatest_end (run_whole row i n s kind ends l)
+
+-- while the answer is Running the total lies ahead
+running_low : (cycle all : ℕ) (last : Progress) → last ≡ (if nat_lt cycle all then Running else Ended) → last ≡ Running → cycle < all
+running_low cycle all last e f = elim (cases_Bool (nat_lt cycle all)) [
+  | inl l ↦ ltb-true _ _ l
+  | inr l ↦ let g : last ≡ Ended = rw l at e in absurd (cc)
+]
+
+other_high : (cycle all : ℕ) (last : Progress) → last ≡ (if nat_lt cycle all then Running else Ended) → (last ≡ Running → ⊥) → all ≤ cycle
+other_high cycle all last e f = elim (cases_Bool (nat_lt cycle all)) [
+  | inl l ↦ let g : last ≡ Running = rw l at e in absurd (f g)
+  | inr l ↦ ltb-false _ _ l
+]
+
+same_seen : (i : Loaded) (row : Row) (a b : ℕ) (x y : Progress) → a ≡ b → x ≡ y → ◌≡◌ {A = Seen} (record { image = i; row = row; cycle = a; last = x }) (record { image = i; row = row; cycle = b; last = y })
+same_seen i row a b x y e f =
+    let g : ℕ → Seen = λ k. record { image = i; row = row; cycle = k; last = x } in
+    let h : Progress → Seen = λ k. record { image = i; row = row; cycle = b; last = k } in
+    ap g e ∙ ap h f
+
+-- the machine is as it is after as many ticks as its cycle says
+pub seen_is : (i : Loaded) (row : Row) (cycle : ℕ) (last : Progress) (count : ℕ) (st : Pools) (rg : RegStatus) (ft : Fetch) (m : Bytes) → IsSound i row cycle last count st rg ft m → EndsWithin i 262144
+    → ◌≡◌ {A = Seen} (record { image = i; row = row; cycle = cycle; last = last }) (seen_after i row cycle)
+seen_is i row cycle last count st rg ft m sound ends =
+    let after : IsAfter i row ends.0 cycle last count st rg ft m = sound.after ends.0 ends.1 ends.2 ends.3 ends.4 in
+    let e : total row i ≡ greatest_end (run_to row i (ends.0 + 1)) = total_is row i ends.0 ends.1 ends.2 ends.4 ends.3 in
+    let high : cycle ≤ greatest_end (run_to row i (ends.0 + 1)) = after.high in
+    same_seen i row cycle (min cycle (total row i)) last (if nat_lt cycle (total row i) then Running else Ended) (omega arith) (rw e after.answer)
+
+-- and one that has ended as it is after more
+pub seen_more : (i : Loaded) (row : Row) (cycle to : ℕ) (last : Progress) (count : ℕ) (st : Pools) (rg : RegStatus) (ft : Fetch) (m : Bytes) → IsSound i row cycle last count st rg ft m → EndsWithin i 262144 → (last ≡ Running → ⊥) → cycle ≤ to
+    → ◌≡◌ {A = Seen} (record { image = i; row = row; cycle = cycle; last = last }) (seen_after i row to)
+seen_more i row cycle to last count st rg ft m sound ends over l =
+    let after : IsAfter i row ends.0 cycle last count st rg ft m = sound.after ends.0 ends.1 ends.2 ends.3 ends.4 in
+    let e : total row i ≡ greatest_end (run_to row i (ends.0 + 1)) = total_is row i ends.0 ends.1 ends.2 ends.4 ends.3 in
+    let high : cycle ≤ greatest_end (run_to row i (ends.0 + 1)) = after.high in
+    let low : greatest_end (run_to row i (ends.0 + 1)) ≤ cycle = other_high cycle _ last after.answer over in
+    let f : last ≡ Ended = rw (le-ltb cycle (greatest_end (run_to row i (ends.0 + 1))) low) at after.answer in
+    same_seen i row cycle (min to (total row i)) last (if nat_lt to (total row i) then Running else Ended) (omega arith) (rw (le-ltb to (total row i) (omega arith)) f)
+
+-- a cycle keeps what holds
+pub sound_next : (i : Loaded) (row : Row) (cycle : ℕ) (last now : Progress) (count more : ℕ) (st st2 : Pools) (rg rg2 : RegStatus) (ft ft2 : Fetch) (m m2 : Bytes) → IsSound i row cycle last count st rg ft m → last ≡ Running → cycle < 2 ^ 40
+    → ((n : ℕ) (s : State) (kind : EndKind) (t : ℕ) → RunEnds i n s kind → n < 262144 → cycle + 1 ≡ t + 1 → IsRow row → IsLoaded i.window i.memory i.entry → IsSnapshot i row n t count st rg ft m
+    → IsSnapshot i row n (cycle + 1) more st2 rg2 ft2 m2 × (now ≡ (if nat_lt (cycle + 1) (greatest_end (run_to row i (n + 1))) then Running else Ended)))
+    → IsSound i row (cycle + 1) now more st2 rg2 ft2 m2
+sound_next i row cycle last now count more st st2 rg rg2 ft ft2 m m2 sound run low made = record {
+  lawful = sound.lawful;
+  loaded = sound.loaded;
+  low = omega arith;
+  after = λ n s kind l ends.
+      let before : IsAfter i row n cycle last count st rg ft m = sound.after n s kind l ends in
+      let k : cycle < greatest_end (run_to row i (n + 1)) = running_low cycle _ last before.answer run in
+      let next = made n s kind cycle ends l refl sound.lawful sound.loaded before.snapshot in
+      record { high = omega arith; answer = next.1; snapshot = next.0 };
+}
+
+-- the same, of a value that is seen before
+pub tick_seen : (i : Loaded) (row : Row) (cycle : ℕ) (last now : Progress) (seen : Seen) (count : ℕ) (st : Pools) (rg : RegStatus) (ft : Fetch) (m : Bytes)
+    → ◌≡◌ {A = Seen} (record { image = i; row = row; cycle = cycle; last = last }) seen → IsSound i row (cycle + 1) now count st rg ft m → EndsWithin seen.image 262144
+    → ◌≡◌ {A = Seen} (record { image = i; row = row; cycle = cycle + 1; last = now }) (seen_after seen.image seen.row (seen.cycle + 1))
+tick_seen i row cycle last now seen count st rg ft m e sound =
+    let P : Seen → Type 0 = λ x. EndsWithin x.image 262144 → ◌≡◌ {A = Seen} (record { image = i; row = row; cycle = cycle + 1; last = now }) (seen_after x.image x.row (x.cycle + 1)) in
+    subst P e (λ ends. seen_is i row (cycle + 1) now count st rg ft m sound ends)
+
+pub kept_seen : (i : Loaded) (row : Row) (cycle more : ℕ) (last : Progress) (seen : Seen) (count : ℕ) (st : Pools) (rg : RegStatus) (ft : Fetch) (m : Bytes)
+    → ◌≡◌ {A = Seen} (record { image = i; row = row; cycle = cycle; last = last }) seen → IsSound i row cycle last count st rg ft m → (last ≡ Running → ⊥) → EndsWithin seen.image 262144
+    → seen ≡ seen_after seen.image seen.row (seen.cycle + more)
+kept_seen i row cycle more last seen count st rg ft m e sound over =
+    let P : Seen → Type 0 = λ x. EndsWithin x.image 262144 → x ≡ seen_after x.image x.row (x.cycle + more) in
+    subst P e (λ ends. seen_more i row cycle (cycle + more) last count st rg ft m sound ends over (omega arith))
+
+pub now_seen : (i : Loaded) (row : Row) (cycle : ℕ) (last : Progress) (seen : Seen) (count : ℕ) (st : Pools) (rg : RegStatus) (ft : Fetch) (m : Bytes)
+    → ◌≡◌ {A = Seen} (record { image = i; row = row; cycle = cycle; last = last }) seen → IsSound i row cycle last count st rg ft m → EndsWithin seen.image 262144
+    → seen ≡ seen_after seen.image seen.row seen.cycle
+now_seen i row cycle last seen count st rg ft m e sound =
+    let P : Seen → Type 0 = λ x. EndsWithin x.image 262144 → x ≡ seen_after x.image x.row x.cycle in
+    subst P e (λ ends. seen_is i row cycle last count st rg ft m sound ends)
+
+end_is_not_running : (last : Progress) → is_end last ≡ true → last ≡ Running → ⊥
+end_is_not_running last e f = let g : is_end Running ≡ true = rw f at e in absurd (cc)
+
+-- a machine that has ended hands out the end of the run
+pub finish_seen : (P : Loaded → Type 0) (i : Loaded) (row : Row) (cycle : ℕ) (last : Progress) (seen : Seen) (count : ℕ) (st : Pools) (rg : RegStatus) (ft : Fetch) (m : Bytes)
+    → ◌≡◌ {A = Seen} (record { image = i; row = row; cycle = cycle; last = last }) seen
+    → ((i : Loaded) (row : Row) (n : ℕ) (s : State) (kind : EndKind) (t : ℕ) → RunEnds i n s kind → n < 262144 → IsRow row → IsLoaded i.window i.memory i.entry → IsSnapshot i row n t count st rg ft m → greatest_end (run_to row i (n + 1)) ≤ t → P i)
+    → IsSound i row cycle last count st rg ft m → is_end seen.last ≡ true → EndsWithin seen.image 262144 → P seen.image
+finish_seen P i row cycle last seen count st rg ft m e made sound =
+    let Q : Seen → Type 0 = λ x. is_end x.last ≡ true → EndsWithin x.image 262144 → P x.image in
+    subst Q e (λ over ends.
+    let after : IsAfter i row ends.0 cycle last count st rg ft m = sound.after ends.0 ends.1 ends.2 ends.3 ends.4 in
+    made i row ends.0 ends.1 ends.2 cycle ends.4 ends.3 sound.lawful sound.loaded after.snapshot (other_high cycle _ last after.answer (end_is_not_running last over)))

@@ -1,0 +1,12 @@
+use Rattle.std.proofs.Common.{refl, ap, rules, ℕ}
+use Rattle.tomex_cycle.specs.declared.fetch.Fetch.TheVariants.{At}
+use Rattle.tomex_cycle.proofs.Outer.{start_shown}
+use Rattle.tomex_cycle.proofs.inner.Inner.new.Goals as goal
+
+pub returns-clause-start : goal.returns-clause-start
+returns-clause-start g c = λ row n. start_shown c.args.image.now row n _ _ _ _ c.new.ensures.slots c.new.ensures.ages c.new-2.ensures.tags
+    (rw (c.from.ensures, c.from-2.ensures, c.base.ensures.value, c.size.ensures.value, c.window-window.ensures.value) at c.new-2.ensures.values)
+    (ap (λ (x : ℕ). At x) c.entry.ensures.value)
+    (rw (c.new-3.ensures, c.base-2.ensures.value, c.window-window.ensures.value) refl)
+    (search rules)
+    c.entry.ensures.loaded.filled

@@ -1,0 +1,20 @@
+use Rattle.std.proofs.Common.{◌≡◌, ◌≤◌, ◌-◌, max}
+use Rattle.std.specs.Prelude.{◌≢◌}
+use Rattle.tomex_rvexec.specs.Run.{EndsWithin}
+use Rattle.tomex_cycle.specs.Seen.{seen_after}
+use Rattle.tomex_cycle.specs.declared.progress.Progress.TheVariants.{Running}
+use Rattle.tomex_cycle.proofs.machine.Machine.advance.Given as goal
+
+abbrev pub invariant-loop-self : goal.invariant-loop-self
+invariant-loop-self g l = record {
+  image : l.self.image ≡ l.initial.self.image;
+  row : l.self.row ≡ l.initial.self.row;
+  low : l.initial.self.cycle ≤ l.self.cycle;
+  high : l.self.cycle ≤ max l.initial.self.cycle l.to;
+  stays : l.initial.self.last ≢ Running → l.self ≡ l.initial.self;
+  none : l.to ≤ l.initial.self.cycle → l.self ≡ l.initial.self;
+  ends : EndsWithin l.self.image 262144 → l.self ≡ seen_after l.self.image l.self.row l.self.cycle;
+}
+
+abbrev pub decreases-loop-self : goal.decreases-loop-self
+decreases-loop-self g l = l.to - l.self.cycle

@@ -1,0 +1,12 @@
+use Rattle.tomex_cycle.proofs.StartsStored.{all_stored, first_stored, member_stored}
+use Rattle.tomex_cycle.proofs.starts.write.Goals as goal
+
+pub members-init : goal.members-init
+members-init g c = λ low inside. first_stored c.args.pools.now.slots c.args.picked c.args.memory.now
+
+pub members-preserved : goal.members-preserved
+members-preserved g c = λ low inside.
+    member_stored c.args.pools.now.slots c.args.picked c.members.rest c.without-rest.result c.lowest-place.result c.args.memory.now c.members.memory c.write_at.new.memory low inside c.lowest-place.ensures.below c.lowest-place.ensures.member c.lowest-place.ensures.least c.without-rest.ensures.others c.write_at.ensures.stored c.write_at.ensures.none (c.members.invariant low inside)
+
+pub returns : goal.returns
+returns g c = λ low inside. all_stored c.args.pools.now.slots c.args.picked c.members.rest c.args.memory.now c.members.memory low c.members-test.false (c.members.invariant low inside)

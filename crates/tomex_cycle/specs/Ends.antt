@@ -1,0 +1,103 @@
+-- What the end of a cycle makes of stations, registers and the next pc, as the state itself says it.
+use Rattle.std.specs.Prelude.{◌≡◌, ◌≤◌, ℕ, ◌<◌, nat_le, nat_lt, Bool, true, false, ◌&&◌, ◌||◌, if◌then◌else◌, not, List, Option, Some, None, is_some, length, slice_index, slice_index_or, option_map}
+use Rattle.tomex_rvdec.specs.Operands.{dest_of}
+use Rattle.tomex_rvexec.specs.Flow.{next_pc_of}
+use Rattle.tomex_rvexec.specs.Steps.{is_number}
+use Rattle.tomex_timing.specs.Tables.{field_from}
+use Rattle.tomex_bus.specs.Sets.{has}
+use Rattle.tomex_bus.specs.Picks.{IsPicked}
+use Rattle.tomex_tags.specs.Contents.{hears, step_in}
+use Rattle.tomex_tags.specs.Operands.{heard}
+use Rattle.tomex_tags.specs.Pools.{Pools}
+use Rattle.tomex_tags.specs.Registers.{names}
+use Rattle.tomex_tags.specs.declared.register_status.RegStatus.{RegStatus}
+use Rattle.tomex_tags.specs.declared.station.Station.{Station}
+use Rattle.tomex_cycle.specs.declared.fetch.Fetch.{Fetch}
+use Rattle.tomex_cycle.specs.declared.fetch.Fetch.TheVariants as from
+
+-- the unit was done by the end of the cycle
+abbrev pub is_done_by : ℕ → Option ℕ → Bool
+is_done_by t None = false
+is_done_by t (Some finish) = nat_le finish t
+
+-- the unit was done before the cycle
+abbrev pub is_done_before : ℕ → Option ℕ → Bool
+is_done_before t None = false
+is_done_before t (Some finish) = nat_lt finish t
+
+-- what has nothing to send ends as it finishes
+abbrev pub ends_alone : ℕ → Option Station → Bool
+ends_alone next None = false
+ends_alone next (Some s) = not (is_some (dest_of s.instr)) && is_done_by next s.finish
+
+-- a result is ready to be sent
+abbrev pub can_send : ℕ → Option Station → Bool
+can_send next None = false
+can_send next (Some s) = is_some (dest_of s.instr) && is_done_before next s.finish
+
+-- of the results that are ready the oldest are sent, as many as there are buses; what has nothing to send ends as it finishes
+pub record AreEnding (st : Pools) (buses next ending : ℕ) : Type 0 where
+  pub ready : ℕ
+  pub sending : ℕ
+  pub are_ready : (x : ℕ) → x < 128 → has ready x ≡ (has st.busy x && can_send next (slice_index_or st.slots x None))
+  pub sent : IsPicked ready st.ages buses sending
+  pub all : (x : ℕ) → x < 128 → has ending x ≡ (has sending x || (has st.busy x && ends_alone next (slice_index_or st.slots x None)))
+
+abbrev pub after_ends : Bool → (ℕ → Option ℕ) → Option Station → Option Station
+after_ends ended sent s = if ended then None else option_map (hears sent) s
+
+-- what a station sends as it ends
+abbrev pub sends_of : Option Station → Option ℕ
+sends_of None = None
+sends_of (Some s) = if is_some (dest_of s.instr) then Some s.value else None
+
+-- what the picked places below n send
+abbrev pub sent_below : List (Option Station) → ℕ → ℕ → ℕ → Option ℕ
+sent_below slots picked n y = if nat_lt y n && has picked y then sends_of (slice_index_or slots y None) else None
+
+-- stations after the ends of these places, and what is sent
+pub record AreEnded (ended : ℕ → Bool) (sent : ℕ → Option ℕ) (old new : Pools) : Type 0 where
+  pub places : length new.slots ≡ 96
+  pub slots : (x : ℕ) → x < 96 → slice_index_or new.slots x None ≡ after_ends (ended x) sent (slice_index_or old.slots x None)
+  pub ages : new.ages ≡ old.ages
+
+abbrev pub EndsIn : (ℕ → Bool) → (ℕ → Option ℕ) → Pools → Pools → Type 0
+EndsIn ended sent old new = length old.slots ≡ 96 → AreEnded ended sent old new
+
+-- registers after what is sent
+pub record HaveReceived (sent : ℕ → Option ℕ) (old new : RegStatus) : Type 0 where
+  pub count : length new.values ≡ 32
+  pub status : length new.tags ≡ 32
+  pub fields : (r : ℕ) → r < 32 → field_from (slice_index new.values r) (slice_index_or new.tags r None) ≡ heard sent (field_from (slice_index old.values r) (slice_index_or old.tags r None))
+
+abbrev pub Hears : (ℕ → Option ℕ) → RegStatus → RegStatus → Type 0
+Hears sent old new = length old.values ≡ 32 → length old.tags ≡ 32 → HaveReceived sent old new
+
+-- the unit is done in the cycle
+abbrev pub finishes : ℕ → Option Station → Bool
+finishes next None = false
+finishes next (Some s) = is_number s.finish next
+
+-- the next pc after what a place holds
+abbrev pub target_in : Option Station → ℕ
+target_in None = 0
+target_in (Some s) = next_pc_of (step_in s)
+
+abbrev pub after_branch : List (Option Station) → Option ℕ → Fetch
+after_branch slots None = from.Waits
+after_branch slots (Some x) = from.At (target_in (slice_index_or slots x None))
+
+-- the place of a branch that is done in the cycle, if any
+abbrev pub IsDoneBranch : ℕ → List (Option Station) → Option ℕ → Type 0
+IsDoneBranch next slots None = (x : ℕ) → 80 ≤ x → x < 96 → finishes next (slice_index_or slots x None) ≡ false
+IsDoneBranch next slots (Some x) = (80 ≤ x) × (x < 96) × (finishes next (slice_index_or slots x None) ≡ true)
+
+-- a branch that is awaited and done gives the next pc
+abbrev pub Follows : ℕ → List (Option Station) → Fetch → Fetch → Type 0
+Follows next slots (from.At pc) result = result ≡ from.At pc
+Follows next slots from.Waits result = (found : Option ℕ) × IsDoneBranch next slots found × (result ≡ after_branch slots found)
+Follows next slots (from.Stopped kind pc) result = result ≡ from.Stopped kind pc
+
+-- each Qi names a station whose destination is that register
+abbrev pub AreNamed : List (Option Station) → RegStatus → Type 0
+AreNamed slots registers = (r x : ℕ) → r < 32 → names registers r x ≡ true → (s : Station) → slice_index_or slots x None ≡ Some s → dest_of s.instr ≡ Some r

@@ -1,0 +1,71 @@
+-- What each phase of a cycle makes, and the snapshot between two cycles.
+use Rattle.std.specs.Prelude.{◌≡◌, ℕ, ◌+◌, ◌≤◌, ◌<◌, false, List, Option, Some, None, Result, Ok, Bool, true, ◌&&◌, ◌==◌}
+use Rattle.tomex_image.specs.Image.{Loaded, IsLoaded}
+use Rattle.tomex_rvexec.specs.declared.outcome.EndKind.{EndKind}
+use Rattle.tomex_rvexec.specs.declared.outcome.Fault.{Fault}
+use Rattle.tomex_rvexec.specs.declared.step.Step.{Step}
+use Rattle.tomex_rvexec.specs.History.{step_after}
+use Rattle.tomex_rvexec.specs.Machine.{State}
+use Rattle.tomex_rvexec.specs.Memory.{Bytes}
+use Rattle.tomex_rvexec.specs.Run.{RunEnds}
+use Rattle.tomex_config.specs.Row.{Row, IsRow}
+use Rattle.tomex_timing.specs.declared.times.Done.{Done}
+use Rattle.tomex_timing.specs.Recurrence.{can_issue}
+use Rattle.tomex_cycle.specs.declared.fetch.Fetch.{Fetch}
+use Rattle.tomex_cycle.specs.declared.fetch.Fetch.TheVariants.{At, Waits, Stopped}
+use Rattle.tomex_cycle.specs.Run.{AreIssuedBy, IsHistory, run_to}
+use Rattle.tomex_cycle.specs.Views.{Clocks, clocks, ShowsMemory, ShowsRegisters, ShowsStations, fetch_of}
+use Rattle.tomex_tags.specs.Pools.{Pools}
+use Rattle.tomex_tags.specs.declared.register_status.RegStatus.{RegStatus}
+
+-- the step after so many others can't have issued by the cycle
+abbrev pub IsYetToIssue : Loaded → Row → ℕ → ℕ → Type 0
+IsYetToIssue i row count t = (x : Step) → step_after i count ≡ Some x → (s : ℕ) → s ≤ t → can_issue row (run_to row i count) x s ≡ false
+
+-- What issue changes, once the issues up to cycle t are made: so many steps of the run, which ends after n others.
+pub record IsIssuedTo (i : Loaded) (row : Row) (n t : ℕ) (c : Clocks) (count : ℕ) (stations : Pools) (registers : RegStatus) (fetch : Fetch) : Type 0 where
+  pub few : count ≤ n + 1
+  pub slots : ShowsStations i c (run_to row i count) stations
+  pub status : ShowsRegisters i c.end (run_to row i count) registers
+  pub from : fetch ≡ fetch_of i c.end (run_to row i count)
+  pub issued : AreIssuedBy t (run_to row i count)
+  pub next : count ≤ n → IsYetToIssue i row count t
+
+-- The snapshot after cycle t.
+pub record IsSnapshot (i : Loaded) (row : Row) (n t count : ℕ) (stations : Pools) (registers : RegStatus) (fetch : Fetch) (memory : Bytes) : Type 0 where
+  pub issue : IsIssuedTo i row n t (clocks t t t) count stations registers fetch
+  pub bytes : ShowsMemory i t (run_to row i count) memory
+
+-- The phases of the cycle `next`, in their order. Each is stated of whatever history the state before it shows.
+
+-- starts: what starts in the cycle has its finish and its result, and memory what the stores among them leave
+abbrev pub MakesStarts : Row → ℕ → Pools → Bytes → Option Fault → Pools → Bytes → Type 0
+MakesStarts row next stations memory fault new written = (i : Loaded) (h : List Done) (t : ℕ) → next ≡ t + 1 → IsHistory i row h → AreIssuedBy t h
+    → ShowsStations i (clocks t t t) h stations → ShowsMemory i t h memory
+    → (fault ≡ None) × ShowsStations i (clocks next t t) h new × ShowsMemory i next h written
+
+-- the address of the load or store whose address cycle it is
+abbrev pub MakesAddress : ℕ → Pools → Pools → Type 0
+MakesAddress next stations new = (i : Loaded) (row : Row) (h : List Done) (t : ℕ) → next ≡ t + 1 → IsHistory i row h → AreIssuedBy t h
+    → ShowsStations i (clocks next t t) h stations → ShowsStations i (clocks next next t) h new
+
+-- the issue of the run's next step, if it is its cycle
+abbrev pub MakesIssue : Loaded → Row → ℕ → ℕ → Pools → RegStatus → Fetch → Result ℕ Fault → Pools → RegStatus → Fetch → Type 0
+MakesIssue i row next count stations registers fetch result new status from = (n : ℕ) (s : State) (kind : EndKind) (t : ℕ) → RunEnds i n s kind → n < 262144 → next ≡ t + 1 → IsRow row → IsLoaded i.window i.memory i.entry
+    → IsIssuedTo i row n t (clocks next next t) count stations registers fetch
+    → (c : ℕ) × (result ≡ Ok c) × (count ≤ c) × IsIssuedTo i row n next (clocks next next t) c new status from
+
+-- the broadcasts and ends, and the targets of branches that finish
+abbrev pub MakesEnds : Row → ℕ → Pools → RegStatus → Fetch → Pools → RegStatus → Fetch → Type 0
+MakesEnds row next stations registers fetch new status from = (i : Loaded) (h : List Done) (t : ℕ) → next ≡ t + 1 → IsHistory i row h → AreIssuedBy next h
+    → ShowsStations i (clocks next next t) h stations → ShowsRegisters i t h registers → fetch ≡ fetch_of i t h
+    → ShowsStations i (clocks next next next) h new × ShowsRegisters i next h status × (from ≡ fetch_of i next h)
+
+abbrev pub is_stopped : Fetch → Bool
+is_stopped (At pc) = false
+is_stopped Waits = false
+is_stopped (Stopped kind pc) = true
+
+-- nothing is left to issue or to end
+abbrev pub is_done : Fetch → ℕ → Bool
+is_done fetch busy = is_stopped fetch && (busy == 0)

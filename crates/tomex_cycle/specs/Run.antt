@@ -1,0 +1,50 @@
+-- The run of an image on a row: its steps with their times, the youngest first.
+use Rattle.std.specs.Prelude.{◌≡◌, ℕ, ◌≤◌, nat_le, ◌&&◌, if◌then◌else◌, List, [], ◌∷◌, None, ⊤}
+use Rattle.tomex_image.specs.Image.{Loaded}
+use Rattle.tomex_rvexec.specs.declared.step.Step.{Step}
+use Rattle.tomex_rvexec.specs.Flow.{IsAllowed, byte_in, end_of, overwrites, stored_byte}
+use Rattle.tomex_rvexec.specs.History.{Follows, history as first_steps}
+use Rattle.tomex_rvexec.specs.Run.{start_of}
+use Rattle.tomex_rvexec.specs.Trace.{steps_from}
+use Rattle.tomex_config.specs.Row.{Row, IsRow}
+use Rattle.tomex_timing.specs.declared.times.Done.{Done}
+use Rattle.tomex_timing.specs.History.{greatest_end}
+use Rattle.tomex_timing.specs.Recurrence.{AreTimed}
+use Rattle.tomex_timing.specs.Search.{timed_of, history}
+
+-- the whole run of a program that ends within 262144 steps
+unfoldable pub run_of : Row → Loaded → List Done
+run_of row i = history row (steps_from 262144 (start_of i))
+
+-- the cycles that it takes
+abbrev pub total : Row → Loaded → ℕ
+total row i = greatest_end (run_of row i)
+
+-- the first k steps of a run
+unfoldable pub run_to : Row → Loaded → ℕ → List Done
+run_to row i k = timed_of row (first_steps i k)
+
+abbrev pub steps_in : List Done → List Step
+steps_in [] = []
+steps_in (d ∷ older) = d.step ∷ steps_in older
+
+-- each step follows those older than it, and what doesn't end the program is allowed
+abbrev pub ArePast : Loaded → List Done → Type 0
+ArePast i [] = ⊤
+ArePast i (d ∷ older) = Follows i (steps_in older) d.step × (end_of d.step ≡ None → IsAllowed i d.step) × ArePast i older
+
+-- what is known of the steps that were issued
+pub record IsHistory (i : Loaded) (row : Row) (h : List Done) : Type 0 where
+  pub lawful : IsRow row
+  pub timed : AreTimed row h
+  pub past : ArePast i h
+
+-- each was issued by the cycle
+abbrev pub AreIssuedBy : ℕ → List Done → Type 0
+AreIssuedBy t [] = ⊤
+AreIssuedBy t (d ∷ older) = (d.at.issue ≤ t) × AreIssuedBy t older
+
+-- the byte of memory at an address after the starts of cycle t: the youngest store on it that has started left it
+abbrev pub byte_at : Loaded → ℕ → List Done → ℕ → ℕ
+byte_at i t [] a = byte_in (record { base = i.window.base; bytes = i.memory }) a
+byte_at i t (d ∷ older) a = if overwrites d.step a && nat_le d.at.start t then stored_byte d.step a else byte_at i t older a

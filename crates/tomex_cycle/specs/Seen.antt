@@ -1,0 +1,28 @@
+-- What contracts see of a machine.
+use Rattle.std.specs.Prelude.{ℕ, Bool, true, false, nat_lt, if◌then◌else◌, min}
+use Rattle.tomex_image.specs.Image.{Loaded}
+use Rattle.tomex_config.specs.Row.{Row}
+use Rattle.tomex_cycle.specs.declared.progress.Progress.{Progress}
+use Rattle.tomex_cycle.specs.declared.progress.Progress.TheVariants.{Running, Ended, Faulted}
+use Rattle.tomex_cycle.specs.Run.{total}
+
+-- a machine: its image, its row, the cycle that it has made last, and what that one came to
+pub record Seen : Type 0 where
+  pub image : Loaded
+  pub row : Row
+  pub cycle : ℕ
+  pub last : Progress
+
+-- the machine of an image and a row as it is after k ticks, where the program ends
+abbrev pub seen_after : Loaded → Row → ℕ → Seen
+seen_after i row k = record {
+  image = i;
+  row = row;
+  cycle = min k (total row i);
+  last = if nat_lt k (total row i) then Running else Ended;
+}
+
+abbrev pub is_end : Progress → Bool
+is_end Running = false
+is_end Ended = true
+is_end (Faulted fault) = false

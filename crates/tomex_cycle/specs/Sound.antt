@@ -1,0 +1,28 @@
+-- What holds of each machine.
+use Rattle.std.specs.Prelude.{◌≡◌, ℕ, ◌+◌, ◌≤◌, ◌<◌, ◌^◌, nat_lt, if◌then◌else◌}
+use Rattle.tomex_image.specs.Image.{Loaded, IsLoaded}
+use Rattle.tomex_rvexec.specs.declared.outcome.EndKind.{EndKind}
+use Rattle.tomex_rvexec.specs.Machine.{State}
+use Rattle.tomex_rvexec.specs.Memory.{Bytes}
+use Rattle.tomex_rvexec.specs.Run.{RunEnds}
+use Rattle.tomex_config.specs.Row.{Row, IsRow}
+use Rattle.tomex_timing.specs.History.{greatest_end}
+use Rattle.tomex_cycle.specs.declared.fetch.Fetch.{Fetch}
+use Rattle.tomex_cycle.specs.declared.progress.Progress.{Progress}
+use Rattle.tomex_cycle.specs.declared.progress.Progress.TheVariants.{Running, Ended}
+use Rattle.tomex_cycle.specs.Run.{run_to}
+use Rattle.tomex_cycle.specs.Phases.{IsSnapshot}
+use Rattle.tomex_tags.specs.Pools.{Pools}
+use Rattle.tomex_tags.specs.declared.register_status.RegStatus.{RegStatus}
+
+-- the machine after a cycle of a run that ends after n other steps
+pub record IsAfter (i : Loaded) (row : Row) (n cycle : ℕ) (last : Progress) (count : ℕ) (stations : Pools) (registers : RegStatus) (fetch : Fetch) (memory : Bytes) : Type 0 where
+  pub high : cycle ≤ greatest_end (run_to row i (n + 1))
+  pub answer : last ≡ (if nat_lt cycle (greatest_end (run_to row i (n + 1))) then Running else Ended)
+  pub snapshot : IsSnapshot i row n cycle count stations registers fetch memory
+
+pub record IsSound (i : Loaded) (row : Row) (cycle : ℕ) (last : Progress) (count : ℕ) (stations : Pools) (registers : RegStatus) (fetch : Fetch) (memory : Bytes) : Type 0 where
+  pub lawful : IsRow row
+  pub loaded : IsLoaded i.window i.memory i.entry
+  pub low : cycle ≤ 2 ^ 40
+  pub after : (n : ℕ) (s : State) (kind : EndKind) → n < 262144 → RunEnds i n s kind → IsAfter i row n cycle last count stations registers fetch memory

@@ -1,0 +1,101 @@
+-- Which operations start in a cycle, and what becomes of their stations and of memory.
+use Rattle.std.specs.Prelude.{◌≡◌, ℕ, zero, suc, ◌+◌, ◌-◌, ◌<◌, ◌≤◌, nat_lt, Bool, true, false, not, ◌&&◌, ◌||◌, if◌then◌else◌, List, [], ◌∷◌, ◌++◌, Option, Some, None, is_some, is_none, slice_index, slice_index_or, IsSome, length, option_map}
+use Rattle.tomex_rvdec.specs.Operands.{unit_of}
+use Rattle.tomex_rvdec.specs.Parts.{place_of_unit}
+use Rattle.tomex_rvdec.specs.declared.pool.UnitId.{UnitId}
+use Rattle.tomex_rvexec.specs.Access.{IsInside}
+use Rattle.tomex_rvexec.specs.Flow.{byte_in, overwrites, result_of, stored_byte}
+use Rattle.tomex_rvexec.specs.Memory.{Bytes}
+use Rattle.tomex_rvexec.specs.Steps.{is_number}
+use Rattle.tomex_config.specs.Row.{Row, option_of}
+use Rattle.tomex_bus.specs.Sets.{has}
+use Rattle.tomex_bus.specs.Picks.{IsByAge, IsPicked}
+use Rattle.tomex_tags.specs.Contents.{is_memory_op, is_ready, step_in}
+use Rattle.tomex_tags.specs.Pools.{Pools}
+use Rattle.tomex_tags.specs.declared.station.Station.{Station}
+use Rattle.tomex_membuf.specs.Order.{is_clear}
+
+-- the station waits for nothing but a unit and older accesses
+abbrev pub is_waiting : Station → Bool
+is_waiting s = is_none s.finish && is_ready s && (not (is_memory_op s.instr.op) || is_some s.address)
+
+abbrev pub kind_of : Option UnitId → Option ℕ
+kind_of None = None
+kind_of (Some unit) = Some (place_of_unit unit)
+
+abbrev pub kind_if : Bool → Option ℕ → Option ℕ
+kind_if true kind = kind
+kind_if false kind = None
+
+-- the kind of unit that is wanted for what stands in a place, behind these older ones, if its operation can start
+abbrev pub wanted : List (Option Station) → List ℕ → ℕ → Option Station → Option ℕ
+wanted slots older next None = None
+wanted slots older next (Some s) = kind_if (is_waiting s && is_clear slots older s next) (kind_of (unit_of s.instr.op))
+
+-- by kind of unit, the set of the busy places whose operations can start but for want of a unit
+pub record AreReady (st : Pools) (next : ℕ) (sets : List ℕ) : Type 0 where
+  pub inside : (kind x : ℕ) → kind < 5 → x < 128 → has (slice_index sets kind) x ≡ true → has st.busy x ≡ true
+  pub wants : (kind x : ℕ) (older younger : List ℕ) → kind < 5 → x < 128 → IsByAge st.busy st.ages (older ++ (x ∷ younger)) → has (slice_index sets kind) x ≡ is_number (wanted st.slots older next (slice_index_or st.slots x None)) kind
+
+abbrev pub is_among : List ℕ → ℕ → Bool
+is_among [] x = false
+is_among (set ∷ sets) x = has set x || is_among sets x
+
+-- of each kind the oldest ready ones start, as many as there are units
+pub record IsStarting (row : Row) (st : Pools) (next starting : ℕ) : Type 0 where
+  pub ready : List ℕ
+  pub kinds : List ℕ
+  pub are_ready : AreReady st next ready
+  pub units : (unit : UnitId) → IsPicked (slice_index ready (place_of_unit unit)) st.ages (option_of row unit).units (slice_index kinds (place_of_unit unit))
+  pub count : length kinds ≡ 5
+  pub all : (x : ℕ) → x < 128 → has starting x ≡ is_among kinds x
+
+abbrev pub finish_from : Row → ℕ → Option UnitId → Option ℕ
+finish_from row next None = None
+finish_from row next (Some unit) = Some (next + (option_of row unit).latency - 1)
+
+-- a station whose operation starts in the cycle `next`, over a memory
+abbrev pub begun : Row → ℕ → Bytes → Station → Station
+begun row next m s = record s { finish = finish_from row next (unit_of s.instr.op); value = result_of (step_in s) (byte_in m) }
+
+-- the places of stations
+abbrev pub AreLow : ℕ → Type 0
+AreLow picked = (x : ℕ) → x < 128 → has picked x ≡ true → x < 96
+
+-- the operation of a station that starts uses a unit, and its access is inside memory
+pub record CanBegin (m : Bytes) (s : Station) : Type 0 where
+  pub inside : IsInside m (step_in s)
+  pub unit : IsSome (unit_of s.instr.op)
+
+-- so it is of each place that is picked
+abbrev pub AllCanBegin : Bytes → ℕ → List (Option Station) → Type 0
+AllCanBegin m picked slots = (x : ℕ) → x < 96 → has picked x ≡ true → (s : Station) × (slice_index_or slots x None ≡ Some s) × CanBegin m s
+
+abbrev pub begun_if : Row → ℕ → Bytes → Bool → Option Station → Option Station
+begun_if row next m picked o = if picked then option_map (begun row next m) o else o
+
+-- the operations of the picked places below k have started
+pub record HaveBegun (row : Row) (next : ℕ) (m : Bytes) (picked : ℕ) (k : ℕ) (old new : Pools) : Type 0 where
+  pub places : length new.slots ≡ 96
+  pub slots : (x : ℕ) → x < 96 → slice_index_or new.slots x None ≡ begun_if row next m (nat_lt x k && has picked x) (slice_index_or old.slots x None)
+  pub ages : new.ages ≡ old.ages
+
+-- the byte at an address after the store of a place, if it is picked
+abbrev pub stored_at : Bool → Option Station → ℕ → ℕ → ℕ
+stored_at picked None a before = before
+stored_at picked (Some s) a before = if picked && overwrites (step_in s) a then stored_byte (step_in s) a else before
+
+-- the byte at an address after the stores of the picked places below k
+abbrev pub written_by : List (Option Station) → ℕ → (ℕ → ℕ) → ℕ → ℕ → ℕ
+written_by slots picked byte zero a = byte a
+written_by slots picked byte (suc k) a = stored_at (has picked k) (slice_index_or slots k None) a (written_by slots picked byte k a)
+
+-- the stores of the picked places below k are made
+pub record HaveStored (slots : List (Option Station)) (picked : ℕ) (k : ℕ) (old new : Bytes) : Type 0 where
+  pub base : new.base ≡ old.base
+  pub size : length new.bytes ≡ length old.bytes
+  pub bytes : (a : ℕ) → old.base ≤ a → byte_in new a ≡ written_by slots picked (byte_in old) k a
+
+-- the accesses of the picked places are inside memory
+abbrev pub AllInside : Bytes → ℕ → List (Option Station) → Type 0
+AllInside m picked slots = (x : ℕ) → x < 96 → has picked x ≡ true → (s : Station) → slice_index_or slots x None ≡ Some s → IsInside m (step_in s)

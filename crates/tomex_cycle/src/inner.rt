@@ -1,0 +1,132 @@
+//! What a cycle changes, and the one call that makes a cycle.
+
+ghost use Rattle.std.specs.Prelude.{ℕ, List, ◌≡◌, ◌≤◌, ◌<◌, ◌+◌, ◌^◌, IfOk, nat_lt, if◌then◌else◌};
+ghost use Rattle.tomex_image.specs.Image.{IsLoaded};
+ghost use Rattle.tomex_config.specs.Row.{IsRow};
+ghost use Rattle.tomex_rvexec.specs.declared.outcome.EndKind.{EndKind};
+ghost use Rattle.tomex_rvexec.specs.Machine.{State};
+ghost use Rattle.tomex_rvexec.specs.Run.{RunEnds};
+ghost use Rattle.tomex_timing.specs.History.{greatest_end};
+ghost use Rattle.tomex_image.specs.Image.{Loaded};
+ghost use Rattle.tomex_rvexec.specs.Run.{IsEnd};
+ghost use Rattle.tomex_timing.specs.Tables.{tables_of};
+ghost use Rattle.tomex_timing.specs.declared.times.Done.{Done};
+ghost use Rattle.tomex_tags.specs.Pools.{AreBusy};
+ghost use Rattle.tomex_cycle.specs.Run.{run_to, AreIssuedBy, IsHistory};
+ghost use Rattle.tomex_cycle.specs.Views.{clocks, ShowsStations, ShowsRegisters};
+ghost use Rattle.tomex_cycle.specs.Phases.{IsSnapshot, is_done};
+
+use crate::fetch::Fetch;
+use crate::phases;
+use crate::progress::Progress;
+use crate::shown::Tables;
+use std::alloc::{AllocError, Allocator, Global};
+use tomex_config::Config;
+use tomex_image::Image;
+use tomex_rvexec::{End, Memory};
+use tomex_tags::{Pools, RegStatus};
+
+/// Stations, registers and memory.
+#[derive(Drop)]
+pub struct Inner<A: Allocator = Global> {
+    pools: Pools,
+    registers: RegStatus,
+    memory: Memory<A>,
+    fetch: Fetch,
+    /// How many instructions have issued.
+    count: u32,
+}
+
+impl<A: Allocator> Inner<A> {
+    /// Makes one cycle.
+    pub fn make_cycle<B: Allocator>(
+        &mut self,
+        image: &Image<B>,
+        row: &Config,
+        next: u64,
+    ) -> Progress
+        requires next { next < 2 ^ 41 }
+        ensures cycle { (n : ℕ) (s : State) (kind : EndKind) (t : ℕ) → RunEnds image.now n s kind → n < 262144 → next ≡ t + 1 → IsRow row.now → IsLoaded image.now.window image.now.memory image.now.entry
+            → IsSnapshot image.now row.now n t self.old.count self.old.pools self.old.registers self.old.fetch self.old.memory
+            → IsSnapshot image.now row.now n next self.new.count self.new.pools self.new.registers self.new.fetch self.new.memory
+            × (result ≡ (if nat_lt next (greatest_end (run_to row.now image.now (n + 1))) then Progress.Running else Progress.Ended)) }
+    {
+        if let Some(fault) = phases::start(&mut self.pools, &mut self.memory, row, next) {
+            return Progress::Faulted(fault);
+        }
+        phases::address(&mut self.pools, next);
+        match phases::issue(
+            &mut self.pools,
+            &mut self.registers,
+            &mut self.fetch,
+            self.count,
+            image,
+            row,
+            next,
+        ) {
+            Ok(count) => self.count = count,
+            Err(fault) => return Progress::Faulted(fault),
+        }
+        phases::end(
+            &mut self.pools,
+            &mut self.registers,
+            &mut self.fetch,
+            row,
+            next,
+        );
+        Progress::after(self.is_over())
+    }
+
+    /// Whether nothing is left to issue or to end.
+    fn is_over(&self) -> bool
+        ensures over { result ≡ is_done self.now.fetch self.now.pools.busy }
+        ensures busy { AreBusy self.now.pools.slots self.now.pools.busy self.now.pools.ages }
+    {
+        let busy = self.pools.busy();
+        matches!(self.fetch, Fetch::Stopped(..)) && busy == 0
+    }
+
+    /// Before the first cycle.
+    pub fn new<B: Allocator>(alloc: A, image: &Image<B>) -> Result<Self, AllocError>
+        ensures start { IfOk result (λ c. (row : _) (n : ℕ) → IsSnapshot image.now row n 0 c.count c.pools c.registers c.fetch c.memory) }
+        ensures none { IfOk result (λ c. c.count ≡ 0) }
+    {
+        let mut bytes = Vec::with_capacity(alloc, image.memory().len())?;
+        bytes.extend_from_slice(image.memory())?;
+        let window = image.window();
+        let end = u64::from(window.base()) + u64::from(window.size());
+        let stack = (end / 16 * 16 % (1 << 32)) as u32;
+        Ok(Inner {
+            pools: Pools::new(),
+            registers: RegStatus::new(stack),
+            memory: Memory::new(window.base(), bytes),
+            fetch: Fetch::At(image.entry()),
+            count: 0,
+        })
+    }
+
+    /// The tables after a cycle.
+    pub fn tables(&self, cycle: u64) -> Tables
+        ensures cycle { result.cycle ≡ cycle }
+        ensures shown { (i : Loaded) (h : List Done) (row : _) → IsHistory i row h → AreIssuedBy cycle h
+            → ShowsStations i (clocks cycle cycle cycle) h self.now.pools → ShowsRegisters i cycle h self.now.registers → result ≡ tables_of cycle h }
+    {
+        let busy = self.pools.shown();
+        Tables::new(cycle, busy, self.registers.tags)
+    }
+
+    /// The end of the run.
+    pub fn into_end(self) -> End<A>
+        ensures ends { (i : Loaded) (row : _) (n : ℕ) (s : State) (kind : EndKind) (t : ℕ) → RunEnds i n s kind → n < 262144 → IsRow row → IsLoaded i.window i.memory i.entry
+            → IsSnapshot i row n t self.count self.pools self.registers self.fetch self.memory → greatest_end (run_to row i (n + 1)) ≤ t → IsEnd i 262144 result }
+    {
+        let (kind, pc) = self.fetch.stop();
+        End {
+            kind,
+            pc,
+            steps: self.count,
+            regs: self.registers.values,
+            memory: self.memory,
+        }
+    }
+}

@@ -1,0 +1,45 @@
+//! The issue of one instruction.
+
+ghost use Rattle.tomex_cycle.specs.Issue.{IssuesNext};
+
+use crate::fetch::Fetch;
+use std::alloc::Allocator;
+use tomex_config::Config;
+use tomex_image::Image;
+use tomex_rvexec::{Fault, instruction_at};
+use tomex_tags::{Pools, RegStatus, Tag, issue};
+
+/// Issues the next instruction, where no branch and no want of a station is in its way, and answers whether it did.
+pub fn issue_next<A: Allocator>(
+    pools: &mut Pools,
+    registers: &mut RegStatus,
+    fetch: &mut Fetch,
+    count: u32,
+    image: &Image<A>,
+    row: &Config,
+) -> Result<bool, Fault>
+    ensures issues { IssuesNext image.now row.now count pools.old registers.old fetch.old result pools.new registers.new fetch.new }
+{
+    let pc = match *fetch {
+        Fetch::At(pc) => pc,
+        _ => return Ok(false),
+    };
+    let instr = match instruction_at(image, pc) {
+        Ok(instr) => instr,
+        Err(kind) => return Err(Fault { kind, pc }),
+    };
+    let pool = match instr.pool() {
+        Some(pool) => pool,
+        None => {
+            *fetch = Fetch::after(instr, pc);
+            return Ok(true);
+        }
+    };
+    let number = match pools.free(pool, row.stations(pool)) {
+        Some(number) => number,
+        None => return Ok(false),
+    };
+    issue(pools, registers, Tag { pool, number }, instr, pc, count);
+    *fetch = Fetch::after(instr, pc);
+    Ok(true)
+}

@@ -1,0 +1,131 @@
+//! The machine.
+
+ghost use Rattle.std.specs.Prelude.{◌≡◌, ◌≢◌, ◌<◌, ◌≤◌, ◌+◌, ◌^◌, max, IfOk, true};
+ghost use Rattle.tomex_rvexec.specs.Run.{EndsWithin, IsEnd};
+ghost use Rattle.tomex_timing.specs.Tables.{tables_of};
+ghost use Rattle.tomex_cycle.specs.Run.{run_of};
+ghost use Rattle.tomex_cycle.specs.Seen.{seen_after, is_end};
+
+use crate::inner::Inner;
+use crate::progress::Progress;
+use crate::shown::Tables;
+use std::alloc::{AllocError, Allocator, Global};
+use std::marker::Model;
+use tomex_config::Config;
+use tomex_image::Image;
+use tomex_rvexec::End;
+
+/// A Tomasulo machine that runs an image.
+#[derive(Drop)]
+pub struct Machine<'a, A: Allocator = Global> {
+    image: &'a Image<A>,
+    row: Config,
+    cycle: u64,
+    last: Progress,
+    inner: Inner<A>,
+}
+
+impl<'a, A: Allocator> Model for Machine<'a, A> {
+    ghost use Rattle.tomex_cycle.specs.Seen.{Seen};
+    ghost use Rattle.tomex_cycle.specs.Sound.{IsSound};
+
+    ghost Value = { Seen };
+
+    ghost view = { λ m. record { image = m.image.now; row = m.row; cycle = m.cycle; last = m.last } };
+
+    ghost invariant = { λ m. IsSound m.image.now m.row m.cycle m.last m.inner.count m.inner.pools m.inner.registers m.inner.fetch m.inner.memory };
+}
+
+impl<'a, A: Allocator> Machine<'a, A> {
+    /// The machine of an image and a row, before the first cycle.
+    pub fn new(alloc: A, image: &'a Image<A>, row: &Config) -> Result<Self, AllocError>
+        ensures { IfOk result (λ m. m ≡ record { image = image.now; row = row.now; cycle = 0; last = Progress.Running }) }
+    {
+        // Read for what the types of the row and the image keep.
+        let _buses = row.buses();
+        let _entry = image.entry();
+        Ok(Machine {
+            image,
+            row: *row,
+            cycle: 0,
+            last: Progress::Running,
+            inner: Inner::new(alloc, image)?,
+        })
+    }
+
+    /// Makes one cycle. Once the program has ended or faulted it changes nothing.
+    pub fn tick(&mut self) -> Progress
+        requires { self.old.cycle < 2 ^ 40 }
+        ensures answer { result ≡ self.new.last }
+        ensures image { self.new.image ≡ self.old.image }
+        ensures row { self.new.row ≡ self.old.row }
+        ensures runs { result ≡ Progress.Running → self.new.cycle ≡ self.old.cycle + 1 }
+        ensures least { self.old.cycle ≤ self.new.cycle }
+        ensures most { self.new.cycle ≤ self.old.cycle + 1 }
+        ensures stays { self.old.last ≢ Progress.Running → self.new ≡ self.old }
+        ensures ends { EndsWithin self.old.image 262144 → self.new ≡ seen_after self.old.image self.old.row (self.old.cycle + 1) }
+    {
+        match self.last {
+            Progress::Running => {}
+            last => return last,
+        }
+        self.last = self.inner.make_cycle(self.image, &self.row, self.cycle + 1);
+        self.cycle += 1;
+        self.last
+    }
+
+    /// Does what as many ticks do as bring the cycle to `to`, fewer where the machine ends or faults.
+    pub fn advance(&mut self, to: u64) -> Progress
+        requires { to ≤ 2 ^ 40 }
+        ensures answer { result ≡ self.new.last }
+        ensures image { self.new.image ≡ self.old.image }
+        ensures row { self.new.row ≡ self.old.row }
+        ensures runs { result ≡ Progress.Running → self.new.cycle ≡ max self.old.cycle to }
+        ensures least { self.old.cycle ≤ self.new.cycle }
+        ensures most { self.new.cycle ≤ max self.old.cycle to }
+        ensures stays { self.old.last ≢ Progress.Running → self.new ≡ self.old }
+        ensures none { to ≤ self.old.cycle → self.new ≡ self.old }
+        ensures ends { EndsWithin self.old.image 262144 → self.new ≡ seen_after self.old.image self.old.row (max self.old.cycle to) }
+    {
+        // Read for what the machine's type keeps.
+        let _start = self.cycle();
+        while self.cycle < to {
+            match self.tick() {
+                Progress::Running => {}
+                _ => break,
+            }
+        }
+        self.last
+    }
+
+    /// The cycle that was made last.
+    pub fn cycle(&self) -> u64
+        ensures value { result ≡ self.now.cycle }
+        ensures ends { EndsWithin self.now.image 262144 → self.now ≡ seen_after self.now.image self.now.row self.now.cycle }
+    {
+        self.cycle
+    }
+
+    /// Whether the program has ended, and so has each of its instructions.
+    pub fn ended(&self) -> bool
+        ensures value { result ≡ is_end self.now.last }
+    {
+        matches!(self.last, Progress::Ended)
+    }
+
+    /// The busy stations and the register status.
+    pub fn tables(&self) -> Tables
+        ensures cycle { result.cycle ≡ self.now.cycle }
+        ensures ends { EndsWithin self.now.image 262144 → result ≡ tables_of self.now.cycle (run_of self.now.row self.now.image) }
+    {
+        self.inner.tables(self.cycle)
+    }
+
+    /// The end of the run: its kind, pc, number of steps, registers and memory.
+    pub fn finish(self) -> End<A>
+        requires { is_end self.last ≡ true }
+        ensures ends { EndsWithin self.entry.image 262144 → IsEnd self.entry.image 262144 result }
+    {
+        self.inner.into_end()
+    }
+}

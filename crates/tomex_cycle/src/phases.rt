@@ -1,0 +1,75 @@
+//! The phases of a cycle. Each reads only what no earlier one of the cycle has changed.
+
+ghost use Rattle.std.specs.Prelude.{◌≡◌, ◌<◌, ◌^◌, IsSome, None, option_map, slice_index_or, slice_set};
+ghost use Rattle.tomex_tags.specs.Contents.{with_address};
+ghost use Rattle.tomex_cycle.specs.Phases.{MakesStarts, MakesAddress, MakesIssue, MakesEnds};
+
+use crate::fetch::Fetch;
+use crate::issue::issue_next;
+use crate::{ends, starts};
+use std::alloc::Allocator;
+use tomex_config::Config;
+use tomex_image::Image;
+use tomex_membuf::address_next;
+use tomex_rvexec::{Fault, Memory};
+use tomex_tags::{Pools, RegStatus};
+
+/// Starts operations, the oldest first; loads and stores access memory.
+pub fn start<A: Allocator>(
+    pools: &mut Pools,
+    memory: &mut Memory<A>,
+    row: &Config,
+    next: u64,
+) -> Option<Fault>
+    requires next { next < 2 ^ 41 }
+    ensures starts { MakesStarts row.now next pools.old memory.old result pools.new memory.new }
+{
+    let starting = starts::starting(pools, row, next);
+    let fault = starts::begin(pools, starting, memory, row, next);
+    starts::write(pools, starting, memory);
+    fault
+}
+
+/// Gives the station of a place its address.
+fn give_address(pools: &mut Pools, place: usize)
+    ensures slots { IsSome (slice_index_or pools.old.slots place None) → pools.new.slots ≡ slice_set pools.old.slots place (option_map with_address (slice_index_or pools.old.slots place None)) }
+    ensures ages { pools.new.ages ≡ pools.old.ages }
+{
+    if let Some(station) = pools.at(place) {
+        pools.update(place, station.with_address());
+    }
+}
+
+/// The address of the oldest load or store without one, where its base is there.
+pub fn address(pools: &mut Pools, next: u64)
+    ensures addresses { MakesAddress next pools.old pools.new }
+{
+    if let Some(place) = address_next(pools) {
+        give_address(pools, place);
+    }
+}
+
+/// Issues the next instruction, where nothing is in its way.
+pub fn issue<A: Allocator>(
+    pools: &mut Pools,
+    registers: &mut RegStatus,
+    fetch: &mut Fetch,
+    count: u32,
+    image: &Image<A>,
+    row: &Config,
+    next: u64,
+) -> Result<u32, Fault>
+    ensures issues { MakesIssue image.now row.now next count pools.old registers.old fetch.old result pools.new registers.new fetch.new }
+{
+    let made = issue_next(pools, registers, fetch, count, image, row)?;
+    Ok(count.wrapping_add(u32::from(made)))
+}
+
+/// Sends results over the buses, frees stations, and follows branches.
+pub fn end(pools: &mut Pools, registers: &mut RegStatus, fetch: &mut Fetch, row: &Config, next: u64)
+    ensures ends { MakesEnds row.now next pools.old registers.old fetch.old pools.new registers.new fetch.new }
+{
+    let ending = ends::ending(pools, row.buses(), next);
+    *fetch = ends::follow(*fetch, pools, next);
+    ends::apply(pools, registers, ending);
+}

@@ -1,0 +1,40 @@
+//! The tables after a cycle.
+
+ghost use Rattle.std.specs.Prelude.{◌≡◌};
+
+use std::marker::Model;
+use tomex_timing::{Busy, Tag};
+
+/// The busy stations and the register status after a cycle.
+#[derive(Drop)]
+pub struct Tables {
+    cycle: u64,
+    busy: [Option<Busy>; 96],
+    registers: [Option<Tag>; 32],
+}
+
+impl Model for Tables {
+    ghost use Rattle.std.specs.List.{filter_map};
+    ghost use Rattle.tomex_timing.specs.Tables.{Tables};
+
+    ghost Value = { Tables };
+
+    ghost view = { λ t. record { cycle = t.cycle; busy = filter_map (λ b. b) t.busy; registers = t.registers } };
+}
+
+impl Tables {
+    ghost use Rattle.std.specs.List.{filter_map};
+
+    /// The tables of these stations and this register status.
+    pub fn new(cycle: u64, busy: [Option<Busy>; 96], registers: [Option<Tag>; 32]) -> Tables
+        ensures cycle { result.cycle ≡ cycle }
+        ensures busy { result.busy ≡ filter_map (λ b. b) busy }
+        ensures registers { result.registers ≡ registers }
+    {
+        Tables {
+            cycle,
+            busy,
+            registers,
+        }
+    }
+}

@@ -1,0 +1,168 @@
+//! Which operations start in a cycle, and what they do.
+
+ghost use Rattle.std.specs.Prelude.{ℕ, List, ◌≡◌, ◌<◌, ◌^◌, ◌++◌, ◌∷◌, IfSome, IsSome, None, Some, slice_index_or, slice_set, length, true};
+ghost use Rattle.tomex_bus.specs.Picks.{IsByAge};
+ghost use Rattle.tomex_bus.specs.Sets.{has};
+ghost use Rattle.tomex_tags.specs.Contents.{step_in};
+ghost use Rattle.tomex_tags.specs.Pools.{AreBusy};
+ghost use Rattle.tomex_rvexec.specs.Access.{HasStored};
+ghost use Rattle.tomex_cycle.specs.Starts.{AllCanBegin, AllInside, AreLow, AreReady, CanBegin, HaveBegun, HaveStored, IsStarting, begun, is_waiting, wanted};
+
+use std::alloc::Allocator;
+use tomex_bus::pick;
+use tomex_bus::sets::{lowest, union, with, without};
+use tomex_config::Config;
+use tomex_membuf::{may_access, read, write as write_bytes};
+use tomex_rvdec::UnitId;
+use tomex_rvexec::{Fault, FaultKind, Memory};
+use tomex_tags::{Pools, Station};
+
+/// Whether a station waits for nothing but a unit and older accesses.
+#[inline(always)]
+fn is_waiting(station: &Station) -> bool
+    ensures { result ≡ is_waiting station.now }
+{
+    station.finish.is_none()
+        && station.ready()
+        && (!station.is_memory() || station.address.is_some())
+}
+
+/// The kind of unit that is wanted for the station in a place, if its operation can start.
+#[inline(always)]
+fn wanted(pools: &Pools, place: usize, next: u64) -> Option<usize>
+    requires { place < 128 }
+    ensures kind { (older younger : List ℕ) → IsByAge pools.now.busy pools.now.ages (older ++ (place ∷ younger)) → result ≡ wanted pools.now.slots older next (slice_index_or pools.now.slots place None) }
+    ensures low { IfSome result (λ kind. kind < 5) }
+{
+    let station = pools.at(place)?;
+    let kind = station.instr.unit()?.place();
+    if is_waiting(&station) && may_access(pools, place, &station, next) {
+        Some(kind)
+    } else {
+        None
+    }
+}
+
+/// By kind of unit, the places whose operations can start but for want of a unit.
+fn ready(pools: &Pools, next: u64) -> [u128; 5]
+    ensures ready { AreReady pools.now next result }
+    ensures busy { AreBusy pools.now.slots pools.now.busy pools.now.ages }
+{
+    let mut ready = [0; 5];
+    let mut rest = pools.busy();
+    'members: while rest != 0 {
+        let place = lowest(rest);
+        rest = without(rest, place);
+        if let Some(kind) = wanted(pools, place, next) {
+            ready[kind] = with(ready[kind], place);
+        }
+    }
+    ready
+}
+
+/// The places whose operations start in the cycle: of each kind the oldest that are ready, as many as
+/// there are units.
+pub fn starting(pools: &Pools, row: &Config, next: u64) -> u128
+    ensures starting { IsStarting row.now pools.now next result }
+    ensures busy { AreBusy pools.now.slots pools.now.busy pools.now.ages }
+{
+    let ready = ready(pools, next);
+    let ages = pools.ages();
+    let alu = pick(ready[0], ages, row.units(UnitId::Alu));
+    let mul = pick(ready[1], ages, row.units(UnitId::Mul));
+    let div = pick(ready[2], ages, row.units(UnitId::Div));
+    let mem = pick(ready[3], ages, row.units(UnitId::Mem));
+    let bru = pick(ready[4], ages, row.units(UnitId::Bru));
+    union(alu, union(mul, union(div, union(mem, bru))))
+}
+
+/// The station with its operation started; `None` where its access lies outside memory.
+fn begun<A: Allocator>(
+    station: &Station,
+    memory: &Memory<A>,
+    row: &Config,
+    next: u64,
+) -> Option<Station>
+    requires { next < 2 ^ 41 }
+    ensures value { IfSome result (λ s. s ≡ begun row.now next memory.now station.now) }
+    ensures inside { CanBegin memory.now station.now → IsSome result }
+{
+    let unit = station.instr.unit()?;
+    let value = read(station, memory)?;
+    Some(Station {
+        finish: Some(next + u64::from(row.latency(unit)) - 1),
+        value,
+        ..*station
+    })
+}
+
+/// Starts the operation of a place; a fault where its access lies outside memory.
+fn begin_at<A: Allocator>(
+    pools: &mut Pools,
+    place: usize,
+    memory: &Memory<A>,
+    row: &Config,
+    next: u64,
+) -> Option<Fault>
+    requires next { next < 2 ^ 41 }
+    ensures slots { (s : Station) → slice_index_or pools.old.slots place None ≡ Some s → CanBegin memory.now s → pools.new.slots ≡ slice_set pools.old.slots place (Some (begun row.now next memory.now s)) }
+    ensures good { (s : Station) → slice_index_or pools.old.slots place None ≡ Some s → CanBegin memory.now s → result ≡ None }
+    ensures ages { pools.new.ages ≡ pools.old.ages }
+{
+    if let Some(station) = pools.at(place) {
+        match begun(&station, memory, row, next) {
+            Some(begun) => pools.update(place, begun),
+            None => return Some(Fault {
+                kind: FaultKind::Access,
+                pc: station.pc,
+            }),
+        }
+    }
+    None
+}
+
+/// Starts the operations of the picked places, over what memory holds before any of them.
+pub fn begin<A: Allocator>(
+    pools: &mut Pools,
+    picked: u128,
+    memory: &Memory<A>,
+    row: &Config,
+    next: u64,
+) -> Option<Fault>
+    requires next { next < 2 ^ 41 }
+    ensures begins { length pools.old.slots ≡ 96 → AreLow picked → AllCanBegin memory.now picked pools.old.slots → HaveBegun row.now next memory.now picked 96 pools.old pools.new }
+    ensures good { length pools.old.slots ≡ 96 → AreLow picked → AllCanBegin memory.now picked pools.old.slots → result ≡ None }
+{
+    let mut rest = picked;
+    'members: while rest != 0 {
+        let place = lowest(rest);
+        rest = without(rest, place);
+        let fault = begin_at(pools, place, memory, row, next);
+        if fault.is_some() {
+            return fault;
+        }
+    }
+    None
+}
+
+/// Makes the store of a place, if there is one.
+fn write_at<A: Allocator>(pools: &Pools, place: usize, memory: &mut Memory<A>)
+    ensures stored { (s : Station) → slice_index_or pools.now.slots place None ≡ Some s → HasStored (step_in s) memory.old memory.new }
+    ensures none { slice_index_or pools.now.slots place None ≡ None → memory.new ≡ memory.old }
+{
+    if let Some(station) = pools.at(place) {
+        write_bytes(&station, memory);
+    }
+}
+
+/// Makes the stores of the picked places.
+pub fn write<A: Allocator>(pools: &Pools, picked: u128, memory: &mut Memory<A>)
+    ensures { AreLow picked → AllInside memory.old picked pools.now.slots → HaveStored pools.now.slots picked 96 memory.old memory.new }
+{
+    let mut rest = picked;
+    'members: while rest != 0 {
+        let place = lowest(rest);
+        rest = without(rest, place);
+        write_at(pools, place, memory);
+    }
+}

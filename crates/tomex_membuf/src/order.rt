@@ -1,0 +1,75 @@
+//! Accesses that share a byte are made in program order.
+
+ghost use Rattle.std.specs.Prelude.{ℕ, List, None, ◌≡◌, ◌<◌, ◌++◌, ◌∷◌, ◌&&◌, not, nat_lt, slice_index, slice_index_or};
+ghost use Rattle.tomex_bus.specs.Picks.{IsByAge};
+ghost use Rattle.tomex_timing.specs.Recurrence.{shares_byte};
+ghost use Rattle.tomex_membuf.specs.Order.{is_before, is_clear, lets};
+
+use tomex_bus::sets::{lowest, without};
+use tomex_rvexec::ByteRange;
+use tomex_tags::{Pools, Station};
+
+#[inline(always)]
+fn shares_byte(a: Option<ByteRange>, b: Option<ByteRange>) -> bool
+    ensures { result ≡ shares_byte a b }
+{
+    match (a, b) {
+        (Some(a), Some(b)) => a.from < b.to && b.from < a.to,
+        _ => false,
+    }
+}
+
+#[inline(always)]
+fn is_before(finish: Option<u64>, next: u64) -> bool
+    ensures { result ≡ is_before finish next }
+{
+    match finish {
+        Some(finish) => finish < next,
+        None => false,
+    }
+}
+
+/// Whether a station needn't wait for an older one.
+#[inline(always)]
+fn lets(other: Option<Station>, station: &Station, next: u64) -> bool
+    ensures { result ≡ lets other station.now next }
+{
+    match other {
+        Some(other) => {
+            let conflict = shares_byte(other.bytes(), station.bytes())
+                && (other.step().is_store() || station.step().is_store());
+            !conflict || is_before(other.finish, next)
+        }
+        None => true,
+    }
+}
+
+/// Whether a station must wait for the one in a place, where that one is older.
+#[inline(always)]
+fn is_blocked_by(pools: &Pools, other: usize, station: &Station, age: u32, next: u64) -> bool
+    requires { other < 128 }
+    ensures { result ≡ (nat_lt (slice_index pools.now.ages other) age && not (lets (slice_index_or pools.now.slots other None) station.now next)) }
+{
+    pools.ages()[other] < age && !lets(pools.at(other), station, next)
+}
+
+/// Whether no older load or store that isn't finished before the cycle shares a byte with the one in
+/// a place, one of the two being a store. What accesses no memory waits for none.
+pub fn may_access(pools: &Pools, place: usize, station: &Station, next: u64) -> bool
+    requires { place < 128 }
+    ensures { (older younger : List ℕ) → IsByAge pools.now.busy pools.now.ages (older ++ (place ∷ younger)) → result ≡ is_clear pools.now.slots older station.now next }
+{
+    if station.bytes().is_none() {
+        return true;
+    }
+    let age = pools.ages()[place];
+    let mut rest = pools.busy();
+    'members: while rest != 0 {
+        let other = lowest(rest);
+        rest = without(rest, other);
+        if is_blocked_by(pools, other, station, age, next) {
+            return false;
+        }
+    }
+    true
+}

@@ -1,0 +1,106 @@
+//! What the operation of one step computes and does, once its operands are there: its result, its
+//! store, and the pc that follows it. For machines that carry values apart from registers.
+
+ghost use Rattle.std.specs.Prelude.{◌≡◌, IfSome, IsSome, IsTrue, true};
+ghost use Rattle.tomex_rvdec.specs.Operands.{pool_of};
+ghost use Rattle.tomex_rvdec.specs.declared.pool.PoolId.TheVariants as pools;
+ghost use Rattle.tomex_rvexec.specs.Access.{HasStored, IsInside, has_bytes};
+ghost use Rattle.tomex_rvexec.specs.Flow.{byte_in, loaded, next_pc_of, result_of};
+ghost use Rattle.tomex_rvexec.specs.Steps.{access_size, is_in};
+
+use crate::memory::Memory;
+use crate::step::Step;
+use crate::words::{alu, muldiv, taken};
+use std::alloc::Allocator;
+use tomex_rvdec::{Form, Op, PoolId};
+
+/// What a load gets; `None` where a byte of it lies outside memory.
+#[tactic(auto, using(crate::proofs::FlowBytes::half_loaded, crate::proofs::FlowBytes::word_loaded))]
+fn loaded<A: Allocator>(op: Op, address: u32, memory: &Memory<A>) -> Option<u32>
+    requires { is_in pools.Load (pool_of op) ≡ true }
+    ensures value { IfSome result (λ v. v ≡ loaded op (byte_in memory.now) address) }
+    ensures inside { IsTrue (has_bytes memory.now address (access_size op)) → IsSome result }
+    ensures outside { IfSome result (λ v. IsTrue (has_bytes memory.now address (access_size op))) }
+{
+    match op {
+        Op::Lb => memory.load_byte(address),
+        Op::Lh => memory.load_half(address),
+        Op::Lbu => memory.load_byte_unsigned(address),
+        Op::Lhu => memory.load_half_unsigned(address),
+        _ => memory.load_word(address),
+    }
+}
+
+/// The result of a step, what its destination gets; 0 where the step writes no register.
+///
+/// `None` only where a byte of its access lies outside memory.
+pub fn result<A: Allocator>(step: &Step, memory: &Memory<A>) -> Option<u32>
+    ensures value { IfSome result (λ v. v ≡ result_of step.now (byte_in memory.now)) }
+    ensures inside { IsInside memory.now step.now → IsSome result }
+    ensures outside { IfSome result (λ v. IsInside memory.now step.now) }
+{
+    let op = step.instr.op();
+    let imm = step.instr.imm();
+    match op {
+        Op::Lui => Some(imm),
+        Op::Auipc => Some(step.pc.wrapping_add(imm)),
+        Op::Jal | Op::Jalr => Some(step.pc.wrapping_add(4)),
+        _ => match step.pool() {
+            Some(PoolId::Alu) => match op.form() {
+                Form::Register => Some(alu(op, step.vj, step.vk)),
+                _ => Some(alu(op, step.vj, imm)),
+            },
+            Some(PoolId::Mul) | Some(PoolId::Div) => Some(muldiv(op, step.vj, step.vk)),
+            Some(PoolId::Load) => loaded(op, step.vj.wrapping_add(imm), memory),
+            Some(PoolId::Store) => {
+                let size = match op {
+                    Op::Sb => 1,
+                    Op::Sh => 2,
+                    _ => 4,
+                };
+                let _place = memory.place(step.vj.wrapping_add(imm), size)?;
+                Some(0)
+            }
+            _ => Some(0),
+        },
+    }
+}
+
+/// Writes the bytes of a step's store. Every other step, and a store with a byte outside memory,
+/// leaves memory as it was.
+pub fn store<A: Allocator>(step: &Step, memory: &mut Memory<A>)
+    ensures stored { HasStored step.now memory.old memory.new }
+    ensures outside { (IsInside memory.old step.now → ⊥) → memory.new ≡ memory.old }
+{
+    let address = step.vj.wrapping_add(step.instr.imm());
+    match step.instr.op() {
+        Op::Sb => {
+            let _inside = memory.store_byte(address, step.vk);
+        }
+        Op::Sh => {
+            let _inside = memory.store_half(address, step.vk);
+        }
+        Op::Sw => {
+            let _inside = memory.store_word(address, step.vk);
+        }
+        _ => {}
+    }
+}
+
+/// The pc after a step. Whether it is a multiple of 4 and in memory is for others to say.
+pub fn next_pc(step: &Step) -> u32
+    ensures { result ≡ next_pc_of step.now }
+{
+    let imm = step.instr.imm();
+    match step.instr.op() {
+        Op::Jal => step.pc.wrapping_add(imm),
+        Op::Jalr => step.vj.wrapping_add(imm) & !1,
+        op => {
+            if taken(op, step.vj, step.vk) {
+                step.pc.wrapping_add(imm)
+            } else {
+                step.pc.wrapping_add(4)
+            }
+        }
+    }
+}

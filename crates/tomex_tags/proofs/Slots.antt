@@ -1,0 +1,153 @@
+-- The places of six pools of 16 stations, one after the other.
+use Rattle.std.proofs.Common.{ℕ, zero, suc, ◌+◌, ◌*◌, ◌-◌, ◌/◌, ◌%◌, ◌^◌, ◌<◌, ◌≤◌, ◌≡◌, ◌∙◌, true, false, arith, refl, ap, sym, inl, inr, List, [], ◌∷◌, ◌++◌, Option, Some, None, length, slice_index_or, slice_set, replicate, get_or}
+use Rattle.std.specs.Prelude.{◌==◌, if◌then◌else◌, is_some, is_none, IsSome, IfSome, IfNone}
+use Rattle.std.proofs.lemmas.Bool.{cases_Bool, cases_order, eqb-true, eqb-false}
+use Rattle.std.proofs.lemmas.List.{get_or_append_left, get_or-append_right, length-set, get_or-set_same, get_or-set_other, set-append_left, set-append_right}
+use Rattle.std.proofs.lemmas.List.Concat.{flat_map-cons}
+use Rattle.std.proofs.lemmas.Nat.Bits.{bit_at-zero}
+use Rattle.std.proofs.lemmas.List.{get_or-replicate, get_or_past}
+use Rattle.tomex_timing.specs.Recurrence.{IsLeast}
+use Rattle.tomex_bus.specs.Sets.{has, IsWith, IsWithout}
+use Rattle.tomex_tags.specs.declared.station.Station.{Station}
+use Rattle.tomex_tags.specs.Pools.{AreFilled, AreSix, AreSixteen, slots_of}
+
+abbrev Pool : Type 0
+Pool = List (Option Station)
+
+slots_cons : (s : Pool) (ss : List Pool) → slots_of (s ∷ ss) ≡ s ++ slots_of ss
+slots_cons s ss = flat_map-cons (λ (x : Pool). x) s ss
+
+slot_get : (pools : List Pool) (p n : ℕ) (d : Pool) → AreSixteen pools → p < length pools → n < 16 → slice_index_or (slots_of pools) (16 * p + n) None ≡ slice_index_or (get_or pools p d) n None
+slot_get [] p n d sizes l small = absurd (omega arith)
+slot_get (s ∷ ss) zero n d sizes l small =
+    let count : length s ≡ 16 = sizes.0 in
+    let place : 16 * 0 + n ≡ n = omega arith in
+    rw (slots_cons s ss, place) (get_or_append_left s (slots_of ss) None n (omega arith))
+slot_get (s ∷ ss) (suc p) n d sizes l small =
+    let place : 16 * suc p + n - 16 ≡ 16 * p + n = omega arith in
+    rw (slots_cons s ss) (get_or-append_right s (slots_of ss) 16 (16 * suc p + n) None sizes.0 (omega arith) ∙ rw place (slot_get ss p n d sizes.1 (omega arith) small))
+
+slot_set : (pools : List Pool) (p n : ℕ) (d : Pool) (v : Option Station) → AreSixteen pools → p < length pools → n < 16 → slots_of (slice_set pools p (slice_set (get_or pools p d) n v)) ≡ slice_set (slots_of pools) (16 * p + n) v
+slot_set [] p n d v sizes l small = absurd (omega arith)
+slot_set (s ∷ ss) zero n d v sizes l small =
+    let count : length s ≡ 16 = sizes.0 in
+    let place : 16 * 0 + n ≡ n = omega arith in
+    rw (slots_cons s ss, place) (slots_cons (slice_set s n v) ss ∙ sym (set-append_left s (slots_of ss) n v (omega arith)))
+slot_set (s ∷ ss) (suc p) n d v sizes l small =
+    let place : 16 * suc p + n - 16 ≡ 16 * p + n = omega arith in
+    rw (slots_cons s ss) (slots_cons s (slice_set ss p (slice_set (get_or ss p d) n v))
+    ∙ (ap (λ (xs : Pool). s ++ xs) (slot_set ss p n d v sizes.1 (omega arith) small)
+    ∙ sym (set-append_right s (slots_of ss) 16 (16 * suc p + n) v sizes.0 (omega arith) ∙ rw place refl)))
+
+sizes_set : (pools : List Pool) (p : ℕ) (s : Pool) → AreSixteen pools → length s ≡ 16 → AreSixteen (slice_set pools p s)
+sizes_set [] p s sizes e = sizes
+sizes_set (x ∷ xs) zero s sizes e = (e, sizes.1)
+sizes_set (x ∷ xs) (suc p) s sizes e = (sizes.0, sizes_set xs p s sizes.1 e)
+
+size_at : (pools : List Pool) (p : ℕ) (d : Pool) → AreSixteen pools → p < length pools → length (get_or pools p d) ≡ 16
+size_at [] p d sizes l = absurd (omega arith)
+size_at (x ∷ xs) zero d sizes l = sizes.0
+size_at (x ∷ xs) (suc p) d sizes l = size_at xs p d sizes.1 (omega arith)
+
+parts : (x : ℕ) → 16 * (x / 16) + x % 16 ≡ x
+parts x = omega arith
+
+-- what stands in a place
+pub at_place : (pools : List Pool) (x : ℕ) (d : Pool) → AreSix pools → x < 96 → slice_index_or (get_or pools (x / 16) d) (x % 16) None ≡ slice_index_or (slots_of pools) x None
+at_place pools x d six l =
+    let count : length pools ≡ 6 = six.count in
+    sym (ap (λ (y : ℕ). slice_index_or (slots_of pools) y None) (sym (parts x)) ∙ slot_get pools (x / 16) (x % 16) d six.sizes (omega arith) (omega arith))
+
+abbrev pub set_in : List Pool → ℕ → Pool → Option Station → List Pool
+set_in pools x d v = slice_set pools (x / 16) (slice_set (get_or pools (x / 16) d) (x % 16) v)
+
+pub set_place : (pools : List Pool) (x : ℕ) (d : Pool) (v : Option Station) → AreSix pools → x < 96 → slots_of (set_in pools x d v) ≡ slice_set (slots_of pools) x v
+set_place pools x d v six l =
+    let count : length pools ≡ 6 = six.count in
+    slot_set pools (x / 16) (x % 16) d v six.sizes (omega arith) (omega arith) ∙ ap (λ (y : ℕ). slice_set (slots_of pools) y v) (parts x)
+
+-- a place is written, and the set of the busy ones says so
+pub filled_by : (pools : List Pool) (busy new : ℕ) (ages later : List ℕ) (x : ℕ) (d : Pool) (v : Option Station) → AreFilled pools busy ages → x < 96 → length later ≡ 128 → new < 2 ^ 128 → ((y : ℕ) → y < 128 → has new y ≡ (if x == y then is_some v else has busy y)) → AreFilled (set_in pools x d v) new later
+filled_by pools busy new ages later x d v filled l count small said =
+    let six = filled.six in
+    let places : length (slots_of pools) ≡ 96 = filled.filled.places in
+    let pool_count : length pools ≡ 6 = six.count in
+    record {
+      six = record {
+        count = length-set pools (x / 16) (slice_set (get_or pools (x / 16) d) (x % 16) v) ∙ six.count;
+        sizes = sizes_set pools (x / 16) (slice_set (get_or pools (x / 16) d) (x % 16) v) six.sizes (length-set (get_or pools (x / 16) d) (x % 16) v ∙ size_at pools (x / 16) d six.sizes (omega arith));
+      };
+      filled = record {
+        places = ap length (set_place pools x d v six l) ∙ (length-set (slots_of pools) x v ∙ places);
+        ages_count = count;
+        small = small;
+        each = λ y m. said y m ∙ rw (set_place pools x d v six l) (elim (cases_Bool (x == y)) [
+          | inl e ↦ let same : x ≡ y = eqb-true x y e in rw (e, ← same) (sym (ap is_some (get_or-set_same (slots_of pools) x v None (omega arith))))
+          | inr e ↦ rw e (filled.filled.each y m ∙ sym (ap is_some (get_or-set_other (slots_of pools) x y v None (λ z. eqb-false x y e (sym z)))))
+        ]);
+      };
+    }
+
+pub said_with : (busy new x : ℕ) (v : Option Station) → is_some v ≡ true → IsWith busy x new → (y : ℕ) → y < 128 → has new y ≡ (if x == y then is_some v else has busy y)
+said_with busy new x v some more y l = elim (cases_Bool (x == y)) [
+  | inl e ↦ let same : x ≡ y = eqb-true x y e in rw (e, ← same) (more.same ∙ sym some)
+  | inr e ↦ rw e (more.others y (λ z. eqb-false x y e (sym z)))
+]
+
+pub said_without : (busy new x : ℕ) → IsWithout busy x new → (y : ℕ) → y < 128 → has new y ≡ (if x == y then is_some {T = Station} None else has busy y)
+said_without busy new x less y l = elim (cases_Bool (x == y)) [
+  | inl e ↦ let same : x ≡ y = eqb-true x y e in rw (e, ← same) less.same
+  | inr e ↦ rw e (less.others y l (λ z. eqb-false x y e (sym z)))
+]
+
+pub said_same : (busy x : ℕ) (v : Option Station) → has busy x ≡ is_some v → (y : ℕ) → y < 128 → has busy y ≡ (if x == y then is_some v else has busy y)
+said_same busy x v same y l = elim (cases_Bool (x == y)) [
+  | inl e ↦ let f : x ≡ y = eqb-true x y e in rw (e, ← f) same
+  | inr e ↦ rw e refl
+]
+
+some_busy : (o : Option Station) → IsSome o → true ≡ is_some o
+some_busy None h = sym h
+some_busy (Some s) h = refl
+
+-- a busy place is in the set
+pub busy_at : (pools : List Pool) (busy : ℕ) (ages : List ℕ) (x : ℕ) → AreFilled pools busy ages → x < 96 → IsSome (slice_index_or (slots_of pools) x None) → has busy x ≡ true
+busy_at pools busy ages x filled l some = filled.filled.each x (omega arith) ∙ sym (some_busy (slice_index_or (slots_of pools) x None) some)
+
+-- a number of a pool is a place
+number_at : (pools : List Pool) (p n : ℕ) (s : Pool) → AreSix pools → p < 6 → n < 16 → s ≡ get_or pools p s → slice_index_or s n None ≡ slice_index_or (slots_of pools) (16 * p + n) None
+number_at pools p n s six l small e =
+    let count : length pools ≡ 6 = six.count in
+    ap (λ (xs : Pool). slice_index_or xs n None) e ∙ sym (slot_get pools p n s six.sizes (omega arith) small)
+
+least_open : (pools : List Pool) (p n : ℕ) (s : Pool) → AreSix pools → p < 6 → n < 16 → s ≡ get_or pools p s → IsLeast (λ m. is_none (slice_index_or s m None)) n → IsLeast (λ m. is_none (slice_index_or (slots_of pools) (16 * p + m) None)) n
+least_open pools p n s six l small e least = (
+  ap is_none (sym (number_at pools p n s six l small e)) ∙ least.0,
+  λ m less. ap is_none (sym (number_at pools p m s six l (omega arith) e)) ∙ least.1 m less,
+)
+
+pub free_some : (pools : List Pool) (p count : ℕ) (s : Pool) (o : Option ℕ) → AreSix pools → p < 6 → count ≤ 16 → s ≡ get_or pools p s → IfSome o (λ n. IsLeast (λ m. is_none (slice_index_or s m None)) n) → IfSome o (λ n. n < count)
+    → IfSome o (λ n. IsLeast (λ m. is_none (slice_index_or (slots_of pools) (16 * p + m) None)) n × (n < count))
+free_some pools p count s None six l few e least less = tt
+free_some pools p count s (Some n) six l few e least less = let k : n < count = less in (least_open pools p n s six l (omega arith) e least, less)
+
+pub free_none : (pools : List Pool) (p count : ℕ) (s : Pool) (o : Option ℕ) → AreSix pools → p < 6 → count ≤ 16 → s ≡ get_or pools p s → IfNone o ((n : ℕ) → n < count → is_none (slice_index_or s n None) ≡ false) → IfNone o ((n : ℕ) → n < count → is_none (slice_index_or (slots_of pools) (16 * p + n) None) ≡ false)
+free_none pools p count s (Some n) six l few e none = tt
+free_none pools p count s None six l few e none = λ n less. ap is_none (sym (number_at pools p n s six l (omega arith) e)) ∙ none n less
+
+-- six pools in which nothing stands
+abbrev pub idle_pools : List Pool
+idle_pools = replicate 6 (replicate 16 None)
+
+no_station : (x : ℕ) → x < 128 → is_some (slice_index_or (slots_of idle_pools) x None) ≡ false
+no_station x l = elim (cases_order x 96) [
+  | inl e ↦ rw e refl
+  | inr (inl less) ↦ ap is_some (get_or-replicate 96 x None None less)
+  | inr (inr more) ↦ ap is_some (get_or_past (slots_of idle_pools) x None (omega arith))
+]
+
+pub idle_filled : (a b c d e f : Pool) (ages : List ℕ) → a ≡ replicate 16 None → b ≡ replicate 16 None → c ≡ replicate 16 None → d ≡ replicate 16 None → e ≡ replicate 16 None → f ≡ replicate 16 None → length ages ≡ 128 → AreFilled (a ∷ b ∷ c ∷ d ∷ e ∷ f ∷ []) 0 ages
+idle_filled a b c d e f ages ea eb ec ed ee ef count = rw (ea, eb, ec, ed, ee, ef) (record {
+  six = record { count = refl; sizes = (refl, (refl, (refl, (refl, (refl, (refl, tt)))))) };
+  filled = record { places = refl; ages_count = count; small = omega arith; each = λ x l. ap (λ b. b == 1) (bit_at-zero x) ∙ sym (no_station x l) };
+})

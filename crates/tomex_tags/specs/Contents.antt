@@ -1,0 +1,68 @@
+-- What a busy station holds, and what becomes of it.
+use Rattle.std.specs.Prelude.{ℕ, Bool, true, false, not, ◌&&◌, ◌||◌, Option, Some, None, is_some}
+use Rattle.tomex_rvdec.specs.Operands.{pool_of}
+use Rattle.tomex_rvdec.specs.declared.instr.Instr.{Instr}
+use Rattle.tomex_rvdec.specs.declared.op.Op.{Op}
+use Rattle.tomex_rvdec.specs.declared.pool.PoolId.TheVariants as pools
+use Rattle.tomex_rvexec.specs.declared.step.ByteRange.{ByteRange}
+use Rattle.tomex_rvexec.specs.declared.step.Step.{Step}
+use Rattle.tomex_rvexec.specs.Steps.{bytes_of, is_in}
+use Rattle.tomex_rvexec.specs.Words.{sum}
+use Rattle.tomex_timing.specs.declared.tables.Busy.{Busy}
+use Rattle.tomex_timing.specs.declared.tables.Field.{Field}
+use Rattle.tomex_timing.specs.declared.tables.Field.TheVariants.{Value, Waits, Unread}
+use Rattle.tomex_timing.specs.declared.tables.Tag.{Tag}
+use Rattle.tomex_tags.specs.declared.station.Station.{Station}
+use Rattle.tomex_tags.specs.Operands.{heard, is_there, value_in}
+
+-- loads and stores
+abbrev pub is_memory_op : Op → Bool
+is_memory_op op = is_in pools.Load (pool_of op) || is_in pools.Store (pool_of op)
+
+-- no Q stands
+abbrev pub is_ready : Station → Bool
+is_ready s = is_there s.j && is_there s.k
+
+-- the step that a station holds, once its operands are there
+abbrev pub step_in : Station → Step
+step_in s = record { instr = s.instr; pc = s.pc; vj = value_in s.j; vk = value_in s.k }
+
+abbrev pub bytes_from : Option ℕ → Step → Option ByteRange
+bytes_from None x = None
+bytes_from (Some a) x = bytes_of x
+
+-- the bytes of an access whose address is known
+abbrev pub bytes_in : Station → Option ByteRange
+bytes_in s = bytes_from s.address (step_in s)
+
+-- a load or store whose address isn't computed yet
+abbrev pub lacks_address : Option Station → Bool
+lacks_address None = false
+lacks_address (Some s) = is_memory_op s.instr.op && not (is_some s.address)
+
+abbrev pub address_from : Station → Field → Station
+address_from s (Value base) = record s { address = Some (sum base s.instr.imm) }
+address_from s (Waits tag) = s
+address_from s Unread = s
+
+-- the station with its address, where its base is there
+abbrev pub with_address : Station → Station
+with_address s = address_from s s.j
+
+-- a station after what is sent, by place
+abbrev pub hears : (ℕ → Option ℕ) → Station → Station
+hears sent s = record s { j = heard sent s.j; k = heard sent s.k }
+
+-- A: the immediate before the address is known
+abbrev pub a_from : Bool → Option ℕ → ℕ → Option ℕ
+a_from false address imm = None
+a_from true None imm = Some imm
+a_from true (Some a) imm = Some a
+
+-- what the tables show of a station
+abbrev pub busy_from : Tag → Station → Busy
+busy_from tag s = record { tag = tag; instr = s.instr; j = s.j; k = s.k; a = a_from (is_memory_op s.instr.op) s.address s.instr.imm }
+
+-- what an instruction's issue puts into its station
+abbrev pub issued : Instr → ℕ → Field → Field → Station
+issued instr pc j k = record { instr = instr; pc = pc; j = j; k = k; address = None; finish = None; value = 0 }

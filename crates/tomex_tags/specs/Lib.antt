@@ -1,0 +1,5 @@
+pub mod Places
+pub mod Operands
+pub mod Contents
+pub mod Pools
+pub mod Registers

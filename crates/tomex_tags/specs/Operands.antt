@@ -1,0 +1,32 @@
+-- An operand: a value (V), the tag of the station that will send it (Q), or nothing that is read.
+use Rattle.std.specs.Prelude.{ℕ, Bool, true, false, ◌==◌, if◌then◌else◌, Option, Some, None}
+use Rattle.tomex_timing.specs.declared.tables.Field.{Field}
+use Rattle.tomex_timing.specs.declared.tables.Field.TheVariants.{Value, Waits, Unread}
+use Rattle.tomex_timing.specs.declared.tables.Tag.{Tag}
+use Rattle.tomex_tags.specs.Places.{place_of_tag}
+
+-- no Q stands
+abbrev pub is_there : Field → Bool
+is_there (Value v) = true
+is_there (Waits tag) = false
+is_there Unread = true
+
+-- the value of an operand, 0 where it isn't there
+abbrev pub value_in : Field → ℕ
+value_in (Value v) = v
+value_in (Waits tag) = 0
+value_in Unread = 0
+
+abbrev pub taken : Option ℕ → Tag → Field
+taken None tag = Waits tag
+taken (Some v) tag = Value v
+
+-- an operand after what is sent, by place
+abbrev pub heard : (ℕ → Option ℕ) → Field → Field
+heard sent (Waits tag) = taken (sent (place_of_tag tag)) tag
+heard sent (Value v) = Value v
+heard sent Unread = Unread
+
+-- one place sends
+abbrev pub only : ℕ → Option ℕ → ℕ → Option ℕ
+only x sent y = if x == y then sent else None

@@ -1,0 +1,48 @@
+-- The stations of all pools.
+use Rattle.std.specs.Prelude.{ℕ, ◌+◌, ◌*◌, ◌^◌, ◌<◌, ◌≡◌, Bool, List, [], ◌∷◌, ⊤, Option, None, is_none, is_some, length, slice_index_or, option_map}
+use Rattle.std.specs.List.{flat_map}
+use Rattle.tomex_bus.specs.Sets.{has}
+use Rattle.tomex_rvdec.specs.Parts.{place_of_pool}
+use Rattle.tomex_rvdec.specs.declared.pool.PoolId.{PoolId}
+use Rattle.tomex_tags.specs.declared.station.Station.{Station}
+use Rattle.tomex_tags.specs.Contents.{hears}
+
+-- by place: what stands there, the set of the busy ones, and how many instructions issued before each of them
+pub record Pools : Type 0 where
+  pub slots : List (Option Station)
+  pub busy : ℕ
+  pub ages : List ℕ
+
+abbrev pub slots_of : List (List (Option Station)) → List (Option Station)
+slots_of pools = flat_map (λ stations. stations) pools
+
+abbrev pub AreSixteen : List (List (Option Station)) → Type 0
+AreSixteen [] = ⊤
+AreSixteen (stations ∷ rest) = (length stations ≡ 16) × AreSixteen rest
+
+-- six pools of 16
+pub record AreSix (pools : List (List (Option Station))) : Type 0 where
+  pub count : length pools ≡ 6
+  pub sizes : AreSixteen pools
+
+-- the set is of the places in which a station is busy
+pub record AreBusy (slots : List (Option Station)) (busy : ℕ) (ages : List ℕ) : Type 0 where
+  pub places : length slots ≡ 96
+  pub ages_count : length ages ≡ 128
+  pub small : busy < 2 ^ 128
+  pub each : (x : ℕ) → x < 128 → has busy x ≡ is_some (slice_index_or slots x None)
+
+pub record AreFilled (pools : List (List (Option Station))) (busy : ℕ) (ages : List ℕ) : Type 0 where
+  pub six : AreSix pools
+  pub filled : AreBusy (slots_of pools) busy ages
+
+-- nothing stands in a pool's station of this number
+abbrev pub is_open : List (Option Station) → PoolId → ℕ → Bool
+is_open slots pool n = is_none (slice_index_or slots (16 * place_of_pool pool + n) None)
+
+-- each station has heard what is sent, and nothing else has changed
+pub record HaveHeard (sent : ℕ → Option ℕ) (old new : Pools) : Type 0 where
+  pub places : length new.slots ≡ 96
+  pub slots : (x : ℕ) → x < 96 → slice_index_or new.slots x None ≡ option_map (hears sent) (slice_index_or old.slots x None)
+  pub busy : new.busy ≡ old.busy
+  pub ages : new.ages ≡ old.ages

@@ -1,0 +1,27 @@
+-- The registers and their status.
+use Rattle.std.specs.Prelude.{ℕ, Bool, if◌then◌else◌, List, Option, Some, None, slice_index, slice_index_or, slice_set}
+use Rattle.tomex_rvexec.specs.Steps.{is_number}
+use Rattle.tomex_timing.specs.Tables.{field_from}
+use Rattle.tomex_timing.specs.declared.tables.Field.{Field}
+use Rattle.tomex_timing.specs.declared.tables.Field.TheVariants.{Unread}
+use Rattle.tomex_timing.specs.declared.tables.Tag.{Tag}
+use Rattle.tomex_tags.specs.declared.register_status.RegStatus.{RegStatus}
+use Rattle.tomex_tags.specs.Places.{place_at}
+
+-- what the registers give an operand: the value where Qi is empty, else the tag that Qi names
+abbrev pub operand_in : RegStatus → Option ℕ → Field
+operand_in registers None = Unread
+operand_in registers (Some r) = field_from (slice_index registers.values r) (slice_index_or registers.tags r None)
+
+-- the register status once a destination waits for a station
+abbrev pub tags_with : List (Option Tag) → Option ℕ → Tag → List (Option Tag)
+tags_with tags None tag = tags
+tags_with tags (Some r) tag = slice_set tags r (Some tag)
+
+-- a register's Qi names the station of a place
+abbrev pub names : RegStatus → ℕ → ℕ → Bool
+names registers r x = is_number (place_at (slice_index_or registers.tags r None)) x
+
+-- a register takes what a place sends: where its Qi still names the place it is written and Qi is emptied
+abbrev pub received : RegStatus → ℕ → ℕ → ℕ → RegStatus
+received registers r x value = if names registers r x then record { values = slice_set registers.values r value; tags = slice_set registers.tags r None } else registers

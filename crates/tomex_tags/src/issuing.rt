@@ -1,0 +1,51 @@
+//! The issue of an instruction to a free station.
+
+ghost use Rattle.std.specs.Prelude.{◌≡◌, ◌<◌, Some, IfSome, slice_set};
+ghost use Rattle.tomex_rvdec.specs.Operands.{sources_of, dest_of};
+ghost use Rattle.tomex_bus.specs.Sets.{IsWith};
+ghost use Rattle.tomex_tags.specs.Places.{place_of_tag};
+ghost use Rattle.tomex_tags.specs.Contents.{issued};
+ghost use Rattle.tomex_tags.specs.Registers.{operand_in, tags_with};
+
+use crate::places::place;
+use crate::pools::Pools;
+use crate::register_status::RegStatus;
+use crate::station::Station;
+use tomex_rvdec::Instr;
+use tomex_timing::Tag;
+
+/// Issues an instruction to the station of a tag; so many have issued before it.
+///
+/// A source whose register has no Qi gives its value, any other the tag that will send it. From here
+/// on the destination waits for the new tag.
+#[inline(always)]
+pub fn issue(
+    pools: &mut Pools,
+    registers: &mut RegStatus,
+    tag: Tag,
+    instr: Instr,
+    pc: u32,
+    age: u32,
+)
+    requires { tag.number < 16 }
+    ensures slots { pools.new.slots ≡ slice_set pools.old.slots (place_of_tag tag) (Some (issued instr pc (operand_in registers.old (sources_of instr).j) (operand_in registers.old (sources_of instr).k))) }
+    ensures busy { IsWith pools.old.busy (place_of_tag tag) pools.new.busy }
+    ensures ages { pools.new.ages ≡ slice_set pools.old.ages (place_of_tag tag) age }
+    ensures values { registers.new.values ≡ registers.old.values }
+    ensures sources { IfSome (sources_of instr).j (λ r. r < 32) × IfSome (sources_of instr).k (λ r. r < 32) }
+    ensures dest { IfSome (dest_of instr) (λ r. r < 32) }
+    ensures status { registers.new.tags ≡ tags_with registers.old.tags (dest_of instr) tag }
+{
+    let sources = instr.sources();
+    let station = Station {
+        instr,
+        pc,
+        j: registers.read(sources.j),
+        k: registers.read(sources.k),
+        address: None,
+        finish: None,
+        value: 0,
+    };
+    pools.take(place(tag), station, age);
+    registers.await_result(instr.dest(), tag);
+}

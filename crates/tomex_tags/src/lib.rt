@@ -1,0 +1,27 @@
+//! Reservation stations, their tags, and the register status of a Tomasulo machine.
+//!
+//! An instruction that issues takes a station of its pool. An operand that is still to come is
+//! named by the tag of the station that will send it; so is each register whose youngest writer
+//! hasn't sent its result. A broadcast turns a tag into a value wherever it stands.
+//!
+//! Sources: R. M. Tomasulo, "An Efficient Algorithm for Exploiting Multiple Arithmetic Units", 1967,
+//! and the chapter on Tomasulo's algorithm in Hennessy and Patterson's "Computer Architecture: A
+//! Quantitative Approach" (the fields Op, Vj, Vk, Qj, Qk, A and Qi).
+#![tactic(auto)]
+
+mod broadcasting;
+mod issuing;
+mod places;
+mod pools;
+mod register_status;
+mod station;
+mod stations;
+
+pub use broadcasting::broadcast;
+pub use issuing::issue;
+pub use places::{place, tag};
+pub use pools::Pools;
+pub use register_status::RegStatus;
+pub use station::Station;
+pub use stations::Stations;
+pub use tomex_timing::{Busy, Field, Tag};

@@ -1,0 +1,171 @@
+//! The reservation stations of all pools.
+
+ghost use Rattle.std.specs.Prelude.{ℕ, ◌≡◌, ◌<◌, ◌≤◌, Some, None, IfSome, IfNone, IsSome, false, replicate, slice_index_or, slice_set, length, option_map};
+ghost use Rattle.tomex_timing.specs.Recurrence.{IsLeast};
+ghost use Rattle.tomex_bus.specs.Sets.{IsWith, IsWithout};
+ghost use Rattle.tomex_tags.specs.Places.{tag_at_place};
+ghost use Rattle.tomex_tags.specs.Contents.{busy_from};
+ghost use Rattle.tomex_tags.specs.Operands.{only};
+ghost use Rattle.tomex_tags.specs.Pools.{AreBusy, HaveHeard, is_open};
+
+use crate::places::tag;
+use crate::station::Station;
+use crate::stations::Stations;
+use std::marker::Model;
+use tomex_bus::sets::{lowest, with, without};
+use tomex_rvdec::PoolId;
+use tomex_timing::Busy;
+
+/// The stations of the six pools, by place.
+#[derive(Drop)]
+pub struct Pools {
+    pools: [Stations; 6],
+    /// The places of the busy stations.
+    busy: u128,
+    /// How many instructions had issued before the one in a place.
+    ages: [u32; 128],
+}
+
+impl Model for Pools {
+    ghost use Rattle.tomex_tags.specs.Pools.{AreFilled, Pools, slots_of};
+
+    ghost Value = { Pools };
+
+    ghost view = { λ p. record { slots = slots_of p.pools; busy = p.busy; ages = p.ages } };
+
+    ghost invariant = { λ p. AreFilled p.pools p.busy p.ages };
+}
+
+impl Pools {
+    /// None is busy.
+    pub fn new() -> Pools
+        ensures slots { result.slots ≡ replicate 96 None }
+        ensures busy { result.busy ≡ 0 }
+        ensures ages { result.ages ≡ replicate 128 0 }
+    {
+        Pools {
+            pools: [
+                Stations::new(),
+                Stations::new(),
+                Stations::new(),
+                Stations::new(),
+                Stations::new(),
+                Stations::new(),
+            ],
+            busy: 0,
+            ages: [0; 128],
+        }
+    }
+
+    /// The station in a place, where it is busy.
+    #[inline(always)]
+    pub fn at(&self, place: usize) -> Option<Station>
+        ensures { result ≡ slice_index_or self.now.slots place None }
+    {
+        if place < 96 {
+            self.pools[place / 16].at(place % 16)
+        } else {
+            None
+        }
+    }
+
+    /// The places of the busy stations.
+    #[inline(always)]
+    pub fn busy(&self) -> u128
+        ensures set { result ≡ self.now.busy }
+        ensures busy { AreBusy self.now.slots result self.now.ages }
+    {
+        self.busy
+    }
+
+    /// How many instructions had issued before the one in each busy place.
+    #[inline(always)]
+    pub fn ages(&self) -> &[u32; 128]
+        ensures { result.now ≡ self.now.ages }
+    {
+        &self.ages
+    }
+
+    /// The station of a busy place from here on.
+    #[inline(always)]
+    pub fn update(&mut self, place: usize, station: Station)
+        requires { IsSome (slice_index_or self.old.slots place None) }
+        ensures slots { self.new.slots ≡ slice_set self.old.slots place (Some station) }
+        ensures busy { self.new.busy ≡ self.old.busy }
+        ensures ages { self.new.ages ≡ self.old.ages }
+    {
+        if place < 96 {
+            self.pools[place / 16].put(place % 16, Some(station));
+        }
+    }
+
+    /// A station takes a place; so many instructions had issued before its own.
+    #[inline(always)]
+    pub fn take(&mut self, place: usize, station: Station, age: u32)
+        requires { place < 96 }
+        ensures slots { self.new.slots ≡ slice_set self.old.slots place (Some station) }
+        ensures busy { IsWith self.old.busy place self.new.busy }
+        ensures ages { self.new.ages ≡ slice_set self.old.ages place age }
+    {
+        self.pools[place / 16].put(place % 16, Some(station));
+        self.busy = with(self.busy, place);
+        self.ages[place] = age;
+    }
+
+    /// Frees the station of a place.
+    #[inline(always)]
+    pub fn release(&mut self, place: usize)
+        requires { place < 96 }
+        ensures slots { self.new.slots ≡ slice_set self.old.slots place None }
+        ensures busy { IsWithout self.old.busy place self.new.busy }
+        ensures ages { self.new.ages ≡ self.old.ages }
+    {
+        self.pools[place / 16].put(place % 16, None);
+        self.busy = without(self.busy, place);
+    }
+
+    /// The least free number of a pool, of so many stations.
+    #[inline(always)]
+    pub fn free(&self, pool: PoolId, count: u8) -> Option<u8>
+        requires { count ≤ 16 }
+        ensures some { IfSome result (λ n. IsLeast (is_open self.now.slots pool) n × (n < count)) }
+        ensures none { IfNone result ((n : ℕ) → n < count → is_open self.now.slots pool n ≡ false) }
+    {
+        self.pools[pool.place()].free(count)
+    }
+
+    /// What the tables show of each place.
+    pub fn shown(&self) -> [Option<Busy>; 96]
+        ensures count { length result ≡ 96 }
+        ensures each { (x : ℕ) → x < 96 → slice_index_or result x None ≡ option_map (busy_from (tag_at_place x)) (slice_index_or self.now.slots x None) }
+    {
+        let mut busy: [Option<Busy>; 96] = [None; 96];
+        for place in 0..96 {
+            busy[place] = self.shown_at(place);
+        }
+        busy
+    }
+
+    fn shown_at(&self, place: usize) -> Option<Busy>
+        ensures { result ≡ option_map (busy_from (tag_at_place place)) (slice_index_or self.now.slots place None) }
+    {
+        match self.at(place) {
+            Some(station) => Some(station.shown(tag(place))),
+            None => None,
+        }
+    }
+
+    /// Turns each Q that names a place into V.
+    pub fn hear(&mut self, from: usize, value: u32)
+        ensures { HaveHeard (only from (Some value)) self.old self.new }
+    {
+        let mut rest = self.busy();
+        'members: while rest != 0 {
+            let place = lowest(rest);
+            rest = without(rest, place);
+            if let Some(station) = self.at(place) {
+                self.update(place, station.hears(from, value));
+            }
+        }
+    }
+}

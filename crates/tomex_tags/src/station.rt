@@ -1,0 +1,164 @@
+//! A busy reservation station.
+
+ghost use Rattle.std.specs.Prelude.{◌≡◌, Some};
+ghost use Rattle.tomex_tags.specs.Operands.{is_there, value_in, heard, only};
+ghost use Rattle.tomex_tags.specs.Contents.{bytes_in, busy_from, hears, is_memory_op, is_ready, lacks_address, step_in, with_address};
+
+use crate::places::place;
+use tomex_rvdec::{Instr, PoolId};
+use tomex_rvexec::{ByteRange, Step};
+use tomex_timing::{Busy, Field, Tag};
+
+/// A busy station: an instruction that has issued and not ended.
+#[derive(Clone, Copy)]
+pub struct Station {
+    pub instr: Instr,
+    pub pc: u32,
+    /// The operands: a value (V), a tag (Q), or nothing that is read.
+    pub j: Field,
+    pub k: Field,
+    /// The address of a load or store, from its address cycle on.
+    pub address: Option<u32>,
+    /// The cycle in which the unit is done, from the start on.
+    pub finish: Option<u64>,
+    /// The result, from the start on, and 0 before.
+    pub value: u32,
+}
+
+/// Whether no Q stands.
+#[inline(always)]
+fn is_there(field: Field) -> bool
+    ensures { result ≡ is_there field }
+{
+    match field {
+        Field::Waits(_) => false,
+        _ => true,
+    }
+}
+
+/// The value of an operand, 0 where it isn't there.
+#[inline(always)]
+fn value(field: Field) -> u32
+    ensures { result ≡ value_in field }
+{
+    match field {
+        Field::Value(value) => value,
+        _ => 0,
+    }
+}
+
+/// An operand after a place has sent a value.
+#[inline(always)]
+fn heard(field: Field, from: usize, value: u32) -> Field
+    ensures { result ≡ heard (only from (Some value)) field }
+{
+    match field {
+        Field::Waits(tag) => {
+            if from == place(tag) {
+                Field::Value(value)
+            } else {
+                field
+            }
+        }
+        _ => field,
+    }
+}
+
+impl Station {
+    /// Whether both operands are there.
+    #[inline(always)]
+    pub fn ready(&self) -> bool
+        ensures { result ≡ is_ready self.now }
+    {
+        is_there(self.j) && is_there(self.k)
+    }
+
+    /// The step that the station holds, once its operands are there.
+    #[inline(always)]
+    pub fn step(&self) -> Step
+        ensures { result ≡ step_in self.now }
+    {
+        Step {
+            instr: self.instr,
+            pc: self.pc,
+            vj: value(self.j),
+            vk: value(self.k),
+        }
+    }
+
+    /// Whether it holds a load or store.
+    #[inline(always)]
+    pub fn is_memory(&self) -> bool
+        ensures { result ≡ is_memory_op self.now.instr.op }
+    {
+        match self.instr.pool() {
+            Some(PoolId::Load) | Some(PoolId::Store) => true,
+            _ => false,
+        }
+    }
+
+    /// The bytes of an access whose address is known.
+    #[inline(always)]
+    pub fn bytes(&self) -> Option<ByteRange>
+        ensures { result ≡ bytes_in self.now }
+    {
+        match self.address {
+            Some(_) => self.step().bytes(),
+            None => None,
+        }
+    }
+
+    /// Whether it is a load or store whose address isn't computed yet.
+    #[inline(always)]
+    pub fn lacks_address(&self) -> bool
+        ensures { result ≡ lacks_address (Some self.now) }
+    {
+        self.is_memory() && self.address.is_none()
+    }
+
+    /// The station with its address, where its base is there.
+    pub fn with_address(&self) -> Station
+        ensures { result ≡ with_address self.now }
+    {
+        match self.j {
+            Field::Value(base) => Station {
+                address: Some(base.wrapping_add(self.instr.imm())),
+                ..*self
+            },
+            _ => *self,
+        }
+    }
+
+    /// The station after a place has sent a value.
+    #[inline(always)]
+    pub fn hears(&self, from: usize, value: u32) -> Station
+        ensures { result ≡ hears (only from (Some value)) self.now }
+    {
+        Station {
+            j: heard(self.j, from, value),
+            k: heard(self.k, from, value),
+            ..*self
+        }
+    }
+
+    /// What the tables show of it.
+    pub fn shown(&self, tag: Tag) -> Busy
+        ensures { result ≡ busy_from tag self.now }
+    {
+        let a = if self.is_memory() {
+            match self.address {
+                Some(address) => Some(address),
+                None => Some(self.instr.imm()),
+            }
+        } else {
+            None
+        };
+        Busy {
+            tag,
+            instr: self.instr,
+            j: self.j,
+            k: self.k,
+            a,
+        }
+    }
+}
