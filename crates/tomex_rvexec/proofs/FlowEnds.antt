@@ -1,5 +1,5 @@
 -- A run has one state after so many steps, one end, and one list of steps.
-use Rattle.std.proofs.Common.{◌≡◌, ℕ, zero, suc, ◌+◌, ◌-◌, ◌<◌, ◌≤◌, ◌⊎◌, inl, inr, List, [], ◌∷◌, ◌++◌, Some, refl, sym, ap, ◌∙◌, subst, arith, append_assoc, add-one}
+use Rattle.std.proofs.Common.{◌≡◌, ℕ, zero, suc, ◌+◌, ◌-◌, ◌<◌, ◌≤◌, ◌⊎◌, inl, inr, List, [], ◌∷◌, ◌++◌, None, Some, refl, sym, ap, ◌∙◌, subst, arith, append_assoc, add-one}
 use Rattle.std.specs.Prelude.{IsSome, reverse}
 use Rattle.std.proofs.lemmas.Bool.{cases_order, cases_eq}
 use Rattle.std.proofs.lemmas.List.{append-nil, reverse-append}
@@ -176,3 +176,14 @@ step_ends_it i n s kind x r c = ends_by (state_after i n) x kind c (at_end i n s
 
 pub end_is : (i : Loaded) (n : ℕ) (s : State) (kind : EndKind) → IsLoaded i.window i.memory i.entry → RunEnds i n s kind → Leaves i (history i n) s
 end_is i n s kind loaded r = run_leaves i n s loaded r.leads
+
+-- what doesn't end the program is allowed, also of the last step
+pub step_allowed : (i : Loaded) (n k : ℕ) (s : State) (kind : EndKind) (x : Step) → IsLoaded i.window i.memory i.entry → RunEnds i n s kind → k ≤ n → step_after i k ≡ Some x → end_of x ≡ None → IsAllowed i x
+step_allowed i n k s kind x loaded r h c none = elim (cases_order k n) [
+  | inl same ↦ absurd (no_end x kind none (step_ends_it i n s kind x r (rw (← same) c)))
+  | inr (inl less) ↦ step_goes_on i n k s kind x loaded r less c
+  | inr (inr more) ↦ absurd (omega arith)
+]
+  where
+    no_end : (x : Step) (kind : EndKind) → end_of x ≡ None → end_of x ≡ Some kind → ⊥
+    no_end x kind e f = cc

@@ -17,7 +17,8 @@ IsLoadedFrom m from n read (Some v) = IsTrue (has_bytes m from n) × (v ≡ read
 -- what a store of so many bytes leaves, likewise; nothing changes where a byte lies outside
 abbrev pub HasStoredAt : ℕ → ℕ → (List ℕ → ℕ → List ℕ) → Bytes → Bool → Bytes → Type 0
 HasStoredAt from n written old false new = (has_bytes old from n ≡ false) × (new ≡ old)
-HasStoredAt from n written old true new = IsTrue (has_bytes old from n) × (new ≡ record old { bytes = written old.bytes (from - old.base) })
+HasStoredAt from n written old true new =
+    IsTrue (has_bytes old from n) × (new ≡ record old { bytes = written old.bytes (from - old.base) })
 
 -- a memory after so many bytes of a word are written from an address on, where they are inside
 pub record HasWritten (n from v : ℕ) (old new : Bytes) : Type 0 where
@@ -34,4 +35,5 @@ IsInside m x = IfSome (bytes_of x) (λ b. (m.base ≤ b.from) × (b.to ≤ m.bas
 pub record HasStored (x : Step) (old new : Bytes) : Type 0 where
   pub base : new.base ≡ old.base
   pub size : length new.bytes ≡ length old.bytes
-  pub bytes : IsInside old x → (a : ℕ) → old.base ≤ a → byte_in new a ≡ (if overwrites x a then stored_byte x a else byte_in old a)
+  pub bytes : IsInside old x → (a : ℕ) → old.base ≤ a
+      → byte_in new a ≡ (if overwrites x a then stored_byte x a else byte_in old a)

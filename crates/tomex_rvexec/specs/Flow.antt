@@ -114,8 +114,10 @@ pub record HasWords (s : State) : Type 0 where
 pub record Changes (s : State) (x : Step) (t : State) : Type 0 where
   pub image : t.image ≡ s.image
   pub pc : t.pc ≡ next_pc_of x
-  pub registers : (r : ℕ) → r < 32 → slice_index t.regs r ≡ (if is_number (step_dest x) r then result_of x (byte_in (memory_of s)) else slice_index s.regs r)
-  pub bytes : (a : ℕ) → base_of s ≤ a → byte_in (memory_of t) a ≡ (if overwrites x a then stored_byte x a else byte_in (memory_of s) a)
+  pub registers : (r : ℕ) → r < 32 → slice_index t.regs r
+      ≡ (if is_number (step_dest x) r then result_of x (byte_in (memory_of s)) else slice_index s.regs r)
+  pub bytes : (a : ℕ) → base_of s ≤ a → byte_in (memory_of t) a
+      ≡ (if overwrites x a then stored_byte x a else byte_in (memory_of s) a)
   pub memory : is_store x ≡ false → t.memory ≡ s.memory
 
 -- what a step that goes on asks of its image: its target is a multiple of 4, the bytes of its access

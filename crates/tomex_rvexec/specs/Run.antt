@@ -42,7 +42,9 @@ pub record RunFaults (i : Loaded) (k : ℕ) (s : State) (kind : FaultKind) : Typ
 
 -- the run ends within the limit, and this is its end
 abbrev pub IsEnd : {A : Type 0} → Loaded → ℕ → End A → Type 0
-IsEnd i limit e = (k : ℕ) × (s : State) × (k < limit) × RunEnds i k s e.kind × (e.steps ≡ k + 1) × (e.pc ≡ s.pc) × (e.regs ≡ s.regs) × (e.memory.base ≡ s.image.window.base) × (e.memory.bytes ≡ s.memory)
+IsEnd i limit e = (k : ℕ) × (s : State) × (k < limit) × RunEnds i k s e.kind
+    × (e.steps ≡ k + 1) × (e.pc ≡ s.pc) × (e.regs ≡ s.regs)
+    × (e.memory.base ≡ s.image.window.base) × (e.memory.bytes ≡ s.memory)
 
 -- the run has no end within the limit, for this reason
 abbrev pub IsRefusal : Loaded → ℕ → RunError → Type 0

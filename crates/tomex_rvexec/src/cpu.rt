@@ -170,7 +170,9 @@ impl<'a, A: Allocator> Cpu<'a, A> {
 
     /// The end of a run of so many steps.
     pub(crate) fn into_end(self, kind: EndKind, steps: u32) -> End<A>
-        ensures { (result.kind ≡ kind) × (result.pc ≡ self.entry.pc) × (result.steps ≡ steps) × (result.regs ≡ self.entry.regs) × (result.memory.bytes ≡ self.entry.memory) × (result.memory.base ≡ self.entry.image.window.base) }
+        ensures { (result.kind ≡ kind) × (result.pc ≡ self.entry.pc) × (result.steps ≡ steps)
+            × (result.regs ≡ self.entry.regs) × (result.memory.bytes ≡ self.entry.memory)
+            × (result.memory.base ≡ self.entry.image.window.base) }
     {
         End {
             kind,

@@ -1,11 +1,12 @@
 //! What the operations compute, by vectors from outside, and the machine on small programs.
 
 use crate::{
-    ByteRange, Cpu, EndKind, Fault, FaultKind, RunError, Stepped, alu, muldiv, run, taken, trace,
+    ByteRange, Cpu, EndKind, Fault, FaultKind, Fetcher, Memory, RunError, Step, Stepped, alu,
+    instruction_at, muldiv, next_pc, result, run, store, taken, trace,
 };
 use std::test::Fail;
 use tomex_image::{Image, Window, load};
-use tomex_rvdec::Op;
+use tomex_rvdec::{Op, decode};
 
 mod vectors;
 
@@ -198,6 +199,55 @@ fn traces_accesses(rt: HostRuntime) -> Result<(), Fail> {
     assert_eq!(rt; steps[3].dest(), Some(2));
     assert_eq!(rt; steps[4].bytes(), None);
     assert!(rt; matches!(trace(rt.alloc(), &image, 4), Err(RunError::TooLong)));
+    Ok(())
+}
+
+/// The step of a word at 8, with these values of its sources.
+fn step_of(word: u32, vj: u32, vk: u32) -> Result<Step, Fail> {
+    Ok(Step {
+        instr: decode(word).ok_or("no instruction")?,
+        pc: 8,
+        vj,
+        vk,
+    })
+}
+
+#[test]
+fn steps_on_a_memory_alone(rt: HostRuntime) -> Result<(), Fail> {
+    let mut bytes = Vec::new(rt.alloc());
+    bytes.resize(16, 0)?;
+    let mut memory = Memory::new(0x100, bytes);
+    // sh x2,2(x1): within, and with its second byte past the end, where it writes none.
+    store(&step_of(0x0020_9123, 0x100, 0x1234_80ff)?, &mut memory);
+    store(&step_of(0x0020_9123, 0x10d, 0x1234_80ff)?, &mut memory);
+    // lw x3,0(x1)
+    assert_eq!(rt;
+        result(&step_of(0x0000_a183, 0x100, 0)?, &memory),
+        Some(0x80ff_0000)
+    );
+    assert_eq!(rt; result(&step_of(0x0000_a183, 0x10c, 0)?, &memory), Some(0));
+    assert_eq!(rt; result(&step_of(0x0000_a183, 0x10d, 0)?, &memory), None);
+    // jalr x1,1(x2)
+    let jump = step_of(0x0011_00e7, 0x201, 0)?;
+    assert_eq!(rt; result(&jump, &memory), Some(12));
+    assert_eq!(rt; next_pc(&jump), 0x202);
+    // beq x1,x2,-8
+    assert_eq!(rt; next_pc(&step_of(0xfe20_8ce3, 5, 5)?), 0);
+    assert_eq!(rt; next_pc(&step_of(0xfe20_8ce3, 5, 6)?), 12);
+    Ok(())
+}
+
+#[test]
+fn fetches_an_instruction_twice(rt: HostRuntime) -> Result<(), Fail> {
+    let image = image_of(&rt, 0, PRODUCT.as_slice())?;
+    let mut fetcher = Fetcher::new(&image);
+    let product = decode(0x0220_81b3).ok_or(FaultKind::Illegal);
+    for _ in 0..2 {
+        assert_eq!(rt; fetcher.fetch(8), product);
+        assert_eq!(rt; fetcher.fetch(16), Err(FaultKind::Illegal));
+        assert_eq!(rt; fetcher.fetch(4096), Err(FaultKind::Fetch));
+    }
+    assert_eq!(rt; instruction_at(&image, 8), product);
     Ok(())
 }
 

@@ -13,31 +13,21 @@ use Rattle.tomex_config.specs.Row.{Row, IsRow, option_of}
 use Rattle.tomex_timing.specs.declared.times.Done.{Done}
 use Rattle.tomex_timing.specs.declared.times.Times.{Times}
 use Rattle.tomex_timing.specs.History.{is_memory, cycle_of, greatest_end}
+use Rattle.tomex_timing.specs.Laws.{InReach}
 use Rattle.tomex_timing.specs.Recurrence.{IsLeast, IsTimed, AreTimed, can_issue, can_address, can_start, can_end}
 use Rattle.tomex_timing.proofs.Least.{least_le}
 use Rattle.tomex_timing.proofs.Limits.{latency_low, latency_high}
 use Rattle.tomex_timing.proofs.Settled.{AllBy, can_issue_after, can_address_after, can_start_after, can_end_after}
 
--- no time before the issue, none after the end, and the end is at most 67 past
-pub record InReach (g : ℕ) (at : Times) : Type 0 where
-  pub issue_low : 0 < at.issue
-  pub issue : at.issue ≤ at.end
-  pub issue_reach : at.issue ≤ g + 1
-  pub address : cycle_of at.address ≤ at.end
-  pub start : at.start ≤ at.end
-  pub finish : at.finish ≤ at.end
-  pub order : at.start ≤ at.finish
-  pub end : at.end ≤ g + 67
-
 issue_low : (row : Row) (older : List Done) (s : Step) (t : ℕ) → can_issue row older s t ≡ true → 0 < t
 issue_low row older s t h = ltb-true 0 t (and_parts _ _ (and_parts _ _ (and_parts _ _ h).0).0).0
 
-start_low : (row : Row) (older : List Done) (s : Step) (unit : UnitId) (issue address t : ℕ) → can_start row older s unit issue address t ≡ true → (issue < t) × (address < t)
+pub start_low : (row : Row) (older : List Done) (s : Step) (unit : UnitId) (issue address t : ℕ) → can_start row older s unit issue address t ≡ true → (issue < t) × (address < t)
 start_low row older s unit issue address t h =
     let two = and_parts (nat_lt issue t) (nat_lt address t) (and_parts _ _ (and_parts _ _ (and_parts _ _ h).0).0).0 in
     (ltb-true issue t two.0, ltb-true address t two.1)
 
-end_low : (row : Row) (older : List Done) (finish t : ℕ) → can_end row older finish t ≡ true → finish < t
+pub end_low : (row : Row) (older : List Done) (finish t : ℕ) → can_end row older finish t ≡ true → finish < t
 end_low row older finish t h = ltb-true finish t (and_parts _ _ h).0
 
 -- a load or store uses a unit

@@ -9,7 +9,7 @@ use Rattle.tomex_timing.specs.declared.times.Times.{Times}
 use Rattle.tomex_timing.specs.History.{greatest_end}
 use Rattle.tomex_timing.specs.Recurrence.{AreTimed}
 use Rattle.tomex_timing.specs.Search.{times_of, timed_of, history, times_in, total_of}
-use Rattle.tomex_timing.specs.Laws.{YoungerChangeNothing}
+use Rattle.tomex_timing.specs.Laws.{TotalIsGreatestEnd, YoungerChangeNothing}
 use Rattle.tomex_timing.proofs.Bound.{total_bound}
 use Rattle.tomex_timing.proofs.Search.{timed_is}
 
@@ -51,6 +51,9 @@ total_of-history (d ∷ h) =
     let a : map (λ (d : Done). d.at) (reverse (d ∷ h)) ≡ map (λ d. d.at) (reverse h ++ (d ∷ [])) = ap (λ h. map (λ (d : Done). d.at) h) (reverse_more d h) in
     let b : map (λ (d : Done). d.at) (reverse h ++ (d ∷ [])) ≡ map (λ d. d.at) (reverse h) ++ (d.at ∷ []) = map-append (λ d. d.at) (reverse h) (d ∷ []) in
     ap total_of (a ∙ b) ∙ (total_push (map (λ d. d.at) (reverse h)) d.at ∙ ap (λ k. max d.at.end k) (total_of-history h))
+
+pub total_is : TotalIsGreatestEnd
+total_is row xs = sym (total_of-history (history row xs))
 
 length-timed_of : (row : Row) (ys : List Step) → length (timed_of row ys) ≡ length ys
 length-timed_of row [] = refl

@@ -9,6 +9,8 @@ pub mod Stations
 pub mod Search
 pub mod Width
 pub mod Histories
+pub mod Orders
+pub mod Holders
 pub mod Searching
 pub mod Windows
 pub mod Turns

@@ -19,7 +19,8 @@ use Rattle.tomex_timing.specs.History.{last_issue, greatest_end}
 use Rattle.tomex_timing.specs.Recurrence.{IsTimed, AreTimed}
 use Rattle.tomex_timing.specs.Search.{times_of, history, times_in}
 use Rattle.tomex_timing.specs.Window.{live_of, live_from, facts_of, recent, IsBy, IsKept, IsNext, IsSettled, branch_finish, nothing_yet, latest_after}
-use Rattle.tomex_timing.proofs.Bound.{InReach, in_reach, timed_by}
+use Rattle.tomex_timing.specs.Laws.{InReach}
+use Rattle.tomex_timing.proofs.Bound.{in_reach, timed_by}
 use Rattle.tomex_timing.proofs.Histories.{are_timed, history_more, times_more, history_bound, length-history}
 use Rattle.tomex_timing.proofs.Search.{times_are, times_same}
 use Rattle.tomex_timing.proofs.Settled.{AllBy, writer_end_by, last_issue_by, last_address_by}

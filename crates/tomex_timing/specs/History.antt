@@ -1,4 +1,5 @@
--- A history: the steps of a run with their times, the youngest first, so that what stands behind a step is what is older than it.
+-- A history: the steps of a run with their times, the youngest first, so that what stands behind a step
+-- is what is older than it.
 use Rattle.std.specs.Prelude.{ℕ, ◌==◌, Bool, false, ◌||◌, if◌then◌else◌, List, [], ◌∷◌, Option, Some, None, max}
 use Rattle.tomex_rvdec.specs.Parts.{place_of_unit}
 use Rattle.tomex_rvdec.specs.declared.pool.PoolId.TheVariants.{Load, Store}

@@ -1,5 +1,8 @@
--- When each step of a run issues, gets its address, starts, finishes and ends: the least cycle that passes a test over what is older.
--- Sources: R. M. Tomasulo, "An Efficient Algorithm for Exploiting Multiple Arithmetic Units", 1967; Hennessy and Patterson, "Computer Architecture: A Quantitative Approach", the chapter on Tomasulo's algorithm. What they leave open this project chooses, and says so.
+-- When each step of a run issues, gets its address, starts, finishes and ends: the least cycle that
+-- passes a test over what is older.
+-- Sources: R. M. Tomasulo, "An Efficient Algorithm for Exploiting Multiple Arithmetic Units", 1967;
+-- Hennessy and Patterson, "Computer Architecture: A Quantitative Approach", the chapter on Tomasulo's
+-- algorithm. What they leave open this project chooses, and says so.
 use Rattle.std.specs.Prelude.{ℕ, ◌+◌, ◌-◌, ◌<◌, ◌≡◌, ◌==◌, nat_lt, nat_le, Bool, false, not, ◌&&◌, ◌||◌, IsTrue, List, [], ◌∷◌, Option, Some, None, count_by, is_some, MatchOption}
 use Rattle.std.specs.Bool.{MatchBool}
 use Rattle.std.specs.List.{list_all}
@@ -29,13 +32,17 @@ has_slot row older t = nat_le (last_issue older) t && nat_lt (count_by (λ d. d.
 abbrev pub are_branches_finished : List Done → ℕ → Bool
 are_branches_finished older t = list_all (λ d. not (is_branch d.step) || nat_lt d.at.finish t) older
 
--- Issue. Hennessy and Patterson: in program order, where a reservation station is left. This project: nothing is speculated, so later than the finish of each older branch.
+-- Issue. Hennessy and Patterson: in program order, where a reservation station is left.
+-- This project: nothing is speculated, so later than the finish of each older branch.
 abbrev pub can_issue : Row → List Done → Step → ℕ → Bool
-can_issue row older s t = nat_lt 0 t && has_slot row older t && are_branches_finished older t && has_station row older (step_pool s) t
+can_issue row older s t =
+    nat_lt 0 t && has_slot row older t && are_branches_finished older t && has_station row older (step_pool s) t
 
--- Address. Hennessy and Patterson: loads and stores compute their addresses in program order, from the base register. This project: one in a cycle.
+-- Address. Hennessy and Patterson: loads and stores compute their addresses in program order, from the
+-- base register. This project: one in a cycle.
 abbrev pub can_address : List Done → Step → ℕ → ℕ → Bool
-can_address older s issue t = nat_lt issue t && nat_lt (source_end older (j_of s)) t && nat_lt (last_address older) t
+can_address older s issue t =
+    nat_lt issue t && nat_lt (source_end older (j_of s)) t && nat_lt (last_address older) t
 
 -- the producers of both operands have ended
 abbrev pub has_operands : List Done → Step → ℕ → Bool
@@ -54,28 +61,53 @@ are_conflicts_finished older s t = list_all (λ d. not (conflicts d.step s) || n
 
 -- a unit of the kind is left: each starts one operation in a cycle
 abbrev pub has_unit : Row → List Done → UnitId → ℕ → Bool
-has_unit row older unit t = nat_lt (count_by (λ d. is_of unit (step_unit d.step) && d.at.start == t) older) (option_of row unit).units
+has_unit row older unit t =
+    nat_lt (count_by (λ d. is_of unit (step_unit d.step) && d.at.start == t) older) (option_of row unit).units
 
--- Start. Tomasulo: once the operands have come over the common data bus and a unit is left. Hennessy and Patterson: an access waits for older ones to its bytes, unless both are loads. This project: units are pipelined, and the oldest operations are served first.
+-- Start. Tomasulo: once the operands have come over the common data bus and a unit is left. Hennessy and
+-- Patterson: an access waits for older ones to its bytes, unless both are loads. This project: units are
+-- pipelined, and the oldest operations are served first.
 abbrev pub can_start : Row → List Done → Step → UnitId → ℕ → ℕ → ℕ → Bool
-can_start row older s unit issue address t = nat_lt issue t && nat_lt address t && has_operands older s t && are_conflicts_finished older s t && has_unit row older unit t
+can_start row older s unit issue address t =
+    nat_lt issue t && nat_lt address t && has_operands older s t && are_conflicts_finished older s t && has_unit row older unit t
 
 -- a bus is left
 abbrev pub has_bus : Row → List Done → ℕ → Bool
-has_bus row older t = nat_lt (count_by (λ d. is_some (step_dest d.step) && d.at.end == t) older) row.buses
+has_bus row older t =
+    nat_lt (count_by (λ d. is_some (step_dest d.step) && d.at.end == t) older) row.buses
 
--- End. Tomasulo: after the unit, the result is sent over the common data bus. This project: there may be several buses, and the oldest results are served first.
+-- End. Tomasulo: after the unit, the result is sent over the common data bus. This project: there may
+-- be several buses, and the oldest results are served first.
 abbrev pub can_end : Row → List Done → ℕ → ℕ → Bool
 can_end row older finish t = nat_lt finish t && has_bus row older t
 
--- The times of a step, given the history of what is older. FENCE, ECALL and EBREAK use no station, unit or bus: they start, finish and end as they issue. A step without a destination ends as it finishes. A step takes the free station of the least number.
+-- a result ends in the first cycle with a bus for it, and a step without a destination as it finishes
+abbrev pub EndsAfter : Row → List Done → Step → ℕ → ℕ → Type 0
+EndsAfter row older s finish end =
+    MatchBool (is_some (step_dest s)) (IsLeast (can_end row older finish) end) (end ≡ finish)
+
+-- The times of a step, given the history of what is older. FENCE, ECALL and EBREAK use no station, unit
+-- or bus: they start, finish and end as they issue.
 pub record IsTimed (row : Row) (older : List Done) (s : Step) (at : Times) : Type 0 where
   pub issue : IsLeast (can_issue row older s) at.issue
-  pub address : MatchBool (is_memory s) (IsLeast (can_address older s at.issue) (cycle_of at.address)) (at.address ≡ None)
-  pub start : MatchOption (step_unit s) (at.start ≡ at.issue) (λ unit. IsLeast (can_start row older s unit at.issue (cycle_of at.address)) at.start)
-  pub finish : MatchOption (step_unit s) (at.finish ≡ at.issue) (λ unit. at.finish ≡ at.start + (option_of row unit).latency - 1)
-  pub end : MatchOption (step_unit s) (at.end ≡ at.issue) (λ unit. MatchBool (is_some (step_dest s)) (IsLeast (can_end row older at.finish) at.end) (at.end ≡ at.finish))
-  pub station : MatchOption (step_pool s) (at.station ≡ None) (λ pool. (n : ℕ) × (at.station ≡ Some n) × IsLeast (is_free pool older at.issue) n)
+  -- loads and stores have an address cycle
+  pub address : MatchBool (is_memory s)
+      (IsLeast (can_address older s at.issue) (cycle_of at.address))
+      (at.address ≡ None)
+  pub start : MatchOption (step_unit s)
+      (at.start ≡ at.issue)
+      (λ unit. IsLeast (can_start row older s unit at.issue (cycle_of at.address)) at.start)
+  -- the last of the unit's cycles
+  pub finish : MatchOption (step_unit s)
+      (at.finish ≡ at.issue)
+      (λ unit. at.finish ≡ at.start + (option_of row unit).latency - 1)
+  pub end : MatchOption (step_unit s)
+      (at.end ≡ at.issue)
+      (λ unit. EndsAfter row older s at.finish at.end)
+  -- the free station of the least number
+  pub station : MatchOption (step_pool s)
+      (at.station ≡ None)
+      (λ pool. (n : ℕ) × (at.station ≡ Some n) × IsLeast (is_free pool older at.issue) n)
 
 -- each step of a history has the times of the recurrence
 abbrev pub AreTimed : Row → List Done → Type 0

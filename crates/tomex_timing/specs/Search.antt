@@ -37,11 +37,25 @@ abbrev pub end_of : Row → List Done → Step → ℕ → ℕ → ℕ
 end_of row older s finish g = if is_some (step_dest s) then least (can_end row older finish) (g + 67) else finish
 
 abbrev pub times_from : Row → List Done → Step → ℕ → ℕ → Option ℕ → Option UnitId → Times
-times_from row older s g issue address None = record { issue = issue; address = address; start = issue; finish = issue; end = issue; station = station_at row older (step_pool s) issue }
+times_from row older s g issue address None = record {
+  issue = issue;
+  address = address;
+  start = issue;
+  finish = issue;
+  end = issue;
+  station = station_at row older (step_pool s) issue;
+}
 times_from row older s g issue address (Some unit) =
     let start = start_of row older s unit issue (cycle_of address) g in
     let finish = start + (option_of row unit).latency - 1 in
-    record { issue = issue; address = address; start = start; finish = finish; end = end_of row older s finish g; station = station_at row older (step_pool s) issue }
+    record {
+      issue = issue;
+      address = address;
+      start = start;
+      finish = finish;
+      end = end_of row older s finish g;
+      station = station_at row older (step_pool s) issue;
+    }
 
 -- the times of the next step
 unfoldable pub times_of : Row → List Done → Step → Times

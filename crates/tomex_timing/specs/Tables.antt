@@ -2,7 +2,6 @@
 -- The fields are those of Hennessy and Patterson's tables: V and Q of both operands, A, and Qi of each register.
 use Rattle.std.specs.Prelude.{ℕ, nat_lt, nat_le, Bool, ◌&&◌, if◌then◌else◌, List, [], ◌∷◌, ◌++◌, Option, Some, None, map}
 use Rattle.std.specs.List.{filter_map, range_with_len}
-use Rattle.tomex_rvdec.specs.Instruction.{Instruction}
 use Rattle.tomex_rvdec.specs.declared.pool.PoolId.{PoolId}
 use Rattle.tomex_rvdec.specs.declared.pool.PoolId.TheVariants.{Alu, Mul, Div, Load, Store, Bru}
 use Rattle.tomex_rvexec.specs.Steps.{step_pool, step_dest, j_of, k_of, address_of, is_in, is_number}
@@ -45,14 +44,23 @@ field_of t older (Some o) = field_from o.value (producer t older o.register)
 
 -- A of a load or store: the immediate before the address cycle, the address from that cycle on
 abbrev pub a_of : ℕ → Done → Option ℕ
-a_of t d = if is_memory d.step then Some (if nat_lt t (cycle_of d.at.address) then d.step.instr.imm else address_of d.step) else None
+a_of t d =
+    if is_memory d.step
+    then Some (if nat_lt t (cycle_of d.at.address) then d.step.instr.imm else address_of d.step)
+    else None
 
 -- the step is issued, and hasn't ended
 abbrev pub is_under_way : ℕ → Done → Bool
 is_under_way t d = nat_le d.at.issue t && nat_lt t d.at.end
 
 abbrev pub busy_of : ℕ → Tag → Done → List Done → Busy
-busy_of t tag d older = record { tag = tag; instr = d.step.instr; j = field_of t older (j_of d.step); k = field_of t older (k_of d.step); a = a_of t d }
+busy_of t tag d older = record {
+  tag = tag;
+  instr = d.step.instr;
+  j = field_of t older (j_of d.step);
+  k = field_of t older (k_of d.step);
+  a = a_of t d;
+}
 
 -- what a station shows, where it is busy
 abbrev pub shown : ℕ → List Done → Tag → Option Busy
@@ -65,7 +73,8 @@ shown t (d ∷ older) tag =
 -- Qi: the station of the register's youngest issued writer, where that one hasn't ended
 abbrev pub qi_of : ℕ → List Done → ℕ → Option Tag
 qi_of t [] r = None
-qi_of t (d ∷ older) r = if nat_le d.at.issue t && is_number (step_dest d.step) r then unsent_tag t d else qi_of t older r
+qi_of t (d ∷ older) r =
+    if nat_le d.at.issue t && is_number (step_dest d.step) r then unsent_tag t d else qi_of t older r
 
 abbrev pub tags_of : PoolId → List Tag
 tags_of pool = map (λ n. record { pool = pool; number = n }) (range_with_len 0 16)
@@ -76,4 +85,8 @@ all_tags = tags_of Alu ++ tags_of Mul ++ tags_of Div ++ tags_of Load ++ tags_of 
 
 -- the busy stations in that order, and Qi of each register
 abbrev pub tables_of : ℕ → List Done → Tables
-tables_of t h = record { cycle = t; busy = filter_map (shown t h) all_tags; registers = map (qi_of t h) (range_with_len 0 32) }
+tables_of t h = record {
+  cycle = t;
+  busy = filter_map (shown t h) all_tags;
+  registers = map (qi_of t h) (range_with_len 0 32);
+}

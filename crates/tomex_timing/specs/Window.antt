@@ -1,4 +1,5 @@
--- What the evaluator keeps of a history: the steps that may still be in the way of a next one, and what is latest. Its tests are those of the recurrence over what is kept.
+-- What the evaluator keeps of a history: the steps that may still be in the way of a next one, and what
+-- is latest. Its tests are those of the recurrence over what is kept.
 use Rattle.std.specs.Prelude.{ℕ, ◌-◌, ◌+◌, ◌<◌, ◌≤◌, ◌≡◌, ◌==◌, nat_lt, nat_le, Bool, true, not, ◌&&◌, ◌||◌, if◌then◌else◌, List, [], ◌∷◌, ◌++◌, Option, Some, None, slice_index, slice_set, replicate, max, length, is_some, count_by, MatchOption, All}
 use Rattle.std.specs.Bool.{MatchBool}
 use Rattle.std.specs.List.{list_all}
@@ -18,7 +19,14 @@ use Rattle.tomex_timing.specs.History.{is_of, cycle_of, last_issue, last_address
 use Rattle.tomex_timing.specs.Recurrence.{IsLeast, shares_byte, width_of}
 
 abbrev pub facts_of : Step → Facts
-facts_of s = record { pool = step_pool s; unit = step_unit s; dest = step_dest s; bytes = bytes_of s; is_store = is_store s; is_branch = is_branch s }
+facts_of s = record {
+  pool = step_pool s;
+  unit = step_unit s;
+  dest = step_dest s;
+  bytes = bytes_of s;
+  is_store = is_store s;
+  is_branch = is_branch s;
+}
 
 abbrev pub live_from : Facts → Times → Live
 live_from f at = record { facts = f; start = at.start; finish = at.finish; end = at.end; station = at.station }
@@ -52,7 +60,8 @@ is_free_among pool live t n = list_all (λ l. not (is_held_by pool t l && is_num
 
 -- the first cycle that is in program order, with room for an issue, and later than each branch's finish
 abbrev pub issue_from : Row → Latest → ℕ
-issue_from row latest = max (if nat_lt latest.issued (width_of row) then latest.issue else latest.issue + 1) (latest.branch + 1)
+issue_from row latest =
+    max (if nat_lt latest.issued (width_of row) then latest.issue else latest.issue + 1) (latest.branch + 1)
 
 -- start
 
@@ -69,7 +78,8 @@ abbrev pub has_unit_among : Row → List Live → UnitId → ℕ → Bool
 has_unit_among row live unit t = nat_lt (count_by (starts_in unit t) live) (option_of row unit).units
 
 abbrev pub may_start : Row → ℕ → List Live → Facts → UnitId → ℕ → Bool
-may_start row from live f unit t = nat_le from t && list_all (is_finished_conflict f t) live && has_unit_among row live unit t
+may_start row from live f unit t =
+    nat_le from t && list_all (is_finished_conflict f t) live && has_unit_among row live unit t
 
 -- end
 
@@ -89,16 +99,34 @@ abbrev pub ready_from : ℕ → Option ℕ → ℕ → ℕ → ℕ
 ready_from issue address j k = max (max issue (cycle_of address)) (max j k) + 1
 
 abbrev pub address_among : Latest → Option PoolId → ℕ → ℕ → Option ℕ
-address_among latest pool base issue = if is_memory_pool pool then Some (max (max issue base) latest.address + 1) else None
+address_among latest pool base issue =
+    if is_memory_pool pool then Some (max (max issue base) latest.address + 1) else None
+
+-- the first cycle in which a next step's operation may start
+abbrev pub ready_of : Latest → Step → Times → ℕ
+ready_of latest s at =
+    ready_from at.issue at.address (end_among latest.ends (j_of s)) (end_among latest.ends (k_of s))
+
+abbrev pub EndsAfterAmong : Row → List Live → Step → ℕ → ℕ → Type 0
+EndsAfterAmong row live s finish end =
+    MatchBool (is_some (step_dest s)) (IsFirst (finish + 1) (has_bus_among row live) end) (end ≡ finish)
 
 -- the times of a next step, by what is kept
 pub record IsNext (row : Row) (live : List Live) (latest : Latest) (s : Step) (at : Times) : Type 0 where
   pub issue : IsFirst (issue_from row latest) (has_station_among row live (step_pool s)) at.issue
   pub address : at.address ≡ address_among latest (step_pool s) (end_among latest.ends (j_of s)) at.issue
-  pub start : MatchOption (step_unit s) (at.start ≡ at.issue) (λ unit. IsLeast (may_start row (ready_from at.issue at.address (end_among latest.ends (j_of s)) (end_among latest.ends (k_of s))) live (facts_of s) unit) at.start)
-  pub finish : MatchOption (step_unit s) (at.finish ≡ at.issue) (λ unit. at.finish ≡ at.start + (option_of row unit).latency - 1)
-  pub end : MatchOption (step_unit s) (at.end ≡ at.issue) (λ unit. MatchBool (is_some (step_dest s)) (IsFirst (at.finish + 1) (has_bus_among row live) at.end) (at.end ≡ at.finish))
-  pub station : MatchOption (step_pool s) (at.station ≡ None) (λ pool. (n : ℕ) × (at.station ≡ Some n) × IsLeast (is_free_among pool live at.issue) n)
+  pub start : MatchOption (step_unit s)
+      (at.start ≡ at.issue)
+      (λ unit. IsLeast (may_start row (ready_of latest s at) live (facts_of s) unit) at.start)
+  pub finish : MatchOption (step_unit s)
+      (at.finish ≡ at.issue)
+      (λ unit. at.finish ≡ at.start + (option_of row unit).latency - 1)
+  pub end : MatchOption (step_unit s)
+      (at.end ≡ at.issue)
+      (λ unit. EndsAfterAmong row live s at.finish at.end)
+  pub station : MatchOption (step_pool s)
+      (at.station ≡ None)
+      (λ pool. (n : ℕ) × (at.station ≡ Some n) × IsLeast (is_free_among pool live at.issue) n)
 
 -- the latest finish of a branch, 0 where there is none
 abbrev pub branch_finish : List Done → ℕ

@@ -1,6 +1,6 @@
 //! Laws of the recurrence. These functions do nothing: their contracts are the laws.
 
-ghost use Rattle.tomex_timing.specs.Laws.{TimesExist, TimesAreUnique, SearchIsTimed, TimedIsSearch, TotalIsBounded, YoungerChangeNothing, IssuesAlone, IssuesRise};
+ghost use Rattle.tomex_timing.specs.Laws.{TimesExist, TimesAreUnique, SearchIsTimed, TimedIsSearch, TotalIsBounded, TotalIsGreatestEnd, YoungerChangeNothing, IssuesAlone, IssuesRise, TimesAreInReach, StartsComeLater, ResultsComeLater, AddressesRise, NumbersAreLow, StationsAreApart, StationsAreThere, AccessesConflict, ConflictsAreFinished};
 
 /// Each step of a run has times, and only one set of them.
 pub fn each_step_has_one_set_of_times()
@@ -19,6 +19,11 @@ pub fn total_is_bounded()
     ensures { TotalIsBounded }
 {}
 
+/// The total of a run's times is the greatest end of its history.
+pub fn total_is_the_greatest_end()
+    ensures { TotalIsGreatestEnd }
+{}
+
 /// What comes later in a run changes no times of what is older.
 pub fn younger_steps_change_nothing()
     ensures { YoungerChangeNothing }
@@ -29,4 +34,27 @@ pub fn younger_steps_change_nothing()
 pub fn issues_alone_at_width_one()
     ensures test { IssuesAlone }
     ensures rise { IssuesRise }
+{}
+
+/// What uses a unit issues before it starts, starts no later than it finishes, and finishes no later
+/// than it ends. Addresses are computed in program order.
+pub fn times_stand_in_order()
+    ensures reach { TimesAreInReach }
+    ensures start { StartsComeLater }
+    ensures result { ResultsComeLater }
+    ensures address { AddressesRise }
+{}
+
+/// A step that ends later than it issues has a station, whose number is below its pool's count; no two
+/// steps under way have one station.
+pub fn stations_hold_one_step()
+    ensures there { StationsAreThere }
+    ensures number { NumbersAreLow }
+    ensures apart { StationsAreApart }
+{}
+
+/// An access starts after each older one has finished that shares a byte with it, unless both are loads.
+pub fn accesses_of_one_byte_wait()
+    ensures conflict { AccessesConflict }
+    ensures wait { ConflictsAreFinished }
 {}

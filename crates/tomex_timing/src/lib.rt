@@ -17,8 +17,9 @@ mod times;
 mod window;
 
 pub use laws::{
-    each_step_has_one_set_of_times, issues_alone_at_width_one, search_is_the_recurrence,
-    total_is_bounded, younger_steps_change_nothing,
+    accesses_of_one_byte_wait, each_step_has_one_set_of_times, issues_alone_at_width_one,
+    search_is_the_recurrence, stations_hold_one_step, times_stand_in_order, total_is_bounded,
+    total_is_the_greatest_end, younger_steps_change_nothing,
 };
 pub use tables::{Busy, Field, Tag};
 pub use times::{Done, Times};

@@ -101,7 +101,9 @@ fn end_after(row: &Config, live: &[Live], dest: Option<u8>, finish: u64, bound: 
     requires live { All (IsBy bound) live.now }
     requires finish { finish ≤ bound + 66 }
     requires small { bound < 2 ^ 63 }
-    ensures least { MatchBool (is_some dest) (IsFirst (finish + 1) (has_bus_among row.now live.now) result) (result ≡ finish) }
+    ensures least { MatchBool (is_some dest)
+        (IsFirst (finish + 1) (has_bus_among row.now live.now) result)
+        (result ≡ finish) }
 {
     if dest.is_some() {
         find_end(row, live, finish + 1, bound)

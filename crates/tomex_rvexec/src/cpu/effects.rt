@@ -41,7 +41,8 @@ impl<'a, A: Allocator> Cpu<'a, A> {
     /// the next fetch to say.
     fn aligned(&self, target: u32) -> Result<u32, Fault>
         ensures ok { IfOk result (λ t. (t ≡ target) × (nat_eq (target % 4) 0 ≡ true)) }
-        ensures err { IfErr result (λ e. (nat_eq (target % 4) 0 ≡ false) × (e ≡ record { kind = FaultKind.MisalignedTarget; pc = self.now.pc })) }
+        ensures err { IfErr result (λ e. (nat_eq (target % 4) 0 ≡ false)
+            × (e ≡ record { kind = FaultKind.MisalignedTarget; pc = self.now.pc })) }
     {
         if target % 4 == 0 {
             Ok(target)
