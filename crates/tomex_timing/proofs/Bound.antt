@@ -13,7 +13,7 @@ use Rattle.tomex_config.specs.Row.{Row, IsRow, option_of}
 use Rattle.tomex_timing.specs.declared.times.Done.{Done}
 use Rattle.tomex_timing.specs.declared.times.Times.{Times}
 use Rattle.tomex_timing.specs.History.{is_memory, cycle_of, greatest_end}
-use Rattle.tomex_timing.specs.Laws.{InReach}
+pub use Rattle.tomex_timing.specs.Laws.{InReach}
 use Rattle.tomex_timing.specs.Recurrence.{IsLeast, IsTimed, AreTimed, can_issue, can_address, can_start, can_end}
 use Rattle.tomex_timing.proofs.Least.{least_le}
 use Rattle.tomex_timing.proofs.Limits.{latency_low, latency_high}

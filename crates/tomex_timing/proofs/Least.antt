@@ -1,6 +1,7 @@
 -- The least number that passes a test: it is one, and a bounded search finds it.
-use Rattle.std.proofs.Common.{ℕ, zero, suc, ◌+◌, ◌<◌, ◌≤◌, ◌≡◌, Bool, false, IsTrue, arith, inl, inr, subst, add-zero, zero-add}
-use Rattle.std.proofs.lemmas.Bool.{cases_Bool, cases_order, both_ways}
+use Rattle.std.proofs.Common.{ℕ, zero, suc, ◌+◌, ◌<◌, ◌≤◌, ◌≡◌, Bool, true, false, refl, IsTrue, arith, inl, inr, subst, add-zero, zero-add}
+use Rattle.std.specs.Prelude.{◌==◌}
+use Rattle.std.proofs.lemmas.Bool.{cases_Bool, cases_order, both_ways, eq-eqb, ne_eqb}
 use Rattle.tomex_timing.specs.Recurrence.{IsLeast}
 use Rattle.tomex_timing.specs.Search.{first_from, least}
 
@@ -35,3 +36,11 @@ first_from_is p t (suc n) below here = elim (cases_Bool (p t)) [
 
 pub least_is : (p : ℕ → Bool) (n : ℕ) → IsTrue (p n) → IsLeast p (least p n)
 least_is p n here = first_from_is p 0 n (λ s l. absurd (omega arith)) (rw zero-add here)
+
+-- up to the least number that passes, the test passes just there
+pub least_test : (p : ℕ → Bool) (a u : ℕ) → IsLeast p a → u ≤ a → p u ≡ (a == u)
+least_test p a u l le = elim (cases_order a u) [
+  | inl e ↦ let h : p a ≡ true = l.0 in rw (eq-eqb a u e, ← e) h
+  | inr (inl k) ↦ absurd (omega arith)
+  | inr (inr k) ↦ rw (l.1 u k, ne_eqb a u (λ (e : a ≡ u). absurd (omega arith))) refl
+]

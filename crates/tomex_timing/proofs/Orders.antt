@@ -1,5 +1,5 @@
 -- The times of a step stand in order.
-use Rattle.std.proofs.Common.{ℕ, ◌<◌, ◌≤◌, ◌≡◌, ◌∙◌, true, arith, refl, List, Option, Some, None}
+use Rattle.std.proofs.Common.{ℕ, ◌<◌, ◌≤◌, ◌≡◌, ◌∙◌, true, arith, refl, List, [], ◌∷◌, ◌++◌, Option, Some, None}
 use Rattle.std.specs.Prelude.{nat_le, nat_lt, is_some, MatchOption}
 use Rattle.std.specs.Bool.{MatchBool}
 use Rattle.std.proofs.lemmas.Bool.{and_parts, leb-true, lt-ltb, ltb-true, MatchBool-at_true}
@@ -14,8 +14,13 @@ use Rattle.tomex_config.specs.Row.{Row}
 use Rattle.tomex_timing.specs.declared.times.Done.{Done}
 use Rattle.tomex_timing.specs.History.{cycle_of, greatest_end, last_address}
 use Rattle.tomex_timing.specs.Laws.{AccessesConflict, AddressesRise, ConflictsAreFinished, ResultsComeLater, StartsComeLater, TimesAreInReach}
-use Rattle.tomex_timing.specs.Recurrence.{IsLeast, are_conflicts_finished, can_address, can_end, can_start, shares_byte}
+use Rattle.tomex_timing.specs.Recurrence.{AreTimed, IsLeast, are_conflicts_finished, can_address, can_end, can_start, shares_byte}
 use Rattle.tomex_timing.proofs.Bound.{end_low, in_reach, start_low, timed_by}
+
+-- the older part of a history has the recurrence's times too
+pub timed_part : (row : Row) (newer older : List Done) → AreTimed row (newer ++ older) → AreTimed row older
+timed_part row [] older timed = timed
+timed_part row (d ∷ newer) older timed = timed_part row newer older timed.1
 
 pub reach : TimesAreInReach
 reach row d older good timed = in_reach row older d.step d.at (greatest_end older) good (timed_by row older good timed.1) timed.0
