@@ -6,18 +6,23 @@ use crate::tests::elf_images::ELF;
 use std::alloc::AllocError;
 use std::test::Fail;
 use tomex_image::{Image, ImageError, Window, load};
-use tomex_rvexec::{Cpu, RunError, Stepped, run, trace};
+use tomex_rvexec::{Cpu, EndKind, RunError, Stepped, run, trace};
 
-/// The product's image, or how its loading came out.
-fn image_in(heap: Heap) -> Result<Image<Heap>, Try> {
-    match Window::new(65536, 4096) {
-        Some(window) => match load(heap, ELF.as_slice(), window) {
+/// The image of these bytes in a window of 4096 from a base, or how its loading came out.
+fn image_of(heap: Heap, bytes: &[u8], base: u32) -> Result<Image<Heap>, Try> {
+    match Window::new(base, 4096) {
+        Some(window) => match load(heap, bytes, window) {
             Ok(image) => Ok(image),
             Err(ImageError::Memory) => Err(Try::Refused),
             Err(_) => Err(Try::Wrong),
         },
         None => Err(Try::Wrong),
     }
+}
+
+/// The product's image.
+fn image_in(heap: Heap) -> Result<Image<Heap>, Try> {
+    image_of(heap, ELF.as_slice(), 65536)
 }
 
 /// Loads the image.
@@ -32,22 +37,31 @@ impl Attempt for Load {
     }
 }
 
-/// Makes a machine of the image, and steps it once.
+/// `addi x1,x0,-2; sw x1,64(x0); sh x1,66(x0); sb x1,67(x0); ebreak`
+const STORES: [u8; 20] = [
+    0x93, 0x00, 0xe0, 0xff, 0x23, 0x20, 0x10, 0x04, 0x23, 0x11, 0x10, 0x04, 0xa3, 0x01, 0x10, 0x04,
+    0x73, 0x00, 0x10, 0x00,
+];
+
+/// Makes a machine of a program that stores, and steps it to its end.
 struct Step;
 
 impl Attempt for Step {
     fn attempt(&self, heap: Heap) -> Result<Try, AllocError> {
-        let image = match image_in(heap.clone()?) {
+        let image = match image_of(heap.clone()?, STORES.as_slice(), 0) {
             Ok(image) => image,
             Err(outcome) => return Ok(outcome),
         };
-        match Cpu::new(heap, &image) {
-            Ok(mut cpu) => match cpu.step() {
-                Ok(Stepped::Next) => Ok(Try::Answered),
-                _ => Ok(Try::Wrong),
-            },
-            Err(_) => Ok(Try::Refused),
+        let mut cpu = match Cpu::new(heap, &image) {
+            Ok(cpu) => cpu,
+            Err(_) => return Ok(Try::Refused),
+        };
+        for _ in 0..4 {
+            if cpu.step() != Ok(Stepped::Next) {
+                return Ok(Try::Wrong);
+            }
         }
+        Ok(Try::right_if(cpu.step() == Ok(Stepped::Ended(EndKind::Ebreak))))
     }
 }
 
@@ -107,7 +121,7 @@ impl Attempt for Text {
 fn images_and_runs(rt: HostRuntime) -> Result<(), Fail> {
     // The window's bytes.
     assert_eq!(rt; refusals(rt.alloc(), &Load)?, Some(1));
-    // And those that the run changes.
+    // And those that the run changes; a store takes none.
     assert_eq!(rt; refusals(rt.alloc(), &Step)?, Some(2));
     assert_eq!(rt; refusals(rt.alloc(), &Run)?, Some(2));
     // And the list of four steps.
