@@ -1,11 +1,14 @@
 -- The exit statuses of failures.
 use Rattle.std.specs.Prelude.{ℕ}
+use Rattle.tomex_sweep.specs.declared.outcome.SweepError.TheVariants as sweeps
+use Rattle.tomex_report.specs.declared.answer_error.AnswerError.{AnswerError}
+use Rattle.tomex_report.specs.declared.answer_error.AnswerError.TheVariants as answers
 use Rattle.tomex_report.specs.declared.error.StudyError.TheVariants as studies
 use Rattle.tomex.specs.declared.run.RunRefusal.TheVariants as refusals
 use Rattle.tomex.specs.declared.command.Failure.{Failure}
-use Rattle.tomex.specs.declared.command.Failure.TheVariants.{BadWindow, Run, Study, NoSuchRow, NoSuchProgram, CannotRead, CannotWrite, Memory}
+use Rattle.tomex.specs.declared.command.Failure.TheVariants.{BadWindow, Run, Study, NoSuchRow, NoSuchProgram, CannotRead, CannotWrite, Memory, Worker}
 
--- 1 for input that is refused, 3 for want of memory, a file or a device
+-- 1 for input that is refused, 3 for want of memory, a thread, a file or a device
 abbrev pub status_of_failure : Failure → ℕ
 status_of_failure BadWindow = 1
 status_of_failure (Run refusals.Memory) = 3
@@ -17,3 +20,10 @@ status_of_failure NoSuchProgram = 1
 status_of_failure (CannotRead name) = 3
 status_of_failure CannotWrite = 3
 status_of_failure Memory = 3
+status_of_failure Worker = 3
+
+-- the failure that a refused answer becomes
+abbrev pub failure_of_answer : AnswerError → Failure
+failure_of_answer (answers.Study error) = Study error
+failure_of_answer (answers.Sweep sweeps.Memory) = Memory
+failure_of_answer (answers.Sweep sweeps.Worker) = Worker

@@ -1,8 +1,12 @@
 //! A whole run of the program, over any files and sinks: what it prints, and its exit status.
 
-ghost use Rattle.std.specs.Prelude.{◌≡◌, ◌≤◌, ◌⊎◌, OnOk, IfErr};
+ghost use Rattle.std.specs.Prelude.{◌≡◌, ◌≤◌, ◌⊎◌, IfOk, OnOk, IfErr};
+ghost use Rattle.tomex.specs.Sources.{AreBytesOf};
 ghost use Rattle.tomex.specs.declared.command.Failure.TheVariants as failures;
-ghost use Rattle.tomex.specs.Statuses.{status_of_failure};
+ghost use Rattle.tomex.specs.Statuses.{failure_of_answer, status_of_failure};
+
+pub mod answers;
+pub mod sources;
 
 use crate::files::{Files, ReadFault};
 use crate::line::run::RunLine;
@@ -11,11 +15,13 @@ use crate::line::{Line, read_line};
 use crate::run::{RunRefusal, run_text};
 use crate::sink::{Sink, write_all_of};
 use crate::telling::tell_line_fault;
+use answers::{text_of_all, text_of_explore};
 use std::alloc::{AllocError, AllocFailed, Allocator, Global};
+use std::thread::Threads;
 use thiserror::Error;
 use tomex_image::Window;
-use tomex_report::{StudyError, file_names, read_study, times_report};
-use tomex_sweep::Study;
+use tomex_report::{AnswerError, StudyError, file_names, read_study, times_report};
+use tomex_sweep::{Study, SweepError};
 
 /// Why a command was not done. Shown behind `tomex: ` on the standard error.
 #[derive(Debug, Drop, Error)]
@@ -44,10 +50,13 @@ pub enum Failure {
     /// Memory was refused.
     #[error("out of memory")]
     Memory,
+    /// The start of a thread was refused.
+    #[error("thread refused")]
+    Worker,
 }
 
 impl Failure {
-    /// The exit status: 1 for refused input, 3 for want of memory, a file or a device.
+    /// The exit status: 1 for refused input, 3 for want of memory, a thread, a file or a device.
     pub fn status(&self) -> u8
         ensures { result ≡ status_of_failure self.now }
     {
@@ -57,7 +66,7 @@ impl Failure {
             Failure::Run(_) => 1,
             Failure::Study(StudyError::Memory) => 3,
             Failure::Study(_) | Failure::NoSuchRow | Failure::NoSuchProgram => 1,
-            Failure::CannotRead(_) | Failure::CannotWrite | Failure::Memory => 3,
+            Failure::CannotRead(_) | Failure::CannotWrite | Failure::Memory | Failure::Worker => 3,
         }
     }
 }
@@ -94,13 +103,27 @@ impl From<StudyError> for Failure {
     }
 }
 
+impl From<AnswerError> for Failure {
+    ghost from_gives = { λ error failure. failure ≡ failure_of_answer error };
+
+    fn from(error: AnswerError) -> Failure {
+        match error {
+            AnswerError::Study(error) => Failure::Study(error),
+            AnswerError::Sweep(SweepError::Memory) => Failure::Memory,
+            AnswerError::Sweep(SweepError::Worker) => Failure::Worker,
+        }
+    }
+}
+
 /// All bytes of a file.
 fn read<F: Files, A: Allocator>(
     alloc: A,
     heap: Global,
     files: &F,
     name: &str,
-) -> Result<Vec<u8, A>, Failure> {
+) -> Result<Vec<u8, A>, Failure>
+    ensures { IfOk result (λ read. AreBytesOf (F.file files.now) name.now read.items) }
+{
     match files.read(alloc, name) {
         Ok(bytes) => Ok(bytes),
         Err(ReadFault::Memory) => Err(Failure::Memory),
@@ -150,7 +173,8 @@ fn text_of_times<F: Files, A: Allocator + Clone>(
 }
 
 /// The text that a line asks for.
-fn text_of<F: Files, A: Allocator + Clone>(
+fn text_of<R: Threads + Sync, F: Files, A: Allocator + Clone + Send + Sync + Drop>(
+    rt: &R,
     alloc: A,
     heap: Global,
     line: Line<'_>,
@@ -159,11 +183,14 @@ fn text_of<F: Files, A: Allocator + Clone>(
     match line {
         Line::Run(line) => text_of_run(alloc, heap, line, files),
         Line::Times(line) => text_of_times(alloc, heap, line, files),
+        Line::All(line) => text_of_all(rt, alloc, heap, line, files),
+        Line::Explore(line) => text_of_explore(rt, alloc, heap, line, files),
     }
 }
 
 /// Writes the text that a line asks for, and nothing before the whole of it is made.
-fn carry_out<F: Files, O: Sink, A: Allocator + Clone>(
+fn carry_out<R: Threads + Sync, F: Files, O: Sink, A: Allocator + Clone + Send + Sync + Drop>(
+    rt: &R,
     alloc: A,
     heap: Global,
     line: Line<'_>,
@@ -173,7 +200,7 @@ fn carry_out<F: Files, O: Sink, A: Allocator + Clone>(
     ensures ok { OnOk result (O.faults out.new ≡ O.faults out.old) }
     ensures refused { IfErr result (λ failure. status_of_failure failure ≡ 1 → O.taken out.new ≡ O.taken out.old) }
 {
-    let text = text_of(alloc, heap, line, files)?;
+    let text = text_of(rt, alloc, heap, line, files)?;
     match write_all_of(out, text.as_slice()) {
         Ok(()) => Ok(()),
         Err(_) => Err(Failure::CannotWrite),
@@ -198,19 +225,18 @@ fn tell<E: Sink>(heap: Global, failure: &Failure, err: &mut E) -> u8
 }
 
 /// Runs the program on a command line, the program's own name first, and gives its exit status:
-/// 0 done, 1 refused input, 2 a refused command line, 3 memory, a file or a device.
+/// 0 done, 1 refused input, 2 a refused command line, 3 memory, a thread, a file or a device.
 ///
 /// Results and help go to `out`. What is wrong goes to `err`: one line `tomex: ..` with 1 and 3,
 /// the parser's text with 2. What is made of images is made in memory of `alloc`; the command
 /// line, and the names and texts of failures, in memory of `heap`.
-pub fn command<F: Files, O: Sink, E: Sink, A: Allocator + Clone>(
-    alloc: A,
-    heap: Global,
-    words: &[String],
-    files: &F,
-    out: &mut O,
-    err: &mut E,
-) -> u8
+pub fn command<
+    R: Threads + Sync,
+    F: Files,
+    O: Sink,
+    E: Sink,
+    A: Allocator + Clone + Send + Sync + Drop,
+>(rt: &R, alloc: A, heap: Global, words: &[String], files: &F, out: &mut O, err: &mut E) -> u8
     ensures statuses { result ≤ 3 }
 
     // A refused input or line writes nothing to the standard output; only a whole text is done.
@@ -218,7 +244,7 @@ pub fn command<F: Files, O: Sink, E: Sink, A: Allocator + Clone>(
     ensures done { result ≡ 0 → O.faults out.new ≡ O.faults out.old }
 {
     match read_line(heap, words) {
-        Ok(line) => match carry_out(alloc, heap, line, files, out) {
+        Ok(line) => match carry_out(rt, alloc, heap, line, files, out) {
             Ok(()) => 0,
             Err(failure) => tell(heap, &failure, err),
         },

@@ -7,12 +7,16 @@ ghost use Rattle.tomex.specs.Lines.{IsRefusal, StandsFor, status_of};
 ghost use Rattle.std.specs.Prelude.{◌≡◌, IfErr};
 ghost use Rattle.tomex.specs.declared.line.LineFault.TheVariants.{Memory};
 
+pub mod all;
+pub mod explore;
 pub mod run;
 pub mod times;
 mod values;
 
+use all::AllLine;
 use clap::error::ErrorKind;
 use clap::{ArgMatches, Command};
+use explore::ExploreLine;
 use run::RunLine;
 use std::alloc::{AllocError, Global};
 use times::TimesLine;
@@ -23,6 +27,8 @@ use values::refused;
 pub enum Line<'a> {
     Run(RunLine<'a>),
     Times(TimesLine<'a>),
+    All(AllLine<'a>),
+    Explore(ExploreLine<'a>),
 }
 
 /// A command line that asks for no command.
@@ -57,10 +63,10 @@ impl From<AllocError> for LineFault {
     }
 }
 
-const ABOUT: &str = "Runs RV32IM programs and times them on a Tomasulo processor";
+const ABOUT: &str = "Runs RV32IM programs, and explores Tomasulo processors that run them";
 
-const LONG_ABOUT: &str = "Runs RV32IM programs and times them on a Tomasulo processor without
-speculation.
+const LONG_ABOUT: &str = "Runs RV32IM programs in order, and explores Tomasulo processors without
+speculation that run them.
 
 Each command makes the whole of its result before it writes any of it to the
 standard output. What is wrong is said on the standard error.";
@@ -69,11 +75,12 @@ const AFTER_LONG_HELP: &str = "Exit status:
   0  the result was written, or help
   1  the input was refused
   2  the command line was refused
-  3  memory, a file or a device was refused
+  3  memory, a thread, a file or a device was refused
 
 Examples:
   tomex run mul.bin --size 4096
-  tomex times study.toml 0 mul";
+  tomex times study.toml 0 mul
+  tomex explore study.toml --workers 4";
 
 fn grammar<'a>(alloc: Global) -> Result<Command<'a>, AllocError> {
     Command::new(alloc, "tomex")
@@ -83,7 +90,9 @@ fn grammar<'a>(alloc: Global) -> Result<Command<'a>, AllocError> {
         .after_long_help(AFTER_LONG_HELP)
         .subcommand_required(true)
         .subcommand(run::grammar(alloc)?)?
-        .subcommand(times::grammar(alloc)?)
+        .subcommand(times::grammar(alloc)?)?
+        .subcommand(all::grammar(alloc)?)?
+        .subcommand(explore::grammar(alloc)?)
 }
 
 fn line_of<'a>(alloc: Global, matches: &ArgMatches<'a>) -> Result<Line<'a>, LineFault>
@@ -92,6 +101,8 @@ fn line_of<'a>(alloc: Global, matches: &ArgMatches<'a>) -> Result<Line<'a>, Line
     match matches.subcommand() {
         Some(("run", inner)) => Ok(Line::Run(run::line_of(alloc, inner)?)),
         Some(("times", inner)) => Ok(Line::Times(times::line_of(alloc, inner)?)),
+        Some(("all", inner)) => Ok(Line::All(all::line_of(alloc, inner)?)),
+        Some(("explore", inner)) => Ok(Line::Explore(explore::line_of(alloc, inner)?)),
         _ => Err(refused(alloc, "command")),
     }
 }

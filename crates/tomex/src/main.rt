@@ -38,7 +38,15 @@ fn main(rt: HostRuntime) -> ExitCode {
     let mut out = Stream::new(rt.stdout());
     let mut err = Stream::new(rt.stderr());
     let status = match words_of(&rt) {
-        Ok(words) => command(alloc, alloc, words.as_slice(), &files, &mut out, &mut err),
+        Ok(words) => command(
+            &rt,
+            alloc,
+            alloc,
+            words.as_slice(),
+            &files,
+            &mut out,
+            &mut err,
+        ),
         Err(fault) => tell_line_fault(&fault, &mut out, &mut err),
     };
     ExitCode::from(status)

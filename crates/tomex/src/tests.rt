@@ -13,6 +13,7 @@ mod boards;
 mod broken_images;
 mod commands;
 mod elf_images;
+mod explorations;
 mod refused_memory;
 mod times;
 
@@ -109,6 +110,10 @@ fn told(alloc: Global, line: &str) -> Result<String, AllocError> {
         Ok(Line::Times(times)) => {
             format!(in alloc; "times {} {} {}", times.study, times.config, times.program)
         }
+        Ok(Line::All(all)) => format!(in alloc; "all {}", all.study),
+        Ok(Line::Explore(explore)) => {
+            format!(in alloc; "explore {} {}", explore.study, explore.workers)
+        }
         Err(LineFault::Help(text)) => format!(in alloc; "help {text}"),
         Err(LineFault::Usage(text)) => format!(in alloc; "usage {text}"),
         Err(LineFault::Memory) => String::from_str(alloc, "memory"),
@@ -128,6 +133,9 @@ fn lines_are_read(rt: HostRuntime) -> Result<(), Fail> {
             "run a 0 1048576 262144",
         ),
         ("run --size 4 -- -x", "run -x 0 4 262144"),
+        ("all study.toml", "all study.toml"),
+        ("explore study.toml", "explore study.toml 1"),
+        ("explore --workers 32 a", "explore a 32"),
         ("--help", "help Runs RV32IM programs"),
         ("-h", "help Runs RV32IM programs"),
         ("run --help", "help Runs an image"),

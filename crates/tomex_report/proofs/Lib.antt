@@ -7,3 +7,8 @@ pub mod Options
 pub mod Gridded
 pub mod Counted
 pub mod Studies
+pub mod Oks
+pub mod Ended
+pub mod Watched
+pub mod Records
+pub mod Machines

@@ -13,3 +13,7 @@ pub mod Units
 pub mod Document
 pub mod Grid
 pub mod Study
+pub mod Ends
+pub mod RowEnds
+pub mod FrontReport
+pub mod Answer

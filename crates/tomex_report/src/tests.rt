@@ -6,6 +6,7 @@ use tomex_image::ImageError;
 use tomex_rvexec::{Fault, FaultKind};
 
 mod reading;
+mod reports;
 mod studies;
 
 use studies::{AT_TOP, IN_PROGRAMS, LAWFUL, ORDERED, STUDY_L, STUDY_M, WATCHED};

@@ -1,2 +1,13 @@
 -- Lemmas of this crate.
 mod Each
+pub mod Totals
+pub mod Machines
+pub mod Stops
+pub mod Pareto
+pub mod Relations
+pub mod Passes
+pub mod Judged
+pub mod Keys
+pub mod Verdicts
+pub mod StudyFronts
+pub mod LeastBounds

@@ -1,14 +1,31 @@
-//! Studies: the programs, the configurations and the prices that an exploration is made of.
+//! Studies and their exploration: the programs, configurations and prices that a study is made of,
+//! the cycles that each row takes, and the front of the rows that no other row dominates.
 #![tactic(auto)]
 
+mod bound;
+mod exploring;
+mod front_row;
+mod fronts;
+mod gate;
 mod laws;
+mod mark;
+mod outcome;
 mod program;
+mod row_run;
+mod stop;
 mod study;
 #[cfg(test)]
 mod tests;
 mod watch;
 
-pub use laws::{each_program_ends, each_row_is_lawful};
+pub use exploring::{explore, run_all};
+pub use front_row::FrontRow;
+pub use gate::{Gate, OpenGate};
+pub use laws::{
+    each_program_ends, each_row_is_lawful, front_is_the_undominated_rows, limit_changes_no_total,
+};
+pub use mark::Mark;
+pub use outcome::{Outcome, SweepError};
 pub use program::{Program, ProgramError};
 pub use study::Study;
 pub use watch::{WatchRange, can_watch};

@@ -7,6 +7,8 @@ use tomex_config::{Config, Prices, UnitOption};
 use tomex_image::{Image, Window, load};
 use tomex_rvexec::{Fault, FaultKind};
 
+mod explorations;
+
 /// An image of these words at 0, in a window of 4,096 bytes.
 fn image_of(alloc: Global, words: &[u32]) -> Result<Image, Fail> {
     let mut bytes = Vec::new(alloc);

@@ -45,7 +45,7 @@ total_push [] t = refl
 total_push (x ∷ ts) t = let e : total_of (ts ++ (t ∷ [])) ≡ max t.end (total_of ts) = total_push ts t in omega arith
 
 -- the greatest end, either way round
-total_of-history : (h : List Done) → total_of (map (λ d. d.at) (reverse h)) ≡ greatest_end h
+pub total_of-history : (h : List Done) → total_of (map (λ d. d.at) (reverse h)) ≡ greatest_end h
 total_of-history [] = refl
 total_of-history (d ∷ h) =
     let a : map (λ (d : Done). d.at) (reverse (d ∷ h)) ≡ map (λ d. d.at) (reverse h ++ (d ∷ [])) = ap (λ h. map (λ (d : Done). d.at) h) (reverse_more d h) in

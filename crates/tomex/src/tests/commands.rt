@@ -7,6 +7,7 @@ use crate::files::{Files, ReadFault};
 use std::alloc::{Allocator, Global};
 use std::process::Abort;
 use std::test::Fail;
+use std::thread::Threads;
 
 /// The one file that there is, `image`; with None there is no file at all.
 #[derive(Clone, Copy)]
@@ -40,7 +41,7 @@ struct Outcome {
 }
 
 /// Runs `tomex run image` with further words, and a standard output that takes so many bytes.
-fn run_into<R: AllocGlobal>(
+fn run_into<R: AllocGlobal + Threads + Sync>(
     rt: &R,
     image: Option<&[u8]>,
     words: &[&str],
@@ -54,6 +55,7 @@ fn run_into<R: AllocGlobal>(
     let mut err = Narrow::new(rt.alloc(), 10_000, 1000);
     let shelf = Shelf { image };
     let status = command(
+        rt,
         rt.alloc(),
         rt.alloc(),
         line.as_slice(),
@@ -86,7 +88,7 @@ pub fn text_of(alloc: Global, registers: &[(usize, u32)], last: &str) -> Result<
 }
 
 /// The image ends so: these registers aren't zero, and this is the last line.
-pub fn ends<R: Abort + AllocGlobal>(
+pub fn ends<R: Abort + AllocGlobal + Threads + Sync>(
     rt: &R,
     image: &[u8],
     options: &[&str],
@@ -105,7 +107,7 @@ pub fn ends<R: Abort + AllocGlobal>(
 }
 
 /// The line is refused so: this is all that is told, and this is the status.
-pub fn fails<R: Abort + AllocGlobal>(
+pub fn fails<R: Abort + AllocGlobal + Threads + Sync>(
     rt: &R,
     image: Option<&[u8]>,
     options: &[&str],

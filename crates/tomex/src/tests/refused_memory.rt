@@ -3,11 +3,6 @@
 use std::alloc::{AllocError, Global};
 use tomex_refuse::{Budget, Refusing};
 
-mod boards;
-mod commands;
-mod runs;
-mod studies;
-
 /// The memory of a try.
 type Heap = Refusing<Global>;
 
@@ -28,6 +23,33 @@ impl Try {
         if is_right { Try::Answered } else { Try::Wrong }
     }
 }
+
+/// How many tries of a call are refused before the first that is answered, each with one more block
+/// than the one before. None where a try came out wrong. For a call that takes the runtime, which no
+/// `Attempt` holds.
+macro_rules! refusals_of {
+    ($alloc:expr, $heap:ident => $attempt:expr) => {{
+        let mut answered = None;
+        for granted in 0..1000u64 {
+            let $heap = Refusing::new($alloc, Budget::new($alloc, granted)?);
+            match $attempt {
+                Try::Answered => {
+                    answered = Some(granted);
+                    break;
+                }
+                Try::Refused => {}
+                Try::Wrong => break,
+            }
+        }
+        answered
+    }};
+}
+
+mod boards;
+mod commands;
+mod explorations;
+mod runs;
+mod studies;
 
 /// A call that takes memory.
 trait Attempt {

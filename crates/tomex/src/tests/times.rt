@@ -8,6 +8,7 @@ use crate::files::{Files, ReadFault};
 use std::alloc::Allocator;
 use std::process::Abort;
 use std::test::Fail;
+use std::thread::Threads;
 
 /// A study, and the one file that it may name, `mul.bin`.
 #[derive(Clone, Copy)]
@@ -49,7 +50,7 @@ pub const REPORT: &str = "step,pc,instr,issue,addr,start,finish,end,station\n\
     total,-,-,-,-,-,-,10,-\n";
 
 /// `tomex times study CONFIG PROGRAM` comes to this status, output and telling.
-fn comes_to<R: Abort + AllocGlobal>(
+fn comes_to<R: Abort + AllocGlobal + Threads + Sync>(
     rt: &R,
     desk: Desk<'_>,
     config: &str,
@@ -63,6 +64,7 @@ fn comes_to<R: Abort + AllocGlobal>(
     let mut out = Narrow::new(rt.alloc(), 10_000, 1000);
     let mut err = Narrow::new(rt.alloc(), 10_000, 1000);
     let status = command(
+        rt,
         rt.alloc(),
         rt.alloc(),
         line.as_slice(),

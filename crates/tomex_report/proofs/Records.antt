@@ -1,0 +1,93 @@
+-- The front report's records, from what is pushed.
+use Rattle.std.proofs.Common.{◌≡◌, ℕ, zero, suc, ◌+◌, ◌<◌, List, [], ◌∷◌, ◌++◌, length, get_or, take, Some, refl, sym, ap, ◌∙◌, subst, arith, append_assoc}
+use Rattle.std.specs.Prelude.{slice_get, slice_index_or}
+use Rattle.std.specs.List.{AllZip, flat_map}
+use Rattle.std.specs.Fmt.{decimal}
+use Rattle.std.proofs.lemmas.Option.{get_or_from_slice_get, slice_get_within}
+use Rattle.std.proofs.lemmas.List.{take_more}
+use Rattle.std.proofs.lemmas.Slice.Zip.{all_zipped_more}
+use Rattle.tomex_image.specs.Image.{IsLoaded}
+use Rattle.tomex_rvexec.proofs.FlowEnds.{ends_within_more}
+use Rattle.tomex_config.specs.Row.{Row, plain}
+use Rattle.tomex_config.specs.Cost.{all_units}
+use Rattle.tomex_sweep.specs.Program.{IsProgram, Workload}
+use Rattle.tomex_sweep.specs.Study.{DesignSpace}
+use Rattle.tomex_sweep.specs.Watch.{watched_bytes}
+use Rattle.tomex_sweep.specs.declared.front_row.FrontRow.{FrontRow}
+use Rattle.tomex_sweep.specs.declared.watch.WatchRange.{WatchRange}
+use Rattle.tomex_report.specs.declared.ends.ProgramEnd.{ProgramEnd}
+use Rattle.tomex_report.specs.Ends.{IsProgramEnd, last_state}
+use Rattle.tomex_report.specs.FrontReport.{end_fields, program_fields, program_record, records_of, row_fields, station_fields, unit_fields, watch_texts}
+use Rattle.tomex_report.proofs.Ended.{filled}
+use Rattle.tomex_report.proofs.Watched.{bytes_long, texts_are}
+
+-- one after the other
+pub add : {X : Type 0} (f0 f1 f2 xs ys : List X) → f1 ≡ f0 ++ xs → f2 ≡ f1 ++ ys → f2 ≡ f0 ++ (xs ++ ys)
+add f0 f1 f2 xs ys d e = e ∙ (ap (λ f. f ++ ys) d ∙ append_assoc f0 xs ys)
+
+pub row_pushed : (f0 f1 f2 f3 f4 f5 f6 : List (List ℕ)) (r : FrontRow) (row : Row) (buses : ℕ)
+    → f1 ≡ f0 ++ decimal r.row ∷ [] → f2 ≡ f1 ++ decimal r.cost ∷ [] → f3 ≡ f2 ++ decimal r.cycles ∷ []
+    → f4 ≡ f3 ++ station_fields row → f5 ≡ f4 ++ flat_map (unit_fields row) all_units → f6 ≡ f5 ++ decimal buses ∷ [] → buses ≡ row.buses
+    → f6 ≡ f0 ++ row_fields r row
+unfolding row_fields
+row_pushed f0 f1 f2 f3 f4 f5 f6 r row buses e1 e2 e3 e4 e5 e6 b =
+    let last : f6 ≡ f5 ++ decimal row.buses ∷ [] = e6 ∙ ap (λ (n : ℕ). f5 ++ decimal n ∷ []) b in
+    add f0 f1 f6 (decimal r.row ∷ []) _ e1 (add f1 f2 f6 (decimal r.cost ∷ []) _ e2 (add f2 f3 f6 (decimal r.cycles ∷ []) _ e3
+    (add f3 f4 f6 (station_fields row) _ e4 (add f4 f5 f6 (flat_map (unit_fields row) all_units) (decimal row.buses ∷ []) e5 last))))
+
+-- the watched bytes of an end
+pub watched_long : {A : Type 0} (row : Row) (p : Workload) (e : ProgramEnd A) → IsProgram p → IsLoaded p.image.window p.image.memory p.image.entry → IsProgramEnd row p e
+    → length e.watched.items ≡ watched_bytes p.watch
+watched_long row p e program loaded is =
+    let fills = filled p.image loaded (ends_within_more p.image p.limit 262144 program.few_steps program.ends) in
+    ap (λ (bytes : List ℕ). length bytes) is.watched ∙ bytes_long p.image.window (last_state p.image).memory p.watch fills program.watch.inside
+
+fields_are : {A : Type 0} (row : Row) (p : Workload) (e : ProgramEnd A) → IsProgram p → IsLoaded p.image.window p.image.memory p.image.entry → IsProgramEnd row p e
+    → p.name ∷ end_fields p.watch e ≡ program_fields row p
+unfolding program_fields
+fields_are row p e program loaded is =
+    let fills = filled p.image loaded (ends_within_more p.image p.limit 262144 program.few_steps program.ends) in
+    let texts = ap (λ (bytes : List ℕ). watch_texts p.watch bytes) is.watched ∙ texts_are p.image.window (last_state p.image).memory p.watch fills program.watch.inside in
+    rw (is.steps, is.total, is.kind, is.regs, texts) refl
+
+pub record_is : {A : Type 0} (row : Row) (p : Workload) (e : ProgramEnd A) (r : FrontRow) (f0 f1 f2 f3 : List (List ℕ)) (part name : List ℕ) (ranges : List WatchRange)
+    → IsProgram p → IsLoaded p.image.window p.image.memory p.image.entry → IsProgramEnd row p e
+    → f0 ≡ [] → f1 ≡ f0 ++ row_fields r row → f2 ≡ f1 ++ (part ++ name) ∷ [] → part ≡ [] → name ≡ p.name → f3 ≡ f2 ++ end_fields ranges e → ranges ≡ p.watch
+    → f3 ≡ row_fields r row ++ program_fields row p
+record_is row p e r f0 f1 f2 f3 part name ranges program loaded is e0 e1 e2 none named e3 watch =
+    let own : f2 ≡ f1 ++ p.name ∷ [] = e2 ∙ (ap (λ (x : List ℕ). f1 ++ (x ++ name) ∷ []) none ∙ ap (λ (x : List ℕ). f1 ++ x ∷ []) named) in
+    let ended : f3 ≡ f2 ++ end_fields p.watch e = e3 ∙ ap (λ (rs : List WatchRange). f2 ++ end_fields rs e) watch in
+    let first : f1 ≡ row_fields r row = e1 ∙ ap (λ (x : List (List ℕ)). x ++ row_fields r row) e0 in
+    add f1 f2 f3 (p.name ∷ []) (end_fields p.watch e) own ended
+    ∙ (ap (λ (x : List (List ℕ)). x ++ (p.name ∷ end_fields p.watch e)) first ∙ ap (λ (x : List (List ℕ)). row_fields r row ++ x) (fields_are row p e program loaded is))
+
+-- what holds place by place holds of what is read at one
+pub at_both : {A B : Type 0} (Q : A → B → Type 0) (xs : List A) (ys : List B) (k : ℕ) (x : A) (y : B) → AllZip Q xs ys → k < length xs → x ≡ get_or xs k x → y ≡ get_or ys k y → Q x y
+at_both Q [] ys k x y h less e f = absurd (omega (arith, less))
+at_both Q (a ∷ xs) [] k x y h less e f = absurd h
+at_both Q (a ∷ xs) (b ∷ ys) zero x y h less e f = subst (λ z. Q x z) (sym f) (subst (λ z. Q z b) (sym e) h.0)
+at_both Q (a ∷ xs) (b ∷ ys) (suc k) x y h less e f = at_both Q xs ys k x y h.1 (omega (arith, less)) e f
+
+pub at_read : {A B : Type 0} (Q : A → B → Type 0) (xs : List A) (ys : List B) (k : ℕ) (d : A) (y : B) → AllZip Q xs ys → k < length xs → y ≡ get_or ys k y → Q (get_or xs k d) y
+at_read Q [] ys k d y h less f = absurd (omega (arith, less))
+at_read Q (a ∷ xs) [] k d y h less f = absurd h
+at_read Q (a ∷ xs) (b ∷ ys) zero d y h less f = subst (λ z. Q a z) (sym f) h.0
+at_read Q (a ∷ xs) (b ∷ ys) (suc k) d y h less f = at_read Q xs ys k d y h.1 (omega (arith, less)) f
+
+-- what holds place by place of the first ones, and of one more
+pub one_more : {A B : Type 0} (Q : A → B → Type 0) (xs : List A) (ys zs : List B) (k : ℕ) (x : A) (y : B) → AllZip Q (take k xs) ys → k < length xs → x ≡ get_or xs k x → Q x y → zs ≡ ys ++ y ∷ [] → AllZip Q (take (k + 1) xs) zs
+one_more Q xs ys zs k x y h less e q f =
+    let t : take (k + 1) xs ≡ take k xs ++ x ∷ [] = take_more xs k x less ∙ ap (λ z. take k xs ++ z ∷ []) (sym e) in
+    rw (t, f) (all_zipped_more Q (take k xs) ys x y h q)
+
+pub same_row : (rows mine : List Row) (k : ℕ) (row got : Row) → slice_get rows k ≡ Some row → mine ≡ rows → got ≡ get_or mine k got → got ≡ row
+same_row rows mine k row got at e read = read ∙ (ap (λ (rs : List Row). get_or rs k got) e ∙ get_or_from_slice_get rows k row got at)
+
+pub row_within : (rows mine : List Row) (k : ℕ) (row : Row) → slice_get rows k ≡ Some row → mine ≡ rows → k < length mine
+row_within rows mine k row at e = rw e (slice_get_within rows k row at)
+
+pub records_are : (s : DesignSpace) (r : FrontRow) (row got : Row) (programs : List Workload) → slice_get s.rows r.row ≡ Some row → got ≡ row → programs ≡ s.programs
+    → flat_map (program_record r got) programs ≡ records_of s r
+records_are s r row got programs at same e =
+    let there : slice_index_or s.rows r.row plain ≡ row = get_or_from_slice_get s.rows r.row row plain at in
+    rw (same, e, there) refl

@@ -1,0 +1,13 @@
+-- The text so far, and that of the programs to come.
+use Rattle.std.proofs.Common.{◌≡◌, ◌++◌, drop}
+use Rattle.std.specs.List.{flat_map}
+use Rattle.tomex_report.specs.Csv.{IsReady, written}
+use Rattle.tomex_report.specs.FrontReport.{program_record}
+use Rattle.tomex_report.proofs.front_text.put_programs.Given as goal
+
+abbrev pub invariant-loop-place : goal.invariant-loop-place
+invariant-loop-place g l = record {
+  ready : IsReady l.writer;
+  text : written (λ v. v.items) l.writer ++ flat_map (program_record l.front l.row) (drop l.place l.programs)
+      ≡ written (λ v. v.items) l.fn.writer ++ flat_map (program_record l.front l.row) l.programs;
+}

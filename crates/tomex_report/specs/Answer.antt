@@ -1,0 +1,16 @@
+-- From bytes to a report.
+use Rattle.std.specs.Prelude.{◌≡◌, ℕ, List}
+use Rattle.tomex_sweep.specs.Study.{DesignSpace}
+use Rattle.tomex_report.specs.Study.{IsStudyOf, IsStudyRefusal}
+use Rattle.tomex_report.specs.FrontReport.{report_of}
+use Rattle.tomex_report.specs.declared.answer_error.AnswerError.{AnswerError}
+use Rattle.tomex_report.specs.declared.answer_error.AnswerError.TheVariants.{Study, Sweep}
+
+-- the bytes and the files stand for a study, and the text is its report
+abbrev pub IsAnswer : List ℕ → List (List ℕ) → List ℕ → Type 0
+IsAnswer bytes files text = (s : DesignSpace) × IsStudyOf bytes files s × (text ≡ report_of s)
+
+-- the study's own refusal; or it is a study, and memory or a thread was refused
+abbrev pub IsAnswerRefusal : List ℕ → List (List ℕ) → AnswerError → Type 0
+IsAnswerRefusal bytes files (Study error) = IsStudyRefusal bytes files error
+IsAnswerRefusal bytes files (Sweep error) = (s : DesignSpace) × IsStudyOf bytes files s

@@ -1,0 +1,126 @@
+//! From the bytes of a study to its report.
+
+ghost use Rattle.std.specs.Prelude.{◌≡◌, ◌≢◌, ◌≤◌, map, IfOk, IfErr};
+ghost use Rattle.tomex_sweep.specs.Front.{front_of_study};
+ghost use Rattle.tomex_sweep.specs.declared.outcome.SweepError.TheVariants.{Memory, Worker};
+ghost use Rattle.tomex_report.specs.declared.answer_error.AnswerError.TheVariants.{Sweep};
+ghost use Rattle.tomex_report.specs.Answer.{IsAnswer, IsAnswerRefusal};
+ghost use Rattle.tomex_report.specs.FrontReport.{report_of};
+
+use crate::answer_error::AnswerError;
+use crate::error::StudyError;
+use crate::front_text::front_report;
+use crate::replaying::replay;
+use crate::study::read_study;
+use std::alloc::{AllocError, Allocator, Global};
+use std::thread::Threads;
+use tomex_sweep::{FrontRow, Gate, Study, SweepError, explore, run_all};
+
+/// The report of a study whose front is known.
+fn reported<R: Threads + Sync, A: Allocator + Clone + Send + Sync + Drop>(
+    rt: &R,
+    alloc: A,
+    heap: Global,
+    study: &Study<A>,
+    front: &[FrontRow],
+) -> Result<Vec<u8, A>, AllocError>
+    requires { front.now ≡ front_of_study study.now }
+    ensures { IfOk result (λ text. text.items ≡ report_of study.now) }
+{
+    // Read for what the study's type keeps, which the proof needs.
+    let _rows = study.rows();
+    let ends = replay(rt, alloc.clone()?, study, front)?;
+    front_report(alloc, heap, study, front, ends.as_slice())
+}
+
+/// The report of a study, which workers explore.
+fn explored<R: Threads + Sync, A: Allocator + Clone + Send + Sync + Drop, G: Gate>(
+    rt: &R,
+    alloc: A,
+    heap: Global,
+    study: &Study<A>,
+    workers: usize,
+    gate: &G,
+) -> Result<Vec<u8, A>, SweepError>
+    requires some_workers { 1 ≤ workers }
+    requires few_workers { workers ≤ 32 }
+    ensures { IfOk result (λ text. text.items ≡ report_of study.now) }
+{
+    let outcome = explore(alloc.clone()?, study, workers, gate)?;
+    Ok(reported(rt, alloc, heap, study, outcome.front.as_slice())?)
+}
+
+/// For every study whose programs end within the stated number of instructions, every list of
+/// configurations, number of workers and order of stealing, the report's bytes are those of one
+/// thread that runs everything to its end by the in-order RV32IM machine and the timing recurrence;
+/// each configuration is taken once, and a dropped one has a finished one no dearer and strictly
+/// faster.
+///
+/// `study` is the document, `files` the contents of its programs' files in their order. A study is
+/// refused as `read_study` refuses it; of one that isn't, only memory and the start of a thread can
+/// be refused. What `toml` and `csv` need they take of `heap`.
+pub fn answer<R: Threads + Sync, A: Allocator + Clone + Send + Sync + Drop, G: Gate>(
+    rt: &R,
+    alloc: A,
+    heap: Global,
+    study: &[u8],
+    files: &[Vec<u8, A>],
+    workers: usize,
+    gate: &G,
+) -> Result<Vec<u8, A>, AnswerError>
+    requires some_workers { 1 ≤ workers }
+    requires few_workers { workers ≤ 32 }
+    ensures ok { IfOk result (λ text. IsAnswer study.now (map (λ f. f.items) files.now) text.items) }
+    ensures err { IfErr result (λ e. IsAnswerRefusal study.now (map (λ f. f.items) files.now) e) }
+{
+    let Ok(own) = alloc.clone() else {
+        return Err(AnswerError::Study(StudyError::Memory));
+    };
+    let read = match read_study(own, heap, study, files) {
+        Ok(read) => read,
+        Err(error) => return Err(AnswerError::Study(error)),
+    };
+    match explored(rt, alloc, heap, &read, workers, gate) {
+        Ok(text) => Ok(text),
+        Err(error) => Err(AnswerError::Sweep(error)),
+    }
+}
+
+/// The report of a study, whose rows are all run to their ends on the calling thread.
+fn explored_whole<R: Threads + Sync, A: Allocator + Clone + Send + Sync + Drop>(
+    rt: &R,
+    alloc: A,
+    heap: Global,
+    study: &Study<A>,
+) -> Result<Vec<u8, A>, SweepError>
+    ensures ok { IfOk result (λ text. text.items ≡ report_of study.now) }
+    ensures err { IfErr result (λ e. e ≡ Memory) }
+{
+    let outcome = run_all(alloc.clone()?, study)?;
+    Ok(reported(rt, alloc, heap, study, outcome.front.as_slice())?)
+}
+
+/// The same report, of rows that are all run to their ends on the calling thread.
+pub fn answer_all<R: Threads + Sync, A: Allocator + Clone + Send + Sync + Drop>(
+    rt: &R,
+    alloc: A,
+    heap: Global,
+    study: &[u8],
+    files: &[Vec<u8, A>],
+) -> Result<Vec<u8, A>, AnswerError>
+    ensures ok { IfOk result (λ text. IsAnswer study.now (map (λ f. f.items) files.now) text.items) }
+    ensures err { IfErr result (λ e. IsAnswerRefusal study.now (map (λ f. f.items) files.now) e) }
+    ensures no_worker { IfErr result (λ e. e ≢ Sweep Worker) }
+{
+    let Ok(own) = alloc.clone() else {
+        return Err(AnswerError::Study(StudyError::Memory));
+    };
+    let read = match read_study(own, heap, study, files) {
+        Ok(read) => read,
+        Err(error) => return Err(AnswerError::Study(error)),
+    };
+    match explored_whole(rt, alloc, heap, &read) {
+        Ok(text) => Ok(text),
+        Err(error) => Err(AnswerError::Sweep(error)),
+    }
+}

@@ -1,0 +1,115 @@
+//! The fields of the front report's records.
+
+ghost use Rattle.std.specs.Prelude.{◌≡◌, ◌++◌, ◌∷◌, [], OnOk, length};
+ghost use Rattle.std.specs.List.{flat_map};
+ghost use Rattle.csv.specs.Records.{fields_of, partial_of};
+ghost use Rattle.tomex_config.specs.Cost.{all_units};
+ghost use Rattle.tomex_sweep.specs.Watch.{watched_bytes};
+ghost use Rattle.tomex_report.specs.Ends.{IsProgramEnd};
+ghost use Rattle.tomex_report.specs.FrontReport.{end_fields, program_fields, row_fields, station_fields, unit_fields};
+
+use crate::csv_text::push_decimal;
+use crate::end_texts::{registers_text, watch_text};
+use crate::ends::ProgramEnd;
+use csv::ByteRecord;
+use std::alloc::{AllocError, Allocator, Global};
+use std::fmt::Write;
+use tomex_config::Config;
+use tomex_rvdec::{PoolId, UnitId};
+use tomex_sweep::{FrontRow, Program, WatchRange};
+
+/// Adds the stations of each pool.
+#[tactic(auto, unfolding(crate::specs::FrontReport::station_fields))]
+fn push_stations(
+    fields: &mut ByteRecord,
+    scratch: &mut String,
+    row: &Config,
+) -> Result<(), AllocError>
+    requires { partial_of fields.old ≡ [] }
+    ensures fields { OnOk result (fields_of fields.new ≡ fields_of fields.old ++ station_fields row.now) }
+    ensures whole { OnOk result (partial_of fields.new ≡ []) }
+{
+    for pool in PoolId::ALL {
+        push_decimal(fields, scratch, u64::from(row.stations(pool)))?;
+    }
+    Ok(())
+}
+
+/// Adds the units and the latency of each kind.
+fn push_units(fields: &mut ByteRecord, scratch: &mut String, row: &Config) -> Result<(), AllocError>
+    requires { partial_of fields.old ≡ [] }
+    ensures fields { OnOk result (fields_of fields.new ≡ fields_of fields.old ++ flat_map (unit_fields row.now) all_units) }
+    ensures whole { OnOk result (partial_of fields.new ≡ []) }
+{
+    for unit in UnitId::ALL {
+        push_decimal(fields, scratch, u64::from(row.units(unit)))?;
+        push_decimal(fields, scratch, u64::from(row.latency(unit)))?;
+    }
+    Ok(())
+}
+
+/// Adds a front row's number, cost and cycles, and its parts.
+fn push_row(
+    fields: &mut ByteRecord,
+    scratch: &mut String,
+    front: FrontRow,
+    row: &Config,
+) -> Result<(), AllocError>
+    requires { partial_of fields.old ≡ [] }
+    ensures fields { OnOk result (fields_of fields.new ≡ fields_of fields.old ++ row_fields front row.now) }
+    ensures whole { OnOk result (partial_of fields.new ≡ []) }
+{
+    push_decimal(fields, scratch, front.row as u64)?;
+    push_decimal(fields, scratch, front.cost)?;
+    push_decimal(fields, scratch, front.cycles)?;
+    push_stations(fields, scratch, row)?;
+    push_units(fields, scratch, row)?;
+    push_decimal(fields, scratch, u64::from(row.buses()))?;
+    Ok(())
+}
+
+/// Adds what an end is shown as, of a program that watches these ranges.
+fn push_end<A: Allocator>(
+    fields: &mut ByteRecord,
+    scratch: &mut String,
+    heap: Global,
+    ranges: &[WatchRange],
+    end: &ProgramEnd<A>,
+) -> Result<(), AllocError>
+    requires whole { partial_of fields.old ≡ [] }
+    requires watched { length end.now.watched.items ≡ watched_bytes ranges.now }
+    ensures fields { OnOk result (fields_of fields.new ≡ fields_of fields.old ++ end_fields ranges.now end.now) }
+    ensures whole { OnOk result (partial_of fields.new ≡ []) }
+{
+    push_decimal(fields, scratch, u64::from(end.steps))?;
+    push_decimal(fields, scratch, end.total)?;
+    let kind = end.kind;
+    scratch.clear();
+    write!(scratch, "{kind}")?;
+    fields.push_field(scratch.as_bytes())?;
+    fields.push_field(registers_text(heap, end.regs.as_slice())?.as_bytes())?;
+    fields.push_field(watch_text(heap, ranges, end.watched.as_slice())?.as_bytes())?;
+    Ok(())
+}
+
+/// Makes a record the one of a program on a front row.
+pub fn fill_record<A: Allocator>(
+    fields: &mut ByteRecord,
+    scratch: &mut String,
+    heap: Global,
+    front: FrontRow,
+    row: &Config,
+    program: &Program<A>,
+    end: &ProgramEnd<A>,
+) -> Result<(), AllocError>
+    requires { IsProgramEnd row.now program.now end.now }
+    ensures { OnOk result (fields_of fields.new ≡ row_fields front row.now ++ program_fields row.now program.now) }
+{
+    // Read for what the image's type keeps, which the proof needs.
+    let _window = program.image().window();
+    fields.clear();
+    push_row(fields, scratch, front, row)?;
+    fields.push_field(program.name().as_bytes())?;
+    push_end(fields, scratch, heap, program.watch(), end)?;
+    Ok(())
+}

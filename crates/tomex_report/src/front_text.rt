@@ -1,0 +1,119 @@
+//! The front report.
+
+ghost use Rattle.std.specs.Prelude.{◌≡◌, ◌++◌, IfOk, OnOk};
+ghost use Rattle.std.specs.List.{AllZip, flat_map};
+ghost use Rattle.tomex_sweep.specs.Front.{front_of_study};
+ghost use Rattle.tomex_report.specs.Csv.{IsReady, written};
+ghost use Rattle.tomex_report.specs.Ends.{IsProgramEnd};
+ghost use Rattle.tomex_report.specs.RowEnds.{AreEndsOf};
+ghost use Rattle.tomex_report.specs.FrontReport.{program_record, records_of, report_of};
+
+use crate::csv_text::put_record;
+use crate::ends::ProgramEnd;
+use crate::front_fields::fill_record;
+use crate::front_header::columns;
+use crate::row_ends::RowEnds;
+use csv::{ByteRecord, Writer};
+use std::alloc::{AllocError, Allocator, Global};
+use tomex_config::Config;
+use tomex_sweep::{FrontRow, Program, Study};
+
+/// Writes the records of a front row's programs.
+fn put_programs<A: Allocator>(
+    writer: &mut Writer<Vec<u8, A>>,
+    heap: Global,
+    front: FrontRow,
+    row: &Config,
+    programs: &[Program<A>],
+    ends: &[ProgramEnd<A>],
+) -> Result<(), AllocError>
+    requires ready { IsReady writer.old }
+    requires ends { AllZip (IsProgramEnd row.now) programs.now ends.now }
+    ensures ready { OnOk result (IsReady writer.new) }
+    ensures text { OnOk result (written (λ v. v.items) writer.new ≡ written (λ v. v.items) writer.old ++ flat_map (program_record front row.now) programs.now) }
+{
+    let mut record = ByteRecord::new(heap);
+    let mut scratch = String::new(heap);
+    for (place, program) in programs.iter().enumerate() {
+        fill_record(
+            &mut record,
+            &mut scratch,
+            heap,
+            front,
+            row,
+            program,
+            &ends[place],
+        )?;
+        put_record(writer, &record)?;
+    }
+    Ok(())
+}
+
+/// Writes the records of a front row.
+fn put_row<A: Allocator>(
+    writer: &mut Writer<Vec<u8, A>>,
+    heap: Global,
+    study: &Study<A>,
+    front: FrontRow,
+    ends: &RowEnds<A>,
+) -> Result<(), AllocError>
+    requires ready { IsReady writer.old }
+    requires ends { AreEndsOf study.now front ends.now }
+    ensures ready { OnOk result (IsReady writer.new) }
+    ensures text { OnOk result (written (λ v. v.items) writer.new ≡ written (λ v. v.items) writer.old ++ records_of study.now front) }
+{
+    let row = &study.rows()[front.row];
+    put_programs(
+        writer,
+        heap,
+        front,
+        row,
+        study.programs(),
+        ends.programs.as_slice(),
+    )?;
+    Ok(())
+}
+
+/// Writes the records of a front's rows, in order.
+fn put_rows<A: Allocator>(
+    writer: &mut Writer<Vec<u8, A>>,
+    heap: Global,
+    study: &Study<A>,
+    front: &[FrontRow],
+    ends: &[RowEnds<A>],
+) -> Result<(), AllocError>
+    requires ready { IsReady writer.old }
+    requires ends { AllZip (λ r e. AreEndsOf study.now r e) front.now ends.now }
+    ensures ready { OnOk result (IsReady writer.new) }
+    ensures text { OnOk result (written (λ v. v.items) writer.new ≡ written (λ v. v.items) writer.old ++ flat_map (records_of study.now) front.now) }
+{
+    for (place, row) in front.iter().enumerate() {
+        put_row(writer, heap, study, *row, &ends[place])?;
+    }
+    Ok(())
+}
+
+/// The front report of a study, from its front and what its rows come to: CSV with a header, and
+/// for each row of the front a record for each program.
+///
+/// What `csv` needs for its records it takes of `heap`.
+#[tactic(auto, unfolding(crate::specs::FrontReport::report_of))]
+pub fn front_report<A: Allocator + Clone>(
+    alloc: A,
+    heap: Global,
+    study: &Study<A>,
+    front: &[FrontRow],
+    ends: &[RowEnds<A>],
+) -> Result<Vec<u8, A>, AllocError>
+    requires front { front.now ≡ front_of_study study.now }
+    requires ends { AllZip (λ r e. AreEndsOf study.now r e) front.now ends.now }
+    ensures { IfOk result (λ text. text.items ≡ report_of study.now) }
+{
+    let mut writer = Writer::from_writer(Vec::new(alloc));
+    put_record(&mut writer, &columns(heap)?)?;
+    put_rows(&mut writer, heap, study, front, ends)?;
+    match writer.into_inner() {
+        Ok(text) => Ok(text),
+        Err(_) => Err(AllocError),
+    }
+}

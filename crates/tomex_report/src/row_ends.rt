@@ -1,0 +1,10 @@
+//! What a front row comes to.
+
+use crate::ends::ProgramEnd;
+use std::alloc::{Allocator, Global};
+
+/// How each program ends on a row, in the study's order.
+#[derive(Drop)]
+pub struct RowEnds<A: Allocator = Global> {
+    pub programs: Vec<ProgramEnd<A>, A>,
+}

@@ -1,0 +1,71 @@
+-- The run goes on to the look, to its end, or to the next program.
+use Rattle.std.proofs.Common.{arith, ◌≡◌, ◌+◌, ◌≤◌, ◌<◌, sym, ◌∙◌, length, refl}
+use Rattle.std.proofs.lemmas.Option.{slice_get_read}
+use Rattle.tomex_sweep.proofs.Totals.{all_cycles}
+use Rattle.tomex_sweep.proofs.Stops.{looked, looks, still_going, ended_total, next_going, last_going, look_at, over_at}
+use Rattle.tomex_sweep.proofs.row_run.RowRun.go_on.Goals as goal
+
+pub invariant_of-self : goal.invariant_of-self
+invariant_of-self g c =
+    let goes = rw c.loop-self.invariant.next at c.advance.ensures.ends in
+    rw c.loop-self.invariant.next (looked _ _ _ _ _ _ _ c.loop-self.invariant.going c.loop-self-test.true goes (sym c.ended.ensures.value ∙ c.if-not-ended.true))
+
+pub returns-then-not-ended-clause-stop : goal.returns-then-not-ended-clause-stop
+returns-then-not-ended-clause-stop g c =
+    let goes = rw c.loop-self.invariant.next at c.advance.ensures.ends in
+    look_at _ _ _ _ _ _ _ c.loop-self.invariant.programs c.loop-self.invariant.row c.loop-self.invariant.reached c.loop-self.invariant.next
+    (looks _ _ _ _ _ _ _ c.loop-self.invariant.going c.loop-self-test.true goes (sym c.ended.ensures.value ∙ c.if-not-ended.true))
+
+pub overflow_add-done : goal.overflow_add-done
+overflow_add-done g c =
+    let goes = rw c.loop-self.invariant.next at c.advance.ensures.ends in
+    let t = ended_total _ _ _ _ _ _ _ c.loop-self.invariant.going c.loop-self-test.true goes (sym c.ended.ensures.value ∙ c.if-not-ended.false) in
+    let low : c.loop-self.self-inside.done + c.advance.new.self.cycle ≤ c.loop-self.self-inside.reached + 1024 = t.1 in
+    let small : c.loop-self.self-inside.reached ≤ 140509184 = c.loop-self.invariant.going.small in
+    let e : c.cycle.result ≡ c.advance.new.self.cycle = c.cycle.ensures.value in
+    omega arith
+
+pub invariant_of-self-in_default : goal.invariant_of-self-in_default
+invariant_of-self-in_default g c =
+    let goes = rw c.loop-self.invariant.next at c.advance.ensures.ends in
+    let t = ended_total _ _ _ _ _ _ _ c.loop-self.invariant.going c.loop-self-test.true goes (sym c.ended.ensures.value ∙ c.if-not-ended.false) in
+    let past : length c.loop-self.self-inside.programs.now ≤ c.loop-self.self-inside.place + 1 = rw c.in_default.is at c.get.ensures.lookup.3 in
+    last_going _ _ _ _ _ _ _ _ c.loop-self.invariant.going c.loop-self-test.true (rw c.cycle.ensures.value t.0) (rw c.cycle.ensures.value t.1) past
+
+pub returns-in_default-clause-stop : goal.returns-in_default-clause-stop
+returns-in_default-clause-stop g c =
+    let goes = rw c.loop-self.invariant.next at c.advance.ensures.ends in
+    let t = ended_total _ _ _ _ _ _ _ c.loop-self.invariant.going c.loop-self-test.true goes (sym c.ended.ensures.value ∙ c.if-not-ended.false) in
+    let past : length c.loop-self.self-inside.programs.now ≤ c.loop-self.self-inside.place + 1 = rw c.in_default.is at c.get.ensures.lookup.3 in
+    over_at _ _ _ _ _ _ _ c.loop-self.invariant.programs c.loop-self.invariant.row c.loop-self.invariant.reached
+    (rw c.cycle.ensures.value (t.0 ∙ all_cycles _ _ _ past)) (rw c.cycle.ensures.value t.1)
+
+pub invariant_of-self-in_err-clone : goal.invariant_of-self-in_err-clone
+invariant_of-self-in_err-clone g c =
+    still_going _ _ _ _ _ _ _ c.loop-self.invariant.going c.loop-self-test.true (rw c.loop-self.invariant.next at c.advance.ensures.ends)
+
+pub invariant_of-self-in_err-machine : goal.invariant_of-self-in_err-machine
+invariant_of-self-in_err-machine g c =
+    still_going _ _ _ _ _ _ _ c.loop-self.invariant.going c.loop-self-test.true (rw c.loop-self.invariant.next at c.advance.ensures.ends)
+
+pub loop-self-smaller : goal.loop-self-smaller
+loop-self-smaller g c = let l : c.loop-self.self-inside.place < length c.loop-self.self-inside.programs.now = c.loop-self-test.true in omega arith
+
+pub loop-self-preserved : goal.loop-self-preserved
+loop-self-preserved g c =
+    let goes = rw c.loop-self.invariant.next at c.advance.ensures.ends in
+    let t = ended_total _ _ _ _ _ _ _ c.loop-self.invariant.going c.loop-self-test.true goes (sym c.ended.ensures.value ∙ c.if-not-ended.false) in
+    let at = c.in-Some.ensures.lookup.3 in
+    record {
+      going = next_going _ _ _ _ _ _ _ _ c.in-Some.program.now c.loop-self.invariant.going c.loop-self-test.true (rw c.cycle.ensures.value t.0) (rw c.cycle.ensures.value t.1) (slice_get_read c.loop-self.self-inside.programs.now _ (c.loop-self.self-inside.place + 1) c.in-Some.program.now refl at.0 (at.1 c.in-Some.program.now)) (rw c.image.ensures.value at c.in_ok-machine.ensures);
+      next = c.loop-self.invariant.next;
+      programs = c.loop-self.invariant.programs;
+      row = c.loop-self.invariant.row;
+      reached = c.loop-self.invariant.reached;
+    }
+
+pub returns-clause-stop : goal.returns-clause-stop
+returns-clause-stop g c =
+    let past : length c.loop-self.self-inside.programs.now ≤ c.loop-self.self-inside.place = c.loop-self-test.false in
+    over_at _ _ _ _ _ _ _ c.loop-self.invariant.programs c.loop-self.invariant.row c.loop-self.invariant.reached
+    (c.loop-self.invariant.going.sum ∙ all_cycles _ _ _ past) c.loop-self.invariant.going.low

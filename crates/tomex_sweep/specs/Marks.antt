@@ -1,0 +1,41 @@
+-- Marks of rows: when they are lawful, and what the finished ones are.
+use Rattle.std.specs.Prelude.{◌≡◌, ℕ, suc, ◌<◌, ◌≤◌, Bool, true, false, List, [], ◌∷◌, ◌++◌, Some, length, slice_get, slice_index, All}
+use Rattle.tomex_sweep.specs.declared.front_row.FrontRow.{FrontRow}
+use Rattle.tomex_sweep.specs.declared.mark.Mark.{Mark}
+use Rattle.tomex_sweep.specs.declared.mark.Mark.TheVariants.{Finished, Dropped}
+
+-- a finished row has its own cycles; a dropped one names a finished row that costs no more and takes strictly fewer cycles
+pub record AreLawful (costs cycles : List ℕ) (marks : List Mark) : Type 0 where
+  pub finished : (i y : ℕ) → slice_get marks i ≡ Some (Finished y) → y ≡ slice_index cycles i
+  pub dropped : (i j : ℕ) → slice_get marks i ≡ Some (Dropped j) → (slice_get marks j ≡ Some (Finished (slice_index cycles j))) × (slice_index costs j ≤ slice_index costs i) × (slice_index cycles j < slice_index cycles i)
+
+abbrev pub is_closed : Mark → Bool
+is_closed (Finished y) = true
+is_closed (Dropped j) = true
+is_closed _ = false
+
+abbrev pub is_finished : Mark → Bool
+is_finished (Finished y) = true
+is_finished _ = false
+
+-- one mark a row, each finished or dropped, all lawful
+pub record AreJudged (costs cycles : List ℕ) (marks : List Mark) : Type 0 where
+  pub count : length marks ≡ length costs
+  pub closed : All (λ m. is_closed m ≡ true) marks
+  pub lawful : AreLawful costs cycles marks
+
+-- the row of this number, cost and mark, where it is finished
+abbrev pub finished_one : ℕ → ℕ → Mark → List FrontRow
+finished_one n c (Finished y) = record { row = n; cost = c; cycles = y } ∷ []
+finished_one n c _ = []
+
+-- the finished rows among those of these costs and marks, numbered from n on
+abbrev pub finished_from : ℕ → List ℕ → List Mark → List FrontRow
+finished_from n (c ∷ cs) (m ∷ ms) = finished_one n c m ++ finished_from (suc n) cs ms
+finished_from n _ _ = []
+
+-- what closes a row of that cost and these cycles, where the rows before it have these marks
+abbrev pub IsJudgement : List ℕ → List Mark → ℕ → ℕ → Mark → Type 0
+IsJudgement costs marks cost cycles (Finished y) = y ≡ cycles
+IsJudgement costs marks cost cycles (Dropped j) = (y : ℕ) × (slice_get marks j ≡ Some (Finished y)) × (slice_index costs j ≤ cost) × (y < cycles)
+IsJudgement costs marks cost cycles _ = ⊥
