@@ -23,7 +23,7 @@ use crate::shown::Tables;
 use std::alloc::{AllocError, Allocator, Global};
 use tomex_config::Config;
 use tomex_image::Image;
-use tomex_rvexec::{End, Memory};
+use tomex_rvexec::{End, Fetcher, Memory};
 use tomex_tags::{Pools, RegStatus};
 
 /// Stations, registers and memory.
@@ -41,15 +41,16 @@ impl<A: Allocator> Inner<A> {
     /// Makes one cycle.
     pub fn make_cycle<B: Allocator>(
         &mut self,
-        image: &Image<B>,
+        fetcher: &mut Fetcher<'_, B>,
         row: &Config,
         next: u64,
     ) -> Progress
         requires next { next < 2 ^ 41 }
-        ensures cycle { (n : ℕ) (s : State) (kind : EndKind) (t : ℕ) → RunEnds image.now n s kind → n < 262144 → next ≡ t + 1 → IsRow row.now → IsLoaded image.now.window image.now.memory image.now.entry
-            → IsSnapshot image.now row.now n t self.old.count self.old.pools self.old.registers self.old.fetch self.old.memory
-            → IsSnapshot image.now row.now n next self.new.count self.new.pools self.new.registers self.new.fetch self.new.memory
-            × (result ≡ (if nat_lt next (greatest_end (run_to row.now image.now (n + 1))) then Progress.Running else Progress.Ended)) }
+        ensures cycle { (n : ℕ) (s : State) (kind : EndKind) (t : ℕ) → RunEnds fetcher.old n s kind → n < 262144 → next ≡ t + 1 → IsRow row.now → IsLoaded fetcher.old.window fetcher.old.memory fetcher.old.entry
+            → IsSnapshot fetcher.old row.now n t self.old.count self.old.pools self.old.registers self.old.fetch self.old.memory
+            → IsSnapshot fetcher.old row.now n next self.new.count self.new.pools self.new.registers self.new.fetch self.new.memory
+            × (result ≡ (if nat_lt next (greatest_end (run_to row.now fetcher.old (n + 1))) then Progress.Running else Progress.Ended)) }
+        ensures same { fetcher.new ≡ fetcher.old }
     {
         if let Some(fault) = phases::start(&mut self.pools, &mut self.memory, row, next) {
             return Progress::Faulted(fault);
@@ -60,7 +61,7 @@ impl<A: Allocator> Inner<A> {
             &mut self.registers,
             &mut self.fetch,
             self.count,
-            image,
+            fetcher,
             row,
             next,
         ) {

@@ -1,12 +1,12 @@
 //! The issue of one instruction.
 
+ghost use Rattle.std.specs.Prelude.{◌≡◌};
 ghost use Rattle.tomex_cycle.specs.Issue.{IssuesNext};
 
 use crate::fetch::Fetch;
 use std::alloc::Allocator;
 use tomex_config::Config;
-use tomex_image::Image;
-use tomex_rvexec::{Fault, instruction_at};
+use tomex_rvexec::{Fault, Fetcher};
 use tomex_tags::{Pools, RegStatus, Tag, issue};
 
 /// Issues the next instruction, where no branch and no want of a station is in its way, and answers whether it did.
@@ -15,16 +15,17 @@ pub fn issue_next<A: Allocator>(
     registers: &mut RegStatus,
     fetch: &mut Fetch,
     count: u32,
-    image: &Image<A>,
+    fetcher: &mut Fetcher<'_, A>,
     row: &Config,
 ) -> Result<bool, Fault>
-    ensures issues { IssuesNext image.now row.now count pools.old registers.old fetch.old result pools.new registers.new fetch.new }
+    ensures issues { IssuesNext fetcher.old row.now count pools.old registers.old fetch.old result pools.new registers.new fetch.new }
+    ensures same { fetcher.new ≡ fetcher.old }
 {
     let pc = match *fetch {
         Fetch::At(pc) => pc,
         _ => return Ok(false),
     };
-    let instr = match instruction_at(image, pc) {
+    let instr = match fetcher.fetch(pc) {
         Ok(instr) => instr,
         Err(kind) => return Err(Fault { kind, pc }),
     };

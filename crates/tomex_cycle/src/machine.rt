@@ -13,12 +13,12 @@ use std::alloc::{AllocError, Allocator, Global};
 use std::marker::Model;
 use tomex_config::Config;
 use tomex_image::Image;
-use tomex_rvexec::End;
+use tomex_rvexec::{End, Fetcher};
 
 /// A Tomasulo machine that runs an image.
 #[derive(Drop)]
 pub struct Machine<'a, A: Allocator = Global> {
-    image: &'a Image<A>,
+    fetcher: Fetcher<'a, A>,
     row: Config,
     cycle: u64,
     last: Progress,
@@ -31,9 +31,9 @@ impl<'a, A: Allocator> Model for Machine<'a, A> {
 
     ghost Value = { Seen };
 
-    ghost view = { λ m. record { image = m.image.now; row = m.row; cycle = m.cycle; last = m.last } };
+    ghost view = { λ m. record { image = m.fetcher; row = m.row; cycle = m.cycle; last = m.last } };
 
-    ghost invariant = { λ m. IsSound m.image.now m.row m.cycle m.last m.inner.count m.inner.pools m.inner.registers m.inner.fetch m.inner.memory };
+    ghost invariant = { λ m. IsSound m.fetcher m.row m.cycle m.last m.inner.count m.inner.pools m.inner.registers m.inner.fetch m.inner.memory };
 }
 
 impl<'a, A: Allocator> Machine<'a, A> {
@@ -45,7 +45,7 @@ impl<'a, A: Allocator> Machine<'a, A> {
         let _buses = row.buses();
         let _entry = image.entry();
         Ok(Machine {
-            image,
+            fetcher: Fetcher::new(image),
             row: *row,
             cycle: 0,
             last: Progress::Running,
@@ -69,7 +69,9 @@ impl<'a, A: Allocator> Machine<'a, A> {
             Progress::Running => {}
             last => return last,
         }
-        self.last = self.inner.make_cycle(self.image, &self.row, self.cycle + 1);
+        self.last = self
+            .inner
+            .make_cycle(&mut self.fetcher, &self.row, self.cycle + 1);
         self.cycle += 1;
         self.last
     }

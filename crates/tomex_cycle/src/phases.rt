@@ -9,9 +9,8 @@ use crate::issue::issue_next;
 use crate::{ends, starts};
 use std::alloc::Allocator;
 use tomex_config::Config;
-use tomex_image::Image;
 use tomex_membuf::address_next;
-use tomex_rvexec::{Fault, Memory};
+use tomex_rvexec::{Fault, Fetcher, Memory};
 use tomex_tags::{Pools, RegStatus};
 
 /// Starts operations, the oldest first; loads and stores access memory.
@@ -55,13 +54,14 @@ pub fn issue<A: Allocator>(
     registers: &mut RegStatus,
     fetch: &mut Fetch,
     count: u32,
-    image: &Image<A>,
+    fetcher: &mut Fetcher<'_, A>,
     row: &Config,
     next: u64,
 ) -> Result<u32, Fault>
-    ensures issues { MakesIssue image.now row.now next count pools.old registers.old fetch.old result pools.new registers.new fetch.new }
+    ensures issues { MakesIssue fetcher.old row.now next count pools.old registers.old fetch.old result pools.new registers.new fetch.new }
+    ensures same { fetcher.new ≡ fetcher.old }
 {
-    let made = issue_next(pools, registers, fetch, count, image, row)?;
+    let made = issue_next(pools, registers, fetch, count, fetcher, row)?;
     Ok(count.wrapping_add(u32::from(made)))
 }
 

@@ -1,24 +1,28 @@
 -- The phases make a cycle, and what is left when it is made says whether the run is over.
+use Rattle.std.proofs.Common.{refl}
 use Rattle.tomex_cycle.proofs.Cycles.{starts_good, issue_made, cycle_made, cycle_answer, some_none, err_ok}
 use Rattle.tomex_cycle.proofs.inner.Inner.make_cycle.Goals as goal
 
 pub returns-in-Some : goal.returns-in-Some
 returns-in-Some g c = record {
   cycle = λ n s kind t ends l e good loaded old.
-      absurd (some_none c.start.result c.in-Some.fault c.in-Some.is (starts_good c.args.image.now c.args.row.now n t c.args.next c.args.self.now.count s kind c.start.result _ _ _ _ _ _ c.start.ensures.starts ends e good loaded old));
+      absurd (some_none c.start.result c.in-Some.fault c.in-Some.is (starts_good c.args.fetcher.now c.args.row.now n t c.args.next c.args.self.now.count s kind c.start.result _ _ _ _ _ _ c.start.ensures.starts ends e good loaded old));
+  same = refl;
 }
 
 pub returns-in-Err : goal.returns-in-Err
 returns-in-Err g c = record {
   cycle = λ n s kind t ends l e good loaded old.
-      let on = issue_made c.args.image.now c.args.row.now n t c.args.next c.args.self.now.count s kind _ _ _ _ _ _ _ _ _ _ _ _ c.start.ensures.starts c.address.ensures.addresses c.issue.ensures.issues ends l e good loaded old in
+      let on = issue_made c.args.fetcher.now c.args.row.now n t c.args.next c.args.self.now.count s kind _ _ _ _ _ _ _ _ _ _ _ _ c.start.ensures.starts c.address.ensures.addresses c.issue.ensures.issues ends l e good loaded old in
       absurd (err_ok c.issue.result on.count c.in-Err.fault on.issued c.in-Err.is);
+  same = c.issue.ensures.same;
 }
 
 pub returns : goal.returns
 returns g c = record {
   cycle = λ n s kind t ends l e good loaded old.
-      let on = issue_made c.args.image.now c.args.row.now n t c.args.next c.args.self.now.count s kind _ _ _ _ _ _ _ _ _ _ _ _ c.start.ensures.starts c.address.ensures.addresses c.issue.ensures.issues ends l e good loaded old in
-      let made = cycle_made c.args.image.now c.args.row.now n t c.args.next c.args.self.now.count s kind _ _ _ _ _ _ _ _ _ on c.end.ensures.ends ends e good loaded in
-      cycle_answer c.args.image.now c.args.row.now n c.args.next c.in-Ok.count s kind _ _ _ _ _ _ _ _ made ends good loaded c.in-Ok.is c.is_over.ensures.busy c.is_over.ensures.over c.after.ensures;
+      let on = issue_made c.args.fetcher.now c.args.row.now n t c.args.next c.args.self.now.count s kind _ _ _ _ _ _ _ _ _ _ _ _ c.start.ensures.starts c.address.ensures.addresses c.issue.ensures.issues ends l e good loaded old in
+      let made = cycle_made c.args.fetcher.now c.args.row.now n t c.args.next c.args.self.now.count s kind _ _ _ _ _ _ _ _ _ on c.end.ensures.ends ends e good loaded in
+      cycle_answer c.args.fetcher.now c.args.row.now n c.args.next c.in-Ok.count s kind _ _ _ _ _ _ _ _ made ends good loaded c.in-Ok.is c.is_over.ensures.busy c.is_over.ensures.over c.after.ensures;
+  same = c.issue.ensures.same;
 }
