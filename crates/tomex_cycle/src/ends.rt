@@ -128,8 +128,11 @@ fn finishes(station: Option<Station>, next: u64) -> bool
 fn resolved(pools: &Pools, next: u64) -> Option<usize>
     ensures { IsDoneBranch next pools.now.slots result }
 {
-    for place in 80..96 {
-        if finishes(pools.at(place), next) {
+    let mut rest = pools.busy();
+    'members: while rest != 0 {
+        let place = lowest(rest);
+        rest = without(rest, place);
+        if place >= 80 && finishes(pools.at(place), next) {
             return Some(place);
         }
     }

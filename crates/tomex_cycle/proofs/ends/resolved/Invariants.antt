@@ -1,6 +1,11 @@
-use Rattle.std.proofs.Common.{ℕ, ◌≡◌, ◌<◌, ◌≤◌, None, false, slice_index_or}
+use Rattle.std.proofs.Common.{◌≡◌, ◌<◌, ◌≤◌, ℕ, true, false, None, slice_index_or, ◌⊎◌}
+use Rattle.tomex_bus.specs.Sets.{has}
 use Rattle.tomex_cycle.specs.Ends.{finishes}
 use Rattle.tomex_cycle.proofs.ends.resolved.Given as goal
 
-abbrev pub invariant-loop-place : goal.invariant-loop-place
-invariant-loop-place l = (x : ℕ) → 80 ≤ x → x < l.place → finishes l.next (slice_index_or l.pools.slots x None) ≡ false
+-- no branch that was looked at is done
+abbrev pub invariant-members : goal.invariant-members
+invariant-members l = (x : ℕ) → 80 ≤ x → x < 96 → has l.pools.busy x ≡ true → (has l.rest x ≡ true) ⊎ (finishes l.next (slice_index_or l.pools.slots x None) ≡ false)
+
+abbrev pub decreases-members : goal.decreases-members
+decreases-members l = l.rest
