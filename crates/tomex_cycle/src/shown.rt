@@ -37,4 +37,25 @@ impl Tables {
             registers,
         }
     }
+
+    /// The cycle after which they are.
+    pub fn cycle(&self) -> u64
+        ensures { result ≡ self.now.cycle }
+    {
+        self.cycle
+    }
+
+    /// The busy stations: 16 places a pool, in the order of the pools.
+    pub fn busy(&self) -> &[Option<Busy>; 96]
+        ensures { filter_map (λ b. b) result.now ≡ self.now.busy }
+    {
+        &self.busy
+    }
+
+    /// Qi of each register.
+    pub fn registers(&self) -> &[Option<Tag>; 32]
+        ensures { result.now ≡ self.now.registers }
+    {
+        &self.registers
+    }
 }
