@@ -1,4 +1,6 @@
 -- What the proofs of the program share.
-mod Pieces
 mod BoardPlans
-mod Sources
+mod Fronts
+mod Pieces
+mod Plain
+mod Reading

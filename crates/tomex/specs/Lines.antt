@@ -1,9 +1,9 @@
 -- What a command line that asks for no command comes to.
-use Rattle.std.specs.Prelude.{ℕ, ◌≢◌, ◌≡◌, ◌⊎◌, List, Option, string_bytes}
-use Rattle.std.specs.Io.KnownBytes.{Appends}
+use Rattle.std.specs.Prelude.{ℕ, ◌≢◌, ◌≡◌, ◌⊎◌, string_bytes}
 use Rattle.clap.specs.Values.{kind_of}
 use Rattle.clap.specs.declared.error.Error.{Error}
 use Rattle.clap.specs.declared.error.kind.ErrorKind.TheVariants.{DisplayHelp, DisplayVersion, OutOfMemory}
+use Rattle.tomex.specs.Sinks.{Seen, IsWhole, IsCut}
 use Rattle.tomex.specs.declared.line.LineFault.{LineFault}
 use Rattle.tomex.specs.declared.line.LineFault.TheVariants.{Help, Usage, Memory}
 
@@ -27,7 +27,7 @@ IsRefusal (Usage text) = Unit {0}
 IsRefusal Memory = Unit {0}
 
 -- a fault is told with its status, and the output takes nothing but help: all of it, unless it fails
-abbrev pub IsTold : LineFault → ℕ → Option (List ℕ) → Option (List ℕ) → Type 0
-IsTold (Help text) status old new = ((status ≡ 0) × Appends old new (string_bytes text)) ⊎ (status ≡ 3)
+abbrev pub IsTold : LineFault → ℕ → Seen → Seen → Type 0
+IsTold (Help text) status old new = ((status ≡ 0) × IsWhole (string_bytes text) old new) ⊎ ((status ≡ 3) × IsCut (string_bytes text) old new)
 IsTold (Usage text) status old new = (status ≡ 2) × (new ≡ old)
 IsTold Memory status old new = (status ≡ 3) × (new ≡ old)

@@ -5,8 +5,8 @@ use Rattle.tomex_report.specs.declared.answer_error.AnswerError.{AnswerError}
 use Rattle.tomex_report.specs.declared.answer_error.AnswerError.TheVariants as answers
 use Rattle.tomex_report.specs.declared.error.StudyError.TheVariants as studies
 use Rattle.tomex.specs.declared.run.RunRefusal.TheVariants as refusals
-use Rattle.tomex.specs.declared.command.Failure.{Failure}
-use Rattle.tomex.specs.declared.command.Failure.TheVariants.{BadWindow, Run, Study, NoSuchRow, NoSuchProgram, CannotRead, CannotWrite, Memory, Worker}
+use Rattle.tomex.specs.declared.failure.Failure.{Failure}
+use Rattle.tomex.specs.declared.failure.Failure.TheVariants.{BadWindow, Run, Study, NoSuchRow, NoSuchProgram, CannotRead, CannotWrite, Memory, Worker}
 
 -- 1 for input that is refused, 3 for want of memory, a thread, a file or a device
 abbrev pub status_of_failure : Failure → ℕ

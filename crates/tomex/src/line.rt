@@ -4,7 +4,10 @@
 //! its help, and `line_of`, what was read. A further command is a further file, a variant of `Line`
 //! and a line in each of `grammar` and `line_of` below.
 ghost use Rattle.tomex.specs.Lines.{IsRefusal, StandsFor, status_of};
-ghost use Rattle.std.specs.Prelude.{◌≡◌, IfErr};
+ghost use Rattle.std.specs.Prelude.{◌≡◌, IfOk, IfErr, map, string_bytes};
+ghost use Rattle.tomex.specs.Grammar.{tomex_app};
+ghost use Rattle.clap.specs.Words.{app_of, subcommand_rows_of};
+ghost use Rattle.tomex.specs.Asked.{IsCommand, IsAsked, IsNoCommand};
 ghost use Rattle.tomex.specs.declared.line.LineFault.TheVariants.{Memory};
 
 pub mod all;
@@ -79,10 +82,15 @@ const AFTER_LONG_HELP: &str = "Exit status:
 
 Examples:
   tomex run mul.bin --size 4096
-  tomex times study.toml 0 mul
-  tomex explore study.toml --workers 4";
+  tomex times study.toml 4 mul
+  tomex explore study.toml --workers 4
 
-fn grammar<'a>(alloc: Global) -> Result<Command<'a>, AllocError> {
+Numbers on the command line are decimal; in a study's TOML they may be
+hexadecimal too, as 0x10000.";
+
+fn grammar<'a>(alloc: Global) -> Result<Command<'a>, AllocError>
+    ensures { IfOk result (λ c. app_of c ≡ tomex_app) }
+{
     Command::new(alloc, "tomex")
         .version("0.1.0")
         .about(ABOUT)
@@ -96,7 +104,8 @@ fn grammar<'a>(alloc: Global) -> Result<Command<'a>, AllocError> {
 }
 
 fn line_of<'a>(alloc: Global, matches: &ArgMatches<'a>) -> Result<Line<'a>, LineFault>
-    ensures { IfErr result IsRefusal }
+    ensures command { IfOk result (λ line. IsCommand (subcommand_rows_of matches.now) line) }
+    ensures refused { IfErr result IsRefusal }
 {
     match matches.subcommand() {
         Some(("run", inner)) => Ok(Line::Run(run::line_of(alloc, inner)?)),
@@ -122,7 +131,10 @@ fn fault_of(alloc: Global, error: &clap::Error) -> LineFault
 }
 
 /// Reads a command line, the program's own name first.
-pub fn read_line<'a>(alloc: Global, words: &'a [String]) -> Result<Line<'a>, LineFault> {
+pub fn read_line<'a>(alloc: Global, words: &'a [String]) -> Result<Line<'a>, LineFault>
+    ensures asked { IfOk result (λ line. IsAsked (map string_bytes words.now) line) }
+    ensures no_command { IfErr result (λ fault. IsNoCommand (map string_bytes words.now) fault) }
+{
     match grammar(alloc)?.try_get_matches_from(words) {
         Ok(matches) => line_of(alloc, &matches),
         Err(error) => Err(fault_of(alloc, &error)),

@@ -2,8 +2,10 @@
 #![tactic(auto)]
 
 mod command;
+mod failure;
 mod files;
 mod line;
+mod names;
 mod run;
 mod sink;
 mod telling;

@@ -1,17 +1,21 @@
 //! What no contract says: how a line is read, the parser's texts, and a write that stops on its way.
-ghost use Rattle.std.specs.Prelude.{Some};
+ghost use Rattle.std.specs.Prelude.{◌≡◌, Some, find, option_copied};
+ghost use Rattle.std.specs.Str.{bytes_eq};
+ghost use Rattle.tomex.specs.Files.{told_of};
 
-use crate::files::{Files, HostFiles, ReadFault};
+use crate::files::{Files, HostFiles, ReadFault, bytes_within};
 use crate::line::{Line, LineFault, read_line};
 use crate::sink::{PutFault, Sink, WriteFault, write_all_of};
 use crate::telling::tell_line_fault;
-use std::alloc::{AllocError, Global};
+use std::alloc::{AllocError, Allocator, Global};
+use std::fs::File;
 use std::test::Fail;
 use tomex_refuse::{Budget, Refusing};
 
 mod boards;
 mod broken_images;
 mod commands;
+mod compiled;
 mod elf_images;
 mod explorations;
 mod refused_memory;
@@ -58,6 +62,38 @@ impl Sink for Narrow {
         }
         self.room -= count;
         Ok(count)
+    }
+}
+
+/// Files in memory, by their names. There are no others.
+#[derive(Clone, Copy)]
+pub struct Shelf<'a> {
+    pub files: &'a [(&'a str, &'a [u8])],
+}
+
+impl<'a> Shelf<'a> {
+    /// The name and the bytes of that file.
+    fn entry(&self, name: &str) -> Option<&(&'a str, &'a [u8])>
+        ensures { option_copied result ≡ find (λ f. bytes_eq f.0.now name.now) self.now.files.now }
+    {
+        self.files.iter().find(|entry| entry.0 == name)
+    }
+}
+
+impl<'a> Files for Shelf<'a> {
+    ghost file = { λ shelf name. told_of (find (λ f. bytes_eq f.0.now name) shelf.files.now) };
+
+    fn read<A: Allocator>(&self, alloc: A, name: &str) -> Result<Vec<u8, A>, ReadFault> {
+        match self.entry(name) {
+            Some(entry) => {
+                let mut copy = Vec::new(alloc);
+                match copy.extend_from_slice(entry.1) {
+                    Ok(()) => Ok(copy),
+                    Err(_) => Err(ReadFault::Memory),
+                }
+            }
+            None => Err(ReadFault::NoFile),
+        }
     }
 }
 
@@ -128,6 +164,8 @@ fn lines_are_read(rt: HostRuntime) -> Result<(), Fail> {
             "run a --base 4294967292 --size 4 --limit 1",
             "run a 4294967292 4 1",
         ),
+        ("times study 0 a", "times study 0 a"),
+        ("times study 16383 -- -a", "times study 16383 -a"),
         (
             "run --limit=262144 --size=1048576 a",
             "run a 0 1048576 262144",
@@ -163,6 +201,9 @@ fn lines_are_refused(rt: HostRuntime) -> Result<(), Fail> {
         "run a --limit 262145",
         "run a b",
         "run",
+        "times study 16384 a",
+        "times study 0x1 a",
+        "times study 0",
     ] {
         let text = told(rt.alloc(), line)?;
         assert!(rt; text.starts_with("usage error: "), "{line}: {text}");
@@ -224,6 +265,20 @@ fn files_of_the_system_are_read(rt: HostRuntime) -> Result<(), Fail> {
     assert_eq!(rt;
         files.read(rt.alloc(), "/dev/null")?.as_slice(),
         b"".as_slice()
+    );
+    // A device without an end is refused once it has given more than a file may have.
+    let zeros = File::open(&rt, "/dev/zero")?;
+    assert_eq!(rt;
+        bytes_within(rt.alloc(), zeros, 10).err(),
+        Some(ReadFault::NoFile)
+    );
+    assert_eq!(rt;
+        bytes_within(rt.alloc(), TEXT.as_slice(), 13)?.as_slice(),
+        TEXT.as_slice()
+    );
+    assert_eq!(rt;
+        bytes_within(rt.alloc(), TEXT.as_slice(), 12).err(),
+        Some(ReadFault::NoFile)
     );
     let refused = Refusing::new(rt.alloc(), Budget::new(rt.alloc(), 0)?);
     assert_eq!(rt;

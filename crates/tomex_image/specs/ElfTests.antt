@@ -3,11 +3,14 @@ use Rattle.std.specs.Prelude.{◌≡◌, ℕ, ◌+◌, ◌*◌, ◌%◌, ◌<◌
 use Rattle.std.specs.List.{list_any}
 use Rattle.tomex_image.specs.declared.error.ImageError.TheVariants.{Empty, Truncated, NotRiscv, NotExec, HeaderSize, Dynamic, Segment, Overlap, TooManySegments, Entry}
 use Rattle.tomex_image.specs.declared.elf.program_header.ProgramHeader.{ProgramHeader}
-use Rattle.tomex_image.specs.declared.elf.segments.TheConstants.{MOST_SEGMENTS}
 use Rattle.tomex_image.specs.FileHeader.{is_riscv, is_executable, header_offset, header_size, header_count, entry_of}
 use Rattle.tomex_image.specs.ProgramHeader.{headers_from, names_interpreter, is_loadable, takes_memory, with_segment, lies_in, shares_byte}
 use Rattle.tomex_image.specs.Tests.{Test, test}
 use Rattle.tomex_image.specs.Window.{Span}
+
+-- the most segments that may take memory
+abbrev pub most_segments : ℕ
+most_segments = 16
 
 -- the tests of the file header
 abbrev pub file_tests : List ℕ → List Test
@@ -26,7 +29,7 @@ header_tests window len segments h =
     ∷ test (is_loadable h && nat_lt h.memory_size h.file_size) Segment
     ∷ test (is_loadable h && nat_lt 0 h.file_size && nat_lt len (h.offset + h.file_size)) Truncated
     ∷ test (takes_memory h && not (lies_in window h.address h.memory_size)) Segment
-    ∷ test (takes_memory h && nat_le MOST_SEGMENTS (length segments)) TooManySegments
+    ∷ test (takes_memory h && nat_le most_segments (length segments)) TooManySegments
     ∷ test (takes_memory h && list_any (λ s. shares_byte s h) segments) Overlap
     ∷ []
 

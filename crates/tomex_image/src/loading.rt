@@ -20,13 +20,13 @@ fn has_elf_magic(bytes: &[u8]) -> bool
 ///
 /// Bytes that begin with ELF's magic number are an ELF file of 32 bits; all others are flat, the
 /// form that `objcopy -O binary` writes. A refusal names the first test that fails; `Memory` comes
-/// only where the window's memory was refused, once all tests have passed.
+/// only where all tests have passed and the window's memory was refused.
 ///
 /// The work is bounded: a file has at most 65,535 program headers, each of which is tested once
 /// against at most 16 earlier segments, and what is then written is at most twice the window's size.
 pub fn load<A: Allocator>(alloc: A, bytes: &[u8], window: Window) -> Result<Image<A>, ImageError>
     ensures ok { IfOk result (λ i. placed bytes.now window i × (refused bytes.now window ≡ None)) }
-    ensures err { IfErr result (λ e. (e ≡ ImageError.Memory) ⊎ (refused bytes.now window ≡ Some e)) }
+    ensures err { IfErr result (λ e. ((e ≡ ImageError.Memory) × (refused bytes.now window ≡ None)) ⊎ (refused bytes.now window ≡ Some e)) }
 {
     if has_elf_magic(bytes) {
         load_elf(alloc, bytes, window)

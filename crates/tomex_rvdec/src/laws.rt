@@ -1,11 +1,15 @@
 //! Laws of the instruction table. These functions do nothing: their contracts are the laws.
 
-ghost use Rattle.std.specs.Prelude.{◌≡◌, ℕ, ◌<◌, ◌^◌, Some};
+ghost use Rattle.std.specs.Prelude.{◌≡◌, ℕ, ◌<◌, ◌^◌, Some, slice_get, length};
+ghost use Rattle.tomex_rvdec.specs.declared.pool.PoolId.{PoolId};
+ghost use Rattle.tomex_rvdec.specs.declared.pool.UnitId.{UnitId};
+ghost use Rattle.tomex_rvdec.specs.Parts.{place_of_pool, place_of_unit};
 ghost use Rattle.tomex_rvdec.specs.Instruction.{Instruction};
 ghost use Rattle.tomex_rvdec.specs.Meaning.{Means, meaning};
 
 use crate::encoding::encode;
 use crate::instr::Instr;
+use crate::pool::{PoolId, UnitId};
 
 /// The table as a relation and as a function agree: a word means an instruction exactly
 /// where the function gives it.
@@ -20,9 +24,18 @@ pub fn word_means_one_instruction()
     ensures { (w : ℕ) (x y : Instruction) → Means w x → Means w y → x ≡ y }
 {}
 
-/// No instruction is meant by two words.
+/// No `Instr` is meant by two words. (An `Instr` is what some word means, by its type; of what no word
+/// means this says nothing, and there is nothing to say.)
 pub fn instruction_has_one_word(instr: &Instr)
     ensures { (v w : ℕ) → Means v instr.now → Means w instr.now → v ≡ w }
 {
     let _word = encode(instr);
 }
+
+/// `PoolId::ALL` and `UnitId::ALL` have each pool and each kind of unit at its place.
+pub fn all_stand_at_their_places()
+    ensures pools { (pool : PoolId) → slice_get PoolId.ALL (place_of_pool pool) ≡ Some pool }
+    ensures units { (unit : UnitId) → slice_get UnitId.ALL (place_of_unit unit) ≡ Some unit }
+    ensures no_more_pools { length PoolId.ALL ≡ 6 }
+    ensures no_more_units { length UnitId.ALL ≡ 5 }
+{}

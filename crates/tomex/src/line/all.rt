@@ -1,6 +1,11 @@
 //! `all STUDY`
-ghost use Rattle.std.specs.Prelude.{IfErr};
+ghost use Rattle.std.specs.Prelude.{◌≡◌, IfOk, IfErr};
 ghost use Rattle.tomex.specs.Lines.{IsRefusal};
+ghost use Rattle.tomex.specs.Grammar.{all_shape};
+ghost use Rattle.clap.specs.Simple.{shape_of};
+ghost use Rattle.clap.specs.Words.{found_of};
+ghost use Rattle.clap.specs.Walk.{rows_of};
+ghost use Rattle.tomex.specs.Values.{IsAllAsked};
 
 use super::LineFault;
 use super::values::{word, word_of};
@@ -37,7 +42,9 @@ program, as
 
 const STUDY_HELP: &str = "The file of the study";
 
-pub(super) fn grammar<'a>(alloc: Global) -> Result<Command<'a>, AllocError> {
+pub(super) fn grammar<'a>(alloc: Global) -> Result<Command<'a>, AllocError>
+    ensures { IfOk result (λ c. shape_of c ≡ all_shape) }
+{
     Command::new(alloc, "all")
         .about(ABOUT)
         .long_about(LONG_ABOUT)
@@ -46,7 +53,8 @@ pub(super) fn grammar<'a>(alloc: Global) -> Result<Command<'a>, AllocError> {
 }
 
 pub(super) fn line_of<'a>(alloc: Global, matches: &ArgMatches<'a>) -> Result<AllLine<'a>, LineFault>
-    ensures { IfErr result IsRefusal }
+    ensures line { IfOk result (λ line. IsAllAsked (rows_of (found_of matches.now)) line.study.now) }
+    ensures refused { IfErr result IsRefusal }
 {
     Ok(AllLine {
         study: word_of(alloc, matches, "STUDY")?,

@@ -1,6 +1,11 @@
 //! `explore STUDY [--workers N]`
-ghost use Rattle.std.specs.Prelude.{◌≤◌, IfErr};
+ghost use Rattle.std.specs.Prelude.{◌≡◌, ◌≤◌, IfOk, IfErr};
 ghost use Rattle.tomex.specs.Lines.{IsRefusal};
+ghost use Rattle.tomex.specs.Grammar.{explore_shape};
+ghost use Rattle.clap.specs.Simple.{shape_of};
+ghost use Rattle.clap.specs.Words.{found_of};
+ghost use Rattle.clap.specs.Walk.{rows_of};
+ghost use Rattle.tomex.specs.Values.{IsExploreAsked};
 
 use super::LineFault;
 use super::values::{Bounds, number, number_of, word, word_of};
@@ -30,8 +35,8 @@ const LONG_ABOUT: &str =
 configurations that no other one dominates, that is, than which no other one
 costs no more and takes no more cycles, with less of one of the two.
 
-A configuration is given up as soon as it has taken more cycles than one that
-is finished and costs no more. The report is to the byte that of `all`, which
+Every 1,024 cycles of a run it is seen whether a finished configuration that
+costs no more has taken fewer; then this one is given up. The report is to the byte that of `all`, which
 runs every configuration to its end.
 
 STUDY is a TOML document that names programs, prices, axes and unit options;
@@ -55,7 +60,9 @@ const STUDY_HELP: &str = "The file of the study";
 
 const WORKERS_HELP: &str = "How many workers share the configurations, from 1 to 32";
 
-pub(super) fn grammar<'a>(alloc: Global) -> Result<Command<'a>, AllocError> {
+pub(super) fn grammar<'a>(alloc: Global) -> Result<Command<'a>, AllocError>
+    ensures { IfOk result (λ c. shape_of c ≡ explore_shape) }
+{
     Command::new(alloc, "explore")
         .about(ABOUT)
         .long_about(LONG_ABOUT)
@@ -68,7 +75,8 @@ pub(super) fn line_of<'a>(
     alloc: Global,
     matches: &ArgMatches<'a>,
 ) -> Result<ExploreLine<'a>, LineFault>
-    ensures { IfErr result IsRefusal }
+    ensures line { IfOk result (λ line. IsExploreAsked (rows_of (found_of matches.now)) line.study.now line.workers) }
+    ensures refused { IfErr result IsRefusal }
 {
     Ok(ExploreLine {
         study: word_of(alloc, matches, "STUDY")?,

@@ -1,6 +1,11 @@
 //! `run IMAGE [--base N] [--size N] [--limit N]`
-ghost use Rattle.std.specs.Prelude.{◌≤◌, IfErr};
+ghost use Rattle.std.specs.Prelude.{◌≡◌, ◌≤◌, IfOk, IfErr};
 ghost use Rattle.tomex.specs.Lines.{IsRefusal};
+ghost use Rattle.tomex.specs.Grammar.{run_shape};
+ghost use Rattle.clap.specs.Simple.{shape_of};
+ghost use Rattle.clap.specs.Words.{found_of};
+ghost use Rattle.clap.specs.Walk.{rows_of};
+ghost use Rattle.tomex.specs.Values.{IsRunAsked};
 
 use super::LineFault;
 use super::values::{Bounds, number, number_of, word, word_of};
@@ -51,9 +56,18 @@ or a 32-bit ELF executable that is linked statically for RISC-V. A flat file is
 loaded at the base address and starts there; an ELF file says itself where its
 segments stand, which must be inside memory, and where it starts. The rest of
 memory is zero, and so are the registers but x2: it holds the end of memory,
-rounded down to a multiple of 16.";
+rounded down to a multiple of 16. docs/PROGRAMS.md tells how to make programs
+from C.
 
-const AFTER_LONG_HELP: &str = "Examples:
+Numbers are decimal.";
+
+const AFTER_LONG_HELP: &str = "Exit status:
+  0  the program ended, by ECALL or EBREAK
+  1  the window, the image or the run was refused
+  2  the command line was refused
+  3  memory, a file or a device was refused
+
+Examples:
   tomex run primes.elf --base 65536 --size 262144
   tomex run mul.bin --base 0 --size 65536 --limit 100
 
@@ -68,7 +82,9 @@ const SIZE_HELP: &str = "The size of memory in bytes, a multiple of 4 from 4 to 
 
 const LIMIT_HELP: &str = "The greatest number of instructions to run, from 1 to 262144";
 
-pub(super) fn grammar<'a>(alloc: Global) -> Result<Command<'a>, AllocError> {
+pub(super) fn grammar<'a>(alloc: Global) -> Result<Command<'a>, AllocError>
+    ensures { IfOk result (λ c. shape_of c ≡ run_shape) }
+{
     Command::new(alloc, "run")
         .about(ABOUT)
         .long_about(LONG_ABOUT)
@@ -80,7 +96,8 @@ pub(super) fn grammar<'a>(alloc: Global) -> Result<Command<'a>, AllocError> {
 }
 
 pub(super) fn line_of<'a>(alloc: Global, matches: &ArgMatches<'a>) -> Result<RunLine<'a>, LineFault>
-    ensures { IfErr result IsRefusal }
+    ensures line { IfOk result (λ line. IsRunAsked (rows_of (found_of matches.now)) line.image.now line.base line.size line.limit) }
+    ensures refused { IfErr result IsRefusal }
 {
     Ok(RunLine {
         image: word_of(alloc, matches, "IMAGE")?,

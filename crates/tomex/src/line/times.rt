@@ -1,6 +1,11 @@
 //! `times STUDY CONFIG PROGRAM`
-ghost use Rattle.std.specs.Prelude.{◌≤◌, IfErr};
+ghost use Rattle.std.specs.Prelude.{◌≡◌, ◌≤◌, IfOk, IfErr};
 ghost use Rattle.tomex.specs.Lines.{IsRefusal};
+ghost use Rattle.tomex.specs.Grammar.{times_shape};
+ghost use Rattle.clap.specs.Simple.{shape_of};
+ghost use Rattle.clap.specs.Words.{found_of};
+ghost use Rattle.clap.specs.Walk.{rows_of};
+ghost use Rattle.tomex.specs.Values.{IsTimesAsked};
 
 use super::LineFault;
 use super::values::{Bounds, number_of, numeral, word, word_of};
@@ -34,14 +39,24 @@ STUDY is a TOML document that names programs, prices, axes and unit options;
 its files are read from the current folder. CONFIG is the number of a
 configuration, from 0: the product of the axes, the last axis fastest. PROGRAM
 is the name of a program of the study; one that begins with `-` stands behind
-`--`.
+`--`. docs/STUDIES.md lists the keys of a study, and docs/MACHINE.md tells what
+the cycles mean.
+
+CONFIG is decimal, as all numbers of the command line; in the study's TOML they
+may be hexadecimal too, as 0x10000.
 
 The report is CSV: a header, a record for each instruction in program order,
 and a record of the total. Steps and cycles are counted from 1; `-` stands
 where there is no address cycle or station.";
 
-const AFTER_LONG_HELP: &str = "Example:
-  tomex times study.toml 0 mul
+const AFTER_LONG_HELP: &str = "Exit status:
+  0  the report was written
+  1  the study or a program of it was refused, or has no such row or program
+  2  the command line was refused
+  3  memory, a file or a device was refused
+
+Example, with examples/study.toml:
+  tomex times study.toml 4 mul
 
 prints a line for each instruction, as
   3,00000008,\"mul x3,x1,x2\",3,-,5,7,8,mul0
@@ -54,7 +69,9 @@ const CONFIG_HELP: &str = "The number of the configuration, from 0";
 
 const PROGRAM_HELP: &str = "The name of the program in the study";
 
-pub(super) fn grammar<'a>(alloc: Global) -> Result<Command<'a>, AllocError> {
+pub(super) fn grammar<'a>(alloc: Global) -> Result<Command<'a>, AllocError>
+    ensures { IfOk result (λ c. shape_of c ≡ times_shape) }
+{
     Command::new(alloc, "times")
         .about(ABOUT)
         .long_about(LONG_ABOUT)
@@ -68,7 +85,8 @@ pub(super) fn line_of<'a>(
     alloc: Global,
     matches: &ArgMatches<'a>,
 ) -> Result<TimesLine<'a>, LineFault>
-    ensures { IfErr result IsRefusal }
+    ensures line { IfOk result (λ line. IsTimesAsked (rows_of (found_of matches.now)) line.study.now line.config line.program.now) }
+    ensures refused { IfErr result IsRefusal }
 {
     Ok(TimesLine {
         study: word_of(alloc, matches, "STUDY")?,

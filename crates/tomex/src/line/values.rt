@@ -1,6 +1,10 @@
 //! The values of a line: what `clap` is to read, and what it read.
-ghost use Rattle.std.specs.Prelude.{◌≤◌, IfOk, IfErr};
+ghost use Rattle.std.specs.Prelude.{◌≡◌, ◌≤◌, false, IfOk, IfErr};
 ghost use Rattle.tomex.specs.Lines.{IsRefusal};
+ghost use Rattle.tomex.specs.Grammar.{word_rule, numeral_rule, option_rule};
+ghost use Rattle.clap.specs.Words.{rule_of, found_of};
+ghost use Rattle.clap.specs.Walk.{rows_of};
+ghost use Rattle.tomex.specs.Values.{IsNumber, IsWord};
 
 use super::LineFault;
 use clap::{Arg, ArgMatches, value_parser};
@@ -20,7 +24,10 @@ pub fn number<'a>(
     bounds: Bounds,
     default: &'a str,
     help: &'a str,
-) -> Arg<'a> {
+) -> Arg<'a>
+    ensures rule { rule_of result ≡ option_rule name.entry.now bounds.least bounds.greatest default.entry.now }
+    ensures global { result.global ≡ false }
+{
     let range = i64::from(bounds.least)..=i64::from(bounds.greatest);
     Arg::new(alloc, name)
         .long(name)
@@ -31,7 +38,10 @@ pub fn number<'a>(
 }
 
 /// A decimal number that a command needs, in its place.
-pub fn numeral<'a>(alloc: Global, name: &'a str, bounds: Bounds, help: &'a str) -> Arg<'a> {
+pub fn numeral<'a>(alloc: Global, name: &'a str, bounds: Bounds, help: &'a str) -> Arg<'a>
+    ensures rule { rule_of result ≡ numeral_rule name.entry.now bounds.least bounds.greatest }
+    ensures global { result.global ≡ false }
+{
     let range = i64::from(bounds.least)..=i64::from(bounds.greatest);
     Arg::new(alloc, name)
         .required(true)
@@ -40,7 +50,10 @@ pub fn numeral<'a>(alloc: Global, name: &'a str, bounds: Bounds, help: &'a str) 
 }
 
 /// A word that a command needs.
-pub fn word<'a>(alloc: Global, name: &'a str, help: &'a str) -> Arg<'a> {
+pub fn word<'a>(alloc: Global, name: &'a str, help: &'a str) -> Arg<'a>
+    ensures rule { rule_of result ≡ word_rule name.entry.now }
+    ensures global { result.global ≡ false }
+{
     Arg::new(alloc, name).required(true).help(help)
 }
 
@@ -62,6 +75,7 @@ pub fn number_of(
     name: &str,
     bounds: Bounds,
 ) -> Result<u32, LineFault>
+    ensures number { IfOk result (λ number. IsNumber (rows_of (found_of matches.now)) name.now number) }
     ensures within { IfOk result (λ number. (bounds.least ≤ number) × (number ≤ bounds.greatest)) }
     ensures refused { IfErr result IsRefusal }
 {
@@ -77,7 +91,8 @@ pub fn word_of<'a>(
     matches: &ArgMatches<'a>,
     name: &str,
 ) -> Result<&'a str, LineFault>
-    ensures { IfErr result IsRefusal }
+    ensures word { IfOk result (λ word. IsWord (rows_of (found_of matches.now)) name.now word.now) }
+    ensures refused { IfErr result IsRefusal }
 {
     match matches.get_str(name) {
         Some(text) => Ok(text),

@@ -1,49 +1,23 @@
 //! Whole runs of the program over files in memory: what they print, and their statuses.
-ghost use Rattle.std.specs.Prelude.{None};
-
-use super::Narrow;
+use super::{Narrow, Shelf};
 use crate::command::command;
-use crate::files::{Files, ReadFault};
-use std::alloc::{Allocator, Global};
+use std::alloc::Global;
 use std::process::Abort;
 use std::test::Fail;
 use std::thread::Threads;
 
-/// The one file that there is, `image`; with None there is no file at all.
-#[derive(Clone, Copy)]
-pub struct Shelf<'a> {
-    pub image: Option<&'a [u8]>,
-}
-
-impl<'a> Files for Shelf<'a> {
-    ghost file = { λ _ _. None };
-
-    fn read<A: Allocator>(&self, alloc: A, name: &str) -> Result<Vec<u8, A>, ReadFault> {
-        match self.image {
-            Some(bytes) if name == "image" => {
-                let mut copy = Vec::new(alloc);
-                match copy.extend_from_slice(bytes) {
-                    Ok(()) => Ok(copy),
-                    Err(_) => Err(ReadFault::Memory),
-                }
-            }
-            _ => Err(ReadFault::NoFile),
-        }
-    }
-}
-
 /// What a run of the program left behind.
 #[derive(Drop)]
-struct Outcome {
-    status: u8,
-    out: Vec<u8>,
-    err: Vec<u8>,
+pub struct Outcome {
+    pub status: u8,
+    pub out: Vec<u8>,
+    pub err: Vec<u8>,
 }
 
-/// Runs `tomex run image` with further words, and a standard output that takes so many bytes.
-fn run_into<R: AllocGlobal + Threads + Sync>(
+/// Runs the program on these words over these files, and a standard output that takes so many bytes.
+pub fn outcome_of<R: AllocGlobal + Threads + Sync>(
     rt: &R,
-    image: Option<&[u8]>,
+    files: &[(&str, &[u8])],
     words: &[&str],
     room: usize,
 ) -> Result<Outcome, Fail> {
@@ -53,13 +27,12 @@ fn run_into<R: AllocGlobal + Threads + Sync>(
     }
     let mut out = Narrow::new(rt.alloc(), room, 1000);
     let mut err = Narrow::new(rt.alloc(), 10_000, 1000);
-    let shelf = Shelf { image };
     let status = command(
         rt,
         rt.alloc(),
         rt.alloc(),
         line.as_slice(),
-        &shelf,
+        &Shelf { files },
         &mut out,
         &mut err,
     );
@@ -68,6 +41,34 @@ fn run_into<R: AllocGlobal + Threads + Sync>(
         out: out.bytes,
         err: err.bytes,
     })
+}
+
+/// Runs the program on these words, over the one file `image` or none.
+fn run_into<R: AllocGlobal + Threads + Sync>(
+    rt: &R,
+    image: Option<&[u8]>,
+    words: &[&str],
+    room: usize,
+) -> Result<Outcome, Fail> {
+    match image {
+        Some(bytes) => outcome_of(rt, [("image", bytes)].as_slice(), words, room),
+        None => outcome_of(rt, [].as_slice(), words, room),
+    }
+}
+
+/// The words come to this status, output and telling.
+pub fn comes_to<R: Abort + AllocGlobal + Threads + Sync>(
+    rt: &R,
+    files: &[(&str, &[u8])],
+    words: &[&str],
+    wanted: (u8, &str, &str),
+) -> Result<(), Fail> {
+    let outcome = outcome_of(rt, files, words, 10_000)?;
+    let (status, out, err) = wanted;
+    assert_eq!(rt; outcome.out.as_slice(), out.as_bytes());
+    assert_eq!(rt; outcome.err.as_slice(), err.as_bytes());
+    assert_eq!(rt; outcome.status, status);
+    Ok(())
 }
 
 /// The text of a run that ends: the registers that aren't zero, and the last line.
@@ -327,6 +328,31 @@ fn lines_that_the_parser_ends(rt: HostRuntime) -> Result<(), Fail> {
         assert_eq!(rt; outcome.status, 0);
         assert!(rt; outcome.out.len() > 0);
         assert_eq!(rt; outcome.err.len(), 0);
+    }
+    Ok(())
+}
+
+#[test]
+fn names_are_shown_on_one_line(rt: HostRuntime) -> Result<(), Fail> {
+    for (name, shown) in [
+        ("a b\\\"é", "a b\\\"é"),
+        ("a\n\r\t\0b", "a\\n\\r\\t\\0b"),
+        ("\x1b[2J\x7f", "\\u{1b}[2J\\u{7f}"),
+        ("\u{85}\u{9f}\u{a0}", "\\u{85}\\u{9f}\u{a0}"),
+    ] {
+        let told = format!(in rt.alloc(); "tomex: cannot read {shown}\n")?;
+        let words = ["tomex", "run", name];
+        comes_to(&rt, [].as_slice(), words.as_slice(), (3, "", told.as_str()))?;
+        // So does Rust show the characters that have to be escaped.
+        for letter in name.chars() {
+            if letter.is_control() {
+                let mut escaped = String::new(rt.alloc());
+                for part in letter.escape_debug() {
+                    escaped.push(part)?;
+                }
+                assert!(rt; shown.contains(escaped.as_str()), "{escaped}");
+            }
+        }
     }
     Ok(())
 }

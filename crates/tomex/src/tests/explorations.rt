@@ -1,38 +1,11 @@
 //! Front reports, over studies and programs in memory.
-ghost use Rattle.std.specs.Prelude.{None};
-
 use super::commands::PRODUCT;
-use super::{Narrow, words};
+use super::{Narrow, Shelf, words};
 use crate::command::command;
-use crate::files::{Files, ReadFault};
 use crate::sink::{WriteFault, write_all_of};
-use std::alloc::Allocator;
 use std::process::Abort;
 use std::test::Fail;
 use std::thread::Threads;
-
-/// Files by their names.
-#[derive(Clone, Copy)]
-pub struct Folder<'a> {
-    pub files: &'a [(&'a str, &'a [u8])],
-}
-
-impl<'a> Files for Folder<'a> {
-    ghost file = { λ _ _. None };
-
-    fn read<A: Allocator>(&self, alloc: A, name: &str) -> Result<Vec<u8, A>, ReadFault> {
-        for (own, bytes) in self.files {
-            if *own == name {
-                let mut copy = Vec::new(alloc);
-                return match copy.extend_from_slice(bytes) {
-                    Ok(()) => Ok(copy),
-                    Err(_) => Err(ReadFault::Memory),
-                };
-            }
-        }
-        Err(ReadFault::NoFile)
-    }
-}
 
 /// `addi x1,x0,499; addi x1,x1,-1; bne x1,x0,-4; ebreak`, 1,000 steps
 pub const LOOP: &[u8; 16] = b"\x93\x00\x30\x1f\x93\x80\xf0\xff\xe3\x9e\x00\xfe\x73\x00\x10\x00";
@@ -89,7 +62,7 @@ fn comes_to<R: Abort + AllocGlobal + Threads + Sync>(
         ("mul.bin", PRODUCT.as_slice()),
         ("loop.bin", LOOP.as_slice()),
     ];
-    let folder = Folder {
+    let shelf = Shelf {
         files: files.as_slice(),
     };
     let line = words(rt.alloc(), line)?;
@@ -100,7 +73,7 @@ fn comes_to<R: Abort + AllocGlobal + Threads + Sync>(
         rt.alloc(),
         rt.alloc(),
         line.as_slice(),
-        &folder,
+        &shelf,
         &mut out,
         &mut err,
     );
@@ -155,7 +128,7 @@ fn studies_that_no_report_is_made_of(rt: HostRuntime) -> Result<(), Fail> {
 
 #[test]
 fn numbers_of_workers(rt: HostRuntime) -> Result<(), Fail> {
-    let folder = Folder {
+    let shelf = Shelf {
         files: [].as_slice(),
     };
     for line in [
@@ -173,7 +146,7 @@ fn numbers_of_workers(rt: HostRuntime) -> Result<(), Fail> {
             rt.alloc(),
             rt.alloc(),
             line.as_slice(),
-            &folder,
+            &shelf,
             &mut out,
             &mut err,
         );

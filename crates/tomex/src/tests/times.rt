@@ -1,41 +1,6 @@
-//! Times reports, over a study and a program in memory.
-ghost use Rattle.std.specs.Prelude.{None};
-
-use super::Narrow;
-use super::commands::PRODUCT;
-use crate::command::command;
-use crate::files::{Files, ReadFault};
-use std::alloc::Allocator;
-use std::process::Abort;
+//! Times reports, over studies and programs in memory.
+use super::commands::{PRODUCT, comes_to};
 use std::test::Fail;
-use std::thread::Threads;
-
-/// A study, and the one file that it may name, `mul.bin`.
-#[derive(Clone, Copy)]
-pub struct Desk<'a> {
-    pub study: &'a [u8],
-    pub program: Option<&'a [u8]>,
-}
-
-impl<'a> Files for Desk<'a> {
-    ghost file = { λ _ _. None };
-
-    fn read<A: Allocator>(&self, alloc: A, name: &str) -> Result<Vec<u8, A>, ReadFault> {
-        let bytes = match name {
-            "study" => self.study,
-            "mul.bin" => match self.program {
-                Some(bytes) => bytes,
-                None => return Err(ReadFault::NoFile),
-            },
-            _ => return Err(ReadFault::NoFile),
-        };
-        let mut copy = Vec::new(alloc);
-        match copy.extend_from_slice(bytes) {
-            Ok(()) => Ok(copy),
-            Err(_) => Err(ReadFault::Memory),
-        }
-    }
-}
 
 /// Two rows, of two alu stations and of one.
 pub const STUDY: &str = "[[program]]\nname = \"mul\"\nfile = \"mul.bin\"\n\
@@ -49,87 +14,87 @@ pub const REPORT: &str = "step,pc,instr,issue,addr,start,finish,end,station\n\
     4,0000000c,ebreak,6,-,6,6,6,-\n\
     total,-,-,-,-,-,-,10,-\n";
 
-/// `tomex times study CONFIG PROGRAM` comes to this status, output and telling.
-fn comes_to<R: Abort + AllocGlobal + Threads + Sync>(
-    rt: &R,
-    desk: Desk<'_>,
-    config: &str,
-    program: &str,
-    wanted: (u8, &str, &str),
-) -> Result<(), Fail> {
-    let mut line = Vec::new(rt.alloc());
-    for word in ["tomex", "times", "study", config, program] {
-        line.push(String::from_str(rt.alloc(), word)?)?;
+/// A second program: one sum, and the end.
+pub const SUM: &[u8; 8] = b"\x93\x00\x50\x00\x73\x00\x10\x00";
+
+/// Two programs of files that differ, in another order than their names'.
+const TWO: &str = "[[program]]\nname = \"sum\"\nfile = \"z\"\n\
+    [[program]]\nname = \"mul\"\nfile = \"a\"\n\
+    [axes]\nalu = [2, 1]\n[[unit.mul]]\nlatency = 3\n";
+
+/// The report of the sum.
+const SUM_REPORT: &str = "step,pc,instr,issue,addr,start,finish,end,station\n\
+    1,00000000,\"addi x1,x0,5\",1,-,2,2,3,alu0\n\
+    2,00000004,ebreak,2,-,2,2,2,-\n\
+    total,-,-,-,-,-,-,3,-\n";
+
+#[test]
+fn a_row_and_a_program(rt: HostRuntime) -> Result<(), Fail> {
+    let one = [("study", STUDY.as_bytes()), ("mul.bin", PRODUCT.as_slice())];
+    let two = [
+        ("study", TWO.as_bytes()),
+        ("a", PRODUCT.as_slice()),
+        ("z", SUM.as_slice()),
+    ];
+    for (files, row, program, wanted) in [
+        (one.as_slice(), "1", "mul", (0, REPORT, "")),
+        // The row is looked for first.
+        (one.as_slice(), "2", "div", (1, "", "tomex: no such row\n")),
+        (
+            one.as_slice(),
+            "16383",
+            "mul",
+            (1, "", "tomex: no such row\n"),
+        ),
+        (
+            one.as_slice(),
+            "0",
+            "div",
+            (1, "", "tomex: no such program\n"),
+        ),
+        (two.as_slice(), "1", "mul", (0, REPORT, "")),
+        (two.as_slice(), "1", "sum", (0, SUM_REPORT, "")),
+    ] {
+        let words = ["tomex", "times", "study", row, program];
+        comes_to(&rt, files, words.as_slice(), wanted)?;
     }
-    let mut out = Narrow::new(rt.alloc(), 10_000, 1000);
-    let mut err = Narrow::new(rt.alloc(), 10_000, 1000);
-    let status = command(
-        rt,
-        rt.alloc(),
-        rt.alloc(),
-        line.as_slice(),
-        &desk,
-        &mut out,
-        &mut err,
-    );
-    let (wanted_status, wanted_out, wanted_err) = wanted;
-    assert_eq!(rt; out.bytes.as_slice(), wanted_out.as_bytes());
-    assert_eq!(rt; err.bytes.as_slice(), wanted_err.as_bytes());
-    assert_eq!(rt; status, wanted_status);
     Ok(())
 }
 
 #[test]
-fn a_row_and_a_program(rt: HostRuntime) -> Result<(), Fail> {
-    let desk = Desk {
-        study: STUDY.as_bytes(),
-        program: Some(PRODUCT.as_slice()),
-    };
-    comes_to(&rt, desk, "1", "mul", (0, REPORT, ""))?;
-    // The row is looked for first.
-    comes_to(&rt, desk, "2", "div", (1, "", "tomex: no such row\n"))?;
-    comes_to(&rt, desk, "0", "div", (1, "", "tomex: no such program\n"))
-}
-
-#[test]
 fn studies_that_are_refused(rt: HostRuntime) -> Result<(), Fail> {
-    let bare = Desk {
-        study: STUDY.as_bytes(),
-        program: None,
-    };
-    comes_to(
-        &rt,
-        bare,
-        "9",
-        "mul",
-        (3, "", "tomex: cannot read mul.bin\n"),
-    )?;
-    let empty = Desk {
-        study: b"",
-        program: None,
-    };
-    comes_to(
-        &rt,
-        empty,
-        "0",
-        "mul",
-        (1, "", "tomex: study: top: program missing\n"),
-    )?;
-    let zeros = Desk {
-        study: STUDY.as_bytes(),
-        program: Some(b"\x00\x00\x00\x00"),
-    };
-    let fault = "tomex: program mul: fault: illegal at 00000000\n";
-    comes_to(&rt, zeros, "9", "mul", (1, "", fault))?;
-    let nothing = Desk {
-        study: STUDY.as_bytes(),
-        program: Some(b""),
-    };
-    comes_to(
-        &rt,
-        nothing,
-        "0",
-        "mul",
-        (1, "", "tomex: program mul: image: empty\n"),
-    )
+    let study = ("study", STUDY.as_bytes());
+    let two = ("study", TWO.as_bytes());
+    let zeros = b"\x00\x00\x00\x00".as_slice();
+    for (files, status, told) in [
+        ([].as_slice(), 3, "tomex: cannot read study\n"),
+        ([study].as_slice(), 3, "tomex: cannot read mul.bin\n"),
+        (
+            [("study", b"".as_slice())].as_slice(),
+            1,
+            "tomex: study: top: program missing\n",
+        ),
+        (
+            [study, ("mul.bin", zeros)].as_slice(),
+            1,
+            "tomex: program mul: fault: illegal at 00000000\n",
+        ),
+        (
+            [study, ("mul.bin", b"".as_slice())].as_slice(),
+            1,
+            "tomex: program mul: image: empty\n",
+        ),
+        // Files are read in the order of the programs, and all of them before one is looked at.
+        ([two].as_slice(), 3, "tomex: cannot read z\n"),
+        ([two, ("z", zeros)].as_slice(), 3, "tomex: cannot read a\n"),
+        (
+            [two, ("z", zeros), ("a", zeros)].as_slice(),
+            1,
+            "tomex: program sum: fault: illegal at 00000000\n",
+        ),
+    ] {
+        let words = ["tomex", "times", "study", "9", "mul"];
+        comes_to(&rt, files, words.as_slice(), (status, "", told))?;
+    }
+    Ok(())
 }

@@ -1,0 +1,54 @@
+-- The grammar of the command line: what each command takes.
+use Rattle.std.specs.Prelude.{ℕ, List, [], ◌∷◌, codes, true, false, pos, Some}
+use Rattle.clap.specs.Words.{App, Rule, Shape, Text, new_rule}
+use Rattle.clap.specs.Simple.{new_shape}
+use Rattle.clap.specs.declared.builder.value_parser.ValueParser.TheVariants as parsers
+
+-- a word that a command needs, in its place
+abbrev pub word_rule : Text → Rule
+word_rule name = record (new_rule name) { required = true }
+
+-- a number that a command needs, in its place
+abbrev pub numeral_rule : Text → ℕ → ℕ → Rule
+numeral_rule name least greatest = record (new_rule name) { required = true; parser = Some (parsers.Signed (pos least) (pos greatest)) }
+
+-- an option `--name N`, and the number where it isn't given
+abbrev pub option_rule : Text → ℕ → ℕ → Text → Rule
+option_rule name least greatest default = record (new_rule name) {
+  long = Some name;
+  value_names = 1;
+  parser = Some (parsers.Signed (pos least) (pos greatest));
+  defaults = default ∷ [];
+}
+
+-- `run IMAGE [--base N] [--size N] [--limit N]`
+abbrev pub run_shape : Shape
+run_shape = record (new_shape (codes "run")) {
+  rules = word_rule (codes "IMAGE")
+      ∷ option_rule (codes "base") 0 4294967292 (codes "0")
+      ∷ option_rule (codes "size") 4 1048576 (codes "65536")
+      ∷ option_rule (codes "limit") 1 262144 (codes "262144") ∷ [];
+}
+
+-- `times STUDY CONFIG PROGRAM`
+abbrev pub times_shape : Shape
+times_shape = record (new_shape (codes "times")) {
+  rules = word_rule (codes "STUDY") ∷ numeral_rule (codes "CONFIG") 0 16383 ∷ word_rule (codes "PROGRAM") ∷ [];
+}
+
+-- `all STUDY`
+abbrev pub all_shape : Shape
+all_shape = record (new_shape (codes "all")) { rules = word_rule (codes "STUDY") ∷ [] }
+
+-- `explore STUDY [--workers N]`
+abbrev pub explore_shape : Shape
+explore_shape = record (new_shape (codes "explore")) {
+  rules = word_rule (codes "STUDY") ∷ option_rule (codes "workers") 1 32 (codes "1") ∷ [];
+}
+
+-- the program, with a version, and its commands, of which one has to be given
+abbrev pub tomex_app : App
+tomex_app = record {
+  top = record (new_shape (codes "tomex")) { has_version = true; is_leaf = false; subcommand_required = true };
+  subs = run_shape ∷ times_shape ∷ all_shape ∷ explore_shape ∷ [];
+}

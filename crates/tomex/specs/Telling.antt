@@ -1,0 +1,41 @@
+-- What is said of failures, and of lines that ask for no command.
+use Rattle.std.specs.Prelude.{◌≡◌, ◌⊎◌, ℕ, List, ◌++◌, codes, string_bytes}
+use Rattle.tomex.specs.declared.failure.Failure.{Failure}
+use Rattle.tomex.specs.declared.failure.Failure.TheVariants.{BadWindow, Run, Study, NoSuchRow, NoSuchProgram, CannotRead, CannotWrite, Memory, Worker}
+use Rattle.tomex.specs.declared.line.LineFault.{LineFault}
+use Rattle.tomex.specs.declared.line.LineFault.TheVariants.{Help, Usage}
+use Rattle.tomex.specs.Names.{shown_name}
+use Rattle.tomex.specs.Sinks.{Seen, IsWritten}
+use Rattle.tomex.specs.Statuses.{status_of_failure}
+
+-- the text of a failure; that of a refused run or study is its own, of which nothing is said here
+abbrev pub IsTextOf : Failure → List ℕ → Type 0
+IsTextOf BadWindow text = text ≡ codes "bad window"
+IsTextOf (Run refusal) text = Unit {0}
+IsTextOf (Study error) text = Unit {0}
+IsTextOf NoSuchRow text = text ≡ codes "no such row"
+IsTextOf NoSuchProgram text = text ≡ codes "no such program"
+IsTextOf (CannotRead name) text = text ≡ codes "cannot read " ++ shown_name (string_bytes name)
+IsTextOf CannotWrite text = text ≡ codes "cannot write"
+IsTextOf Memory text = text ≡ codes "out of memory"
+IsTextOf Worker text = text ≡ codes "thread refused"
+
+-- a line of the program's own on the standard error
+abbrev pub line_of : List ℕ → List ℕ
+line_of text = codes "tomex: " ++ (text ++ codes "\n")
+
+-- the line of a failure
+abbrev pub IsLineOf : Failure → List ℕ → Type 0
+IsLineOf failure line = (text : List ℕ) × IsTextOf failure text × (line ≡ line_of text)
+
+-- the failure's line was told, with its status; or, for want of memory, that memory was wanting
+abbrev pub IsFailureTold : Failure → ℕ → Seen → Seen → Type 0
+IsFailureTold failure status old new =
+    ((status ≡ status_of_failure failure) × ((line : List ℕ) × IsLineOf failure line × IsWritten line old new))
+    ⊎ ((status ≡ 3) × IsWritten (line_of (codes "out of memory")) old new)
+
+-- what the standard error gets where a line asks for no command
+abbrev pub IsSaid : LineFault → ℕ → Seen → Seen → Type 0
+IsSaid (Help text) status old new = ((status ≡ 0) × (new ≡ old)) ⊎ ((status ≡ 3) × IsWritten (line_of (codes "cannot write")) old new)
+IsSaid (Usage text) status old new = IsWritten (string_bytes text) old new
+IsSaid _ status old new = IsWritten (line_of (codes "out of memory")) old new

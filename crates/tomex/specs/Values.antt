@@ -1,0 +1,36 @@
+-- The values that are asked for, by the rows of what `clap` is specified to find in a line's words.
+use Rattle.std.specs.Prelude.{◌≡◌, ℕ, List, codes, Some, Ok}
+use Rattle.std.specs.Str.Parse.{ParsesUnsigned}
+use Rattle.std.specs.declared.num.ParseIntError.{ParseIntError}
+use Rattle.clap.specs.Words.{Row, Text, first_of, one_of}
+
+-- the word that was found for an argument
+abbrev pub IsWord : List Row → Text → List ℕ → Type 0
+IsWord rows name word = first_of name rows ≡ Some word
+
+-- the number that was found for an argument, or its default, in decimal
+abbrev pub IsNumber : List Row → Text → ℕ → Type 0
+IsNumber rows name number =
+    (text : Text) × (one_of name rows ≡ Some text) × ParsesUnsigned {E = ParseIntError} 32 10 text (Ok number)
+
+-- the values of `run`
+pub record IsRunAsked (rows : List Row) (image : List ℕ) (base size limit : ℕ) : Type 0 where
+  pub is_image : IsWord rows (codes "IMAGE") image
+  pub is_base : IsNumber rows (codes "base") base
+  pub is_size : IsNumber rows (codes "size") size
+  pub is_limit : IsNumber rows (codes "limit") limit
+
+-- the values of `times`
+pub record IsTimesAsked (rows : List Row) (study : List ℕ) (config : ℕ) (program : List ℕ) : Type 0 where
+  pub is_study : IsWord rows (codes "STUDY") study
+  pub is_config : IsNumber rows (codes "CONFIG") config
+  pub is_program : IsWord rows (codes "PROGRAM") program
+
+-- the value of `all`
+abbrev pub IsAllAsked : List Row → List ℕ → Type 0
+IsAllAsked rows study = IsWord rows (codes "STUDY") study
+
+-- the values of `explore`
+pub record IsExploreAsked (rows : List Row) (study : List ℕ) (workers : ℕ) : Type 0 where
+  pub is_study : IsWord rows (codes "STUDY") study
+  pub is_workers : IsNumber rows (codes "workers") workers
