@@ -7,4 +7,4 @@ pub returns-in_err-answer-clause-failure : goal.returns-in_err-answer-clause-fai
 returns-in_err-answer-clause-failure g c =
     let p = err_from_is_err_and c.from_residual-in_err-answer.result c.from_residual-in_err-answer.ensures.1 in
     let refusal = rw (c.as_slice-study.ensures.value, c.as_slice-contents.ensures.value) at c.in_err-answer.ensures.err in
-    rw (p.1) (explore_refused (g.F.Files.file c.args.files.now) c.args.line.study.now _ _ c.in_err-answer.field-0 p.0 c.in_ok-sources.ensures.read refusal p.2)
+    rw (p.1) (explore_refused (g.F.Files.file c.args.files.now) c.args.line.study.now _ _ _ p.0 c.in_ok-sources.ensures.read refusal p.2)
