@@ -1,24 +1,11 @@
 //! The program `tomex`: a design space explorer for Tomasulo processors that run RV32IM programs.
 #![tactic(auto)]
 
-mod command;
-mod failure;
-mod files;
-mod line;
-mod names;
-mod run;
-mod sink;
-mod telling;
-#[cfg(test)]
-mod tests;
-
-use command::command;
-use files::HostFiles;
-use line::LineFault;
-use sink::Stream;
 use std::process::ExitCode;
 use std::{env, io};
-use telling::tell_line_fault;
+use tomex_command::{command, tell_line_fault};
+use tomex_line::LineFault;
+use tomex_streams::{HostFiles, Stream};
 
 /// The words of the command line. One that is no UTF-8 text is refused as a mistake in the line.
 fn words_of(rt: &(impl env::Env + AllocGlobal)) -> Result<Vec<String>, LineFault> {

@@ -1,11 +1,3 @@
-pub mod Items
-pub mod Pairs
-pub mod Programs
-pub mod Outcomes
-pub mod Within
-pub mod Options
-pub mod Gridded
-pub mod Counted
 pub mod Studies
 pub mod Oks
 pub mod Ended

@@ -7,12 +7,12 @@ use Rattle.tomex_image.specs.Window.{Span}
 use Rattle.tomex_image.specs.Loading.{placed, refused}
 use Rattle.tomex_sweep.specs.Program.{IsUnfit, Workload, refusal_of}
 use Rattle.tomex_sweep.specs.declared.program.ProgramError.{ProgramError}
-use Rattle.tomex_report.specs.Program.{ProgramEntry}
+use Rattle.tomex_document.specs.Program.{ProgramEntry}
 use Rattle.tomex_report.specs.Study.{AreProgramsOf, FailsToEnd, IsFileRefusal, IsFirstRefusal, IsProgramOf, IsStudyRefusal}
-use Rattle.tomex_report.specs.declared.error.StudyError.{StudyError}
-use Rattle.tomex_report.specs.declared.error.StudyError.TheVariants.{Syntax, UnknownKey, MissingKey, Kind, Range, TooMany, Files, Image, Fault, TooLong, Memory}
-use Rattle.tomex_report.specs.Document.{Document, document_of}
-use Rattle.tomex_report.proofs.Counted.{document_has_programs}
+use Rattle.tomex_document.specs.declared.error.StudyError.{StudyError}
+use Rattle.tomex_document.specs.declared.error.StudyError.TheVariants.{Syntax, UnknownKey, MissingKey, Kind, Range, TooMany, Files, Image, Fault, TooLong, Memory}
+use Rattle.tomex_document.specs.Document.{Document, document_of}
+use Rattle.tomex_document.proofs.Counted.{document_has_programs}
 
 -- an image of the entry's window, whose run is refused within the entry's limit
 pub fails : (entry : ProgramEntry) (file : List ℕ) (window : Span) (limit : ℕ) (image : Loaded) (told error : ProgramError) → window ≡ entry.window → limit ≡ entry.limit → placed file window image → refused file window ≡ None → told ≡ error → IsUnfit image limit told → FailsToEnd entry file (refusal_of error)

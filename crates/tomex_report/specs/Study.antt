@@ -9,10 +9,10 @@ use Rattle.tomex_rvexec.specs.declared.end.RunError.TheVariants as runs
 use Rattle.tomex_config.specs.Grid.{grid_of}
 use Rattle.tomex_sweep.specs.Program.{Workload}
 use Rattle.tomex_sweep.specs.Study.{DesignSpace, costs_of}
-use Rattle.tomex_report.specs.declared.error.StudyError.{StudyError}
-use Rattle.tomex_report.specs.declared.error.StudyError.TheVariants.{Files, Image, Fault, TooLong, Memory}
-use Rattle.tomex_report.specs.Program.{ProgramEntry}
-use Rattle.tomex_report.specs.Document.{Document, document_of}
+use Rattle.tomex_document.specs.declared.error.StudyError.{StudyError}
+use Rattle.tomex_document.specs.declared.error.StudyError.TheVariants.{Files, Image, Fault, TooLong, Memory}
+use Rattle.tomex_document.specs.Program.{ProgramEntry}
+use Rattle.tomex_document.specs.Document.{Document, document_of}
 
 -- the file is what the entry asks for: it is an image of its window, which ends within its limit
 pub record IsProgramOf (entry : ProgramEntry) (file : List ℕ) (program : Workload) : Type 0 where

@@ -1,6 +1,6 @@
 //! Why there is no report.
 
-use crate::error::StudyError;
+use tomex_document::StudyError;
 use thiserror::Error;
 use tomex_sweep::SweepError;
 

@@ -8,7 +8,7 @@ ghost use Rattle.tomex_report.specs.Answer.{IsAnswer, IsAnswerRefusal};
 ghost use Rattle.tomex_report.specs.FrontReport.{report_of};
 
 use crate::answer_error::AnswerError;
-use crate::error::StudyError;
+use tomex_document::StudyError;
 use crate::front_text::front_report;
 use crate::replaying::replay;
 use crate::study::read_study;

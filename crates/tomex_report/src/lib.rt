@@ -5,16 +5,12 @@
 mod answer_error;
 mod answering;
 mod csv_text;
-mod document;
 mod end_texts;
 mod ends;
-mod error;
-mod files;
 mod front_fields;
 mod front_header;
 mod front_text;
 mod laws;
-mod place;
 mod program_ends;
 mod replaying;
 mod row_ends;
@@ -23,17 +19,11 @@ mod times;
 
 pub use answer_error::AnswerError;
 pub use answering::{answer, answer_all};
-pub use document::documents_have_a_grid;
 pub use ends::ProgramEnd;
-pub use error::StudyError;
-pub use files::file_names;
 pub use front_text::front_report;
 pub use laws::limit_changes_no_end;
-pub use place::{Key, Place};
 pub use replaying::replay;
 pub use row_ends::RowEnds;
 pub use study::read_study;
 pub use times::times_report;
-
-#[cfg(test)]
-mod tests;
+pub use tomex_document::{Key, Place, StudyError, documents_have_a_grid, file_names};

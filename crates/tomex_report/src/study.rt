@@ -3,8 +3,8 @@
 ghost use Rattle.std.specs.Prelude.{◌≡◌, ◌≢◌, ◌≤◌, ◌⊎◌, length, map, IfOk, IfErr, string_bytes};
 ghost use Rattle.tomex_report.specs.Study.{AreProgramsOf, IsFileRefusal, IsFirstRefusal, IsProgramOf, IsStudyOf, IsStudyRefusal};
 
-use crate::document::{Entry, document_of};
-use crate::error::StudyError;
+use tomex_document::{Entry, document_of};
+use tomex_document::StudyError;
 use std::alloc::{Allocator, Global};
 use tomex_config::grid;
 use tomex_image::{ImageError, load};

@@ -14,8 +14,6 @@ mod program;
 mod row_run;
 mod stop;
 mod study;
-#[cfg(test)]
-mod tests;
 mod watch;
 
 pub use exploring::{explore, run_all};

@@ -1,6 +1,6 @@
 -- A document has 1 to 8 programs, and its files are as many.
 use Rattle.std.proofs.Common.{◌∙◌, ap}
-use Rattle.tomex_report.specs.Document.{Document}
+use Rattle.tomex_document.specs.Document.{Document}
 use Rattle.tomex_report.proofs.Studies.{some_programs}
 use Rattle.tomex_report.proofs.study.read_study.Goals as goal
 

@@ -1,6 +1,0 @@
--- What the proofs of the program share.
-mod BoardPlans
-mod Fronts
-mod Pieces
-mod Plain
-mod Reading

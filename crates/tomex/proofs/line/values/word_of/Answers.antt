@@ -1,9 +1,0 @@
--- The word stands in the rows.
-use Rattle.std.proofs.Common.{◌∙◌, ap, sym, option_map}
-use Rattle.clap.specs.Words.{found_of}
-use Rattle.clap.proofs.WalkLemmas.{first_value-rows}
-use Rattle.tomex.proofs.line.values.word_of.Goals as goal
-
-pub returns-in-Some-clause-word : goal.returns-in-Some-clause-word
-returns-in-Some-clause-word c =
-    sym (first_value-rows (found_of c.args.matches.now) c.args.name.now) ∙ sym c.get_str.ensures ∙ ap (option_map (λ s. s.now)) c.in-Some.is

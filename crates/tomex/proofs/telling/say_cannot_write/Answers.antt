@@ -1,6 +1,0 @@
--- The text that is written is the line's.
-use Rattle.std.proofs.Common.{rules}
-use Rattle.tomex.proofs.telling.say_cannot_write.Goals as goal
-
-pub returns : goal.returns
-returns g c = rw (c.as_bytes.ensures.value) at c.say.ensures

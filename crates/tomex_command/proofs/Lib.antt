@@ -1,0 +1,3 @@
+-- What the proofs of the crate share.
+mod Fronts
+mod Reading

@@ -1,0 +1,75 @@
+-- What a run of the program comes to. A further command is a further case of `IsDone` and of `IsFailure`.
+use Rattle.std.specs.Prelude.{◌≡◌, ◌⊎◌, ℕ, List}
+use Rattle.tomex_command.specs.declared.failure.Failure.{Failure}
+use Rattle.tomex_command.specs.declared.failure.Failure.TheVariants.{CannotWrite}
+use Rattle.tomex_line.specs.declared.line.Line.{Line}
+use Rattle.tomex_line.specs.declared.line.Line.TheVariants.{Run, Times, All, Explore}
+use Rattle.tomex_line.specs.declared.line.LineFault.{LineFault}
+use Rattle.tomex_line.specs.Asked.{IsAsked, IsNoCommand}
+use Rattle.tomex_streams.specs.Files.{Told}
+use Rattle.tomex_command.specs.FrontLines.{IsFrontOf, IsAllFailure, IsExploreFailure}
+use Rattle.tomex_streams.specs.Sinks.{Seen, IsWhole, IsCut}
+use Rattle.tomex_command.specs.RunLines.{IsRunOf, IsRunFailure}
+use Rattle.tomex_command.specs.Telling.{IsFailureTold, IsSaid, IsTold}
+use Rattle.tomex_command.specs.TimesLines.{IsTimesOf, IsTimesFailure}
+
+-- this text is what the line asks for of files that tell this of their names
+abbrev pub IsDone : (List ℕ → Told) → Line → List ℕ → Type 0
+IsDone file (Run line) text = IsRunOf file line text
+IsDone file (Times line) text = IsTimesOf file line text
+IsDone file (All line) text = IsFrontOf file line.study.now text
+IsDone file (Explore line) text = IsFrontOf file line.study.now text
+
+-- the line has no text, for this reason
+abbrev pub IsFailure : (List ℕ → Told) → Line → Failure → Type 0
+IsFailure file (Run line) failure = IsRunFailure file line failure
+IsFailure file (Times line) failure = IsTimesFailure file line failure
+IsFailure file (All line) failure = IsAllFailure file line.study.now failure
+IsFailure file (Explore line) failure = IsExploreFailure file line.study.now failure
+
+-- a line was carried out: its text is on the output
+pub record IsCarriedOut (file : List ℕ → Told) (line : Line) (old new : Seen) : Type 0 where
+  pub text : List ℕ
+  pub is_done : IsDone file line text
+  pub written : IsWhole text old new
+
+-- its text was made, and the output took a first part of it
+pub record IsCutShort (file : List ℕ → Told) (line : Line) (old new : Seen) : Type 0 where
+  pub text : List ℕ
+  pub is_done : IsDone file line text
+  pub cut : IsCut text old new
+
+-- a line was not carried out: the output failed, or it took nothing, and the line has no text
+abbrev pub IsLeft : (List ℕ → Told) → Line → Failure → Seen → Seen → Type 0
+IsLeft file line CannotWrite old new = IsCutShort file line old new
+IsLeft file line failure old new = IsFailure file line failure × (new ≡ old)
+
+-- help or a refused line was told
+pub record IsToldOnly (words : List (List ℕ)) (status : ℕ) (out-old out err-old err : Seen) : Type 0 where
+  pub fault : LineFault
+  pub no_command : IsNoCommand words fault
+  pub told : IsTold fault status out-old out
+  pub said : IsSaid fault status err-old err
+
+-- the line that the words ask for was carried out
+pub record HasDone (words : List (List ℕ)) (file : List ℕ → Told) (status : ℕ) (out-old out err-old err : Seen) : Type 0 where
+  pub line : Line
+  pub asked : IsAsked words line
+  pub carried_out : IsCarriedOut file line out-old out
+  pub status_is : status ≡ 0
+  pub nothing_told : err ≡ err-old
+
+-- the line that the words ask for failed, and that was told
+pub record HasFailed (words : List (List ℕ)) (file : List ℕ → Told) (status : ℕ) (out-old out err-old err : Seen) : Type 0 where
+  pub line : Line
+  pub asked : IsAsked words line
+  pub failure : Failure
+  pub left : IsLeft file line failure out-old out
+  pub told : IsFailureTold failure status err-old err
+
+-- how a run of the program ends
+abbrev pub IsEnd : List (List ℕ) → (List ℕ → Told) → ℕ → Seen → Seen → Seen → Seen → Type 0
+IsEnd words file status out-old out err-old err =
+    IsToldOnly words status out-old out err-old err
+    ⊎ (HasDone words file status out-old out err-old err
+    ⊎ HasFailed words file status out-old out err-old err)

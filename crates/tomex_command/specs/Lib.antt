@@ -1,0 +1,9 @@
+pub mod Commands
+pub mod FrontLines
+pub mod Reading
+pub mod RunLines
+pub mod RunText
+pub mod Statuses
+pub mod StudyFiles
+pub mod Telling
+pub mod TimesLines

@@ -1,0 +1,29 @@
+-- The exit statuses of failures.
+use Rattle.std.specs.Prelude.{ℕ}
+use Rattle.tomex_sweep.specs.declared.outcome.SweepError.TheVariants as sweeps
+use Rattle.tomex_report.specs.declared.answer_error.AnswerError.{AnswerError}
+use Rattle.tomex_report.specs.declared.answer_error.AnswerError.TheVariants as answers
+use Rattle.tomex_document.specs.declared.error.StudyError.TheVariants as studies
+use Rattle.tomex_command.specs.declared.run.RunRefusal.TheVariants as refusals
+use Rattle.tomex_command.specs.declared.failure.Failure.{Failure}
+use Rattle.tomex_command.specs.declared.failure.Failure.TheVariants.{BadWindow, Run, Study, NoSuchRow, NoSuchProgram, CannotRead, CannotWrite, Memory, Worker}
+
+-- 1 for input that is refused, 3 for want of memory, a thread, a file or a device
+abbrev pub status_of_failure : Failure → ℕ
+status_of_failure BadWindow = 1
+status_of_failure (Run refusals.Memory) = 3
+status_of_failure (Run refusal) = 1
+status_of_failure (Study studies.Memory) = 3
+status_of_failure (Study error) = 1
+status_of_failure NoSuchRow = 1
+status_of_failure NoSuchProgram = 1
+status_of_failure (CannotRead name) = 3
+status_of_failure CannotWrite = 3
+status_of_failure Memory = 3
+status_of_failure Worker = 3
+
+-- the failure that a refused answer becomes
+abbrev pub failure_of_answer : AnswerError → Failure
+failure_of_answer (answers.Study error) = Study error
+failure_of_answer (answers.Sweep sweeps.Memory) = Memory
+failure_of_answer (answers.Sweep sweeps.Worker) = Worker

@@ -1,0 +1,48 @@
+-- What is said of failures, and of lines that ask for no command.
+use Rattle.std.specs.Prelude.{◌≡◌, ◌⊎◌, ℕ, List, ◌++◌, codes, string_bytes}
+use Rattle.tomex_command.specs.declared.failure.Failure.{Failure}
+use Rattle.tomex_command.specs.declared.failure.Failure.TheVariants.{BadWindow, Run, Study, NoSuchRow, NoSuchProgram, CannotRead, CannotWrite, Memory, Worker}
+use Rattle.tomex_line.specs.declared.line.LineFault.{LineFault}
+use Rattle.tomex_line.specs.declared.line.LineFault.TheVariants.{Help, Usage}
+use Rattle.tomex_line.specs.declared.line.LineFault.TheVariants as faults
+use Rattle.tomex_streams.specs.Names.{shown_name}
+use Rattle.tomex_streams.specs.Sinks.{Seen, IsWhole, IsCut, IsWritten}
+use Rattle.tomex_command.specs.Statuses.{status_of_failure}
+
+-- the text of a failure; that of a refused run or study is its own, of which nothing is said here
+abbrev pub IsTextOf : Failure → List ℕ → Type 0
+IsTextOf BadWindow text = text ≡ codes "bad window"
+IsTextOf (Run refusal) text = Unit {0}
+IsTextOf (Study error) text = Unit {0}
+IsTextOf NoSuchRow text = text ≡ codes "no such row"
+IsTextOf NoSuchProgram text = text ≡ codes "no such program"
+IsTextOf (CannotRead name) text = text ≡ codes "cannot read " ++ shown_name (string_bytes name)
+IsTextOf CannotWrite text = text ≡ codes "cannot write"
+IsTextOf Memory text = text ≡ codes "out of memory"
+IsTextOf Worker text = text ≡ codes "thread refused"
+
+-- a line of the program's own on the standard error
+abbrev pub line_of : List ℕ → List ℕ
+line_of text = codes "tomex: " ++ (text ++ codes "\n")
+
+-- the line of a failure
+abbrev pub IsLineOf : Failure → List ℕ → Type 0
+IsLineOf failure line = (text : List ℕ) × IsTextOf failure text × (line ≡ line_of text)
+
+-- the failure's line was told, with its status; or, for want of memory, that memory was wanting
+abbrev pub IsFailureTold : Failure → ℕ → Seen → Seen → Type 0
+IsFailureTold failure status old new =
+    ((status ≡ status_of_failure failure) × ((line : List ℕ) × IsLineOf failure line × IsWritten line old new))
+    ⊎ ((status ≡ 3) × IsWritten (line_of (codes "out of memory")) old new)
+
+-- a fault is told with its status, and the output takes nothing but help: all of it, unless it fails
+abbrev pub IsTold : LineFault → ℕ → Seen → Seen → Type 0
+IsTold (Help text) status old new = ((status ≡ 0) × IsWhole (string_bytes text) old new) ⊎ ((status ≡ 3) × IsCut (string_bytes text) old new)
+IsTold (Usage text) status old new = (status ≡ 2) × (new ≡ old)
+IsTold faults.Memory status old new = (status ≡ 3) × (new ≡ old)
+
+-- what the standard error gets where a line asks for no command
+abbrev pub IsSaid : LineFault → ℕ → Seen → Seen → Type 0
+IsSaid (Help text) status old new = ((status ≡ 0) × (new ≡ old)) ⊎ ((status ≡ 3) × IsWritten (line_of (codes "cannot write")) old new)
+IsSaid (Usage text) status old new = IsWritten (string_bytes text) old new
+IsSaid _ status old new = IsWritten (line_of (codes "out of memory")) old new

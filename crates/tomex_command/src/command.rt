@@ -1,0 +1,96 @@
+//! A whole run of the program, over any files and sinks: what it prints, and its exit status.
+//!
+//! Each command's text has a file here. A further command is a further file, and a line in `text_of`.
+
+ghost use Rattle.std.specs.Prelude.{◌≡◌, ◌≤◌, ◌⊎◌, map, string_bytes, IfOk, IfErr, OnOk};
+ghost use Rattle.tomex_command.specs.Commands.{IsDone, IsFailure, IsCarriedOut, IsLeft, IsEnd};
+
+pub mod all;
+pub mod explore;
+pub mod reading;
+pub mod run;
+pub mod study;
+pub mod times;
+
+use crate::failure::Failure;
+use tomex_streams::Files;
+use tomex_line::{Line, read_line};
+use tomex_streams::{Sink, write_all_of};
+use crate::telling::{tell, tell_line_fault};
+use all::text_of_all;
+use explore::text_of_explore;
+use run::text_of_run;
+use std::alloc::{Allocator, Global};
+use std::thread::Threads;
+use times::text_of_times;
+
+/// The text that a line asks for.
+fn text_of<R: Threads + Sync, F: Files, A: Allocator + Clone + Send + Sync + Drop>(
+    rt: &R,
+    alloc: A,
+    heap: Global,
+    line: Line<'_>,
+    files: &F,
+) -> Result<Vec<u8, A>, Failure>
+    ensures text { IfOk result (λ text. IsDone (F.file files.now) line.entry text.items) }
+    ensures failure { IfErr result (λ failure. IsFailure (F.file files.now) line.entry failure) }
+{
+    match line {
+        Line::Run(line) => text_of_run(alloc, heap, line, files),
+        Line::Times(line) => text_of_times(alloc, heap, line, files),
+        Line::All(line) => text_of_all(rt, alloc, heap, line, files),
+        Line::Explore(line) => text_of_explore(rt, alloc, heap, line, files),
+    }
+}
+
+/// Writes the text that a line asks for, and nothing before the whole of it is made.
+fn carry_out<R: Threads + Sync, F: Files, O: Sink, A: Allocator + Clone + Send + Sync + Drop>(
+    rt: &R,
+    alloc: A,
+    heap: Global,
+    line: Line<'_>,
+    files: &F,
+    out: &mut O,
+) -> Result<(), Failure>
+    ensures done { OnOk result (IsCarriedOut (F.file files.now) line.entry
+        (record { taken = O.taken out.old; faults = O.faults out.old }) (record { taken = O.taken out.new; faults = O.faults out.new })) }
+    ensures left { IfErr result (λ failure. IsLeft (F.file files.now) line.entry failure
+        (record { taken = O.taken out.old; faults = O.faults out.old }) (record { taken = O.taken out.new; faults = O.faults out.new })) }
+{
+    let text = text_of(rt, alloc, heap, line, files)?;
+    match write_all_of(out, text.as_slice()) {
+        Ok(()) => Ok(()),
+        Err(_) => Err(Failure::CannotWrite),
+    }
+}
+
+/// Runs the program on a command line, the program's own name first, and gives its exit status:
+/// 0 done, 1 refused input, 2 a refused command line, 3 memory, a thread, a file or a device.
+///
+/// Results and help go to `out`. What is wrong goes to `err`: one line `tomex: ..` with 1 and 3,
+/// the parser's text with 2. What is made of images is made in memory of `alloc`; the command
+/// line, and the names and texts of failures, in memory of `heap`.
+pub fn command<
+    R: Threads + Sync,
+    F: Files,
+    O: Sink,
+    E: Sink,
+    A: Allocator + Clone + Send + Sync + Drop,
+>(rt: &R, alloc: A, heap: Global, words: &[String], files: &F, out: &mut O, err: &mut E) -> u8
+    ensures end { IsEnd (map string_bytes words.now) (F.file files.now) result
+        (record { taken = O.taken out.old; faults = O.faults out.old }) (record { taken = O.taken out.new; faults = O.faults out.new })
+        (record { taken = E.taken err.old; faults = E.faults err.old }) (record { taken = E.taken err.new; faults = E.faults err.new }) }
+    ensures statuses { result ≤ 3 }
+
+    // A refused input or line writes nothing to the standard output; only a whole text is done.
+    ensures refused { (result ≡ 1) ⊎ (result ≡ 2) → O.taken out.new ≡ O.taken out.old }
+    ensures done { result ≡ 0 → O.faults out.new ≡ O.faults out.old }
+{
+    match read_line(heap, words) {
+        Ok(line) => match carry_out(rt, alloc, heap, line, files, out) {
+            Ok(()) => 0,
+            Err(failure) => tell(heap, &failure, err),
+        },
+        Err(fault) => tell_line_fault(&fault, out, err),
+    }
+}

@@ -1,0 +1,27 @@
+//! What `all` prints.
+ghost use Rattle.std.specs.Prelude.{IfOk, IfErr};
+ghost use Rattle.tomex_command.specs.FrontLines.{IsFrontOf, IsAllFailure};
+
+use super::study::sources_in;
+use crate::failure::Failure;
+use tomex_streams::Files;
+use tomex_line::AllLine;
+use std::alloc::{Allocator, Global};
+use std::thread::Threads;
+use tomex_report::answer_all;
+
+/// The text that `all` prints. It never tells that a thread was refused.
+pub fn text_of_all<R: Threads + Sync, F: Files, A: Allocator + Clone + Send + Sync + Drop>(
+    rt: &R,
+    alloc: A,
+    heap: Global,
+    line: AllLine<'_>,
+    files: &F,
+) -> Result<Vec<u8, A>, Failure>
+    ensures text { IfOk result (λ text. IsFrontOf (F.file files.now) line.entry.study.now text.items) }
+    ensures failure { IfErr result (λ failure. IsAllFailure (F.file files.now) line.entry.study.now failure) }
+{
+    let sources = sources_in(alloc.clone()?, heap, files, line.study)?;
+    let (study, contents) = (sources.study.as_slice(), sources.files.as_slice());
+    Ok(answer_all(rt, alloc, heap, study, contents)?)
+}

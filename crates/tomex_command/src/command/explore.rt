@@ -1,0 +1,29 @@
+//! What `explore` prints.
+ghost use Rattle.std.specs.Prelude.{IfOk, IfErr};
+ghost use Rattle.tomex_command.specs.FrontLines.{IsFrontOf, IsExploreFailure};
+
+use super::study::sources_in;
+use crate::failure::Failure;
+use tomex_streams::Files;
+use tomex_line::ExploreLine;
+use std::alloc::{Allocator, Global};
+use std::thread::Threads;
+use tomex_report::answer;
+use tomex_sweep::OpenGate;
+
+/// The text that `explore` prints.
+pub fn text_of_explore<R: Threads + Sync, F: Files, A: Allocator + Clone + Send + Sync + Drop>(
+    rt: &R,
+    alloc: A,
+    heap: Global,
+    line: ExploreLine<'_>,
+    files: &F,
+) -> Result<Vec<u8, A>, Failure>
+    ensures text { IfOk result (λ text. IsFrontOf (F.file files.now) line.entry.study.now text.items) }
+    ensures failure { IfErr result (λ failure. IsExploreFailure (F.file files.now) line.entry.study.now failure) }
+{
+    let sources = sources_in(alloc.clone()?, heap, files, line.study)?;
+    let (study, contents) = (sources.study.as_slice(), sources.files.as_slice());
+    let workers = line.workers as usize;
+    Ok(answer(rt, alloc, heap, study, contents, workers, &OpenGate)?)
+}

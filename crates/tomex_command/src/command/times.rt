@@ -1,0 +1,26 @@
+//! What `times` prints.
+ghost use Rattle.std.specs.Prelude.{IfOk, IfErr};
+ghost use Rattle.tomex_command.specs.TimesLines.{IsTimesOf, IsTimesFailure};
+
+use super::study::study_in;
+use crate::failure::Failure;
+use tomex_streams::Files;
+use tomex_line::TimesLine;
+use std::alloc::{Allocator, Global};
+use tomex_report::times_report;
+
+/// The text that `times` prints. The row is looked for before the program.
+pub fn text_of_times<F: Files, A: Allocator + Clone>(
+    alloc: A,
+    heap: Global,
+    line: TimesLine<'_>,
+    files: &F,
+) -> Result<Vec<u8, A>, Failure>
+    ensures text { IfOk result (λ text. IsTimesOf (F.file files.now) line.entry text.items) }
+    ensures failure { IfErr result (λ failure. IsTimesFailure (F.file files.now) line.entry failure) }
+{
+    let study = study_in(alloc.clone()?, heap, files, line.study)?;
+    let row = study.row(line.config as usize).ok_or(Failure::NoSuchRow)?;
+    let program = study.program(line.program).ok_or(Failure::NoSuchProgram)?;
+    Ok(times_report(alloc, heap, program, row)?)
+}

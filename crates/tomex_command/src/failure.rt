@@ -1,0 +1,92 @@
+//! Why a command was not done.
+ghost use Rattle.std.specs.Prelude.{◌≡◌};
+ghost use Rattle.tomex_command.specs.declared.failure.Failure.TheVariants as failures;
+ghost use Rattle.tomex_command.specs.Statuses.{failure_of_answer, status_of_failure};
+
+use crate::run::RunRefusal;
+use std::alloc::{AllocError, AllocFailed};
+use tomex_report::{AnswerError, StudyError};
+use tomex_sweep::SweepError;
+
+/// Why a command was not done. Told behind `tomex: ` on the standard error.
+#[derive(Debug, Drop)]
+pub enum Failure {
+    /// Base and size are no window.
+    BadWindow,
+    /// The image is refused, or its run.
+    Run(RunRefusal),
+    /// The study is refused, or a program of it.
+    Study(StudyError),
+    /// The study has no configuration of that number.
+    NoSuchRow,
+    /// The study has no program of that name.
+    NoSuchProgram,
+    /// A file was not read. Carries its name as written.
+    CannotRead(String),
+    /// The standard output did not take the whole text.
+    CannotWrite,
+    /// Memory was refused.
+    Memory,
+    /// The start of a thread was refused.
+    Worker,
+}
+
+impl Failure {
+    /// The exit status: 1 for refused input, 3 for want of memory, a thread, a file or a device.
+    pub fn status(&self) -> u8
+        ensures { result ≡ status_of_failure self.now }
+    {
+        match self {
+            Failure::BadWindow => 1,
+            Failure::Run(RunRefusal::Memory) => 3,
+            Failure::Run(_) => 1,
+            Failure::Study(StudyError::Memory) => 3,
+            Failure::Study(_) | Failure::NoSuchRow | Failure::NoSuchProgram => 1,
+            Failure::CannotRead(_) | Failure::CannotWrite | Failure::Memory | Failure::Worker => 3,
+        }
+    }
+}
+
+impl From<AllocError> for Failure {
+    ghost from_gives = { λ _ failure. failure ≡ failures.Memory };
+
+    fn from(_error: AllocError) -> Failure {
+        Failure::Memory
+    }
+}
+
+impl<T: Drop> From<AllocFailed<T>> for Failure {
+    ghost from_gives = { λ _ failure. failure ≡ failures.Memory };
+
+    fn from(_error: AllocFailed<T>) -> Failure {
+        Failure::Memory
+    }
+}
+
+impl From<RunRefusal> for Failure {
+    ghost from_gives = { λ refusal failure. failure ≡ failures.Run refusal };
+
+    fn from(refusal: RunRefusal) -> Failure {
+        Failure::Run(refusal)
+    }
+}
+
+impl From<StudyError> for Failure {
+    ghost from_gives = { λ error failure. failure ≡ failures.Study error };
+
+    fn from(error: StudyError) -> Failure {
+        Failure::Study(error)
+    }
+}
+
+impl From<AnswerError> for Failure {
+    ghost from_gives = { λ error failure. failure ≡ failure_of_answer error };
+
+    fn from(error: AnswerError) -> Failure {
+        match error {
+            AnswerError::Study(error) => Failure::Study(error),
+            AnswerError::Sweep(SweepError::Memory) => Failure::Memory,
+            AnswerError::Sweep(SweepError::Worker) => Failure::Worker,
+        }
+    }
+}

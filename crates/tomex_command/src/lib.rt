@@ -1,0 +1,13 @@
+//! What the program does: each command's text, what is told of failures, and a whole run of the program
+//! over any files and sinks.
+#![tactic(auto)]
+
+mod command;
+mod failure;
+mod run;
+mod telling;
+
+pub use command::command;
+pub use failure::Failure;
+pub use run::{RunRefusal, run_text};
+pub use telling::tell_line_fault;

@@ -1,0 +1,101 @@
+//! What is said on the streams where there is no result.
+ghost use Rattle.std.specs.Prelude.{◌≡◌, codes, IfOk, string_bytes};
+ghost use Rattle.tomex_streams.specs.Sinks.{IsWritten};
+ghost use Rattle.tomex_command.specs.Telling.{IsTextOf, IsLineOf, IsFailureTold, IsSaid, IsTold, line_of};
+
+use crate::failure::Failure;
+use tomex_line::LineFault;
+use tomex_streams::shown;
+use tomex_streams::{Sink, write_all_of};
+use std::alloc::{AllocError, Global};
+
+/// Writes a text as far as the sink takes it.
+fn say<W: Sink>(sink: &mut W, text: &[u8])
+    ensures { IsWritten text.now
+        (record { taken = W.taken sink.old; faults = W.faults sink.old }) (record { taken = W.taken sink.new; faults = W.faults sink.new }) }
+{
+    let _ = write_all_of(sink, text);
+}
+
+/// Says that memory was wanting.
+fn say_out_of_memory<E: Sink>(err: &mut E)
+    ensures { IsWritten (line_of (codes "out of memory"))
+        (record { taken = E.taken err.old; faults = E.faults err.old }) (record { taken = E.taken err.new; faults = E.faults err.new }) }
+{
+    say(err, "tomex: out of memory\n".as_bytes());
+}
+
+/// Says that the standard output failed.
+fn say_cannot_write<E: Sink>(err: &mut E)
+    ensures { IsWritten (line_of (codes "cannot write"))
+        (record { taken = E.taken err.old; faults = E.faults err.old }) (record { taken = E.taken err.new; faults = E.faults err.new }) }
+{
+    say(err, "tomex: cannot write\n".as_bytes());
+}
+
+/// Tells why a line asks for no command, and answers the exit status: help on the output, all else on
+/// the error stream. A failed write to the error stream changes no status.
+pub fn tell_line_fault<O: Sink, E: Sink>(fault: &LineFault, out: &mut O, err: &mut E) -> u8
+    ensures told { IsTold fault.now result
+        (record { taken = O.taken out.old; faults = O.faults out.old }) (record { taken = O.taken out.new; faults = O.faults out.new }) }
+    ensures said { IsSaid fault.now result
+        (record { taken = E.taken err.old; faults = E.faults err.old }) (record { taken = E.taken err.new; faults = E.faults err.new }) }
+{
+    match fault {
+        LineFault::Help(text) => {
+            if write_all_of(out, text.as_bytes()).is_err() {
+                say_cannot_write(err);
+                return 3;
+            }
+        }
+        LineFault::Usage(text) => say(err, text.as_bytes()),
+        LineFault::Memory => say_out_of_memory(err),
+    }
+    fault.status()
+}
+
+/// The text of a failure.
+fn text_of(heap: Global, failure: &Failure) -> Result<String, AllocError>
+    ensures { IfOk result (λ text. IsTextOf failure.now (string_bytes text)) }
+{
+    match failure {
+        Failure::BadWindow => String::from_str(heap, "bad window"),
+        Failure::Run(refusal) => format!(in heap; "{refusal}"),
+        Failure::Study(error) => format!(in heap; "{error}"),
+        Failure::NoSuchRow => String::from_str(heap, "no such row"),
+        Failure::NoSuchProgram => String::from_str(heap, "no such program"),
+        Failure::CannotRead(name) => {
+            let name = shown(heap, name.as_str())?;
+            format!(in heap; "cannot read {name}")
+        }
+        Failure::CannotWrite => String::from_str(heap, "cannot write"),
+        Failure::Memory => String::from_str(heap, "out of memory"),
+        Failure::Worker => String::from_str(heap, "thread refused"),
+    }
+}
+
+/// The line of a failure.
+fn line_of(heap: Global, failure: &Failure) -> Result<String, AllocError>
+    ensures { IfOk result (λ line. IsLineOf failure.now (string_bytes line)) }
+{
+    let text = text_of(heap, failure)?;
+    format!(in heap; "tomex: {text}\n")
+}
+
+/// Tells a failure on the standard error, and gives its status. A line that can't be written
+/// changes no status; one that there is no memory for becomes `out of memory`.
+pub fn tell<E: Sink>(heap: Global, failure: &Failure, err: &mut E) -> u8
+    ensures { IsFailureTold failure.now result
+        (record { taken = E.taken err.old; faults = E.faults err.old }) (record { taken = E.taken err.new; faults = E.faults err.new }) }
+{
+    match line_of(heap, failure) {
+        Ok(line) => {
+            say(err, line.as_bytes());
+            failure.status()
+        }
+        Err(_) => {
+            say_out_of_memory(err);
+            3
+        }
+    }
+}

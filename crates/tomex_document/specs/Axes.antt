@@ -1,0 +1,59 @@
+-- The axes of the grid of configurations: counts of stations and buses, and options of units.
+use Rattle.std.specs.Prelude.{ℕ, List, [], ◌∷◌, Ok}
+use Rattle.toml.specs.Data.{Members}
+use Rattle.tomex_rvdec.specs.declared.pool.UnitId.TheVariants as units
+use Rattle.tomex_config.specs.Grid.{Lists}
+use Rattle.tomex_document.specs.declared.place.Key.TheVariants as key
+use Rattle.tomex_document.specs.declared.place.Place.TheVariants as place
+use Rattle.tomex_document.specs.Readings.{Reading, ◌>>=◌}
+use Rattle.tomex_document.specs.Table.{known_keys}
+use Rattle.tomex_document.specs.Lists.{counts_at}
+use Rattle.tomex_document.specs.Units.{unit_tables, options_of}
+
+-- the counts of stations and buses
+pub record Counts : Type 0 where
+  pub alu : List ℕ
+  pub mul : List ℕ
+  pub div : List ℕ
+  pub load : List ℕ
+  pub store : List ℕ
+  pub bru : List ℕ
+  pub buses : List ℕ
+
+-- the place of the axes
+unfoldable pub axis_counts : Members → Reading Counts
+axis_counts members = do
+  _ ← known_keys place.Axes (key.Alu ∷ key.Mul ∷ key.Div ∷ key.Load ∷ key.Store ∷ key.Bru ∷ key.Buses ∷ []) members
+  alu ← counts_at place.Axes key.Alu 16 members
+  mul ← counts_at place.Axes key.Mul 16 members
+  div ← counts_at place.Axes key.Div 16 members
+  load ← counts_at place.Axes key.Load 16 members
+  store ← counts_at place.Axes key.Store 16 members
+  bru ← counts_at place.Axes key.Bru 16 members
+  buses ← counts_at place.Axes key.Buses 8 members
+  Ok (record { alu = alu; mul = mul; div = div; load = load; store = store; bru = bru; buses = buses })
+
+-- the places of the axes and of the unit, and then the options of each kind
+unfoldable pub axes_of : Members → Members → Reading Lists
+axes_of axes unit = do
+  counts ← axis_counts axes
+  tables ← unit_tables unit
+  alu_units ← options_of units.Alu tables.alu
+  mul_units ← options_of units.Mul tables.mul
+  div_units ← options_of units.Div tables.div
+  mem_units ← options_of units.Mem tables.mem
+  bru_units ← options_of units.Bru tables.bru
+  Ok (record {
+    alu = counts.alu;
+    mul = counts.mul;
+    div = counts.div;
+    load = counts.load;
+    store = counts.store;
+    bru = counts.bru;
+    alu_units = alu_units;
+    mul_units = mul_units;
+    div_units = div_units;
+    mem_units = mem_units;
+    bru_units = bru_units;
+    buses = counts.buses;
+  })

@@ -1,0 +1,55 @@
+-- The document of a study: what its bytes stand for, or the first test that they fail.
+use Rattle.std.specs.Prelude.{ℕ, List, [], ◌∷◌, map, Option, Some, None, Ok, Err, if◌then◌else◌}
+use Rattle.std.specs.Str.{is_utf8}
+use Rattle.toml.specs.Data.{Members}
+use Rattle.toml.specs.Parse.{parse_document}
+use Rattle.tomex_config.specs.Cost.{PriceList}
+use Rattle.tomex_config.specs.Grid.{Lists, is_too_large}
+use Rattle.tomex_document.specs.declared.place.Key.TheVariants as key
+use Rattle.tomex_document.specs.declared.place.Place.TheVariants as place
+use Rattle.tomex_document.specs.declared.error.StudyError.TheVariants.{Syntax, TooMany}
+use Rattle.tomex_document.specs.Readings.{Reading, ◌>>=◌}
+use Rattle.tomex_document.specs.Table.{known_keys, table_at}
+use Rattle.tomex_document.specs.Program.{ProgramEntry, program_tables, programs_of}
+use Rattle.tomex_document.specs.Prices.{prices_of}
+use Rattle.tomex_document.specs.Axes.{axes_of}
+
+-- a study before its programs' files are read
+pub record Document : Type 0 where
+  pub programs : List ProgramEntry
+  pub prices : PriceList
+  pub axes : Lists
+
+-- the members of the top, or bytes that TOML refuses
+abbrev pub members_or : Option Members → Reading Members
+members_or None = Err Syntax
+members_or (Some members) = Ok members
+
+-- the document that TOML gives for the bytes
+unfoldable pub members_of : List ℕ → Reading Members
+members_of bytes = if is_utf8 bytes then members_or (parse_document bytes) else Err Syntax
+
+-- the keys at the top, and then place by place
+unfoldable pub outline_of : Members → Reading Document
+outline_of top = do
+  _ ← known_keys place.Top (key.Program ∷ key.Prices ∷ key.Axes ∷ key.Unit ∷ []) top
+  tables ← program_tables top
+  prices ← table_at place.Top key.Prices top
+  axes ← table_at place.Top key.Axes top
+  unit ← table_at place.Top key.Unit top
+  programs ← programs_of 1 [] tables
+  prices ← prices_of prices
+  axes ← axes_of axes unit
+  if is_too_large axes then Err TooMany else Ok (record { programs = programs; prices = prices; axes = axes })
+
+-- what the bytes stand for
+unfoldable pub document_of : List ℕ → Reading Document
+document_of bytes = members_of bytes >>= outline_of
+
+-- the file of each program
+abbrev pub files_of : List ProgramEntry → List (List ℕ)
+files_of programs = map (λ program. program.file) programs
+
+-- the programs' files, in order
+unfoldable pub file_names_of : List ℕ → Reading (List (List ℕ))
+file_names_of bytes = document_of bytes >>= (λ document. Ok (files_of document.programs))

@@ -1,0 +1,12 @@
+pub mod Place
+pub mod Readings
+pub mod Table
+pub mod Numbers
+pub mod Lists
+pub mod Watch
+pub mod Program
+pub mod Prices
+pub mod Axes
+pub mod Units
+pub mod Document
+pub mod Grid

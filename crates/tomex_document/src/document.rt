@@ -1,0 +1,106 @@
+//! The document of a study: what its bytes stand for.
+
+ghost use Rattle.std.specs.Prelude.{◌≡◌};
+ghost use Rattle.toml.specs.View.{table_view};
+ghost use Rattle.tomex_document.specs.Readings.{Gives};
+ghost use Rattle.tomex_document.specs.Document.{members_of, outline_of, document_of};
+
+mod axes;
+mod entry;
+mod laws;
+mod lists;
+mod numbers;
+mod prices;
+mod programs;
+mod table;
+mod units;
+mod watch;
+
+use crate::error::StudyError;
+use crate::place::{Key, Place};
+use axes::axes_of;
+pub use entry::Entry;
+pub use laws::documents_have_a_grid;
+use prices::prices_of;
+use programs::{program_tables, programs_of};
+use std::alloc::{Allocator, Global};
+use std::marker::Model;
+use table::{known_keys, table_at};
+use tomex_config::{Axes, Prices};
+use toml::Table;
+
+/// A study before its programs' files are read.
+#[derive(Debug, Drop)]
+pub struct Outline<A: Allocator = Global> {
+    pub programs: Vec<Entry<A>, A>,
+    pub prices: Prices,
+    pub axes: Axes<A>,
+}
+
+impl<A: Allocator> Model for Outline<A> {
+    ghost use Rattle.tomex_config.specs.Grid.{lists_of};
+    ghost use Rattle.tomex_document.specs.Document.{Document};
+
+    ghost Value = { Document };
+
+    ghost view = { λ o. record { programs = o.programs.items; prices = o.prices; axes = lists_of o.axes } };
+}
+
+/// The document that TOML gives for the bytes.
+#[tactic(auto, unfolding(crate::specs::Document::members_of))]
+fn members_of(heap: Global, study: &[u8]) -> Result<Table, StudyError>
+    ensures { Gives (λ t. table_view t) result (members_of study.now) }
+{
+    match toml::table_from_slice(heap, study) {
+        Ok(table) => Ok(table),
+        Err(error) => {
+            if error.is_memory() {
+                Err(StudyError::Memory)
+            } else {
+                Err(StudyError::Syntax)
+            }
+        }
+    }
+}
+
+#[tactic(auto, unfolding(crate::specs::Document::outline_of))]
+fn outline_of<A: Allocator + Clone>(
+    alloc: A,
+    heap: Global,
+    top: &Table,
+) -> Result<Outline<A>, StudyError>
+    ensures { Gives (λ o. o) result (outline_of (table_view top.now)) }
+{
+    let keys = [Key::Program, Key::Prices, Key::Axes, Key::Unit];
+    known_keys(top, Place::Top, keys.as_slice())?;
+    let tables = program_tables(top)?;
+    let empty = Table::new(heap);
+    let prices = table_at(top, Place::Top, Key::Prices, &empty)?;
+    let axes = table_at(top, Place::Top, Key::Axes, &empty)?;
+    let unit = table_at(top, Place::Top, Key::Unit, &empty)?;
+    let programs = programs_of(alloc.clone()?, tables)?;
+    let prices = prices_of(prices)?;
+    let axes = axes_of(alloc, axes, unit)?;
+    if axes.is_too_large() {
+        Err(StudyError::TooMany)
+    } else {
+        Ok(Outline {
+            programs,
+            prices,
+            axes,
+        })
+    }
+}
+
+/// What the bytes of a study stand for, or the first test of the document that they fail.
+#[tactic(auto, unfolding(crate::specs::Document::document_of))]
+pub fn document_of<A: Allocator + Clone>(
+    alloc: A,
+    heap: Global,
+    study: &[u8],
+) -> Result<Outline<A>, StudyError>
+    ensures { Gives (λ o. o) result (document_of study.now) }
+{
+    let top = members_of(heap, study)?;
+    outline_of(alloc, heap, &top)
+}

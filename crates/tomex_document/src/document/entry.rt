@@ -1,0 +1,100 @@
+//! A program of a study, as the study names it.
+
+ghost use Rattle.std.specs.Prelude.{◌≡◌, ◌≢◌, ◌≤◌, [], string_bytes, true};
+ghost use Rattle.tomex_document.specs.Program.{IsProgramEntry, is_name};
+ghost use Rattle.tomex_sweep.specs.Watch.{IsWatch};
+
+use std::alloc::{Allocator, Global};
+use std::marker::Model;
+use tomex_image::Window;
+use tomex_sweep::WatchRange;
+
+/// A program before its file is read. Its place has passed all tests: the name has 1 to 32 of the
+/// lawful characters, the file is named, the limit is 1 to 262,144 steps, and the watched ranges
+/// are in the window.
+#[derive(Debug, Drop)]
+pub struct Entry<A: Allocator = Global> {
+    name: String<A>,
+    file: String<A>,
+    window: Window,
+    limit: u32,
+    watch: Vec<WatchRange, A>,
+}
+
+impl<A: Allocator> Model for Entry<A> {
+    ghost use Rattle.std.specs.Prelude.{string_bytes};
+    ghost use Rattle.tomex_document.specs.Program.{ProgramEntry, IsProgramEntry};
+
+    ghost Value = { ProgramEntry };
+
+    ghost view = { λ e. record { name = string_bytes e.name; file = string_bytes e.file; window = e.window; limit = e.limit; watch = e.watch.items } };
+
+    ghost invariant = { λ e. IsProgramEntry (record { name = string_bytes e.name; file = string_bytes e.file; window = e.window; limit = e.limit; watch = e.watch.items }) };
+}
+
+impl<A: Allocator> Entry<A> {
+    /// The program of these parts.
+    pub fn new(
+        name: String<A>,
+        file: String<A>,
+        window: Window,
+        limit: u32,
+        watch: Vec<WatchRange, A>,
+    ) -> Entry<A>
+        requires name { is_name (string_bytes name) ≡ true }
+        requires file { string_bytes file ≢ [] }
+        requires some_steps { 1 ≤ limit }
+        requires few_steps { limit ≤ 262144 }
+        requires watch { IsWatch window watch.items }
+        ensures { result ≡ record { name = string_bytes name; file = string_bytes file; window = window; limit = limit; watch = watch.items } }
+    {
+        // Read for what the window's type keeps, which the proof needs.
+        let _size = window.size();
+        Entry {
+            name,
+            file,
+            window,
+            limit,
+            watch,
+        }
+    }
+
+    /// The name, which no other program of the study has.
+    pub fn name(&self) -> &str
+        ensures value { result.now ≡ self.now.name }
+        ensures lawful { IsProgramEntry self.now }
+    {
+        self.name.as_str()
+    }
+
+    /// The window that the program's image stands in.
+    pub fn window(&self) -> Window
+        ensures value { result ≡ self.now.window }
+        ensures lawful { IsProgramEntry self.now }
+    {
+        self.window
+    }
+
+    /// The number of steps within which the program has to end.
+    pub fn limit(&self) -> u32
+        ensures value { result ≡ self.now.limit }
+        ensures lawful { IsProgramEntry self.now }
+    {
+        self.limit
+    }
+
+    /// The ranges of memory to be shown.
+    pub fn watch(&self) -> &[WatchRange]
+        ensures value { result.now ≡ self.now.watch }
+        ensures lawful { IsProgramEntry self.now }
+    {
+        self.watch.as_slice()
+    }
+
+    /// The name of the program's file.
+    pub fn into_file(self) -> String<A>
+        ensures { string_bytes result ≡ self.file }
+    {
+        self.file
+    }
+}

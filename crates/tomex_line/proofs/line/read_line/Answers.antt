@@ -1,0 +1,37 @@
+-- An error of the parser is help only where the words ask for it.
+use Rattle.std.proofs.Common.{◌≡◌, ◌∙◌, ap, sym, subst, refl, inl, inr, true, List, map, string_bytes}
+use Rattle.clap.specs.Words.{App, HasKind, IsAmong, Text, fault_of, is_simple_and_free}
+use Rattle.clap.specs.Values.{kind_of}
+use Rattle.clap.specs.declared.error.Error.{Error}
+use Rattle.clap.specs.declared.error.kind.ErrorKind.{ErrorKind}
+use Rattle.clap.specs.declared.error.kind.ErrorKind.TheVariants.{DisplayHelp, DisplayVersion, OutOfMemory}
+use Rattle.clap.proofs.OnLiterals.{clap_on_literals}
+use Rattle.tomex_line.specs.Asked.{IsNoCommand}
+use Rattle.tomex_line.specs.Grammar.{tomex_app}
+use Rattle.tomex_line.specs.Lines.{StandsFor}
+use Rattle.tomex_line.specs.declared.line.LineFault.{LineFault}
+use Rattle.tomex_line.specs.declared.line.LineFault.TheVariants.{Help, Usage, Memory}
+use Rattle.tomex_line.proofs.line.read_line.Goals as goal
+
+is_free : is_simple_and_free tomex_app ≡ true
+unfolding clap_on_literals
+is_free = refl
+
+-- the kind that an error has, which isn't want of memory, is one of those that the words may come to
+is_among : (words : List Text) (error : Error) (k : ErrorKind) → (k ≡ OutOfMemory → ⊥) → HasKind (fault_of tomex_app words) error → kind_of error ≡ k → IsAmong k (fault_of tomex_app words)
+is_among words error k other (inl memory) is = absurd (other (sym is ∙ memory))
+is_among words error k other (inr among) is = subst (λ (k : ErrorKind). IsAmong k (fault_of tomex_app words)) is among
+
+asks : (words : List Text) (error : Error) (fault : LineFault) → HasKind (fault_of tomex_app words) error → StandsFor error fault → IsNoCommand words fault
+asks words error (Help text) has (inl is) = inl (is_among words error DisplayHelp (λ bad. cc) has is)
+asks words error (Help text) has (inr is) = inr (is_among words error DisplayVersion (λ bad. cc) has is)
+asks words error (Usage text) has stands = tt
+asks words error Memory has stands = tt
+
+pub returns-in-Err-clause-no_command : goal.returns-in-Err-clause-no_command
+returns-in-Err-clause-no_command c =
+    let words : List Text = map string_bytes c.args.words.now in
+    let is_app = c.in_ok-grammar.ensures in
+    asks words c.in-Err.error c.fault_of.result
+    (subst (λ (a : App). HasKind (fault_of a words) c.in-Err.error) is_app (c.in-Err.ensures.kinds (ap is_simple_and_free is_app ∙ is_free)))
+    c.fault_of.ensures

@@ -1,0 +1,31 @@
+-- What a command line asks for, by the values that `clap` is specified to find in its words.
+use Rattle.std.specs.Prelude.{◌≡◌, ◌⊎◌, List, codes, Option, Some}
+use Rattle.clap.specs.Words.{IsAmong, Row, Text, fault_of, subcommand_of}
+use Rattle.clap.specs.declared.error.kind.ErrorKind.TheVariants.{DisplayHelp, DisplayVersion}
+use Rattle.tomex_line.specs.declared.line.Line.{Line}
+use Rattle.tomex_line.specs.declared.line.Line.TheVariants.{Run, Times, All, Explore}
+use Rattle.tomex_line.specs.declared.line.LineFault.{LineFault}
+use Rattle.tomex_line.specs.declared.line.LineFault.TheVariants.{Help, Usage, Memory}
+use Rattle.tomex_line.specs.Grammar.{tomex_app}
+use Rattle.tomex_line.specs.Values.{IsRunAsked, IsTimesAsked, IsAllAsked, IsExploreAsked}
+
+-- the command of that name with these values
+abbrev pub IsCommand : Option (Text × List Row) → Line → Type 0
+IsCommand found (Run line) = (rows : List Row) × (found ≡ Some (codes "run", rows)) × IsRunAsked rows line.image.now line.base line.size line.limit
+IsCommand found (Times line) = (rows : List Row) × (found ≡ Some (codes "times", rows)) × IsTimesAsked rows line.study.now line.config line.program.now
+IsCommand found (All line) = (rows : List Row) × (found ≡ Some (codes "all", rows)) × IsAllAsked rows line.study.now
+IsCommand found (Explore line) = (rows : List Row) × (found ≡ Some (codes "explore", rows)) × IsExploreAsked rows line.study.now line.workers
+
+-- the words ask for this
+abbrev pub IsAsked : List Text → Line → Type 0
+IsAsked words line = IsCommand (subcommand_of tomex_app words) line
+
+-- the words ask for help or the version
+abbrev pub IsHelpAsked : List Text → Type 0
+IsHelpAsked words = IsAmong DisplayHelp (fault_of tomex_app words) ⊎ IsAmong DisplayVersion (fault_of tomex_app words)
+
+-- where a line is no command: help comes only where it is asked for
+abbrev pub IsNoCommand : List Text → LineFault → Type 0
+IsNoCommand words (Help text) = IsHelpAsked words
+IsNoCommand words (Usage text) = Unit {0}
+IsNoCommand words Memory = Unit {0}

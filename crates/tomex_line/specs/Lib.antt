@@ -1,0 +1,4 @@
+pub mod Asked
+pub mod Grammar
+pub mod Lines
+pub mod Values

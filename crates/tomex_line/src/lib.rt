@@ -1,0 +1,11 @@
+//! The command line: what it may ask for, and what it says that is wrong with it. No other part of the
+//! program knows of `clap`.
+#![tactic(auto)]
+
+mod line;
+
+pub use line::all::AllLine;
+pub use line::explore::ExploreLine;
+pub use line::run::RunLine;
+pub use line::times::TimesLine;
+pub use line::{Line, LineFault, read_line};

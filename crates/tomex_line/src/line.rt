@@ -1,0 +1,142 @@
+//! The command line, read by `clap`. No other part of the program knows of `clap`.
+//!
+//! Each command has a file here with two functions: `grammar`, what `clap` is to read and to say in
+//! its help, and `line_of`, what was read. A further command is a further file, a variant of `Line`
+//! and a line in each of `grammar` and `line_of` below.
+ghost use Rattle.tomex_line.specs.Lines.{IsRefusal, StandsFor, status_of};
+ghost use Rattle.std.specs.Prelude.{◌≡◌, IfOk, IfErr, map, string_bytes};
+ghost use Rattle.tomex_line.specs.Grammar.{tomex_app};
+ghost use Rattle.clap.specs.Words.{app_of, subcommand_rows_of};
+ghost use Rattle.tomex_line.specs.Asked.{IsCommand, IsAsked, IsNoCommand};
+ghost use Rattle.tomex_line.specs.declared.line.LineFault.TheVariants.{Memory};
+
+pub mod all;
+pub mod explore;
+pub mod run;
+pub mod times;
+mod values;
+
+use all::AllLine;
+use clap::error::ErrorKind;
+use clap::{ArgMatches, Command};
+use explore::ExploreLine;
+use run::RunLine;
+use std::alloc::{AllocError, Global};
+use times::TimesLine;
+use values::refused;
+
+/// What a command line asks for.
+#[derive(Clone, Copy, Debug)]
+pub enum Line<'a> {
+    Run(RunLine<'a>),
+    Times(TimesLine<'a>),
+    All(AllLine<'a>),
+    Explore(ExploreLine<'a>),
+}
+
+/// A command line that asks for no command.
+#[derive(Debug, Drop)]
+pub enum LineFault {
+    /// It asks for help or the version: the text, for the standard output.
+    Help(String),
+    /// It is refused: what is wrong, for the standard error.
+    Usage(String),
+    /// There was no memory to read it.
+    Memory,
+}
+
+impl LineFault {
+    /// The exit status: 0 for help, 2 for a refused line, 3 for want of memory.
+    pub fn status(&self) -> u8
+        ensures { result ≡ status_of self.now }
+    {
+        match self {
+            LineFault::Help(_) => 0,
+            LineFault::Usage(_) => 2,
+            LineFault::Memory => 3,
+        }
+    }
+}
+
+impl From<AllocError> for LineFault {
+    ghost from_gives = { λ _ fault. fault ≡ Memory };
+
+    fn from(_error: AllocError) -> LineFault {
+        LineFault::Memory
+    }
+}
+
+const ABOUT: &str = "Runs RV32IM programs, and explores Tomasulo processors that run them";
+
+const LONG_ABOUT: &str = "Runs RV32IM programs in order, and explores Tomasulo processors without
+speculation that run them.
+
+Each command makes the whole of its result before it writes any of it to the
+standard output. What is wrong is said on the standard error.";
+
+const AFTER_LONG_HELP: &str = "Exit status:
+  0  the result was written, or help
+  1  the input was refused
+  2  the command line was refused
+  3  memory, a thread, a file or a device was refused
+
+Examples:
+  tomex run mul.bin --size 4096
+  tomex times study.toml 4 mul
+  tomex explore study.toml --workers 4
+
+Numbers on the command line are decimal; in a study's TOML they may be
+hexadecimal too, as 0x10000.";
+
+fn grammar<'a>(alloc: Global) -> Result<Command<'a>, AllocError>
+    ensures { IfOk result (λ c. app_of c ≡ tomex_app) }
+{
+    Command::new(alloc, "tomex")
+        .version("0.1.0")
+        .about(ABOUT)
+        .long_about(LONG_ABOUT)
+        .after_long_help(AFTER_LONG_HELP)
+        .subcommand_required(true)
+        .subcommand(run::grammar(alloc)?)?
+        .subcommand(times::grammar(alloc)?)?
+        .subcommand(all::grammar(alloc)?)?
+        .subcommand(explore::grammar(alloc)?)
+}
+
+fn line_of<'a>(alloc: Global, matches: &ArgMatches<'a>) -> Result<Line<'a>, LineFault>
+    ensures command { IfOk result (λ line. IsCommand (subcommand_rows_of matches.now) line) }
+    ensures refused { IfErr result IsRefusal }
+{
+    match matches.subcommand() {
+        Some(("run", inner)) => Ok(Line::Run(run::line_of(alloc, inner)?)),
+        Some(("times", inner)) => Ok(Line::Times(times::line_of(alloc, inner)?)),
+        Some(("all", inner)) => Ok(Line::All(all::line_of(alloc, inner)?)),
+        Some(("explore", inner)) => Ok(Line::Explore(explore::line_of(alloc, inner)?)),
+        _ => Err(refused(alloc, "command")),
+    }
+}
+
+/// What an error of the parser says. Want of memory, also for the text itself, is no refused line.
+fn fault_of(alloc: Global, error: &clap::Error) -> LineFault
+    ensures { StandsFor error.now result }
+{
+    if error.kind() == ErrorKind::OutOfMemory {
+        return LineFault::Memory;
+    }
+    match format!(in alloc; "{error}") {
+        Ok(text) if error.use_stderr() => LineFault::Usage(text),
+        Ok(text) => LineFault::Help(text),
+        Err(_) => LineFault::Memory,
+    }
+}
+
+/// Reads a command line, the program's own name first.
+pub fn read_line<'a>(alloc: Global, words: &'a [String]) -> Result<Line<'a>, LineFault>
+    ensures asked { IfOk result (λ line. IsAsked (map string_bytes words.now) line) }
+    ensures no_command { IfErr result (λ fault. IsNoCommand (map string_bytes words.now) fault) }
+{
+    match grammar(alloc)?.try_get_matches_from(words) {
+        Ok(matches) => line_of(alloc, &matches),
+        Err(error) => Err(fault_of(alloc, &error)),
+    }
+}

@@ -1,0 +1,62 @@
+//! `all STUDY`
+ghost use Rattle.std.specs.Prelude.{◌≡◌, IfOk, IfErr};
+ghost use Rattle.tomex_line.specs.Lines.{IsRefusal};
+ghost use Rattle.tomex_line.specs.Grammar.{all_shape};
+ghost use Rattle.clap.specs.Simple.{shape_of};
+ghost use Rattle.clap.specs.Words.{found_of};
+ghost use Rattle.clap.specs.Walk.{rows_of};
+ghost use Rattle.tomex_line.specs.Values.{IsAllAsked};
+
+use super::LineFault;
+use super::values::{word, word_of};
+use clap::{ArgMatches, Command};
+use std::alloc::{AllocError, Global};
+
+/// A front report that was asked for, of rows that are all run to their ends.
+#[derive(Clone, Copy, Debug)]
+pub struct AllLine<'a> {
+    /// The name of the study's file, as written.
+    pub study: &'a str,
+}
+
+const ABOUT: &str = "Runs every configuration of a study to its end and prints the front";
+
+const LONG_ABOUT: &str =
+    "Runs every program of a study on every configuration to its end, and prints
+the front: the configurations that no other one dominates, that is, than which
+no other one costs no more and takes no more cycles, with less of one of the
+two.
+
+STUDY is a TOML document that names programs, prices, axes and unit options;
+its files are read from the current folder.
+
+The report is CSV, the same as that of `explore`, which gives up configurations
+early that can't be in the front, and so is faster.";
+
+const AFTER_LONG_HELP: &str = "Example:
+  tomex all explore.toml
+
+prints a header, and for each configuration of the front a line for each
+program, as
+  4,101,54153,1,1,1,1,1,1,1,1,1,8,1,1,1,2,1,1,1,matrix,6625,22408,ebreak,..";
+
+const STUDY_HELP: &str = "The file of the study";
+
+pub(super) fn grammar<'a>(alloc: Global) -> Result<Command<'a>, AllocError>
+    ensures { IfOk result (λ c. shape_of c ≡ all_shape) }
+{
+    Command::new(alloc, "all")
+        .about(ABOUT)
+        .long_about(LONG_ABOUT)
+        .after_long_help(AFTER_LONG_HELP)
+        .arg(word(alloc, "STUDY", STUDY_HELP))
+}
+
+pub(super) fn line_of<'a>(alloc: Global, matches: &ArgMatches<'a>) -> Result<AllLine<'a>, LineFault>
+    ensures line { IfOk result (λ line. IsAllAsked (rows_of (found_of matches.now)) line.study.now) }
+    ensures refused { IfErr result IsRefusal }
+{
+    Ok(AllLine {
+        study: word_of(alloc, matches, "STUDY")?,
+    })
+}

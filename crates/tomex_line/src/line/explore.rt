@@ -1,0 +1,85 @@
+//! `explore STUDY [--workers N]`
+ghost use Rattle.std.specs.Prelude.{◌≡◌, ◌≤◌, IfOk, IfErr};
+ghost use Rattle.tomex_line.specs.Lines.{IsRefusal};
+ghost use Rattle.tomex_line.specs.Grammar.{explore_shape};
+ghost use Rattle.clap.specs.Simple.{shape_of};
+ghost use Rattle.clap.specs.Words.{found_of};
+ghost use Rattle.clap.specs.Walk.{rows_of};
+ghost use Rattle.tomex_line.specs.Values.{IsExploreAsked};
+
+use super::LineFault;
+use super::values::{Bounds, number, number_of, word, word_of};
+use clap::{ArgMatches, Command};
+use std::alloc::{AllocError, Global};
+
+const WORKERS: Bounds = Bounds {
+    least: 1,
+    greatest: 32,
+};
+
+/// A front report that was asked for, of rows that are given up where they can't be in the front.
+#[derive(Clone, Copy, Debug)]
+pub struct ExploreLine<'a> {
+    /// The name of the study's file, as written.
+    pub study: &'a str,
+    /// How many workers share the rows.
+    pub workers: u32,
+    pub ghost workers_from: { 1 ≤ workers },
+    pub ghost workers_to: { workers ≤ 32 },
+}
+
+const ABOUT: &str = "Explores the configurations of a study and prints the front";
+
+const LONG_ABOUT: &str =
+    "Runs the programs of a study on its configurations, and prints the front: the
+configurations that no other one dominates, that is, than which no other one
+costs no more and takes no more cycles, with less of one of the two.
+
+Every 1,024 cycles of a run it is seen whether a finished configuration that
+costs no more has taken fewer; then this one is given up. The report is to the byte that of `all`, which
+runs every configuration to its end.
+
+STUDY is a TOML document that names programs, prices, axes and unit options;
+its files are read from the current folder.
+
+The report is CSV: a header, and for each configuration of the front, by cost
+and then number, a record for each program: the configuration's number, cost,
+cycles and parts, then the program's name, steps and cycles, how it ended, its
+registers that aren't zero, and the bytes of memory that it watches. `-` stands
+where there is none.";
+
+const AFTER_LONG_HELP: &str = "Examples:
+  tomex explore explore.toml
+  tomex explore explore.toml --workers 4
+
+print a header, and for each configuration of the front a line for each
+program, as
+  4,101,54153,1,1,1,1,1,1,1,1,1,8,1,1,1,2,1,1,1,matrix,6625,22408,ebreak,..";
+
+const STUDY_HELP: &str = "The file of the study";
+
+const WORKERS_HELP: &str = "How many workers share the configurations, from 1 to 32";
+
+pub(super) fn grammar<'a>(alloc: Global) -> Result<Command<'a>, AllocError>
+    ensures { IfOk result (λ c. shape_of c ≡ explore_shape) }
+{
+    Command::new(alloc, "explore")
+        .about(ABOUT)
+        .long_about(LONG_ABOUT)
+        .after_long_help(AFTER_LONG_HELP)
+        .arg(word(alloc, "STUDY", STUDY_HELP))?
+        .arg(number(alloc, "workers", WORKERS, "1", WORKERS_HELP))
+}
+
+pub(super) fn line_of<'a>(
+    alloc: Global,
+    matches: &ArgMatches<'a>,
+) -> Result<ExploreLine<'a>, LineFault>
+    ensures line { IfOk result (λ line. IsExploreAsked (rows_of (found_of matches.now)) line.study.now line.workers) }
+    ensures refused { IfErr result IsRefusal }
+{
+    Ok(ExploreLine {
+        study: word_of(alloc, matches, "STUDY")?,
+        workers: number_of(alloc, matches, "workers", WORKERS)?,
+    })
+}

@@ -1,0 +1,96 @@
+//! `times STUDY CONFIG PROGRAM`
+ghost use Rattle.std.specs.Prelude.{◌≡◌, ◌≤◌, IfOk, IfErr};
+ghost use Rattle.tomex_line.specs.Lines.{IsRefusal};
+ghost use Rattle.tomex_line.specs.Grammar.{times_shape};
+ghost use Rattle.clap.specs.Simple.{shape_of};
+ghost use Rattle.clap.specs.Words.{found_of};
+ghost use Rattle.clap.specs.Walk.{rows_of};
+ghost use Rattle.tomex_line.specs.Values.{IsTimesAsked};
+
+use super::LineFault;
+use super::values::{Bounds, number_of, numeral, word, word_of};
+use clap::{ArgMatches, Command};
+use std::alloc::{AllocError, Global};
+
+const CONFIG: Bounds = Bounds {
+    least: 0,
+    greatest: 16_383,
+};
+
+/// A times report that was asked for.
+#[derive(Clone, Copy, Debug)]
+pub struct TimesLine<'a> {
+    /// The name of the study's file, as written.
+    pub study: &'a str,
+    /// The number of the configuration.
+    pub config: u32,
+    /// The name by which the study calls the program.
+    pub program: &'a str,
+    pub ghost config_to: { config ≤ 16383 },
+}
+
+const ABOUT: &str = "Prints when each instruction of a program passes through one configuration";
+
+const LONG_ABOUT: &str = "Prints, for each instruction that a program of a study runs, the cycles in
+which it issues, gets its address, starts, finishes and ends on one of the
+study's configurations, and its reservation station.
+
+STUDY is a TOML document that names programs, prices, axes and unit options;
+its files are read from the current folder. CONFIG is the number of a
+configuration, from 0: the product of the axes, the last axis fastest. PROGRAM
+is the name of a program of the study; one that begins with `-` stands behind
+`--`. docs/STUDIES.md lists the keys of a study, and docs/MACHINE.md tells what
+the cycles mean.
+
+CONFIG is decimal, as all numbers of the command line; in the study's TOML they
+may be hexadecimal too, as 0x10000.
+
+The report is CSV: a header, a record for each instruction in program order,
+and a record of the total. Steps and cycles are counted from 1; `-` stands
+where there is no address cycle or station.";
+
+const AFTER_LONG_HELP: &str = "Exit status:
+  0  the report was written
+  1  the study or a program of it was refused, or has no such row or program
+  2  the command line was refused
+  3  memory, a file or a device was refused
+
+Example, with examples/study.toml:
+  tomex times study.toml 4 mul
+
+prints a line for each instruction, as
+  3,00000008,\"mul x3,x1,x2\",3,-,5,7,8,mul0
+and last the total, as
+  total,-,-,-,-,-,-,8,-";
+
+const STUDY_HELP: &str = "The file of the study";
+
+const CONFIG_HELP: &str = "The number of the configuration, from 0";
+
+const PROGRAM_HELP: &str = "The name of the program in the study";
+
+pub(super) fn grammar<'a>(alloc: Global) -> Result<Command<'a>, AllocError>
+    ensures { IfOk result (λ c. shape_of c ≡ times_shape) }
+{
+    Command::new(alloc, "times")
+        .about(ABOUT)
+        .long_about(LONG_ABOUT)
+        .after_long_help(AFTER_LONG_HELP)
+        .arg(word(alloc, "STUDY", STUDY_HELP))?
+        .arg(numeral(alloc, "CONFIG", CONFIG, CONFIG_HELP))?
+        .arg(word(alloc, "PROGRAM", PROGRAM_HELP))
+}
+
+pub(super) fn line_of<'a>(
+    alloc: Global,
+    matches: &ArgMatches<'a>,
+) -> Result<TimesLine<'a>, LineFault>
+    ensures line { IfOk result (λ line. IsTimesAsked (rows_of (found_of matches.now)) line.study.now line.config line.program.now) }
+    ensures refused { IfErr result IsRefusal }
+{
+    Ok(TimesLine {
+        study: word_of(alloc, matches, "STUDY")?,
+        config: number_of(alloc, matches, "CONFIG", CONFIG)?,
+        program: word_of(alloc, matches, "PROGRAM")?,
+    })
+}

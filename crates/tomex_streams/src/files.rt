@@ -1,0 +1,75 @@
+//! Where images and studies are read from.
+ghost use Rattle.std.specs.Prelude.{◌≡◌, ℕ, ◌≤◌, List, length, IfOk, IfSome, IsErrOf};
+ghost use Rattle.tomex_streams.specs.Files.{Told, Nothing, IsRead, IsMissing};
+
+use std::alloc::Allocator;
+use std::fs::File;
+use std::io::{ErrorKind, Read};
+
+/// A file was not read.
+#[derive(Clone, Copy, Debug, PartialEq, Eq)]
+pub enum ReadFault {
+    /// There is no such file, or it is a folder, too long, or may not or could not be read.
+    NoFile,
+    /// There was no memory for its bytes.
+    Memory,
+}
+
+/// Where files are read, by their names as written.
+pub trait Files {
+    /// What is known of the file of a name.
+    ghost file: { Self → List ℕ → Told };
+
+    /// All bytes of a file.
+    fn read<A: Allocator>(&self, alloc: A, name: &str) -> Result<Vec<u8, A>, ReadFault>
+        ensures bytes { IfOk result (λ bytes. IsRead (file self.now name.now) bytes.items) }
+        ensures no_file { IsErrOf result ReadFault.NoFile → IsMissing (file self.now name.now) };
+}
+
+/// The most bytes of a file that is read: 256 MiB, far above any image or study.
+const MOST_BYTES: u32 = 268_435_456;
+
+/// All bytes of a reader, where they are at most so many. Of a longer one, a device without an end
+/// for one, only one byte more than these is read.
+pub fn bytes_within<R: Read + Drop, A: Allocator>(
+    alloc: A,
+    reader: R,
+    most: u32,
+) -> Result<Vec<u8, A>, ReadFault>
+    ensures few { IfOk result (λ bytes. length bytes.items ≤ most) }
+    ensures all { IfOk result (λ bytes. IfSome (R.remaining reader) (λ held. bytes.items ≡ held)) }
+{
+    let mut bytes = Vec::new(alloc);
+    match reader.take(u64::from(most) + 1).read_to_end(&mut bytes) {
+        Ok(_) if bytes.len() <= most as usize => Ok(bytes),
+        Err(error) if error.kind() == ErrorKind::OutOfMemory => Err(ReadFault::Memory),
+        _ => Err(ReadFault::NoFile),
+    }
+}
+
+/// The files of the system, below the current folder where a name is relative. What they hold is not known.
+#[derive(Drop)]
+pub struct HostFiles<'a, R> {
+    pub rt: &'a R,
+}
+
+impl<'a, R> HostFiles<'a, R> {
+    /// The files that the runtime reaches.
+    pub fn new(rt: &'a R) -> HostFiles<'a, R>
+        ensures { result.rt ≡ rt.entry }
+    {
+        HostFiles { rt }
+    }
+}
+
+impl<'a, R: std::rt::Files> Files for HostFiles<'a, R> {
+    ghost file = { λ _ _. Nothing };
+
+    fn read<A: Allocator>(&self, alloc: A, name: &str) -> Result<Vec<u8, A>, ReadFault> {
+        match File::open(self.rt, name) {
+            Ok(file) => bytes_within(alloc, file, MOST_BYTES),
+            Err(error) if error.kind() == ErrorKind::OutOfMemory => Err(ReadFault::Memory),
+            Err(_) => Err(ReadFault::NoFile),
+        }
+    }
+}

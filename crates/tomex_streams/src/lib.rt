@@ -1,0 +1,11 @@
+//! What the program reads from and writes to: files, read whole, sinks, which may take less than they are
+//! given, and the names of files as they are shown.
+#![tactic(auto)]
+
+mod files;
+mod names;
+mod sink;
+
+pub use files::{Files, HostFiles, ReadFault, bytes_within};
+pub use names::shown;
+pub use sink::{PutFault, Sink, Stream, WriteFault, write_all_of};

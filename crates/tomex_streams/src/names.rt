@@ -1,0 +1,35 @@
+//! Names of files, as they are shown.
+ghost use Rattle.std.specs.Prelude.{◌≡◌, ◌++◌, IfOk, OnOk, string_bytes};
+ghost use Rattle.tomex_streams.specs.Names.{shown_char, shown_name};
+
+use std::alloc::{AllocError, Global};
+use std::fmt::Write;
+
+/// Adds a character: a control character as `char::escape_debug` writes it, any other as it is.
+fn push_shown(text: &mut String, letter: char) -> Result<(), AllocError>
+    ensures { OnOk result (string_bytes text.new ≡ string_bytes text.old ++ shown_char letter) }
+{
+    match letter {
+        '\0' => text.push_str("\\0"),
+        '\t' => text.push_str("\\t"),
+        '\n' => text.push_str("\\n"),
+        '\r' => text.push_str("\\r"),
+        control if control.is_control() => {
+            let code = u32::from(control);
+            Ok(write!(text, "\\u{{{code:x}}}")?)
+        }
+        letter => text.push(letter),
+    }
+}
+
+/// A name as it is shown in a line of text: no control character in it reaches the terminal, so that
+/// one line stays one.
+pub fn shown(heap: Global, name: &str) -> Result<String, AllocError>
+    ensures { IfOk result (λ text. string_bytes text ≡ shown_name name.now) }
+{
+    let mut text = String::new(heap);
+    for letter in name.chars() {
+        push_shown(&mut text, letter)?;
+    }
+    Ok(text)
+}

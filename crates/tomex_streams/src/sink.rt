@@ -1,0 +1,105 @@
+//! Where a text goes: a sink takes bytes a piece at a time, and may take less than it is given or fail.
+ghost use Rattle.std.specs.Prelude.{◌≡◌, ◌<◌, ◌≤◌, ℕ, List, length, take, Option, IfOk, IfErr, OnOk, OnErr};
+ghost use Rattle.std.specs.Io.KnownBytes.{Appends, Keeps};
+ghost use Rattle.tomex_streams.specs.Sinks.{Rises};
+
+use std::io::Write;
+
+/// A sink failed, and took nothing of the piece.
+#[derive(Clone, Copy, Debug, PartialEq, Eq)]
+pub struct PutFault;
+
+/// What takes bytes.
+///
+/// A contract sees a sink as the bytes that it took, where it tells them, and as a count of its faults:
+/// the puts that failed, or that took nothing of a piece that was not empty. The count is a number of 64
+/// bits in the sink itself, so it stops at its greatest value. Hence `Rises` has a premise: the count went
+/// up unless it stood at that value. No sink can get there, since a put takes longer than a nanosecond
+/// and 2^64 of them would take centuries.
+pub trait Sink {
+    /// The bytes that it took so far, where it tells them.
+    ghost taken: { Self → Option (List ℕ) };
+
+    /// How many puts were faults.
+    ghost faults: { Self → ℕ };
+
+    /// Takes a first part of the piece, and answers how many bytes of it.
+    fn put(&mut self, piece: &[u8]) -> Result<usize, PutFault>
+        ensures within { IfOk result (λ count. count ≤ length piece.now) }
+        ensures ok { IfOk result (λ count. Appends (taken self.old) (taken self.new) (take count piece.now)) }
+        ensures err { OnErr result (Keeps (taken self.old) (taken self.new)) }
+
+        // A put that failed or took nothing is counted, and no other is.
+        ensures failed { OnErr result (Rises (faults self.old) (faults self.new)) }
+        ensures nothing { IfOk result (λ count. count ≡ 0 → 0 < length piece.now
+            → Rises (faults self.old) (faults self.new)) }
+        ensures fine { IfOk result (λ count. (count ≡ 0 → length piece.now ≡ 0)
+            → faults self.new ≡ faults self.old) };
+}
+
+/// A write stopped: the sink took this many first bytes, and no more.
+#[derive(Clone, Copy, Debug, PartialEq, Eq)]
+pub struct WriteFault {
+    pub written: usize,
+}
+
+/// Writes all of the bytes, piece by piece. It stops at the first put that fails or takes nothing.
+pub fn write_all_of<W: Sink>(sink: &mut W, bytes: &[u8]) -> Result<(), WriteFault>
+    ensures all { OnOk result (Appends (W.taken sink.old) (W.taken sink.new) bytes.now) }
+    ensures first { IfErr result (λ fault. Appends (W.taken sink.old) (W.taken sink.new) (take fault.written bytes.now)) }
+    ensures short { IfErr result (λ fault. fault.written < length bytes.now) }
+
+    // It fails by a fault of the sink, and by nothing else.
+    ensures fault { OnErr result (Rises (W.faults sink.old) (W.faults sink.new)) }
+    ensures no_fault { OnOk result (W.faults sink.new ≡ W.faults sink.old) }
+{
+    let mut written = 0;
+    while written < bytes.len() {
+        match sink.put(&bytes[written..]) {
+            Ok(0) => return Err(WriteFault { written }),
+            Ok(count) => written += count,
+            Err(PutFault) => return Err(WriteFault { written }),
+        }
+    }
+    Ok(())
+}
+
+/// A writer of the standard library as a sink, as the standard output is one. A write that a signal
+/// interrupts is a fault like any other: the program installs no handler, so none is.
+#[derive(Drop)]
+pub struct Stream<W: Write + Drop> {
+    pub writer: W,
+    /// How many puts were faults.
+    pub faults: u64,
+}
+
+impl<W: Write + Drop> Stream<W> {
+    /// A stream with no faults so far.
+    pub fn new(writer: W) -> Stream<W>
+        ensures writer { result.writer ≡ writer }
+        ensures no_fault { result.faults ≡ 0 }
+    {
+        Stream { writer, faults: 0 }
+    }
+}
+
+impl<W: Write + Drop> Sink for Stream<W> {
+    ghost taken = { λ stream. W.contents stream.writer };
+
+    ghost faults = { λ stream. stream.faults };
+
+    fn put(&mut self, piece: &[u8]) -> Result<usize, PutFault> {
+        match self.writer.write(piece) {
+            Ok(count) => {
+                if count == 0 && !piece.is_empty() {
+                    self.faults = self.faults.saturating_add(1);
+                }
+                Ok(count)
+            }
+            Err(_) => {
+                self.faults = self.faults.saturating_add(1);
+                Err(PutFault)
+            }
+        }
+    }
+}

@@ -1,0 +1,368 @@
+//! Whole runs of the program over files in memory: what they print, and their statuses.
+use crate::in_memory::{Narrow, Shelf};
+use tomex_command::command;
+use std::alloc::Global;
+use std::process::Abort;
+use std::test::Fail;
+use std::thread::Threads;
+
+/// What a run of the program left behind.
+#[derive(Drop)]
+pub struct Outcome {
+    pub status: u8,
+    pub out: Vec<u8>,
+    pub err: Vec<u8>,
+}
+
+/// Runs the program on these words over these files, and a standard output that takes so many bytes.
+pub fn outcome_of<R: AllocGlobal + Threads + Sync>(
+    rt: &R,
+    files: &[(&str, &[u8])],
+    words: &[&str],
+    room: usize,
+) -> Result<Outcome, Fail> {
+    let mut line = Vec::new(rt.alloc());
+    for word in words {
+        line.push(String::from_str(rt.alloc(), word)?)?;
+    }
+    let mut out = Narrow::new(rt.alloc(), room, 1000);
+    let mut err = Narrow::new(rt.alloc(), 10_000, 1000);
+    let status = command(
+        rt,
+        rt.alloc(),
+        rt.alloc(),
+        line.as_slice(),
+        &Shelf { files },
+        &mut out,
+        &mut err,
+    );
+    Ok(Outcome {
+        status,
+        out: out.bytes,
+        err: err.bytes,
+    })
+}
+
+/// Runs the program on these words, over the one file `image` or none.
+fn run_into<R: AllocGlobal + Threads + Sync>(
+    rt: &R,
+    image: Option<&[u8]>,
+    words: &[&str],
+    room: usize,
+) -> Result<Outcome, Fail> {
+    match image {
+        Some(bytes) => outcome_of(rt, [("image", bytes)].as_slice(), words, room),
+        None => outcome_of(rt, [].as_slice(), words, room),
+    }
+}
+
+/// The words come to this status, output and telling.
+pub fn comes_to<R: Abort + AllocGlobal + Threads + Sync>(
+    rt: &R,
+    files: &[(&str, &[u8])],
+    words: &[&str],
+    wanted: (u8, &str, &str),
+) -> Result<(), Fail> {
+    let outcome = outcome_of(rt, files, words, 10_000)?;
+    let (status, out, err) = wanted;
+    assert_eq!(rt; outcome.out.as_slice(), out.as_bytes());
+    assert_eq!(rt; outcome.err.as_slice(), err.as_bytes());
+    assert_eq!(rt; outcome.status, status);
+    Ok(())
+}
+
+/// The text of a run that ends: the registers that aren't zero, and the last line.
+pub fn text_of(alloc: Global, registers: &[(usize, u32)], last: &str) -> Result<String, Fail> {
+    let mut text = String::new(alloc);
+    for register in 0..32usize {
+        let mut value = 0;
+        for (number, held) in registers {
+            if *number == register {
+                value = *held;
+            }
+        }
+        text.push_str(format!(in alloc; "x{register}={value:08x}\n")?.as_str())?;
+    }
+    text.push_str(last)?;
+    text.push_str("\n")?;
+    Ok(text)
+}
+
+/// The image ends so: these registers aren't zero, and this is the last line.
+pub fn ends<R: Abort + AllocGlobal + Threads + Sync>(
+    rt: &R,
+    image: &[u8],
+    options: &[&str],
+    registers: &[(usize, u32)],
+    last: &str,
+) -> Result<(), Fail> {
+    let mut words = Vec::new(rt.alloc());
+    words.extend_from_slice(["tomex", "run", "image"].as_slice())?;
+    words.extend_from_slice(options)?;
+    let outcome = run_into(rt, Some(image), words.as_slice(), 10_000)?;
+    let text = text_of(rt.alloc(), registers, last)?;
+    assert_eq!(rt; outcome.out.as_slice(), text.as_bytes());
+    assert_eq!(rt; outcome.err.as_slice(), b"".as_slice());
+    assert_eq!(rt; outcome.status, 0);
+    Ok(())
+}
+
+/// The line is refused so: this is all that is told, and this is the status.
+pub fn fails<R: Abort + AllocGlobal + Threads + Sync>(
+    rt: &R,
+    image: Option<&[u8]>,
+    options: &[&str],
+    told: &str,
+    status: u8,
+) -> Result<(), Fail> {
+    let mut words = Vec::new(rt.alloc());
+    words.extend_from_slice(["tomex", "run", "image"].as_slice())?;
+    words.extend_from_slice(options)?;
+    let outcome = run_into(rt, image, words.as_slice(), 10_000)?;
+    assert_eq!(rt; outcome.out.as_slice(), b"".as_slice());
+    assert_eq!(rt; outcome.err.as_slice(), told.as_bytes());
+    assert_eq!(rt; outcome.status, status);
+    Ok(())
+}
+
+/// `addi x1,x0,5; addi x2,x0,7; mul x3,x1,x2; ebreak`
+pub const PRODUCT: &[u8; 16] = b"\x93\x00\x50\x00\x13\x01\x70\x00\xb3\x81\x20\x02\x73\x00\x10\x00";
+
+/// The registers at the end of the product.
+pub const PRODUCT_END: [(usize, u32); 3] = [(1, 5), (2, 7), (3, 0x23)];
+
+#[test]
+fn flat_images_end(rt: HostRuntime) -> Result<(), Fail> {
+    let product = PRODUCT.as_slice();
+    let last = "ebreak at 0000000c after 4";
+    ends(&rt, product, [].as_slice(), PRODUCT_END.as_slice(), last)?;
+    ends(
+        &rt,
+        product,
+        ["--limit", "4"].as_slice(),
+        PRODUCT_END.as_slice(),
+        last,
+    )?;
+    // lui x5,74565
+    let lui = b"\xb7\x52\x34\x12\x73\x00\x10\x00".as_slice();
+    let registers = [(2, 0x10000), (5, 0x12345000)];
+    ends(
+        &rt,
+        lui,
+        [].as_slice(),
+        registers.as_slice(),
+        "ebreak at 00000004 after 2",
+    )?;
+    let ecall = b"\x73\x00\x00\x00".as_slice();
+    ends(
+        &rt,
+        ecall,
+        [].as_slice(),
+        [(2, 0x10000)].as_slice(),
+        "ecall at 00000000 after 1",
+    )
+}
+
+#[test]
+fn memory_is_read_and_written(rt: HostRuntime) -> Result<(), Fail> {
+    // addi x8,x0,256; addi x1,x0,768; sw x1,0(x8); lb x2,1(x8)
+    let byte = b"\x13\x04\x00\x10\x93\x00\x00\x30\x23\x20\x14\x00\x03\x01\x14\x00\x73\x00\x10\x00";
+    let registers = [(1, 768), (2, 3), (8, 256)];
+    ends(
+        &rt,
+        byte.as_slice(),
+        [].as_slice(),
+        registers.as_slice(),
+        "ebreak at 00000010 after 5",
+    )?;
+    // sw x0,8(x0); addi x1,x0,1; addi x3,x0,9: the word at 8 is written, and runs as it was loaded.
+    let own = b"\x23\x24\x00\x00\x93\x00\x10\x00\x93\x01\x90\x00\x73\x00\x10\x00";
+    let registers = [(1, 1), (2, 0x10000), (3, 9)];
+    ends(
+        &rt,
+        own.as_slice(),
+        [].as_slice(),
+        registers.as_slice(),
+        "ebreak at 0000000c after 4",
+    )?;
+    // lw x1,-4(x0) at the top of the address space
+    let top = ["--base", "4294963200", "--size", "4096"];
+    let last = b"\x83\x20\xc0\xff\x73\x00\x10\x00".as_slice();
+    ends(
+        &rt,
+        last,
+        top.as_slice(),
+        [].as_slice(),
+        "ebreak at fffff004 after 2",
+    )?;
+    // lw x1,-2(x0) there has bytes past it, which don't wrap.
+    let past = b"\x83\x20\xe0\xff\x73\x00\x10\x00".as_slice();
+    fails(
+        &rt,
+        Some(past),
+        top.as_slice(),
+        "tomex: fault: access at fffff000\n",
+        1,
+    )
+}
+
+#[test]
+fn targets_are_multiples_of_four(rt: HostRuntime) -> Result<(), Fail> {
+    let taken = b"\x63\x01\x00\x00".as_slice();
+    fails(
+        &rt,
+        Some(taken),
+        [].as_slice(),
+        "tomex: fault: misaligned target at 00000000\n",
+        1,
+    )?;
+    let not_taken = b"\x63\x11\x00\x00\x73\x00\x10\x00".as_slice();
+    ends(
+        &rt,
+        not_taken,
+        [].as_slice(),
+        [(2, 0x10000)].as_slice(),
+        "ebreak at 00000004 after 2",
+    )
+}
+
+#[test]
+fn limits(rt: HostRuntime) -> Result<(), Fail> {
+    let product = Some(PRODUCT.as_slice());
+    fails(
+        &rt,
+        product,
+        ["--limit", "3"].as_slice(),
+        "tomex: too long\n",
+        1,
+    )?;
+    let for_ever = Some(b"\x6f\x00\x00\x00".as_slice());
+    fails(
+        &rt,
+        for_ever,
+        ["--limit", "262144"].as_slice(),
+        "tomex: too long\n",
+        1,
+    )
+}
+
+#[test]
+fn bad_windows_and_images(rt: HostRuntime) -> Result<(), Fail> {
+    let product = Some(PRODUCT.as_slice());
+    fails(
+        &rt,
+        product,
+        ["--base", "2"].as_slice(),
+        "tomex: bad window\n",
+        1,
+    )?;
+    fails(
+        &rt,
+        product,
+        ["--size", "6"].as_slice(),
+        "tomex: bad window\n",
+        1,
+    )?;
+    fails(
+        &rt,
+        None,
+        ["--base", "4294967292"].as_slice(),
+        "tomex: bad window\n",
+        1,
+    )?;
+    fails(
+        &rt,
+        product,
+        ["--size", "12"].as_slice(),
+        "tomex: image: too large\n",
+        1,
+    )?;
+    fails(
+        &rt,
+        Some(b"".as_slice()),
+        [].as_slice(),
+        "tomex: image: empty\n",
+        1,
+    )?;
+    let zeros = Some(b"\x00\x00\x00\x00".as_slice());
+    fails(
+        &rt,
+        zeros,
+        [].as_slice(),
+        "tomex: fault: illegal at 00000000\n",
+        1,
+    )?;
+    let three = Some(b"\x7f\x45\x4c".as_slice());
+    fails(
+        &rt,
+        three,
+        [].as_slice(),
+        "tomex: fault: illegal at 00000000\n",
+        1,
+    )?;
+    fails(&rt, None, [].as_slice(), "tomex: cannot read image\n", 3)
+}
+
+#[test]
+fn lines_that_the_parser_ends(rt: HostRuntime) -> Result<(), Fail> {
+    let refused = [
+        ["tomex"].as_slice(),
+        ["tomex", "jump"].as_slice(),
+        ["tomex", "run"].as_slice(),
+        ["tomex", "run", "image", "--limit", "0"].as_slice(),
+        ["tomex", "run", "image", "--limit", "262145"].as_slice(),
+        ["tomex", "run", "image", "--size", "x"].as_slice(),
+        ["tomex", "run", "image", "--base", "0", "--base", "0"].as_slice(),
+    ];
+    for words in refused {
+        let outcome = run_into(&rt, None, words, 10_000)?;
+        assert_eq!(rt; outcome.status, 2);
+        assert_eq!(rt; outcome.out.len(), 0);
+        assert!(rt; outcome.err.len() > 0);
+    }
+    for words in [
+        ["tomex", "--help"].as_slice(),
+        ["tomex", "run", "-h"].as_slice(),
+    ] {
+        let outcome = run_into(&rt, None, words, 10_000)?;
+        assert_eq!(rt; outcome.status, 0);
+        assert!(rt; outcome.out.len() > 0);
+        assert_eq!(rt; outcome.err.len(), 0);
+    }
+    Ok(())
+}
+
+#[test]
+fn names_are_shown_on_one_line(rt: HostRuntime) -> Result<(), Fail> {
+    for (name, shown) in [
+        ("a b\\\"é", "a b\\\"é"),
+        ("a\n\r\t\0b", "a\\n\\r\\t\\0b"),
+        ("\x1b[2J\x7f", "\\u{1b}[2J\\u{7f}"),
+        ("\u{85}\u{9f}\u{a0}", "\\u{85}\\u{9f}\u{a0}"),
+    ] {
+        let told = format!(in rt.alloc(); "tomex: cannot read {shown}\n")?;
+        let words = ["tomex", "run", name];
+        comes_to(&rt, [].as_slice(), words.as_slice(), (3, "", told.as_str()))?;
+        // So does Rust show the characters that have to be escaped.
+        for letter in name.chars() {
+            if letter.is_control() {
+                let mut escaped = String::new(rt.alloc());
+                for part in letter.escape_debug() {
+                    escaped.push(part)?;
+                }
+                assert!(rt; shown.contains(escaped.as_str()), "{escaped}");
+            }
+        }
+    }
+    Ok(())
+}
+
+#[test]
+fn a_full_device(rt: HostRuntime) -> Result<(), Fail> {
+    let words = ["tomex", "run", "image"];
+    let outcome = run_into(&rt, Some(PRODUCT.as_slice()), words.as_slice(), 10)?;
+    assert_eq!(rt; outcome.status, 3);
+    assert_eq!(rt; outcome.out.as_slice(), b"x0=0000000".as_slice());
+    assert_eq!(rt; outcome.err.as_slice(), b"tomex: cannot write\n".as_slice());
+    Ok(())
+}

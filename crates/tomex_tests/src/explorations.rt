@@ -1,0 +1,188 @@
+//! Front reports, over studies and programs in memory.
+use super::commands::PRODUCT;
+use crate::in_memory::{Narrow, Shelf, words};
+use tomex_command::command;
+use tomex_streams::{WriteFault, write_all_of};
+use std::process::Abort;
+use std::test::Fail;
+use std::thread::Threads;
+
+/// `addi x1,x0,499; addi x1,x1,-1; bne x1,x0,-4; ebreak`, 1,000 steps
+pub const LOOP: &[u8; 16] = b"\x93\x00\x30\x1f\x93\x80\xf0\xff\xe3\x9e\x00\xfe\x73\x00\x10\x00";
+
+/// Two rows, of two alu stations and of one.
+pub const PRICED: &str = "[[program]]\nname = \"mul\"\nfile = \"mul.bin\"\n[prices]\nalu = 10\n\
+    [axes]\nalu = [2, 1]\n[[unit.mul]]\nlatency = 3\n";
+
+/// Two rows, of a fast alu unit and of a slow one that costs more.
+pub const DROPPED: &str = "[[program]]\nname = \"loop\"\nfile = \"loop.bin\"\n\
+    [[unit.alu]]\nlatency = 1\nprice = 5\n[[unit.alu]]\nlatency = 10\nprice = 9\n";
+
+/// One row of two programs, the second of which watches its first word.
+const TWO: &str = "[[program]]\nname = \"mul\"\nfile = \"mul.bin\"\n\
+    [[program]]\nname = \"loop\"\nfile = \"loop.bin\"\nwatch = [[0, 4]]\n";
+
+/// The header of a front report.
+macro_rules! with_header {
+    ($records:expr) => {
+        concat!(
+            "row,cost,cycles,alu,mul,div,load,store,bru,alu_units,alu_latency,mul_units,mul_latency,\
+             div_units,div_latency,mem_units,mem_latency,bru_units,bru_latency,buses,program,steps,\
+             program_cycles,end,regs,watch\n",
+            $records
+        )
+    };
+}
+
+pub const PRICED_REPORT: &str = with_header!(
+    "1,10,10,1,1,1,1,1,1,1,1,1,3,1,1,1,1,1,1,1,mul,4,10,ebreak,x1=00000005 x2=00000007 x3=00000023,-\n\
+     0,20,8,2,1,1,1,1,1,1,1,1,3,1,1,1,1,1,1,1,mul,4,8,ebreak,x1=00000005 x2=00000007 x3=00000023,-\n"
+);
+
+pub const DROPPED_REPORT: &str = with_header!(
+    "0,5,2000,1,1,1,1,1,1,1,1,1,1,1,1,1,1,1,1,1,loop,1000,2000,ebreak,x2=00010000,-\n"
+);
+
+const REPORT_OF_TWO: &str = with_header!(
+    "0,0,2008,1,1,1,1,1,1,1,1,1,1,1,1,1,1,1,1,1,mul,4,8,ebreak,x1=00000005 x2=00000007 x3=00000023,-\n\
+     0,0,2008,1,1,1,1,1,1,1,1,1,1,1,1,1,1,1,1,1,loop,1000,2000,ebreak,x2=00010000,00000000:9300301f\n"
+);
+
+/// The line comes to this status, output and telling, where the study has these bytes and the output
+/// takes so many.
+fn comes_to<R: Abort + AllocGlobal + Threads + Sync>(
+    rt: &R,
+    line: &str,
+    study: &[u8],
+    room: usize,
+    wanted: (u8, &str, &str),
+) -> Result<(), Fail> {
+    let files = [
+        ("study", study),
+        ("mul.bin", PRODUCT.as_slice()),
+        ("loop.bin", LOOP.as_slice()),
+    ];
+    let shelf = Shelf {
+        files: files.as_slice(),
+    };
+    let line = words(rt.alloc(), line)?;
+    let mut out = Narrow::new(rt.alloc(), room, 1000);
+    let mut err = Narrow::new(rt.alloc(), 10_000, 1000);
+    let status = command(
+        rt,
+        rt.alloc(),
+        rt.alloc(),
+        line.as_slice(),
+        &shelf,
+        &mut out,
+        &mut err,
+    );
+    let (wanted_status, wanted_out, wanted_err) = wanted;
+    assert_eq!(rt; out.bytes.as_slice(), wanted_out.as_bytes());
+    assert_eq!(rt; err.bytes.as_slice(), wanted_err.as_bytes());
+    assert_eq!(rt; status, wanted_status);
+    Ok(())
+}
+
+#[test]
+fn worked_reports(rt: HostRuntime) -> Result<(), Fail> {
+    for (study, report) in [
+        (PRICED, PRICED_REPORT),
+        (DROPPED, DROPPED_REPORT),
+        (TWO, REPORT_OF_TWO),
+    ] {
+        for line in [
+            "tomex all study",
+            "tomex explore study",
+            "tomex explore study --workers 2",
+            "tomex explore --workers=32 study",
+        ] {
+            comes_to(&rt, line, study.as_bytes(), 10_000, (0, report, ""))?;
+        }
+    }
+    Ok(())
+}
+
+#[test]
+fn studies_that_no_report_is_made_of(rt: HostRuntime) -> Result<(), Fail> {
+    let missing = "[[program]]\nname = \"a\"\nfile = \"a.bin\"\n";
+    for line in ["tomex all study", "tomex explore study"] {
+        for (study, status, told) in [
+            ("", 1, "tomex: study: top: program missing\n"),
+            (missing, 3, "tomex: cannot read a.bin\n"),
+        ] {
+            comes_to(&rt, line, study.as_bytes(), 10_000, (status, "", told))?;
+        }
+        let stations = format!(in rt.alloc(); "{PRICED}[stations]\n")?;
+        let told = "tomex: study: top: unknown key\n";
+        comes_to(&rt, line, stations.as_bytes(), 10_000, (1, "", told))?;
+    }
+    comes_to(
+        &rt,
+        "tomex explore other",
+        b"".as_slice(),
+        100,
+        (3, "", "tomex: cannot read other\n"),
+    )
+}
+
+#[test]
+fn numbers_of_workers(rt: HostRuntime) -> Result<(), Fail> {
+    let shelf = Shelf {
+        files: [].as_slice(),
+    };
+    for line in [
+        "tomex explore study --workers 0",
+        "tomex explore study --workers 33",
+        "tomex explore",
+        "tomex all",
+        "tomex all study --workers 1",
+    ] {
+        let line = words(rt.alloc(), line)?;
+        let mut out = Narrow::new(rt.alloc(), 10_000, 1000);
+        let mut err = Narrow::new(rt.alloc(), 10_000, 1000);
+        let status = command(
+            &rt,
+            rt.alloc(),
+            rt.alloc(),
+            line.as_slice(),
+            &shelf,
+            &mut out,
+            &mut err,
+        );
+        assert_eq!(rt; status, 2);
+        assert_eq!(rt; out.bytes.len(), 0);
+        assert!(rt; err.bytes.len() > 0);
+    }
+    Ok(())
+}
+
+#[test]
+fn writers_that_fail_on_their_way(rt: HostRuntime) -> Result<(), Fail> {
+    let report = DROPPED_REPORT.as_bytes();
+    for room in 0..report.len() {
+        let mut sink = Narrow::new(rt.alloc(), room, 1000);
+        assert_eq!(rt;
+            write_all_of(&mut sink, report),
+            Err(WriteFault { written: room })
+        );
+        assert_eq!(rt; sink.bytes.as_slice(), &report[..room]);
+    }
+    let mut slow = Narrow::new(rt.alloc(), report.len(), 1);
+    assert_eq!(rt; write_all_of(&mut slow, report), Ok(()));
+    assert_eq!(rt; slow.bytes.as_slice(), report);
+    let mut silent = Narrow::new(rt.alloc(), 0, 1);
+    silent.is_silent = true;
+    assert_eq!(rt;
+        write_all_of(&mut silent, report),
+        Err(WriteFault { written: 0 })
+    );
+    for room in [0, 1, 100, report.len() - 1] {
+        let (taken, _) = DROPPED_REPORT.split_at(room);
+        for line in ["tomex all study", "tomex explore study"] {
+            let wanted = (3, taken, "tomex: cannot write\n");
+            comes_to(&rt, line, DROPPED.as_bytes(), room, wanted)?;
+        }
+    }
+    Ok(())
+}

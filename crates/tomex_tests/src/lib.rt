@@ -1,0 +1,29 @@
+//! The tests of the product from studies up, in one place: a crate with tests is proved twice. They say
+//! what no contract does, compare with results that were made by other means, and refuse each growth of
+//! each call in turn.
+#![tactic(auto)]
+
+#[cfg(test)]
+mod boards;
+#[cfg(test)]
+mod broken_images;
+#[cfg(test)]
+mod commands;
+#[cfg(test)]
+mod compiled;
+#[cfg(test)]
+mod documents;
+#[cfg(test)]
+mod elf_images;
+#[cfg(test)]
+mod explorations;
+#[cfg(test)]
+mod in_memory;
+#[cfg(test)]
+mod lines;
+#[cfg(test)]
+mod programs;
+#[cfg(test)]
+mod refused_memory;
+#[cfg(test)]
+mod times;

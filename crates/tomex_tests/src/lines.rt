@@ -1,0 +1,127 @@
+//! What no contract says of the command line: how the words of a line are read, and the parser's texts.
+
+use crate::in_memory::{Narrow, words};
+use std::alloc::{AllocError, Global};
+use std::test::Fail;
+use tomex_command::tell_line_fault;
+use tomex_line::{Line, LineFault, read_line};
+
+/// What the words after the program's name come to: the name and the numbers of a run, or the kind of
+/// the fault and its text.
+fn told(alloc: Global, line: &str) -> Result<String, AllocError> {
+    let line = format!(in alloc; "tomex {line}")?;
+    let words = words(alloc, line.as_str())?;
+    match read_line(alloc, words.as_slice()) {
+        Ok(Line::Run(run)) => {
+            format!(in alloc; "run {} {} {} {}", run.image, run.base, run.size, run.limit)
+        }
+        Ok(Line::Times(times)) => {
+            format!(in alloc; "times {} {} {}", times.study, times.config, times.program)
+        }
+        Ok(Line::All(all)) => format!(in alloc; "all {}", all.study),
+        Ok(Line::Explore(explore)) => {
+            format!(in alloc; "explore {} {}", explore.study, explore.workers)
+        }
+        Err(LineFault::Help(text)) => format!(in alloc; "help {text}"),
+        Err(LineFault::Usage(text)) => format!(in alloc; "usage {text}"),
+        Err(LineFault::Memory) => String::from_str(alloc, "memory"),
+    }
+}
+
+#[test]
+fn lines_are_read(rt: HostRuntime) -> Result<(), Fail> {
+    for (line, start) in [
+        ("run mul.bin", "run mul.bin 0 65536 262144"),
+        (
+            "run a --base 4294967292 --size 4 --limit 1",
+            "run a 4294967292 4 1",
+        ),
+        ("times study 0 a", "times study 0 a"),
+        ("times study 16383 -- -a", "times study 16383 -a"),
+        (
+            "run --limit=262144 --size=1048576 a",
+            "run a 0 1048576 262144",
+        ),
+        ("run --size 4 -- -x", "run -x 0 4 262144"),
+        ("all study.toml", "all study.toml"),
+        ("explore study.toml", "explore study.toml 1"),
+        ("explore --workers 32 a", "explore a 32"),
+        ("--help", "help Runs RV32IM programs"),
+        ("-h", "help Runs RV32IM programs"),
+        ("run --help", "help Runs an image"),
+        ("run -h", "help Runs an image"),
+        ("help run", "help Runs an image"),
+        ("--version", "help tomex 0.1.0\n"),
+        ("walk", "usage error: unrecognized subcommand 'walk'"),
+    ] {
+        let text = told(rt.alloc(), line)?;
+        assert!(rt; text.starts_with(start), "{line}: {text}");
+    }
+    Ok(())
+}
+
+#[test]
+fn lines_are_refused(rt: HostRuntime) -> Result<(), Fail> {
+    for line in [
+        "run a --base 4294967293",
+        "run a --base -4",
+        "run a --base 0x10",
+        "run a --size 3",
+        "run a --size 1048577",
+        "run a --size 8 --size 8",
+        "run a --limit 0",
+        "run a --limit 262145",
+        "run a b",
+        "run",
+        "times study 16384 a",
+        "times study 0x1 a",
+        "times study 0",
+    ] {
+        let text = told(rt.alloc(), line)?;
+        assert!(rt; text.starts_with("usage error: "), "{line}: {text}");
+    }
+    let name = words(rt.alloc(), "tomex")?;
+    assert!(rt;
+        matches!(
+            read_line(rt.alloc(), name.as_slice()),
+            Err(LineFault::Usage(_))
+        )
+    );
+    Ok(())
+}
+
+#[test]
+fn faults_of_a_line_are_told(rt: HostRuntime) -> Result<(), Fail> {
+    let alloc = rt.alloc();
+    for (fault, room, status, output, error) in [
+        (
+            LineFault::Help(String::from_str(alloc, "help")?),
+            100,
+            0,
+            "help",
+            "",
+        ),
+        (
+            LineFault::Help(String::from_str(alloc, "help")?),
+            2,
+            3,
+            "he",
+            "tomex: cannot write\n",
+        ),
+        (
+            LineFault::Usage(String::from_str(alloc, "usage")?),
+            100,
+            2,
+            "",
+            "usage",
+        ),
+        (LineFault::Memory, 100, 3, "", "tomex: out of memory\n"),
+    ] {
+        let mut out = Narrow::new(alloc, room, 3);
+        let mut err = Narrow::new(alloc, 100, 3);
+        assert_eq!(rt; tell_line_fault(&fault, &mut out, &mut err), status);
+        assert_eq!(rt; out.bytes.as_slice(), output.as_bytes());
+        assert_eq!(rt; err.bytes.as_slice(), error.as_bytes());
+    }
+    Ok(())
+}

@@ -1,0 +1,87 @@
+//! Whole runs of the program, whose command line takes other memory.
+
+use super::{Heap, Try};
+use tomex_command::command;
+use crate::commands::{PRODUCT, PRODUCT_END, text_of};
+use crate::elf_images::ELF;
+use crate::explorations::{DROPPED, DROPPED_REPORT, LOOP};
+use crate::times::{REPORT, STUDY};
+use crate::in_memory::{Narrow, Shelf, words};
+use std::alloc::{AllocError, Global};
+use std::test::Fail;
+use std::thread::Threads;
+use tomex_refuse::{Budget, Refusing};
+
+/// Runs the program on a command line over files in memory, which is to print this.
+fn command_in<R: Threads + Sync>(
+    rt: &R,
+    heap: Heap,
+    other: Global,
+    line: &str,
+    files: &[(&str, &[u8])],
+    output: &str,
+) -> Result<Try, AllocError> {
+    let words = words(other, line)?;
+    let shelf = Shelf { files };
+    let mut out = Narrow::new(other, 10_000, 1000);
+    let mut err = Narrow::new(other, 10_000, 1000);
+    let status = command(
+        rt,
+        heap,
+        other,
+        words.as_slice(),
+        &shelf,
+        &mut out,
+        &mut err,
+    );
+    let told = err.bytes.as_slice() == b"tomex: out of memory\n".as_slice();
+    match status {
+        0 => Ok(Try::right_if(out.bytes.as_slice() == output.as_bytes())),
+        3 if told && out.bytes.is_empty() => Ok(Try::Refused),
+        _ => Ok(Try::Wrong),
+    }
+}
+
+#[test]
+fn of_run(rt: HostRuntime) -> Result<(), Fail> {
+    let other = rt.alloc();
+    let text = text_of(other, PRODUCT_END.as_slice(), "ebreak at 0001000c after 4")?;
+    let named = [("image", ELF.as_slice())];
+    let files = named.as_slice();
+    let line = "tomex run image --base 65536";
+    let granted =
+        refusals_of!(other, heap => command_in(&rt, heap, other, line, files, text.as_str())?);
+    // The file's bytes, the window's, those that the run changes, and the text.
+    assert!(rt; matches!(granted, Some(granted) if granted > 3));
+    Ok(())
+}
+
+#[test]
+fn of_times(rt: HostRuntime) -> Result<(), Fail> {
+    let other = rt.alloc();
+    let named = [("study", STUDY.as_bytes()), ("mul.bin", PRODUCT.as_slice())];
+    let files = named.as_slice();
+    let line = "tomex times study 1 mul";
+    let granted = refusals_of!(other, heap => command_in(&rt, heap, other, line, files, REPORT)?);
+    // The study's bytes and its file's, names, the program, rows, costs, steps, times and the text.
+    assert!(rt; matches!(granted, Some(granted) if granted > 10));
+    Ok(())
+}
+
+#[test]
+fn of_explorations(rt: HostRuntime) -> Result<(), Fail> {
+    let other = rt.alloc();
+    let named = [("study", DROPPED.as_bytes()), ("loop.bin", LOOP.as_slice())];
+    let files = named.as_slice();
+    for line in [
+        "tomex all study",
+        "tomex explore study",
+        "tomex explore study --workers 2",
+    ] {
+        let granted =
+            refusals_of!(other, heap => command_in(&rt, heap, other, line, files, DROPPED_REPORT)?);
+        // What a times report takes but for steps and times; marks, machines, the front and its ends.
+        assert!(rt; matches!(granted, Some(granted) if granted > 15));
+    }
+    Ok(())
+}

@@ -1,0 +1,148 @@
+//! Runs of all rows, explorations, replays, front reports and answers.
+
+use super::{Attempt, Heap, Try, refusals};
+use crate::explorations::{DROPPED, DROPPED_REPORT, LOOP};
+use std::alloc::{AllocError, Global};
+use std::test::Fail;
+use std::thread::Threads;
+use tomex_refuse::{Budget, Refusing};
+use tomex_report::{AnswerError, StudyError, answer, answer_all, front_report, read_study, replay};
+use tomex_sweep::{Mark, OpenGate, Outcome, Study, SweepError, explore, run_all};
+
+/// Memory that is never refused, of the kind of a try's.
+fn ample(other: Global) -> Result<Heap, AllocError> {
+    Ok(Refusing::new(other, Budget::new(other, u64::MAX)?))
+}
+
+/// The files of the study.
+fn files_in(other: Global) -> Result<Vec<Vec<u8, Heap>>, AllocError> {
+    Ok(vec![in other; LOOP.as_slice().to_vec(ample(other)?)?]?)
+}
+
+/// The study of a fast row and a slow one that costs more, in ample memory.
+fn study_in(other: Global) -> Result<Study<Heap>, AllocError> {
+    let files = files_in(other)?;
+    let heap = ample(other)?;
+    read_study(heap, other, DROPPED.as_bytes(), files.as_slice()).map_err(|_| AllocError)
+}
+
+/// How an exploration came out whose second row is to have this mark.
+fn tried(outcome: Result<Outcome<Heap>, SweepError>, second: Mark) -> Try {
+    match outcome {
+        Ok(outcome) => Try::right_if(
+            outcome.marks.as_slice() == [Mark::Finished(2000), second].as_slice()
+                && outcome.front.len() == 1
+                && outcome.gathered == 0,
+        ),
+        Err(SweepError::Memory) => Try::Refused,
+        Err(SweepError::Worker) => Try::Wrong,
+    }
+}
+
+/// Runs all rows to their ends.
+#[derive(Clone, Copy)]
+struct RunAll<'a> {
+    study: &'a Study<Heap>,
+}
+
+impl<'a> Attempt for RunAll<'a> {
+    fn attempt(&self, heap: Heap) -> Result<Try, AllocError> {
+        Ok(tried(run_all(heap, self.study), Mark::Finished(6500)))
+    }
+}
+
+/// Explores the rows.
+#[derive(Clone, Copy)]
+struct Explore<'a> {
+    study: &'a Study<Heap>,
+}
+
+impl<'a> Attempt for Explore<'a> {
+    fn attempt(&self, heap: Heap) -> Result<Try, AllocError> {
+        Ok(tried(explore(heap, self.study, 1, &OpenGate), Mark::Dropped(0)))
+    }
+}
+
+/// Runs the rows of the front again in the one memory, and makes the report of them in the other.
+fn report_in<R: Threads + Sync>(
+    rt: &R,
+    replaying: Heap,
+    writing: Heap,
+    other: Global,
+    study: &Study<Heap>,
+) -> Result<Try, AllocError> {
+    // Read for what the study's type keeps, which the proof needs.
+    let _rows = study.rows();
+    let Ok(outcome) = explore(ample(other)?, study, 1, &OpenGate) else {
+        return Ok(Try::Wrong);
+    };
+    let front = outcome.front.as_slice();
+    let Ok(ends) = replay(rt, replaying, study, front) else {
+        return Ok(Try::Refused);
+    };
+    match front_report(writing, other, study, front, ends.as_slice()) {
+        Ok(text) => Ok(Try::right_if(text.as_slice() == DROPPED_REPORT.as_bytes())),
+        Err(AllocError) => Ok(Try::Refused),
+    }
+}
+
+/// How an answer came out.
+fn answered(text: Result<Vec<u8, Heap>, AnswerError>) -> Try {
+    match text {
+        Ok(text) => Try::right_if(text.as_slice() == DROPPED_REPORT.as_bytes()),
+        Err(AnswerError::Study(StudyError::Memory)) => Try::Refused,
+        Err(AnswerError::Sweep(SweepError::Memory)) => Try::Refused,
+        Err(_) => Try::Wrong,
+    }
+}
+
+#[test]
+fn of_runs_of_rows(rt: HostRuntime) -> Result<(), Fail> {
+    let other = rt.alloc();
+    let study = study_in(other)?;
+    // Marks, the memory of machines, finished rows and the front.
+    let all = RunAll { study: &study };
+    assert!(rt; matches!(refusals(other, &all)?, Some(granted) if granted > 4));
+    let some = Explore { study: &study };
+    assert!(rt; matches!(refusals(other, &some)?, Some(granted) if granted > 4));
+    let replayed = refusals_of!(other, heap => report_in(&rt, heap, ample(other)?, other, &study)?);
+    assert!(rt; matches!(replayed, Some(granted) if granted > 2));
+    // The text alone.
+    let written = refusals_of!(other, heap => report_in(&rt, ample(other)?, heap, other, &study)?);
+    assert!(rt; matches!(written, Some(granted) if granted > 0));
+    Ok(())
+}
+
+/// Makes the report of the study that the document and its file stand for, by so many workers, or,
+/// with None, by the call that runs each row to its end.
+fn answer_in<R: Threads + Sync>(
+    rt: &R,
+    heap: Heap,
+    other: Global,
+    workers: Option<usize>,
+) -> Result<Try, AllocError> {
+    let files = files_in(other)?;
+    let study = DROPPED.as_bytes();
+    match workers {
+        Some(workers) if 1 <= workers && workers <= 32 => Ok(answered(answer(
+            rt,
+            heap,
+            other,
+            study,
+            files.as_slice(),
+            workers,
+            &OpenGate,
+        ))),
+        _ => Ok(answered(answer_all(rt, heap, other, study, files.as_slice()))),
+    }
+}
+
+#[test]
+fn of_answers(rt: HostRuntime) -> Result<(), Fail> {
+    let other = rt.alloc();
+    for workers in [None, Some(1), Some(2)] {
+        let granted = refusals_of!(other, heap => answer_in(&rt, heap, other, workers)?);
+        assert!(rt; matches!(granted, Some(granted) if granted > 12));
+    }
+    Ok(())
+}
