@@ -2,12 +2,12 @@
 //! over any files and sinks.
 #![tactic(auto)]
 
-mod command;
+mod commands;
 mod failure;
 mod run;
 mod telling;
 
-pub use command::command;
+pub use commands::command;
 pub use failure::Failure;
 pub use run::{RunRefusal, run_text};
 pub use telling::tell_line_fault;

@@ -1,7 +1,7 @@
 -- The refusal of a study is the failure.
 use Rattle.std.proofs.lemmas.Result.{err_from_is_err_and}
 use Rattle.tomex_command.proofs.Fronts.{explore_refused}
-use Rattle.tomex_command.proofs.command.explore.text_of_explore.Goals as goal
+use Rattle.tomex_command.proofs.commands.explore.text_of_explore.Goals as goal
 
 pub returns-in_err-answer-clause-failure : goal.returns-in_err-answer-clause-failure
 returns-in_err-answer-clause-failure g c =

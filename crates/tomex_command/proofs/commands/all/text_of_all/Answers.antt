@@ -1,7 +1,7 @@
 -- The refusal of a study is the failure.
 use Rattle.std.proofs.lemmas.Result.{err_from_is_err_and}
 use Rattle.tomex_command.proofs.Fronts.{all_refused}
-use Rattle.tomex_command.proofs.command.all.text_of_all.Goals as goal
+use Rattle.tomex_command.proofs.commands.all.text_of_all.Goals as goal
 
 pub returns-in_err-answer_all-clause-failure : goal.returns-in_err-answer_all-clause-failure
 returns-in_err-answer_all-clause-failure g c =

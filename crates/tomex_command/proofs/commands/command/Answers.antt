@@ -1,6 +1,6 @@
 -- A line that was read is done, or its failure is told.
 use Rattle.std.proofs.Common.{inl, inr, refl}
-use Rattle.tomex_command.proofs.command.command.Goals as goal
+use Rattle.tomex_command.proofs.commands.command.Goals as goal
 
 pub returns-in-Ok-carry_out-clause-end : goal.returns-in-Ok-carry_out-clause-end
 returns-in-Ok-carry_out-clause-end g c =

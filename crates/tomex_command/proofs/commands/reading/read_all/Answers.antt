@@ -1,7 +1,7 @@
 -- The file of the name at hand is one more.
 use Rattle.std.proofs.Common.{string_bytes}
 use Rattle.tomex_command.proofs.Reading.{one_more_of}
-use Rattle.tomex_command.proofs.command.reading.read_all.Goals as goal
+use Rattle.tomex_command.proofs.commands.reading.read_all.Goals as goal
 
 pub loop-name-preserved : goal.loop-name-preserved
 loop-name-preserved g c =
