@@ -1,5 +1,6 @@
 pub mod Csv
 pub mod TimesReport
+pub mod TablesText
 pub mod Place
 pub mod Readings
 pub mod Table
