@@ -4,3 +4,4 @@ pub mod Ended
 pub mod Watched
 pub mod Records
 pub mod Machines
+pub mod Rows

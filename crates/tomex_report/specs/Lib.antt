@@ -1,5 +1,6 @@
 pub mod Csv
 pub mod TimesReport
+pub mod TablesText
 pub mod Study
 pub mod Ends
 pub mod RowEnds

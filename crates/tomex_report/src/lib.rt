@@ -1,5 +1,6 @@
 //! What goes into an exploration and what comes out of it: studies, which are read from a document and
-//! its programs' files, the front report of a study, and the times report of a program on one row.
+//! its programs' files, the front report of a study, the times report of a program on one row, and the
+//! text of a machine's tables.
 #![tactic(auto)]
 
 mod answer_error;
@@ -15,6 +16,7 @@ mod program_ends;
 mod replaying;
 mod row_ends;
 mod study;
+mod tables;
 mod times;
 
 pub use answer_error::AnswerError;
@@ -25,5 +27,6 @@ pub use laws::limit_changes_no_end;
 pub use replaying::replay;
 pub use row_ends::RowEnds;
 pub use study::read_study;
+pub use tables::tables_text;
 pub use times::times_report;
 pub use tomex_document::{Key, Place, StudyError, documents_have_a_grid, file_names};
