@@ -3,4 +3,5 @@ mod BoardPlans
 mod Fronts
 mod Pieces
 mod Plain
+mod Reached
 mod Reading
