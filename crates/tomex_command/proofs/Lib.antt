@@ -1,3 +1,4 @@
 -- What the proofs of the crate share.
 mod Fronts
+mod Reached
 mod Reading

@@ -1,3 +1,4 @@
+pub mod Chosen
 pub mod Commands
 pub mod FrontLines
 pub mod Reading
@@ -5,5 +6,6 @@ pub mod RunLines
 pub mod RunText
 pub mod Statuses
 pub mod StudyFiles
+pub mod TablesLines
 pub mod Telling
 pub mod TimesLines

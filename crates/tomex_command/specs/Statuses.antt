@@ -6,7 +6,7 @@ use Rattle.tomex_report.specs.declared.answer_error.AnswerError.TheVariants as a
 use Rattle.tomex_document.specs.declared.error.StudyError.TheVariants as studies
 use Rattle.tomex_command.specs.declared.run.RunRefusal.TheVariants as refusals
 use Rattle.tomex_command.specs.declared.failure.Failure.{Failure}
-use Rattle.tomex_command.specs.declared.failure.Failure.TheVariants.{BadWindow, Run, Study, NoSuchRow, NoSuchProgram, CannotRead, CannotWrite, Memory, Worker}
+use Rattle.tomex_command.specs.declared.failure.Failure.TheVariants.{BadWindow, Run, Study, NoSuchRow, NoSuchProgram, CyclePastEnd, CannotRead, CannotWrite, Memory, Worker}
 
 -- 1 for input that is refused, 3 for want of memory, a thread, a file or a device
 abbrev pub status_of_failure : Failure → ℕ
@@ -17,6 +17,7 @@ status_of_failure (Study studies.Memory) = 3
 status_of_failure (Study error) = 1
 status_of_failure NoSuchRow = 1
 status_of_failure NoSuchProgram = 1
+status_of_failure CyclePastEnd = 1
 status_of_failure (CannotRead name) = 3
 status_of_failure CannotWrite = 3
 status_of_failure Memory = 3

@@ -6,10 +6,12 @@ ghost use Rattle.std.specs.Prelude.{◌≡◌, ◌≤◌, ◌⊎◌, map, string
 ghost use Rattle.tomex_command.specs.Commands.{IsDone, IsFailure, IsCarriedOut, IsLeft, IsEnd};
 
 pub mod all;
+pub mod chosen;
 pub mod explore;
 pub mod reading;
 pub mod run;
 pub mod study;
+pub mod tables;
 pub mod times;
 
 use crate::failure::Failure;
@@ -22,6 +24,7 @@ use explore::text_of_explore;
 use run::text_of_run;
 use std::alloc::{Allocator, Global};
 use std::thread::Threads;
+use tables::text_of_tables;
 use times::text_of_times;
 
 /// The text that a line asks for.
@@ -38,6 +41,7 @@ fn text_of<R: Threads + Sync, F: Files, A: Allocator + Clone + Send + Sync + Dro
     match line {
         Line::Run(line) => text_of_run(alloc, heap, line, files),
         Line::Times(line) => text_of_times(alloc, heap, line, files),
+        Line::Tables(line) => text_of_tables(alloc, heap, line, files),
         Line::All(line) => text_of_all(rt, alloc, heap, line, files),
         Line::Explore(line) => text_of_explore(rt, alloc, heap, line, files),
     }

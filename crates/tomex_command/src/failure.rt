@@ -21,6 +21,8 @@ pub enum Failure {
     NoSuchRow,
     /// The study has no program of that name.
     NoSuchProgram,
+    /// The program's run on the configuration ends before that cycle.
+    CyclePastEnd,
     /// A file was not read. Carries its name as written.
     CannotRead(String),
     /// The standard output did not take the whole text.
@@ -41,7 +43,8 @@ impl Failure {
             Failure::Run(RunRefusal::Memory) => 3,
             Failure::Run(_) => 1,
             Failure::Study(StudyError::Memory) => 3,
-            Failure::Study(_) | Failure::NoSuchRow | Failure::NoSuchProgram => 1,
+            Failure::Study(_) => 1,
+            Failure::NoSuchRow | Failure::NoSuchProgram | Failure::CyclePastEnd => 1,
             Failure::CannotRead(_) | Failure::CannotWrite | Failure::Memory | Failure::Worker => 3,
         }
     }

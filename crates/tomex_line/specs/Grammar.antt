@@ -36,6 +36,12 @@ times_shape = record (new_shape (codes "times")) {
   rules = word_rule (codes "STUDY") ∷ numeral_rule (codes "CONFIG") 0 16383 ∷ word_rule (codes "PROGRAM") ∷ [];
 }
 
+-- `tables STUDY CONFIG PROGRAM CYCLE`
+abbrev pub tables_shape : Shape
+tables_shape = record (new_shape (codes "tables")) {
+  rules = word_rule (codes "STUDY") ∷ numeral_rule (codes "CONFIG") 0 16383 ∷ word_rule (codes "PROGRAM") ∷ numeral_rule (codes "CYCLE") 0 17563648 ∷ [];
+}
+
 -- `all STUDY`
 abbrev pub all_shape : Shape
 all_shape = record (new_shape (codes "all")) { rules = word_rule (codes "STUDY") ∷ [] }
@@ -50,5 +56,5 @@ explore_shape = record (new_shape (codes "explore")) {
 abbrev pub tomex_app : App
 tomex_app = record {
   top = record (new_shape (codes "tomex")) { has_version = true; is_leaf = false; subcommand_required = true };
-  subs = run_shape ∷ times_shape ∷ all_shape ∷ explore_shape ∷ [];
+  subs = run_shape ∷ times_shape ∷ tables_shape ∷ all_shape ∷ explore_shape ∷ [];
 }

@@ -26,6 +26,13 @@ pub record IsTimesAsked (rows : List Row) (study : List ℕ) (config : ℕ) (pro
   pub is_config : IsNumber rows (codes "CONFIG") config
   pub is_program : IsWord rows (codes "PROGRAM") program
 
+-- the values of `tables`
+pub record IsTablesAsked (rows : List Row) (study : List ℕ) (config : ℕ) (program : List ℕ) (cycle : ℕ) : Type 0 where
+  pub is_study : IsWord rows (codes "STUDY") study
+  pub is_config : IsNumber rows (codes "CONFIG") config
+  pub is_program : IsWord rows (codes "PROGRAM") program
+  pub is_cycle : IsNumber rows (codes "CYCLE") cycle
+
 -- the value of `all`
 abbrev pub IsAllAsked : List Row → List ℕ → Type 0
 IsAllAsked rows study = IsWord rows (codes "STUDY") study

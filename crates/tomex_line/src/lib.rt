@@ -7,5 +7,6 @@ mod line;
 pub use line::all::AllLine;
 pub use line::explore::ExploreLine;
 pub use line::run::RunLine;
+pub use line::tables::TablesLine;
 pub use line::times::TimesLine;
 pub use line::{Line, LineFault, read_line};

@@ -13,6 +13,7 @@ ghost use Rattle.tomex_line.specs.declared.line.LineFault.TheVariants.{Memory};
 pub mod all;
 pub mod explore;
 pub mod run;
+pub mod tables;
 pub mod times;
 mod values;
 
@@ -22,6 +23,7 @@ use clap::{ArgMatches, Command};
 use explore::ExploreLine;
 use run::RunLine;
 use std::alloc::{AllocError, Global};
+use tables::TablesLine;
 use times::TimesLine;
 use values::refused;
 
@@ -30,6 +32,7 @@ use values::refused;
 pub enum Line<'a> {
     Run(RunLine<'a>),
     Times(TimesLine<'a>),
+    Tables(TablesLine<'a>),
     All(AllLine<'a>),
     Explore(ExploreLine<'a>),
 }
@@ -83,6 +86,7 @@ const AFTER_LONG_HELP: &str = "Exit status:
 Examples:
   tomex run mul.bin --size 4096
   tomex times study.toml 4 mul
+  tomex tables study.toml 4 mul 3
   tomex explore study.toml --workers 4
 
 Numbers on the command line are decimal; in a study's TOML they may be
@@ -99,6 +103,7 @@ fn grammar<'a>(alloc: Global) -> Result<Command<'a>, AllocError>
         .subcommand_required(true)
         .subcommand(run::grammar(alloc)?)?
         .subcommand(times::grammar(alloc)?)?
+        .subcommand(tables::grammar(alloc)?)?
         .subcommand(all::grammar(alloc)?)?
         .subcommand(explore::grammar(alloc)?)
 }
@@ -110,6 +115,7 @@ fn line_of<'a>(alloc: Global, matches: &ArgMatches<'a>) -> Result<Line<'a>, Line
     match matches.subcommand() {
         Some(("run", inner)) => Ok(Line::Run(run::line_of(alloc, inner)?)),
         Some(("times", inner)) => Ok(Line::Times(times::line_of(alloc, inner)?)),
+        Some(("tables", inner)) => Ok(Line::Tables(tables::line_of(alloc, inner)?)),
         Some(("all", inner)) => Ok(Line::All(all::line_of(alloc, inner)?)),
         Some(("explore", inner)) => Ok(Line::Explore(explore::line_of(alloc, inner)?)),
         _ => Err(refused(alloc, "command")),

@@ -26,4 +26,6 @@ mod programs;
 #[cfg(test)]
 mod refused_memory;
 #[cfg(test)]
+mod tables;
+#[cfg(test)]
 mod times;

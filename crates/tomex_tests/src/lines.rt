@@ -18,6 +18,13 @@ fn told(alloc: Global, line: &str) -> Result<String, AllocError> {
         Ok(Line::Times(times)) => {
             format!(in alloc; "times {} {} {}", times.study, times.config, times.program)
         }
+        Ok(Line::Tables(tables)) => {
+            let (study, config) = (tables.study, tables.config);
+            format!(in alloc;
+                "tables {study} {config} {} {}",
+                tables.program, tables.cycle
+            )
+        }
         Ok(Line::All(all)) => format!(in alloc; "all {}", all.study),
         Ok(Line::Explore(explore)) => {
             format!(in alloc; "explore {} {}", explore.study, explore.workers)
@@ -38,6 +45,13 @@ fn lines_are_read(rt: HostRuntime) -> Result<(), Fail> {
         ),
         ("times study 0 a", "times study 0 a"),
         ("times study 16383 -- -a", "times study 16383 -a"),
+        ("tables study 0 a 0", "tables study 0 a 0"),
+        (
+            "tables study 16383 -- -a 17563648",
+            "tables study 16383 -a 17563648",
+        ),
+        ("tables --help", "help Prints the tables"),
+        ("tables -h", "help Prints the stations"),
         (
             "run --limit=262144 --size=1048576 a",
             "run a 0 1048576 262144",
@@ -76,6 +90,11 @@ fn lines_are_refused(rt: HostRuntime) -> Result<(), Fail> {
         "times study 16384 a",
         "times study 0x1 a",
         "times study 0",
+        "tables study 16384 a 0",
+        "tables study 0 a 17563649",
+        "tables study 0 a -1",
+        "tables study 0 a 0x1",
+        "tables study 0 a",
     ] {
         let text = told(rt.alloc(), line)?;
         assert!(rt; text.starts_with("usage error: "), "{line}: {text}");

@@ -50,6 +50,7 @@ mod commands;
 mod explorations;
 mod runs;
 mod studies;
+mod tables;
 
 /// A call that takes memory.
 trait Attempt {

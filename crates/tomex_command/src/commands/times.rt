@@ -2,6 +2,7 @@
 ghost use Rattle.std.specs.Prelude.{IfOk, IfErr};
 ghost use Rattle.tomex_command.specs.TimesLines.{IsTimesOf, IsTimesFailure};
 
+use super::chosen::chosen_in;
 use super::study::study_in;
 use crate::failure::Failure;
 use tomex_streams::Files;
@@ -9,7 +10,7 @@ use tomex_line::TimesLine;
 use std::alloc::{Allocator, Global};
 use tomex_report::times_report;
 
-/// The text that `times` prints. The row is looked for before the program.
+/// The text that `times` prints.
 pub fn text_of_times<F: Files, A: Allocator + Clone>(
     alloc: A,
     heap: Global,
@@ -20,7 +21,6 @@ pub fn text_of_times<F: Files, A: Allocator + Clone>(
     ensures failure { IfErr result (λ failure. IsTimesFailure (F.file files.now) line.entry failure) }
 {
     let study = study_in(alloc.clone()?, heap, files, line.study)?;
-    let row = study.row(line.config as usize).ok_or(Failure::NoSuchRow)?;
-    let program = study.program(line.program).ok_or(Failure::NoSuchProgram)?;
-    Ok(times_report(alloc, heap, program, row)?)
+    let chosen = chosen_in(&study, line.config, line.program)?;
+    Ok(times_report(alloc, heap, chosen.program, chosen.row)?)
 }

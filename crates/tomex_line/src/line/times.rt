@@ -8,14 +8,9 @@ ghost use Rattle.clap.specs.Walk.{rows_of};
 ghost use Rattle.tomex_line.specs.Values.{IsTimesAsked};
 
 use super::LineFault;
-use super::values::{Bounds, number_of, numeral, word, word_of};
+use super::values::{CONFIG, number_of, numeral, word, word_of};
 use clap::{ArgMatches, Command};
 use std::alloc::{AllocError, Global};
-
-const CONFIG: Bounds = Bounds {
-    least: 0,
-    greatest: 16_383,
-};
 
 /// A times report that was asked for.
 #[derive(Clone, Copy, Debug)]

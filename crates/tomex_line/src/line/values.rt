@@ -17,6 +17,12 @@ pub struct Bounds {
     pub greatest: u32,
 }
 
+/// The numbers of a study's configurations.
+pub const CONFIG: Bounds = Bounds {
+    least: 0,
+    greatest: 16_383,
+};
+
 /// An option `--NAME N` of a decimal number.
 pub fn number<'a>(
     alloc: Global,

@@ -1,12 +1,13 @@
 //! Whole runs of the program, whose command line takes other memory.
 
 use super::{Heap, Try};
-use tomex_command::command;
 use crate::commands::{PRODUCT, PRODUCT_END, text_of};
 use crate::elf_images::ELF;
 use crate::explorations::{DROPPED, DROPPED_REPORT, LOOP};
-use crate::times::{REPORT, STUDY};
 use crate::in_memory::{Narrow, Shelf, words};
+use crate::tables::PRODUCT_AFTER_3;
+use crate::times::{REPORT, STUDY};
+use tomex_command::command;
 use std::alloc::{AllocError, Global};
 use std::test::Fail;
 use std::thread::Threads;
@@ -64,6 +65,19 @@ fn of_times(rt: HostRuntime) -> Result<(), Fail> {
     let line = "tomex times study 1 mul";
     let granted = refusals_of!(other, heap => command_in(&rt, heap, other, line, files, REPORT)?);
     // The study's bytes and its file's, names, the program, rows, costs, steps, times and the text.
+    assert!(rt; matches!(granted, Some(granted) if granted > 10));
+    Ok(())
+}
+
+#[test]
+fn of_tables(rt: HostRuntime) -> Result<(), Fail> {
+    let other = rt.alloc();
+    let named = [("study", STUDY.as_bytes()), ("mul.bin", PRODUCT.as_slice())];
+    let files = named.as_slice();
+    let line = "tomex tables study 0 mul 3";
+    let granted =
+        refusals_of!(other, heap => command_in(&rt, heap, other, line, files, PRODUCT_AFTER_3)?);
+    // What a times report takes but for steps and times; the machine's memory and the text.
     assert!(rt; matches!(granted, Some(granted) if granted > 10));
     Ok(())
 }

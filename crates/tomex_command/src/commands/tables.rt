@@ -1,0 +1,47 @@
+//! What `tables` prints.
+ghost use Rattle.std.specs.Prelude.{◌≡◌, ◌<◌, IfOk, IfErr};
+ghost use Rattle.tomex_cycle.specs.Run.{total};
+ghost use Rattle.tomex_command.specs.TablesLines.{IsTablesOf, IsTablesFailure, IsTextAfter, IsUnshown};
+
+use super::chosen::{Chosen, chosen_in};
+use super::study::study_in;
+use crate::failure::Failure;
+use tomex_streams::Files;
+use tomex_line::TablesLine;
+use std::alloc::{Allocator, Global};
+use tomex_cycle::Machine;
+use tomex_report::tables_text;
+
+/// The text of the tables after a cycle of a program's run on a row. The machine stops at the end of
+/// the run, so a cycle that it doesn't come to is past the end.
+fn text_after<A: Allocator + Clone>(
+    alloc: A,
+    chosen: &Chosen<'_, A>,
+    cycle: u32,
+) -> Result<Vec<u8, A>, Failure>
+    ensures text { IfOk result (λ text. IsTextAfter chosen.now.row.now chosen.now.program.now cycle text.items) }
+    ensures failure { IfErr result (λ failure. IsUnshown chosen.now.row.now chosen.now.program.now cycle failure) }
+{
+    let cycle = u64::from(cycle);
+    let mut machine = Machine::new(alloc.clone()?, chosen.program.image(), chosen.row)?;
+    machine.advance(cycle);
+    if machine.cycle() < cycle {
+        return Err(Failure::CyclePastEnd);
+    }
+    Ok(tables_text(alloc, &machine.tables())?)
+}
+
+/// The text that `tables` prints. The cycle is the last that is looked at.
+pub fn text_of_tables<F: Files, A: Allocator + Clone>(
+    alloc: A,
+    heap: Global,
+    line: TablesLine<'_>,
+    files: &F,
+) -> Result<Vec<u8, A>, Failure>
+    ensures text { IfOk result (λ text. IsTablesOf (F.file files.now) line.entry text.items) }
+    ensures failure { IfErr result (λ failure. IsTablesFailure (F.file files.now) line.entry failure) }
+{
+    let study = study_in(alloc.clone()?, heap, files, line.study)?;
+    let chosen = chosen_in(&study, line.config, line.program)?;
+    text_after(alloc, &chosen, line.cycle)
+}

@@ -1,0 +1,113 @@
+//! `tables STUDY CONFIG PROGRAM CYCLE`
+ghost use Rattle.std.specs.Prelude.{◌≡◌, ◌≤◌, IfOk, IfErr};
+ghost use Rattle.tomex_line.specs.Lines.{IsRefusal};
+ghost use Rattle.tomex_line.specs.Grammar.{tables_shape};
+ghost use Rattle.clap.specs.Simple.{shape_of};
+ghost use Rattle.clap.specs.Words.{found_of};
+ghost use Rattle.clap.specs.Walk.{rows_of};
+ghost use Rattle.tomex_line.specs.Values.{IsTablesAsked};
+
+use super::LineFault;
+use super::values::{Bounds, CONFIG, number_of, numeral, word, word_of};
+use clap::{ArgMatches, Command};
+use std::alloc::{AllocError, Global};
+
+/// No program takes more cycles: 67 for each of 262,144 instructions.
+const CYCLE: Bounds = Bounds {
+    least: 0,
+    greatest: 17_563_648,
+};
+
+/// The tables that were asked for.
+#[derive(Clone, Copy, Debug)]
+pub struct TablesLine<'a> {
+    /// The name of the study's file, as written.
+    pub study: &'a str,
+    /// The number of the configuration.
+    pub config: u32,
+    /// The name by which the study calls the program.
+    pub program: &'a str,
+    /// The cycle after which the tables are shown.
+    pub cycle: u32,
+    pub ghost config_to: { config ≤ 16383 },
+    pub ghost cycle_to: { cycle ≤ 17563648 },
+}
+
+const ABOUT: &str =
+    "Prints the stations and registers of one configuration after a cycle of a program";
+
+const LONG_ABOUT: &str = "Prints the tables of Tomasulo's algorithm, as Hennessy and Patterson draw
+them, after a cycle of a program's run on one of the study's configurations:
+the reservation stations that are busy, with what they hold and what they wait
+for, and the registers that wait for a station.
+
+STUDY is a TOML document that names programs, prices, axes and unit options;
+its files are read from the current folder. CONFIG is the number of a
+configuration, from 0: the product of the axes, the last axis fastest. PROGRAM
+is the name of a program of the study; one that begins with `-` stands behind
+`--`. CYCLE is 0, before the first instruction issues, up to the run's total,
+which `tomex times` prints last. docs/STUDIES.md lists the keys of a study, and
+docs/MACHINE.md tells what the tables mean.
+
+CONFIG and CYCLE are decimal, as all numbers of the command line; in the
+study's TOML they may be hexadecimal too, as 0x10000.
+
+The first line is the cycle. Then comes a line for each busy station, pool by
+pool: its name, its instruction, and for the operands j and k the value V or
+the station Q that it waits for. A is the address of a load or store, before
+its address cycle the offset. V and A are hexadecimal, and `-` stands for what
+isn't there. Last comes a line for each register that waits, with Qi, the
+station of its youngest writer.";
+
+const AFTER_LONG_HELP: &str = "Exit status:
+  0  the tables were written
+  1  the study or a program of it was refused, or has no such row or program,
+     or its run ends before the cycle
+  2  the command line was refused
+  3  memory, a file or a device was refused
+
+Example, with examples/study.toml:
+  tomex tables study.toml 4 mul 3
+
+prints
+  cycle 3
+  alu1 addi Vj=00000000 Vk=- Qj=- Qk=- A=-
+  mul0 mul Vj=00000005 Vk=- Qj=- Qk=alu1 A=-
+  x2 Qi=alu1
+  x3 Qi=mul0";
+
+const STUDY_HELP: &str = "The file of the study";
+
+const CONFIG_HELP: &str = "The number of the configuration, from 0";
+
+const PROGRAM_HELP: &str = "The name of the program in the study";
+
+const CYCLE_HELP: &str = "The cycle after which the tables are shown, 0 for the start";
+
+pub(super) fn grammar<'a>(alloc: Global) -> Result<Command<'a>, AllocError>
+    ensures { IfOk result (λ c. shape_of c ≡ tables_shape) }
+{
+    Command::new(alloc, "tables")
+        .about(ABOUT)
+        .long_about(LONG_ABOUT)
+        .after_long_help(AFTER_LONG_HELP)
+        .arg(word(alloc, "STUDY", STUDY_HELP))?
+        .arg(numeral(alloc, "CONFIG", CONFIG, CONFIG_HELP))?
+        .arg(word(alloc, "PROGRAM", PROGRAM_HELP))?
+        .arg(numeral(alloc, "CYCLE", CYCLE, CYCLE_HELP))
+}
+
+pub(super) fn line_of<'a>(
+    alloc: Global,
+    matches: &ArgMatches<'a>,
+) -> Result<TablesLine<'a>, LineFault>
+    ensures line { IfOk result (λ line. IsTablesAsked (rows_of (found_of matches.now)) line.study.now line.config line.program.now line.cycle) }
+    ensures refused { IfErr result IsRefusal }
+{
+    Ok(TablesLine {
+        study: word_of(alloc, matches, "STUDY")?,
+        config: number_of(alloc, matches, "CONFIG", CONFIG)?,
+        program: word_of(alloc, matches, "PROGRAM")?,
+        cycle: number_of(alloc, matches, "CYCLE", CYCLE)?,
+    })
+}
