@@ -1,7 +1,7 @@
 -- The grammar of the command line: what each command takes.
 use Rattle.std.specs.Prelude.{ℕ, List, [], ◌∷◌, codes, true, false, pos, Some}
-use Rattle.clap.specs.Words.{App, Rule, Shape, Text, new_rule}
-use Rattle.clap.specs.Simple.{new_shape}
+use Rattle.clap.specs.Words.{App, Rule, Shape, Text, new_app, new_rule}
+use Rattle.clap.specs.Simple.{new_shape, on_top}
 use Rattle.clap.specs.declared.builder.value_parser.ValueParser.TheVariants as parsers
 
 -- a word that a command needs, in its place
@@ -51,6 +51,10 @@ abbrev pub explore_shape : Shape
 explore_shape = record (new_shape (codes "explore")) {
   rules = word_rule (codes "STUDY") ∷ option_rule (codes "workers") 1 32 (codes "1") ∷ [];
 }
+
+-- the program before it has commands
+abbrev pub bare_app : App
+bare_app = on_top (λ s. record s { has_version = true; subcommand_required = true }) (new_app (codes "tomex"))
 
 -- the program, with a version, and its commands, of which one has to be given
 abbrev pub tomex_app : App

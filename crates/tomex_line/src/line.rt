@@ -5,7 +5,7 @@
 //! and a line in each of `grammar` and `line_of` below.
 ghost use Rattle.tomex_line.specs.Lines.{IsRefusal, StandsFor, status_of};
 ghost use Rattle.std.specs.Prelude.{◌≡◌, IfOk, IfErr, map, string_bytes};
-ghost use Rattle.tomex_line.specs.Grammar.{tomex_app};
+ghost use Rattle.tomex_line.specs.Grammar.{bare_app, tomex_app};
 ghost use Rattle.clap.specs.Words.{app_of, subcommand_rows_of};
 ghost use Rattle.tomex_line.specs.Asked.{IsCommand, IsAsked, IsNoCommand};
 ghost use Rattle.tomex_line.specs.declared.line.LineFault.TheVariants.{Memory};
@@ -92,8 +92,9 @@ Examples:
 Numbers on the command line are decimal; in a study's TOML they may be
 hexadecimal too, as 0x10000.";
 
-fn grammar<'a>(alloc: Global) -> Result<Command<'a>, AllocError>
-    ensures { IfOk result (λ c. app_of c ≡ tomex_app) }
+/// The program, before it has commands.
+fn without_commands<'a>(alloc: Global) -> Command<'a>
+    ensures { app_of result ≡ bare_app }
 {
     Command::new(alloc, "tomex")
         .version("0.1.0")
@@ -101,6 +102,12 @@ fn grammar<'a>(alloc: Global) -> Result<Command<'a>, AllocError>
         .long_about(LONG_ABOUT)
         .after_long_help(AFTER_LONG_HELP)
         .subcommand_required(true)
+}
+
+fn grammar<'a>(alloc: Global) -> Result<Command<'a>, AllocError>
+    ensures { IfOk result (λ c. app_of c ≡ tomex_app) }
+{
+    without_commands(alloc)
         .subcommand(run::grammar(alloc)?)?
         .subcommand(times::grammar(alloc)?)?
         .subcommand(tables::grammar(alloc)?)?

@@ -1,19 +1,13 @@
 -- The commands, one after the other.
-use Rattle.std.proofs.Common.{◌≡◌, ◌∙◌, ap₂, codes, refl, rules, true}
+use Rattle.std.proofs.Common.{◌≡◌, ◌∙◌, ap₂, refl}
 use Rattle.std.proofs.lemmas.Result.{IfOk-weaker}
-use Rattle.clap.specs.Words.{App, app_of, new_app, with_subcommand}
-use Rattle.clap.specs.Simple.{on_top}
+use Rattle.clap.specs.Words.{with_subcommand}
 use Rattle.tomex_line.proofs.Plain.{no_globals}
 use Rattle.tomex_line.proofs.line.grammar.Goals as goal
 
--- before the commands are added
-abbrev bare : App
-bare = on_top (λ s. record s { has_version = true; subcommand_required = true }) (new_app (codes "tomex"))
-
 pub returns : goal.returns
 returns c =
-    let start : app_of c.subcommand_required.result ≡ bare = search rules in
-    let one = c.in_ok-subcommand.ensures.shape (no_globals _ _ c.in_ok-grammar.ensures refl) ∙ ap₂ with_subcommand start c.in_ok-grammar.ensures in
+    let one = c.in_ok-subcommand.ensures.shape (no_globals _ _ c.in_ok-grammar.ensures refl) ∙ ap₂ with_subcommand c.without_commands.ensures c.in_ok-grammar.ensures in
     let two = c.in_ok-subcommand-2.ensures.shape (no_globals _ _ c.in_ok-grammar-2.ensures refl) ∙ ap₂ with_subcommand one c.in_ok-grammar-2.ensures in
     let three = c.in_ok-subcommand-3.ensures.shape (no_globals _ _ c.in_ok-grammar-3.ensures refl) ∙ ap₂ with_subcommand two c.in_ok-grammar-3.ensures in
     let four = c.in_ok-subcommand-4.ensures.shape (no_globals _ _ c.in_ok-grammar-4.ensures refl) ∙ ap₂ with_subcommand three c.in_ok-grammar-4.ensures in
