@@ -1,5 +1,5 @@
 -- Machines of a study's programs that were asked to go on to a cycle, and stopped at their ends.
-use Rattle.std.proofs.Common.{◌≡◌, ◌<◌, ◌≤◌, ℕ, List, arith, ap, ap₂, sym, subst, ◌∙◌, min}
+use Rattle.std.proofs.Common.{◌≡◌, ◌<◌, ℕ, List, arith, ap, ap₂, sym, subst, ◌∙◌, min}
 use Rattle.tomex_image.specs.Image.{Loaded}
 use Rattle.tomex_rvexec.specs.Run.{EndsWithin}
 use Rattle.tomex_config.specs.Row.{Row}
