@@ -1,3 +1,5 @@
 pub mod Bits
 pub mod Members
 pub mod Picking
+pub mod Turning
+mod Rows

@@ -37,7 +37,7 @@ slot_first row t u h timed issued e =
     let l : last_issue h ≤ t = last_by t h issued in
     rw (le-leb (last_issue h) u (omega arith), none_later row h u timed (omega arith), lt-ltb 0 (width_of row) (width_low row)) refl
 
-width_one : (row : Row) → width_of row ≡ 1
+pub width_one : (row : Row) → width_of row ≡ 1
 unfolding width_of
 width_one row = refl
 

@@ -26,3 +26,9 @@ pub mod StartsDone
 pub mod Orders
 pub mod Serving
 pub mod StartsReady
+pub mod Quiet
+pub mod Shifting
+pub mod Stillness
+pub mod StartsNone
+pub mod EndsNone
+pub mod Skips

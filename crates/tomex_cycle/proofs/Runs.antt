@@ -100,7 +100,7 @@ pub record IsRest (row : Row) (i : Loaded) (k m t : ℕ) (newer : List Done) : T
 issue_is : (row : Row) (h : List Done) (x : Step) → IsRow row → AreTimed row h → can_issue row h x (times_of row h x).issue ≡ true
 issue_is row h x good timed = (times_are row h x good timed).issue.0
 
-not_by : (row : Row) (h : List Done) (x : Step) (t : ℕ) → IsRow row → AreTimed row h → ((s : ℕ) → s ≤ t → can_issue row h x s ≡ false) → t < (times_of row h x).issue
+pub not_by : (row : Row) (h : List Done) (x : Step) (t : ℕ) → IsRow row → AreTimed row h → ((s : ℕ) → s ≤ t → can_issue row h x s ≡ false) → t < (times_of row h x).issue
 not_by row h x t good timed never = elim (cases_Bool (nat_lt t (times_of row h x).issue)) [
   | inl e ↦ ltb-true _ _ e
   | inr e ↦

@@ -24,7 +24,7 @@ pub total_is : (row : Row) (i : Loaded) (n : ℕ) (s : State) (kind : EndKind) �
 total_is row i n s kind ends l = ap greatest_end (run_whole row i n s kind ends l)
 
 -- while the answer is Running the total lies ahead
-running_low : (cycle all : ℕ) (last : Progress) → last ≡ (if nat_lt cycle all then Running else Ended) → last ≡ Running → cycle < all
+pub running_low : (cycle all : ℕ) (last : Progress) → last ≡ (if nat_lt cycle all then Running else Ended) → last ≡ Running → cycle < all
 running_low cycle all last e f = elim (cases_Bool (nat_lt cycle all)) [
   | inl l ↦ ltb-true _ _ l
   | inr l ↦ let g : last ≡ Ended = rw l at e in absurd (cc)

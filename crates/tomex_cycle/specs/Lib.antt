@@ -6,3 +6,4 @@ pub mod Sound
 pub mod Issue
 pub mod Starts
 pub mod Ends
+pub mod Finishes

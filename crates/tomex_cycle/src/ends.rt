@@ -20,7 +20,7 @@ fn can_send(station: Option<Station>, next: u64) -> bool
 {
     match station {
         Some(station) => match station.finish {
-            Some(finish) => station.instr.dest().is_some() && finish < next,
+            Some(finish) => finish < next && station.instr.dest().is_some(),
             None => false,
         },
         None => false,
@@ -34,7 +34,7 @@ fn ends_alone(station: Option<Station>, next: u64) -> bool
 {
     match station {
         Some(station) => match station.finish {
-            Some(finish) => station.instr.dest().is_none() && finish <= next,
+            Some(finish) => finish <= next && station.instr.dest().is_none(),
             None => false,
         },
         None => false,

@@ -1,6 +1,6 @@
 //! What a cycle changes, and the one call that makes a cycle.
 
-ghost use Rattle.std.specs.Prelude.{ℕ, List, ◌≡◌, ◌≤◌, ◌<◌, ◌+◌, ◌^◌, IfOk, nat_lt, if◌then◌else◌};
+ghost use Rattle.std.specs.Prelude.{ℕ, List, ◌≡◌, ◌≤◌, ◌<◌, ◌+◌, ◌^◌, IfOk, nat_lt, true, false, if◌then◌else◌};
 ghost use Rattle.tomex_image.specs.Image.{IsLoaded};
 ghost use Rattle.tomex_config.specs.Row.{IsRow};
 ghost use Rattle.tomex_rvexec.specs.declared.outcome.EndKind.{EndKind};
@@ -15,16 +15,27 @@ ghost use Rattle.tomex_tags.specs.Pools.{AreBusy};
 ghost use Rattle.tomex_cycle.specs.Run.{run_to, AreIssuedBy, IsHistory};
 ghost use Rattle.tomex_cycle.specs.Views.{clocks, ShowsStations, ShowsRegisters};
 ghost use Rattle.tomex_cycle.specs.Phases.{IsSnapshot, is_done};
+ghost use Rattle.tomex_cycle.specs.Finishes.{IsFree};
 
 use crate::fetch::Fetch;
+use crate::finishes::{before_finish, next_finish};
 use crate::phases;
-use crate::progress::Progress;
+use crate::progress::{Made, Progress};
 use crate::shown::Tables;
 use std::alloc::{AllocError, Allocator, Global};
 use tomex_config::Config;
 use tomex_image::Image;
 use tomex_rvexec::{End, Fetcher, Memory};
 use tomex_tags::{Pools, RegStatus};
+
+/// Whether a cycle leaves all stations as they were: none starts, gets an address or ends, and the
+/// count of issues stays.
+#[inline(always)]
+fn leaves_all(starts: bool, addressed: bool, count: u32, before: u32, ended: bool) -> bool
+    ensures { result ≡ true → (starts ≡ false) × (addressed ≡ false) × (count ≡ before) × (ended ≡ false) }
+{
+    !starts && !addressed && count == before && !ended
+}
 
 /// Stations, registers and memory.
 #[derive(Drop)]
@@ -44,18 +55,21 @@ impl<A: Allocator> Inner<A> {
         fetcher: &mut Fetcher<'_, B>,
         row: &Config,
         next: u64,
-    ) -> Progress
+    ) -> Made
         requires next { next < 2 ^ 41 }
         ensures cycle { (n : ℕ) (s : State) (kind : EndKind) (t : ℕ) → RunEnds fetcher.old n s kind → n < 262144 → next ≡ t + 1 → IsRow row.now → IsLoaded fetcher.old.window fetcher.old.memory fetcher.old.entry
             → IsSnapshot fetcher.old row.now n t self.old.count self.old.pools self.old.registers self.old.fetch self.old.memory
             → IsSnapshot fetcher.old row.now n next self.new.count self.new.pools self.new.registers self.new.fetch self.new.memory
-            × (result ≡ (if nat_lt next (greatest_end (run_to row.now fetcher.old (n + 1))) then Progress.Running else Progress.Ended)) }
+            × (result.progress ≡ (if nat_lt next (greatest_end (run_to row.now fetcher.old (n + 1))) then Progress.Running else Progress.Ended)) }
+        ensures still { result.still ≡ true → (self.new.count ≡ self.old.count) × (self.new.pools.slots ≡ self.old.pools.slots) }
         ensures same { fetcher.new ≡ fetcher.old }
     {
-        if let Some(fault) = phases::start(&mut self.pools, &mut self.memory, row, next) {
-            return Progress::Faulted(fault);
+        let starts = phases::start(&mut self.pools, &mut self.memory, row, next);
+        if let Some(fault) = starts.fault {
+            return Made::fault(fault);
         }
-        phases::address(&mut self.pools, next);
+        let addressed = phases::address(&mut self.pools, next);
+        let before = self.count;
         match phases::issue(
             &mut self.pools,
             &mut self.registers,
@@ -66,16 +80,36 @@ impl<A: Allocator> Inner<A> {
             next,
         ) {
             Ok(count) => self.count = count,
-            Err(fault) => return Progress::Faulted(fault),
+            Err(fault) => return Made::fault(fault),
         }
-        phases::end(
+        let ended = phases::end(
             &mut self.pools,
             &mut self.registers,
             &mut self.fetch,
             row,
             next,
         );
-        Progress::after(self.is_over())
+        Made {
+            progress: Progress::after(self.is_over()),
+            still: leaves_all(starts.any, addressed, self.count, before, ended),
+        }
+    }
+
+    /// The cycle up to which nothing more happens after one that was just made, but no further than `to`.
+    pub fn still_until(&self, made: Made, cycle: u64, to: u64) -> u64
+        requires { cycle ≤ to }
+        ensures least { cycle ≤ result }
+        ensures most { result ≤ to }
+        ensures still { cycle < result → (made.still ≡ true) × (made.progress ≡ Progress.Running) × IsFree self.now.pools.slots cycle result }
+    {
+        match made.progress {
+            Progress::Running => {}
+            _ => return cycle,
+        }
+        if !made.still {
+            return cycle;
+        }
+        before_finish(next_finish(&self.pools, cycle), cycle, to)
     }
 
     /// Whether nothing is left to issue or to end.

@@ -1,6 +1,6 @@
 //! The issue of one instruction.
 
-ghost use Rattle.std.specs.Prelude.{◌≡◌};
+ghost use Rattle.std.specs.Prelude.{◌≡◌, Ok, false};
 ghost use Rattle.tomex_cycle.specs.Issue.{IssuesNext};
 
 use crate::fetch::Fetch;
@@ -19,6 +19,7 @@ pub fn issue_next<A: Allocator>(
     row: &Config,
 ) -> Result<bool, Fault>
     ensures issues { IssuesNext fetcher.old row.now count pools.old registers.old fetch.old result pools.new registers.new fetch.new }
+    ensures none { result ≡ Ok false → pools.new ≡ pools.old }
     ensures same { fetcher.new ≡ fetcher.old }
 {
     let pc = match *fetch {

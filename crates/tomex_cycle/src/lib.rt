@@ -8,6 +8,7 @@
 
 mod ends;
 mod fetch;
+mod finishes;
 mod inner;
 mod issue;
 mod machine;

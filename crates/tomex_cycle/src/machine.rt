@@ -69,10 +69,26 @@ impl<'a, A: Allocator> Machine<'a, A> {
             Progress::Running => {}
             last => return last,
         }
-        self.last = self
-            .inner
-            .make_cycle(&mut self.fetcher, &self.row, self.cycle + 1);
-        self.cycle += 1;
+        let next = self.cycle + 1;
+        self.go_on(next)
+    }
+
+    /// Makes one cycle, and passes those after it in which nothing happens, but goes no further than `to`.
+    fn go_on(&mut self, to: u64) -> Progress
+        requires running { self.old.last ≡ Progress.Running }
+        requires ahead { self.old.cycle < to }
+        requires low { to ≤ 2 ^ 40 }
+        ensures answer { result ≡ self.new.last }
+        ensures image { self.new.image ≡ self.old.image }
+        ensures row { self.new.row ≡ self.old.row }
+        ensures least { self.old.cycle < self.new.cycle }
+        ensures most { self.new.cycle ≤ to }
+        ensures ends { EndsWithin self.old.image 262144 → self.new ≡ seen_after self.old.image self.old.row self.new.cycle }
+    {
+        let next = self.cycle + 1;
+        let made = self.inner.make_cycle(&mut self.fetcher, &self.row, next);
+        self.cycle = self.inner.still_until(made, next, to);
+        self.last = made.progress;
         self.last
     }
 
@@ -92,10 +108,11 @@ impl<'a, A: Allocator> Machine<'a, A> {
         // Read for what the machine's type keeps.
         let _start = self.cycle();
         while self.cycle < to {
-            match self.tick() {
+            match self.last {
                 Progress::Running => {}
                 _ => break,
             }
+            self.go_on(to);
         }
         self.last
     }

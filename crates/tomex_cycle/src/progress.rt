@@ -1,6 +1,6 @@
 //! What a cycle comes to.
 
-ghost use Rattle.std.specs.Prelude.{◌≡◌, if◌then◌else◌};
+ghost use Rattle.std.specs.Prelude.{◌≡◌, false, if◌then◌else◌};
 
 use tomex_rvexec::Fault;
 
@@ -22,6 +22,25 @@ impl Progress {
             Progress::Ended
         } else {
             Progress::Running
+        }
+    }
+}
+
+/// What a cycle comes to, and whether it leaves all stations as they were.
+#[derive(Clone, Copy)]
+pub(crate) struct Made {
+    pub progress: Progress,
+    pub still: bool,
+}
+
+impl Made {
+    /// A cycle that faults.
+    pub(crate) fn fault(fault: Fault) -> Made
+        ensures { result ≡ record { progress = Progress.Faulted fault; still = false } }
+    {
+        Made {
+            progress: Progress::Faulted(fault),
+            still: false,
         }
     }
 }

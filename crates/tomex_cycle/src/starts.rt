@@ -35,12 +35,10 @@ fn wanted(pools: &Pools, place: usize, next: u64) -> Option<usize>
     ensures low { IfSome result (λ kind. kind < 5) }
 {
     let station = pools.at(place)?;
-    let kind = station.instr.unit()?.place();
-    if is_waiting(&station) && may_access(pools, place, &station, next) {
-        Some(kind)
-    } else {
-        None
+    if !is_waiting(&station) || !may_access(pools, place, &station, next) {
+        return None;
     }
+    Some(station.instr.unit()?.place())
 }
 
 /// By kind of unit, the places whose operations can start but for want of a unit.

@@ -109,6 +109,9 @@ const LOOP: [u32; 4] = [0x1f300093, 0xfff08093, 0xfe009ee3, 0x00100073];
 /// `ebreak`
 const EBREAK: [u32; 1] = [0x00100073];
 
+/// `mul x3,x0,x0; addi x4,x3,0; ebreak`
+const WAITED_FOR: [u32; 3] = [0x020001b3, 0x00018213, 0x00100073];
+
 /// One station a pool, but for two of alu.
 const TWO_ALU: [u8; 6] = [2, 1, 1, 1, 1, 1];
 
@@ -168,6 +171,7 @@ fn worked_runs(rt: HostRuntime) -> Result<(), Fail> {
         (NOTHING.as_slice(), [1; 6], [1, 1, 1, 1], 2, 4, 0, 0),
         (EBREAK.as_slice(), [1; 6], [1, 1, 1, 1], 1, 0, 2, 65536),
         (LOOP.as_slice(), [1; 6], [1, 1, 1, 1], 2000, 12, 1, 0),
+        (WAITED_FOR.as_slice(), [1; 6], [1, 64, 1, 1], 68, 8, 4, 0),
     ] {
         let row = row_of(stations, alu, mul, mem, buses)?;
         comes_to(&rt, words, &row, total, pc, register, value)?;

@@ -39,3 +39,25 @@ heard_more sent rest left x old now new s after so filled small member without h
       busy = busy ∙ so.busy;
       ages = ages ∙ so.ages;
     }
+
+-- a station that waits for nothing of it stays as it is
+pub heard_kept : (sent : ℕ → Option ℕ) (rest left x : ℕ) (old now : Pools) (s : Station) → AreHearing sent rest old now → x < 128 → has rest x ≡ true → IsWithout rest x left → slice_index_or now.slots x None ≡ Some s → s ≡ hears sent s → AreHearing sent left old now
+heard_kept sent rest left x old now s so small member without here stays = record {
+  places = so.places;
+  inside = λ y l e. elim (cases_Bool (x == y)) [
+    | inl k ↦ let same : x ≡ y = eqb-true x y k in absurd (both_ways (has left x) without.same (rw same e))
+    | inr k ↦ so.inside y l (sym (without.others y l (λ z. eqb-false x y k (sym z))) ∙ e)
+  ];
+  slots = λ y l. elim (cases_Bool (x == y)) [
+    | inl k ↦
+        let same : x ≡ y = eqb-true x y k in
+        let low : x < 96 = rw (← same) at l in
+        let before : Some s ≡ slice_index_or old.slots x None = sym here ∙ (so.slots x low ∙ rw member refl) in
+        rw (← same, without.same) (here ∙ (ap (λ (z : Station). Some z) stays ∙ ap (option_map (hears sent)) before))
+    | inr k ↦
+        let other : has left y ≡ has rest y = without.others y (omega arith) (λ z. eqb-false x y k (sym z)) in
+        rw other (so.slots y l)
+  ];
+  busy = so.busy;
+  ages = so.ages;
+}

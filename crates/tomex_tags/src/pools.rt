@@ -164,7 +164,9 @@ impl Pools {
             let place = lowest(rest);
             rest = without(rest, place);
             if let Some(station) = self.at(place) {
-                self.update(place, station.hears(from, value));
+                if station.awaits(from) {
+                    self.update(place, station.hears(from, value));
+                }
             }
         }
     }

@@ -1,6 +1,6 @@
 //! A busy reservation station.
 
-ghost use Rattle.std.specs.Prelude.{◌≡◌, Some};
+ghost use Rattle.std.specs.Prelude.{ℕ, ◌≡◌, Some, false};
 ghost use Rattle.tomex_tags.specs.Operands.{is_there, value_in, heard, only};
 ghost use Rattle.tomex_tags.specs.Contents.{bytes_in, busy_from, hears, is_memory_op, is_ready, lacks_address, step_in, with_address};
 
@@ -61,6 +61,17 @@ fn heard(field: Field, from: usize, value: u32) -> Field
             }
         }
         _ => field,
+    }
+}
+
+/// Whether an operand waits for a place.
+#[inline(always)]
+fn awaits(field: Field, from: usize) -> bool
+    ensures { result ≡ false → (value : ℕ) → field ≡ heard (only from (Some value)) field }
+{
+    match field {
+        Field::Waits(tag) => from == place(tag),
+        _ => false,
     }
 }
 
@@ -127,6 +138,14 @@ impl Station {
             },
             _ => *self,
         }
+    }
+
+    /// Whether an operand waits for a place.
+    #[inline(always)]
+    pub fn awaits(&self, from: usize) -> bool
+        ensures { result ≡ false → (value : ℕ) → self.now ≡ hears (only from (Some value)) self.now }
+    {
+        awaits(self.j, from) || awaits(self.k, from)
     }
 
     /// The station after a place has sent a value.

@@ -6,6 +6,7 @@ use super::{end_of, holds, image_of, tick, unit};
 use crate::{Busy, Field, Machine, Progress, Tables, Tag};
 use std::test::Fail;
 use tomex_config::Config;
+use tomex_image::Image;
 use tomex_rvexec::{Operand, run, trace};
 use tomex_timing::Done;
 use tomex_timing::evaluate::{times, total};
@@ -170,8 +171,33 @@ fn agree(tables: &Tables, steps: &[Done], cycle: u64) -> Result<(), Fail> {
     holds(tables.cycle() == cycle, "tables of another cycle")
 }
 
+/// Advances by 1 to 200 cycles at a time, over cycles in which nothing happens too, and compares where each stops.
+fn compare_pieces(
+    rt: &HostRuntime,
+    image: &Image,
+    row: &Config,
+    steps: &[Done],
+    all: u64,
+    random: &mut Random,
+) -> Result<(), Fail> {
+    let mut machine = Machine::new(rt.alloc(), image, row)?;
+    for _ in 0..5000u32 {
+        let cycle = machine.cycle();
+        if machine.ended() || 1000000 < cycle {
+            break;
+        }
+        let to = cycle + 1 + u64::from(random.below(199));
+        let running = matches!(machine.advance(to), Progress::Running);
+        holds(running == (to < all), "another answer after a piece")?;
+        let reached = if to < all { to } else { all };
+        holds(machine.cycle() == reached, "another cycle after a piece")?;
+        agree(&machine.tables(), steps, reached)?;
+    }
+    holds(machine.ended(), "pieces don't end")
+}
+
 /// Runs a program on a row, and compares each cycle.
-fn compare(rt: &HostRuntime, words: &[u32], row: &Config) -> Result<(), Fail> {
+fn compare(rt: &HostRuntime, words: &[u32], row: &Config, random: &mut Random) -> Result<(), Fail> {
     let image = image_of(rt, words)?;
     let steps = trace(rt.alloc(), &image, 1000).map_err(|_| "no trace")?;
     let timed = times(rt.alloc(), steps.as_slice(), row)?;
@@ -183,6 +209,7 @@ fn compare(rt: &HostRuntime, words: &[u32], row: &Config) -> Result<(), Fail> {
         })?;
     }
     let all = total(timed.as_slice());
+    compare_pieces(rt, &image, row, done.as_slice(), all, random)?;
     let mut machine = Machine::new(rt.alloc(), &image, row)?;
     for cycle in 0..5000u64 {
         if all < cycle {
@@ -210,6 +237,13 @@ fn compare(rt: &HostRuntime, words: &[u32], row: &Config) -> Result<(), Fail> {
 #[test]
 fn random_programs_agree(rt: HostRuntime) -> Result<(), Fail> {
     let slow = [unit(1, 1), unit(1, 3), unit(1, 7), unit(1, 2), unit(1, 1)];
+    let long = [
+        unit(1, 1),
+        unit(1, 30),
+        unit(1, 64),
+        unit(1, 40),
+        unit(1, 12),
+    ];
     let wide = [unit(3, 1), unit(2, 5), unit(2, 20), unit(2, 4), unit(1, 2)];
     let rows = [
         Config::new([1; 6], slow, 1).ok_or("no row")?,
@@ -217,12 +251,13 @@ fn random_programs_agree(rt: HostRuntime) -> Result<(), Fail> {
         Config::new([6, 3, 2, 5, 4, 2], slow, 2).ok_or("no row")?,
         Config::new([16; 6], wide, 1).ok_or("no row")?,
         Config::new([16; 6], slow, 8).ok_or("no row")?,
+        Config::new([4, 2, 1, 3, 2, 2], long, 1).ok_or("no row")?,
     ];
     let mut random = Random { state: 2463534242 };
     for _ in 0..12 {
         let words = random.program();
         for row in rows.iter() {
-            compare(&rt, words.as_slice(), row)?;
+            compare(&rt, words.as_slice(), row, &mut random)?;
         }
     }
     Ok(())

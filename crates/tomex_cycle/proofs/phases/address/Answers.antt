@@ -2,8 +2,8 @@ use Rattle.std.proofs.Common.{◌∙◌, refl, sym}
 use Rattle.tomex_cycle.proofs.Addresses.{made_none, made_some}
 use Rattle.tomex_cycle.proofs.phases.address.Goals as goal
 
-pub returns-in-Some : goal.returns-in-Some
-returns-in-Some c = record { addresses = made_some c.args.next c.in-Some.place c.args.pools.now c.give_address.new.pools _ c.address_next.ensures.busy (λ order by. sym c.in-Some.is ∙ c.address_next.ensures.next order by) refl (c.give_address.ensures.slots (rw c.in-Some.is at c.address_next.ensures.there)) c.give_address.ensures.ages }
+pub returns-in-Some-clause-addresses : goal.returns-in-Some-clause-addresses
+returns-in-Some-clause-addresses c = made_some c.args.next c.in-Some.place c.args.pools.now c.give_address.new.pools _ c.address_next.ensures.busy (λ order by. sym c.in-Some.is ∙ c.address_next.ensures.next order by) refl (c.give_address.ensures.slots (rw c.in-Some.is at c.address_next.ensures.there)) c.give_address.ensures.ages
 
-pub returns-in_default : goal.returns-in_default
-returns-in_default c = record { addresses = made_none c.args.next c.args.pools.now c.address_next.ensures.busy (λ order by. sym c.in_default.is ∙ c.address_next.ensures.next order by) }
+pub returns-in-None-clause-addresses : goal.returns-in-None-clause-addresses
+returns-in-None-clause-addresses c = made_none c.args.next c.args.pools.now c.address_next.ensures.busy (λ order by. sym c.in-None.is ∙ c.address_next.ensures.next order by)

@@ -3,26 +3,20 @@ use Rattle.std.proofs.Common.{refl}
 use Rattle.tomex_cycle.proofs.Cycles.{starts_good, issue_made, cycle_made, cycle_answer, some_none, err_ok}
 use Rattle.tomex_cycle.proofs.inner.Inner.make_cycle.Goals as goal
 
-pub returns-in-Some : goal.returns-in-Some
-returns-in-Some g c = record {
-  cycle = λ n s kind t ends l e good loaded old.
-      absurd (some_none c.start.result c.in-Some.fault c.in-Some.is (starts_good c.args.fetcher.now c.args.row.now n t c.args.next c.args.self.now.count s kind c.start.result _ _ _ _ _ _ c.start.ensures.starts ends e good loaded old));
-  same = refl;
-}
+pub returns-in-Some-clause-cycle : goal.returns-in-Some-clause-cycle
+returns-in-Some-clause-cycle g c =
+    λ n s kind t ends l e good loaded old.
+    absurd (some_none c.start-starts.result.fault c.in-Some.fault c.in-Some.is (starts_good c.args.fetcher.now c.args.row.now n t c.args.next c.args.self.now.count s kind c.start-starts.result.fault _ _ _ _ _ _ c.start-starts.ensures.starts ends e good loaded old))
 
-pub returns-in-Err : goal.returns-in-Err
-returns-in-Err g c = record {
-  cycle = λ n s kind t ends l e good loaded old.
-      let on = issue_made c.args.fetcher.now c.args.row.now n t c.args.next c.args.self.now.count s kind _ _ _ _ _ _ _ _ _ _ _ _ c.start.ensures.starts c.address.ensures.addresses c.issue.ensures.issues ends l e good loaded old in
-      absurd (err_ok c.issue.result on.count c.in-Err.fault on.issued c.in-Err.is);
-  same = c.issue.ensures.same;
-}
+pub returns-in-Err-clause-cycle : goal.returns-in-Err-clause-cycle
+returns-in-Err-clause-cycle g c =
+    λ n s kind t ends l e good loaded old.
+    let on = issue_made c.args.fetcher.now c.args.row.now n t c.args.next c.args.self.now.count s kind _ _ _ _ _ _ _ _ _ _ _ _ c.start-starts.ensures.starts c.address-addressed.ensures.addresses c.issue.ensures.issues ends l e good loaded old in
+    absurd (err_ok c.issue.result on.count c.in-Err.fault on.issued c.in-Err.is)
 
-pub returns : goal.returns
-returns g c = record {
-  cycle = λ n s kind t ends l e good loaded old.
-      let on = issue_made c.args.fetcher.now c.args.row.now n t c.args.next c.args.self.now.count s kind _ _ _ _ _ _ _ _ _ _ _ _ c.start.ensures.starts c.address.ensures.addresses c.issue.ensures.issues ends l e good loaded old in
-      let made = cycle_made c.args.fetcher.now c.args.row.now n t c.args.next c.args.self.now.count s kind _ _ _ _ _ _ _ _ _ on c.end.ensures.ends ends e good loaded in
-      cycle_answer c.args.fetcher.now c.args.row.now n c.args.next c.in-Ok.count s kind _ _ _ _ _ _ _ _ made ends good loaded c.in-Ok.is c.is_over.ensures.busy c.is_over.ensures.over c.after.ensures;
-  same = c.issue.ensures.same;
-}
+pub returns-clause-cycle : goal.returns-clause-cycle
+returns-clause-cycle g c =
+    λ n s kind t ends l e good loaded old.
+    let on = issue_made c.args.fetcher.now c.args.row.now n t c.args.next c.args.self.now.count s kind _ _ _ _ _ _ _ _ _ _ _ _ c.start-starts.ensures.starts c.address-addressed.ensures.addresses c.issue.ensures.issues ends l e good loaded old in
+    let made = cycle_made c.args.fetcher.now c.args.row.now n t c.args.next c.args.self.now.count s kind _ _ _ _ _ _ _ _ _ on c.end-ended.ensures.ends ends e good loaded in
+    cycle_answer c.args.fetcher.now c.args.row.now n c.args.next c.in-Ok.count s kind _ _ _ _ _ _ _ _ made ends good loaded c.in-Ok.is c.is_over.ensures.busy c.is_over.ensures.over c.after.ensures

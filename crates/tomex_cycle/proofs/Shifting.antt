@@ -1,0 +1,170 @@
+-- What a state shows after a cycle it shows after a later one, where nothing happens between.
+use Rattle.std.proofs.Common.{ℕ, zero, suc, ◌+◌, ◌-◌, ◌<◌, ◌≤◌, ◌≡◌, ◌∙◌, Bool, true, false, arith, refl, List, [], ◌∷◌, ◌++◌, Option, Some, None, ap, sym, inl, inr, length, subst}
+use Rattle.std.specs.Prelude.{◌≢◌, nat_lt, nat_le, ◌&&◌, if◌then◌else◌}
+use Rattle.std.specs.List.{AllByRecursion}
+use Rattle.std.proofs.lemmas.Bool.{cases_Bool, cases_order, lt-ltb, le-ltb, ltb-true, ltb-false, le-leb, lt-leb, leb-true, leb-false}
+use Rattle.tomex_image.specs.Image.{Loaded}
+use Rattle.tomex_config.specs.Row.{Row, IsRow}
+use Rattle.tomex_rvexec.specs.declared.outcome.EndKind.{EndKind}
+use Rattle.tomex_rvexec.specs.declared.step.Operand.{Operand}
+use Rattle.tomex_rvexec.specs.declared.step.Step.{Step}
+use Rattle.tomex_rvexec.specs.Flow.{end_of, overwrites}
+use Rattle.tomex_rvexec.specs.History.{step_after}
+use Rattle.tomex_rvexec.specs.Machine.{State}
+use Rattle.tomex_rvexec.specs.Memory.{Bytes}
+use Rattle.tomex_rvexec.specs.Run.{RunEnds}
+use Rattle.tomex_rvexec.specs.Steps.{is_branch, is_number, step_dest, j_of, k_of}
+use Rattle.tomex_timing.specs.declared.times.Done.{Done}
+use Rattle.tomex_timing.specs.History.{cycle_of}
+use Rattle.tomex_timing.specs.Recurrence.{can_issue}
+use Rattle.tomex_timing.specs.Search.{times_of}
+use Rattle.tomex_timing.specs.Tables.{field_of, field_from, producer, tag_of}
+use Rattle.tomex_timing.proofs.Search.{times_are}
+use Rattle.tomex_cycle.specs.declared.fetch.Fetch.{Fetch}
+use Rattle.tomex_cycle.specs.Phases.{IsIssuedTo, IsSnapshot, IsYetToIssue}
+use Rattle.tomex_cycle.specs.Run.{byte_at, run_to}
+use Rattle.tomex_cycle.specs.Views.{clocks, fetch_after, fetch_of, holds_place, place_of, station_at, station_of, ShowsStations, ShowsRegisters, ShowsMemory}
+use Rattle.tomex_cycle.proofs.Quiet.{AllStill, IsStill}
+use Rattle.tomex_cycle.proofs.Runs.{next_done, not_by, run_next, run_timed, step_is}
+use Rattle.tomex_cycle.proofs.Totals.{issued_more}
+use Rattle.tomex_tags.specs.Pools.{Pools}
+use Rattle.tomex_tags.specs.declared.register_status.RegStatus.{RegStatus}
+
+-- both cycles stand alike to the times of the step
+pub record IsAlike (u w : ℕ) (d : Done) : Type 0 where
+  pub address : nat_le (cycle_of d.at.address) u ≡ nat_le (cycle_of d.at.address) w
+  pub start : nat_le d.at.start u ≡ nat_le d.at.start w
+  pub finish : nat_lt u d.at.finish ≡ nat_lt w d.at.finish
+  pub end : nat_lt u d.at.end ≡ nat_lt w d.at.end
+
+abbrev pub AllAlike : ℕ → ℕ → List Done → Type 0
+AllAlike u w h = AllByRecursion (IsAlike u w) h
+
+-- nothing happens after the cycle u up to w
+abbrev pub AllStillAfter : ℕ → ℕ → List Done → Type 0
+AllStillAfter u w h = (k : ℕ) → u < k → k ≤ w → AllStill k h
+
+le_alike : (x u w : ℕ) → u ≤ w → ((k : ℕ) → u < k → k ≤ w → x ≢ k) → nat_le x u ≡ nat_le x w
+le_alike x u w l never = elim (cases_Bool (nat_le x u)) [
+  | inl e ↦ let k : x ≤ u = leb-true x u e in rw (e, le-leb x w (omega arith)) refl
+  | inr e ↦
+      let k : u < x = leb-false x u e in
+      elim (cases_Bool (nat_le x w)) [
+        | inl f ↦ absurd (never x k (leb-true x w f) refl)
+        | inr f ↦ rw (e, f) refl
+      ]
+]
+
+lt_alike : (x u w : ℕ) → u ≤ w → ((k : ℕ) → u < k → k ≤ w → x ≢ k) → nat_lt u x ≡ nat_lt w x
+lt_alike x u w l never = elim (cases_Bool (nat_lt u x)) [
+  | inr e ↦ let k : x ≤ u = ltb-false u x e in rw (e, le-ltb w x (omega arith)) refl
+  | inl e ↦
+      let k : u < x = ltb-true u x e in
+      elim (cases_Bool (nat_lt w x)) [
+        | inr f ↦ absurd (never x k (ltb-false w x f) refl)
+        | inl f ↦ rw (e, f) refl
+      ]
+]
+
+pub all_alike : (u w : ℕ) (h : List Done) → u ≤ w → AllStillAfter u w h → AllAlike u w h
+all_alike u w [] l still = tt
+all_alike u w (d ∷ h) l still = (
+  record {
+    address = le_alike (cycle_of d.at.address) u w l (λ k a b. (still k a b).0.address);
+    start = le_alike d.at.start u w l (λ k a b. (still k a b).0.start);
+    finish = lt_alike d.at.finish u w l (λ k a b. (still k a b).0.finish);
+    end = lt_alike d.at.end u w l (λ k a b. (still k a b).0.end);
+  },
+  all_alike u w h l (λ k a b. (still k a b).1),
+)
+
+producer_alike : (u w r : ℕ) (h : List Done) → AllAlike u w h → producer u h r ≡ producer w h r
+producer_alike u w r [] same = refl
+producer_alike u w r (d ∷ h) same = elim (cases_Bool (is_number (step_dest d.step) r)) [
+  | inl e ↦ rw (e, same.0.end) refl
+  | inr e ↦ rw e (producer_alike u w r h same.1)
+]
+
+field_alike : (u w : ℕ) (h : List Done) (o : Option Operand) → AllAlike u w h → field_of u h o ≡ field_of w h o
+field_alike u w h None same = refl
+field_alike u w h (Some o) same = ap (field_from o.value) (producer_alike u w o.register h same)
+
+station_alike : (i : Loaded) (u w : ℕ) (d : Done) (older : List Done) → AllAlike u w (d ∷ older) → station_of i (clocks u u u) d older ≡ station_of i (clocks w w w) d older
+station_alike i u w d older same = rw (field_alike u w older (j_of d.step) same.1, field_alike u w older (k_of d.step) same.1, same.0.address, same.0.start) refl
+
+stations_alike : (i : Loaded) (u w x : ℕ) (h : List Done) → AllAlike u w h → station_at i (clocks u u u) h x ≡ station_at i (clocks w w w) h x
+stations_alike i u w x [] same = refl
+stations_alike i u w x (d ∷ older) same =
+    let holds : holds_place u x d ≡ holds_place w x d = ap (λ b. is_number (place_of d) x && b) same.0.end in
+    elim (cases_Bool (holds_place w x d)) [
+      | inl e ↦ rw (holds, e, station_alike i u w d older same) refl
+      | inr e ↦ rw (holds, e) (stations_alike i u w x older same.1)
+    ]
+
+byte_alike : (i : Loaded) (u w a : ℕ) (h : List Done) → AllAlike u w h → byte_at i u h a ≡ byte_at i w h a
+byte_alike i u w a [] same = refl
+byte_alike i u w a (d ∷ older) same = rw (same.0.start, byte_alike i u w a older same.1) refl
+
+fetch_alike : (i : Loaded) (u w : ℕ) (h : List Done) → AllAlike u w h → fetch_of i u h ≡ fetch_of i w h
+fetch_alike i u w [] same = refl
+fetch_alike i u w (d ∷ older) same = ap (λ b. fetch_after d.step (is_branch d.step && b) (end_of d.step)) same.0.finish
+
+-- a run's beginning is a part of the run
+pub run_part : (row : Row) (i : Loaded) (n k j : ℕ) (s : State) (kind : EndKind) → RunEnds i n s kind → j + k ≤ n + 1 → (newer : List Done) × (run_to row i (j + k) ≡ newer ++ run_to row i k)
+run_part row i n k zero s kind ends l = let e : 0 + k ≡ k = omega arith in ([], rw e refl)
+run_part row i n k (suc j) s kind ends l =
+    let before = run_part row i n k j s kind ends (omega arith) in
+    let x = step_is i n (j + k) s kind ends (omega arith) in
+    let e : suc j + k ≡ j + k + 1 = omega arith in
+    let g : run_to row i (j + k + 1) ≡ next_done row (run_to row i (j + k)) x.0 ∷ run_to row i (j + k) = run_next row i (j + k) x.0 x.1 in
+    let same : run_to row i (j + k) ≡ before.0 ++ run_to row i k = before.1 in
+    (next_done row (run_to row i (j + k)) x.0 ∷ before.0, rw (e, g) (ap (λ xs. next_done row (run_to row i (j + k)) x.0 ∷ xs) same))
+
+pub run_split : (row : Row) (i : Loaded) (n k m : ℕ) (s : State) (kind : EndKind) → RunEnds i n s kind → k ≤ m → m ≤ n + 1 → (newer : List Done) × (run_to row i m ≡ newer ++ run_to row i k)
+run_split row i n k m s kind ends l high =
+    let e : m - k + k ≡ m = omega arith in
+    subst (λ (x : ℕ). (newer : List Done) × (run_to row i x ≡ newer ++ run_to row i k)) e (run_part row i n k (m - k) s kind ends (omega arith))
+
+still_tail : (k : ℕ) (newer h : List Done) → AllStill k (newer ++ h) → AllStill k h
+still_tail k [] h still = still
+still_tail k (d ∷ newer) h still = still_tail k newer h still.1
+
+pub still_part : (row : Row) (i : Loaded) (n m k : ℕ) (s : State) (kind : EndKind) → RunEnds i n s kind → m ≤ n + 1 → AllStill k (run_to row i (n + 1)) → AllStill k (run_to row i m)
+still_part row i n m k s kind ends l still =
+    let part = run_split row i n m (n + 1) s kind ends l (omega arith) in
+    still_tail k part.0 (run_to row i m) (rw part.1 at still)
+
+-- the next step doesn't issue there either
+yet_later : (row : Row) (i : Loaded) (n count u w : ℕ) (s : State) (kind : EndKind) → IsRow row → RunEnds i n s kind → count ≤ n → u ≤ w → IsYetToIssue i row count u → AllStillAfter u w (run_to row i (n + 1)) → IsYetToIssue i row count w
+yet_later row i n count u w s kind good ends l m yet still x e v low =
+    let h : List Done = run_to row i count in
+    let late : u < (times_of row h x).issue = not_by row h x u good (run_timed row i count good) (yet x e) in
+    let never : (k : ℕ) → u < k → k ≤ w → (times_of row h x).issue ≢ k = λ k a b. (rw (run_next row i count x e) at (still_part row i n (count + 1) k s kind ends (omega arith) (still k a b))).0.issue in
+    let past : w < (times_of row h x).issue = elim (cases_Bool (nat_lt w (times_of row h x).issue)) [
+      | inl f ↦ ltb-true _ _ f
+      | inr f ↦ absurd (never (times_of row h x).issue late (ltb-false w (times_of row h x).issue f) refl)
+    ] in
+    (times_are row h x good (run_timed row i count good)).issue.1 v (omega arith)
+
+-- the snapshot after the cycle u is that after w
+pub shifted : (row : Row) (i : Loaded) (n u w count : ℕ) (s : State) (kind : EndKind) (st : Pools) (rg : RegStatus) (ft : Fetch) (m : Bytes) → IsRow row → RunEnds i n s kind → u ≤ w → AllStillAfter u w (run_to row i (n + 1)) → IsSnapshot i row n u count st rg ft m → IsSnapshot i row n w count st rg ft m
+shifted row i n u w count s kind st rg ft m good ends l still old =
+    let h : List Done = run_to row i count in
+    let few : count ≤ n + 1 = old.issue.few in
+    let same : AllAlike u w h = all_alike u w h l (λ k a b. still_part row i n count k s kind ends few (still k a b)) in
+    record {
+      issue = record {
+        few = few;
+        slots = record { places = old.issue.slots.places; slots = λ x small. old.issue.slots.slots x small ∙ stations_alike i u w x h same; ages_count = old.issue.slots.ages_count; ages = old.issue.slots.ages };
+        status = record {
+          count = old.issue.status.count;
+          status = old.issue.status.status;
+          tags = λ r small. old.issue.status.tags r small ∙ producer_alike u w r h same;
+          values = λ r small none. old.issue.status.values r small (producer_alike u w r h same ∙ none);
+        };
+        from = old.issue.from ∙ fetch_alike i u w h same;
+        issued = issued_more u w h l old.issue.issued;
+        next = λ less. yet_later row i n count u w s kind good ends less l (old.issue.next less) still;
+      };
+      bytes = record { base = old.bytes.base; size = old.bytes.size; bytes = λ a from to. old.bytes.bytes a from to ∙ byte_alike i u w a h same };
+    }

@@ -1,0 +1,32 @@
+-- Where no operation starts, nothing changes.
+use Rattle.std.proofs.Common.{ℕ, zero, suc, ◌+◌, ◌<◌, ◌≡◌, ◌∙◌, Bool, true, false, refl, List, Option, Some, None, ap, sym, length, slice_index_or}
+use Rattle.std.specs.Prelude.{nat_lt, ◌&&◌, if◌then◌else◌}
+use Rattle.std.proofs.lemmas.Bool.{and_right}
+use Rattle.tomex_config.specs.Row.{Row}
+use Rattle.tomex_rvexec.specs.Flow.{byte_in}
+use Rattle.tomex_rvexec.specs.Memory.{Bytes}
+use Rattle.tomex_bus.specs.Sets.{has}
+use Rattle.tomex_bus.proofs.Bits.{none_in}
+use Rattle.tomex_cycle.specs.Phases.{MakesStarts}
+use Rattle.tomex_cycle.specs.Starts.{HaveBegun, HaveStored, IsStarting, begun_if, stored_at, written_by}
+use Rattle.tomex_cycle.proofs.StartsDone.{start_made}
+use Rattle.tomex_tags.specs.Pools.{AreBusy, Pools}
+use Rattle.tomex_tags.specs.declared.station.Station.{Station}
+
+none_begun : (row : Row) (next : ℕ) (m : Bytes) (old : Pools) → length old.slots ≡ 96 → HaveBegun row next m 0 96 old old
+none_begun row next m old count = record { places = count; slots = λ x l. sym (ap (λ b. begun_if row next m b (slice_index_or old.slots x None)) (ap (λ b. nat_lt x 96 && b) (none_in x) ∙ and_right (nat_lt x 96) false refl)); ages = refl }
+
+not_stored : (o : Option Station) (a before : ℕ) → stored_at false o a before ≡ before
+not_stored None a before = refl
+not_stored (Some s) a before = refl
+
+none_written : (slots : List (Option Station)) (byte : ℕ → ℕ) (a k : ℕ) → byte a ≡ written_by slots 0 byte k a
+none_written slots byte a zero = refl
+none_written slots byte a (suc k) = none_written slots byte a k ∙ sym (ap (λ b. stored_at b (slice_index_or slots k None) a (written_by slots 0 byte k a)) (none_in k) ∙ not_stored (slice_index_or slots k None) a (written_by slots 0 byte k a))
+
+none_stored : (slots : List (Option Station)) (m : Bytes) → HaveStored slots 0 96 m m
+none_stored slots m = record { base = refl; size = refl; bytes = λ a from. none_written slots (byte_in m) a 96 }
+
+pub start_none : (row : Row) (next starting : ℕ) (old : Pools) (m : Bytes) → IsStarting row old next starting → AreBusy old.slots old.busy old.ages → starting ≡ 0 → MakesStarts row next old m None old m
+start_none row next starting old m begins filled e =
+    start_made row next old old m m None 0 (rw e at begins) filled (λ count low can. none_begun row next m old count) (λ count low can. refl) (λ low inside. none_stored old.slots m)

@@ -1,0 +1,173 @@
+-- Where a cycle leaves the stations as they were, and no operation finishes in it, nothing happens in it.
+use Rattle.std.proofs.Common.{ℕ, ◌+◌, ◌-◌, ◌<◌, ◌≤◌, ◌≡◌, ◌∙◌, Bool, true, false, arith, refl, List, [], ◌∷◌, ◌++◌, Option, Some, None, ap, sym, inl, inr, append_assoc, slice_index_or}
+use Rattle.std.specs.Prelude.{◌≢◌, nat_lt, nat_le, ◌&&◌, ◌==◌, if◌then◌else◌, not, is_some, MatchOption}
+use Rattle.std.specs.Bool.{MatchBool}
+use Rattle.std.specs.List.{AllByRecursion}
+use Rattle.std.proofs.lemmas.Bool.{cases_Bool, both_ways, lt-ltb, le-ltb, ltb-true, ltb-false, le-leb, lt-leb, and_parts, eq-eqb, MatchBool-at_false, MatchBool-at_true}
+use Rattle.tomex_image.specs.Image.{Loaded, IsLoaded}
+use Rattle.tomex_config.specs.Row.{Row, IsRow, option_of}
+use Rattle.tomex_rvdec.specs.declared.pool.UnitId.{UnitId}
+use Rattle.tomex_rvexec.specs.declared.outcome.EndKind.{EndKind}
+use Rattle.tomex_rvexec.specs.Machine.{State}
+use Rattle.tomex_rvexec.specs.Memory.{Bytes}
+use Rattle.tomex_rvexec.specs.Run.{RunEnds}
+use Rattle.tomex_rvexec.specs.Steps.{address_of, is_number, step_dest, step_unit, j_of}
+use Rattle.tomex_timing.specs.declared.times.Done.{Done}
+use Rattle.tomex_timing.specs.History.{cycle_of, is_memory, greatest_end, last_address, source_end}
+use Rattle.tomex_timing.specs.Recurrence.{AreTimed, IsTimed, IsLeast, can_address, can_start, can_end}
+use Rattle.tomex_cycle.specs.declared.fetch.Fetch.{Fetch}
+use Rattle.tomex_cycle.specs.Ends.{finishes}
+use Rattle.tomex_cycle.specs.Phases.{IsIssuedTo, IsSnapshot, IsYetToIssue}
+use Rattle.tomex_cycle.specs.Run.{AreIssuedBy, run_to}
+use Rattle.tomex_cycle.specs.Views.{clocks, holds_place, place_of, station_at, station_of, ShowsStations}
+use Rattle.tomex_cycle.proofs.Addresses.{number_is_some}
+use Rattle.tomex_cycle.proofs.Cycles.{can_start_later}
+use Rattle.tomex_cycle.proofs.Fields.{timed_part, issued_part}
+use Rattle.tomex_cycle.proofs.Places.{is_vacant, station_here, vacant, vacant_none}
+use Rattle.tomex_cycle.proofs.Quiet.{AllFree, AllStill, AllStillTo, IsStill, quiet}
+use Rattle.tomex_cycle.proofs.Runs.{AreLater, rest_to, run_timed}
+use Rattle.tomex_cycle.proofs.Shifting.{AllStillAfter}
+use Rattle.tomex_cycle.proofs.StartsPicked.{IsSeen, seen}
+use Rattle.tomex_cycle.proofs.Totals.{issued_more, reach}
+use Rattle.tomex_tags.specs.Pools.{Pools}
+use Rattle.tomex_tags.specs.declared.register_status.RegStatus.{RegStatus}
+use Rattle.tomex_tags.specs.declared.station.Station.{Station}
+
+some_not_none : {A : Type 0} (x : A) → Some x ≡ None → ⊥
+some_not_none x e = cc
+
+same_some : {A : Type 0} (x y : A) → Some x ≡ Some y → x ≡ y
+same_some x y e = cc
+
+-- once the step that held a place has ended nothing stands there, since what is younger couldn't take it before
+left_empty : (i : Loaded) (row : Row) (t u x : ℕ) (newer : List Done) (d : Done) (older : List Done) → IsRow row → AreTimed row (newer ++ (d ∷ older)) → AreIssuedBy (t + 1) (newer ++ (d ∷ older)) → u ≡ t + 1 → holds_place t x d ≡ true → d.at.end ≤ u
+    → station_at i (clocks u u u) (newer ++ (d ∷ older)) x ≡ None
+left_empty i row t u x [] d older good timed issued e held over =
+    let at : is_number (place_of d) x ≡ true = (and_parts (is_number (place_of d) x) (nat_lt t d.at.end) held).0 in
+    let free : is_vacant u x older ≡ true = vacant row d older u x good timed (let l : d.at.issue ≤ t + 1 = issued.0 in omega arith) at in
+    rw (at, le-ltb u d.at.end over) (vacant_none i (clocks u u u) older x free)
+left_empty i row t u x (n ∷ newer) d older good timed issued e held over = elim (cases_Bool (holds_place u x n)) [
+  | inr h ↦ rw h (left_empty i row t u x newer d older good timed.1 issued.1 e held over)
+  | inl h ↦
+      let at : is_number (place_of n) x ≡ true = (and_parts (is_number (place_of n) x) (nat_lt u n.at.end) h).0 in
+      let free : is_vacant t x (newer ++ (d ∷ older)) ≡ true = vacant row n (newer ++ (d ∷ older)) t x good timed issued.0 at in
+      let none : station_at i (clocks t t t) (newer ++ (d ∷ older)) x ≡ None = vacant_none i (clocks t t t) (newer ++ (d ∷ older)) x free in
+      let some = station_here i row (clocks t t t) newer d older x good timed.1 issued.1 held in
+      absurd (some_not_none (station_of i (clocks t t t) d older) (sym some ∙ none))
+]
+
+not_begun : (t u start finish : ℕ) → u ≡ t + 1 → (if nat_le start t then Some finish else None) ≡ (if nat_le start u then Some finish else None) → start ≢ u
+not_begun t u start finish e same at =
+    let f : None ≡ Some finish = rw (lt-leb start t (omega arith), le-leb start u (omega arith)) at same in
+    some_not_none finish (sym f)
+
+not_given : (t u a address : ℕ) (memory : Bool) → u ≡ t + 1 → (memory ≡ false → a ≡ 0) → (if memory && nat_le a t then Some address else None) ≡ (if memory && nat_le a u then Some address else None) → a ≢ u
+not_given t u a address false e none same at = let z : a ≡ 0 = none refl in omega arith
+not_given t u a address true e none same at =
+    let f : None ≡ Some address = rw (lt-leb a t (omega arith), le-leb a u (omega arith)) at same in
+    some_not_none address (sym f)
+
+not_done : (u v start finish : ℕ) → start ≤ u → is_number (if nat_le start u then Some finish else None) v ≡ false → finish ≢ v
+not_done u v start finish l none e =
+    let f : (finish == v) ≡ false = rw (le-leb start u l) at none in
+    both_ways (finish == v) f (eq-eqb finish v e)
+
+no_address : (row : Row) (d : Done) (older : List Done) → IsTimed row older d.step d.at → is_memory d.step ≡ false → cycle_of d.at.address ≡ 0
+no_address row d older timed e =
+    let z : d.at.address ≡ None = MatchBool-at_false (IsLeast (can_address older d.step d.at.issue) (cycle_of d.at.address)) _ e timed.address in
+    rw z refl
+
+-- what has ended by a cycle has nothing left in the next one
+over_still : (row : Row) (t u : ℕ) (d : Done) (older : List Done) → IsRow row → AreTimed row (d ∷ older) → d.at.end ≤ t → u ≡ t + 1 → IsStill u d
+over_still row t u d older good timed over e =
+    let r = reach row d older good timed in
+    let a : d.at.issue ≤ d.at.end = r.issue in
+    let b : cycle_of d.at.address ≤ d.at.end = r.address in
+    let c : d.at.start ≤ d.at.end = r.start in
+    let f : d.at.finish ≤ d.at.end = r.finish in
+    record { issue = λ z. omega arith; address = λ z. omega arith; start = λ z. omega arith; finish = λ z. omega arith; end = λ z. omega arith }
+
+-- a busy step, where the cycle leaves its station as it was
+busy_still : (i : Loaded) (row : Row) (t u : ℕ) (old new : Pools) (h newer : List Done) (d : Done) (older : List Done) → IsRow row → AreTimed row h → AreIssuedBy t h → u ≡ t + 1 → ShowsStations i (clocks t t t) h old → ShowsStations i (clocks u u u) h new → new.slots ≡ old.slots
+    → ((x : ℕ) → x < 96 → finishes u (slice_index_or new.slots x None) ≡ false) → h ≡ newer ++ (d ∷ older) → nat_lt t d.at.end ≡ true → IsStill u d
+busy_still i row t u old new h newer d older good timed issued e before after same free split late =
+    let here : AreTimed row (newer ++ (d ∷ older)) = rw split at timed in
+    let by : AreIssuedBy (t + 1) (newer ++ (d ∷ older)) = rw split at (issued_more t (t + 1) h (omega arith) issued) in
+    let part : AreTimed row (d ∷ older) = timed_part row newer (d ∷ older) here in
+    let at = seen i row t old h newer d older good timed issued before split late in
+    elim (cases_Bool (nat_lt u d.at.end)) [
+      | inr l ↦
+          let none : slice_index_or new.slots at.x None ≡ None = after.slots at.x at.small ∙ (ap (λ xs. station_at i (clocks u u u) xs at.x) split ∙ left_empty i row t u at.x newer d older good here by e at.held (ltb-false u d.at.end l)) in
+          let some : slice_index_or new.slots at.x None ≡ Some (station_of i (clocks t t t) d older) = ap (λ xs. slice_index_or xs at.x None) same ∙ at.slot in
+          absurd (some_not_none (station_of i (clocks t t t) d older) (sym some ∙ none))
+      | inl l ↦
+          let more : AreIssuedBy u h = issued_more t u h (omega arith) issued in
+          let now = seen i row u new h newer d older good timed more after split l in
+          let place : at.x ≡ now.x = same_some at.x now.x (sym at.place ∙ now.place) in
+          let stays : station_of i (clocks t t t) d older ≡ station_of i (clocks u u u) d older = same_some _ _ (sym at.slot ∙ (ap (λ xs. slice_index_or xs at.x None) (sym same) ∙ (ap (λ (x : ℕ). slice_index_or new.slots x None) place ∙ now.slot))) in
+          let start : d.at.start ≢ u = not_begun t u d.at.start d.at.finish e (ap (λ (s : Station). s.finish) stays) in
+          let address : cycle_of d.at.address ≢ u = not_given t u (cycle_of d.at.address) (address_of d.step) (is_memory d.step) e (no_address row d older part.0) (ap (λ (s : Station). s.address) stays) in
+          let order : d.at.start ≤ d.at.finish = (reach row d older good part).order in
+          let none : is_number (if nat_le d.at.start u then Some d.at.finish else None) u ≡ false = ap (finishes u) (sym now.slot) ∙ free now.x now.small in
+          let i0 : d.at.issue ≤ t = (issued_part t newer (d ∷ older) (rw split at issued)).0 in
+          let k : u < d.at.end = ltb-true u d.at.end l in
+          record { issue = λ z. omega arith; address = address; start = start; finish = λ z. not_done u u d.at.start d.at.finish (omega arith) none z; end = λ z. omega arith }
+    ]
+
+pub issued_still : (i : Loaded) (row : Row) (t u : ℕ) (old new : Pools) (h newer part : List Done) → IsRow row → AreTimed row h → AreIssuedBy t h → u ≡ t + 1 → ShowsStations i (clocks t t t) h old → ShowsStations i (clocks u u u) h new → new.slots ≡ old.slots
+    → ((x : ℕ) → x < 96 → finishes u (slice_index_or new.slots x None) ≡ false) → h ≡ newer ++ part → AllStill u part
+issued_still i row t u old new h newer [] good timed issued e before after same free split = tt
+issued_still i row t u old new h newer (d ∷ older) good timed issued e before after same free split =
+    let one : IsStill u d = elim (cases_Bool (nat_lt t d.at.end)) [
+      | inl l ↦ busy_still i row t u old new h newer d older good timed issued e before after same free split l
+      | inr l ↦ over_still row t u d older good (timed_part row newer (d ∷ older) (rw split at timed)) (ltb-false t d.at.end l) e
+    ] in
+    (one, issued_still i row t u old new h (newer ++ (d ∷ [])) older good timed issued e before after same free (split ∙ sym (append_assoc newer (d ∷ []) older)))
+
+start_after : (row : Row) (d : Done) (older : List Done) (unit : Option UnitId) → MatchOption unit (d.at.start ≡ d.at.issue) (λ u. IsLeast (can_start row older d.step u d.at.issue (cycle_of d.at.address)) d.at.start) → d.at.issue ≤ d.at.start
+start_after row d older None timed = let e : d.at.start ≡ d.at.issue = timed in omega arith
+start_after row d older (Some u) timed = let l : d.at.issue < d.at.start = can_start_later row d older u d.at.start timed.0 in omega arith
+
+address_after : (row : Row) (d : Done) (older : List Done) (u : ℕ) → IsTimed row older d.step d.at → u < d.at.issue → cycle_of d.at.address ≡ u → 0 < u → ⊥
+address_after row d older u timed l e low = elim (cases_Bool (is_memory d.step)) [
+  | inr m ↦ let z : cycle_of d.at.address ≡ 0 = no_address row d older timed m in omega arith
+  | inl m ↦
+      let least : IsLeast (can_address older d.step d.at.issue) (cycle_of d.at.address) = MatchBool-at_true _ (d.at.address ≡ None) m timed.address in
+      let two = and_parts (nat_lt d.at.issue (cycle_of d.at.address) && nat_lt (source_end older (j_of d.step)) (cycle_of d.at.address)) (nat_lt (last_address older) (cycle_of d.at.address)) least.0 in
+      let k : d.at.issue < cycle_of d.at.address = ltb-true _ _ (and_parts (nat_lt d.at.issue (cycle_of d.at.address)) (nat_lt (source_end older (j_of d.step)) (cycle_of d.at.address)) two.0).0 in
+      omega arith
+]
+
+-- what issues later has nothing before
+pub later_still : (row : Row) (u : ℕ) (newer h : List Done) → IsRow row → AreTimed row (newer ++ h) → AreLater u newer → 0 < u → AllStill u h → AllStill u (newer ++ h)
+later_still row u [] h good timed later low still = still
+later_still row u (d ∷ newer) h good timed later low still =
+    let l : u < d.at.issue = later.0 in
+    let s : d.at.issue ≤ d.at.start = start_after row d (newer ++ h) (step_unit d.step) timed.0.start in
+    let r = reach row d (newer ++ h) good timed in
+    let order : d.at.start ≤ d.at.finish = r.order in
+    let end : d.at.finish ≤ d.at.end = r.finish in
+    (record { issue = λ z. omega arith; address = λ z. address_after row d (newer ++ h) u timed.0 l z low; start = λ z. omega arith; finish = λ z. omega arith; end = λ z. omega arith }, later_still row u newer h good timed.1 later.1 low still)
+
+pub later_free : (row : Row) (u w : ℕ) (newer h : List Done) → AreTimed row (newer ++ h) → AreLater u newer → AllFree u w h → AllFree u w (newer ++ h)
+later_free row u w [] h timed later free = free
+later_free row u w (d ∷ newer) h timed later free = (
+  (λ started _. let l : u < d.at.issue = later.0 in let s : d.at.issue ≤ d.at.start = start_after row d (newer ++ h) (step_unit d.step) timed.0.start in omega arith),
+  later_free row u w newer h timed.1 later.1 free,
+)
+
+-- no station shows a finish in a cycle, so what had started doesn't finish in it
+pub issued_free : (i : Loaded) (row : Row) (u w : ℕ) (st : Pools) (h newer part : List Done) → IsRow row → AreTimed row h → AreIssuedBy u h → u < w → ShowsStations i (clocks u u u) h st → ((x : ℕ) → x < 96 → finishes w (slice_index_or st.slots x None) ≡ false) → h ≡ newer ++ part → AllFree u w part
+issued_free i row u w st h newer [] good timed issued l shown free split = tt
+issued_free i row u w st h newer (d ∷ older) good timed issued l shown free split =
+    let part : AreTimed row (d ∷ older) = timed_part row newer (d ∷ older) (rw split at timed) in
+    let one : d.at.start ≤ u → d.at.finish ≢ w = λ started same. elim (cases_Bool (nat_lt u d.at.end)) [
+      | inl k ↦
+          let now = seen i row u st h newer d older good timed issued shown split k in
+          not_done u w d.at.start d.at.finish started (ap (finishes w) (sym now.slot) ∙ free now.x now.small) same
+      | inr k ↦
+          let over : d.at.end ≤ u = ltb-false u d.at.end k in
+          let end : d.at.finish ≤ d.at.end = (reach row d older good part).finish in
+          omega arith
+    ] in
+    (one, issued_free i row u w st h (newer ++ (d ∷ [])) older good timed issued l shown free (split ∙ sym (append_assoc newer (d ∷ []) older)))

@@ -1,0 +1,21 @@
+use Rattle.std.proofs.Common.{arith, ◌≡◌, ◌∙◌, ap, sym, inl, inr, None, slice_index_or, subst, ℕ}
+use Rattle.std.specs.Prelude.{◌==◌}
+use Rattle.std.proofs.lemmas.Bool.{cases_Bool, eqb-true, eqb-false}
+use Rattle.tomex_bus.proofs.Members.{inside_left}
+use Rattle.tomex_cycle.specs.Finishes.{HasNoneBefore}
+use Rattle.tomex_cycle.proofs.finishes.next_finish.Goals as goal
+
+pub members-preserved : goal.members-preserved
+members-preserved c = record {
+  busy = c.members.invariant.busy;
+  inside = inside_left c.args.pools.now.busy c.members.rest c.without-rest.result c.lowest-place.result c.members.invariant.inside c.without-rest.ensures.others;
+  looked = λ x l. elim (cases_Bool (c.lowest-place.result == x)) [
+    | inl e ↦
+        let same : c.lowest-place.result ≡ x = eqb-true _ _ e in
+        inr (subst (λ (y : ℕ). HasNoneBefore c.args.from c.sooner-best.result (slice_index_or c.args.pools.now.slots y None)) same (λ v from before. rw c.at.ensures at (c.sooner-best.ensures.none v from before)))
+    | inr e ↦ elim (c.members.invariant.looked x l) [
+      | inl left ↦ inl (c.without-rest.ensures.others.others x (omega arith) (λ z. eqb-false _ _ e (sym z)) ∙ left)
+      | inr none ↦ inr (λ v from before. none v from (c.sooner-best.ensures.less v before))
+    ]
+  ];
+}
