@@ -2,3 +2,4 @@
 pub mod Rows
 pub mod Lanes
 pub mod Rule
+pub mod Parts

@@ -11,8 +11,12 @@ mod lane;
 mod lanes;
 pub mod laws;
 mod owner;
+mod part;
 mod rule;
+mod worker;
 
 pub use deque::{RowDeque, Victim};
 pub use lane::Lane;
 pub use lanes::deal;
+pub use part::{Part, settle};
+pub use worker::{Worker, seated};
