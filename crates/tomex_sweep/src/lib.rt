@@ -8,7 +8,6 @@ mod front_row;
 mod fronts;
 mod gate;
 mod laws;
-mod mark;
 mod outcome;
 mod program;
 mod row_run;
@@ -24,8 +23,8 @@ pub use gate::{Gate, OpenGate};
 pub use laws::{
     each_program_ends, each_row_is_lawful, front_is_the_undominated_rows, limit_changes_no_total,
 };
-pub use mark::Mark;
 pub use outcome::{Outcome, SweepError};
 pub use program::{Program, ProgramError};
 pub use study::Study;
+pub use tomex_board::Mark;
 pub use watch::{WatchRange, can_watch};
