@@ -16,6 +16,7 @@ mod study;
 #[cfg(test)]
 mod tests;
 mod watch;
+mod working;
 
 pub use exploring::{explore, run_all};
 pub use front_row::FrontRow;
@@ -28,3 +29,4 @@ pub use program::{Program, ProgramError};
 pub use study::Study;
 pub use tomex_board::Mark;
 pub use watch::{WatchRange, can_watch};
+pub use working::work;
