@@ -3,11 +3,13 @@ use Rattle.std.proofs.Common.{◌≡◌, ◌≢◌, ℕ, zero, suc, ◌+◌, ◌
 use Rattle.std.proofs.lemmas.Option.{slice_get-get_or, slice_get_within}
 use Rattle.std.proofs.lemmas.Bool.{false≢true}
 use Rattle.tomex_sweep.specs.declared.front_row.FrontRow.{FrontRow}
-use Rattle.tomex_sweep.specs.declared.mark.Mark.{Mark}
-use Rattle.tomex_sweep.specs.declared.mark.Mark.TheVariants.{Open, Taken, Finished, Dropped}
+use Rattle.tomex_board.specs.declared.mark.Mark.{Mark}
+use Rattle.tomex_board.specs.declared.mark.Mark.TheVariants.{Open, Taken, Finished, Dropped}
 use Rattle.tomex_sweep.specs.Front.{front_of, rows_from}
 use Rattle.tomex_sweep.specs.Pareto.{AreNumbered, Dominates}
-use Rattle.tomex_sweep.specs.Marks.{AreJudged, AreLawful, finished_from, finished_one, is_closed}
+use Rattle.tomex_sweep.specs.Marks.{AreJudged, finished_from, finished_one}
+use Rattle.tomex_board.specs.Marks.{AreLawful}
+use Rattle.tomex_lanes.specs.Parts.{is_closed}
 use Rattle.tomex_sweep.proofs.Pareto.{Has, AreApart, all_from, distinct, front_is, only_front, has_at}
 
 pub same_row : (n c y : ℕ) (r : FrontRow) → n ≡ r.row → c ≡ r.cost → y ≡ r.cycles → record { row = n; cost = c; cycles = y } ≡ r

@@ -3,8 +3,8 @@ use Rattle.std.proofs.Common.{◌≡◌, ℕ, zero, suc, ◌+◌, ◌<◌, ◌�
 use Rattle.std.specs.Prelude.{slice_index}
 use Rattle.std.proofs.lemmas.Bool.{cases_eq}
 use Rattle.tomex_sweep.specs.declared.bound.Bound.{Bound}
-use Rattle.tomex_sweep.specs.declared.mark.Mark.{Mark}
-use Rattle.tomex_sweep.specs.declared.mark.Mark.TheVariants.{Finished}
+use Rattle.tomex_board.specs.declared.mark.Mark.{Mark}
+use Rattle.tomex_board.specs.declared.mark.Mark.TheVariants.{Finished}
 use Rattle.tomex_sweep.specs.Bounds.{IsBound, IsLeastBound, IsLeastOf}
 
 -- a place of the first ones is that of the list

@@ -11,3 +11,4 @@ pub mod Keys
 pub mod Verdicts
 pub mod StudyFronts
 pub mod LeastBounds
+pub mod Closing

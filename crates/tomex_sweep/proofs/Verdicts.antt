@@ -8,11 +8,13 @@ use Rattle.tomex_sweep.specs.Study.{DesignSpace, IsStudy}
 use Rattle.tomex_sweep.specs.Program.{Workload}
 use Rattle.tomex_sweep.specs.Cycles.{cycles_on, cycles_of}
 use Rattle.tomex_sweep.specs.Front.{front_of, front_of_study}
-use Rattle.tomex_sweep.specs.Marks.{AreJudged, AreLawful, IsJudgement, is_closed, finished_from}
+use Rattle.tomex_sweep.specs.Marks.{AreJudged, IsJudgement, finished_from}
+use Rattle.tomex_board.specs.Marks.{AreLawful}
+use Rattle.tomex_lanes.specs.Parts.{is_closed}
 use Rattle.tomex_sweep.specs.Stops.{stop_at}
 use Rattle.tomex_sweep.specs.declared.front_row.FrontRow.{FrontRow}
-use Rattle.tomex_sweep.specs.declared.mark.Mark.{Mark}
-use Rattle.tomex_sweep.specs.declared.mark.Mark.TheVariants.{Open, Taken, Finished, Dropped}
+use Rattle.tomex_board.specs.declared.mark.Mark.{Mark}
+use Rattle.tomex_board.specs.declared.mark.Mark.TheVariants.{Open, Taken, Finished, Dropped}
 use Rattle.tomex_sweep.specs.declared.stop.Stop.{Stop}
 use Rattle.tomex_sweep.specs.declared.stop.Stop.TheVariants.{Look, Over}
 use Rattle.tomex_sweep.proofs.Judged.{same_front}

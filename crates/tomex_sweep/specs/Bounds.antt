@@ -1,8 +1,8 @@
 -- The bound by which a running row is judged.
 use Rattle.std.specs.Prelude.{◌≡◌, ℕ, ◌<◌, ◌≤◌, ◌⊎◌, List, Option, Some, None, slice_get, slice_index}
 use Rattle.tomex_sweep.specs.declared.bound.Bound.{Bound}
-use Rattle.tomex_sweep.specs.declared.mark.Mark.{Mark}
-use Rattle.tomex_sweep.specs.declared.mark.Mark.TheVariants.{Finished}
+use Rattle.tomex_board.specs.declared.mark.Mark.{Mark}
+use Rattle.tomex_board.specs.declared.mark.Mark.TheVariants.{Finished}
 
 -- row j is finished with so many cycles and costs no more than this
 abbrev pub IsBound : List ℕ → List Mark → ℕ → ℕ → ℕ → Type 0

@@ -3,6 +3,7 @@ pub mod Watch
 pub mod Program
 pub mod Study
 pub mod Cycles
+pub mod Plans
 pub mod Front
 pub mod Pareto
 pub mod Passing

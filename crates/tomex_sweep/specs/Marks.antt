@@ -1,18 +1,10 @@
 -- Marks of rows: when they are lawful, and what the finished ones are.
 use Rattle.std.specs.Prelude.{◌≡◌, ℕ, suc, ◌<◌, ◌≤◌, Bool, true, false, List, [], ◌∷◌, ◌++◌, Some, length, slice_get, slice_index, All}
+use Rattle.tomex_board.specs.Marks.{AreLawful}
+use Rattle.tomex_lanes.specs.Parts.{is_closed}
 use Rattle.tomex_sweep.specs.declared.front_row.FrontRow.{FrontRow}
-use Rattle.tomex_sweep.specs.declared.mark.Mark.{Mark}
-use Rattle.tomex_sweep.specs.declared.mark.Mark.TheVariants.{Finished, Dropped}
-
--- a finished row has its own cycles; a dropped one names a finished row that costs no more and takes strictly fewer cycles
-pub record AreLawful (costs cycles : List ℕ) (marks : List Mark) : Type 0 where
-  pub finished : (i y : ℕ) → slice_get marks i ≡ Some (Finished y) → y ≡ slice_index cycles i
-  pub dropped : (i j : ℕ) → slice_get marks i ≡ Some (Dropped j) → (slice_get marks j ≡ Some (Finished (slice_index cycles j))) × (slice_index costs j ≤ slice_index costs i) × (slice_index cycles j < slice_index cycles i)
-
-abbrev pub is_closed : Mark → Bool
-is_closed (Finished y) = true
-is_closed (Dropped j) = true
-is_closed _ = false
+use Rattle.tomex_board.specs.declared.mark.Mark.{Mark}
+use Rattle.tomex_board.specs.declared.mark.Mark.TheVariants.{Finished, Dropped}
 
 abbrev pub is_finished : Mark → Bool
 is_finished (Finished y) = true

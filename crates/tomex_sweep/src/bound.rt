@@ -3,7 +3,7 @@
 ghost use Rattle.std.specs.Prelude.{◌≡◌, ◌+◌, ◌<◌, ◌≤◌, length, take};
 ghost use Rattle.tomex_sweep.specs.Bounds.{IsFaster, IsLeastOf};
 
-use crate::mark::Mark;
+use tomex_board::Mark;
 
 /// A finished row, with its cycles.
 #[derive(Clone, Copy, Debug, PartialEq, Eq)]

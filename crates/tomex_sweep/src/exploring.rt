@@ -4,21 +4,22 @@ ghost use Rattle.std.specs.Prelude.{◌≡◌, ◌≤◌, ◌<◌, length, map, 
 ghost use Rattle.tomex_sweep.specs.Program.{IsProgram};
 ghost use Rattle.tomex_sweep.specs.Cycles.{cycles_of, cycles_on};
 ghost use Rattle.tomex_sweep.specs.Front.{front_of_study};
-ghost use Rattle.tomex_sweep.specs.Marks.{AreJudged, AreLawful, IsJudgement};
-ghost use Rattle.tomex_sweep.specs.declared.mark.Mark.TheVariants.{Finished};
+ghost use Rattle.tomex_sweep.specs.Marks.{AreJudged, IsJudgement};
+ghost use Rattle.tomex_board.specs.Marks.{AreLawful};
+ghost use Rattle.tomex_board.specs.declared.mark.Mark.TheVariants.{Finished};
 ghost use Rattle.tomex_sweep.specs.declared.outcome.SweepError.TheVariants.{Memory};
 
 use crate::bound::faster_row;
 use crate::fronts::front;
 use crate::gate::Gate;
 use crate::laws::each_program_ends;
-use crate::mark::Mark;
 use crate::outcome::{Outcome, SweepError};
 use crate::program::Program;
 use crate::row_run::{RowRun, row_cycles};
 use crate::stop::Stop;
 use crate::study::Study;
 use std::alloc::{AllocError, Allocator};
+use tomex_board::Mark;
 use tomex_config::Config;
 
 /// Runs each row to its end, on the calling thread.

@@ -7,8 +7,8 @@ ghost use Rattle.tomex_sweep.specs.Passing.{stays_after, InOrder};
 ghost use Rattle.tomex_sweep.specs.Marks.{finished_from, finished_one};
 
 use crate::front_row::FrontRow;
-use crate::mark::Mark;
 use std::alloc::{AllocError, Allocator};
+use tomex_board::Mark;
 
 /// Adds a row where it is finished.
 fn note<A: Allocator>(

@@ -8,13 +8,13 @@ mod front_row;
 mod fronts;
 mod gate;
 mod laws;
-mod mark;
 mod outcome;
 mod program;
 mod row_run;
 mod stop;
 mod study;
 mod watch;
+mod working;
 
 pub use exploring::{explore, run_all};
 pub use front_row::FrontRow;
@@ -22,8 +22,9 @@ pub use gate::{Gate, OpenGate};
 pub use laws::{
     each_program_ends, each_row_is_lawful, front_is_the_undominated_rows, limit_changes_no_total,
 };
-pub use mark::Mark;
 pub use outcome::{Outcome, SweepError};
 pub use program::{Program, ProgramError};
 pub use study::Study;
+pub use tomex_board::Mark;
 pub use watch::{WatchRange, can_watch};
+pub use working::work;

@@ -1,7 +1,7 @@
 -- The row at hand is no bound, the first, a lesser one, or no lesser one.
 use Rattle.std.proofs.Common.{◌∙◌, ap, arith, Some}
 use Rattle.std.proofs.lemmas.Option.{get_or_from_slice_get, slice_get-get_or}
-use Rattle.tomex_sweep.specs.declared.mark.Mark.TheVariants.{Finished, Open}
+use Rattle.tomex_board.specs.declared.mark.Mark.TheVariants.{Finished, Open}
 use Rattle.tomex_sweep.proofs.LeastBounds.{first_one, fewer_one, not_fewer, passed_over}
 use Rattle.tomex_sweep.proofs.bound.with_row.Goals as goal
 

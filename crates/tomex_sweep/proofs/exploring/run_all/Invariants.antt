@@ -1,7 +1,7 @@
 -- The rows so far are finished.
 use Rattle.std.proofs.Common.{◌≡◌, map, take}
 use Rattle.tomex_sweep.specs.Cycles.{cycles_on}
-use Rattle.tomex_sweep.specs.declared.mark.Mark.TheVariants.{Finished}
+use Rattle.tomex_board.specs.declared.mark.Mark.TheVariants.{Finished}
 use Rattle.tomex_sweep.proofs.exploring.run_all.Given as goal
 
 abbrev pub invariant-loop-row : goal.invariant-loop-row

@@ -1,0 +1,25 @@
+-- The rule of a deque of rows.
+use Rattle.std.specs.Prelude.{◌≡◌, ℕ, Bool, true, List, [], ◌∷◌, ◌++◌}
+use mathlib.Core.Option.{some}
+use lib.ListN.{get_elem?}
+use Rattle.crossbeam_deque.specs.Handles.{Pass, view}
+use Rattle.tomex_lanes.specs.declared.known.Known.{Known}
+
+abbrev pub known : Bool → List ℕ → Known
+known filling rows = record { filling = filling; rows = rows }
+
+-- A pass knows the list. One that may add to it is the only one, and nothing of the list comes after
+-- what the deque holds.
+abbrev pub KnowsList : List ℕ → List ℕ → List Known → Known → Type 0
+KnowsList rows after views v = (v.rows ≡ rows) × (v.filling ≡ true → (after ≡ []) × (views ≡ v ∷ []))
+
+-- the deque holds neighbouring places of a list, in order, and each pass knows that list
+abbrev pub HoldsNeighbours : List ℕ → List Known → Type 0
+HoldsNeighbours items views =
+    (rows : List ℕ) × (before : List ℕ) × (after : List ℕ)
+    × (rows ≡ before ++ items ++ after)
+    × ((port : ℕ) (v : Known) → get_elem? views port ≡ some v → KnowsList rows after views v)
+
+-- the list that a pass knows
+abbrev pub pass_rows : {A : Type 0} → Pass ℕ Known A → List ℕ
+pass_rows p = (view p).rows

@@ -1,0 +1,9 @@
+//! Laws of how rows are dealt. The function does nothing: its contract is the law.
+
+ghost use Rattle.tomex_lanes.specs.Lanes.{EachRowIsDealt};
+
+/// Each row is on the list of one of the workers, however many there are.
+#[tactic(auto, using(crate::proofs::Dealing::each_is_dealt))]
+pub fn each_row_is_dealt()
+    ensures { EachRowIsDealt }
+{}

@@ -1,0 +1,22 @@
+//! The rows of a study, dealt in turn to workers. Each worker has its rows in a deque that is first in,
+//! first out, and may steal from the deques of the others.
+//!
+//! A deque is filled before any worker starts, and nothing is added later: `specs/Rule.antt` is the
+//! rule that holds before and after each step on it.
+#![tactic(auto)]
+
+mod deque;
+mod known;
+mod lane;
+mod lanes;
+pub mod laws;
+mod owner;
+mod part;
+mod rule;
+mod worker;
+
+pub use deque::{RowDeque, Victim};
+pub use lane::Lane;
+pub use lanes::deal;
+pub use part::{Part, settle};
+pub use worker::{Worker, seated};

@@ -1,0 +1,76 @@
+-- What a worker does with a row that it has in hand.
+use Rattle.std.proofs.Common.{◌≡◌, ℕ, ◌+◌, ◌-◌, ◌<◌, List, [], ◌∷◌, Some, slice_get, length, get_or, cond, ap, refl, sym, ◌∙◌, subst, inl, All, take, arith, eq-eqb}
+use Rattle.std.proofs.lemmas.List.{length-map}
+use Rattle.std.proofs.lemmas.List.Elements.{All-more, All-weaker}
+use Rattle.tomex_board.specs.Known.{Known}
+use Rattle.tomex_board.specs.declared.view.View.{View}
+use Rattle.tomex_board.specs.Views.{Has, IsNoted, Grows, without}
+use Rattle.tomex_board.proofs.Closes.{grows_on}
+use Rattle.tomex_config.specs.Row.{Row}
+use Rattle.tomex_sweep.specs.Study.{DesignSpace, IsStudy}
+use Rattle.tomex_sweep.specs.Cycles.{cycles_on, cycles_of}
+use Rattle.tomex_sweep.specs.Plans.{IsPlanOf}
+use Rattle.tomex_sweep.specs.Stops.{Going, stop_at}
+use Rattle.tomex_sweep.specs.declared.stop.Stop.{Stop}
+use Rattle.tomex_sweep.specs.declared.stop.Stop.TheVariants.{Look, Over}
+use Rattle.tomex_sweep.proofs.Verdicts.{cycles_at, look_near, over_is}
+
+-- the run is that of the row, and the seat has the row in hand and no other
+pub record IsRunning (s : DesignSpace) (row : ℕ) (first now : Known) (run : Going) : Type 0 where
+  pub board_of : now.board ≡ first.board
+  pub hand : now.view.hand ≡ row ∷ []
+  pub share : now.view.share ≡ first.view.share
+  pub grown : Grows first.view now.view
+  pub programs : run.programs ≡ s.programs
+  pub its_row : slice_get s.rows row ≡ Some run.row
+
+-- a look brings the run nearer to the row's cycles, which are more
+pub look_on : (s : DesignSpace) (row : ℕ) (first now : Known) (run : Going) (p : Stop) (new seen : ℕ) → IsRunning s row first now run → p ≡ stop_at (cycles_on run.programs run.row) (run.reached + 1024) → p ≡ Look seen
+    → (p ≡ Look (run.reached + 1024) → new ≡ run.reached + 1024) → (get_or (cycles_of s) row 0 - new < get_or (cycles_of s) row 0 - run.reached) × (seen < get_or (cycles_of s) row 0)
+look_on s row first now run p new seen is stop looks up =
+    let e : get_or (cycles_of s) row 0 ≡ cycles_on s.programs run.row = cycles_at s row run.row is.its_row in
+    let near = look_near run.programs s.programs run.row run.row p run.reached new seen is.programs refl stop looks up in
+    subst (λ n. (n - new < n - run.reached) × (seen < n)) (sym e) near
+
+-- a run that is over has the row's cycles
+pub over_on : (s : DesignSpace) (row : ℕ) (first now : Known) (run : Going) (p : Stop) (y : ℕ) → IsRunning s row first now run → p ≡ stop_at (cycles_on run.programs run.row) (run.reached + 1024) → p ≡ Over y → y ≡ get_or (cycles_of s) row 0
+over_on s row first now run p y is stop over = over_is run.programs s.programs run.row run.row p run.reached y is.programs refl stop over ∙ sym (cycles_at s row run.row is.its_row)
+
+pub has_it : (hand : List ℕ) (row : ℕ) → hand ≡ row ∷ [] → Has hand row
+has_it hand row is = subst (λ l. Has l row) (sym is) (inl refl)
+
+-- nothing is left of a hand of one row when that goes
+pub none_in_hand : (hand after : List ℕ) (row : ℕ) → hand ≡ row ∷ [] → after ≡ without row hand → after ≡ []
+none_in_hand hand after row is gone = gone ∙ (ap (without row) is ∙ ap (λ b. cond b [] (row ∷ [])) (eq-eqb row row refl))
+
+-- there are as many rows as costs
+pub row_there : (s : DesignSpace) (costs cycles : List ℕ) (row : ℕ) → IsStudy s → IsPlanOf s costs cycles → row < length costs → row < length s.rows
+row_there s costs cycles row is plan low =
+    let long : length s.costs ≡ length s.rows = ap length is.costs ∙ length-map _ _ in
+    let same : length s.costs ≡ length costs = ap length plan.its_costs in
+    omega arith
+
+grows_itself : (v : View) → Grows v v
+grows_itself v = record { noted = λ i h. h; marks = λ i m h. h; bests = λ k. omega arith }
+
+pub first_running : (s : DesignSpace) (row : ℕ) (seat : Known) (run : Going) (item : Row) → seat.view.hand ≡ row ∷ [] → run.programs ≡ s.programs → run.row ≡ item → slice_get s.rows row ≡ Some item → IsRunning s row seat seat run
+first_running s row seat run item hand programs same at =
+    record { board_of = refl; hand = hand; share = refl; grown = grows_itself seat.view; programs = programs; its_row = at ∙ ap (λ (r : Row). Some r) (sym same) }
+
+pub next_running : (s : DesignSpace) (row : ℕ) (first now new : Known) (run next : Going) → IsRunning s row first now run → new.board ≡ now.board → new.view.hand ≡ now.view.hand → new.view.share ≡ now.view.share → Grows now.view new.view
+    → next.programs ≡ run.programs → next.row ≡ run.row → IsRunning s row first new next
+next_running s row first now new run next is board hand share grown programs same = record {
+  board_of = board ∙ is.board_of;
+  hand = hand ∙ is.hand;
+  share = share ∙ is.share;
+  grown = grows_on first.view now.view new.view is.grown grown;
+  programs = programs ∙ is.programs;
+  its_row = is.its_row ∙ ap (λ (r : Row). Some r) (sym same);
+}
+
+-- one row more is noted
+pub one_noted : (v w : View) (rows items : List ℕ) (i : ℕ) → items ≡ rows → i < length items → All (IsNoted v) (take i rows) → Grows v w → IsNoted w (get_or items i 0) → All (IsNoted w) (take (i + 1) rows)
+one_noted v w rows items i same low all grown noted =
+    let below : i < length rows = subst (λ (rs : List ℕ). i < length rs) same low in
+    let here : IsNoted w (get_or rows i 0) = subst (λ (rs : List ℕ). IsNoted w (get_or rs i 0)) same noted in
+    All-more (IsNoted w) rows i 0 below (All-weaker (IsNoted v) (IsNoted w) (λ j h. grown.noted j h) (take i rows) all) here

@@ -1,0 +1,52 @@
+-- A run that is over has the row's cycles; one that is given up has fewer than it has made.
+use Rattle.std.proofs.Common.{◌≡◌, ◌<◌, get_or, ap, ◌∙◌, refl, subst, sym, Some, slice_get, length, List, ℕ, arith}
+use Rattle.std.proofs.lemmas.Option.{slice_get_read}
+use Rattle.tomex_board.specs.declared.view.View.{View}
+use Rattle.tomex_board.proofs.Closes.{grows_on}
+use Rattle.tomex_config.specs.Row.{Row}
+use Rattle.tomex_sweep.specs.Cycles.{cycles_of}
+use Rattle.tomex_sweep.specs.Stops.{Going}
+use Rattle.tomex_sweep.proofs.Closing.{first_running, next_running, look_on, over_on, none_in_hand, row_there}
+use Rattle.tomex_sweep.proofs.working.close_row.Goals as goal
+
+pub loop-run-init : goal.loop-run-init
+loop-run-init g c =
+    let low : c.args.row < length c.rows.result.now = subst (λ (rs : List Row). c.args.row < length rs) (sym c.rows.ensures.value) (row_there c.args.study.now _ _ c.args.row c.rows.ensures.study c.requires.plan c.requires.row) in
+    let read : slice_get c.rows.result.now c.args.row ≡ Some c.index-rows-row.result = slice_get_read c.rows.result.now _ c.args.row c.index-rows-row.result refl low c.index-rows-row.is in
+    let at : slice_get c.args.study.now.rows c.args.row ≡ Some c.index-rows-row.result = ap (λ (rs : List Row). slice_get rs c.args.row) (sym c.rows.ensures.value) ∙ read in
+    first_running _ _ _ _ c.index-rows-row.result c.requires.hand (ap (λ (r : Going). r.programs) c.in_ok-run.ensures ∙ c.programs-2.ensures.value) (ap (λ (r : Going). r.row) c.in_ok-run.ensures) at
+
+pub finish-requires-clause-cycles : goal.finish-requires-clause-cycles
+finish-requires-clause-cycles g c =
+    over_on _ _ _ _ _ _ _ c.loop-run.invariant c.in_ok-cycles.ensures.stop c.in-Over.is ∙ ap (λ (cs : List ℕ). get_or cs c.args.row 0) c.requires.plan.its_cycles
+
+pub returns-in-Over-clause-hand : goal.returns-in-Over-clause-hand
+returns-in-Over-clause-hand g c = none_in_hand _ _ _ c.loop-run.invariant.hand c.finish.ensures.hand
+
+pub returns-in-Over-clause-grown : goal.returns-in-Over-clause-grown
+returns-in-Over-clause-grown g c = grows_on _ _ _ c.loop-run.invariant.grown c.finish.ensures.grown
+
+pub give_up-requires-clause-reached : goal.give_up-requires-clause-reached
+give_up-requires-clause-reached g c =
+    let w = look_on _ _ _ _ _ _ c.go_on.new.self.reached _ c.loop-run.invariant c.in_ok-cycles.ensures.stop c.in-Look.is c.in_ok-cycles.ensures.look in
+    let below : c.in-Look.reached < get_or (cycles_of c.args.study.now) c.args.row 0 = w.1 in
+    let same : get_or (cycles_of c.args.study.now) c.args.row 0 ≡ get_or g.J.Plan.cycles c.args.row 0 = ap (λ (cs : List ℕ). get_or cs c.args.row 0) c.requires.plan.its_cycles in
+    omega arith
+
+pub returns-then-bound-reached-clause-hand : goal.returns-then-bound-reached-clause-hand
+returns-then-bound-reached-clause-hand g c = none_in_hand _ _ _ (c.look.ensures.hand ∙ c.loop-run.invariant.hand) (ap (λ (v : View). v.hand) c.give_up.ensures.view)
+
+pub returns-then-bound-reached-clause-grown : goal.returns-then-bound-reached-clause-grown
+returns-then-bound-reached-clause-grown g c = grows_on _ _ _ c.loop-run.invariant.grown (grows_on _ _ _ c.look.ensures.grown c.give_up.ensures.grown)
+
+pub loop-run-smaller-else-bound-reached : goal.loop-run-smaller-else-bound-reached
+loop-run-smaller-else-bound-reached g c = (look_on _ _ _ _ _ _ c.go_on.new.self.reached _ c.loop-run.invariant c.in_ok-cycles.ensures.stop c.in-Look.is c.in_ok-cycles.ensures.look).0
+
+pub loop-run-preserved-else-bound-reached : goal.loop-run-preserved-else-bound-reached
+loop-run-preserved-else-bound-reached g c = next_running _ _ _ _ _ _ _ c.loop-run.invariant c.look.ensures.board c.look.ensures.hand c.look.ensures.share c.look.ensures.grown c.go_on.ensures.parts.0 c.go_on.ensures.parts.1
+
+pub loop-run-smaller : goal.loop-run-smaller
+loop-run-smaller g c = (look_on _ _ _ _ _ _ c.go_on.new.self.reached _ c.loop-run.invariant c.in_ok-cycles.ensures.stop c.in-Look.is c.in_ok-cycles.ensures.look).0
+
+pub loop-run-preserved : goal.loop-run-preserved
+loop-run-preserved g c = next_running _ _ _ _ _ _ _ c.loop-run.invariant c.look.ensures.board c.look.ensures.hand c.look.ensures.share c.look.ensures.grown c.go_on.ensures.parts.0 c.go_on.ensures.parts.1

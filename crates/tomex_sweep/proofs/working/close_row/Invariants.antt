@@ -1,0 +1,11 @@
+-- The run stays that of the row in hand; each look comes nearer to its cycles.
+use Rattle.std.proofs.Common.{◌-◌, slice_index}
+use Rattle.tomex_sweep.specs.Cycles.{cycles_of}
+use Rattle.tomex_sweep.proofs.Closing.{IsRunning}
+use Rattle.tomex_sweep.proofs.working.close_row.Given as goal
+
+abbrev pub invariant-loop-run : goal.invariant-loop-run
+invariant-loop-run g l = IsRunning l.study l.row l.initial.seat l.seat l.run
+
+abbrev pub decreases-loop-run : goal.decreases-loop-run
+decreases-loop-run g l = slice_index (cycles_of l.study) l.row - l.run.reached
