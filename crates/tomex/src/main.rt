@@ -3,9 +3,9 @@
 
 use std::process::ExitCode;
 use std::{env, io};
-use tomex_command::{command, tell_line_fault};
+pub use tomex_command::{RunRefusal, command, run_text, tell_line_fault};
 use tomex_line::LineFault;
-use tomex_streams::{HostFiles, Stream};
+pub use tomex_streams::{HostFiles, PutFault, Sink, Stream, WriteFault, write_all_of};
 
 /// The words of the command line. One that is no UTF-8 text is refused as a mistake in the line.
 fn words_of(rt: &(impl env::Env + AllocGlobal)) -> Result<Vec<String>, LineFault> {

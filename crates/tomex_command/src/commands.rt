@@ -15,9 +15,6 @@ pub mod tables;
 pub mod times;
 
 use crate::failure::Failure;
-use tomex_streams::Files;
-use tomex_line::{Line, read_line};
-use tomex_streams::{Sink, write_all_of};
 use crate::telling::{tell, tell_line_fault};
 use all::text_of_all;
 use explore::text_of_explore;
@@ -26,6 +23,8 @@ use std::alloc::{Allocator, Global};
 use std::thread::Threads;
 use tables::text_of_tables;
 use times::text_of_times;
+use tomex_line::{Line, read_line};
+use tomex_streams::{Files, Sink, write_all_of};
 
 /// The text that a line asks for.
 fn text_of<R: Threads + Sync, F: Files, A: Allocator + Clone + Send + Sync + Drop>(

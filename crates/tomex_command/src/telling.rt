@@ -4,10 +4,9 @@ ghost use Rattle.tomex_streams.specs.Sinks.{IsWritten};
 ghost use Rattle.tomex_command.specs.Telling.{IsTextOf, IsLineOf, IsFailureTold, IsSaid, IsTold, line_of};
 
 use crate::failure::Failure;
-use tomex_line::LineFault;
-use tomex_streams::shown;
-use tomex_streams::{Sink, write_all_of};
 use std::alloc::{AllocError, Global};
+use tomex_line::LineFault;
+use tomex_streams::{Sink, shown, write_all_of};
 
 /// Writes a text as far as the sink takes it.
 fn say<W: Sink>(sink: &mut W, text: &[u8])

@@ -8,12 +8,12 @@ ghost use Rattle.tomex_report.specs.Answer.{IsAnswer, IsAnswerRefusal};
 ghost use Rattle.tomex_report.specs.FrontReport.{report_of};
 
 use crate::answer_error::AnswerError;
-use tomex_document::StudyError;
 use crate::front_text::front_report;
 use crate::replaying::replay;
 use crate::study::read_study;
 use std::alloc::{AllocError, Allocator, Global};
 use std::thread::Threads;
+use tomex_document::StudyError;
 use tomex_sweep::{FrontRow, Gate, Study, SweepError, explore, run_all};
 
 /// The report of a study whose front is known.

@@ -3,10 +3,9 @@
 ghost use Rattle.std.specs.Prelude.{◌≡◌, ◌≢◌, ◌≤◌, ◌⊎◌, length, map, IfOk, IfErr, string_bytes};
 ghost use Rattle.tomex_report.specs.Study.{AreProgramsOf, IsFileRefusal, IsFirstRefusal, IsProgramOf, IsStudyOf, IsStudyRefusal};
 
-use tomex_document::{Entry, document_of};
-use tomex_document::StudyError;
 use std::alloc::{Allocator, Global};
 use tomex_config::grid;
+use tomex_document::{Entry, StudyError, document_of};
 use tomex_image::{ImageError, load};
 use tomex_sweep::{Program, ProgramError, Study};
 

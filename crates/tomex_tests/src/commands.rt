@@ -1,10 +1,10 @@
 //! Whole runs of the program over files in memory: what they print, and their statuses.
 use crate::in_memory::{Narrow, Shelf};
-use tomex_command::command;
 use std::alloc::Global;
 use std::process::Abort;
 use std::test::Fail;
 use std::thread::Threads;
+use tomex_command::command;
 
 /// What a run of the program left behind.
 #[derive(Drop)]

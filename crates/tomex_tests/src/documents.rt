@@ -1,8 +1,8 @@
 //! What no clause says: that a study is read where there is memory, and the texts of the refusals.
 
-use tomex_report::{StudyError, file_names};
 use std::test::Fail;
 use tomex_image::ImageError;
+use tomex_report::{StudyError, file_names};
 use tomex_rvexec::{Fault, FaultKind};
 
 mod reading;

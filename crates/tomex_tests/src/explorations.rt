@@ -1,11 +1,11 @@
 //! Front reports, over studies and programs in memory.
 use super::commands::PRODUCT;
 use crate::in_memory::{Narrow, Shelf, words};
-use tomex_command::command;
-use tomex_streams::{WriteFault, write_all_of};
 use std::process::Abort;
 use std::test::Fail;
 use std::thread::Threads;
+use tomex_command::command;
+use tomex_streams::{WriteFault, write_all_of};
 
 /// `addi x1,x0,499; addi x1,x1,-1; bne x1,x0,-4; ebreak`, 1,000 steps
 pub const LOOP: &[u8; 16] = b"\x93\x00\x30\x1f\x93\x80\xf0\xff\xe3\x9e\x00\xfe\x73\x00\x10\x00";

@@ -1,11 +1,11 @@
 //! What no contract says: that the calls succeed where there is memory, and the errors' texts.
 
-use tomex_sweep::{Program, ProgramError, Study, WatchRange, can_watch};
 use std::alloc::Global;
 use std::test::Fail;
 use tomex_config::{Config, Prices, UnitOption};
 use tomex_image::{Image, Window, load};
 use tomex_rvexec::{Fault, FaultKind};
+use tomex_sweep::{Program, ProgramError, Study, WatchRange, can_watch};
 
 mod explorations;
 

@@ -4,11 +4,11 @@ ghost use Rattle.tomex_command.specs.FrontLines.{IsFrontOf, IsAllFailure};
 
 use super::study::sources_in;
 use crate::failure::Failure;
-use tomex_streams::Files;
-use tomex_line::AllLine;
 use std::alloc::{Allocator, Global};
 use std::thread::Threads;
+use tomex_line::AllLine;
 use tomex_report::answer_all;
+use tomex_streams::Files;
 
 /// The text that `all` prints. It never tells that a thread was refused.
 pub fn text_of_all<R: Threads + Sync, F: Files, A: Allocator + Clone + Send + Sync + Drop>(

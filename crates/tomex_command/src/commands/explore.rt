@@ -4,11 +4,11 @@ ghost use Rattle.tomex_command.specs.FrontLines.{IsFrontOf, IsExploreFailure};
 
 use super::study::sources_in;
 use crate::failure::Failure;
-use tomex_streams::Files;
-use tomex_line::ExploreLine;
 use std::alloc::{Allocator, Global};
 use std::thread::Threads;
+use tomex_line::ExploreLine;
 use tomex_report::answer;
+use tomex_streams::Files;
 use tomex_sweep::OpenGate;
 
 /// The text that `explore` prints.

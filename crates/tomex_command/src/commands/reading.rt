@@ -4,8 +4,8 @@ ghost use Rattle.tomex_command.specs.Reading.{IsUnread, AreRead, AreUnread};
 ghost use Rattle.tomex_streams.specs.Files.{IsRead};
 
 use crate::failure::Failure;
-use tomex_streams::{Files, ReadFault};
 use std::alloc::{Allocator, Global};
+use tomex_streams::{Files, ReadFault};
 
 /// All bytes of a file.
 pub fn read<F: Files, A: Allocator>(

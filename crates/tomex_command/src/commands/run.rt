@@ -4,11 +4,11 @@ ghost use Rattle.tomex_command.specs.RunLines.{IsRunOf, IsRunFailure};
 
 use super::reading::read;
 use crate::failure::Failure;
-use tomex_streams::Files;
-use tomex_line::RunLine;
 use crate::run::run_text;
 use std::alloc::{Allocator, Global};
 use tomex_image::Window;
+use tomex_line::RunLine;
+use tomex_streams::Files;
 
 /// The text that `run` prints. The window is tested before the file is read.
 pub fn text_of_run<F: Files, A: Allocator + Clone>(

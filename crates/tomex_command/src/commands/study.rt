@@ -4,9 +4,9 @@ ghost use Rattle.tomex_command.specs.StudyFiles.{AreSources, IsStudyIn, IsStudyF
 
 use super::reading::{read, read_all};
 use crate::failure::Failure;
-use tomex_streams::Files;
 use std::alloc::{Allocator, Global};
 use tomex_report::{file_names, read_study};
+use tomex_streams::Files;
 use tomex_sweep::Study;
 
 /// A study's bytes, and those of its programs' files, in the order of the programs.

@@ -6,11 +6,11 @@ ghost use Rattle.tomex_command.specs.TablesLines.{IsTablesOf, IsTablesFailure, I
 use super::chosen::{Chosen, chosen_in};
 use super::study::study_in;
 use crate::failure::Failure;
-use tomex_streams::Files;
-use tomex_line::TablesLine;
 use std::alloc::{Allocator, Global};
 use tomex_cycle::Machine;
+use tomex_line::TablesLine;
 use tomex_report::tables_text;
+use tomex_streams::Files;
 
 /// The text of the tables after a cycle of a program's run on a row. The machine stops at the end of
 /// the run, so a cycle that it doesn't come to is past the end.

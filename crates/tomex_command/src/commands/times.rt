@@ -5,10 +5,10 @@ ghost use Rattle.tomex_command.specs.TimesLines.{IsTimesOf, IsTimesFailure};
 use super::chosen::chosen_in;
 use super::study::study_in;
 use crate::failure::Failure;
-use tomex_streams::Files;
-use tomex_line::TimesLine;
 use std::alloc::{Allocator, Global};
+use tomex_line::TimesLine;
 use tomex_report::times_report;
+use tomex_streams::Files;
 
 /// The text that `times` prints.
 pub fn text_of_times<F: Files, A: Allocator + Clone>(

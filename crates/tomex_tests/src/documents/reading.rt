@@ -1,10 +1,10 @@
 //! Whole studies, with their programs' files: what they come to, and damaged ones.
 
 use super::studies::{STUDY_L, STUDY_M};
-use tomex_report::{StudyError, file_names, read_study};
 use std::process::Abort;
 use std::test::Fail;
 use tomex_config::Config;
+use tomex_report::{StudyError, file_names, read_study};
 use tomex_rvdec::PoolId;
 use tomex_sweep::{Study, WatchRange};
 

@@ -1,8 +1,8 @@
 //! Reports of whole studies: the worked examples, by one worker or several, and with no dropping.
 
 use super::studies::{STUDY_L, STUDY_M};
-use tomex_report::{answer, answer_all};
 use std::test::Fail;
+use tomex_report::{answer, answer_all};
 use tomex_sweep::OpenGate;
 
 /// `addi x1,x0,5; addi x2,x0,7; mul x3,x1,x2; ebreak`

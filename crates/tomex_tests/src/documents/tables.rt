@@ -1,10 +1,10 @@
 //! The texts of tables: those of worked runs, and of tables made by hand.
 
-use tomex_report::tables_text;
 use std::test::Fail;
 use tomex_config::{Config, UnitOption};
 use tomex_cycle::{Busy, Field, Machine, Tables, Tag};
 use tomex_image::{Window, load};
+use tomex_report::tables_text;
 use tomex_rvdec::{PoolId, decode};
 
 /// `addi x1,x0,5; addi x2,x0,7; mul x3,x1,x2; ebreak`

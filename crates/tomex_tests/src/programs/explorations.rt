@@ -1,11 +1,11 @@
 //! Marks of the worked studies.
 
 use super::image_of;
-use tomex_sweep::{FrontRow, Gate, Mark, OpenGate, Program, Study, explore, run_all};
 use std::alloc::Global;
 use std::sync::atomic::{AtomicU64, Ordering};
 use std::test::Fail;
 use tomex_config::{Config, Prices, UnitOption};
+use tomex_sweep::{FrontRow, Gate, Mark, OpenGate, Program, Study, explore, run_all};
 
 /// `addi x1,x0,499; addi x1,x1,-1; bne x1,x0,-4; ebreak`
 const LOOP: [u32; 4] = [0x1f300093, 0xfff08093, 0xfe009ee3, 0x00100073];

@@ -7,10 +7,10 @@ use crate::explorations::{DROPPED, DROPPED_REPORT, LOOP};
 use crate::in_memory::{Narrow, Shelf, words};
 use crate::tables::PRODUCT_AFTER_3;
 use crate::times::{REPORT, STUDY};
-use tomex_command::command;
 use std::alloc::{AllocError, Global};
 use std::test::Fail;
 use std::thread::Threads;
+use tomex_command::command;
 use tomex_refuse::{Budget, Refusing};
 
 /// Runs the program on a command line over files in memory, which is to print this.

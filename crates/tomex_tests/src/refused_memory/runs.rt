@@ -1,10 +1,10 @@
 //! Images, machines, runs, traces and the text of a run.
 
 use super::{Attempt, Heap, Try, refusals};
-use tomex_command::{RunRefusal, run_text};
 use crate::elf_images::ELF;
 use std::alloc::AllocError;
 use std::test::Fail;
+use tomex_command::{RunRefusal, run_text};
 use tomex_image::{Image, ImageError, Window, load};
 use tomex_rvexec::{Cpu, EndKind, RunError, Stepped, run, trace};
 
