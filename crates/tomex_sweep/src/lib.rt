@@ -7,10 +7,13 @@ mod exploring;
 mod front_row;
 mod fronts;
 mod gate;
+mod gathering;
 mod laws;
 mod outcome;
 mod program;
 mod row_run;
+mod stacks;
+mod started;
 mod stop;
 mod study;
 #[cfg(test)]
