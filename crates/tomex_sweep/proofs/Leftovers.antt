@@ -1,19 +1,22 @@
 -- Rows that are left are run one after another, and closed.
-use Rattle.std.proofs.Common.{◌≡◌, ◌≢◌, ℕ, zero, suc, ◌+◌, ◌<◌, ◌≤◌, List, [], ◌∷◌, length, set, take, get_or, All, Bool, true, false, Some, None, slice_get, ap, refl, sym, ◌∙◌, subst, arith}
+use Rattle.std.proofs.Common.{◌≡◌, ◌≢◌, ℕ, zero, suc, ◌+◌, ◌<◌, ◌≤◌, List, [], ◌∷◌, length, set, take, get_or, All, true, false, Some, slice_get, ap, refl, sym, ◌∙◌, subst, arith}
 use Rattle.std.specs.Prelude.{sum_by}
 use mathlib.Core.Logic.{dite}
 use native.Mathlib.Decide.{ℕ_discrete}
 use Rattle.std.proofs.lemmas.Bool.{true≢false}
-use Rattle.std.proofs.lemmas.List.{length-set, take_all, take_more_set, take-set}
+use Rattle.std.proofs.lemmas.List.{length-set, length-map, take_all, take_more_set}
 use Rattle.std.proofs.lemmas.List.Elements.{All-nil, All-more, All-push, All-head, All-tail}
 use Rattle.std.proofs.lemmas.List.Sums.{sum_by_more, sum_by-cons}
-use Rattle.std.proofs.lemmas.Option.{slice_get-get_or, get_or_from_slice_get, slice_get_within}
+use Rattle.std.proofs.lemmas.Option.{slice_get-get_or, slice_get_read, get_or_from_slice_get, slice_get_within}
 use Rattle.tomex_board.specs.Marks.{AreLawful}
 use Rattle.tomex_board.specs.declared.mark.Mark.{Mark}
 use Rattle.tomex_board.specs.declared.mark.Mark.TheVariants.{Open, Taken, Finished, Dropped}
 use Rattle.tomex_lanes.specs.Parts.{is_closed}
-use Rattle.tomex_sweep.specs.Study.{DesignSpace}
-use Rattle.tomex_sweep.specs.Cycles.{cycles_of}
+use Rattle.tomex_config.specs.Row.{Row}
+use Rattle.tomex_sweep.specs.Program.{Workload}
+use Rattle.tomex_sweep.specs.Study.{DesignSpace, IsStudy}
+use Rattle.tomex_sweep.specs.Cycles.{cycles_of, cycles_on}
+use Rattle.tomex_sweep.proofs.Verdicts.{cycles_at}
 use Rattle.tomex_sweep.specs.Marks.{AreJudged, left_of_mark, rows_left}
 
 get_set_same : (ms : List Mark) (i : ℕ) (x : Mark) → i < length ms → slice_get (set ms i x) i ≡ Some x
@@ -125,3 +128,15 @@ none_left (m ∷ ms) all =
     let others : rows_left ms ≡ 0 = none_left ms (All-tail (λ (x : Mark). is_closed x ≡ true) m ms all) in
     let both = sum_by-cons left_of_mark m ms in
     omega arith
+
+pub read_mark : (ms : List Mark) (i : ℕ) (m : Mark) → i < length ms → m ≡ get_or ms i m → get_or ms i Open ≡ m
+read_mark ms i m low at = get_or_from_slice_get ms i m Open (slice_get_read ms (length ms) i m refl low at)
+
+-- the cycles that a run of a row of the study gives
+pub run_cycles : (s : DesignSpace) (programs : List Workload) (rows : List Row) (item : Row) (row y : ℕ) → IsStudy s → programs ≡ s.programs → rows ≡ s.rows → row < length s.costs → item ≡ get_or rows row item → y ≡ cycles_on programs item → y ≡ get_or (cycles_of s) row 0
+run_cycles s programs rows item row y is same_programs same_rows low at ran =
+    let long : length s.costs ≡ length s.rows = ap length is.costs ∙ length-map _ _ in
+    let rows_long : length rows ≡ length s.rows = ap length same_rows in
+    let read : slice_get rows row ≡ Some item = slice_get_read rows (length rows) row item refl (omega arith) at in
+    let here : slice_get s.rows row ≡ Some item = ap (λ (rs : List Row). slice_get rs row) (sym same_rows) ∙ read in
+    ran ∙ (ap (λ (ps : List Workload). cycles_on ps item) same_programs ∙ sym (cycles_at s row item here))
