@@ -12,3 +12,6 @@ pub mod Verdicts
 pub mod StudyFronts
 pub mod LeastBounds
 pub mod Closing
+pub mod Moves
+pub mod Leftovers
+pub mod Crewed

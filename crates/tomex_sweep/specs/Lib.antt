@@ -4,6 +4,7 @@ pub mod Program
 pub mod Study
 pub mod Cycles
 pub mod Plans
+pub mod Crews
 pub mod Front
 pub mod Pareto
 pub mod Passing

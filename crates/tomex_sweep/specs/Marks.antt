@@ -1,5 +1,5 @@
 -- Marks of rows: when they are lawful, and what the finished ones are.
-use Rattle.std.specs.Prelude.{◌≡◌, ℕ, suc, ◌<◌, ◌≤◌, Bool, true, false, List, [], ◌∷◌, ◌++◌, Some, length, slice_get, slice_index, All}
+use Rattle.std.specs.Prelude.{◌≡◌, ℕ, suc, ◌<◌, ◌≤◌, Bool, true, false, List, [], ◌∷◌, ◌++◌, Some, length, slice_get, slice_index, All, sum_by, if◌then◌else◌}
 use Rattle.tomex_board.specs.Marks.{AreLawful}
 use Rattle.tomex_lanes.specs.Parts.{is_closed}
 use Rattle.tomex_sweep.specs.declared.front_row.FrontRow.{FrontRow}
@@ -15,6 +15,14 @@ pub record AreJudged (costs cycles : List ℕ) (marks : List Mark) : Type 0 wher
   pub count : length marks ≡ length costs
   pub closed : All (λ m. is_closed m ≡ true) marks
   pub lawful : AreLawful costs cycles marks
+
+-- one for a row that nobody closed
+abbrev pub left_of_mark : Mark → ℕ
+left_of_mark m = if is_closed m then 0 else 1
+
+-- how many rows nobody closed
+abbrev pub rows_left : List Mark → ℕ
+rows_left marks = sum_by left_of_mark marks
 
 -- the row of this number, cost and mark, where it is finished
 abbrev pub finished_one : ℕ → ℕ → Mark → List FrontRow
