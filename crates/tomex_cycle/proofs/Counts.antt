@@ -1,8 +1,8 @@
 -- How many cycles are made: each in which something happens, and after one in which nothing does none up to the next finish.
-use Rattle.std.proofs.Common.{ℕ, zero, suc, ◌+◌, ◌-◌, ◌*◌, ◌<◌, ◌≤◌, ◌≡◌, ◌∙◌, Bool, true, false, arith, refl, List, ap, sym, inl, inr, ◌⊎◌, subst}
+use Rattle.std.proofs.Common.{ℕ, zero, suc, ◌+◌, ◌-◌, ◌*◌, ◌<◌, ◌≤◌, ◌≡◌, ◌∙◌, arith, refl, List, ap, sym, inl, inr, ◌⊎◌, subst}
 use Rattle.std.specs.Prelude.{◌==◌, if◌then◌else◌}
 use Rattle.std.proofs.Math.Numerals.{suc-eq-add-one}
-use Rattle.std.proofs.lemmas.Bool.{cases_Bool, eq-eqb, eqb-true}
+use Rattle.std.proofs.lemmas.Bool.{cases_Bool, eq-eqb}
 use Rattle.tomex_timing.specs.declared.times.Done.{Done}
 use Rattle.tomex_cycle.specs.Events.{IsCounted, Passes, busy_by, events_by, events_in}
 

@@ -1,15 +1,15 @@
 -- What a phase or a station shows is an event of the cycle.
-use Rattle.std.proofs.Common.{ℕ, zero, suc, ◌+◌, ◌-◌, ◌^◌, ◌<◌, ◌≤◌, ◌≡◌, ◌∙◌, Bool, true, false, arith, refl, List, [], ◌∷◌, ◌++◌, Option, Some, None, ap, sym, inl, inr, ◌⊎◌, append_assoc, slice_index_or, length, max}
-use Rattle.std.specs.Prelude.{◌≢◌, nat_lt, nat_le, ◌&&◌, ◌||◌, ◌==◌, if◌then◌else◌, is_some, not, Result, Ok}
-use Rattle.std.specs.Int.{w128, bit_at, trailing_zeros}
+use Rattle.std.proofs.Common.{ℕ, ◌+◌, ◌^◌, ◌<◌, ◌≤◌, ◌≡◌, ◌∙◌, Bool, true, false, arith, refl, List, [], ◌∷◌, ◌++◌, Option, Some, None, ap, sym, inl, inr, ◌⊎◌, append_assoc, slice_index_or, length, max}
+use Rattle.std.specs.Prelude.{◌≢◌, nat_lt, nat_le, ◌&&◌, ◌==◌, if◌then◌else◌, is_some, not, Result, Ok}
+use Rattle.std.specs.Int.{w128, trailing_zeros}
 use Rattle.std.proofs.lemmas.Nat.Bits.{bit_at-trailing_zeros, bit_at_above}
-use Rattle.std.proofs.lemmas.Bool.{cases_Bool, both_ways, and_parts, eq-eqb, eqb-true, ne_eqb, ltb-true, ltb-false, lt-ltb, le-leb, leb-true, leb-false}
+use Rattle.std.proofs.lemmas.Bool.{cases_Bool, both_ways, and_parts, eq-eqb, eqb-true, ne_eqb, ltb-true, ltb-false}
 use Rattle.tomex_image.specs.Image.{Loaded, IsLoaded}
 use Rattle.tomex_config.specs.Row.{Row, IsRow}
 use Rattle.tomex_rvexec.specs.declared.outcome.EndKind.{EndKind}
 use Rattle.tomex_rvexec.specs.Machine.{State}
 use Rattle.tomex_rvexec.specs.Run.{RunEnds}
-use Rattle.tomex_rvexec.specs.Steps.{is_number, j_of, step_pool, step_unit, step_dest}
+use Rattle.tomex_rvexec.specs.Steps.{is_number, j_of, step_pool, step_unit}
 use Rattle.tomex_timing.specs.declared.tables.Field.{Field}
 use Rattle.tomex_timing.specs.declared.tables.Field.TheVariants.{Value, Waits, Unread}
 use Rattle.tomex_timing.specs.declared.times.Done.{Done}
@@ -20,7 +20,7 @@ use Rattle.tomex_timing.specs.Tables.{field_of}
 use Rattle.tomex_bus.specs.Sets.{has}
 use Rattle.tomex_bus.proofs.Bits.{has_one, has_none}
 use Rattle.tomex_cycle.specs.Ends.{AreEnding, finishes}
-use Rattle.tomex_cycle.specs.Events.{events_in, events_of, falls_in}
+use Rattle.tomex_cycle.specs.Events.{events_in, events_of}
 use Rattle.tomex_cycle.specs.Phases.{AddressHappens, EndsHappen, IsSnapshot, IsYetToIssue, MakesStarts, StartsHappen}
 use Rattle.tomex_cycle.proofs.Cycles.{IsUnderWay, ok_same}
 use Rattle.tomex_cycle.proofs.Shifting.{run_split}

@@ -1,6 +1,6 @@
 -- What is made and what is passed, as counts of cycles see it.
 use Rattle.std.proofs.Common.{ℕ, ◌+◌, ◌<◌, ◌≤◌, ◌≡◌, ◌∙◌, Bool, true, false, arith, refl, List, Option, Some, None, ap, sym, inl, inr, ◌⊎◌, slice_index_or}
-use Rattle.std.specs.Prelude.{nat_lt, if◌then◌else◌, IfSome, ⊤}
+use Rattle.std.specs.Prelude.{nat_lt, if◌then◌else◌, IfSome}
 use Rattle.std.proofs.lemmas.Bool.{cases_Bool, ltb-true, ltb-false}
 use Rattle.tomex_image.specs.Image.{Loaded, IsLoaded}
 use Rattle.tomex_config.specs.Row.{Row, IsRow}
@@ -19,7 +19,7 @@ use Rattle.tomex_cycle.specs.Finishes.{FinishesSoon, IsFinish, IsFree, StopsAt}
 use Rattle.tomex_cycle.specs.Phases.{IsSnapshot}
 use Rattle.tomex_cycle.specs.Run.{run_of, run_to}
 use Rattle.tomex_cycle.specs.Sound.{IsAfter, IsSound}
-use Rattle.tomex_cycle.specs.Views.{clocks, station_at}
+use Rattle.tomex_cycle.specs.Views.{clocks}
 use Rattle.tomex_cycle.proofs.Happens.{finish_happens, over_happens, run_happens, still_none}
 use Rattle.tomex_cycle.proofs.Quiet.{AllStillTo}
 use Rattle.tomex_cycle.proofs.Runs.{run_whole}

@@ -1,4 +1,3 @@
-use Rattle.std.proofs.Common.{arith}
 use Rattle.tomex_cycle.proofs.Happens.{start_happens}
 use Rattle.tomex_cycle.proofs.StartsDone.{start_made}
 use Rattle.tomex_cycle.proofs.StartsNone.{start_none}

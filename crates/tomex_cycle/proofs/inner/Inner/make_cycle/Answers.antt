@@ -1,5 +1,4 @@
 -- The phases make a cycle, and what is left when it is made says whether the run is over.
-use Rattle.std.proofs.Common.{refl}
 use Rattle.tomex_cycle.proofs.Cycles.{starts_good, issue_made, cycle_made, cycle_answer, some_none, err_ok}
 use Rattle.tomex_cycle.proofs.Happens.{cycle_happens}
 use Rattle.tomex_cycle.proofs.inner.Inner.make_cycle.Goals as goal

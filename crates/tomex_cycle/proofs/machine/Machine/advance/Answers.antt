@@ -1,9 +1,9 @@
-use Rattle.std.proofs.Common.{◌≡◌, ◌≤◌, ◌<◌, arith, refl, ap, sym, ◌∙◌}
+use Rattle.std.proofs.Common.{◌≡◌, ◌<◌, arith, refl, ap, sym, ◌∙◌}
 use Rattle.tomex_cycle.specs.Seen.{Counted, seen_after}
 use Rattle.tomex_config.specs.Row.{Row}
 use Rattle.tomex_image.specs.Image.{Loaded}
 use Rattle.tomex_cycle.specs.declared.progress.Progress.TheVariants.{Running}
-use Rattle.tomex_cycle.proofs.Counts.{paid_counts, paid_first, paid_next}
+use Rattle.tomex_cycle.proofs.Counts.{paid_first, paid_next}
 use Rattle.tomex_cycle.proofs.machine.Machine.advance.Goals as goal
 
 pub loop-self-init : goal.loop-self-init

@@ -1,4 +1,4 @@
-use Rattle.std.proofs.Common.{ℕ, ◌≡◌, ◌≤◌, ◌<◌, ◌+◌, ap, arith, ◌∙◌, subst}
+use Rattle.std.proofs.Common.{◌≤◌, ◌+◌, ap, arith, ◌∙◌, subst}
 use Rattle.tomex_rvexec.specs.Run.{EndsWithin}
 use Rattle.tomex_cycle.specs.Events.{Passes}
 use Rattle.tomex_cycle.specs.Run.{run_of}

@@ -1,5 +1,5 @@
-use Rattle.std.proofs.Common.{◌≡◌, ◌<◌, ◌≤◌, ◌+◌, ◌∙◌, ap, arith}
-use Rattle.tomex_cycle.specs.Seen.{seen, seen_after}
+use Rattle.std.proofs.Common.{◌≡◌, ◌+◌, ap, arith}
+use Rattle.tomex_cycle.specs.Seen.{seen}
 use Rattle.tomex_cycle.proofs.Ticks.{kept_seen}
 use Rattle.tomex_cycle.proofs.Counts.{none_counts, one_counts}
 use Rattle.tomex_cycle.proofs.machine.Machine.tick.Goals as goal
