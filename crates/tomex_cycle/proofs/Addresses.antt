@@ -94,7 +94,7 @@ or_else_none : (a : Option ℕ) → or_else a None ≡ a
 or_else_none None = refl
 or_else_none (Some x) = refl
 
-not_le : (a b : ℕ) → not (nat_le a b) ≡ true → b < a
+pub not_le : (a b : ℕ) → not (nat_le a b) ≡ true → b < a
 not_le a b e = elim (cases_Bool (nat_le a b)) [
   | inl l ↦ let f : not true ≡ true = rw l at e in absurd (cc)
   | inr l ↦ leb-false a b l
@@ -125,7 +125,7 @@ pub some_waits : (row : Row) (t y : ℕ) (h : List Done) → AreTimed row h → 
 some_waits row t y [] timed e = absurd (cc)
 some_waits row t y (d ∷ older) timed e = some_waits_by row t y d older (chosen t older) timed.0 refl (λ z f. some_waits row t z older timed.1 f) e
 
-holds_by : (t y : ℕ) (d : Done) → place_of d ≡ Some y → waits_for_address t d ≡ true → holds_place t y d ≡ true
+pub holds_by : (t y : ℕ) (d : Done) → place_of d ≡ Some y → waits_for_address t d ≡ true → holds_place t y d ≡ true
 holds_by t y d e w =
     let a = and_parts (nat_lt t d.at.end) (is_memory d.step && not (nat_le (cycle_of d.at.address) t)) w in
     rw (e, a.0, eq-eqb y y refl) refl
@@ -165,7 +165,7 @@ pub memory_j : (x : Step) → is_memory x ≡ true → j_of x ≡ Some (operand 
 memory_j x e = ap (option_map (operand x.vj)) (memory_j_op x.instr.op x.instr.rs1 x.instr.rs2 e)
 
 -- the address test of the next cycle, where no older address is to come
-test_is : (row : Row) (t u : ℕ) (d : Done) (older : List Done) → IsTimed row older d.step d.at → AreTimed row older → AreIssuedBy t (d ∷ older) → u ≡ t + 1 → is_memory d.step ≡ true → last_address older ≤ t → t < cycle_of d.at.address
+pub test_is : (row : Row) (t u : ℕ) (d : Done) (older : List Done) → IsTimed row older d.step d.at → AreTimed row older → AreIssuedBy t (d ∷ older) → u ≡ t + 1 → is_memory d.step ≡ true → last_address older ≤ t → t < cycle_of d.at.address
     → is_there (field_of t older (j_of d.step)) ≡ (cycle_of d.at.address == u)
 test_is row t u d older timed before issued e m last late =
     let test : can_address older d.step d.at.issue u ≡ (cycle_of d.at.address == u) = least_test (can_address older d.step d.at.issue) (cycle_of d.at.address) u (address_is row d older timed m) (omega arith) in

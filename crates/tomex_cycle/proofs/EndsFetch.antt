@@ -229,7 +229,7 @@ names_are i row t u st rg h good timed issued next shown regs r x l e s here =
     named_in i row t u r st h [] h tag.0 s good timed issued next shown refl (sym (regs.tags r l) ∙ tag.1) (ap (λ y. slice_index_or st.slots y None) tag.2 ∙ here)
 
 -- what ends is busy
-ending_low : (st : Pools) (buses next ending : ℕ) → AreEnding st buses next ending → AreBusy st.slots st.busy st.ages → (x : ℕ) → x < 128 → has ending x ≡ true → x < 96
+pub ending_low : (st : Pools) (buses next ending : ℕ) → AreEnding st buses next ending → AreBusy st.slots st.busy st.ages → (x : ℕ) → x < 128 → has ending x ≡ true → x < 96
 ending_low st buses next ending ends filled x l e = low_of st x filled l (elim (or_cases _ _ (sym (ends.all x l) ∙ e)) [
   | inl k ↦ (and_parts _ _ (sym (ends.are_ready x l) ∙ ends.sent.inside x l k)).0
   | inr k ↦ (and_parts _ _ k).0

@@ -1,5 +1,5 @@
 -- Where nothing ends, nothing changes.
-use Rattle.std.proofs.Common.{ℕ, ◌+◌, ◌<◌, ◌≡◌, ◌∙◌, Bool, true, false, refl, List, Option, Some, None, ap, sym, length, slice_index, slice_index_or, option_map}
+use Rattle.std.proofs.Common.{ℕ, ◌≡◌, ◌∙◌, false, refl, List, Option, Some, None, ap, sym, slice_index, slice_index_or, option_map}
 use Rattle.std.specs.Prelude.{nat_lt, ◌&&◌, if◌then◌else◌}
 use Rattle.std.proofs.lemmas.Bool.{and_right}
 use Rattle.tomex_config.specs.Row.{Row}
@@ -9,7 +9,7 @@ use Rattle.tomex_timing.specs.declared.tables.Field.TheVariants.{Value, Waits, U
 use Rattle.tomex_bus.specs.Sets.{has}
 use Rattle.tomex_bus.proofs.Bits.{none_in}
 use Rattle.tomex_cycle.specs.declared.fetch.Fetch.{Fetch}
-use Rattle.tomex_cycle.specs.Ends.{AreEnded, AreEnding, EndsIn, Follows, HaveReceived, Hears, after_ends, sends_of, sent_below}
+use Rattle.tomex_cycle.specs.Ends.{AreEnding, EndsIn, Follows, Hears, after_ends, sends_of, sent_below}
 use Rattle.tomex_cycle.specs.Phases.{MakesEnds}
 use Rattle.tomex_cycle.proofs.EndsFetch.{made_ends}
 use Rattle.tomex_tags.specs.Contents.{hears}

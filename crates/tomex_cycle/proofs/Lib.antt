@@ -32,3 +32,6 @@ pub mod Stillness
 pub mod StartsNone
 pub mod EndsNone
 pub mod Skips
+pub mod Happens
+pub mod Counts
+pub mod Moves

@@ -1,9 +1,9 @@
 -- Where nothing happens in a cycle and nothing finishes for a while, nothing happens for that while.
-use Rattle.std.proofs.Common.{ℕ, zero, suc, ◌+◌, ◌-◌, ◌<◌, ◌≤◌, ◌≡◌, ◌∙◌, Bool, true, false, arith, refl, List, [], ◌∷◌, ◌++◌, Option, Some, None, ap, sym, inl, inr}
+use Rattle.std.proofs.Common.{ℕ, zero, suc, ◌+◌, ◌<◌, ◌≤◌, ◌≡◌, ◌∙◌, Bool, true, false, arith, refl, List, [], ◌∷◌, Option, Some, None, ap, sym, inl, inr}
 use Rattle.std.specs.Prelude.{◌≢◌, nat_lt, nat_le, ◌==◌, not, ◌&&◌, ◌||◌, is_some, count_by, if◌then◌else◌, MatchOption}
 use Rattle.std.specs.Bool.{MatchBool}
-use Rattle.std.specs.List.{list_all, AllByRecursion}
-use Rattle.std.proofs.lemmas.Bool.{cases_Bool, cases_order, both_ways, lt-ltb, le-ltb, ltb-true, le-leb, lt-leb, leb-true, leb-false, ne_eqb, and_parts, and_from, and_right, or_right, MatchBool-at_true, MatchBool-at_false}
+use Rattle.std.specs.List.{AllByRecursion}
+use Rattle.std.proofs.lemmas.Bool.{cases_Bool, cases_order, both_ways, lt-ltb, ltb-true, le-leb, lt-leb, leb-true, leb-false, ne_eqb, and_parts, and_from, and_right}
 use Rattle.std.proofs.lemmas.List.Sums.{sum_by-cons}
 use Rattle.tomex_config.specs.Row.{Row, IsRow, option_of}
 use Rattle.tomex_rvdec.specs.declared.pool.PoolId.{PoolId}
@@ -15,7 +15,7 @@ use Rattle.tomex_timing.specs.declared.times.Done.{Done}
 use Rattle.tomex_timing.specs.declared.times.Times.{Times}
 use Rattle.tomex_timing.specs.History.{is_of, is_memory, cycle_of, writer_end, source_end, last_issue, last_address}
 use Rattle.tomex_timing.specs.Station.{is_held, has_station}
-use Rattle.tomex_timing.specs.Recurrence.{AreTimed, IsTimed, IsLeast, can_issue, can_address, can_start, can_end, has_unit, has_bus, has_operands, are_branches_finished, conflicts, are_conflicts_finished}
+use Rattle.tomex_timing.specs.Recurrence.{AreTimed, IsLeast, can_issue, can_address, can_start, can_end, has_unit, has_bus, has_operands, are_branches_finished, conflicts, are_conflicts_finished}
 use Rattle.tomex_timing.specs.Laws.{can_issue_alone}
 use Rattle.tomex_timing.proofs.Limits.{units_low, buses_low}
 use Rattle.tomex_timing.proofs.Settled.{count_none}

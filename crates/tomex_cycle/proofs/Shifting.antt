@@ -1,30 +1,27 @@
 -- What a state shows after a cycle it shows after a later one, where nothing happens between.
-use Rattle.std.proofs.Common.{ℕ, zero, suc, ◌+◌, ◌-◌, ◌<◌, ◌≤◌, ◌≡◌, ◌∙◌, Bool, true, false, arith, refl, List, [], ◌∷◌, ◌++◌, Option, Some, None, ap, sym, inl, inr, length, subst}
-use Rattle.std.specs.Prelude.{◌≢◌, nat_lt, nat_le, ◌&&◌, if◌then◌else◌}
+use Rattle.std.proofs.Common.{ℕ, zero, suc, ◌+◌, ◌-◌, ◌<◌, ◌≤◌, ◌≡◌, ◌∙◌, arith, refl, List, [], ◌∷◌, ◌++◌, Option, Some, None, ap, inl, inr, subst}
+use Rattle.std.specs.Prelude.{◌≢◌, nat_lt, nat_le, ◌&&◌}
 use Rattle.std.specs.List.{AllByRecursion}
-use Rattle.std.proofs.lemmas.Bool.{cases_Bool, cases_order, lt-ltb, le-ltb, ltb-true, ltb-false, le-leb, lt-leb, leb-true, leb-false}
+use Rattle.std.proofs.lemmas.Bool.{cases_Bool, le-ltb, ltb-true, ltb-false, le-leb, leb-true, leb-false}
 use Rattle.tomex_image.specs.Image.{Loaded}
 use Rattle.tomex_config.specs.Row.{Row, IsRow}
 use Rattle.tomex_rvexec.specs.declared.outcome.EndKind.{EndKind}
 use Rattle.tomex_rvexec.specs.declared.step.Operand.{Operand}
-use Rattle.tomex_rvexec.specs.declared.step.Step.{Step}
-use Rattle.tomex_rvexec.specs.Flow.{end_of, overwrites}
-use Rattle.tomex_rvexec.specs.History.{step_after}
+use Rattle.tomex_rvexec.specs.Flow.{end_of}
 use Rattle.tomex_rvexec.specs.Machine.{State}
 use Rattle.tomex_rvexec.specs.Memory.{Bytes}
 use Rattle.tomex_rvexec.specs.Run.{RunEnds}
 use Rattle.tomex_rvexec.specs.Steps.{is_branch, is_number, step_dest, j_of, k_of}
 use Rattle.tomex_timing.specs.declared.times.Done.{Done}
 use Rattle.tomex_timing.specs.History.{cycle_of}
-use Rattle.tomex_timing.specs.Recurrence.{can_issue}
 use Rattle.tomex_timing.specs.Search.{times_of}
-use Rattle.tomex_timing.specs.Tables.{field_of, field_from, producer, tag_of}
+use Rattle.tomex_timing.specs.Tables.{field_of, field_from, producer}
 use Rattle.tomex_timing.proofs.Search.{times_are}
 use Rattle.tomex_cycle.specs.declared.fetch.Fetch.{Fetch}
-use Rattle.tomex_cycle.specs.Phases.{IsIssuedTo, IsSnapshot, IsYetToIssue}
+use Rattle.tomex_cycle.specs.Phases.{IsSnapshot, IsYetToIssue}
 use Rattle.tomex_cycle.specs.Run.{byte_at, run_to}
-use Rattle.tomex_cycle.specs.Views.{clocks, fetch_after, fetch_of, holds_place, place_of, station_at, station_of, ShowsStations, ShowsRegisters, ShowsMemory}
-use Rattle.tomex_cycle.proofs.Quiet.{AllStill, IsStill}
+use Rattle.tomex_cycle.specs.Views.{clocks, fetch_after, fetch_of, holds_place, place_of, station_at, station_of}
+use Rattle.tomex_cycle.proofs.Quiet.{AllStill}
 use Rattle.tomex_cycle.proofs.Runs.{next_done, not_by, run_next, run_timed, step_is}
 use Rattle.tomex_cycle.proofs.Totals.{issued_more}
 use Rattle.tomex_tags.specs.Pools.{Pools}

@@ -1,5 +1,5 @@
 -- A cycle in which nothing happens, and those after it up to the next finish, keep what holds of the machine.
-use Rattle.std.proofs.Common.{ℕ, ◌+◌, ◌-◌, ◌<◌, ◌≤◌, ◌≡◌, ◌∙◌, ◌^◌, true, arith, refl, List, [], ◌∷◌, ◌++◌, ap, sym, inl, inr, max, subst}
+use Rattle.std.proofs.Common.{ℕ, ◌+◌, ◌-◌, ◌<◌, ◌≤◌, ◌≡◌, ◌∙◌, ◌^◌, arith, refl, List, [], ◌∷◌, ◌++◌, ap, sym, inl, inr, subst}
 use Rattle.std.specs.Prelude.{◌≢◌, nat_lt, ◌==◌, if◌then◌else◌}
 use Rattle.std.proofs.lemmas.Bool.{cases_Bool, cases_order, ltb-true, ltb-false, lt-ltb, eqb-true, eqb-false}
 use Rattle.tomex_image.specs.Image.{Loaded, IsLoaded}

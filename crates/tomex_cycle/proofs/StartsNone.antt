@@ -1,11 +1,10 @@
 -- Where no operation starts, nothing changes.
-use Rattle.std.proofs.Common.{ℕ, zero, suc, ◌+◌, ◌<◌, ◌≡◌, ◌∙◌, Bool, true, false, refl, List, Option, Some, None, ap, sym, length, slice_index_or}
-use Rattle.std.specs.Prelude.{nat_lt, ◌&&◌, if◌then◌else◌}
+use Rattle.std.proofs.Common.{ℕ, zero, suc, ◌≡◌, ◌∙◌, false, refl, List, Option, Some, None, ap, sym, length, slice_index_or}
+use Rattle.std.specs.Prelude.{nat_lt, ◌&&◌}
 use Rattle.std.proofs.lemmas.Bool.{and_right}
 use Rattle.tomex_config.specs.Row.{Row}
 use Rattle.tomex_rvexec.specs.Flow.{byte_in}
 use Rattle.tomex_rvexec.specs.Memory.{Bytes}
-use Rattle.tomex_bus.specs.Sets.{has}
 use Rattle.tomex_bus.proofs.Bits.{none_in}
 use Rattle.tomex_cycle.specs.Phases.{MakesStarts}
 use Rattle.tomex_cycle.specs.Starts.{HaveBegun, HaveStored, IsStarting, begun_if, stored_at, written_by}

@@ -1,36 +1,25 @@
 -- Where a cycle leaves the stations as they were, and no operation finishes in it, nothing happens in it.
-use Rattle.std.proofs.Common.{ℕ, ◌+◌, ◌-◌, ◌<◌, ◌≤◌, ◌≡◌, ◌∙◌, Bool, true, false, arith, refl, List, [], ◌∷◌, ◌++◌, Option, Some, None, ap, sym, inl, inr, append_assoc, slice_index_or}
-use Rattle.std.specs.Prelude.{◌≢◌, nat_lt, nat_le, ◌&&◌, ◌==◌, if◌then◌else◌, not, is_some, MatchOption}
-use Rattle.std.specs.Bool.{MatchBool}
-use Rattle.std.specs.List.{AllByRecursion}
-use Rattle.std.proofs.lemmas.Bool.{cases_Bool, both_ways, lt-ltb, le-ltb, ltb-true, ltb-false, le-leb, lt-leb, and_parts, eq-eqb, MatchBool-at_false, MatchBool-at_true}
-use Rattle.tomex_image.specs.Image.{Loaded, IsLoaded}
-use Rattle.tomex_config.specs.Row.{Row, IsRow, option_of}
+use Rattle.std.proofs.Common.{ℕ, ◌+◌, ◌<◌, ◌≤◌, ◌≡◌, ◌∙◌, Bool, true, false, arith, refl, List, [], ◌∷◌, ◌++◌, Option, Some, None, ap, sym, inl, inr, append_assoc, slice_index_or}
+use Rattle.std.specs.Prelude.{◌≢◌, nat_lt, nat_le, ◌&&◌, ◌==◌, if◌then◌else◌, MatchOption}
+use Rattle.std.proofs.lemmas.Bool.{cases_Bool, both_ways, le-ltb, ltb-true, ltb-false, le-leb, lt-leb, and_parts, eq-eqb, MatchBool-at_false, MatchBool-at_true}
+use Rattle.tomex_image.specs.Image.{Loaded}
+use Rattle.tomex_config.specs.Row.{Row, IsRow}
 use Rattle.tomex_rvdec.specs.declared.pool.UnitId.{UnitId}
-use Rattle.tomex_rvexec.specs.declared.outcome.EndKind.{EndKind}
-use Rattle.tomex_rvexec.specs.Machine.{State}
-use Rattle.tomex_rvexec.specs.Memory.{Bytes}
-use Rattle.tomex_rvexec.specs.Run.{RunEnds}
-use Rattle.tomex_rvexec.specs.Steps.{address_of, is_number, step_dest, step_unit, j_of}
+use Rattle.tomex_rvexec.specs.Steps.{address_of, is_number, step_unit, j_of}
 use Rattle.tomex_timing.specs.declared.times.Done.{Done}
-use Rattle.tomex_timing.specs.History.{cycle_of, is_memory, greatest_end, last_address, source_end}
-use Rattle.tomex_timing.specs.Recurrence.{AreTimed, IsTimed, IsLeast, can_address, can_start, can_end}
-use Rattle.tomex_cycle.specs.declared.fetch.Fetch.{Fetch}
+use Rattle.tomex_timing.specs.History.{cycle_of, is_memory, last_address, source_end}
+use Rattle.tomex_timing.specs.Recurrence.{AreTimed, IsTimed, IsLeast, can_address, can_start}
 use Rattle.tomex_cycle.specs.Ends.{finishes}
-use Rattle.tomex_cycle.specs.Phases.{IsIssuedTo, IsSnapshot, IsYetToIssue}
-use Rattle.tomex_cycle.specs.Run.{AreIssuedBy, run_to}
+use Rattle.tomex_cycle.specs.Run.{AreIssuedBy}
 use Rattle.tomex_cycle.specs.Views.{clocks, holds_place, place_of, station_at, station_of, ShowsStations}
-use Rattle.tomex_cycle.proofs.Addresses.{number_is_some}
 use Rattle.tomex_cycle.proofs.Cycles.{can_start_later}
 use Rattle.tomex_cycle.proofs.Fields.{timed_part, issued_part}
 use Rattle.tomex_cycle.proofs.Places.{is_vacant, station_here, vacant, vacant_none}
-use Rattle.tomex_cycle.proofs.Quiet.{AllFree, AllStill, AllStillTo, IsStill, quiet}
-use Rattle.tomex_cycle.proofs.Runs.{AreLater, rest_to, run_timed}
-use Rattle.tomex_cycle.proofs.Shifting.{AllStillAfter}
-use Rattle.tomex_cycle.proofs.StartsPicked.{IsSeen, seen}
+use Rattle.tomex_cycle.proofs.Quiet.{AllFree, AllStill, IsStill}
+use Rattle.tomex_cycle.proofs.Runs.{AreLater}
+use Rattle.tomex_cycle.proofs.StartsPicked.{seen}
 use Rattle.tomex_cycle.proofs.Totals.{issued_more, reach}
 use Rattle.tomex_tags.specs.Pools.{Pools}
-use Rattle.tomex_tags.specs.declared.register_status.RegStatus.{RegStatus}
 use Rattle.tomex_tags.specs.declared.station.Station.{Station}
 
 some_not_none : {A : Type 0} (x : A) → Some x ≡ None → ⊥

@@ -7,3 +7,4 @@ pub mod Issue
 pub mod Starts
 pub mod Ends
 pub mod Finishes
+pub mod Events

@@ -13,6 +13,7 @@ use Rattle.tomex_timing.specs.declared.times.Done.{Done}
 use Rattle.tomex_timing.specs.Recurrence.{can_issue}
 use Rattle.tomex_cycle.specs.declared.fetch.Fetch.{Fetch}
 use Rattle.tomex_cycle.specs.declared.fetch.Fetch.TheVariants.{At, Waits, Stopped}
+use Rattle.tomex_cycle.specs.Events.{events_in}
 use Rattle.tomex_cycle.specs.Run.{AreIssuedBy, IsHistory, run_to}
 use Rattle.tomex_cycle.specs.Views.{Clocks, clocks, ShowsMemory, ShowsRegisters, ShowsStations, fetch_of}
 use Rattle.tomex_tags.specs.Pools.{Pools}
@@ -60,6 +61,17 @@ abbrev pub MakesEnds : Row → ℕ → Pools → RegStatus → Fetch → Pools �
 MakesEnds row next stations registers fetch new status from = (i : Loaded) (h : List Done) (t : ℕ) → next ≡ t + 1 → IsHistory i row h → AreIssuedBy next h
     → ShowsStations i (clocks next next t) h stations → ShowsRegisters i t h registers → fetch ≡ fetch_of i t h
     → ShowsStations i (clocks next next next) h new × ShowsRegisters i next h status × (from ≡ fetch_of i next h)
+
+-- Where a phase tells that it did something, there is an event of the cycle.
+
+abbrev pub StartsHappen : Row → ℕ → Pools → Type 0
+StartsHappen row next stations = (i : Loaded) (h : List Done) (t : ℕ) → next ≡ t + 1 → IsHistory i row h → AreIssuedBy t h → ShowsStations i (clocks t t t) h stations → 0 < events_in next h
+
+abbrev pub AddressHappens : ℕ → Pools → Type 0
+AddressHappens next stations = (i : Loaded) (row : Row) (h : List Done) (t : ℕ) → next ≡ t + 1 → IsHistory i row h → AreIssuedBy t h → ShowsStations i (clocks next t t) h stations → 0 < events_in next h
+
+abbrev pub EndsHappen : Row → ℕ → Pools → Type 0
+EndsHappen row next stations = (i : Loaded) (h : List Done) (t : ℕ) → next ≡ t + 1 → IsHistory i row h → AreIssuedBy next h → ShowsStations i (clocks next next t) h stations → 0 < events_in next h
 
 abbrev pub is_stopped : Fetch → Bool
 is_stopped (At pc) = false

@@ -6,12 +6,24 @@ use Rattle.tomex_cycle.specs.declared.progress.Progress.{Progress}
 use Rattle.tomex_cycle.specs.declared.progress.Progress.TheVariants.{Running, Ended, Faulted}
 use Rattle.tomex_cycle.specs.Run.{total}
 
--- a machine: its image, its row, the cycle that it has made last, and what that one came to
+-- a machine, but for the cycles that it has made: its image, its row, the cycle that it has made last, and what that one came to
 pub record Seen : Type 0 where
   pub image : Loaded
   pub row : Row
   pub cycle : ℕ
   pub last : Progress
+
+-- and how many cycles it has made
+pub record Counted : Type 0 where
+  pub image : Loaded
+  pub row : Row
+  pub cycle : ℕ
+  pub last : Progress
+  pub worked : ℕ
+
+-- but for that count
+abbrev pub seen : Counted → Seen
+seen m = record { image = m.image; row = m.row; cycle = m.cycle; last = m.last }
 
 -- the machine of an image and a row as it is after k ticks, where the program ends
 abbrev pub seen_after : Loaded → Row → ℕ → Seen

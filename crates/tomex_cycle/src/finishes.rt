@@ -1,7 +1,8 @@
 //! In which cycles the operations of the busy stations finish.
 
-ghost use Rattle.std.specs.Prelude.{ℕ, ◌≡◌, ◌<◌, ◌≤◌, None, slice_index_or, true};
-ghost use Rattle.tomex_cycle.specs.Finishes.{HasNoneBefore, IsFree, comes_before};
+ghost use Rattle.std.specs.Prelude.{ℕ, ◌≡◌, ◌<◌, ◌≤◌, ◌⊎◌, None, Some, IfSome, slice_index_or, true};
+ghost use Rattle.tomex_cycle.specs.Finishes.{HasNoneBefore, IsFinish, StopsAt, comes_before};
+ghost use Rattle.tomex_cycle.specs.Ends.{finishes};
 
 use tomex_bus::sets::{lowest, without};
 use tomex_tags::{Pools, Station};
@@ -11,6 +12,7 @@ use tomex_tags::{Pools, Station};
 fn sooner(best: Option<u64>, station: Option<Station>, from: u64) -> Option<u64>
     ensures none { HasNoneBefore from result station }
     ensures less { (v : ℕ) → comes_before v result ≡ true → comes_before v best ≡ true }
+    ensures some { IfSome result (λ f. (best ≡ Some f) ⊎ ((from ≤ f) × (finishes f station ≡ true))) }
 {
     let Some(station) = station else {
         return best;
@@ -29,7 +31,8 @@ fn sooner(best: Option<u64>, station: Option<Station>, from: u64) -> Option<u64>
 
 /// The first cycle from a given one on in which the operation of a busy station finishes, if any.
 pub fn next_finish(pools: &Pools, from: u64) -> Option<u64>
-    ensures { (x : ℕ) → x < 96 → HasNoneBefore from result (slice_index_or pools.now.slots x None) }
+    ensures none { (x : ℕ) → x < 96 → HasNoneBefore from result (slice_index_or pools.now.slots x None) }
+    ensures some { IsFinish pools.now.slots from result }
 {
     let mut best = None;
     let mut rest = pools.busy();
@@ -47,6 +50,7 @@ pub fn before_finish(finish: Option<u64>, cycle: u64, to: u64) -> u64
     ensures least { cycle ≤ result }
     ensures most { result ≤ to }
     ensures before { (v : ℕ) → cycle < result → v ≤ result → comes_before v finish ≡ true }
+    ensures stops { result < to → StopsAt finish cycle result }
 {
     match finish {
         None => to,

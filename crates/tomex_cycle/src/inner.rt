@@ -1,6 +1,6 @@
 //! What a cycle changes, and the one call that makes a cycle.
 
-ghost use Rattle.std.specs.Prelude.{ℕ, List, ◌≡◌, ◌≤◌, ◌<◌, ◌+◌, ◌^◌, IfOk, nat_lt, true, false, if◌then◌else◌};
+ghost use Rattle.std.specs.Prelude.{ℕ, List, ◌≡◌, ◌≢◌, ◌⊎◌, ◌≤◌, ◌<◌, ◌+◌, ◌^◌, IfOk, nat_lt, true, false, if◌then◌else◌};
 ghost use Rattle.tomex_image.specs.Image.{IsLoaded};
 ghost use Rattle.tomex_config.specs.Row.{IsRow};
 ghost use Rattle.tomex_rvexec.specs.declared.outcome.EndKind.{EndKind};
@@ -15,7 +15,8 @@ ghost use Rattle.tomex_tags.specs.Pools.{AreBusy};
 ghost use Rattle.tomex_cycle.specs.Run.{run_to, AreIssuedBy, IsHistory};
 ghost use Rattle.tomex_cycle.specs.Views.{clocks, ShowsStations, ShowsRegisters};
 ghost use Rattle.tomex_cycle.specs.Phases.{IsSnapshot, is_done};
-ghost use Rattle.tomex_cycle.specs.Finishes.{IsFree};
+ghost use Rattle.tomex_cycle.specs.Finishes.{FinishesSoon, IsFree};
+ghost use Rattle.tomex_cycle.specs.Events.{events_in};
 
 use crate::fetch::Fetch;
 use crate::finishes::{before_finish, next_finish};
@@ -32,7 +33,8 @@ use tomex_tags::{Pools, RegStatus};
 /// count of issues stays.
 #[inline(always)]
 fn leaves_all(starts: bool, addressed: bool, count: u32, before: u32, ended: bool) -> bool
-    ensures { result ≡ true → (starts ≡ false) × (addressed ≡ false) × (count ≡ before) × (ended ≡ false) }
+    ensures all { result ≡ true → (starts ≡ false) × (addressed ≡ false) × (count ≡ before) × (ended ≡ false) }
+    ensures some { result ≡ false → (starts ≡ true) ⊎ ((addressed ≡ true) ⊎ ((count ≢ before) ⊎ (ended ≡ true))) }
 {
     !starts && !addressed && count == before && !ended
 }
@@ -46,6 +48,8 @@ pub struct Inner<A: Allocator = Global> {
     fetch: Fetch,
     /// How many instructions have issued.
     count: u32,
+    /// How many cycles were made.
+    worked: u64,
 }
 
 impl<A: Allocator> Inner<A> {
@@ -57,13 +61,17 @@ impl<A: Allocator> Inner<A> {
         next: u64,
     ) -> Made
         requires next { next < 2 ^ 41 }
+        requires few { self.old.worked < 2 ^ 41 }
+        ensures worked { self.new.worked ≡ self.old.worked + 1 }
         ensures cycle { (n : ℕ) (s : State) (kind : EndKind) (t : ℕ) → RunEnds fetcher.old n s kind → n < 262144 → next ≡ t + 1 → IsRow row.now → IsLoaded fetcher.old.window fetcher.old.memory fetcher.old.entry
             → IsSnapshot fetcher.old row.now n t self.old.count self.old.pools self.old.registers self.old.fetch self.old.memory
             → IsSnapshot fetcher.old row.now n next self.new.count self.new.pools self.new.registers self.new.fetch self.new.memory
-            × (result.progress ≡ (if nat_lt next (greatest_end (run_to row.now fetcher.old (n + 1))) then Progress.Running else Progress.Ended)) }
+            × (result.progress ≡ (if nat_lt next (greatest_end (run_to row.now fetcher.old (n + 1))) then Progress.Running else Progress.Ended))
+            × (result.still ≡ false → 0 < events_in next (run_to row.now fetcher.old (n + 1))) }
         ensures still { result.still ≡ true → (self.new.count ≡ self.old.count) × (self.new.pools.slots ≡ self.old.pools.slots) }
         ensures same { fetcher.new ≡ fetcher.old }
     {
+        self.worked += 1;
         let starts = phases::start(&mut self.pools, &mut self.memory, row, next);
         if let Some(fault) = starts.fault {
             return Made::fault(fault);
@@ -101,6 +109,7 @@ impl<A: Allocator> Inner<A> {
         ensures least { cycle ≤ result }
         ensures most { result ≤ to }
         ensures still { cycle < result → (made.still ≡ true) × (made.progress ≡ Progress.Running) × IsFree self.now.pools.slots cycle result }
+        ensures stops { made.progress ≡ Progress.Running → made.still ≡ true → result < to → FinishesSoon self.now.pools.slots cycle result }
     {
         match made.progress {
             Progress::Running => {}
@@ -125,6 +134,7 @@ impl<A: Allocator> Inner<A> {
     pub fn new<B: Allocator>(alloc: A, image: &Image<B>) -> Result<Self, AllocError>
         ensures start { IfOk result (λ c. (row : _) (n : ℕ) → IsSnapshot image.now row n 0 c.count c.pools c.registers c.fetch c.memory) }
         ensures none { IfOk result (λ c. c.count ≡ 0) }
+        ensures unworked { IfOk result (λ c. c.worked ≡ 0) }
     {
         let mut bytes = Vec::with_capacity(alloc, image.memory().len())?;
         bytes.extend_from_slice(image.memory())?;
@@ -137,7 +147,15 @@ impl<A: Allocator> Inner<A> {
             memory: Memory::new(window.base(), bytes),
             fetch: Fetch::At(image.entry()),
             count: 0,
+            worked: 0,
         })
+    }
+
+    /// How many cycles were made.
+    pub fn worked(&self) -> u64
+        ensures { result ≡ self.now.worked }
+    {
+        self.worked
     }
 
     /// The tables after a cycle.

@@ -4,7 +4,8 @@ ghost use Rattle.std.specs.Prelude.{◌≡◌, ◌≢◌, ◌<◌, ◌≤◌, �
 ghost use Rattle.tomex_rvexec.specs.Run.{EndsWithin, IsEnd};
 ghost use Rattle.tomex_timing.specs.Tables.{tables_of};
 ghost use Rattle.tomex_cycle.specs.Run.{run_of};
-ghost use Rattle.tomex_cycle.specs.Seen.{seen_after, is_end};
+ghost use Rattle.tomex_cycle.specs.Seen.{seen, seen_after, is_end};
+ghost use Rattle.tomex_cycle.specs.Events.{IsCounted, Passes};
 
 use crate::inner::Inner;
 use crate::progress::Progress;
@@ -26,20 +27,22 @@ pub struct Machine<'a, A: Allocator = Global> {
 }
 
 impl<'a, A: Allocator> Model for Machine<'a, A> {
-    ghost use Rattle.tomex_cycle.specs.Seen.{Seen};
+    ghost use Rattle.std.specs.Prelude.{◌≤◌};
+    ghost use Rattle.tomex_cycle.specs.Seen.{Counted};
     ghost use Rattle.tomex_cycle.specs.Sound.{IsSound};
 
-    ghost Value = { Seen };
+    ghost Value = { Counted };
 
-    ghost view = { λ m. record { image = m.fetcher; row = m.row; cycle = m.cycle; last = m.last } };
+    ghost view = { λ m. record { image = m.fetcher; row = m.row; cycle = m.cycle; last = m.last; worked = m.inner.worked } };
 
-    ghost invariant = { λ m. IsSound m.fetcher m.row m.cycle m.last m.inner.count m.inner.pools m.inner.registers m.inner.fetch m.inner.memory };
+    ghost invariant = { λ m. IsSound m.fetcher m.row m.cycle m.last m.inner.count m.inner.pools m.inner.registers m.inner.fetch m.inner.memory × (m.inner.worked ≤ m.cycle) };
 }
 
 impl<'a, A: Allocator> Machine<'a, A> {
     /// The machine of an image and a row, before the first cycle.
     pub fn new(alloc: A, image: &'a Image<A>, row: &Config) -> Result<Self, AllocError>
-        ensures { IfOk result (λ m. m ≡ record { image = image.now; row = row.now; cycle = 0; last = Progress.Running }) }
+        ensures start { IfOk result (λ m. seen m ≡ record { image = image.now; row = row.now; cycle = 0; last = Progress.Running }) }
+        ensures worked { IfOk result (λ m. m.worked ≡ 0) }
     {
         // Read for what the types of the row and the image keep.
         let _buses = row.buses();
@@ -63,7 +66,8 @@ impl<'a, A: Allocator> Machine<'a, A> {
         ensures least { self.old.cycle ≤ self.new.cycle }
         ensures most { self.new.cycle ≤ self.old.cycle + 1 }
         ensures stays { self.old.last ≢ Progress.Running → self.new ≡ self.old }
-        ensures ends { EndsWithin self.old.image 262144 → self.new ≡ seen_after self.old.image self.old.row (self.old.cycle + 1) }
+        ensures ends { EndsWithin self.old.image 262144 → seen self.new ≡ seen_after self.old.image self.old.row (self.old.cycle + 1) }
+        ensures counts { EndsWithin self.old.image 262144 → IsCounted (run_of self.old.row self.old.image) self.old.cycle self.new.cycle self.old.worked self.new.worked }
     {
         match self.last {
             Progress::Running => {}
@@ -83,7 +87,9 @@ impl<'a, A: Allocator> Machine<'a, A> {
         ensures row { self.new.row ≡ self.old.row }
         ensures least { self.old.cycle < self.new.cycle }
         ensures most { self.new.cycle ≤ to }
-        ensures ends { EndsWithin self.old.image 262144 → self.new ≡ seen_after self.old.image self.old.row self.new.cycle }
+        ensures ends { EndsWithin self.old.image 262144 → seen self.new ≡ seen_after self.old.image self.old.row self.new.cycle }
+        ensures worked { self.new.worked ≡ self.old.worked + 1 }
+        ensures passes { EndsWithin self.old.image 262144 → Passes (run_of self.old.row self.old.image) to self.old.cycle self.new.cycle }
     {
         let next = self.cycle + 1;
         let made = self.inner.make_cycle(&mut self.fetcher, &self.row, next);
@@ -103,7 +109,8 @@ impl<'a, A: Allocator> Machine<'a, A> {
         ensures most { self.new.cycle ≤ max self.old.cycle to }
         ensures stays { self.old.last ≢ Progress.Running → self.new ≡ self.old }
         ensures none { to ≤ self.old.cycle → self.new ≡ self.old }
-        ensures ends { EndsWithin self.old.image 262144 → self.new ≡ seen_after self.old.image self.old.row (max self.old.cycle to) }
+        ensures ends { EndsWithin self.old.image 262144 → seen self.new ≡ seen_after self.old.image self.old.row (max self.old.cycle to) }
+        ensures counts { EndsWithin self.old.image 262144 → IsCounted (run_of self.old.row self.old.image) self.old.cycle self.new.cycle self.old.worked self.new.worked }
     {
         // Read for what the machine's type keeps.
         let _start = self.cycle();
@@ -120,9 +127,16 @@ impl<'a, A: Allocator> Machine<'a, A> {
     /// The cycle that was made last.
     pub fn cycle(&self) -> u64
         ensures value { result ≡ self.now.cycle }
-        ensures ends { EndsWithin self.now.image 262144 → self.now ≡ seen_after self.now.image self.now.row self.now.cycle }
+        ensures ends { EndsWithin self.now.image 262144 → seen self.now ≡ seen_after self.now.image self.now.row self.now.cycle }
     {
         self.cycle
+    }
+
+    /// How many cycles were made: the others were skipped, since nothing happens in them.
+    pub fn worked(&self) -> u64
+        ensures { result ≡ self.now.worked }
+    {
+        self.inner.worked()
     }
 
     /// Whether the program has ended, and so has each of its instructions.

@@ -1,8 +1,8 @@
 //! The phases of a cycle. Each reads only what no earlier one of the cycle has changed.
 
-ghost use Rattle.std.specs.Prelude.{◌≡◌, ◌<◌, ◌^◌, IsSome, None, Ok, false, option_map, slice_index_or, slice_set};
+ghost use Rattle.std.specs.Prelude.{◌≡◌, ◌<◌, ◌^◌, IsSome, None, Ok, false, true, option_map, slice_index_or, slice_set};
 ghost use Rattle.tomex_tags.specs.Contents.{with_address};
-ghost use Rattle.tomex_cycle.specs.Phases.{MakesStarts, MakesAddress, MakesIssue, MakesEnds};
+ghost use Rattle.tomex_cycle.specs.Phases.{AddressHappens, EndsHappen, MakesStarts, MakesAddress, MakesIssue, MakesEnds, StartsHappen};
 
 use crate::fetch::Fetch;
 use crate::issue::issue_next;
@@ -32,6 +32,7 @@ pub fn start<A: Allocator>(
     requires next { next < 2 ^ 41 }
     ensures starts { MakesStarts row.now next pools.old memory.old result.fault pools.new memory.new }
     ensures none { result.any ≡ false → pools.new.slots ≡ pools.old.slots }
+    ensures any { result.any ≡ true → StartsHappen row.now next pools.old }
 {
     let starting = starts::starting(pools, row, next);
     if starting == 0 {
@@ -59,6 +60,7 @@ fn give_address(pools: &mut Pools, place: usize)
 pub fn address(pools: &mut Pools, next: u64) -> bool
     ensures addresses { MakesAddress next pools.old pools.new }
     ensures none { result ≡ false → pools.new.slots ≡ pools.old.slots }
+    ensures any { result ≡ true → AddressHappens next pools.old }
 {
     match address_next(pools) {
         Some(place) => {
@@ -97,6 +99,7 @@ pub fn end(
 ) -> bool
     ensures ends { MakesEnds row.now next pools.old registers.old fetch.old pools.new registers.new fetch.new }
     ensures none { result ≡ false → pools.new.slots ≡ pools.old.slots }
+    ensures any { result ≡ true → EndsHappen row.now next pools.old }
 {
     let ending = ends::ending(pools, row.buses(), next);
     *fetch = ends::follow(*fetch, pools, next);

@@ -179,6 +179,21 @@ fn worked_runs(rt: HostRuntime) -> Result<(), Fail> {
     Ok(())
 }
 
+/// Of the 68 cycles of a run with a long multiplication few are made.
+#[test]
+fn a_long_wait_is_skipped(rt: HostRuntime) -> Result<(), Fail> {
+    let image = image_of(&rt, WAITED_FOR.as_slice())?;
+    let row = row_of([1; 6], 1, 64, 1, 1)?;
+    let mut machine = Machine::new(rt.alloc(), &image, &row)?;
+    assert_eq!(rt; machine.worked(), 0);
+    assert!(rt; matches!(machine.advance(1000), Progress::Ended));
+    assert_eq!(rt; machine.cycle(), 68);
+    holds(
+        7 <= machine.worked() && machine.worked() <= 25,
+        "too few or too many cycles were made",
+    )
+}
+
 fn tag(pool: PoolId, number: u8) -> Tag {
     Tag { pool, number }
 }

@@ -1,8 +1,10 @@
-use Rattle.std.proofs.Common.{arith, ◌≡◌, ◌∙◌, ap, sym, inl, inr, None, slice_index_or, subst, ℕ}
+use Rattle.std.proofs.Common.{arith, ◌≡◌, ◌∙◌, sym, inl, inr, None, slice_index_or, subst, ℕ}
 use Rattle.std.specs.Prelude.{◌==◌}
 use Rattle.std.proofs.lemmas.Bool.{cases_Bool, eqb-true, eqb-false}
 use Rattle.tomex_bus.proofs.Members.{inside_left}
 use Rattle.tomex_cycle.specs.Finishes.{HasNoneBefore}
+use Rattle.tomex_cycle.proofs.StartsDone.{low_of}
+use Rattle.tomex_cycle.proofs.Moves.{found_next}
 use Rattle.tomex_cycle.proofs.finishes.next_finish.Goals as goal
 
 pub members-preserved : goal.members-preserved
@@ -18,4 +20,5 @@ members-preserved c = record {
       | inr none ↦ inr (λ v from before. none v from (c.sooner-best.ensures.less v before))
     ]
   ];
+  found = found_next c.args.pools.now.slots c.args.from c.lowest-place.result c.members.best c.sooner-best.result c.at.result (low_of c.args.pools.now c.lowest-place.result c.members.invariant.busy c.lowest-place.ensures.below (c.members.invariant.inside c.lowest-place.result c.lowest-place.ensures.below c.lowest-place.ensures.member)) c.at.ensures c.members.invariant.found c.sooner-best.ensures.some;
 }

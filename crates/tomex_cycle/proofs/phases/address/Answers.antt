@@ -1,5 +1,6 @@
 use Rattle.std.proofs.Common.{◌∙◌, refl, sym}
 use Rattle.tomex_cycle.proofs.Addresses.{made_none, made_some}
+use Rattle.tomex_cycle.proofs.Happens.{address_happens}
 use Rattle.tomex_cycle.proofs.phases.address.Goals as goal
 
 pub returns-in-Some-clause-addresses : goal.returns-in-Some-clause-addresses
@@ -7,3 +8,6 @@ returns-in-Some-clause-addresses c = made_some c.args.next c.in-Some.place c.arg
 
 pub returns-in-None-clause-addresses : goal.returns-in-None-clause-addresses
 returns-in-None-clause-addresses c = made_none c.args.next c.args.pools.now c.address_next.ensures.busy (λ order by. sym c.in-None.is ∙ c.address_next.ensures.next order by)
+
+pub returns-in-Some-clause-any : goal.returns-in-Some-clause-any
+returns-in-Some-clause-any c = λ some. address_happens c.args.next c.in-Some.place c.args.pools.now c.address_next.ensures.busy (λ order by. sym c.in-Some.is ∙ c.address_next.ensures.next order by)

@@ -1,3 +1,4 @@
+use Rattle.tomex_cycle.proofs.Happens.{start_happens}
 use Rattle.tomex_cycle.proofs.StartsDone.{start_made}
 use Rattle.tomex_cycle.proofs.StartsNone.{start_none}
 use Rattle.tomex_cycle.proofs.phases.start.Goals as goal
@@ -7,3 +8,6 @@ returns-then-starting-eq0-clause-starts g c = start_none c.args.row.now c.args.n
 
 pub returns-clause-starts : goal.returns-clause-starts
 returns-clause-starts g c = start_made c.args.row.now c.args.next c.args.pools.now c.begin-fault.new.pools c.args.memory.now c.write.new.memory c.begin-fault.result c.starting-starting.result c.starting-starting.ensures.starting c.starting-starting.ensures.busy c.begin-fault.ensures.begins c.begin-fault.ensures.good c.write.ensures
+
+pub returns-clause-any : goal.returns-clause-any
+returns-clause-any g c = λ some i h t e past issued shown. start_happens i c.args.row.now t c.args.next c.args.pools.now h c.starting-starting.result past issued shown c.starting-starting.ensures.busy c.starting-starting.ensures.starting e c.starting-starting.type_inv c.if-starting-eq0.false

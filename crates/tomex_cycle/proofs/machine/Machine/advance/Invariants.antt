@@ -1,8 +1,10 @@
 use Rattle.std.proofs.Common.{◌≡◌, ◌≤◌, ◌-◌, max}
 use Rattle.std.specs.Prelude.{◌≢◌}
 use Rattle.tomex_rvexec.specs.Run.{EndsWithin}
-use Rattle.tomex_cycle.specs.Seen.{seen_after}
+use Rattle.tomex_cycle.specs.Seen.{seen, seen_after}
 use Rattle.tomex_cycle.specs.declared.progress.Progress.TheVariants.{Running}
+use Rattle.tomex_cycle.specs.Run.{run_of}
+use Rattle.tomex_cycle.proofs.Counts.{IsPaid}
 use Rattle.tomex_cycle.proofs.machine.Machine.advance.Given as goal
 
 abbrev pub invariant-loop-self : goal.invariant-loop-self
@@ -13,7 +15,8 @@ invariant-loop-self g l = record {
   high : l.self.cycle ≤ max l.initial.self.cycle l.to;
   stays : l.initial.self.last ≢ Running → l.self ≡ l.initial.self;
   none : l.to ≤ l.initial.self.cycle → l.self ≡ l.initial.self;
-  ends : EndsWithin l.self.image 262144 → l.self ≡ seen_after l.self.image l.self.row l.self.cycle;
+  ends : EndsWithin l.self.image 262144 → seen l.self ≡ seen_after l.self.image l.self.row l.self.cycle;
+  paid : EndsWithin l.self.image 262144 → IsPaid (run_of l.self.row l.self.image) l.to l.initial.self.cycle l.self.cycle l.initial.self.worked l.self.worked;
 }
 
 abbrev pub decreases-loop-self : goal.decreases-loop-self

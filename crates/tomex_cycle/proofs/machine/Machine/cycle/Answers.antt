@@ -1,5 +1,7 @@
+use Rattle.std.proofs.Common.{ap}
+use Rattle.tomex_cycle.specs.Seen.{seen}
 use Rattle.tomex_cycle.proofs.Ticks.{now_seen}
 use Rattle.tomex_cycle.proofs.machine.Machine.cycle.Goals as goal
 
 pub returns-clause-ends : goal.returns-clause-ends
-returns-clause-ends g c = now_seen _ _ _ _ _ _ _ _ _ _ c.self.view_is c.self.invariant
+returns-clause-ends g c = now_seen _ _ _ _ _ _ _ _ _ _ (ap seen c.self.view_is) c.self.invariant.0

@@ -1,0 +1,259 @@
+-- What a phase or a station shows is an event of the cycle.
+use Rattle.std.proofs.Common.{ℕ, ◌+◌, ◌^◌, ◌<◌, ◌≤◌, ◌≡◌, ◌∙◌, Bool, true, false, arith, refl, List, [], ◌∷◌, ◌++◌, Option, Some, None, ap, sym, inl, inr, ◌⊎◌, append_assoc, slice_index_or, length, max}
+use Rattle.std.specs.Prelude.{◌≢◌, nat_lt, nat_le, ◌&&◌, ◌==◌, if◌then◌else◌, is_some, not, Result, Ok}
+use Rattle.std.specs.Int.{w128, trailing_zeros}
+use Rattle.std.proofs.lemmas.Nat.Bits.{bit_at-trailing_zeros, bit_at_above}
+use Rattle.std.proofs.lemmas.Bool.{cases_Bool, both_ways, and_parts, eq-eqb, eqb-true, ne_eqb, ltb-true, ltb-false}
+use Rattle.tomex_image.specs.Image.{Loaded, IsLoaded}
+use Rattle.tomex_config.specs.Row.{Row, IsRow}
+use Rattle.tomex_rvexec.specs.declared.outcome.EndKind.{EndKind}
+use Rattle.tomex_rvexec.specs.Machine.{State}
+use Rattle.tomex_rvexec.specs.Run.{RunEnds}
+use Rattle.tomex_rvexec.specs.Steps.{is_number, j_of, step_pool, step_unit}
+use Rattle.tomex_timing.specs.declared.tables.Field.{Field}
+use Rattle.tomex_timing.specs.declared.tables.Field.TheVariants.{Value, Waits, Unread}
+use Rattle.tomex_timing.specs.declared.times.Done.{Done}
+use Rattle.tomex_timing.specs.declared.times.Times.{Times}
+use Rattle.tomex_timing.specs.History.{cycle_of, greatest_end, is_memory, last_address}
+use Rattle.tomex_timing.specs.Recurrence.{AreTimed}
+use Rattle.tomex_timing.specs.Tables.{field_of}
+use Rattle.tomex_bus.specs.Sets.{has}
+use Rattle.tomex_bus.proofs.Bits.{has_one, has_none}
+use Rattle.tomex_cycle.specs.Ends.{AreEnding, finishes}
+use Rattle.tomex_cycle.specs.Events.{events_in, events_of}
+use Rattle.tomex_cycle.specs.Phases.{AddressHappens, EndsHappen, IsSnapshot, IsYetToIssue, MakesStarts, StartsHappen}
+use Rattle.tomex_cycle.proofs.Cycles.{IsUnderWay, ok_same}
+use Rattle.tomex_cycle.proofs.Shifting.{run_split}
+use Rattle.tomex_cycle.proofs.Orders.{order_is}
+use Rattle.tomex_cycle.proofs.Addresses.{waiting_is}
+use Rattle.tomex_bus.specs.Picks.{IsByAge}
+use Rattle.tomex_membuf.specs.Addresses.{first_waiting, next_address, where_base_is_there}
+use Rattle.tomex_cycle.specs.declared.fetch.Fetch.{Fetch}
+use Rattle.tomex_rvexec.specs.Memory.{Bytes}
+use Rattle.tomex_rvexec.specs.declared.outcome.Fault.{Fault}
+use Rattle.tomex_tags.specs.declared.register_status.RegStatus.{RegStatus}
+use Rattle.tomex_cycle.specs.Run.{AreIssuedBy, IsHistory, run_to}
+use Rattle.tomex_cycle.specs.Starts.{IsStarting}
+use Rattle.tomex_cycle.specs.Views.{Clocks, clocks, holds_place, order_of, place_of, station_at, station_of, ShowsStations}
+use Rattle.tomex_cycle.proofs.Addresses.{chosen, holds_by, none_waits, not_le, test_is, waits_for_address}
+use Rattle.tomex_cycle.proofs.EndsFetch.{ending_low}
+use Rattle.tomex_cycle.proofs.EndsPass.{ending_is, ends_in}
+use Rattle.tomex_cycle.proofs.Fields.{timed_part, issued_part}
+use Rattle.tomex_cycle.proofs.Places.{low, place_low, station_here}
+use Rattle.tomex_cycle.proofs.Quiet.{AllStill}
+use Rattle.tomex_cycle.proofs.Runs.{rest_to, run_history}
+use Rattle.tomex_cycle.proofs.StartsPicked.{starting_is, starts_at}
+use Rattle.tomex_cycle.proofs.Totals.{issued_more}
+use Rattle.tomex_membuf.specs.Addresses.{has_base, is_value}
+use Rattle.tomex_tags.specs.Operands.{is_there}
+use Rattle.tomex_tags.specs.Pools.{AreBusy, Pools}
+use Rattle.tomex_tags.specs.declared.station.Station.{Station}
+
+-- One event.
+
+issue_event : (u : ℕ) (at : Times) → at.issue ≡ u → 0 < events_of u at
+issue_event u at e = rw (eq-eqb at.issue u e) (omega arith)
+
+address_event : (u : ℕ) (at : Times) → cycle_of at.address ≡ u → 0 < events_of u at
+address_event u at e = rw (eq-eqb (cycle_of at.address) u e) (omega arith)
+
+start_event : (u : ℕ) (at : Times) → at.start ≡ u → 0 < events_of u at
+start_event u at e = rw (eq-eqb at.start u e) (omega arith)
+
+finish_event : (u : ℕ) (at : Times) → at.finish ≡ u → 0 < events_of u at
+finish_event u at e = rw (eq-eqb at.finish u e) (omega arith)
+
+end_event : (u : ℕ) (at : Times) → at.end ≡ u → 0 < events_of u at
+end_event u at e = rw (eq-eqb at.end u e) (omega arith)
+
+pub still_none : (u : ℕ) (h : List Done) → AllStill u h → events_in u h ≡ 0
+still_none u [] still = refl
+still_none u (d ∷ h) still = rw (ne_eqb d.at.issue u still.0.issue, ne_eqb (cycle_of d.at.address) u still.0.address, ne_eqb d.at.start u still.0.start, ne_eqb d.at.finish u still.0.finish, ne_eqb d.at.end u still.0.end) (let z : events_in u h ≡ 0 = still_none u h still.1 in omega arith)
+
+pub events_older : (u : ℕ) (newer h : List Done) → events_in u h ≤ events_in u (newer ++ h)
+events_older u [] h = omega arith
+events_older u (d ∷ newer) h = let l : events_in u h ≤ events_in u (newer ++ h) = events_older u newer h in omega arith
+
+-- a run is over in a cycle in which something happens
+pub over_happens : (u : ℕ) (h : List Done) → 0 < u → greatest_end h ≡ u → 0 < events_in u h
+over_happens u [] l e = omega arith
+over_happens u (d ∷ h) l e = elim (cases_Bool (d.at.end == u)) [
+  | inl k ↦ let one : 0 < events_of u d.at = end_event u d.at (eqb-true _ _ k) in omega arith
+  | inr k ↦
+      let f : greatest_end h ≡ u = rest d.at.end (greatest_end h) u e k in
+      let more : 0 < events_in u h = over_happens u h l f in
+      omega arith
+]
+  where
+    rest : (a b u : ℕ) → max a b ≡ u → (a == u) ≡ false → b ≡ u
+    rest a b u e k = elim (cases_Bool (nat_lt a b)) [
+      | inl l ↦ let m : a < b = ltb-true a b l in omega arith
+      | inr l ↦ let m : b ≤ a = ltb-false a b l in absurd (both_ways (a == u) k (eq-eqb a u (omega arith)))
+    ]
+
+-- Starts.
+
+starts_happen : (t u x : ℕ) (h : List Done) → starts_at t u h x ≡ true → 0 < events_in u h
+starts_happen t u x [] e = absurd (cc)
+starts_happen t u x (d ∷ h) e = elim (cases_Bool (holds_place t x d)) [
+  | inl k ↦
+      let two = and_parts (is_some (step_unit d.step)) (d.at.start == u) (rw k at e) in
+      let one : 0 < events_of u d.at = start_event u d.at (eqb-true _ _ two.1) in
+      omega arith
+  | inr k ↦ let more : 0 < events_in u h = starts_happen t u x h (rw k at e) in omega arith
+]
+
+-- a set that isn't empty has a member
+member_of : (set : ℕ) → set < 2 ^ 128 → set ≢ 0 → (x : ℕ) × (x < 128) × (has set x ≡ true)
+member_of set fits some =
+    let one = bit_at-trailing_zeros w128 set (omega arith) fits in
+    let here : has set (trailing_zeros w128 set) ≡ true = has_one set (trailing_zeros w128 set) one.1 in
+    let small : trailing_zeros w128 set < 128 = elim (cases_Bool (nat_lt (trailing_zeros w128 set) 128)) [
+      | inl l ↦ ltb-true _ _ l
+      | inr l ↦ absurd (both_ways (has set (trailing_zeros w128 set)) (has_none set (trailing_zeros w128 set) (bit_at_above set 128 (trailing_zeros w128 set) fits (ltb-false _ _ l))) here)
+    ] in
+    (trailing_zeros w128 set, small, here)
+
+pub start_happens : (i : Loaded) (row : Row) (t u : ℕ) (st : Pools) (h : List Done) (starting : ℕ) → IsHistory i row h → AreIssuedBy t h → ShowsStations i (clocks t t t) h st → AreBusy st.slots st.busy st.ages → IsStarting row st u starting → u ≡ t + 1 → starting < 2 ^ 128 → starting ≢ 0 → 0 < events_in u h
+start_happens i row t u st h starting past issued shown filled begins e fits some =
+    let x = member_of starting fits some in
+    starts_happen t u x.0 h (sym (starting_is i row t u x.0 st h starting past.lawful past.timed issued shown filled begins e x.1) ∙ x.2)
+
+-- Ends.
+
+ends_happen : (u x : ℕ) (h : List Done) → ends_in u h x ≡ true → 0 < events_in u h
+ends_happen u x [] e = absurd (cc)
+ends_happen u x (d ∷ h) e = elim (cases_Bool (is_number (place_of d) x && (d.at.end == u))) [
+  | inl k ↦
+      let two = and_parts (is_number (place_of d) x) (d.at.end == u) k in
+      let one : 0 < events_of u d.at = end_event u d.at (eqb-true _ _ two.1) in
+      omega arith
+  | inr k ↦ let more : 0 < events_in u h = ends_happen u x h (rw k at e) in omega arith
+]
+
+pub end_happens : (i : Loaded) (row : Row) (t u : ℕ) (st : Pools) (h : List Done) (ending : ℕ) → IsHistory i row h → AreIssuedBy u h → ShowsStations i (clocks u u t) h st → AreBusy st.slots st.busy st.ages → AreEnding st row.buses u ending → u ≡ t + 1 → ending < 2 ^ 128 → ending ≢ 0 → 0 < events_in u h
+end_happens i row t u st h ending past issued shown filled ends e fits some =
+    let x = member_of ending fits some in
+    ends_happen u x.0 h (sym (ending_is i row t u x.0 st h ending past.lawful past.timed issued e shown filled ends (ending_low st row.buses u ending ends filled x.0 x.1 x.2)) ∙ x.2)
+
+-- Finishes.
+
+done_in : (c start finish v : ℕ) → is_number (if nat_le start c then Some finish else None) v ≡ true → finish ≡ v
+done_in c start finish v e = elim (cases_Bool (nat_le start c)) [
+  | inl l ↦ let f : (finish == v) ≡ true = rw l at e in eqb-true finish v f
+  | inr l ↦ let f : false ≡ true = rw l at e in absurd (cc)
+]
+
+pub finish_happens : (i : Loaded) (c : Clocks) (v x : ℕ) (h : List Done) → finishes v (station_at i c h x) ≡ true → 0 < events_in v h
+finish_happens i c v x [] e = absurd (cc)
+finish_happens i c v x (d ∷ h) e = elim (cases_Bool (holds_place c.end x d)) [
+  | inl k ↦
+      let f : finishes v (Some (station_of i c d h)) ≡ true = rw k at e in
+      let one : 0 < events_of v d.at = finish_event v d.at (done_in c.start d.at.start d.at.finish v f) in
+      omega arith
+  | inr k ↦ let more : 0 < events_in v h = finish_happens i c v x h (rw k at e) in omega arith
+]
+
+-- Issues.
+
+pub issue_happens : (i : Loaded) (row : Row) (n t u count more : ℕ) (s : State) (kind : EndKind) → IsRow row → RunEnds i n s kind → u ≡ t + 1 → (count ≤ n → IsYetToIssue i row count t) → count ≤ more → more ≤ n + 1 → more ≢ count → AreIssuedBy u (run_to row i more) → 0 < events_in u (run_to row i more)
+issue_happens i row n t u count more s kind good ends e yet l few apart issued =
+    let rest = rest_to row i n count more t s kind good ends yet l few in
+    rw rest.1.same (some_issue t u rest.0 (run_to row i count) e rest.1.later (rw rest.1.same at issued) (let c : more ≡ length rest.0 + count = rest.1.count in omega arith))
+  where
+    some_issue : (t u : ℕ) (newer h : List Done) → u ≡ t + 1 → Rattle.tomex_cycle.proofs.Runs.AreLater t newer → AreIssuedBy u (newer ++ h) → 0 < length newer → 0 < events_in u (newer ++ h)
+    some_issue t u [] h e later issued l = absurd (omega arith)
+    some_issue t u (d ∷ newer) h e later issued l =
+        let a : t < d.at.issue = later.0 in
+        let b : d.at.issue ≤ u = issued.0 in
+        let one : 0 < events_of u d.at = issue_event u d.at (omega arith) in
+        omega arith
+
+-- Addresses.
+
+there_by : (f : Field) → is_value f ≡ true → is_there f ≡ true
+there_by (Value v) e = refl
+there_by (Waits tag) e = absurd (cc)
+there_by Unread e = refl
+
+pub chosen_happens : (i : Loaded) (row : Row) (t u x : ℕ) (st : Pools) (h newer part : List Done) → IsRow row → AreTimed row h → AreIssuedBy t h → u ≡ t + 1 → ShowsStations i (clocks u t t) h st → h ≡ newer ++ part
+    → chosen t part ≡ Some x → has_base (slice_index_or st.slots x None) ≡ true → 0 < events_in u part
+chosen_happens i row t u x st h newer [] good timed issued e shown split c base = absurd (cc)
+chosen_happens i row t u x st h newer (d ∷ older) good timed issued e shown split c base =
+    elder (chosen t older) refl c (λ k. chosen_happens i row t u x st h (newer ++ (d ∷ [])) older good timed issued e shown (split ∙ sym (append_assoc newer (d ∷ []) older)) k base)
+  where
+    elder : (o : Option ℕ) → chosen t older ≡ o → Rattle.tomex_cycle.proofs.Addresses.or_else o (if waits_for_address t d then place_of d else None) ≡ Some x → (chosen t older ≡ Some x → 0 < events_in u older) → 0 < events_in u (d ∷ older)
+    elder (Some z) f c again =
+        let same : z ≡ x = cc in
+        let more : 0 < events_in u older = again (f ∙ ap (λ (k : ℕ). Some k) same) in
+        omega arith
+    elder None f c again = elim (cases_Bool (waits_for_address t d)) [
+      | inr w ↦ let g : None ≡ Some x = rw w at c in absurd (cc)
+      | inl w ↦
+          let place : place_of d ≡ Some x = rw w at c in
+          let a = and_parts (nat_lt t d.at.end) (is_memory d.step && not (nat_le (cycle_of d.at.address) t)) w in
+          let b = and_parts (is_memory d.step) (not (nat_le (cycle_of d.at.address) t)) a.1 in
+          let late : t < cycle_of d.at.address = not_le (cycle_of d.at.address) t b.1 in
+          let here : AreTimed row (newer ++ (d ∷ older)) = rw split at timed in
+          let by : AreIssuedBy t (newer ++ (d ∷ older)) = rw split at issued in
+          let part : AreTimed row (d ∷ older) = timed_part row newer (d ∷ older) here in
+          let mine : AreIssuedBy t (d ∷ older) = issued_part t newer (d ∷ older) by in
+          let last : last_address older ≤ t = none_waits row t older good part.1 mine.1 f in
+          let test = test_is row t u d older part.0 part.1 mine e b.0 last late in
+          let held : holds_place t x d ≡ true = holds_by t x d place w in
+          let small : x < 96 = place_low (step_pool d.step) d.at.station x (low row (d ∷ older) good part).0 place in
+          let there : station_at i (clocks u t t) (newer ++ (d ∷ older)) x ≡ Some (station_of i (clocks u t t) d older) = station_here i row (clocks u t t) newer d older x good here (issued_more t (t + 1) (newer ++ (d ∷ older)) (omega arith) by) held in
+          let slot : slice_index_or st.slots x None ≡ Some (station_of i (clocks u t t) d older) = shown.slots x small ∙ (ap (λ xs. station_at i (clocks u t t) xs x) split ∙ there) in
+          let value : is_value (field_of t older (j_of d.step)) ≡ true = ap has_base (sym slot) ∙ base in
+          let at : cycle_of d.at.address ≡ u = eqb-true _ _ (sym test ∙ there_by (field_of t older (j_of d.step)) value) in
+          let one : 0 < events_of u d.at = address_event u d.at at in
+          omega arith
+    ]
+
+-- the phase, by the search for the next address
+pub address_happens : (next x : ℕ) (old : Pools) → AreBusy old.slots old.busy old.ages → ((order : List ℕ) → IsByAge old.busy old.ages order → Some x ≡ next_address old.slots order) → AddressHappens next old
+address_happens next x old filled some i row h t e past issued shown =
+    let by : IsByAge old.busy old.ages (order_of t h) = order_is i row (clocks next t t) h old past.lawful past.timed (issued_more t (t + 1) h (omega arith) issued) shown filled in
+    let waits : first_waiting old.slots (order_of t h) ≡ chosen t h = waiting_is i row t next old h [] h past.lawful past.timed issued shown refl in
+    let found = here old.slots (chosen t h) (rw waits at (some (order_of t h) by)) in
+    chosen_happens i row t next x old h [] h past.lawful past.timed issued e shown refl found.0 found.1
+  where
+    here : (slots : List (Option Station)) (o : Option ℕ) → Some x ≡ where_base_is_there slots o → (o ≡ Some x) × (has_base (slice_index_or slots x None) ≡ true)
+    here slots None e = absurd (cc)
+    here slots (Some y) e = elim (cases_Bool (has_base (slice_index_or slots y None))) [
+      | inl k ↦
+          let f : Some x ≡ Some y = rw k at e in
+          let g : y ≡ x = cc in
+          (sym f, ap (λ (z : ℕ). has_base (slice_index_or slots z None)) (sym g) ∙ k)
+      | inr k ↦ let z : Some x ≡ None = rw k at e in absurd (cc)
+    ]
+
+-- what happens in a part of a run happens in the run
+pub run_happens : (row : Row) (i : Loaded) (n k u : ℕ) (s : State) (kind : EndKind) → RunEnds i n s kind → k ≤ n + 1 → 0 < events_in u (run_to row i k) → 0 < events_in u (run_to row i (n + 1))
+run_happens row i n k u s kind ends l some =
+    let part = run_split row i n k (n + 1) s kind ends l (omega arith) in
+    let more : events_in u (run_to row i k) ≤ events_in u (part.0 ++ run_to row i k) = events_older u part.0 (run_to row i k) in
+    rw part.1 (omega arith)
+
+-- a cycle whose phases tell of something has an event
+pub cycle_happens : (i : Loaded) (row : Row) (n t next count c : ℕ) (s : State) (kind : EndKind) (fault : Option Fault) (result : Result ℕ Fault) (any addressed ended : Bool)
+    (st0 st1 st3 : Pools) (rg0 rg1 : RegStatus) (ft0 ft1 : Fetch) (m0 m1 : Bytes)
+    → MakesStarts row next st0 m0 fault st1 m1 → (any ≡ true → StartsHappen row next st0) → (addressed ≡ true → AddressHappens next st1) → (ended ≡ true → EndsHappen row next st3)
+    → IsUnderWay i row n t next count fault result st3 rg1 ft1 m1 → result ≡ Ok c → RunEnds i n s kind → next ≡ t + 1 → IsRow row → IsLoaded i.window i.memory i.entry → IsSnapshot i row n t count st0 rg0 ft0 m0
+    → (any ≡ true) ⊎ ((addressed ≡ true) ⊎ ((c ≢ count) ⊎ (ended ≡ true))) → 0 < events_in next (run_to row i (n + 1))
+cycle_happens i row n t next count c s kind fault result any addressed ended st0 st1 st3 rg0 rg1 ft0 ft1 m0 m1 starts a b d on issued ends e good loaded old which =
+    let few : count ≤ n + 1 = old.issue.few in
+    let h0 : IsHistory i row (run_to row i count) = run_history row i n count s kind good loaded ends few in
+    let same : on.count ≡ c = ok_same result on.count c on.issued issued in
+    elim which [
+      | inl k ↦ run_happens row i n count next s kind ends few (a k i (run_to row i count) t e h0 old.issue.issued old.issue.slots)
+      | inr other ↦ elim other [
+        | inl k ↦
+            let made = starts i (run_to row i count) t e h0 old.issue.issued old.issue.slots old.bytes in
+            run_happens row i n count next s kind ends few (b k i row (run_to row i count) t e h0 old.issue.issued made.1)
+        | inr other ↦ elim other [
+          | inl k ↦ run_happens row i n on.count next s kind ends on.after.few (issue_happens i row n t next count on.count s kind good ends e old.issue.next on.low on.after.few (λ z. k (sym same ∙ z)) on.after.issued)
+          | inr k ↦ run_happens row i n on.count next s kind ends on.after.few (d k i (run_to row i on.count) t e (run_history row i n on.count s kind good loaded ends on.after.few) on.after.issued on.after.slots)
+        ]
+      ]
+    ]

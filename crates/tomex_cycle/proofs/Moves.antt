@@ -1,0 +1,97 @@
+-- What is made and what is passed, as counts of cycles see it.
+use Rattle.std.proofs.Common.{ℕ, ◌+◌, ◌<◌, ◌≤◌, ◌≡◌, ◌∙◌, Bool, true, false, arith, refl, List, Option, Some, None, ap, sym, inl, inr, ◌⊎◌, slice_index_or}
+use Rattle.std.specs.Prelude.{nat_lt, if◌then◌else◌, IfSome}
+use Rattle.std.proofs.lemmas.Bool.{cases_Bool, ltb-true, ltb-false}
+use Rattle.tomex_image.specs.Image.{Loaded, IsLoaded}
+use Rattle.tomex_config.specs.Row.{Row, IsRow}
+use Rattle.tomex_rvexec.specs.declared.outcome.EndKind.{EndKind}
+use Rattle.tomex_rvexec.specs.Machine.{State}
+use Rattle.tomex_rvexec.specs.Memory.{Bytes}
+use Rattle.tomex_rvexec.specs.Run.{EndsWithin, RunEnds}
+use Rattle.tomex_timing.specs.declared.times.Done.{Done}
+use Rattle.tomex_timing.specs.History.{greatest_end}
+use Rattle.tomex_cycle.specs.declared.fetch.Fetch.{Fetch}
+use Rattle.tomex_cycle.specs.declared.progress.Progress.{Progress}
+use Rattle.tomex_cycle.specs.declared.progress.Progress.TheVariants.{Running, Ended}
+use Rattle.tomex_cycle.specs.Ends.{finishes}
+use Rattle.tomex_cycle.specs.Events.{Passes, events_in}
+use Rattle.tomex_cycle.specs.Finishes.{FinishesSoon, IsFinish, IsFree, StopsAt}
+use Rattle.tomex_cycle.specs.Phases.{IsSnapshot}
+use Rattle.tomex_cycle.specs.Run.{run_of, run_to}
+use Rattle.tomex_cycle.specs.Sound.{IsAfter, IsSound}
+use Rattle.tomex_cycle.specs.Views.{clocks}
+use Rattle.tomex_cycle.proofs.Happens.{finish_happens, over_happens, run_happens, still_none}
+use Rattle.tomex_cycle.proofs.Quiet.{AllStillTo}
+use Rattle.tomex_cycle.proofs.Runs.{run_whole}
+use Rattle.tomex_cycle.proofs.Skips.{still_past}
+use Rattle.tomex_cycle.proofs.Ticks.{running_low}
+use Rattle.tomex_tags.specs.Pools.{Pools}
+use Rattle.tomex_tags.specs.declared.register_status.RegStatus.{RegStatus}
+use Rattle.tomex_tags.specs.declared.station.Station.{Station}
+
+-- a station more in the search for the next finish
+pub found_next : (slots : List (Option Station)) (from x : ℕ) (best now : Option ℕ) (o : Option Station) → x < 96 → o ≡ slice_index_or slots x None → IsFinish slots from best → IfSome now (λ f. (best ≡ Some f) ⊎ ((from ≤ f) × (finishes f o ≡ true))) → IsFinish slots from now
+found_next slots from x best None o small same before some = tt
+found_next slots from x best (Some f) o small same before some = elim some [
+  | inl e ↦ rw e at before
+  | inr k ↦ (k.0, x, small, ap (finishes f) (sym same) ∙ k.1)
+]
+
+-- it says where the machine goes on
+pub soon : (slots : List (Option Station)) (o : Option ℕ) (cycle w : ℕ) → IsFinish slots cycle o → StopsAt o cycle w → FinishesSoon slots cycle w
+soon slots None cycle w found stops = absurd stops
+soon slots (Some f) cycle w found stops = elim stops [
+  | inl l ↦
+      let k : cycle ≤ f = found.0 in
+      let e : f ≡ cycle = omega arith in
+      (found.1, found.2, inl (ap (λ (v : ℕ). finishes v (slice_index_or slots found.1 None)) (sym e) ∙ found.3))
+  | inr e ↦ (found.1, found.2, inr (ap (λ (v : ℕ). finishes v (slice_index_or slots found.1 None)) (sym e) ∙ found.3))
+]
+
+shown_finish : (i : Loaded) (row : Row) (n u v more x : ℕ) (s : State) (kind : EndKind) (st : Pools) (rg : RegStatus) (ft : Fetch) (m : Bytes) → RunEnds i n s kind → IsSnapshot i row n u more st rg ft m → x < 96 → finishes v (slice_index_or st.slots x None) ≡ true → 0 < events_in v (run_to row i (n + 1))
+shown_finish i row n u v more x s kind st rg ft m ends shot small e =
+    run_happens row i n more v s kind ends shot.issue.few (finish_happens i (clocks u u u) v x (run_to row i more) (ap (finishes v) (sym (shot.issue.slots.slots x small)) ∙ e))
+
+-- one cycle is made, and those after it are passed
+pub go_passes : (i : Loaded) (row : Row) (cycle w to : ℕ) (last now : Progress) (still : Bool) (count more : ℕ) (st st2 : Pools) (rg rg2 : RegStatus) (ft ft2 : Fetch) (m m2 : Bytes) → IsSound i row cycle last count st rg ft m → last ≡ Running
+    → ((n : ℕ) (s : State) (kind : EndKind) (t : ℕ) → RunEnds i n s kind → n < 262144 → cycle + 1 ≡ t + 1 → IsRow row → IsLoaded i.window i.memory i.entry → IsSnapshot i row n t count st rg ft m
+    → IsSnapshot i row n (cycle + 1) more st2 rg2 ft2 m2 × (now ≡ (if nat_lt (cycle + 1) (greatest_end (run_to row i (n + 1))) then Running else Ended)) × (still ≡ false → 0 < events_in (cycle + 1) (run_to row i (n + 1))))
+    → cycle + 1 ≤ w → (cycle + 1 < w → (more ≡ count) × (st2.slots ≡ st.slots) × (now ≡ Running) × IsFree st2.slots (cycle + 1) w)
+    → (now ≡ Running → still ≡ true → w < to → FinishesSoon st2.slots (cycle + 1) w)
+    → EndsWithin i 262144 → Passes (run_of row i) to cycle w
+go_passes i row cycle w to last now still count more st st2 rg rg2 ft ft2 m m2 sound run made l skips stops within =
+    let n : ℕ = within.0 in
+    let s : State = within.1 in
+    let kind : EndKind = within.2 in
+    let ends : RunEnds i n s kind = within.4 in
+    let few : n < 262144 = within.3 in
+    let h : List Done = run_to row i (n + 1) in
+    let before : IsAfter i row n cycle last count st rg ft m = sound.after n s kind few ends in
+    let shot = made n s kind cycle ends few refl sound.lawful sound.loaded before.snapshot in
+    let low : cycle < greatest_end h = running_low cycle (greatest_end h) last before.answer run in
+    let after : IsSnapshot i row n (cycle + 1) more st2 rg2 ft2 m2 = shot.0 in
+    rw (run_whole row i n s kind ends few) (record {
+      on = l;
+      idle = λ k a b.
+          let skip = skips (omega arith) in
+          let old : IsSnapshot i row n cycle more st rg ft m = rw skip.0 before.snapshot in
+          let still_to : AllStillTo (cycle + 1) w h = still_past row i n cycle (cycle + 1) w more s kind st st2 rg rg2 ft ft2 m m2 sound.lawful ends refl l old after skip.1 skip.3 in
+          still_none k h (still_to k (omega arith) b);
+      pays = elim (cases_Bool still) [
+        | inr moved ↦ inl (shot.2 moved)
+        | inl quiet ↦ elim (cases_Bool (nat_lt (cycle + 1) (greatest_end h))) [
+          | inr over ↦ let high : greatest_end h ≤ cycle + 1 = ltb-false _ _ over in inl (over_happens (cycle + 1) h (omega arith) (omega arith))
+          | inl on ↦
+              let runs : now ≡ Running = shot.1 ∙ ap (λ b. if b then Running else Ended) on in
+              elim (cases_Bool (nat_lt w to)) [
+                | inr past ↦ inr (inl (ltb-false _ _ past))
+                | inl short ↦
+                    let f = stops runs quiet (ltb-true _ _ short) in
+                    elim f.2 [
+                      | inl here ↦ inl (shown_finish i row n (cycle + 1) (cycle + 1) more f.0 s kind st2 rg2 ft2 m2 ends after f.1 here)
+                      | inr next ↦ inr (inr (shown_finish i row n (cycle + 1) (w + 1) more f.0 s kind st2 rg2 ft2 m2 ends after f.1 next))
+                    ]
+              ]
+        ]
+      ];
+    })

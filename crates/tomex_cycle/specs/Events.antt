@@ -1,0 +1,41 @@
+-- What happens in a cycle: an instruction's issue, address, start, finish and end are one event each, also where they fall in one cycle.
+use Rattle.std.specs.Prelude.{ℕ, zero, suc, ◌+◌, ◌*◌, ◌≤◌, ◌<◌, ◌≡◌, ◌⊎◌, ◌==◌, if◌then◌else◌, List, [], ◌∷◌}
+use Rattle.tomex_timing.specs.declared.times.Done.{Done}
+use Rattle.tomex_timing.specs.declared.times.Times.{Times}
+use Rattle.tomex_timing.specs.History.{cycle_of}
+
+-- 1 for an event of the cycle
+abbrev pub falls_in : ℕ → ℕ → ℕ
+falls_in t a = if a == t then 1 else 0
+
+-- how many events of an instruction fall in the cycle
+abbrev pub events_of : ℕ → Times → ℕ
+events_of t at = falls_in t at.issue + falls_in t (cycle_of at.address) + falls_in t at.start + falls_in t at.finish + falls_in t at.end
+
+-- how many of a run
+abbrev pub events_in : ℕ → List Done → ℕ
+events_in t [] = 0
+events_in t (d ∷ older) = events_of t d.at + events_in t older
+
+-- how many up to and with the cycle; cycles are counted from 1
+abbrev pub events_by : List Done → ℕ → ℕ
+events_by h zero = 0
+events_by h (suc t) = events_by h t + events_in (suc t) h
+
+-- in how many cycles up to and with this one anything happens
+abbrev pub busy_by : List Done → ℕ → ℕ
+busy_by h zero = 0
+busy_by h (suc t) = busy_by h t + (if events_in (suc t) h == 0 then 0 else 1)
+
+-- What a count of cycles that are made rises by from one cycle to another: by at least those in which anything
+-- happens, and by at most one more than twice the events.
+pub record IsCounted (h : List Done) (from to before after : ℕ) : Type 0 where
+  pub least : busy_by h to + before ≤ after + busy_by h from
+  pub most : after + 2 * events_by h from ≤ before + 2 * events_by h to + 1
+
+-- one cycle is made, and those after it are passed: nothing happens in them, and where nothing happens in the
+-- one that is made, the next one is at the bound, or something happens in it
+pub record Passes (h : List Done) (to from now : ℕ) : Type 0 where
+  pub on : from + 1 ≤ now
+  pub idle : (k : ℕ) → from + 1 < k → k ≤ now → events_in k h ≡ 0
+  pub pays : (0 < events_in (from + 1) h) ⊎ ((to ≤ now) ⊎ (0 < events_in (now + 1) h))
