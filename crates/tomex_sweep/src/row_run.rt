@@ -38,13 +38,14 @@ pub(crate) struct RowRun<'s, A: Allocator> {
 }
 
 impl<'s, A: Allocator> Model for RowRun<'s, A> {
+    ghost use Rattle.tomex_cycle.specs.Seen.{seen};
     ghost use Rattle.tomex_sweep.specs.Stops.{Going, IsGoing};
 
     ghost Value = { Going };
 
     ghost view = { λ r. record { programs = r.programs.now; row = r.row.now; reached = r.reached } };
 
-    ghost invariant = { λ r. IsGoing r.programs.now r.row.now r.reached r.place r.done r.machine };
+    ghost invariant = { λ r. IsGoing r.programs.now r.row.now r.reached r.place r.done (seen r.machine) };
 }
 
 impl<'s, A: Allocator + Clone> RowRun<'s, A> {

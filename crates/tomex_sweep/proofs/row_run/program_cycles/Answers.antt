@@ -5,4 +5,4 @@ use Rattle.tomex_sweep.proofs.row_run.program_cycles.Goals as goal
 
 pub returns-clause-total : goal.returns-clause-total
 returns-clause-total g c =
-    c.cycle.ensures.value ∙ (to_end c.args.row.now c.args.program.now _ _ c.buses-buses.ensures.lawful c.image.ensures.program (rw c.image.ensures.value at c.in_ok-machine.ensures) c.advance.ensures.ends).cycle
+    c.cycle.ensures.value ∙ (to_end c.args.row.now c.args.program.now _ _ c.buses-buses.ensures.lawful c.image.ensures.program (rw c.image.ensures.value at c.in_ok-machine.ensures.start) c.advance.ensures.ends).cycle

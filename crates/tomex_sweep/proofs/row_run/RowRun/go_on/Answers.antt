@@ -57,7 +57,7 @@ loop-self-preserved g c =
     let t = ended_total _ _ _ _ _ _ _ c.loop-self.invariant.going c.loop-self-test.true goes (sym c.ended.ensures.value ∙ c.if-not-ended.false) in
     let at = c.in-Some.ensures.lookup.3 in
     record {
-      going = next_going _ _ _ _ _ _ _ _ c.in-Some.program.now c.loop-self.invariant.going c.loop-self-test.true (rw c.cycle.ensures.value t.0) (rw c.cycle.ensures.value t.1) (slice_get_read c.loop-self.self-inside.programs.now _ (c.loop-self.self-inside.place + 1) c.in-Some.program.now refl at.0 (at.1 c.in-Some.program.now)) (rw c.image.ensures.value at c.in_ok-machine.ensures);
+      going = next_going _ _ _ _ _ _ _ _ c.in-Some.program.now c.loop-self.invariant.going c.loop-self-test.true (rw c.cycle.ensures.value t.0) (rw c.cycle.ensures.value t.1) (slice_get_read c.loop-self.self-inside.programs.now _ (c.loop-self.self-inside.place + 1) c.in-Some.program.now refl at.0 (at.1 c.in-Some.program.now)) (rw c.image.ensures.value at c.in_ok-machine.ensures.start);
       next = c.loop-self.invariant.next;
       programs = c.loop-self.invariant.programs;
       row = c.loop-self.invariant.row;
