@@ -20,6 +20,7 @@ use all::text_of_all;
 use explore::text_of_explore;
 use run::text_of_run;
 use std::alloc::{Allocator, Global};
+use std::sync::Wait;
 use std::thread::Threads;
 use tables::text_of_tables;
 use times::text_of_times;
@@ -27,7 +28,7 @@ use tomex_line::{Line, read_line};
 use tomex_streams::{Files, Sink, write_all_of};
 
 /// The text that a line asks for.
-fn text_of<R: Threads + Sync, F: Files, A: Allocator + Clone + Send + Sync + Drop>(
+fn text_of<R: Threads + Wait + Sync, F: Files, A: Allocator + Clone + Send + Sync + Drop>(
     rt: &R,
     alloc: A,
     heap: Global,
@@ -47,14 +48,12 @@ fn text_of<R: Threads + Sync, F: Files, A: Allocator + Clone + Send + Sync + Dro
 }
 
 /// Writes the text that a line asks for, and nothing before the whole of it is made.
-fn carry_out<R: Threads + Sync, F: Files, O: Sink, A: Allocator + Clone + Send + Sync + Drop>(
-    rt: &R,
-    alloc: A,
-    heap: Global,
-    line: Line<'_>,
-    files: &F,
-    out: &mut O,
-) -> Result<(), Failure>
+fn carry_out<
+    R: Threads + Wait + Sync,
+    F: Files,
+    O: Sink,
+    A: Allocator + Clone + Send + Sync + Drop,
+>(rt: &R, alloc: A, heap: Global, line: Line<'_>, files: &F, out: &mut O) -> Result<(), Failure>
     ensures done { OnOk result (IsCarriedOut (F.file files.now) line.entry
         (record { taken = O.taken out.old; faults = O.faults out.old }) (record { taken = O.taken out.new; faults = O.faults out.new })) }
     ensures left { IfErr result (λ failure. IsLeft (F.file files.now) line.entry failure
@@ -74,7 +73,7 @@ fn carry_out<R: Threads + Sync, F: Files, O: Sink, A: Allocator + Clone + Send +
 /// the parser's text with 2. What is made of images is made in memory of `alloc`; the command
 /// line, and the names and texts of failures, in memory of `heap`.
 pub fn command<
-    R: Threads + Sync,
+    R: Threads + Wait + Sync,
     F: Files,
     O: Sink,
     E: Sink,

@@ -12,6 +12,7 @@ use crate::front_text::front_report;
 use crate::replaying::replay;
 use crate::study::read_study;
 use std::alloc::{AllocError, Allocator, Global};
+use std::sync::Wait;
 use std::thread::Threads;
 use tomex_document::StudyError;
 use tomex_sweep::{FrontRow, Gate, Study, SweepError, explore, run_all};
@@ -34,7 +35,7 @@ fn reported<R: Threads + Sync, A: Allocator + Clone + Send + Sync + Drop>(
 }
 
 /// The report of a study, which workers explore.
-fn explored<R: Threads + Sync, A: Allocator + Clone + Send + Sync + Drop, G: Gate>(
+fn explored<R: Threads + Wait + Sync, A: Allocator + Clone + Send + Sync + Drop, G: Gate + Sync>(
     rt: &R,
     alloc: A,
     heap: Global,
@@ -46,7 +47,7 @@ fn explored<R: Threads + Sync, A: Allocator + Clone + Send + Sync + Drop, G: Gat
     requires few_workers { workers ≤ 32 }
     ensures { IfOk result (λ text. text.items ≡ report_of study.now) }
 {
-    let outcome = explore(alloc.clone()?, study, workers, gate)?;
+    let outcome = explore(rt, alloc.clone()?, study, workers, gate)?;
     Ok(reported(rt, alloc, heap, study, outcome.front.as_slice())?)
 }
 
@@ -59,7 +60,7 @@ fn explored<R: Threads + Sync, A: Allocator + Clone + Send + Sync + Drop, G: Gat
 /// `study` is the document, `files` the contents of its programs' files in their order. A study is
 /// refused as `read_study` refuses it; of one that isn't, only memory and the start of a thread can
 /// be refused. What `toml` and `csv` need they take of `heap`.
-pub fn answer<R: Threads + Sync, A: Allocator + Clone + Send + Sync + Drop, G: Gate>(
+pub fn answer<R: Threads + Wait + Sync, A: Allocator + Clone + Send + Sync + Drop, G: Gate + Sync>(
     rt: &R,
     alloc: A,
     heap: Global,

@@ -10,7 +10,6 @@ pub mod Judged
 pub mod Keys
 pub mod Verdicts
 pub mod StudyFronts
-pub mod LeastBounds
 pub mod Closing
 pub mod Moves
 pub mod Leftovers

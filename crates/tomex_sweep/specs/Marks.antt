@@ -33,9 +33,3 @@ finished_one n c _ = []
 abbrev pub finished_from : ℕ → List ℕ → List Mark → List FrontRow
 finished_from n (c ∷ cs) (m ∷ ms) = finished_one n c m ++ finished_from (suc n) cs ms
 finished_from n _ _ = []
-
--- what closes a row of that cost and these cycles, where the rows before it have these marks
-abbrev pub IsJudgement : List ℕ → List Mark → ℕ → ℕ → Mark → Type 0
-IsJudgement costs marks cost cycles (Finished y) = y ≡ cycles
-IsJudgement costs marks cost cycles (Dropped j) = (y : ℕ) × (slice_get marks j ≡ Some (Finished y)) × (slice_index costs j ≤ cost) × (y < cycles)
-IsJudgement costs marks cost cycles _ = ⊥

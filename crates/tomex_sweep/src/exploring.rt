@@ -1,79 +1,98 @@
 //! Explorations.
 
-ghost use Rattle.std.specs.Prelude.{◌≡◌, ◌≤◌, ◌<◌, length, map, IfOk, IfErr, Some, slice_get, slice_index, true, All};
-ghost use Rattle.tomex_sweep.specs.Program.{IsProgram};
-ghost use Rattle.tomex_sweep.specs.Cycles.{cycles_of, cycles_on};
+ghost use Rattle.std.specs.Prelude.{◌≡◌, ◌≤◌, IfOk};
+ghost use Rattle.tomex_sweep.specs.Cycles.{cycles_of};
 ghost use Rattle.tomex_sweep.specs.Front.{front_of_study};
-ghost use Rattle.tomex_sweep.specs.Marks.{AreJudged, IsJudgement};
-ghost use Rattle.tomex_board.specs.Marks.{AreLawful};
-ghost use Rattle.tomex_board.specs.declared.mark.Mark.TheVariants.{Finished};
-ghost use Rattle.tomex_sweep.specs.declared.outcome.SweepError.TheVariants.{Memory};
+ghost use Rattle.tomex_sweep.specs.Marks.{AreJudged};
+ghost use Rattle.tomex_sweep.specs.Plans.{IsPlanOf};
 
-use crate::bound::faster_row;
 use crate::fronts::front;
 use crate::gate::Gate;
-use crate::laws::each_program_ends;
+use crate::gathering::gather;
+use crate::laws::each_row_is_lawful;
 use crate::outcome::{Outcome, SweepError};
-use crate::program::Program;
-use crate::row_run::{RowRun, row_cycles};
-use crate::stop::Stop;
+use crate::stacks::{Stacks, UsualStacks};
+use crate::started::run_workers;
 use crate::study::Study;
-use std::alloc::{AllocError, Allocator};
-use tomex_board::Mark;
-use tomex_config::Config;
+use std::alloc::Allocator;
+use std::marker::Brand;
+use std::sync::Wait;
+use std::thread::Threads;
+use tomex_board::{Board, Plan};
+use tomex_lanes::{deal, seated, settle};
 
-/// Runs each row to its end, on the calling thread.
-pub fn run_all<A: Allocator + Clone>(alloc: A, study: &Study<A>) -> Result<Outcome<A>, SweepError>
-    ensures marks { IfOk result (λ o. o.marks.items ≡ map Finished (cycles_of study.now)) }
+/// An exploration over a board that is made for the study's costs and cycles.
+fn explore_as<
+    J: Plan + Send + Sync,
+    R: Threads + Wait + Sync,
+    A: Allocator + Clone + Send + Sync + Drop,
+    G: Gate + Sync,
+    S: Stacks + Sync,
+>(
+    rt: &R,
+    alloc: A,
+    study: &Study<A>,
+    workers: usize,
+    gate: &G,
+    stacks: &S,
+) -> Result<Outcome<A>, SweepError>
+    requires some_workers { 1 ≤ workers }
+    requires few_workers { workers ≤ 32 }
+    requires plan { IsPlanOf study.now J.costs J.cycles }
+    ensures marks { IfOk result (λ o. AreJudged study.now.costs (cycles_of study.now) o.marks.items) }
     ensures front { IfOk result (λ o. o.front.items ≡ front_of_study study.now) }
     ensures gathered { IfOk result (λ o. o.gathered ≡ 0) }
-    ensures refused { IfErr result (λ e. e ≡ Memory) }
 {
-    let mut marks = Vec::with_capacity(alloc.clone()?, study.rows().len())?;
-    for row in study.rows() {
-        let cycles = row_cycles(alloc.clone()?, study.programs(), row)?;
-        marks.push(Mark::Finished(cycles))?;
-    }
-    let front = front(alloc, study.costs(), marks.as_slice())?;
+    // A law: the board wants cycles that fit its words, which those of lawful rows do.
+    each_row_is_lawful(study.rows());
+    let costs = study.costs();
+    let lanes = deal(alloc.clone()?, workers, costs.len())?;
+    let (board, seat) = Board::<J, A>::new(alloc.clone()?, costs)?;
+    let crew = seated(alloc.clone()?, &board, seat, lanes)?;
+    let parts = run_workers(rt, alloc.clone()?, study, &board, crew, gate, stacks)?;
+    let mut marks = settle(board, parts);
+    let gathered = gather(alloc.clone()?, study, &mut marks)?;
+    let front = front(alloc, costs, marks.as_slice())?;
     Ok(Outcome {
         marks,
         front,
-        gathered: 0,
+        gathered,
     })
 }
 
-/// Runs a row until it is over, or until a look finds a finished row that costs no more and takes
-/// fewer cycles than this one has made.
-fn judged<A: Allocator + Clone>(
+/// `explore` with threads whose stacks are as the caller says.
+pub fn explore_on<
+    R: Threads + Wait + Sync,
+    A: Allocator + Clone + Send + Sync + Drop,
+    G: Gate + Sync,
+    S: Stacks + Sync,
+>(
+    rt: &R,
     alloc: A,
-    programs: &[Program<A>],
-    row: &Config,
-    costs: &[u64],
-    cost: u64,
-    marks: &[Mark],
-) -> Result<Mark, AllocError>
-    requires some { 1 ≤ length programs.now }
-    requires few { length programs.now ≤ 8 }
-    requires ends { All IsProgram programs.now }
-    requires costs { length marks.now ≤ length costs.now }
-    ensures { IfOk result (λ m. IsJudgement costs.now marks.now cost (cycles_on programs.now row.now) m) }
+    study: &Study<A>,
+    workers: usize,
+    gate: &G,
+    stacks: &S,
+) -> Result<Outcome<A>, SweepError>
+    requires some_workers { 1 ≤ workers }
+    requires few_workers { workers ≤ 32 }
+    ensures marks { IfOk result (λ o. AreJudged study.now.costs (cycles_of study.now) o.marks.items) }
+    ensures front { IfOk result (λ o. o.front.items ≡ front_of_study study.now) }
+    ensures gathered { IfOk result (λ o. o.gathered ≡ 0) }
 {
-    let mut run = RowRun::new(alloc, programs, row)?;
-    loop {
-        match run.go_on()? {
-            Stop::Over(cycles) => return Ok(Mark::Finished(cycles)),
-            Stop::Look(reached) => {
-                if let Some(faster) = faster_row(costs, marks, cost, reached) {
-                    return Ok(Mark::Dropped(faster));
-                }
-            }
-        }
-    }
+    explore_as::<Brand, R, A, G, S>(rt, alloc, study, workers, gate, stacks)
 }
 
 /// Runs each row until it is over, or until a finished row is known that costs no more and takes
 /// strictly fewer cycles, and gives the front.
-pub fn explore<A: Allocator + Clone, G: Gate>(
+///
+/// The rows are dealt to so many workers, a thread each. A worker whose own rows are all taken steals
+/// from the others; they share nothing but the study and a board of single words, so none waits for
+/// another. Which rows are dropped depends on who was faster. The front doesn't.
+///
+/// Where a thread or memory is refused, what was started is waited for first.
+pub fn explore<R: Threads + Wait + Sync, A: Allocator + Clone + Send + Sync + Drop, G: Gate + Sync>(
+    rt: &R,
     alloc: A,
     study: &Study<A>,
     workers: usize,
@@ -83,28 +102,7 @@ pub fn explore<A: Allocator + Clone, G: Gate>(
     requires few_workers { workers ≤ 32 }
     ensures marks { IfOk result (λ o. AreJudged study.now.costs (cycles_of study.now) o.marks.items) }
     ensures front { IfOk result (λ o. o.front.items ≡ front_of_study study.now) }
+    ensures gathered { IfOk result (λ o. o.gathered ≡ 0) }
 {
-    // One thread makes all runs, as worker 0.
-    let _ = workers;
-    each_program_ends(study.programs());
-    let costs = study.costs();
-    let mut marks = Vec::with_capacity(alloc.clone()?, costs.len())?;
-    for (number, row) in study.rows().iter().enumerate() {
-        gate.before(0, number);
-        let mark = judged(
-            alloc.clone()?,
-            study.programs(),
-            row,
-            costs,
-            costs[number],
-            marks.as_slice(),
-        )?;
-        marks.push(mark)?;
-    }
-    let front = front(alloc, costs, marks.as_slice())?;
-    Ok(Outcome {
-        marks,
-        front,
-        gathered: 0,
-    })
+    explore_on(rt, alloc, study, workers, gate, &UsualStacks)
 }

@@ -2,7 +2,6 @@
 //! the cycles that each row takes, and the front of the rows that no other row dominates.
 #![tactic(auto)]
 
-mod bound;
 mod exploring;
 mod front_row;
 mod fronts;
@@ -12,6 +11,7 @@ mod laws;
 mod outcome;
 mod program;
 mod row_run;
+mod running_all;
 mod stacks;
 mod started;
 mod stop;
@@ -19,7 +19,7 @@ mod study;
 mod watch;
 mod working;
 
-pub use exploring::{explore, run_all};
+pub use exploring::{explore, explore_on};
 pub use front_row::FrontRow;
 pub use gate::{Gate, OpenGate};
 pub use laws::{
@@ -27,6 +27,8 @@ pub use laws::{
 };
 pub use outcome::{Outcome, SweepError};
 pub use program::{Program, ProgramError};
+pub use running_all::run_all;
+pub use stacks::{Stacks, UsualStacks};
 pub use study::Study;
 pub use tomex_board::Mark;
 pub use watch::{WatchRange, can_watch};

@@ -2,14 +2,15 @@
 
 use core::thread::Stack;
 
-/// The stack of each worker's thread. A test can have one refused here.
-pub(crate) trait Stacks {
+/// The stack of each worker's thread. One that is too large is refused, and so is its thread.
+pub trait Stacks {
+    /// The stack of this worker's thread, from 0.
     fn stack_of(&self, worker: usize) -> Stack;
 }
 
 /// Stacks of the usual size.
 #[derive(Clone, Copy)]
-pub(crate) struct UsualStacks;
+pub struct UsualStacks;
 
 impl Stacks for UsualStacks {
     fn stack_of(&self, _worker: usize) -> Stack {

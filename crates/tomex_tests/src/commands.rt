@@ -2,6 +2,7 @@
 use crate::in_memory::{Narrow, Shelf};
 use std::alloc::Global;
 use std::process::Abort;
+use std::sync::Wait;
 use std::test::Fail;
 use std::thread::Threads;
 use tomex_command::command;
@@ -15,7 +16,7 @@ pub struct Outcome {
 }
 
 /// Runs the program on these words over these files, and a standard output that takes so many bytes.
-pub fn outcome_of<R: AllocGlobal + Threads + Sync>(
+pub fn outcome_of<R: AllocGlobal + Threads + Wait + Sync>(
     rt: &R,
     files: &[(&str, &[u8])],
     words: &[&str],
@@ -44,7 +45,7 @@ pub fn outcome_of<R: AllocGlobal + Threads + Sync>(
 }
 
 /// Runs the program on these words, over the one file `image` or none.
-fn run_into<R: AllocGlobal + Threads + Sync>(
+fn run_into<R: AllocGlobal + Threads + Wait + Sync>(
     rt: &R,
     image: Option<&[u8]>,
     words: &[&str],
@@ -57,7 +58,7 @@ fn run_into<R: AllocGlobal + Threads + Sync>(
 }
 
 /// The words come to this status, output and telling.
-pub fn comes_to<R: Abort + AllocGlobal + Threads + Sync>(
+pub fn comes_to<R: Abort + AllocGlobal + Threads + Wait + Sync>(
     rt: &R,
     files: &[(&str, &[u8])],
     words: &[&str],
@@ -89,7 +90,7 @@ pub fn text_of(alloc: Global, registers: &[(usize, u32)], last: &str) -> Result<
 }
 
 /// The image ends so: these registers aren't zero, and this is the last line.
-pub fn ends<R: Abort + AllocGlobal + Threads + Sync>(
+pub fn ends<R: Abort + AllocGlobal + Threads + Wait + Sync>(
     rt: &R,
     image: &[u8],
     options: &[&str],
@@ -108,7 +109,7 @@ pub fn ends<R: Abort + AllocGlobal + Threads + Sync>(
 }
 
 /// The line is refused so: this is all that is told, and this is the status.
-pub fn fails<R: Abort + AllocGlobal + Threads + Sync>(
+pub fn fails<R: Abort + AllocGlobal + Threads + Wait + Sync>(
     rt: &R,
     image: Option<&[u8]>,
     options: &[&str],

@@ -2,6 +2,7 @@
 use super::commands::PRODUCT;
 use crate::in_memory::{Narrow, Shelf, words};
 use std::process::Abort;
+use std::sync::Wait;
 use std::test::Fail;
 use std::thread::Threads;
 use tomex_command::command;
@@ -17,6 +18,11 @@ pub const PRICED: &str = "[[program]]\nname = \"mul\"\nfile = \"mul.bin\"\n[pric
 /// Two rows, of a fast alu unit and of a slow one that costs more.
 pub const DROPPED: &str = "[[program]]\nname = \"loop\"\nfile = \"loop.bin\"\n\
     [[unit.alu]]\nlatency = 1\nprice = 5\n[[unit.alu]]\nlatency = 10\nprice = 9\n";
+
+/// Four rows of one cost.
+pub const EQUAL: &str = "[[program]]\nname = \"loop\"\nfile = \"loop.bin\"\n\
+    [[unit.alu]]\nlatency = 1\nprice = 5\n[[unit.alu]]\nlatency = 1\nprice = 5\n\
+    [[unit.alu]]\nlatency = 1\nprice = 5\n[[unit.alu]]\nlatency = 1\nprice = 5\n";
 
 /// One row of two programs, the second of which watches its first word.
 const TWO: &str = "[[program]]\nname = \"mul\"\nfile = \"mul.bin\"\n\
@@ -43,6 +49,13 @@ pub const DROPPED_REPORT: &str = with_header!(
     "0,5,2000,1,1,1,1,1,1,1,1,1,1,1,1,1,1,1,1,1,loop,1000,2000,ebreak,x2=00010000,-\n"
 );
 
+pub const EQUAL_REPORT: &str = with_header!(
+    "0,5,2000,1,1,1,1,1,1,1,1,1,1,1,1,1,1,1,1,1,loop,1000,2000,ebreak,x2=00010000,-\n\
+     1,5,2000,1,1,1,1,1,1,1,1,1,1,1,1,1,1,1,1,1,loop,1000,2000,ebreak,x2=00010000,-\n\
+     2,5,2000,1,1,1,1,1,1,1,1,1,1,1,1,1,1,1,1,1,loop,1000,2000,ebreak,x2=00010000,-\n\
+     3,5,2000,1,1,1,1,1,1,1,1,1,1,1,1,1,1,1,1,1,loop,1000,2000,ebreak,x2=00010000,-\n"
+);
+
 const REPORT_OF_TWO: &str = with_header!(
     "0,0,2008,1,1,1,1,1,1,1,1,1,1,1,1,1,1,1,1,1,mul,4,8,ebreak,x1=00000005 x2=00000007 x3=00000023,-\n\
      0,0,2008,1,1,1,1,1,1,1,1,1,1,1,1,1,1,1,1,1,loop,1000,2000,ebreak,x2=00010000,00000000:9300301f\n"
@@ -50,7 +63,7 @@ const REPORT_OF_TWO: &str = with_header!(
 
 /// The line comes to this status, output and telling, where the study has these bytes and the output
 /// takes so many.
-fn comes_to<R: Abort + AllocGlobal + Threads + Sync>(
+fn comes_to<R: Abort + AllocGlobal + Threads + Wait + Sync>(
     rt: &R,
     line: &str,
     study: &[u8],

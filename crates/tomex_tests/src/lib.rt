@@ -26,6 +26,8 @@ mod programs;
 #[cfg(test)]
 mod refused_memory;
 #[cfg(test)]
+mod sweeps;
+#[cfg(test)]
 mod tables;
 #[cfg(test)]
 mod times;

@@ -7,10 +7,8 @@ use tomex_image::{Image, Window, load};
 use tomex_rvexec::{Fault, FaultKind};
 use tomex_sweep::{Program, ProgramError, Study, WatchRange, can_watch};
 
-mod explorations;
-
 /// An image of these words at 0, in a window of 4,096 bytes.
-fn image_of(alloc: Global, words: &[u32]) -> Result<Image, Fail> {
+pub fn image_of(alloc: Global, words: &[u32]) -> Result<Image, Fail> {
     let mut bytes = Vec::new(alloc);
     for word in words {
         bytes.extend_from_slice(&word.to_le_bytes())?;

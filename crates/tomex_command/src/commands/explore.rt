@@ -5,6 +5,7 @@ ghost use Rattle.tomex_command.specs.FrontLines.{IsFrontOf, IsExploreFailure};
 use super::study::sources_in;
 use crate::failure::Failure;
 use std::alloc::{Allocator, Global};
+use std::sync::Wait;
 use std::thread::Threads;
 use tomex_line::ExploreLine;
 use tomex_report::answer;
@@ -12,13 +13,11 @@ use tomex_streams::Files;
 use tomex_sweep::OpenGate;
 
 /// The text that `explore` prints.
-pub fn text_of_explore<R: Threads + Sync, F: Files, A: Allocator + Clone + Send + Sync + Drop>(
-    rt: &R,
-    alloc: A,
-    heap: Global,
-    line: ExploreLine<'_>,
-    files: &F,
-) -> Result<Vec<u8, A>, Failure>
+pub fn text_of_explore<
+    R: Threads + Wait + Sync,
+    F: Files,
+    A: Allocator + Clone + Send + Sync + Drop,
+>(rt: &R, alloc: A, heap: Global, line: ExploreLine<'_>, files: &F) -> Result<Vec<u8, A>, Failure>
     ensures text { IfOk result (λ text. IsFrontOf (F.file files.now) line.entry.study.now text.items) }
     ensures failure { IfErr result (λ failure. IsExploreFailure (F.file files.now) line.entry.study.now failure) }
 {

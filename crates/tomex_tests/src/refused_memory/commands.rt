@@ -8,13 +8,14 @@ use crate::in_memory::{Narrow, Shelf, words};
 use crate::tables::PRODUCT_AFTER_3;
 use crate::times::{REPORT, STUDY};
 use std::alloc::{AllocError, Global};
+use std::sync::Wait;
 use std::test::Fail;
 use std::thread::Threads;
 use tomex_command::command;
 use tomex_refuse::{Budget, Refusing};
 
 /// Runs the program on a command line over files in memory, which is to print this.
-fn command_in<R: Threads + Sync>(
+fn command_in<R: Threads + Wait + Sync>(
     rt: &R,
     heap: Heap,
     other: Global,

@@ -3,6 +3,7 @@
 use super::{Attempt, Heap, Try, refusals};
 use crate::explorations::{DROPPED, DROPPED_REPORT, LOOP};
 use std::alloc::{AllocError, Global};
+use std::sync::Wait;
 use std::test::Fail;
 use std::thread::Threads;
 use tomex_refuse::{Budget, Refusing};
@@ -26,11 +27,13 @@ fn study_in(other: Global) -> Result<Study<Heap>, AllocError> {
     read_study(heap, other, DROPPED.as_bytes(), files.as_slice()).map_err(|_| AllocError)
 }
 
-/// How an exploration came out whose second row is to have this mark.
-fn tried(outcome: Result<Outcome<Heap>, SweepError>, second: Mark) -> Try {
+/// How an exploration came out whose second row is to have one of these marks.
+fn tried(outcome: Result<Outcome<Heap>, SweepError>, seconds: &[Mark]) -> Try {
     match outcome {
         Ok(outcome) => Try::right_if(
-            outcome.marks.as_slice() == [Mark::Finished(2000), second].as_slice()
+            outcome.marks.len() == 2
+                && outcome.marks[0] == Mark::Finished(2000)
+                && seconds.iter().any(|second| *second == outcome.marks[1])
                 && outcome.front.len() == 1
                 && outcome.gathered == 0,
         ),
@@ -47,24 +50,13 @@ struct RunAll<'a> {
 
 impl<'a> Attempt for RunAll<'a> {
     fn attempt(&self, heap: Heap) -> Result<Try, AllocError> {
-        Ok(tried(run_all(heap, self.study), Mark::Finished(6500)))
-    }
-}
-
-/// Explores the rows.
-#[derive(Clone, Copy)]
-struct Explore<'a> {
-    study: &'a Study<Heap>,
-}
-
-impl<'a> Attempt for Explore<'a> {
-    fn attempt(&self, heap: Heap) -> Result<Try, AllocError> {
-        Ok(tried(explore(heap, self.study, 1, &OpenGate), Mark::Dropped(0)))
+        let seconds = [Mark::Finished(6500)];
+        Ok(tried(run_all(heap, self.study), seconds.as_slice()))
     }
 }
 
 /// Runs the rows of the front again in the one memory, and makes the report of them in the other.
-fn report_in<R: Threads + Sync>(
+fn report_in<R: Threads + Wait + Sync>(
     rt: &R,
     replaying: Heap,
     writing: Heap,
@@ -73,7 +65,7 @@ fn report_in<R: Threads + Sync>(
 ) -> Result<Try, AllocError> {
     // Read for what the study's type keeps, which the proof needs.
     let _rows = study.rows();
-    let Ok(outcome) = explore(ample(other)?, study, 1, &OpenGate) else {
+    let Ok(outcome) = explore(rt, ample(other)?, study, 1, &OpenGate) else {
         return Ok(Try::Wrong);
     };
     let front = outcome.front.as_slice();
@@ -100,11 +92,16 @@ fn answered(text: Result<Vec<u8, Heap>, AnswerError>) -> Try {
 fn of_runs_of_rows(rt: HostRuntime) -> Result<(), Fail> {
     let other = rt.alloc();
     let study = study_in(other)?;
-    // Marks, the memory of machines, finished rows and the front.
+    let judged = [Mark::Dropped(0), Mark::Finished(6500)];
+    // Marks, the memory of machines, finished rows and the front; then also lanes, the board and parts.
     let all = RunAll { study: &study };
     assert!(rt; matches!(refusals(other, &all)?, Some(granted) if granted > 4));
-    let some = Explore { study: &study };
-    assert!(rt; matches!(refusals(other, &some)?, Some(granted) if granted > 4));
+    for workers in [1, 2] {
+        let some = refusals_of!(other, heap => {
+            tried(explore(&rt, heap, &study, workers, &OpenGate), judged.as_slice())
+        });
+        assert!(rt; matches!(some, Some(granted) if granted > 4));
+    }
     let replayed = refusals_of!(other, heap => report_in(&rt, heap, ample(other)?, other, &study)?);
     assert!(rt; matches!(replayed, Some(granted) if granted > 2));
     // The text alone.
@@ -115,7 +112,7 @@ fn of_runs_of_rows(rt: HostRuntime) -> Result<(), Fail> {
 
 /// Makes the report of the study that the document and its file stand for, by so many workers, or,
 /// with None, by the call that runs each row to its end.
-fn answer_in<R: Threads + Sync>(
+fn answer_in<R: Threads + Wait + Sync>(
     rt: &R,
     heap: Heap,
     other: Global,

@@ -1,11 +1,15 @@
-//! Marks of the worked studies.
+//! Marks of the worked studies, and of workers that are held.
 
-use super::image_of;
+use crate::programs::image_of;
 use std::alloc::Global;
-use std::sync::atomic::{AtomicU64, Ordering};
 use std::test::Fail;
 use tomex_config::{Config, Prices, UnitOption};
-use tomex_sweep::{FrontRow, Gate, Mark, OpenGate, Program, Study, explore, run_all};
+use tomex_sweep::{FrontRow, Mark, OpenGate, Program, Study, explore, run_all};
+
+mod gates;
+mod held;
+mod many;
+mod refused;
 
 /// `addi x1,x0,499; addi x1,x1,-1; bne x1,x0,-4; ebreak`
 const LOOP: [u32; 4] = [0x1f300093, 0xfff08093, 0xfe009ee3, 0x00100073];
@@ -40,7 +44,7 @@ fn study_of(alloc: Global, options: &[(u8, u32)]) -> Result<Study, Fail> {
 #[test]
 fn slow_row_is_dropped(rt: HostRuntime) -> Result<(), Fail> {
     let study = study_of(rt.alloc(), [(1, 5), (10, 9)].as_slice())?;
-    let outcome = explore(rt.alloc(), &study, 1, &OpenGate)?;
+    let outcome = explore(&rt, rt.alloc(), &study, 1, &OpenGate)?;
     let marks = [Mark::Finished(2000), Mark::Dropped(0)];
     assert_eq!(rt; outcome.marks.as_slice(), marks.as_slice());
     assert_eq!(rt; outcome.gathered, 0);
@@ -60,45 +64,16 @@ fn slow_row_is_dropped(rt: HostRuntime) -> Result<(), Fail> {
 #[test]
 fn equal_rows_are_finished(rt: HostRuntime) -> Result<(), Fail> {
     let study = study_of(rt.alloc(), [(1, 5), (1, 5), (1, 9)].as_slice())?;
-    for workers in [1, 2, 3] {
-        let outcome = explore(rt.alloc(), &study, workers, &OpenGate)?;
+    for workers in [1, 2, 3, 32] {
+        let outcome = explore(&rt, rt.alloc(), &study, workers, &OpenGate)?;
         assert_eq!(rt;
             outcome.marks.as_slice(),
             [Mark::Finished(2000); 3].as_slice()
         );
+        assert_eq!(rt; outcome.gathered, 0);
         assert_eq!(rt; outcome.front.len(), 2);
         assert_eq!(rt; outcome.front[0].row, 0);
         assert_eq!(rt; outcome.front[1].row, 1);
-    }
-    Ok(())
-}
-
-/// Counts the calls for each row.
-#[derive(Drop)]
-struct Counting<'a> {
-    calls: &'a [AtomicU64],
-}
-
-impl<'a> Gate for Counting<'a> {
-    fn before(&self, _worker: usize, row: usize) {
-        if let Some(calls) = self.calls.get(row) {
-            calls.fetch_add(1, Ordering::SeqCst);
-        }
-    }
-}
-
-#[test]
-fn each_row_is_taken_once(rt: HostRuntime) -> Result<(), Fail> {
-    let study = study_of(rt.alloc(), [(1, 5), (10, 9), (1, 9)].as_slice())?;
-    let calls = [AtomicU64::new(0), AtomicU64::new(0), AtomicU64::new(0)];
-    let gate = Counting {
-        calls: calls.as_slice(),
-    };
-    let outcome = explore(rt.alloc(), &study, 1, &gate)?;
-    let marks = [Mark::Finished(2000), Mark::Dropped(0), Mark::Finished(2000)];
-    assert_eq!(rt; outcome.marks.as_slice(), marks.as_slice());
-    for row in &calls {
-        assert_eq!(rt; row.load(Ordering::SeqCst), 1);
     }
     Ok(())
 }

@@ -1,0 +1,34 @@
+//! The exploration that runs each row to its end.
+
+ghost use Rattle.std.specs.Prelude.{◌≡◌, map, IfOk, IfErr};
+ghost use Rattle.tomex_sweep.specs.Cycles.{cycles_of};
+ghost use Rattle.tomex_sweep.specs.Front.{front_of_study};
+ghost use Rattle.tomex_board.specs.declared.mark.Mark.TheVariants.{Finished};
+ghost use Rattle.tomex_sweep.specs.declared.outcome.SweepError.TheVariants.{Memory};
+
+use crate::fronts::front;
+use crate::outcome::{Outcome, SweepError};
+use crate::row_run::row_cycles;
+use crate::study::Study;
+use std::alloc::Allocator;
+use tomex_board::Mark;
+
+/// Runs each row to its end, on the calling thread.
+pub fn run_all<A: Allocator + Clone>(alloc: A, study: &Study<A>) -> Result<Outcome<A>, SweepError>
+    ensures marks { IfOk result (λ o. o.marks.items ≡ map Finished (cycles_of study.now)) }
+    ensures front { IfOk result (λ o. o.front.items ≡ front_of_study study.now) }
+    ensures gathered { IfOk result (λ o. o.gathered ≡ 0) }
+    ensures refused { IfErr result (λ e. e ≡ Memory) }
+{
+    let mut marks = Vec::with_capacity(alloc.clone()?, study.rows().len())?;
+    for row in study.rows() {
+        let cycles = row_cycles(alloc.clone()?, study.programs(), row)?;
+        marks.push(Mark::Finished(cycles))?;
+    }
+    let front = front(alloc, study.costs(), marks.as_slice())?;
+    Ok(Outcome {
+        marks,
+        front,
+        gathered: 0,
+    })
+}
