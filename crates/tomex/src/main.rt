@@ -5,6 +5,7 @@ use std::process::ExitCode;
 use std::{env, io};
 pub use tomex_command::{RunRefusal, command, run_text, tell_line_fault};
 use tomex_line::LineFault;
+use tomex_streams::TerminalMeter;
 pub use tomex_streams::{HostFiles, PutFault, Sink, Stream, WriteFault, write_all_of};
 
 /// The words of the command line. One that is no UTF-8 text is refused as a mistake in the line.
@@ -24,6 +25,7 @@ fn words_of(rt: &(impl env::Env + AllocGlobal)) -> Result<Vec<String>, LineFault
 fn main(rt: HostRuntime) -> ExitCode {
     let alloc = rt.alloc();
     let files = HostFiles::new(&rt);
+    let meter = TerminalMeter::new(&rt, rt.stderr());
     let mut out = Stream::new(rt.stdout());
     let mut err = Stream::new(rt.stderr());
     let status = match words_of(&rt) {
@@ -33,6 +35,7 @@ fn main(rt: HostRuntime) -> ExitCode {
             alloc,
             words.as_slice(),
             &files,
+            &meter,
             &mut out,
             &mut err,
         ),

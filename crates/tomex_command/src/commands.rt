@@ -25,15 +25,21 @@ use std::thread::Threads;
 use tables::text_of_tables;
 use times::text_of_times;
 use tomex_line::{Line, read_line};
-use tomex_streams::{Files, Sink, write_all_of};
+use tomex_streams::{Files, Meter, Sink, write_all_of};
 
 /// The text that a line asks for.
-fn text_of<R: Threads + Wait + Sync, F: Files, A: Allocator + Clone + Send + Sync + Drop>(
+fn text_of<
+    R: Threads + Wait + Sync,
+    F: Files,
+    A: Allocator + Clone + Send + Sync + Drop,
+    M: Meter + Sync,
+>(
     rt: &R,
     alloc: A,
     heap: Global,
     line: Line<'_>,
     files: &F,
+    meter: &M,
 ) -> Result<Vec<u8, A>, Failure>
     ensures text { IfOk result (λ text. IsDone (F.file files.now) line.entry text.items) }
     ensures failure { IfErr result (λ failure. IsFailure (F.file files.now) line.entry failure) }
@@ -42,8 +48,8 @@ fn text_of<R: Threads + Wait + Sync, F: Files, A: Allocator + Clone + Send + Syn
         Line::Run(line) => text_of_run(alloc, heap, line, files),
         Line::Times(line) => text_of_times(alloc, heap, line, files),
         Line::Tables(line) => text_of_tables(alloc, heap, line, files),
-        Line::All(line) => text_of_all(rt, alloc, heap, line, files),
-        Line::Explore(line) => text_of_explore(rt, alloc, heap, line, files),
+        Line::All(line) => text_of_all(rt, alloc, heap, line, files, meter),
+        Line::Explore(line) => text_of_explore(rt, alloc, heap, line, files, meter),
     }
 }
 
@@ -53,13 +59,22 @@ fn carry_out<
     F: Files,
     O: Sink,
     A: Allocator + Clone + Send + Sync + Drop,
->(rt: &R, alloc: A, heap: Global, line: Line<'_>, files: &F, out: &mut O) -> Result<(), Failure>
+    M: Meter + Sync,
+>(
+    rt: &R,
+    alloc: A,
+    heap: Global,
+    line: Line<'_>,
+    files: &F,
+    meter: &M,
+    out: &mut O,
+) -> Result<(), Failure>
     ensures done { OnOk result (IsCarriedOut (F.file files.now) line.entry
         (record { taken = O.taken out.old; faults = O.faults out.old }) (record { taken = O.taken out.new; faults = O.faults out.new })) }
     ensures left { IfErr result (λ failure. IsLeft (F.file files.now) line.entry failure
         (record { taken = O.taken out.old; faults = O.faults out.old }) (record { taken = O.taken out.new; faults = O.faults out.new })) }
 {
-    let text = text_of(rt, alloc, heap, line, files)?;
+    let text = text_of(rt, alloc, heap, line, files, meter)?;
     match write_all_of(out, text.as_slice()) {
         Ok(()) => Ok(()),
         Err(_) => Err(Failure::CannotWrite),
@@ -69,6 +84,7 @@ fn carry_out<
 /// Runs the program on a command line, the program's own name first, and gives its exit status:
 /// 0 done, 1 refused input, 2 a refused command line, 3 memory, a thread, a file or a device.
 ///
+/// While a study is explored, `meter` is told how far that is.
 /// Results and help go to `out`. What is wrong goes to `err`: one line `tomex: ..` with 1 and 3,
 /// the parser's text with 2. What is made of images is made in memory of `alloc`; the command
 /// line, and the names and texts of failures, in memory of `heap`.
@@ -78,7 +94,17 @@ pub fn command<
     O: Sink,
     E: Sink,
     A: Allocator + Clone + Send + Sync + Drop,
->(rt: &R, alloc: A, heap: Global, words: &[String], files: &F, out: &mut O, err: &mut E) -> u8
+    M: Meter + Sync,
+>(
+    rt: &R,
+    alloc: A,
+    heap: Global,
+    words: &[String],
+    files: &F,
+    meter: &M,
+    out: &mut O,
+    err: &mut E,
+) -> u8
     ensures end { IsEnd (map string_bytes words.now) (F.file files.now) result
         (record { taken = O.taken out.old; faults = O.faults out.old }) (record { taken = O.taken out.new; faults = O.faults out.new })
         (record { taken = E.taken err.old; faults = E.faults err.old }) (record { taken = E.taken err.new; faults = E.faults err.new }) }
@@ -89,7 +115,7 @@ pub fn command<
     ensures done { result ≡ 0 → O.faults out.new ≡ O.faults out.old }
 {
     match read_line(heap, words) {
-        Ok(line) => match carry_out(rt, alloc, heap, line, files, out) {
+        Ok(line) => match carry_out(rt, alloc, heap, line, files, meter, out) {
             Ok(()) => 0,
             Err(failure) => tell(heap, &failure, err),
         },

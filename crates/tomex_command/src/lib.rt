@@ -4,6 +4,7 @@
 
 mod commands;
 mod failure;
+mod metered;
 mod run;
 mod telling;
 

@@ -15,7 +15,7 @@ use std::alloc::{AllocError, Allocator, Global};
 use std::sync::Wait;
 use std::thread::Threads;
 use tomex_document::StudyError;
-use tomex_sweep::{FrontRow, Gate, Study, SweepError, explore, run_all};
+use tomex_sweep::{FrontRow, Gate, OpenGate, Study, SweepError, explore, run_all_under};
 
 /// The report of a study whose front is known.
 fn reported<R: Threads + Sync, A: Allocator + Clone + Send + Sync + Drop>(
@@ -88,17 +88,44 @@ pub fn answer<R: Threads + Wait + Sync, A: Allocator + Clone + Send + Sync + Dro
 }
 
 /// The report of a study, whose rows are all run to their ends on the calling thread.
-fn explored_whole<R: Threads + Sync, A: Allocator + Clone + Send + Sync + Drop>(
+fn explored_whole<R: Threads + Sync, A: Allocator + Clone + Send + Sync + Drop, G: Gate>(
     rt: &R,
     alloc: A,
     heap: Global,
     study: &Study<A>,
+    gate: &G,
 ) -> Result<Vec<u8, A>, SweepError>
     ensures ok { IfOk result (λ text. text.items ≡ report_of study.now) }
     ensures err { IfErr result (λ e. e ≡ Memory) }
 {
-    let outcome = run_all(alloc.clone()?, study)?;
+    let outcome = run_all_under(alloc.clone()?, study, gate)?;
     Ok(reported(rt, alloc, heap, study, outcome.front.as_slice())?)
+}
+
+/// `answer_all` with a gate, which is told of worker 0 alone.
+pub fn answer_all_under<R: Threads + Sync, A: Allocator + Clone + Send + Sync + Drop, G: Gate>(
+    rt: &R,
+    alloc: A,
+    heap: Global,
+    study: &[u8],
+    files: &[Vec<u8, A>],
+    gate: &G,
+) -> Result<Vec<u8, A>, AnswerError>
+    ensures ok { IfOk result (λ text. IsAnswer study.now (map (λ f. f.items) files.now) text.items) }
+    ensures err { IfErr result (λ e. IsAnswerRefusal study.now (map (λ f. f.items) files.now) e) }
+    ensures no_worker { IfErr result (λ e. e ≢ Sweep Worker) }
+{
+    let Ok(own) = alloc.clone() else {
+        return Err(AnswerError::Study(StudyError::Memory));
+    };
+    let read = match read_study(own, heap, study, files) {
+        Ok(read) => read,
+        Err(error) => return Err(AnswerError::Study(error)),
+    };
+    match explored_whole(rt, alloc, heap, &read, gate) {
+        Ok(text) => Ok(text),
+        Err(error) => Err(AnswerError::Sweep(error)),
+    }
 }
 
 /// The same report, of rows that are all run to their ends on the calling thread.
@@ -113,15 +140,5 @@ pub fn answer_all<R: Threads + Sync, A: Allocator + Clone + Send + Sync + Drop>(
     ensures err { IfErr result (λ e. IsAnswerRefusal study.now (map (λ f. f.items) files.now) e) }
     ensures no_worker { IfErr result (λ e. e ≢ Sweep Worker) }
 {
-    let Ok(own) = alloc.clone() else {
-        return Err(AnswerError::Study(StudyError::Memory));
-    };
-    let read = match read_study(own, heap, study, files) {
-        Ok(read) => read,
-        Err(error) => return Err(AnswerError::Study(error)),
-    };
-    match explored_whole(rt, alloc, heap, &read) {
-        Ok(text) => Ok(text),
-        Err(error) => Err(AnswerError::Sweep(error)),
-    }
+    answer_all_under(rt, alloc, heap, study, files, &OpenGate)
 }

@@ -20,7 +20,7 @@ mod tables;
 mod times;
 
 pub use answer_error::AnswerError;
-pub use answering::{answer, answer_all};
+pub use answering::{answer, answer_all, answer_all_under};
 pub use ends::ProgramEnd;
 pub use front_text::front_report;
 pub use laws::limit_changes_no_end;

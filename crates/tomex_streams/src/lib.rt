@@ -3,9 +3,11 @@
 #![tactic(auto)]
 
 mod files;
+mod meter;
 mod names;
 mod sink;
 
 pub use files::{Files, HostFiles, ReadFault, bytes_within};
+pub use meter::{Meter, NoMeter, TerminalMeter};
 pub use names::shown;
 pub use sink::{PutFault, Sink, Stream, WriteFault, write_all_of};

@@ -46,6 +46,7 @@ fn explore_as<
     // A law: the board wants cycles that fit its words, which those of lawful rows do.
     each_row_is_lawful(study.rows());
     let costs = study.costs();
+    gate.begins(costs.len());
     let lanes = deal(alloc.clone()?, workers, costs.len())?;
     let (board, seat) = Board::<J, A>::new(alloc.clone()?, costs)?;
     let crew = seated(alloc.clone()?, &board, seat, lanes)?;

@@ -1,7 +1,10 @@
 //! Calls before runs.
 
-/// What is told before each run. A test can hold a worker here.
+/// What is told before each run. Whoever explores can show how far it is; a test can hold a worker here.
 pub trait Gate {
+    /// Called once, before the first run, with the number of rows.
+    fn begins(&self, _rows: usize) {}
+
     /// Called by a worker that has taken a row, before it runs it.
     fn before(&self, worker: usize, row: usize);
 }

@@ -27,7 +27,7 @@ pub use laws::{
 };
 pub use outcome::{Outcome, SweepError};
 pub use program::{Program, ProgramError};
-pub use running_all::run_all;
+pub use running_all::{run_all, run_all_under};
 pub use stacks::{Stacks, UsualStacks};
 pub use study::Study;
 pub use tomex_board::Mark;

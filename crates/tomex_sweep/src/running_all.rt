@@ -7,21 +7,29 @@ ghost use Rattle.tomex_board.specs.declared.mark.Mark.TheVariants.{Finished};
 ghost use Rattle.tomex_sweep.specs.declared.outcome.SweepError.TheVariants.{Memory};
 
 use crate::fronts::front;
+use crate::gate::{Gate, OpenGate};
 use crate::outcome::{Outcome, SweepError};
 use crate::row_run::row_cycles;
 use crate::study::Study;
 use std::alloc::Allocator;
 use tomex_board::Mark;
 
-/// Runs each row to its end, on the calling thread.
-pub fn run_all<A: Allocator + Clone>(alloc: A, study: &Study<A>) -> Result<Outcome<A>, SweepError>
+/// `run_all` with a gate, which is told of worker 0 alone.
+pub fn run_all_under<A: Allocator + Clone, G: Gate>(
+    alloc: A,
+    study: &Study<A>,
+    gate: &G,
+) -> Result<Outcome<A>, SweepError>
     ensures marks { IfOk result (λ o. o.marks.items ≡ map Finished (cycles_of study.now)) }
     ensures front { IfOk result (λ o. o.front.items ≡ front_of_study study.now) }
     ensures gathered { IfOk result (λ o. o.gathered ≡ 0) }
     ensures refused { IfErr result (λ e. e ≡ Memory) }
 {
-    let mut marks = Vec::with_capacity(alloc.clone()?, study.rows().len())?;
+    let count = study.rows().len();
+    gate.begins(count);
+    let mut marks = Vec::with_capacity(alloc.clone()?, count)?;
     for row in study.rows() {
+        gate.before(0, marks.len());
         let cycles = row_cycles(alloc.clone()?, study.programs(), row)?;
         marks.push(Mark::Finished(cycles))?;
     }
@@ -31,4 +39,14 @@ pub fn run_all<A: Allocator + Clone>(alloc: A, study: &Study<A>) -> Result<Outco
         front,
         gathered: 0,
     })
+}
+
+/// Runs each row to its end, on the calling thread.
+pub fn run_all<A: Allocator + Clone>(alloc: A, study: &Study<A>) -> Result<Outcome<A>, SweepError>
+    ensures marks { IfOk result (λ o. o.marks.items ≡ map Finished (cycles_of study.now)) }
+    ensures front { IfOk result (λ o. o.front.items ≡ front_of_study study.now) }
+    ensures gathered { IfOk result (λ o. o.gathered ≡ 0) }
+    ensures refused { IfErr result (λ e. e ≡ Memory) }
+{
+    run_all_under(alloc, study, &OpenGate)
 }

@@ -6,6 +6,7 @@ use std::sync::Wait;
 use std::test::Fail;
 use std::thread::Threads;
 use tomex_command::command;
+use tomex_streams::NoMeter;
 
 /// What a run of the program left behind.
 #[derive(Drop)]
@@ -34,6 +35,7 @@ pub fn outcome_of<R: AllocGlobal + Threads + Wait + Sync>(
         rt.alloc(),
         line.as_slice(),
         &Shelf { files },
+        &NoMeter,
         &mut out,
         &mut err,
     );

@@ -3,10 +3,11 @@ use super::commands::PRODUCT;
 use crate::in_memory::{Narrow, Shelf, words};
 use std::process::Abort;
 use std::sync::Wait;
+use std::sync::atomic::{AtomicU64, Ordering};
 use std::test::Fail;
 use std::thread::Threads;
 use tomex_command::command;
-use tomex_streams::{WriteFault, write_all_of};
+use tomex_streams::{Meter, NoMeter, WriteFault, write_all_of};
 
 /// `addi x1,x0,499; addi x1,x1,-1; bne x1,x0,-4; ebreak`, 1,000 steps
 pub const LOOP: &[u8; 16] = b"\x93\x00\x30\x1f\x93\x80\xf0\xff\xe3\x9e\x00\xfe\x73\x00\x10\x00";
@@ -87,6 +88,7 @@ fn comes_to<R: Abort + AllocGlobal + Threads + Wait + Sync>(
         rt.alloc(),
         line.as_slice(),
         &shelf,
+        &NoMeter,
         &mut out,
         &mut err,
     );
@@ -160,12 +162,70 @@ fn numbers_of_workers(rt: HostRuntime) -> Result<(), Fail> {
             rt.alloc(),
             line.as_slice(),
             &shelf,
+            &NoMeter,
             &mut out,
             &mut err,
         );
         assert_eq!(rt; status, 2);
         assert_eq!(rt; out.bytes.len(), 0);
         assert!(rt; err.bytes.len() > 0);
+    }
+    Ok(())
+}
+
+/// Keeps what it was told last, and how often it was told that the work is over.
+#[derive(Drop)]
+struct LastTold {
+    done: AtomicU64,
+    of: AtomicU64,
+    clears: AtomicU64,
+}
+
+impl Meter for LastTold {
+    fn show(&self, done: u64, of: u64) {
+        self.done.store(done, Ordering::SeqCst);
+        self.of.store(of, Ordering::SeqCst);
+    }
+
+    fn clear(&self) {
+        self.clears.fetch_add(1, Ordering::SeqCst);
+    }
+}
+
+#[test]
+fn a_meter_is_told_how_far_it_is(rt: HostRuntime) -> Result<(), Fail> {
+    let files = [
+        ("study", PRICED.as_bytes()),
+        ("mul.bin", PRODUCT.as_slice()),
+    ];
+    let shelf = Shelf {
+        files: files.as_slice(),
+    };
+    for line in ["tomex all study", "tomex explore study"] {
+        let meter = LastTold {
+            done: AtomicU64::new(9),
+            of: AtomicU64::new(9),
+            clears: AtomicU64::new(0),
+        };
+        let line = words(rt.alloc(), line)?;
+        let mut out = Narrow::new(rt.alloc(), 10_000, 1000);
+        let mut err = Narrow::new(rt.alloc(), 10_000, 1000);
+        let status = command(
+            &rt,
+            rt.alloc(),
+            rt.alloc(),
+            line.as_slice(),
+            &shelf,
+            &meter,
+            &mut out,
+            &mut err,
+        );
+        assert_eq!(rt; status, 0);
+        assert_eq!(rt; out.bytes.as_slice(), PRICED_REPORT.as_bytes());
+        // The second of two rows began last.
+        assert_eq!(rt; meter.done.load(Ordering::SeqCst), 1);
+        assert_eq!(rt; meter.of.load(Ordering::SeqCst), 2);
+        assert_eq!(rt; meter.clears.load(Ordering::SeqCst), 1);
     }
     Ok(())
 }

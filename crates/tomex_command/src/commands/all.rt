@@ -4,24 +4,34 @@ ghost use Rattle.tomex_command.specs.FrontLines.{IsFrontOf, IsAllFailure};
 
 use super::study::sources_in;
 use crate::failure::Failure;
+use crate::metered::Metered;
 use std::alloc::{Allocator, Global};
 use std::thread::Threads;
 use tomex_line::AllLine;
-use tomex_report::answer_all;
-use tomex_streams::Files;
+use tomex_report::answer_all_under;
+use tomex_streams::{Files, Meter};
 
 /// The text that `all` prints. It never tells that a thread was refused.
-pub fn text_of_all<R: Threads + Sync, F: Files, A: Allocator + Clone + Send + Sync + Drop>(
+pub fn text_of_all<
+    R: Threads + Sync,
+    F: Files,
+    A: Allocator + Clone + Send + Sync + Drop,
+    M: Meter,
+>(
     rt: &R,
     alloc: A,
     heap: Global,
     line: AllLine<'_>,
     files: &F,
+    meter: &M,
 ) -> Result<Vec<u8, A>, Failure>
     ensures text { IfOk result (λ text. IsFrontOf (F.file files.now) line.entry.study.now text.items) }
     ensures failure { IfErr result (λ failure. IsAllFailure (F.file files.now) line.entry.study.now failure) }
 {
     let sources = sources_in(alloc.clone()?, heap, files, line.study)?;
     let (study, contents) = (sources.study.as_slice(), sources.files.as_slice());
-    Ok(answer_all(rt, alloc, heap, study, contents)?)
+    let gate = Metered::new(meter, 1);
+    let report = answer_all_under(rt, alloc, heap, study, contents, &gate);
+    meter.clear();
+    Ok(report?)
 }

@@ -13,6 +13,7 @@ use std::test::Fail;
 use std::thread::Threads;
 use tomex_command::command;
 use tomex_refuse::{Budget, Refusing};
+use tomex_streams::NoMeter;
 
 /// Runs the program on a command line over files in memory, which is to print this.
 fn command_in<R: Threads + Wait + Sync>(
@@ -33,6 +34,7 @@ fn command_in<R: Threads + Wait + Sync>(
         other,
         words.as_slice(),
         &shelf,
+        &NoMeter,
         &mut out,
         &mut err,
     );

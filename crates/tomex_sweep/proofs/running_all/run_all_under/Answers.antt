@@ -1,7 +1,7 @@
 -- Each row is finished with its cycles.
 use Rattle.std.proofs.lemmas.List.{take_all}
 use Rattle.tomex_sweep.proofs.Verdicts.{all_finished, finished_front}
-use Rattle.tomex_sweep.proofs.running_all.run_all.Goals as goal
+use Rattle.tomex_sweep.proofs.running_all.run_all_under.Goals as goal
 
 pub returns-clause-marks : goal.returns-clause-marks
 returns-clause-marks g c =

@@ -1,0 +1,37 @@
+//! A gate that tells a meter how far an exploration is.
+
+use std::sync::atomic::{AtomicU64, Ordering};
+use tomex_streams::Meter;
+use tomex_sweep::Gate;
+
+/// Counts the runs that begin. As many rows as there are workers may have begun and not be over yet.
+pub struct Metered<'a, M: Meter> {
+    meter: &'a M,
+    workers: u64,
+    rows: AtomicU64,
+    begun: AtomicU64,
+}
+
+impl<'a, M: Meter> Metered<'a, M> {
+    /// Nothing has begun.
+    pub fn new(meter: &'a M, workers: u64) -> Metered<'a, M> {
+        Metered {
+            meter,
+            workers,
+            rows: AtomicU64::new(0),
+            begun: AtomicU64::new(0),
+        }
+    }
+}
+
+impl<'a, M: Meter> Gate for Metered<'a, M> {
+    fn begins(&self, rows: usize) {
+        self.rows.store(rows as u64, Ordering::SeqCst);
+    }
+
+    fn before(&self, _worker: usize, _row: usize) {
+        let begun = self.begun.fetch_add(1, Ordering::SeqCst).saturating_add(1);
+        let over = begun.saturating_sub(self.workers);
+        self.meter.show(over, self.rows.load(Ordering::SeqCst));
+    }
+}
