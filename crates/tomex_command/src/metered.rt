@@ -5,6 +5,7 @@ use tomex_streams::Meter;
 use tomex_sweep::Gate;
 
 /// Counts the runs that begin. As many rows as there are workers may have begun and not be over yet.
+#[derive(Drop)]
 pub struct Metered<'a, M: Meter> {
     meter: &'a M,
     workers: u64,

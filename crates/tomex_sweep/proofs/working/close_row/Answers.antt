@@ -33,6 +33,9 @@ give_up-requires-clause-reached g c =
     let same : get_or (cycles_of c.args.study.now) c.args.row 0 ≡ get_or g.J.Plan.cycles c.args.row 0 = ap (λ (cs : List ℕ). get_or cs c.args.row 0) c.requires.plan.its_cycles in
     omega arith
 
+pub give_up-requires-clause-slower : goal.give_up-requires-clause-slower
+give_up-requires-clause-slower g c = c.if-bound-reached.true
+
 pub returns-then-bound-reached-clause-hand : goal.returns-then-bound-reached-clause-hand
 returns-then-bound-reached-clause-hand g c = none_in_hand _ _ _ (c.look.ensures.hand ∙ c.loop-run.invariant.hand) (ap (λ (v : View). v.hand) c.give_up.ensures.view)
 
