@@ -1,5 +1,5 @@
 -- Turns of a loop over the members of a set, the least first.
-use Rattle.std.proofs.Common.{ℕ, zero, suc, ◌+◌, ◌-◌, Bool, true, false, ◌≡◌, ◌≤◌, ◌<◌, ◌∙◌, arith, inl, inr, ap, refl, sym}
+use Rattle.std.proofs.Common.{ℕ, zero, suc, ◌+◌, ◌-◌, Bool, true, false, ◌≡◌, ◌≤◌, ◌<◌, ◌∙◌, ◌⊎◌, List, slice_index, arith, inl, inr, ap, refl, sym}
 use Rattle.std.specs.Prelude.{◌==◌, ◌&&◌, not, nat_le}
 use Rattle.std.proofs.lemmas.Bool.{cases_Bool, cases_order, both_ways, eqb-true, eqb-false, le-leb, leb-true, lt-leb, and_parts, and_right}
 use Rattle.tomex_bus.specs.Sets.{has, IsWith, IsWithout}
@@ -116,3 +116,14 @@ pub skip_to : (P : ℕ → Type 0) (set k x : ℕ) → k ≤ x → ((j : ℕ) �
 skip_to P set k x l none skip so =
     let e : k + (x - k) ≡ x = omega arith in
     rw e at (up_to P set k (x - k) (λ j from to. none j from (omega arith)) skip so)
+
+-- of the members that were looked at none is less by a measure than the best, one more of which is looked at
+pub best_left : (set rest left x best now : ℕ) (ages : List ℕ) → ((i : ℕ) → i < 128 → has set i ≡ true → (has rest i ≡ true) ⊎ (slice_index ages best ≤ slice_index ages i)) → IsWithout rest x left → slice_index ages now ≤ slice_index ages best → slice_index ages now ≤ slice_index ages x
+    → (i : ℕ) → i < 128 → has set i ≡ true → (has left i ≡ true) ⊎ (slice_index ages now ≤ slice_index ages i)
+best_left set rest left x best now ages looked without less here i l member = elim (cases_Bool (x == i)) [
+  | inl k ↦ let same : x ≡ i = eqb-true x i k in inr (rw same at here)
+  | inr k ↦ elim (looked i l member) [
+    | inl e ↦ inl (without.others i l (λ z. eqb-false x i k (sym z)) ∙ e)
+    | inr least ↦ inr (omega arith)
+  ]
+]

@@ -4,7 +4,7 @@ ghost use Rattle.std.specs.Prelude.{ℕ, ◌≡◌, ◌<◌, ◌≤◌, true, sl
 ghost use Rattle.tomex_bus.specs.Sets.{has};
 ghost use Rattle.tomex_bus.specs.Picks.{IsPicked};
 
-use crate::sets::{lowest, with, without};
+use crate::sets::{lowest, with, without, without_lowest};
 
 /// The member of the least age; the ages are by number.
 #[inline(always)]
@@ -15,10 +15,10 @@ pub fn oldest(set: u128, ages: &[u32; 128]) -> usize
     ensures least { (i : ℕ) → i < 128 → has set i ≡ true → slice_index ages.now result ≤ slice_index ages.now i }
 {
     let mut best = lowest(set);
-    let mut rest = without(set, best);
+    let mut rest = without_lowest(set);
     'members: while rest != 0 {
         let number = lowest(rest);
-        rest = without(rest, number);
+        rest = without_lowest(rest);
         if ages[number] < ages[best] {
             best = number;
         }

@@ -1,6 +1,6 @@
 //! Sets of numbers below 128, a bit each.
 
-ghost use Rattle.std.specs.Prelude.{ℕ, ◌≡◌, ◌<◌, ◌||◌, true, false};
+ghost use Rattle.std.specs.Prelude.{ℕ, ◌≡◌, ◌<◌, ◌&&◌, ◌||◌, not, true, false};
 ghost use Rattle.tomex_bus.specs.Sets.{has, IsWith, IsWithout};
 
 /// Whether a number is in the set.
@@ -42,10 +42,28 @@ pub fn lowest(set: u128) -> usize
     set.trailing_zeros() as usize
 }
 
+/// The set but for its least member, in fewer operations than `without` takes for any member.
+#[inline(always)]
+pub fn without_lowest(set: u128) -> u128
+    requires { 0 < set }
+    ensures others { (x : ℕ) → has set x ≡ true → ((i : ℕ) → i < x → has set i ≡ false) → IsWithout set x result }
+    ensures less { result < set }
+{
+    set & (set - 1)
+}
+
 /// The members of both sets.
 #[inline(always)]
 pub fn union(a: u128, b: u128) -> u128
     ensures { (x : ℕ) → has result x ≡ (has a x || has b x) }
 {
     a | b
+}
+
+/// The members of the first set that aren't in the second.
+#[inline(always)]
+pub fn difference(a: u128, b: u128) -> u128
+    ensures { (x : ℕ) → x < 128 → has result x ≡ (has a x && not (has b x)) }
+{
+    a & !b
 }

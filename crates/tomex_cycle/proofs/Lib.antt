@@ -35,3 +35,4 @@ pub mod Skips
 pub mod Happens
 pub mod Counts
 pub mod Moves
+pub mod Finished

@@ -17,7 +17,7 @@ use Rattle.tomex_timing.specs.History.{cycle_of, is_memory, is_of, last_address,
 use Rattle.tomex_timing.specs.Recurrence.{AreTimed, IsTimed, IsLeast, are_conflicts_finished, can_address, can_start, conflicts, has_unit, shares_byte}
 use Rattle.tomex_timing.specs.Tables.{field_of, field_from, producer, tag_at, tag_of}
 use Rattle.tomex_cycle.specs.Run.{AreIssuedBy}
-use Rattle.tomex_cycle.specs.Starts.{wanted, is_waiting, kind_if, is_among, kind_of, IsStarting, AreReady}
+use Rattle.tomex_cycle.specs.Starts.{wanted, kind_if, is_among, kind_of, IsStarting, AreReady}
 use Rattle.tomex_cycle.specs.Views.{ShowsStations, clocks, holds_place, order_of, place_of, station_at, station_of}
 use Rattle.tomex_cycle.proofs.Addresses.{address_is, address_rises, field_parts, order_here, number_is_some}
 use Rattle.tomex_cycle.proofs.Totals.{issued_more}
@@ -26,7 +26,7 @@ use Rattle.tomex_cycle.proofs.Fields.{there_test, tag_there, timed_part, issued_
 use Rattle.tomex_cycle.proofs.Places.{low, station_here, is_vacant, vacant, least_test}
 use Rattle.tomex_cycle.proofs.Totals.{reach}
 use Rattle.tomex_membuf.specs.Order.{is_before, is_clear, lets}
-use Rattle.tomex_tags.specs.Contents.{bytes_in, step_in}
+use Rattle.tomex_tags.specs.Contents.{bytes_in, is_waiting, step_in}
 use Rattle.tomex_tags.specs.Operands.{is_there, value_in}
 use Rattle.tomex_tags.specs.Places.{place_at, place_of_tag}
 use Rattle.tomex_tags.specs.Pools.{Pools, AreBusy}

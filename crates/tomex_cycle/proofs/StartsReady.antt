@@ -12,7 +12,10 @@ use Rattle.tomex_rvdec.specs.declared.pool.UnitId.{UnitId}
 use Rattle.tomex_rvdec.specs.declared.pool.UnitId.TheVariants as units
 use Rattle.tomex_bus.proofs.Bits.{none_in}
 use Rattle.tomex_bus.proofs.Members.{inside_left, none_rest}
-use Rattle.tomex_tags.specs.Pools.{Pools}
+use Rattle.tomex_tags.proofs.Filing.{is_standing}
+use Rattle.tomex_tags.specs.Pools.{AreBusy, Pools}
+use Rattle.tomex_tags.specs.Standing.{IsSetOf, waits}
+use Rattle.tomex_tags.specs.declared.station.Station.{Station}
 use Rattle.tomex_cycle.specs.Starts.{AreReady, IsStarting, wanted}
 
 -- what is wanted for a place, however the busy places are listed
@@ -26,26 +29,20 @@ pub record AreLooked (st : Pools) (next rest : ℕ) (sets : List ℕ) : Type 0 w
   pub inside : (kind x : ℕ) → kind < 5 → x < 128 → has (slice_index sets kind) x ≡ true → (has st.busy x ≡ true) × (has rest x ≡ false)
   pub wants : (kind x : ℕ) (older younger : List ℕ) → kind < 5 → x < 128 → has rest x ≡ false → IsByAge st.busy st.ages (older ++ (x ∷ younger)) → has (slice_index sets kind) x ≡ is_number (wanted st.slots older next (slice_index_or st.slots x None)) kind
 
-listed : (st : Pools) (x : ℕ) (older younger : List ℕ) → x < 128 → IsByAge st.busy st.ages (older ++ (x ∷ younger)) → has st.busy x ≡ true
-listed st x older younger l by = by.members x l ∙ middle older
-  where
-    or_true : (a : Bool) → (a || true) ≡ true
-    or_true true = refl
-    or_true false = refl
-
-    middle : (xs : List ℕ) → is_in (xs ++ (x ∷ younger)) x ≡ true
-    middle [] = rw (eq-eqb x x refl) refl
-    middle (y ∷ xs) = rw (middle xs) (or_true (y == x))
-
 no_set : (kind x : ℕ) → kind < 5 → has (slice_index (0 ∷ 0 ∷ 0 ∷ 0 ∷ 0 ∷ []) kind) x ≡ false
 no_set kind x l = ap (λ n. has n x) (get_or-replicate 5 kind 0 0 l) ∙ none_in x
 
-pub first_look : (st : Pools) (next : ℕ) → AreLooked st next st.busy (0 ∷ 0 ∷ 0 ∷ 0 ∷ 0 ∷ [])
-first_look st next = record {
+-- nothing is wanted for a station that waits for more than a unit and older accesses
+wants_not : (slots : List (Option Station)) (older : List ℕ) (next : ℕ) (o : Option Station) → waits o ≡ false → wanted slots older next o ≡ None
+wants_not slots older next None e = refl
+wants_not slots older next (Some s) e = rw e refl
+
+pub first_look : (st : Pools) (next waiting : ℕ) → AreBusy st.slots st.busy st.ages → IsSetOf waits st.slots waiting → AreLooked st next waiting (0 ∷ 0 ∷ 0 ∷ 0 ∷ 0 ∷ [])
+first_look st next waiting filled of = record {
   count = refl;
-  busy = λ x l e. e;
+  busy = is_standing waits st.slots st.busy st.ages waiting refl filled of;
   inside = λ kind x l k e. absurd (both_ways _ (no_set kind x l) e);
-  wants = λ kind x older younger l k e by. absurd (both_ways (has st.busy x) e (listed st x older younger k by));
+  wants = λ kind x older younger l k e by. no_set kind x l ∙ sym (ap (λ o. is_number o kind) (wants_not st.slots older next (slice_index_or st.slots x None) (sym (of x k) ∙ e)));
 }
 
 set_with : (sets : List ℕ) (kind new k x p : ℕ) → length sets ≡ 5 → kind < 5 → IsWith (slice_index sets kind) p new → has (slice_index (slice_set sets kind new) k) x ≡ (if (kind == k) && (p == x) then true else has (slice_index sets k) x)

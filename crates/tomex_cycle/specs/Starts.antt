@@ -10,14 +10,10 @@ use Rattle.tomex_rvexec.specs.Steps.{is_number}
 use Rattle.tomex_config.specs.Row.{Row, option_of}
 use Rattle.tomex_bus.specs.Sets.{has}
 use Rattle.tomex_bus.specs.Picks.{IsByAge, IsPicked}
-use Rattle.tomex_tags.specs.Contents.{is_memory_op, is_ready, step_in}
+use Rattle.tomex_tags.specs.Contents.{is_waiting, step_in}
 use Rattle.tomex_tags.specs.Pools.{Pools}
 use Rattle.tomex_tags.specs.declared.station.Station.{Station}
 use Rattle.tomex_membuf.specs.Order.{is_clear}
-
--- the station waits for nothing but a unit and older accesses
-abbrev pub is_waiting : Station → Bool
-is_waiting s = is_none s.finish && is_ready s && (not (is_memory_op s.instr.op) || is_some s.address)
 
 abbrev pub kind_of : Option UnitId → Option ℕ
 kind_of None = None

@@ -1,7 +1,7 @@
 //! The end of a cycle: what ends, what is sent, and where branches lead.
 
-ghost use Rattle.std.specs.Prelude.{ℕ, ◌≡◌, ◌<◌, ◌&&◌, ◌==◌, None, Some, length, slice_index_or};
-ghost use Rattle.tomex_bus.specs.Sets.{has};
+ghost use Rattle.std.specs.Prelude.{ℕ, ◌≡◌, ◌<◌, ◌&&◌, ◌==◌, None, Some, length, slice_index_or, true, false};
+ghost use Rattle.tomex_bus.specs.Sets.{has, IsWith};
 ghost use Rattle.tomex_tags.specs.Operands.{only};
 ghost use Rattle.tomex_tags.specs.Pools.{AreBusy};
 ghost use Rattle.tomex_cycle.specs.Ends.{AreEnding, AreNamed, EndsIn, Follows, Hears, IsDoneBranch, can_send, ends_alone, finishes, sends_of, sent_below, target_in};
@@ -9,7 +9,7 @@ ghost use Rattle.tomex_cycle.specs.Starts.{AreLow};
 
 use crate::fetch::Fetch;
 use tomex_bus::pick;
-use tomex_bus::sets::{lowest, union, with, without};
+use tomex_bus::sets::{lowest, union, with, without_lowest};
 use tomex_rvexec::next_pc;
 use tomex_tags::{Pools, RegStatus, Station, broadcast};
 
@@ -41,36 +41,43 @@ fn ends_alone(station: Option<Station>, next: u64) -> bool
     }
 }
 
-/// The busy places whose results are ready to be sent.
-fn ready(pools: &Pools, next: u64) -> u128
-    ensures { (x : ℕ) → x < 128 → has result x ≡ (has pools.now.busy x && can_send next (slice_index_or pools.now.slots x None)) }
+/// The set, and a place where it is to be a member.
+#[inline(always)]
+fn with_if(set: u128, place: usize, member: bool) -> u128
+    requires { place < 128 }
+    ensures some { member ≡ true → IsWith set place result }
+    ensures none { member ≡ false → result ≡ set }
 {
-    let mut ready = 0;
-    let mut rest = pools.busy();
-    'members: while rest != 0 {
-        let place = lowest(rest);
-        rest = without(rest, place);
-        if can_send(pools.at(place), next) {
-            ready = with(ready, place);
-        }
-    }
-    ready
+    if member { with(set, place) } else { set }
 }
 
-/// The busy places that have finished and have nothing to send.
-fn silent(pools: &Pools, next: u64) -> u128
-    ensures { (x : ℕ) → x < 128 → has result x ≡ (has pools.now.busy x && ends_alone next (slice_index_or pools.now.slots x None)) }
+/// The busy places whose operations have finished.
+#[derive(Clone, Copy)]
+struct Finished {
+    /// Those whose results are ready to be sent.
+    ready: u128,
+    /// Those that have nothing to send.
+    silent: u128,
+}
+
+/// What has finished, in one walk.
+#[inline(always)]
+fn find_finished(pools: &Pools, next: u64) -> Finished
+    ensures ready { (x : ℕ) → x < 128 → has result.ready x ≡ (has pools.now.busy x && can_send next (slice_index_or pools.now.slots x None)) }
+    ensures silent { (x : ℕ) → x < 128 → has result.silent x ≡ (has pools.now.busy x && ends_alone next (slice_index_or pools.now.slots x None)) }
+    ensures busy { AreBusy pools.now.slots pools.now.busy pools.now.ages }
 {
+    let mut ready = 0;
     let mut silent = 0;
-    let mut rest = pools.busy();
+    let started = pools.started();
+    let mut rest = started;
     'members: while rest != 0 {
         let place = lowest(rest);
-        rest = without(rest, place);
-        if ends_alone(pools.at(place), next) {
-            silent = with(silent, place);
-        }
+        rest = without_lowest(rest);
+        ready = with_if(ready, place, can_send(pools.at(place), next));
+        silent = with_if(silent, place, ends_alone(pools.at(place), next));
     }
-    silent
+    Finished { ready, silent }
 }
 
 /// The places whose instructions end in the cycle: of the results that are ready the oldest, as many
@@ -79,9 +86,9 @@ pub fn ending(pools: &Pools, buses: u8, next: u64) -> u128
     ensures ending { AreEnding pools.now buses next result }
     ensures busy { AreBusy pools.now.slots pools.now.busy pools.now.ages }
 {
-    let _busy = pools.busy();
-    let sending = pick(ready(pools, next), pools.ages(), buses);
-    union(sending, silent(pools, next))
+    let finished = find_finished(pools, next);
+    let sending = pick(finished.ready, pools.ages(), buses);
+    union(sending, finished.silent)
 }
 
 /// Frees a place, and sends what its station has to send.
@@ -106,7 +113,7 @@ pub fn apply(pools: &mut Pools, registers: &mut RegStatus, picked: u128)
     let mut rest = picked;
     'members: while rest != 0 {
         let place = lowest(rest);
-        rest = without(rest, place);
+        rest = without_lowest(rest);
         if place < 96 {
             end_at(pools, registers, place);
         }
@@ -128,10 +135,10 @@ fn finishes(station: Option<Station>, next: u64) -> bool
 fn resolved(pools: &Pools, next: u64) -> Option<usize>
     ensures { IsDoneBranch next pools.now.slots result }
 {
-    let mut rest = pools.busy();
+    let mut rest = pools.started();
     'members: while rest != 0 {
         let place = lowest(rest);
-        rest = without(rest, place);
+        rest = without_lowest(rest);
         if place >= 80 && finishes(pools.at(place), next) {
             return Some(place);
         }

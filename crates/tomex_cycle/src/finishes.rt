@@ -4,7 +4,7 @@ ghost use Rattle.std.specs.Prelude.{ℕ, ◌≡◌, ◌<◌, ◌≤◌, ◌⊎�
 ghost use Rattle.tomex_cycle.specs.Finishes.{HasNoneBefore, IsFinish, StopsAt, comes_before};
 ghost use Rattle.tomex_cycle.specs.Ends.{finishes};
 
-use tomex_bus::sets::{lowest, without};
+use tomex_bus::sets::{lowest, without_lowest};
 use tomex_tags::{Pools, Station};
 
 /// The sooner one of a cycle and that in which a station's operation finishes, from a cycle on.
@@ -35,10 +35,10 @@ pub fn next_finish(pools: &Pools, from: u64) -> Option<u64>
     ensures some { IsFinish pools.now.slots from result }
 {
     let mut best = None;
-    let mut rest = pools.busy();
+    let mut rest = pools.started();
     'members: while rest != 0 {
         let place = lowest(rest);
-        rest = without(rest, place);
+        rest = without_lowest(rest);
         best = sooner(best, pools.at(place), from);
     }
     best

@@ -5,37 +5,29 @@ ghost use Rattle.tomex_bus.specs.Picks.{IsByAge};
 ghost use Rattle.tomex_bus.specs.Sets.{has};
 ghost use Rattle.tomex_tags.specs.Contents.{step_in};
 ghost use Rattle.tomex_tags.specs.Pools.{AreBusy};
+ghost use Rattle.tomex_tags.specs.Standing.{waits};
 ghost use Rattle.tomex_rvexec.specs.Access.{HasStored};
-ghost use Rattle.tomex_cycle.specs.Starts.{AllCanBegin, AllInside, AreLow, AreReady, CanBegin, HaveBegun, HaveStored, IsStarting, begun, is_waiting, wanted};
+ghost use Rattle.tomex_cycle.specs.Starts.{AllCanBegin, AllInside, AreLow, AreReady, CanBegin, HaveBegun, HaveStored, IsStarting, begun, wanted};
 
 use std::alloc::Allocator;
 use tomex_bus::pick;
-use tomex_bus::sets::{lowest, union, with, without};
+use tomex_bus::sets::{lowest, union, with, without_lowest};
 use tomex_config::Config;
 use tomex_membuf::{may_access, read, write as write_bytes};
 use tomex_rvdec::UnitId;
 use tomex_rvexec::{Fault, FaultKind, Memory};
 use tomex_tags::{Pools, Station};
 
-/// Whether a station waits for nothing but a unit and older accesses.
-#[inline(always)]
-fn is_waiting(station: &Station) -> bool
-    ensures { result ≡ is_waiting station.now }
-{
-    station.finish.is_none()
-        && station.ready()
-        && (!station.is_memory() || station.address.is_some())
-}
-
-/// The kind of unit that is wanted for the station in a place, if its operation can start.
+/// The kind of unit that is wanted for a station that waits for no more, if older accesses let it.
 #[inline(always)]
 fn wanted(pools: &Pools, place: usize, next: u64) -> Option<usize>
-    requires { place < 128 }
+    requires below { place < 128 }
+    requires waits { waits (slice_index_or pools.now.slots place None) ≡ true }
     ensures kind { (older younger : List ℕ) → IsByAge pools.now.busy pools.now.ages (older ++ (place ∷ younger)) → result ≡ wanted pools.now.slots older next (slice_index_or pools.now.slots place None) }
     ensures low { IfSome result (λ kind. kind < 5) }
 {
     let station = pools.at(place)?;
-    if !is_waiting(&station) || !may_access(pools, place, &station, next) {
+    if !may_access(pools, place, &station, next) {
         return None;
     }
     Some(station.instr.unit()?.place())
@@ -47,10 +39,11 @@ fn ready(pools: &Pools, next: u64) -> [u128; 5]
     ensures busy { AreBusy pools.now.slots pools.now.busy pools.now.ages }
 {
     let mut ready = [0; 5];
-    let mut rest = pools.busy();
+    let waiting = pools.waiting();
+    let mut rest = waiting;
     'members: while rest != 0 {
         let place = lowest(rest);
-        rest = without(rest, place);
+        rest = without_lowest(rest);
         if let Some(kind) = wanted(pools, place, next) {
             ready[kind] = with(ready[kind], place);
         }
@@ -134,7 +127,7 @@ pub fn begin<A: Allocator>(
     let mut rest = picked;
     'members: while rest != 0 {
         let place = lowest(rest);
-        rest = without(rest, place);
+        rest = without_lowest(rest);
         let fault = begin_at(pools, place, memory, row, next);
         if fault.is_some() {
             return fault;
@@ -160,7 +153,7 @@ pub fn write<A: Allocator>(pools: &Pools, picked: u128, memory: &mut Memory<A>)
     let mut rest = picked;
     'members: while rest != 0 {
         let place = lowest(rest);
-        rest = without(rest, place);
+        rest = without_lowest(rest);
         write_at(pools, place, memory);
     }
 }

@@ -8,7 +8,8 @@ use Rattle.tomex_timing.specs.Recurrence.{shares_byte}
 use Rattle.tomex_bus.specs.Sets.{has, is_in, IsWithout}
 use Rattle.tomex_bus.specs.Picks.{IsByAge, Rises}
 use Rattle.tomex_tags.specs.declared.station.Station.{Station}
-use Rattle.tomex_tags.specs.Contents.{bytes_in, lacks_address}
+use Rattle.tomex_tags.specs.Contents.{bytes_from, bytes_in, lacks_address, step_in}
+use Rattle.tomex_tags.specs.Standing.{IsSetOf, has_address}
 use Rattle.tomex_membuf.specs.Addresses.{first_waiting, next_address, where_base_is_there, has_base}
 use Rattle.tomex_membuf.specs.Order.{is_clear, lets}
 
@@ -166,6 +167,24 @@ pub none_by : {A : Type 0} (o : Option A) (b : Bool) → is_some o ≡ not b →
 none_by None b e f = refl
 none_by (Some x) b e f = let z : true ≡ not true = rw f at e in absurd (cc)
 
+-- nothing waits for a station without an address
+lets_no_address : (o : Option Station) (s : Station) (next : ℕ) → has_address o ≡ false → lets o s next ≡ true
+lets_no_address None s next e = refl
+lets_no_address (Some other) s next e =
+    let none : bytes_in other ≡ None = ap (λ a. bytes_from a (step_in other)) (no_option other.address e) in
+    rw none refl
+  where
+    no_option : (o : Option ℕ) → is_some o ≡ false → o ≡ None
+    no_option None e = refl
+    no_option (Some a) e = absurd (cc)
+
+pub looked_first : (slots : List (Option Station)) (busy addressed : ℕ) (ages : List ℕ) (age : ℕ) (s : Station) (next : ℕ) → IsSetOf has_address slots addressed
+    → (x : ℕ) → x < 128 → has busy x ≡ true → slice_index ages x < age → (has addressed x ≡ true) ⊎ (lets (slice_index_or slots x None) s next ≡ true)
+looked_first slots busy addressed ages age s next of x l member less = elim (cases_Bool (has addressed x)) [
+  | inl e ↦ inl e
+  | inr e ↦ inr (lets_no_address (slice_index_or slots x None) s next (sym (of x l) ∙ e))
+]
+
 -- the answers of a search for older accesses
 pub found_blocked : (slots : List (Option Station)) (busy : ℕ) (ages older younger : List ℕ) (place other age : ℕ) (s : Station) (next : ℕ) (b : Bool) → IsByAge busy ages (older ++ (place ∷ younger)) → age ≡ slice_index ages place → other < 128 → has busy other ≡ true
     → b ≡ (nat_lt (slice_index ages other) age && not (lets (slice_index_or slots other None) s next)) → b ≡ true → false ≡ is_clear slots older s next
@@ -178,12 +197,6 @@ pub found_clear : (slots : List (Option Station)) (busy rest : ℕ) (ages older 
     → ((x : ℕ) → x < 128 → has busy x ≡ true → slice_index ages x < age → (has rest x ≡ true) ⊎ (lets (slice_index_or slots x None) s next ≡ true)) → true ≡ is_clear slots older s next
 found_clear slots busy rest ages older younger place age s next by same empty looked =
     clear_by slots busy ages older younger place s next by (λ x l member less. looked_all slots busy rest ages age s next empty looked x l member (omega arith))
-
-pub lacks_by : (slot at : Option Station) (b : Bool) → at ≡ slot → b ≡ lacks_address at → b ≡ true → lacks_address slot ≡ true
-lacks_by slot at b e f g = ap lacks_address (sym e) ∙ (sym f ∙ g)
-
-pub lacks_not : (slot at : Option Station) (b : Bool) → at ≡ slot → b ≡ lacks_address at → b ≡ false → lacks_address slot ≡ false
-lacks_not slot at b e f g = ap lacks_address (sym e) ∙ (sym f ∙ g)
 
 pub found_next : (slots : List (Option Station)) (busy lacking : ℕ) (ages order : List ℕ) (x : ℕ) (at : Option Station) (b : Bool) → IsByAge busy ages order → ((x : ℕ) → x < 128 → has lacking x ≡ (has busy x && lacks_address (slice_index_or slots x None))) → x < 128 → has lacking x ≡ true
     → ((y : ℕ) → y < 128 → has lacking y ≡ true → slice_index ages x ≤ slice_index ages y) → at ≡ slice_index_or slots x None → b ≡ has_base at → (if b then Some x else None) ≡ next_address slots order

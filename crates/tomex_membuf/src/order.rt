@@ -5,7 +5,7 @@ ghost use Rattle.tomex_bus.specs.Picks.{IsByAge};
 ghost use Rattle.tomex_timing.specs.Recurrence.{shares_byte};
 ghost use Rattle.tomex_membuf.specs.Order.{is_before, is_clear, lets};
 
-use tomex_bus::sets::{lowest, without};
+use tomex_bus::sets::{lowest, without_lowest};
 use tomex_rvexec::ByteRange;
 use tomex_tags::{Pools, Station};
 
@@ -63,10 +63,10 @@ pub fn may_access(pools: &Pools, place: usize, station: &Station, next: u64) -> 
         return true;
     }
     let age = pools.ages()[place];
-    let mut rest = pools.busy();
+    let mut rest = pools.addressed();
     'members: while rest != 0 {
         let other = lowest(rest);
-        rest = without(rest, other);
+        rest = without_lowest(rest);
         if is_blocked_by(pools, other, station, age, next) {
             return false;
         }

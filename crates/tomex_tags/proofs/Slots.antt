@@ -8,8 +8,11 @@ use Rattle.std.proofs.lemmas.Nat.Bits.{bit_at-zero}
 use Rattle.std.proofs.lemmas.List.{get_or-replicate, get_or_past}
 use Rattle.tomex_timing.specs.Recurrence.{IsLeast}
 use Rattle.tomex_bus.specs.Sets.{has, IsWith, IsWithout}
+use Rattle.tomex_tags.specs.declared.standing.Standing.{Standing}
 use Rattle.tomex_tags.specs.declared.station.Station.{Station}
 use Rattle.tomex_tags.specs.Pools.{AreFilled, AreSix, AreSixteen, slots_of}
+use Rattle.tomex_tags.specs.Standing.{HasFiled}
+use Rattle.tomex_tags.proofs.Filing.{all_filed, none_stand}
 
 abbrev Pool : Type 0
 Pool = List (Option Station)
@@ -67,8 +70,8 @@ set_place pools x d v six l =
     slot_set pools (x / 16) (x % 16) d v six.sizes (omega arith) (omega arith) ∙ ap (λ (y : ℕ). slice_set (slots_of pools) y v) (parts x)
 
 -- a place is written, and the set of the busy ones says so
-pub filled_by : (pools : List Pool) (busy new : ℕ) (ages later : List ℕ) (x : ℕ) (d : Pool) (v : Option Station) → AreFilled pools busy ages → x < 96 → length later ≡ 128 → new < 2 ^ 128 → ((y : ℕ) → y < 128 → has new y ≡ (if x == y then is_some v else has busy y)) → AreFilled (set_in pools x d v) new later
-filled_by pools busy new ages later x d v filled l count small said =
+pub filled_by : (pools : List Pool) (busy new : ℕ) (ages later : List ℕ) (x : ℕ) (d : Pool) (v : Option Station) (old standing : Standing) → AreFilled pools busy ages old → x < 96 → length later ≡ 128 → new < 2 ^ 128 → ((y : ℕ) → y < 128 → has new y ≡ (if x == y then is_some v else has busy y)) → HasFiled x v old standing → AreFilled (set_in pools x d v) new later standing
+filled_by pools busy new ages later x d v old standing filled l count small said filed =
     let six = filled.six in
     let places : length (slots_of pools) ≡ 96 = filled.filled.places in
     let pool_count : length pools ≡ 6 = six.count in
@@ -77,6 +80,7 @@ filled_by pools busy new ages later x d v filled l count small said =
         count = length-set pools (x / 16) (slice_set (get_or pools (x / 16) d) (x % 16) v) ∙ six.count;
         sizes = sizes_set pools (x / 16) (slice_set (get_or pools (x / 16) d) (x % 16) v) six.sizes (length-set (get_or pools (x / 16) d) (x % 16) v ∙ size_at pools (x / 16) d six.sizes (omega arith));
       };
+      standing = rw (set_place pools x d v six l) (all_filed (slots_of pools) x v old standing (omega arith) filled.standing filed);
       filled = record {
         places = ap length (set_place pools x d v six l) ∙ (length-set (slots_of pools) x v ∙ places);
         ages_count = count;
@@ -111,8 +115,8 @@ some_busy None h = sym h
 some_busy (Some s) h = refl
 
 -- a busy place is in the set
-pub busy_at : (pools : List Pool) (busy : ℕ) (ages : List ℕ) (x : ℕ) → AreFilled pools busy ages → x < 96 → IsSome (slice_index_or (slots_of pools) x None) → has busy x ≡ true
-busy_at pools busy ages x filled l some = filled.filled.each x (omega arith) ∙ sym (some_busy (slice_index_or (slots_of pools) x None) some)
+pub busy_at : (pools : List Pool) (busy : ℕ) (ages : List ℕ) (standing : Standing) (x : ℕ) → AreFilled pools busy ages standing → x < 96 → IsSome (slice_index_or (slots_of pools) x None) → has busy x ≡ true
+busy_at pools busy ages standing x filled l some = filled.filled.each x (omega arith) ∙ sym (some_busy (slice_index_or (slots_of pools) x None) some)
 
 -- a number of a pool is a place
 number_at : (pools : List Pool) (p n : ℕ) (s : Pool) → AreSix pools → p < 6 → n < 16 → s ≡ get_or pools p s → slice_index_or s n None ≡ slice_index_or (slots_of pools) (16 * p + n) None
@@ -139,15 +143,16 @@ free_none pools p count s None six l few e none = λ n less. ap is_none (sym (nu
 abbrev pub idle_pools : List Pool
 idle_pools = replicate 6 (replicate 16 None)
 
-no_station : (x : ℕ) → x < 128 → is_some (slice_index_or (slots_of idle_pools) x None) ≡ false
+no_station : (x : ℕ) → x < 128 → slice_index_or (slots_of idle_pools) x None ≡ None
 no_station x l = elim (cases_order x 96) [
   | inl e ↦ rw e refl
-  | inr (inl less) ↦ ap is_some (get_or-replicate 96 x None None less)
-  | inr (inr more) ↦ ap is_some (get_or_past (slots_of idle_pools) x None (omega arith))
+  | inr (inl less) ↦ get_or-replicate 96 x None None less
+  | inr (inr more) ↦ get_or_past (slots_of idle_pools) x None (omega arith)
 ]
 
-pub idle_filled : (a b c d e f : Pool) (ages : List ℕ) → a ≡ replicate 16 None → b ≡ replicate 16 None → c ≡ replicate 16 None → d ≡ replicate 16 None → e ≡ replicate 16 None → f ≡ replicate 16 None → length ages ≡ 128 → AreFilled (a ∷ b ∷ c ∷ d ∷ e ∷ f ∷ []) 0 ages
+pub idle_filled : (a b c d e f : Pool) (ages : List ℕ) → a ≡ replicate 16 None → b ≡ replicate 16 None → c ≡ replicate 16 None → d ≡ replicate 16 None → e ≡ replicate 16 None → f ≡ replicate 16 None → length ages ≡ 128 → AreFilled (a ∷ b ∷ c ∷ d ∷ e ∷ f ∷ []) 0 ages (record { lacking = 0; addressed = 0; expecting = 0; started = 0 })
 idle_filled a b c d e f ages ea eb ec ed ee ef count = rw (ea, eb, ec, ed, ee, ef) (record {
   six = record { count = refl; sizes = (refl, (refl, (refl, (refl, (refl, (refl, tt)))))) };
-  filled = record { places = refl; ages_count = count; small = omega arith; each = λ x l. ap (λ b. b == 1) (bit_at-zero x) ∙ sym (no_station x l) };
+  standing = none_stand (slots_of idle_pools) no_station;
+  filled = record { places = refl; ages_count = count; small = omega arith; each = λ x l. ap (λ b. b == 1) (bit_at-zero x) ∙ sym (ap is_some (no_station x l)) };
 })

@@ -1,5 +1,5 @@
 -- What a busy station holds, and what becomes of it.
-use Rattle.std.specs.Prelude.{ℕ, Bool, true, false, not, ◌&&◌, ◌||◌, Option, Some, None, is_some}
+use Rattle.std.specs.Prelude.{ℕ, Bool, true, false, not, ◌&&◌, ◌||◌, Option, Some, None, is_none, is_some}
 use Rattle.tomex_rvdec.specs.Operands.{pool_of}
 use Rattle.tomex_rvdec.specs.declared.instr.Instr.{Instr}
 use Rattle.tomex_rvdec.specs.declared.op.Op.{Op}
@@ -39,6 +39,10 @@ bytes_in s = bytes_from s.address (step_in s)
 abbrev pub lacks_address : Option Station → Bool
 lacks_address None = false
 lacks_address (Some s) = is_memory_op s.instr.op && not (is_some s.address)
+
+-- the station waits for nothing but a unit and older accesses
+abbrev pub is_waiting : Station → Bool
+is_waiting s = is_none s.finish && is_ready s && (not (is_memory_op s.instr.op) || is_some s.address)
 
 abbrev pub address_from : Station → Field → Station
 address_from s (Value base) = record s { address = Some (sum base s.instr.imm) }

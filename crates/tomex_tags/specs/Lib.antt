@@ -1,5 +1,6 @@
 pub mod Places
 pub mod Operands
 pub mod Contents
+pub mod Standing
 pub mod Pools
 pub mod Registers

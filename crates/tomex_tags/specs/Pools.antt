@@ -6,6 +6,8 @@ use Rattle.tomex_rvdec.specs.Parts.{place_of_pool}
 use Rattle.tomex_rvdec.specs.declared.pool.PoolId.{PoolId}
 use Rattle.tomex_tags.specs.declared.station.Station.{Station}
 use Rattle.tomex_tags.specs.Contents.{hears}
+use Rattle.tomex_tags.specs.declared.standing.Standing.{Standing}
+use Rattle.tomex_tags.specs.Standing.{AreStanding}
 
 -- by place: what stands there, the set of the busy ones, and how many instructions issued before each of them
 pub record Pools : Type 0 where
@@ -32,8 +34,9 @@ pub record AreBusy (slots : List (Option Station)) (busy : ℕ) (ages : List ℕ
   pub small : busy < 2 ^ 128
   pub each : (x : ℕ) → x < 128 → has busy x ≡ is_some (slice_index_or slots x None)
 
-pub record AreFilled (pools : List (List (Option Station))) (busy : ℕ) (ages : List ℕ) : Type 0 where
+pub record AreFilled (pools : List (List (Option Station))) (busy : ℕ) (ages : List ℕ) (sets : Standing) : Type 0 where
   pub six : AreSix pools
+  pub standing : AreStanding (slots_of pools) sets
   pub filled : AreBusy (slots_of pools) busy ages
 
 -- nothing stands in a pool's station of this number

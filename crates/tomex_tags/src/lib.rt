@@ -14,6 +14,7 @@ mod issuing;
 mod places;
 mod pools;
 mod register_status;
+mod standing;
 mod station;
 mod stations;
 

@@ -4,15 +4,17 @@ ghost use Rattle.std.specs.Prelude.{ℕ, ◌≡◌, ◌<◌, ◌≤◌, Some, No
 ghost use Rattle.tomex_timing.specs.Recurrence.{IsLeast};
 ghost use Rattle.tomex_bus.specs.Sets.{IsWith, IsWithout};
 ghost use Rattle.tomex_tags.specs.Places.{tag_at_place};
-ghost use Rattle.tomex_tags.specs.Contents.{busy_from};
+ghost use Rattle.tomex_tags.specs.Contents.{busy_from, lacks_address};
 ghost use Rattle.tomex_tags.specs.Operands.{only};
 ghost use Rattle.tomex_tags.specs.Pools.{AreBusy, HaveHeard, is_open};
+ghost use Rattle.tomex_tags.specs.Standing.{IsSetOf, expects, has_address, has_started, waits};
 
 use crate::places::tag;
+use crate::standing::Standing;
 use crate::station::Station;
 use crate::stations::Stations;
 use std::marker::Model;
-use tomex_bus::sets::{lowest, with, without};
+use tomex_bus::sets::{difference, lowest, union, with, without, without_lowest};
 use tomex_rvdec::PoolId;
 use tomex_timing::Busy;
 
@@ -24,6 +26,7 @@ pub struct Pools {
     busy: u128,
     /// How many instructions had issued before the one in a place.
     ages: [u32; 128],
+    standing: Standing,
 }
 
 impl Model for Pools {
@@ -33,7 +36,7 @@ impl Model for Pools {
 
     ghost view = { λ p. record { slots = slots_of p.pools; busy = p.busy; ages = p.ages } };
 
-    ghost invariant = { λ p. AreFilled p.pools p.busy p.ages };
+    ghost invariant = { λ p. AreFilled p.pools p.busy p.ages p.standing };
 }
 
 impl Pools {
@@ -54,6 +57,12 @@ impl Pools {
             ],
             busy: 0,
             ages: [0; 128],
+            standing: Standing {
+                lacking: 0,
+                addressed: 0,
+                expecting: 0,
+                started: 0,
+            },
         }
     }
 
@@ -78,6 +87,52 @@ impl Pools {
         self.busy
     }
 
+    /// The places of the loads and stores whose address isn't computed yet.
+    #[inline(always)]
+    pub fn lacking(&self) -> u128
+        ensures set { IsSetOf lacks_address self.now.slots result }
+        ensures busy { AreBusy self.now.slots self.now.busy self.now.ages }
+    {
+        self.standing.lacking
+    }
+
+    /// The places of the loads and stores whose address is computed.
+    #[inline(always)]
+    pub fn addressed(&self) -> u128
+        ensures set { IsSetOf has_address self.now.slots result }
+        ensures busy { AreBusy self.now.slots self.now.busy self.now.ages }
+    {
+        self.standing.addressed
+    }
+
+    /// The places whose stations have an operand that is still to come.
+    #[inline(always)]
+    pub fn expecting(&self) -> u128
+        ensures set { IsSetOf expects self.now.slots result }
+        ensures busy { AreBusy self.now.slots self.now.busy self.now.ages }
+    {
+        self.standing.expecting
+    }
+
+    /// The places whose operations have started.
+    #[inline(always)]
+    pub fn started(&self) -> u128
+        ensures set { IsSetOf has_started self.now.slots result }
+        ensures busy { AreBusy self.now.slots self.now.busy self.now.ages }
+    {
+        self.standing.started
+    }
+
+    /// The places whose operations wait for nothing but a unit and older accesses.
+    #[inline(always)]
+    pub fn waiting(&self) -> u128
+        ensures set { IsSetOf waits self.now.slots result }
+        ensures busy { AreBusy self.now.slots self.now.busy self.now.ages }
+    {
+        let kept = union(self.lacking(), union(self.expecting(), self.started()));
+        difference(self.busy(), kept)
+    }
+
     /// How many instructions had issued before the one in each busy place.
     #[inline(always)]
     pub fn ages(&self) -> &[u32; 128]
@@ -96,6 +151,7 @@ impl Pools {
     {
         if place < 96 {
             self.pools[place / 16].put(place % 16, Some(station));
+            self.standing.file(place, &station);
         }
     }
 
@@ -108,6 +164,7 @@ impl Pools {
         ensures ages { self.new.ages ≡ slice_set self.old.ages place age }
     {
         self.pools[place / 16].put(place % 16, Some(station));
+        self.standing.file(place, &station);
         self.busy = with(self.busy, place);
         self.ages[place] = age;
     }
@@ -121,6 +178,7 @@ impl Pools {
         ensures ages { self.new.ages ≡ self.old.ages }
     {
         self.pools[place / 16].put(place % 16, None);
+        self.standing.clear(place);
         self.busy = without(self.busy, place);
     }
 
@@ -159,10 +217,10 @@ impl Pools {
     pub fn hear(&mut self, from: usize, value: u32)
         ensures { HaveHeard (only from (Some value)) self.old self.new }
     {
-        let mut rest = self.busy();
+        let mut rest = self.expecting();
         'members: while rest != 0 {
             let place = lowest(rest);
-            rest = without(rest, place);
+            rest = without_lowest(rest);
             if let Some(station) = self.at(place) {
                 if station.awaits(from) {
                     self.update(place, station.hears(from, value));

@@ -15,7 +15,7 @@ returns-then-is_some-clause-good g c = λ e low can.
 
 pub members-preserved : goal.members-preserved
 members-preserved g c = λ e low can.
-    member_begun c.args.row.now c.args.next c.lowest-place.result c.args.memory.now c.args.picked c.members.rest c.without-rest.result c.args.pools.now c.members.pools c.begin_at-fault.new.pools c.lowest-place.ensures.below c.lowest-place.ensures.member c.lowest-place.ensures.least c.without-rest.ensures.others c.begin_at-fault.ensures.slots c.begin_at-fault.ensures.ages low can (c.members.invariant e low can)
+    member_begun c.args.row.now c.args.next c.lowest-place.result c.args.memory.now c.args.picked c.members.rest c.without_lowest-rest.result c.args.pools.now c.members.pools c.begin_at-fault.new.pools c.lowest-place.ensures.below c.lowest-place.ensures.member c.lowest-place.ensures.least (c.without_lowest-rest.ensures.others c.lowest-place.result c.lowest-place.ensures.member c.lowest-place.ensures.least) c.begin_at-fault.ensures.slots c.begin_at-fault.ensures.ages low can (c.members.invariant e low can)
 
 pub returns-clause-begins : goal.returns-clause-begins
 returns-clause-begins g c = λ e low can. all_begun c.args.row.now c.args.next c.args.memory.now c.args.picked c.members.rest c.args.pools.now c.members.pools low c.members-test.false (c.members.invariant e low can)

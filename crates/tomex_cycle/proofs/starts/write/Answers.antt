@@ -6,7 +6,7 @@ members-init g c = λ low inside. first_stored c.args.pools.now.slots c.args.pic
 
 pub members-preserved : goal.members-preserved
 members-preserved g c = λ low inside.
-    member_stored c.args.pools.now.slots c.args.picked c.members.rest c.without-rest.result c.lowest-place.result c.args.memory.now c.members.memory c.write_at.new.memory low inside c.lowest-place.ensures.below c.lowest-place.ensures.member c.lowest-place.ensures.least c.without-rest.ensures.others c.write_at.ensures.stored c.write_at.ensures.none (c.members.invariant low inside)
+    member_stored c.args.pools.now.slots c.args.picked c.members.rest c.without_lowest-rest.result c.lowest-place.result c.args.memory.now c.members.memory c.write_at.new.memory low inside c.lowest-place.ensures.below c.lowest-place.ensures.member c.lowest-place.ensures.least (c.without_lowest-rest.ensures.others c.lowest-place.result c.lowest-place.ensures.member c.lowest-place.ensures.least) c.write_at.ensures.stored c.write_at.ensures.none (c.members.invariant low inside)
 
 pub returns : goal.returns
 returns g c = λ low inside. all_stored c.args.pools.now.slots c.args.picked c.members.rest c.args.memory.now c.members.memory low c.members-test.false (c.members.invariant low inside)

@@ -1,21 +1,30 @@
-use Rattle.std.proofs.Common.{◌∙◌, ap, sym}
+use Rattle.std.proofs.Common.{◌∙◌, ap, refl, sym}
 use Rattle.std.specs.Prelude.{slice_index}
 use Rattle.tomex_bus.proofs.Members.{inside_left}
-use Rattle.tomex_membuf.proofs.ByAge.{found_blocked, found_clear, looked_more, no_access, none_by}
+use Rattle.tomex_tags.proofs.Filing.{is_standing}
+use Rattle.tomex_tags.specs.Standing.{has_address}
+use Rattle.tomex_membuf.proofs.ByAge.{found_blocked, found_clear, looked_first, looked_more, no_access, none_by}
 use Rattle.tomex_membuf.proofs.order.may_access.Goals as goal
 
 pub returns-then-is_none : goal.returns-then-is_none
 returns-then-is_none c older younger by = sym (no_access c.args.pools.now.slots older c.args.station.now c.args.next (sym c.bytes.ensures ∙ none_by c.bytes.result c.is_none.result c.is_none.ensures c.if-is_none.true))
+
+pub members-init : goal.members-init
+members-init c = record {
+  inside = is_standing has_address c.args.pools.now.slots c.args.pools.now.busy c.args.pools.now.ages c.addressed-rest.result refl c.addressed-rest.ensures.busy c.addressed-rest.ensures.set;
+  looked = looked_first c.args.pools.now.slots c.args.pools.now.busy c.addressed-rest.result c.args.pools.now.ages _ c.args.station.now c.args.next c.addressed-rest.ensures.set;
+}
 
 pub returns-then-is_blocked_by : goal.returns-then-is_blocked_by
 returns-then-is_blocked_by c older younger by = found_blocked c.args.pools.now.slots c.args.pools.now.busy c.args.pools.now.ages older younger c.args.place c.lowest-other.result _ c.args.station.now c.args.next c.is_blocked_by.result by (ap (λ xs. slice_index xs c.args.place) c.ages.ensures) c.lowest-other.ensures.below
     (c.members.invariant.inside c.lowest-other.result c.lowest-other.ensures.below c.lowest-other.ensures.member) c.is_blocked_by.ensures c.if-is_blocked_by.true
 
 pub members-preserved : goal.members-preserved
-members-preserved c = record {
-  inside = inside_left c.args.pools.now.busy c.members.rest c.without-rest.result c.lowest-other.result c.members.invariant.inside c.without-rest.ensures.others;
-  looked = looked_more c.args.pools.now.slots c.args.pools.now.busy c.members.rest c.without-rest.result c.args.pools.now.ages c.lowest-other.result _ c.args.station.now c.args.next c.members.invariant.looked c.without-rest.ensures.others (sym c.is_blocked_by.ensures ∙ c.if-is_blocked_by.false);
-}
+members-preserved c =
+    let without = c.without_lowest-rest.ensures.others c.lowest-other.result c.lowest-other.ensures.member c.lowest-other.ensures.least in record {
+      inside = inside_left c.args.pools.now.busy c.members.rest c.without_lowest-rest.result c.lowest-other.result c.members.invariant.inside without;
+      looked = looked_more c.args.pools.now.slots c.args.pools.now.busy c.members.rest c.without_lowest-rest.result c.args.pools.now.ages c.lowest-other.result _ c.args.station.now c.args.next c.members.invariant.looked without (sym c.is_blocked_by.ensures ∙ c.if-is_blocked_by.false);
+    }
 
 pub returns : goal.returns
 returns c older younger by = found_clear c.args.pools.now.slots c.args.pools.now.busy c.members.rest c.args.pools.now.ages older younger c.args.place _ c.args.station.now c.args.next by (ap (λ xs. slice_index xs c.args.place) c.ages.ensures) c.members-test.false c.members.invariant.looked

@@ -1,12 +1,19 @@
 use Rattle.std.proofs.Common.{◌∙◌, sym, Some}
 use Rattle.tomex_tags.specs.Operands.{only}
-use Rattle.tomex_tags.proofs.Hearing.{heard_kept, heard_more}
+use Rattle.tomex_tags.proofs.Hearing.{first_heard, heard_kept, heard_more}
 use Rattle.tomex_tags.proofs.pools.Pools.hear.Goals as goal
 
+pub members-init : goal.members-init
+members-init c = first_heard (only c.args.from (Some c.args.value)) c.expecting-rest.result c.args.self.now c.expecting-rest.ensures.busy c.expecting-rest.ensures.set
+
 pub members-preserved-then-awaits : goal.members-preserved-then-awaits
-members-preserved-then-awaits c = heard_more (only c.args.from (Some c.args.value)) c.members.rest c.without-rest.result c.lowest-place.result c.args.self.now c.members.self c.update.new.self c.in-Some.station c.hears.result c.members.invariant (rw c.busy-rest.ensures.set at c.busy-rest.ensures.busy) c.lowest-place.ensures.below c.lowest-place.ensures.member c.without-rest.ensures.others
+members-preserved-then-awaits c =
+    let without = c.without_lowest-rest.ensures.others c.lowest-place.result c.lowest-place.ensures.member c.lowest-place.ensures.least in
+    heard_more (only c.args.from (Some c.args.value)) c.members.rest c.without_lowest-rest.result c.lowest-place.result c.args.self.now c.members.self c.update.new.self c.in-Some.station c.hears.result c.members.invariant c.lowest-place.ensures.below c.lowest-place.ensures.member without
     (sym c.at.ensures ∙ c.in-Some.is) c.hears.ensures c.update.ensures.slots c.update.ensures.busy c.update.ensures.ages
 
 pub members-preserved-else-awaits : goal.members-preserved-else-awaits
-members-preserved-else-awaits c = heard_kept (only c.args.from (Some c.args.value)) c.members.rest c.without-rest.result c.lowest-place.result c.args.self.now c.members.self c.in-Some.station c.members.invariant c.lowest-place.ensures.below c.lowest-place.ensures.member c.without-rest.ensures.others
+members-preserved-else-awaits c =
+    let without = c.without_lowest-rest.ensures.others c.lowest-place.result c.lowest-place.ensures.member c.lowest-place.ensures.least in
+    heard_kept (only c.args.from (Some c.args.value)) c.members.rest c.without_lowest-rest.result c.lowest-place.result c.args.self.now c.members.self c.in-Some.station c.members.invariant c.lowest-place.ensures.below c.lowest-place.ensures.member without
     (sym c.at.ensures ∙ c.in-Some.is) (c.awaits.ensures c.if-awaits.false c.args.value)
