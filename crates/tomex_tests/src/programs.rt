@@ -1,21 +1,12 @@
 //! What no contract says: that the calls succeed where there is memory, and the errors' texts.
 
+use super::machines::image_of;
 use std::alloc::Global;
 use std::test::Fail;
 use tomex_config::{Config, Prices, UnitOption};
-use tomex_image::{Image, Window, load};
+use tomex_image::Window;
 use tomex_rvexec::{Fault, FaultKind};
 use tomex_sweep::{Program, ProgramError, Study, WatchRange, can_watch};
-
-/// An image of these words at 0, in a window of 4,096 bytes.
-pub fn image_of(alloc: Global, words: &[u32]) -> Result<Image, Fail> {
-    let mut bytes = Vec::new(alloc);
-    for word in words {
-        bytes.extend_from_slice(&word.to_le_bytes())?;
-    }
-    let window = Window::new(0, 4096).ok_or("no window")?;
-    Ok(load(alloc, bytes.as_slice(), window)?)
-}
 
 /// What becomes of these words as a program with this limit, whose first 16 bytes are watched.
 fn program_of(
@@ -24,7 +15,7 @@ fn program_of(
     limit: u32,
 ) -> Result<Result<Program, ProgramError>, Fail> {
     let name = String::from_str(alloc, "mul")?;
-    let image = image_of(alloc, words)?;
+    let image = image_of(alloc, 0, words)?;
     let watch = vec![in alloc;
         WatchRange {
             address: 0,

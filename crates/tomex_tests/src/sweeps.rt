@@ -1,6 +1,6 @@
 //! Marks of the worked studies, and of workers that are held.
 
-use crate::programs::image_of;
+use crate::machines::image_of;
 use std::alloc::Global;
 use std::test::Fail;
 use tomex_config::{Config, Prices, UnitOption};
@@ -34,7 +34,7 @@ fn study_of(alloc: Global, options: &[(u8, u32)]) -> Result<Study, Fail> {
     if rows.is_empty() || rows.len() > 16_384 {
         return Err("no rows")?;
     }
-    let image = image_of(alloc, LOOP.as_slice())?;
+    let image = image_of(alloc, 0, LOOP.as_slice())?;
     let name = String::from_str(alloc, "loop")?;
     let program = Program::new(alloc, name, image, 262_144, Vec::new(alloc))?;
     let programs = vec![in alloc; program]?;
