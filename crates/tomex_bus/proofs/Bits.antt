@@ -35,6 +35,11 @@ but_of zero b k l = let e : min 0 (1 - b) ≡ 0 = omega arith in rw e refl
 but_of (suc a) zero k l = let e : a ≡ 0 = omega arith in rw e refl
 but_of (suc a) (suc b) k l = let e : a ≡ 0 = omega arith in let f : b ≡ 0 = omega arith in rw (e, f) refl
 
+pub both_of : (a b : ℕ) → a < 2 → b < 2 → (min a b == 1) ≡ ((a == 1) && (b == 1))
+both_of zero b k l = let e : min 0 b ≡ 0 = omega arith in rw e refl
+both_of (suc a) zero k l = let e : a ≡ 0 = omega arith in rw e refl
+both_of (suc a) (suc b) k l = let e : a ≡ 0 = omega arith in let f : b ≡ 0 = omega arith in rw (e, f) refl
+
 pub none_in : (x : ℕ) → has 0 x ≡ false
 none_in x = has_none 0 x (bit_at-zero x)
 

@@ -127,3 +127,34 @@ best_left set rest left x best now ages looked without less here i l member = el
     | inr least ↦ inr (omega arith)
   ]
 ]
+
+-- the least member of a set, and that no other is less
+pub record IsLowest (set x : ℕ) : Type 0 where
+  pub member : has set x ≡ true
+  pub least : (i : ℕ) → i < x → has set i ≡ false
+
+lowest_from : (set k n : ℕ) → ((i : ℕ) → i < k → has set i ≡ false) → has set (k + n) ≡ true → (x : ℕ) × IsLowest set x
+lowest_from set k zero none some = let e : k + 0 ≡ k = omega arith in (k, record { member = rw e at some; least = none })
+lowest_from set k (suc n) none some = elim (cases_Bool (has set k)) [
+  | inl e ↦ (k, record { member = e; least = none })
+  | inr e ↦
+      let f : k + suc n ≡ suc k + n = omega arith in
+      lowest_from set (suc k) n (λ i l. elim (cases_order i k) [
+        | inl same ↦ rw same e
+        | inr (inl less) ↦ none i less
+        | inr (inr more) ↦ absurd (omega arith)
+      ]) (rw f at some)
+]
+
+-- where the least member is all of a set, any two members are one
+pub one_member : (set left : ℕ) → ((x : ℕ) → has set x ≡ true → ((i : ℕ) → i < x → has set i ≡ false) → IsWithout set x left) → left ≡ 0 → (a b : ℕ) → a < 128 → b < 128 → has set a ≡ true → has set b ≡ true → a ≡ b
+one_member set left without empty a b l m ha hb =
+    let first = lowest_from set 0 a (λ i k. absurd (omega arith)) (let e : 0 + a ≡ a = omega arith in rw e ha) in
+    let out = without first.0 first.1.member first.1.least in
+    is_it a l ha first.0 out ∙ sym (is_it b m hb first.0 out)
+  where
+    is_it : (y : ℕ) → y < 128 → has set y ≡ true → (x : ℕ) → IsWithout set x left → y ≡ x
+    is_it y small member x out = elim (cases_Bool (y == x)) [
+      | inl e ↦ eqb-true y x e
+      | inr e ↦ absurd (both_ways (has left y) (none_rest left y empty) (out.others y small (eqb-false y x e) ∙ member))
+    ]

@@ -5,7 +5,7 @@ use Rattle.std.proofs.lemmas.Bool.{cases_Bool, both_ways, eq-eqb, eqb-true, eqb-
 use Rattle.tomex_bus.proofs.Bits.{none_in}
 use Rattle.std.proofs.Math.Numerals.{suc-eq-add-one}
 use Rattle.tomex_bus.specs.Sets.{has, is_in, IsWith, IsWithout}
-use Rattle.tomex_bus.specs.Picks.{IsByAge}
+use Rattle.tomex_bus.specs.Picks.{IsByAge, IsPicked}
 
 head_in : (x : ℕ) (xs : List ℕ) → is_in (x ∷ xs) x ≡ true
 head_in x xs = rw (eq-eqb x x refl) refl
@@ -118,3 +118,28 @@ pub all_taken : (ready : ℕ) (ages : List ℕ) (turn n rest picked : ℕ) → A
 all_taken ready ages turn n rest picked made none l xs by x small =
     let before : IsByAge 0 ages (drop turn xs) = rw none at (made.left xs by) in
     made.taken xs by x small ∙ ap (λ ys. is_in ys x) (sym (take_whole xs turn n (none_left (drop turn xs) ages before) l))
+
+-- of one member the oldest is that one
+pub single_picked : (set n : ℕ) (ages : List ℕ) → 0 < n → ((a b : ℕ) → a < 128 → b < 128 → has set a ≡ true → has set b ≡ true → a ≡ b) → IsPicked set ages n set
+single_picked set n ages some single = record {
+  inside = λ x l e. e;
+  oldest = λ xs by x l. by.members x l ∙ sym (ap (λ (ys : List ℕ). is_in ys x) (whole n xs some by));
+}
+  where
+    none_taken : (n : ℕ) → take {A = ℕ} n [] ≡ []
+    none_taken zero = refl
+    none_taken (suc n) = refl
+
+    whole : (n : ℕ) (xs : List ℕ) → 0 < n → IsByAge set ages xs → take n xs ≡ xs
+    whole zero xs some by = absurd (omega arith)
+    whole (suc n) [] some by = refl
+    whole (suc n) (x ∷ []) some by = rw (none_taken n) refl
+    whole (suc n) (x ∷ (y ∷ ys)) some by =
+        let first : is_in (x ∷ (y ∷ ys)) x ≡ true = head_in x (y ∷ ys) in
+        let second : is_in (x ∷ (y ∷ ys)) y ≡ true = rw (head_in y ys) (or_right (x == y) true refl) in
+        let lx : x < 128 = by.low x first in
+        let ly : y < 128 = by.low y second in
+        let same : x ≡ y = single x y lx ly (by.members x lx ∙ first) (by.members y ly ∙ second) in
+        let older : slice_index ages x < slice_index ages y = by.rises.0 y (head_in y ys) in
+        let k : slice_index ages y < slice_index ages y = rw same at older in
+        absurd (omega arith)

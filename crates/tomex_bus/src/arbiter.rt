@@ -4,7 +4,7 @@ ghost use Rattle.std.specs.Prelude.{ℕ, ◌≡◌, ◌<◌, ◌≤◌, true, sl
 ghost use Rattle.tomex_bus.specs.Sets.{has};
 ghost use Rattle.tomex_bus.specs.Picks.{IsPicked};
 
-use crate::sets::{lowest, with, without, without_lowest};
+use crate::sets::{is_single, lowest, with, without, without_lowest};
 
 /// The member of the least age; the ages are by number.
 #[inline(always)]
@@ -34,6 +34,9 @@ pub fn oldest(set: u128, ages: &[u32; 128]) -> usize
 pub fn pick(ready: u128, ages: &[u32; 128], n: u8) -> u128
     ensures { IsPicked ready ages.now n result }
 {
+    if n > 0 && is_single(ready) {
+        return ready;
+    }
     let mut rest = ready;
     let mut picked = 0;
     for turn in 0..n {

@@ -52,7 +52,23 @@ pub fn without_lowest(set: u128) -> u128
     set & (set - 1)
 }
 
-/// The members of both sets.
+/// Whether there is at most one member.
+#[inline(always)]
+pub fn is_single(set: u128) -> bool
+    ensures { result ≡ true → (a b : ℕ) → a < 128 → b < 128 → has set a ≡ true → has set b ≡ true → a ≡ b }
+{
+    set == 0 || without_lowest(set) == 0
+}
+
+/// The members that both sets have.
+#[inline(always)]
+pub fn both(a: u128, b: u128) -> u128
+    ensures { (x : ℕ) → has result x ≡ (has a x && has b x) }
+{
+    a & b
+}
+
+/// The members of either set.
 #[inline(always)]
 pub fn union(a: u128, b: u128) -> u128
     ensures { (x : ℕ) → has result x ≡ (has a x || has b x) }

@@ -3,7 +3,7 @@
 ghost use Rattle.std.specs.Prelude.{ℕ, List, ◌≡◌, ◌<◌, ◌^◌, ◌++◌, ◌∷◌, IfSome, IsSome, None, Some, slice_index_or, slice_set, length, true};
 ghost use Rattle.tomex_bus.specs.Picks.{IsByAge};
 ghost use Rattle.tomex_bus.specs.Sets.{has};
-ghost use Rattle.tomex_tags.specs.Contents.{step_in};
+ghost use Rattle.tomex_tags.specs.Contents.{started, step_in};
 ghost use Rattle.tomex_tags.specs.Pools.{AreBusy};
 ghost use Rattle.tomex_tags.specs.Standing.{waits};
 ghost use Rattle.tomex_rvexec.specs.Access.{HasStored};
@@ -11,7 +11,7 @@ ghost use Rattle.tomex_cycle.specs.Starts.{AllCanBegin, AllInside, AreLow, AreRe
 
 use std::alloc::Allocator;
 use tomex_bus::pick;
-use tomex_bus::sets::{lowest, union, with, without_lowest};
+use tomex_bus::sets::{both, lowest, union, with, without_lowest};
 use tomex_config::Config;
 use tomex_membuf::{may_access, read, write as write_bytes};
 use tomex_rvdec::UnitId;
@@ -67,24 +67,22 @@ pub fn starting(pools: &Pools, row: &Config, next: u64) -> u128
     union(alu, union(mul, union(div, union(mem, bru))))
 }
 
-/// The station with its operation started; `None` where its access lies outside memory.
-fn begun<A: Allocator>(
+/// The cycle in which the operation of a station is done if it starts now, and its result; `None`
+/// where its access lies outside memory.
+#[inline(always)]
+fn outcome<A: Allocator>(
     station: &Station,
     memory: &Memory<A>,
     row: &Config,
     next: u64,
-) -> Option<Station>
+) -> Option<(u64, u32)>
     requires { next < 2 ^ 41 }
-    ensures value { IfSome result (λ s. s ≡ begun row.now next memory.now station.now) }
+    ensures value { IfSome result (λ o. started o.0 o.1 station.now ≡ begun row.now next memory.now station.now) }
     ensures inside { CanBegin memory.now station.now → IsSome result }
 {
     let unit = station.instr.unit()?;
     let value = read(station, memory)?;
-    Some(Station {
-        finish: Some(next + u64::from(row.latency(unit)) - 1),
-        value,
-        ..*station
-    })
+    Some((next + u64::from(row.latency(unit)) - 1, value))
 }
 
 /// Starts the operation of a place; a fault where its access lies outside memory.
@@ -101,8 +99,8 @@ fn begin_at<A: Allocator>(
     ensures ages { pools.new.ages ≡ pools.old.ages }
 {
     if let Some(station) = pools.at(place) {
-        match begun(&station, memory, row, next) {
-            Some(begun) => pools.update(place, begun),
+        match outcome(&station, memory, row, next) {
+            Some((finish, value)) => pools.start(place, station, finish, value),
             None => return Some(Fault {
                 kind: FaultKind::Access,
                 pc: station.pc,
@@ -150,7 +148,8 @@ fn write_at<A: Allocator>(pools: &Pools, place: usize, memory: &mut Memory<A>)
 pub fn write<A: Allocator>(pools: &Pools, picked: u128, memory: &mut Memory<A>)
     ensures { AreLow picked → AllInside memory.old picked pools.now.slots → HaveStored pools.now.slots picked 96 memory.old memory.new }
 {
-    let mut rest = picked;
+    let accesses = both(picked, union(pools.lacking(), pools.addressed()));
+    let mut rest = accesses;
     'members: while rest != 0 {
         let place = lowest(rest);
         rest = without_lowest(rest);

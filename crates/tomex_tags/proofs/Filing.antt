@@ -1,5 +1,5 @@
 -- The sets of what stations wait for, as stations come, change and go.
-use Rattle.std.proofs.Common.{ℕ, ◌<◌, ◌≡◌, ◌∙◌, Bool, true, false, refl, ap, sym, inl, inr, List, Option, Some, None, length, slice_index_or, slice_set}
+use Rattle.std.proofs.Common.{ℕ, ◌<◌, ◌≡◌, ◌∙◌, Bool, true, false, refl, ap, sym, subst, inl, inr, List, Option, Some, None, length, slice_index_or, slice_set}
 use Rattle.std.specs.Prelude.{◌==◌, ◌&&◌, ◌||◌, not, is_some, is_none}
 use Rattle.std.proofs.lemmas.Bool.{both_ways, cases_Bool, eqb-true, eqb-false}
 use Rattle.std.proofs.lemmas.List.{get_or-set_same, get_or-set_other}
@@ -7,7 +7,7 @@ use Rattle.tomex_bus.specs.Sets.{has, IsWith, IsWithout}
 use Rattle.tomex_bus.proofs.Bits.{none_in}
 use Rattle.tomex_tags.specs.declared.standing.Standing.{Standing}
 use Rattle.tomex_tags.specs.declared.station.Station.{Station}
-use Rattle.tomex_tags.specs.Contents.{is_memory_op, is_ready, lacks_address}
+use Rattle.tomex_tags.specs.Contents.{hears, is_memory_op, is_ready, lacks_address, started}
 use Rattle.tomex_tags.specs.Pools.{AreBusy}
 use Rattle.tomex_tags.specs.Standing.{AreStanding, HasFiled, IsFiled, IsSetOf, expects, has_address, has_started, waits}
 
@@ -36,6 +36,29 @@ all_filed slots x v old new l standing filed = record {
   expecting = set_filed expects slots old.expecting new.expecting x v l standing.expecting filed.expecting;
   started = set_filed has_started slots old.started new.started x v l standing.started filed.started;
 }
+
+-- what is as before is filed as before
+kept : (test : Option Station → Bool) (slots : List (Option Station)) (old new x : ℕ) (v w : Option Station) → x < 128 → IsSetOf test slots old → slice_index_or slots x None ≡ w → test v ≡ test w → new ≡ old → IsFiled x (test v) old new
+kept test slots old new x v w l of at same e y m = elim (cases_Bool (x == y)) [
+  | inl k ↦ let here : x ≡ y = eqb-true x y k in rw (k, e, ← here) (of x l ∙ (ap test at ∙ sym same))
+  | inr k ↦ rw (k, e) refl
+]
+
+pub start_filed : (slots : List (Option Station)) (x finish value : ℕ) (s : Station) (old new : Standing) → x < 128 → AreStanding slots old → slice_index_or slots x None ≡ Some s → IsFiled x true old.started new.started → (new.lacking ≡ old.lacking) × (new.addressed ≡ old.addressed) × (new.expecting ≡ old.expecting) → HasFiled x (Some (started finish value s)) old new
+start_filed slots x finish value s old new l standing at filed same = record {
+  lacking = kept lacks_address slots old.lacking new.lacking x (Some (started finish value s)) (Some s) l standing.lacking at refl same.0;
+  addressed = kept has_address slots old.addressed new.addressed x (Some (started finish value s)) (Some s) l standing.addressed at refl same.1;
+  expecting = kept expects slots old.expecting new.expecting x (Some (started finish value s)) (Some s) l standing.expecting at refl same.2;
+  started = filed;
+}
+
+pub hear_filed : (slots : List (Option Station)) (x : ℕ) (sent : ℕ → Option ℕ) (s h : Station) (b : Bool) (old new : Standing) → x < 128 → AreStanding slots old → slice_index_or slots x None ≡ Some s → h ≡ hears sent s → b ≡ is_ready h → IsFiled x (not b) old.expecting new.expecting → (new.lacking ≡ old.lacking) × (new.addressed ≡ old.addressed) × (new.started ≡ old.started) → HasFiled x (Some h) old new
+hear_filed slots x sent s h b old new l standing at heard is filed same = rw heard (record {
+  lacking = kept lacks_address slots old.lacking new.lacking x (Some (hears sent s)) (Some s) l standing.lacking at refl same.0;
+  addressed = kept has_address slots old.addressed new.addressed x (Some (hears sent s)) (Some s) l standing.addressed at refl same.1;
+  expecting = subst (λ (z : Bool). IsFiled x (not z) old.expecting new.expecting) (is ∙ ap is_ready heard) filed;
+  started = kept has_started slots old.started new.started x (Some (hears sent s)) (Some s) l standing.started at refl same.2;
+})
 
 -- no station is in a set
 pub none_stand : (slots : List (Option Station)) → ((x : ℕ) → x < 128 → slice_index_or slots x None ≡ None) → AreStanding slots (record { lacking = 0; addressed = 0; expecting = 0; started = 0 })

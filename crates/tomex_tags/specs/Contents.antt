@@ -44,6 +44,10 @@ lacks_address (Some s) = is_memory_op s.instr.op && not (is_some s.address)
 abbrev pub is_waiting : Station → Bool
 is_waiting s = is_none s.finish && is_ready s && (not (is_memory_op s.instr.op) || is_some s.address)
 
+-- a station whose operation has started: the cycle in which the unit is done, and the result
+abbrev pub started : ℕ → ℕ → Station → Station
+started finish value s = record s { finish = Some finish; value = value }
+
 abbrev pub address_from : Station → Field → Station
 address_from s (Value base) = record s { address = Some (sum base s.instr.imm) }
 address_from s (Waits tag) = s

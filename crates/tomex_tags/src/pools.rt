@@ -4,7 +4,7 @@ ghost use Rattle.std.specs.Prelude.{ℕ, ◌≡◌, ◌<◌, ◌≤◌, Some, No
 ghost use Rattle.tomex_timing.specs.Recurrence.{IsLeast};
 ghost use Rattle.tomex_bus.specs.Sets.{IsWith, IsWithout};
 ghost use Rattle.tomex_tags.specs.Places.{tag_at_place};
-ghost use Rattle.tomex_tags.specs.Contents.{busy_from, lacks_address};
+ghost use Rattle.tomex_tags.specs.Contents.{busy_from, hears, lacks_address, started};
 ghost use Rattle.tomex_tags.specs.Operands.{only};
 ghost use Rattle.tomex_tags.specs.Pools.{AreBusy, HaveHeard, is_open};
 ghost use Rattle.tomex_tags.specs.Standing.{IsSetOf, expects, has_address, has_started, waits};
@@ -155,6 +155,40 @@ impl Pools {
         }
     }
 
+    /// The operation of the station in a place starts.
+    #[inline(always)]
+    pub fn start(&mut self, place: usize, station: Station, finish: u64, value: u32)
+        requires { slice_index_or self.old.slots place None ≡ Some station }
+        ensures slots { self.new.slots ≡ slice_set self.old.slots place (Some (started finish value station)) }
+        ensures busy { self.new.busy ≡ self.old.busy }
+        ensures ages { self.new.ages ≡ self.old.ages }
+    {
+        if place < 96 {
+            let begun = Station {
+                finish: Some(finish),
+                value,
+                ..station
+            };
+            self.pools[place / 16].put(place % 16, Some(begun));
+            self.standing.start(place);
+        }
+    }
+
+    /// Turns each Q of the station in a place that names another into V.
+    #[inline(always)]
+    fn hear_at(&mut self, place: usize, station: Station, from: usize, value: u32)
+        requires { slice_index_or self.old.slots place None ≡ Some station }
+        ensures slots { self.new.slots ≡ slice_set self.old.slots place (Some (hears (only from (Some value)) station)) }
+        ensures busy { self.new.busy ≡ self.old.busy }
+        ensures ages { self.new.ages ≡ self.old.ages }
+    {
+        if place < 96 {
+            let heard = station.hears(from, value);
+            self.pools[place / 16].put(place % 16, Some(heard));
+            self.standing.expect(place, !heard.ready());
+        }
+    }
+
     /// A station takes a place; so many instructions had issued before its own.
     #[inline(always)]
     pub fn take(&mut self, place: usize, station: Station, age: u32)
@@ -223,7 +257,7 @@ impl Pools {
             rest = without_lowest(rest);
             if let Some(station) = self.at(place) {
                 if station.awaits(from) {
-                    self.update(place, station.hears(from, value));
+                    self.hear_at(place, station, from, value);
                 }
             }
         }

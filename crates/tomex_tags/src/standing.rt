@@ -1,6 +1,6 @@
 //! What the busy stations wait for.
 
-ghost use Rattle.std.specs.Prelude.{◌≡◌, ◌<◌, None, Some};
+ghost use Rattle.std.specs.Prelude.{◌≡◌, ◌<◌, None, Some, true};
 ghost use Rattle.tomex_tags.specs.Standing.{HasFiled, IsFiled};
 
 use crate::station::Station;
@@ -47,6 +47,26 @@ impl Standing {
             expecting: filed(self.expecting, place, !station.ready()),
             started: filed(self.started, place, station.finish.is_some()),
         };
+    }
+
+    /// The operation of the station in a place has started; all else of it is as before.
+    #[inline(always)]
+    pub fn start(&mut self, place: usize)
+        requires { place < 128 }
+        ensures started { IsFiled place true self.old.started self.new.started }
+        ensures others { (self.new.lacking ≡ self.old.lacking) × (self.new.addressed ≡ self.old.addressed) × (self.new.expecting ≡ self.old.expecting) }
+    {
+        self.started = with(self.started, place);
+    }
+
+    /// Whether an operand of the station in a place is still to come; all else of it is as before.
+    #[inline(always)]
+    pub fn expect(&mut self, place: usize, expects: bool)
+        requires { place < 128 }
+        ensures expecting { IsFiled place expects self.old.expecting self.new.expecting }
+        ensures others { (self.new.lacking ≡ self.old.lacking) × (self.new.addressed ≡ self.old.addressed) × (self.new.started ≡ self.old.started) }
+    {
+        self.expecting = filed(self.expecting, place, expects);
     }
 
     /// Nothing stands in a place.

@@ -1,6 +1,9 @@
 use Rattle.std.proofs.Common.{arith}
-use Rattle.tomex_bus.proofs.Picking.{all_taken, one_more}
+use Rattle.tomex_bus.proofs.Picking.{all_taken, one_more, single_picked}
 use Rattle.tomex_bus.proofs.arbiter.pick.Goals as goal
+
+pub returns-then-is_single : goal.returns-then-is_single
+returns-then-is_single c = single_picked c.args.ready c.args.n c.args.ages.now (omega (arith, c.if-n-gt0.true)) (c.is_single.ensures c.if-is_single.true)
 
 pub returns-then-rest-eq0 : goal.returns-then-rest-eq0
 returns-then-rest-eq0 c = record {

@@ -1,0 +1,17 @@
+use Rattle.std.proofs.Common.{◌∙◌, Some, ap, arith, refl}
+use Rattle.std.specs.Prelude.{is_some}
+use Rattle.tomex_tags.specs.Contents.{started}
+use Rattle.tomex_tags.specs.Operands.{only}
+use Rattle.tomex_tags.proofs.Slots.{filled_by, set_place, said_same}
+use Rattle.tomex_tags.proofs.Filing.{hear_filed}
+use Rattle.tomex_tags.proofs.pools.Pools.hear_at.Goals as goal
+
+pub invariant_of-self : goal.invariant_of-self
+invariant_of-self c =
+    let at = rw (← c.self.view_is) at c.requires in
+    rw c.put.ensures (filled_by c.self.inside.pools c.self.inside.busy c.self.inside.busy c.self.inside.ages c.self.inside.ages c.args.place c.index-self-place.result (Some c.hears-heard.result) c.self.inside.standing c.expect.new.self c.self.invariant c.if-place-lt96.true c.self.invariant.filled.ages_count c.self.invariant.filled.small
+    (said_same c.self.inside.busy c.args.place (Some c.hears-heard.result) (c.self.invariant.filled.each c.args.place (omega (arith, c.if-place-lt96.true)) ∙ ap is_some at))
+    (hear_filed _ c.args.place (only c.args.from (Some c.args.value)) c.args.station c.hears-heard.result c.ready.result c.self.inside.standing c.expect.new.self (omega (arith, c.if-place-lt96.true)) c.self.invariant.standing at c.hears-heard.ensures c.ready.ensures c.expect.ensures.expecting c.expect.ensures.others))
+
+pub returns-then-place-lt96-clause-slots : goal.returns-then-place-lt96-clause-slots
+returns-then-place-lt96-clause-slots c = rw (c.put.ensures, ← c.self.view_is, ← c.hears-heard.ensures) (set_place c.self.inside.pools c.args.place c.index-self-place.result _ c.self.invariant.six c.if-place-lt96.true)
