@@ -35,7 +35,7 @@ fn each_row_is_run_once(rt: HostRuntime) -> Result<(), Fail> {
 
 /// 200 rows: five numbers of alu stations, five of branch stations, eight of buses.
 const ROWS_200: &str =
-    "[[program]]\nname = \"loop\"\nfile = \"loop.bin\"\n[prices]\nalu = 3\nbru = 2\nbus = 7\n\
+    "[[program]]\nname = \"loop\"\nfile = \"loop.bin\"\nsize = 4096\n[prices]\nalu = 3\nbru = 2\nbus = 7\n\
     [axes]\nalu = [1, 2, 3, 4, 5]\nbru = [1, 2, 3, 4, 5]\nbuses = [1, 2, 3, 4, 5, 6, 7, 8]\n";
 
 #[test]

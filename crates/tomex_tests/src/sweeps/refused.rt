@@ -12,6 +12,7 @@ use tomex_report::read_study;
 use tomex_sweep::{Gate, OpenGate, Stacks, SweepError, explore, explore_on};
 
 /// No thread gets the stack that this worker asks for.
+#[derive(Drop)]
 struct Absurd {
     worker: usize,
 }
