@@ -10,8 +10,6 @@ mod axis;
 mod price;
 mod product;
 mod row;
-#[cfg(test)]
-mod tests;
 
 pub use axis::Axes;
 pub use price::{Prices, cost};

@@ -14,6 +14,3 @@ pub use error::ImageError;
 pub use image::Image;
 pub use loading::load;
 pub use window::Window;
-
-#[cfg(test)]
-mod tests;

@@ -19,6 +19,3 @@ pub use instr::{Instr, Sources};
 pub use laws::{instruction_has_one_word, meaning_is_the_table, word_means_one_instruction};
 pub use op::{Form, Op};
 pub use pool::{PoolId, UnitId};
-
-#[cfg(test)]
-mod tests;

@@ -32,6 +32,3 @@ pub use running::run;
 pub use step::{ByteRange, Operand, Step};
 pub use tracing::trace;
 pub use words::{alu, muldiv, taken};
-
-#[cfg(test)]
-mod tests;

@@ -1,8 +1,10 @@
-//! The tests of the product from studies up, in one place: a crate with tests is proved twice. They say
+//! The tests of the product, in one place: a crate with tests is proved twice. They say
 //! what no contract does, compare with results that were made by other means, and refuse each growth of
 //! each call in turn.
 #![tactic(auto)]
 
+#[cfg(test)]
+mod arithmetic;
 #[cfg(test)]
 mod boards;
 #[cfg(test)]
@@ -18,9 +20,17 @@ mod elf_images;
 #[cfg(test)]
 mod explorations;
 #[cfg(test)]
+mod grids;
+#[cfg(test)]
+mod images;
+#[cfg(test)]
 mod in_memory;
 #[cfg(test)]
+mod instructions;
+#[cfg(test)]
 mod lines;
+#[cfg(test)]
+mod machines;
 #[cfg(test)]
 mod programs;
 #[cfg(test)]
@@ -29,3 +39,5 @@ mod refused_memory;
 mod tables;
 #[cfg(test)]
 mod times;
+#[cfg(test)]
+mod timings;

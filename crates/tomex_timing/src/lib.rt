@@ -23,6 +23,3 @@ pub use laws::{
 };
 pub use tables::{Busy, Field, Tag};
 pub use times::{Done, Times};
-
-#[cfg(test)]
-mod tests;

@@ -1,11 +1,11 @@
 //! Runs of small programs, traced and timed.
 
-use crate::Times;
-use crate::evaluate::{times, total};
+use super::machines::image_of;
 use std::test::Fail;
 use tomex_config::{Config, UnitOption};
-use tomex_image::{Window, load};
 use tomex_rvexec::{Step, trace};
+use tomex_timing::Times;
+use tomex_timing::evaluate::{times, total};
 
 /// One unit of this latency.
 fn unit(latency: u8) -> UnitOption {
@@ -18,12 +18,7 @@ fn unit(latency: u8) -> UnitOption {
 
 /// The trace of a program at address 0.
 fn trace_of(rt: &HostRuntime, words: &[u32]) -> Result<Vec<Step>, Fail> {
-    let mut bytes = Vec::new(rt.alloc());
-    for word in words {
-        bytes.extend_from_slice(&word.to_le_bytes())?;
-    }
-    let window = Window::new(0, 65536).ok_or("no window")?;
-    let image = load(rt.alloc(), bytes.as_slice(), window)?;
+    let image = image_of(rt.alloc(), 0, words)?;
     Ok(trace(rt.alloc(), &image, 1000).map_err(|_| "no trace")?)
 }
 

@@ -1,9 +1,9 @@
-//! What no contract says: that the calls succeed where there is memory, and the errors' texts. Each
-//! worked grid is made once.
+//! Grids of rows and their costs: that the calls succeed where there is memory, and the errors' texts.
+//! Each worked grid is made once.
 
-use crate::{Axes, Config, GridError, Prices, UnitOption, cost, grid};
 use std::alloc::{AllocError, Global};
 use std::test::Fail;
+use tomex_config::{Axes, Config, GridError, Prices, UnitOption, cost, grid};
 
 const PLAIN: UnitOption = UnitOption {
     units: 1,
@@ -48,12 +48,16 @@ fn most_rows_and_one_bus_more(rt: HostRuntime) -> Result<(), Fail> {
     axes.buses = vec![in rt.alloc(); 1, 2, 3, 4]?;
     let rows = grid(rt.alloc(), &axes)?;
     assert_eq!(rt; rows.len(), 16_384);
-    assert_eq!(rt; rows.get(0).copied(), row(1, 1, 1, 1));
-    assert_eq!(rt; rows.get(3).copied(), row(1, 1, 1, 4));
-    assert_eq!(rt; rows.get(4).copied(), row(1, 1, 2, 1));
-    assert_eq!(rt; rows.get(64).copied(), row(1, 2, 1, 1));
-    assert_eq!(rt; rows.get(1_024).copied(), row(2, 1, 1, 1));
-    assert_eq!(rt; rows.get(16_383).copied(), row(16, 16, 16, 4));
+    for (place, wanted) in [
+        (0, row(1, 1, 1, 1)),
+        (3, row(1, 1, 1, 4)),
+        (4, row(1, 1, 2, 1)),
+        (64, row(1, 2, 1, 1)),
+        (1_024, row(2, 1, 1, 1)),
+        (16_383, row(16, 16, 16, 4)),
+    ] {
+        assert_eq!(rt; rows.get(place).copied(), wanted, "at {place}");
+    }
     axes.buses.push(5)?;
     assert_eq!(rt; grid(rt.alloc(), &axes).err(), Some(GridError::TooMany));
     Ok(())
@@ -65,8 +69,9 @@ fn a_value_twice_gives_two_rows(rt: HostRuntime) -> Result<(), Fail> {
     axes.mul = vec![in rt.alloc(); 2, 2]?;
     let rows = grid(rt.alloc(), &axes)?;
     assert_eq!(rt; rows.len(), 2);
-    assert_eq!(rt; rows.get(0).copied(), row(1, 2, 1, 1));
-    assert_eq!(rt; rows.get(1).copied(), row(1, 2, 1, 1));
+    for made in &rows {
+        assert_eq!(rt; Some(*made), row(1, 2, 1, 1));
+    }
     Ok(())
 }
 
