@@ -1,0 +1,34 @@
+-- The top is read first, then place by place, up to the first fault.
+use Rattle.std.proofs.Common.{sym}
+use Rattle.std.proofs.lemmas.Result.{err_from_is_err_and}
+use Rattle.tomex_document.specs.Document.{outline_of}
+use Rattle.tomex_document.proofs.Outcomes.{goes_on, stops}
+use Rattle.tomex_document.proofs.document.outline_of.Goals as goal
+
+pub returns-in_err-unit : goal.returns-in_err-unit
+unfolding outline_of
+returns-in_err-unit g c =
+    let p = err_from_is_err_and c.from_residual-in_err-unit.result c.from_residual-in_err-unit.ensures.1 in
+    let known = sym (rw c.as_slice.ensures at c.in_ok-known_keys.ensures) in
+    rw (p.1, p.2) (λ other. goes_on _ _ _ _ known (goes_on _ _ _ _ c.in_ok-tables.ensures.read (goes_on _ _ _ _ c.in_ok-prices.ensures (goes_on _ _ _ _ c.in_ok-axes.ensures (stops _ _ _ c.in_err-unit.ensures)))))
+
+pub returns-in_err-programs : goal.returns-in_err-programs
+unfolding outline_of
+returns-in_err-programs g c =
+    let p = err_from_is_err_and c.from_residual-in_err-programs.result c.from_residual-in_err-programs.ensures.1 in
+    let known = sym (rw c.as_slice.ensures at c.in_ok-known_keys.ensures) in
+    rw (p.1, p.2) (λ other. goes_on _ _ _ _ known (goes_on _ _ _ _ c.in_ok-tables.ensures.read (goes_on _ _ _ _ c.in_ok-prices.ensures (goes_on _ _ _ _ c.in_ok-axes.ensures (goes_on _ _ _ _ c.in_ok-unit.ensures (stops _ _ _ (c.in_err-programs.ensures other)))))))
+
+pub returns-in_err-prices-2 : goal.returns-in_err-prices-2
+unfolding outline_of
+returns-in_err-prices-2 g c =
+    let p = err_from_is_err_and c.from_residual-in_err-prices-2.result c.from_residual-in_err-prices-2.ensures.1 in
+    let known = sym (rw c.as_slice.ensures at c.in_ok-known_keys.ensures) in
+    rw (p.1, p.2) (λ other. goes_on _ _ _ _ known (goes_on _ _ _ _ c.in_ok-tables.ensures.read (goes_on _ _ _ _ c.in_ok-prices.ensures (goes_on _ _ _ _ c.in_ok-axes.ensures (goes_on _ _ _ _ c.in_ok-unit.ensures (goes_on _ _ _ _ c.in_ok-programs.ensures (stops _ _ _ c.in_err-prices-2.ensures)))))))
+
+pub returns-in_err-axes-2 : goal.returns-in_err-axes-2
+unfolding outline_of
+returns-in_err-axes-2 g c =
+    let p = err_from_is_err_and c.from_residual-in_err-axes-2.result c.from_residual-in_err-axes-2.ensures.1 in
+    let known = sym (rw c.as_slice.ensures at c.in_ok-known_keys.ensures) in
+    rw (p.1, p.2) (λ other. goes_on _ _ _ _ known (goes_on _ _ _ _ c.in_ok-tables.ensures.read (goes_on _ _ _ _ c.in_ok-prices.ensures (goes_on _ _ _ _ c.in_ok-axes.ensures (goes_on _ _ _ _ c.in_ok-unit.ensures (goes_on _ _ _ _ c.in_ok-programs.ensures (goes_on _ _ _ _ c.in_ok-prices-2.ensures (stops _ _ _ (c.in_err-axes-2.ensures other)))))))))

@@ -1,0 +1,34 @@
+-- What is told of a place: the fault of the first of its keys that has one.
+use Rattle.std.proofs.Common.{sym}
+use Rattle.std.proofs.lemmas.Result.{err_from_is_err_and}
+use Rattle.tomex_document.specs.Program.{program_of}
+use Rattle.tomex_document.proofs.Outcomes.{goes_on, stops}
+use Rattle.tomex_document.proofs.document.programs.program_of.Goals as goal
+
+pub returns-in_err-file : goal.returns-in_err-file
+unfolding program_of
+returns-in_err-file g c =
+    let p = err_from_is_err_and c.from_residual-in_err-file.result c.from_residual-in_err-file.ensures.1 in
+    let known = sym (rw c.as_slice.ensures at c.in_ok-known_keys.ensures) in
+    rw (p.1, p.2) (λ other. goes_on _ _ _ _ known (goes_on _ _ _ _ c.in_ok-name.ensures.read (stops _ _ _ (c.in_err-file.ensures.read other))))
+
+pub returns-in_err-window : goal.returns-in_err-window
+unfolding program_of
+returns-in_err-window g c =
+    let p = err_from_is_err_and c.from_residual-in_err-window.result c.from_residual-in_err-window.ensures.1 in
+    let known = sym (rw c.as_slice.ensures at c.in_ok-known_keys.ensures) in
+    rw (p.1, p.2) (λ other. goes_on _ _ _ _ known (goes_on _ _ _ _ c.in_ok-name.ensures.read (goes_on _ _ _ _ c.in_ok-file.ensures.read (stops _ _ _ c.in_err-window.ensures))))
+
+pub returns-in_err-limit : goal.returns-in_err-limit
+unfolding program_of
+returns-in_err-limit g c =
+    let p = err_from_is_err_and c.from_residual-in_err-limit.result c.from_residual-in_err-limit.ensures.1 in
+    let known = sym (rw c.as_slice.ensures at c.in_ok-known_keys.ensures) in
+    rw (p.1, p.2) (λ other. goes_on _ _ _ _ known (goes_on _ _ _ _ c.in_ok-name.ensures.read (goes_on _ _ _ _ c.in_ok-file.ensures.read (goes_on _ _ _ _ c.in_ok-window.ensures (stops _ _ _ (sym (rw c.between.ensures at c.in_err-limit.ensures.read)))))))
+
+pub returns-in_err-watch : goal.returns-in_err-watch
+unfolding program_of
+returns-in_err-watch g c =
+    let p = err_from_is_err_and c.from_residual-in_err-watch.result c.from_residual-in_err-watch.ensures.1 in
+    let known = sym (rw c.as_slice.ensures at c.in_ok-known_keys.ensures) in
+    rw (p.1, p.2) (λ other. goes_on _ _ _ _ known (goes_on _ _ _ _ c.in_ok-name.ensures.read (goes_on _ _ _ _ c.in_ok-file.ensures.read (goes_on _ _ _ _ c.in_ok-window.ensures (goes_on _ _ _ _ (sym (rw c.between.ensures at c.in_ok-limit.ensures.read)) (stops _ _ _ (c.in_err-watch.ensures.read other)))))))
