@@ -5,3 +5,4 @@ pub mod Watched
 pub mod Records
 pub mod Machines
 pub mod Rows
+pub mod Loops
