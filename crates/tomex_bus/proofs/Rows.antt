@@ -1,5 +1,5 @@
 -- The pairs of a small wheel, computed by the definition itself.
-use Rattle.std.proofs.Common.{ℕ, ◌≡◌, Bool, true, false, refl, replicate, slice_set}
+use Rattle.std.proofs.Common.{◌≡◌, true, false, refl, replicate, slice_set}
 use Rattle.tomex_bus.specs.Wheel.{Ring, is_due}
 
 -- number 7 is due 3 cycles ahead: 62 and 3 make place 1 of the ring

@@ -2,14 +2,11 @@
 use Rattle.std.proofs.Common.{ℕ, ◌<◌, ◌≤◌, ◌≡◌, ◌∙◌, Bool, true, false, arith, refl, sym, inl, inr, ◌⊎◌, List, Option, Some, None, slice_index_or}
 use Rattle.std.specs.Prelude.{is_some}
 use Rattle.std.proofs.lemmas.Bool.{and_parts, cases_Bool}
-use Rattle.tomex_rvdec.specs.Operands.{dest_of}
 use Rattle.tomex_rvexec.specs.Steps.{is_number}
 use Rattle.tomex_bus.specs.Sets.{has, IsWith, IsWithout}
-use Rattle.tomex_bus.proofs.Members.{AreFound, all_found, none_found, one_found}
+use Rattle.tomex_bus.proofs.Members.{AreFound, none_found, one_found}
 use Rattle.tomex_tags.specs.declared.station.Station.{Station}
-use Rattle.tomex_tags.specs.Pools.{AreBusy}
 use Rattle.tomex_tags.specs.Standing.{IsSetOf, has_started}
-use Rattle.tomex_tags.proofs.Filing.{found_in}
 use Rattle.tomex_cycle.specs.Ends.{can_send, ends_alone, finishes, is_done_before, is_done_by}
 use Rattle.tomex_cycle.specs.Finishes.{HasNoneBefore}
 

@@ -1,10 +1,10 @@
 -- The sets of the operations that are ready, by kind of unit, one busy place after the other.
 use Rattle.std.proofs.Common.{ℕ, ◌<◌, ◌≡◌, ◌∙◌, Bool, true, false, arith, refl, List, [], ◌∷◌, ◌++◌, Option, Some, None, ap, sym, inl, inr, length, slice_index, slice_index_or, slice_set}
 use Rattle.std.specs.Prelude.{◌==◌, ◌&&◌, ◌||◌, if◌then◌else◌}
-use Rattle.std.proofs.lemmas.Bool.{cases_Bool, both_ways, eq-eqb, eqb-true, eqb-false}
+use Rattle.std.proofs.lemmas.Bool.{cases_Bool, both_ways, eqb-true, eqb-false}
 use Rattle.std.proofs.lemmas.List.{get_or-set_same, get_or-set_other, length-set, get_or-replicate}
 use Rattle.tomex_rvexec.specs.Steps.{is_number}
-use Rattle.tomex_bus.specs.Sets.{has, is_in, IsWith, IsWithout}
+use Rattle.tomex_bus.specs.Sets.{has, IsWith, IsWithout}
 use Rattle.tomex_bus.specs.Picks.{IsByAge, IsPicked}
 use Rattle.tomex_config.specs.Row.{Row, option_of}
 use Rattle.tomex_rvdec.specs.Parts.{place_of_unit}

@@ -1,4 +1,4 @@
-use Rattle.std.proofs.Common.{◌∙◌, ap, None, refl, slice_index_or, sym}
+use Rattle.std.proofs.Common.{◌∙◌, ap, None, refl, slice_index_or}
 use Rattle.tomex_bus.proofs.Members.{all_found, first_found}
 use Rattle.tomex_tags.specs.Standing.{has_started}
 use Rattle.tomex_tags.proofs.Filing.{found_in}

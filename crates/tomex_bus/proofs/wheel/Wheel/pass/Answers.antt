@@ -1,6 +1,3 @@
-use Rattle.std.proofs.Common.{ap, sym, ◌%◌, ◌+◌}
-use Rattle.std.proofs.lemmas.Grind.{common_steps}
-use Rattle.tomex_bus.specs.Wheel.{Ring, HasPassed, IsClearTo}
 use Rattle.tomex_bus.proofs.Turning.{passed_on}
 use Rattle.tomex_bus.proofs.wheel.Wheel.pass.Goals as goal
 

@@ -1,7 +1,6 @@
-use Rattle.std.proofs.Common.{◌∙◌, Some, ap, arith, refl}
+use Rattle.std.proofs.Common.{◌∙◌, Some, ap, arith}
 use Rattle.std.specs.Prelude.{is_some}
 use Rattle.tomex_tags.specs.Contents.{started}
-use Rattle.tomex_tags.specs.Operands.{only}
 use Rattle.tomex_tags.proofs.Slots.{filled_by, set_place, said_same}
 use Rattle.tomex_tags.proofs.Filing.{start_filed}
 use Rattle.tomex_tags.proofs.pools.Pools.start.Goals as goal
