@@ -1,10 +1,12 @@
 -- Bits of a number as members of a set.
-use Rattle.std.proofs.Common.{ℕ, zero, suc, ◌-◌, ◌/◌, ◌%◌, true, false, ◌≡◌, ◌≤◌, ◌<◌, arith, inl, inr, ap, refl, sym, ◌∙◌}
+use Rattle.std.proofs.Common.{ℕ, zero, suc, ◌-◌, ◌+◌, ◌/◌, ◌%◌, ◌^◌, Bool, true, false, ◌≡◌, ◌≤◌, ◌<◌, arith, inl, inr, ap, refl, sym, ◌∙◌}
 use Rattle.std.specs.Prelude.{◌==◌, ◌&&◌, ◌||◌, ◌≢◌, not, max, min}
 use Rattle.std.specs.Int.{bit_at}
 use Rattle.std.specs.Int.Bits.{bit_and}
 use Rattle.std.proofs.lemmas.Nat.Bits.{bit_at_and, bit_at_lowest, bit_at-suc, bit_at-zero}
-use Rattle.std.proofs.lemmas.Bool.{cases_order, both_ways, eq-eqb, eqb-true, eqb-false}
+use Rattle.std.proofs.lemmas.Nat.{pow-add}
+use Rattle.std.proofs.Math.Nat.{div-div-eq-div-mul}
+use Rattle.std.proofs.lemmas.Bool.{and_parts, cases_order, both_ways, eq-eqb, eqb-true, eqb-false}
 use Rattle.tomex_bus.specs.Sets.{has, IsWithout}
 
 pub has_one : (set x : ℕ) → bit_at set x ≡ 1 → has set x ≡ true
@@ -42,6 +44,10 @@ both_of (suc a) (suc b) k l = let e : a ≡ 0 = omega arith in let f : b ≡ 0 =
 
 pub none_in : (x : ℕ) → has 0 x ≡ false
 none_in x = has_none 0 x (bit_at-zero x)
+
+-- a set with a member isn't empty
+pub member_some : (set x : ℕ) → has set x ≡ true → set ≢ 0
+member_some set x e z = both_ways (has set x) (rw z (none_in x)) e
 
 bit_of : (set x : ℕ) → has set x ≡ true → bit_at set x ≡ 1
 bit_of set x e = eqb-true (bit_at set x) 1 e
@@ -99,3 +105,31 @@ lowest_out set x member least =
         | inr (inr more) ↦ min_same (bit_at set y) (bit_at (set - 1) y) (kept_less_one set x y one none more)
       ]);
     }
+
+-- the members of a shifted set
+pub shifted : (n k i : ℕ) → has (n / 2 ^ k) i ≡ has n (k + i)
+shifted n k i = ap (λ m. m % 2 == 1) (div-div-eq-div-mul n (2 ^ k) (2 ^ i) ∙ ap (λ m. n / m) (sym (pow-add 2 k i)))
+
+abbrev same : Bool → Bool → Bool
+same true b = b
+same false b = not b
+
+-- two tests agree below a number
+abbrev pub agree : (ℕ → Bool) → (ℕ → Bool) → ℕ → Bool
+agree f g zero = true
+agree f g (suc n) = same (f n) (g n) && agree f g n
+
+pub agreed : (f g : ℕ → Bool) (n : ℕ) → agree f g n ≡ true → (x : ℕ) → x < n → f x ≡ g x
+agreed f g zero e x l = absurd (omega arith)
+agreed f g (suc n) e x l =
+    let two = and_parts (same (f n) (g n)) (agree f g n) e in
+    elim (cases_order x n) [
+      | inl k ↦ rw k (is_same (f n) (g n) two.0)
+      | inr (inl less) ↦ agreed f g n two.1 x less
+      | inr (inr more) ↦ absurd (omega arith)
+    ]
+  where
+    is_same : (a b : Bool) → same a b ≡ true → a ≡ b
+    is_same true b k = sym k
+    is_same false true k = k
+    is_same false false k = refl

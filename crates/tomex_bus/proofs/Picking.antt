@@ -1,6 +1,6 @@
 -- A listing by age begins with the oldest.
 use Rattle.std.proofs.Common.{ℕ, zero, suc, ◌+◌, Bool, true, false, ◌≡◌, ◌≤◌, ◌<◌, ◌∙◌, arith, inl, inr, ap, refl, sym, List, [], ◌∷◌, take, drop, slice_index}
-use Rattle.std.specs.Prelude.{◌==◌, ◌||◌}
+use Rattle.std.specs.Prelude.{◌==◌, ◌≢◌, ◌||◌}
 use Rattle.std.proofs.lemmas.Bool.{cases_Bool, both_ways, eq-eqb, eqb-true, eqb-false, or_right}
 use Rattle.tomex_bus.proofs.Bits.{none_in}
 use Rattle.std.proofs.Math.Numerals.{suc-eq-add-one}
@@ -143,3 +143,8 @@ single_picked set n ages some single = record {
         let older : slice_index ages x < slice_index ages y = by.rises.0 y (head_in y ys) in
         let k : slice_index ages y < slice_index ages y = rw same at older in
         absurd (omega arith)
+
+-- of a set that isn't empty some are taken by the time that none is left
+pub taken_some : (ready turn rest picked : ℕ) → (turn ≡ 0 → rest ≡ ready) → (0 < turn → picked ≢ 0) → rest ≡ 0 → ready ≢ 0 → picked ≢ 0
+taken_some ready zero rest picked first some none apart = absurd (apart (sym (first refl) ∙ none))
+taken_some ready (suc turn) rest picked first some none apart = some (omega arith)

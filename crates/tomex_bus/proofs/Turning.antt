@@ -3,12 +3,10 @@ use Rattle.std.proofs.Common.{ℕ, ◌+◌, ◌-◌, ◌/◌, ◌%◌, ◌^◌, 
 use Rattle.std.specs.Prelude.{◌==◌, nat_lt, Some}
 use Rattle.std.proofs.lemmas.Bool.{cases_Bool, both_ways, lt-ltb, le-ltb, ltb-true, ltb-false, eqb-true, eqb-false}
 use Rattle.std.proofs.lemmas.List.{get_or-set_same, get_or-set_other, get_or-replicate, length-set}
-use Rattle.std.proofs.lemmas.Nat.{pow-add}
 use Rattle.std.proofs.lemmas.Nat.Bits.{bit_at_above}
-use Rattle.std.proofs.Math.Nat.{div-div-eq-div-mul}
 use Rattle.tomex_bus.specs.Sets.{has, IsWith}
 use Rattle.tomex_bus.specs.Wheel.{Ring, is_due, IsRing, IsEmpty, IsClearTo, IsNext, HasPassed}
-use Rattle.tomex_bus.proofs.Bits.{none_in, has_none}
+use Rattle.tomex_bus.proofs.Bits.{none_in, has_none, shifted}
 
 pub fresh_ring : (sets : List ℕ) → sets ≡ replicate 64 0 → IsRing sets 0 0
 fresh_ring sets e = record {
@@ -76,9 +74,6 @@ put_ring sets filled head place set more number ring small with marked =
         | inr e ↦ ap (λ s. has s x) (get_or-set_other sets place i set 0 (eqb-false _ _ e)) ∙ ring.none i l (sym (marked.others i (eqb-false _ _ e)) ∙ h) x
       ];
     }
-
-shifted : (n k i : ℕ) → has (n / 2 ^ k) i ≡ has n (k + i)
-shifted n k i = ap (λ m. m % 2 == 1) (div-div-eq-div-mul n (2 ^ k) (2 ^ i) ∙ ap (λ m. n / m) (sym (pow-add 2 k i)))
 
 -- nothing stands between the head and the next place with members
 before_next : (w : Ring) (filled n : ℕ) → IsRing w.sets filled w.head → ((a : ℕ) → a < n → a < 64 → has filled ((w.head + a) % 64) ≡ false) → IsClearTo w n

@@ -1,6 +1,6 @@
 //! The oldest of those that are ready.
 
-ghost use Rattle.std.specs.Prelude.{ℕ, ◌≡◌, ◌<◌, ◌≤◌, true, slice_index};
+ghost use Rattle.std.specs.Prelude.{ℕ, ◌≡◌, ◌≢◌, ◌<◌, ◌≤◌, true, slice_index};
 ghost use Rattle.tomex_bus.specs.Sets.{has};
 ghost use Rattle.tomex_bus.specs.Picks.{IsPicked};
 
@@ -32,7 +32,8 @@ pub fn oldest(set: u128, ages: &[u32; 128]) -> usize
 /// one age. It serves units, memory ports and common data buses.
 #[inline(always)]
 pub fn pick(ready: u128, ages: &[u32; 128], n: u8) -> u128
-    ensures { IsPicked ready ages.now n result }
+    ensures picked { IsPicked ready ages.now n result }
+    ensures some { 0 < n → ready ≢ 0 → result ≢ 0 }
 {
     if n > 0 && is_single(ready) {
         return ready;

@@ -86,8 +86,10 @@ impl Wheel {
     {
         let place = self.head as usize;
         let due = self.sets[place];
-        self.sets[place] = 0;
-        self.filled = without(self.filled, place);
+        if due != 0 {
+            self.sets[place] = 0;
+            self.filled = without(self.filled, place);
+        }
         due
     }
 }

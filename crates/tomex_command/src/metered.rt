@@ -1,5 +1,7 @@
 //! A gate that tells a meter how far an exploration is.
 
+ghost use Rattle.std.specs.Prelude.{◌≡◌};
+
 use std::sync::atomic::{AtomicU64, Ordering};
 use tomex_streams::Meter;
 use tomex_sweep::Gate;
@@ -15,7 +17,10 @@ pub struct Metered<'a, M: Meter> {
 
 impl<'a, M: Meter> Metered<'a, M> {
     /// Nothing has begun.
-    pub fn new(meter: &'a M, workers: u64) -> Metered<'a, M> {
+    pub fn new(meter: &'a M, workers: u64) -> Metered<'a, M>
+        ensures meter { result.meter.now ≡ meter.now }
+        ensures workers { result.workers ≡ workers }
+    {
         Metered {
             meter,
             workers,

@@ -1,5 +1,5 @@
 -- Where nothing ends, nothing changes.
-use Rattle.std.proofs.Common.{ℕ, ◌≡◌, ◌∙◌, false, refl, List, Option, Some, None, ap, sym, slice_index, slice_index_or, option_map}
+use Rattle.std.proofs.Common.{ℕ, ◌+◌, ◌≡◌, ◌∙◌, false, refl, List, Option, Some, None, ap, sym, length, slice_index, slice_index_or, option_map}
 use Rattle.std.specs.Prelude.{nat_lt, ◌&&◌, if◌then◌else◌}
 use Rattle.std.proofs.lemmas.Bool.{and_right}
 use Rattle.tomex_config.specs.Row.{Row}
@@ -10,7 +10,9 @@ use Rattle.tomex_bus.specs.Sets.{has}
 use Rattle.tomex_bus.proofs.Bits.{none_in}
 use Rattle.tomex_cycle.specs.declared.fetch.Fetch.{Fetch}
 use Rattle.tomex_cycle.specs.Ends.{AreEnding, EndsIn, Follows, Hears, after_ends, sends_of, sent_below}
+use Rattle.tomex_cycle.specs.Finishes.{AreKnown, LeavesKnown}
 use Rattle.tomex_cycle.specs.Phases.{MakesEnds}
+use Rattle.tomex_cycle.specs.declared.finishes.Finishes.{Finishes}
 use Rattle.tomex_cycle.proofs.EndsFetch.{made_ends}
 use Rattle.tomex_tags.specs.Contents.{hears}
 use Rattle.tomex_tags.specs.Operands.{heard, taken}
@@ -47,3 +49,6 @@ none_received slots registers count status = record { count = count; status = st
 pub ends_none : (row : Row) (next ending : ℕ) (old : Pools) (registers : RegStatus) (fetch result : Fetch) → AreEnding old row.buses next ending → AreBusy old.slots old.busy old.ages → Follows next old.slots fetch result → ending ≡ 0 → MakesEnds row next old registers fetch old registers result
 ends_none row next ending old registers fetch result ends filled follows e =
     made_ends row next old old registers registers fetch result 0 (rw e at ends) filled follows (λ low. none_ended old) (λ count low named. none_received old.slots registers)
+
+pub none_over : (slots : List (Option Station)) (next ending : ℕ) (f : Finishes) → length slots ≡ 96 → LeavesKnown slots next ending f → ending ≡ 0 → AreKnown slots (next + 1) f
+none_over slots next ending f count leaves e = leaves slots (λ y. None) count (λ x l. rw (e, none_in x) (hears_none (λ y. None) (slice_index_or slots x None) (λ y. refl)))

@@ -3,6 +3,7 @@ use Rattle.std.proofs.Common.{ℕ, ◌+◌, ◌^◌, ◌<◌, ◌≤◌, ◌≡�
 use Rattle.std.specs.Prelude.{◌≢◌, nat_lt, nat_le, ◌&&◌, ◌==◌, if◌then◌else◌, is_some, not, Result, Ok}
 use Rattle.std.specs.Int.{w128, trailing_zeros}
 use Rattle.std.proofs.lemmas.Nat.Bits.{bit_at-trailing_zeros, bit_at_above}
+use Rattle.std.proofs.lemmas.List.{get_or_past}
 use Rattle.std.proofs.lemmas.Bool.{cases_Bool, both_ways, and_parts, eq-eqb, eqb-true, ne_eqb, ltb-true, ltb-false}
 use Rattle.tomex_image.specs.Image.{Loaded, IsLoaded}
 use Rattle.tomex_config.specs.Row.{Row, IsRow}
@@ -19,7 +20,7 @@ use Rattle.tomex_timing.specs.Recurrence.{AreTimed}
 use Rattle.tomex_timing.specs.Tables.{field_of}
 use Rattle.tomex_bus.specs.Sets.{has}
 use Rattle.tomex_bus.proofs.Bits.{has_one, has_none}
-use Rattle.tomex_cycle.specs.Ends.{AreEnding, finishes}
+use Rattle.tomex_cycle.specs.Ends.{AreDone, AreEnding, finishes}
 use Rattle.tomex_cycle.specs.Events.{events_in, events_of}
 use Rattle.tomex_cycle.specs.Phases.{AddressHappens, EndsHappen, IsSnapshot, IsYetToIssue, MakesStarts, StartsHappen}
 use Rattle.tomex_cycle.proofs.Cycles.{IsUnderWay, ok_same}
@@ -104,7 +105,7 @@ starts_happen t u x (d ∷ h) e = elim (cases_Bool (holds_place t x d)) [
 ]
 
 -- a set that isn't empty has a member
-member_of : (set : ℕ) → set < 2 ^ 128 → set ≢ 0 → (x : ℕ) × (x < 128) × (has set x ≡ true)
+pub member_of : (set : ℕ) → set < 2 ^ 128 → set ≢ 0 → (x : ℕ) × (x < 128) × (has set x ≡ true)
 member_of set fits some =
     let one = bit_at-trailing_zeros w128 set (omega arith) fits in
     let here : has set (trailing_zeros w128 set) ≡ true = has_one set (trailing_zeros w128 set) one.1 in
@@ -153,6 +154,19 @@ finish_happens i c v x (d ∷ h) e = elim (cases_Bool (holds_place c.end x d)) [
       omega arith
   | inr k ↦ let more : 0 < events_in v h = finish_happens i c v x h (rw k at e) in omega arith
 ]
+
+pub not_zero : (n : ℕ) → not (n == 0) ≡ true → n ≢ 0
+not_zero n e z = let f : false ≡ true = rw (eq-eqb n 0 z) at e in absurd (cc)
+
+pub due_happens : (i : Loaded) (t u : ℕ) (st : Pools) (h : List Done) (due : ℕ) → ShowsStations i (clocks u u t) h st → AreDone st.slots u due → due < 2 ^ 128 → due ≢ 0 → 0 < events_in u h
+due_happens i t u st h due shown done fits some =
+    let x = member_of due fits some in
+    let finishes_now : finishes u (slice_index_or st.slots x.0 None) ≡ true = sym (done x.0 x.1) ∙ x.2 in
+    let low : x.0 < 96 = elim (cases_Bool (nat_lt x.0 96)) [
+      | inl l ↦ ltb-true _ _ l
+      | inr l ↦ let count : length st.slots ≡ 96 = shown.places in let high : 96 ≤ x.0 = ltb-false _ _ l in absurd (both_ways _ (ap (finishes u) (get_or_past st.slots x.0 None (omega arith))) finishes_now)
+    ] in
+    finish_happens i (clocks u u t) u x.0 h (ap (finishes u) (sym (shown.slots x.0 low)) ∙ finishes_now)
 
 -- Issues.
 

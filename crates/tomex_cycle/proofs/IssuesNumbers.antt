@@ -21,20 +21,13 @@ use Rattle.tomex_cycle.specs.Run.{AreIssuedBy}
 use Rattle.tomex_cycle.specs.Views.{clocks, holds_place, station_at}
 use Rattle.tomex_cycle.proofs.Places.{AreLow, same_place}
 use Rattle.tomex_tags.specs.Places.{pool_at}
+use Rattle.tomex_tags.proofs.Serving.{pool_place}
 
 abbrev one : Bool → ℕ
 one b = cond b 1 0
 
-pool_back : (p : PoolId) → pool_at (place_of_pool p) ≡ p
-pool_back pools.Alu = refl
-pool_back pools.Mul = refl
-pool_back pools.Div = refl
-pool_back pools.Load = refl
-pool_back pools.Store = refl
-pool_back pools.Bru = refl
-
 same_pool : (p q : PoolId) → (place_of_pool q == place_of_pool p) ≡ true → q ≡ p
-same_pool p q e = sym (pool_back q) ∙ (ap pool_at (eqb-true (place_of_pool q) (place_of_pool p) e) ∙ pool_back p)
+same_pool p q e = sym (pool_place q) ∙ (ap pool_at (eqb-true (place_of_pool q) (place_of_pool p) e) ∙ pool_place p)
 
 -- what isn't held isn't held later
 held_later : (p : PoolId) (t u : ℕ) (d : Done) → t ≤ u → is_held p t d ≡ false → is_held p u d ≡ false

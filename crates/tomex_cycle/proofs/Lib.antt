@@ -35,4 +35,6 @@ pub mod Skips
 pub mod Happens
 pub mod Counts
 pub mod Moves
-pub mod Finished
+pub mod Known
+pub mod KnownEnds
+pub mod KnownIdle

@@ -1,6 +1,6 @@
 -- What is made and what is passed, as counts of cycles see it.
-use Rattle.std.proofs.Common.{ℕ, ◌+◌, ◌<◌, ◌≤◌, ◌≡◌, ◌∙◌, Bool, true, false, arith, refl, List, Option, Some, None, ap, sym, inl, inr, ◌⊎◌, slice_index_or}
-use Rattle.std.specs.Prelude.{nat_lt, if◌then◌else◌, IfSome}
+use Rattle.std.proofs.Common.{ℕ, ◌+◌, ◌<◌, ◌≤◌, ◌≡◌, ◌∙◌, Bool, true, false, arith, refl, List, None, ap, sym, inl, inr, slice_index_or}
+use Rattle.std.specs.Prelude.{nat_lt, if◌then◌else◌}
 use Rattle.std.proofs.lemmas.Bool.{cases_Bool, ltb-true, ltb-false}
 use Rattle.tomex_image.specs.Image.{Loaded, IsLoaded}
 use Rattle.tomex_config.specs.Row.{Row, IsRow}
@@ -15,7 +15,7 @@ use Rattle.tomex_cycle.specs.declared.progress.Progress.{Progress}
 use Rattle.tomex_cycle.specs.declared.progress.Progress.TheVariants.{Running, Ended}
 use Rattle.tomex_cycle.specs.Ends.{finishes}
 use Rattle.tomex_cycle.specs.Events.{Passes, events_in}
-use Rattle.tomex_cycle.specs.Finishes.{FinishesSoon, IsFinish, IsFree, StopsAt}
+use Rattle.tomex_cycle.specs.Finishes.{FinishesSoon, IsFree}
 use Rattle.tomex_cycle.specs.Phases.{IsSnapshot}
 use Rattle.tomex_cycle.specs.Run.{run_of, run_to}
 use Rattle.tomex_cycle.specs.Sound.{IsAfter, IsSound}
@@ -27,26 +27,6 @@ use Rattle.tomex_cycle.proofs.Skips.{still_past}
 use Rattle.tomex_cycle.proofs.Ticks.{running_low}
 use Rattle.tomex_tags.specs.Pools.{Pools}
 use Rattle.tomex_tags.specs.declared.register_status.RegStatus.{RegStatus}
-use Rattle.tomex_tags.specs.declared.station.Station.{Station}
-
--- a station more in the search for the next finish
-pub found_next : (slots : List (Option Station)) (from x : ℕ) (best now : Option ℕ) (o : Option Station) → x < 96 → o ≡ slice_index_or slots x None → IsFinish slots from best → IfSome now (λ f. (best ≡ Some f) ⊎ ((from ≤ f) × (finishes f o ≡ true))) → IsFinish slots from now
-found_next slots from x best None o small same before some = tt
-found_next slots from x best (Some f) o small same before some = elim some [
-  | inl e ↦ rw e at before
-  | inr k ↦ (k.0, x, small, ap (finishes f) (sym same) ∙ k.1)
-]
-
--- it says where the machine goes on
-pub soon : (slots : List (Option Station)) (o : Option ℕ) (cycle w : ℕ) → IsFinish slots cycle o → StopsAt o cycle w → FinishesSoon slots cycle w
-soon slots None cycle w found stops = absurd stops
-soon slots (Some f) cycle w found stops = elim stops [
-  | inl l ↦
-      let k : cycle ≤ f = found.0 in
-      let e : f ≡ cycle = omega arith in
-      (found.1, found.2, inl (ap (λ (v : ℕ). finishes v (slice_index_or slots found.1 None)) (sym e) ∙ found.3))
-  | inr e ↦ (found.1, found.2, inr (ap (λ (v : ℕ). finishes v (slice_index_or slots found.1 None)) (sym e) ∙ found.3))
-]
 
 shown_finish : (i : Loaded) (row : Row) (n u v more x : ℕ) (s : State) (kind : EndKind) (st : Pools) (rg : RegStatus) (ft : Fetch) (m : Bytes) → RunEnds i n s kind → IsSnapshot i row n u more st rg ft m → x < 96 → finishes v (slice_index_or st.slots x None) ≡ true → 0 < events_in v (run_to row i (n + 1))
 shown_finish i row n u v more x s kind st rg ft m ends shot small e =

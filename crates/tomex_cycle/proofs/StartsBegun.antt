@@ -68,6 +68,10 @@ pub some_not : {A : Type 0} (o : Option A) → true ≡ is_some o → o ≡ None
 some_not None e f = cc
 some_not (Some x) e f = cc
 
+pub none_by : {A : Type 0} (o : Option A) → is_some o ≡ false → o ≡ None
+none_by None e = refl
+none_by (Some x) e = let z : true ≡ false = e in absurd (cc)
+
 -- The loop over the picked places, the least first.
 
 pub record IsBegun (row : Row) (next : ℕ) (m : Bytes) (picked rest : ℕ) (old now : Pools) : Type 0 where

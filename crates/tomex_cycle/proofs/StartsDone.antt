@@ -1,7 +1,7 @@
 -- The phase of starts.
 use Rattle.std.proofs.Common.{length, slice_index_or, ℕ, ◌+◌, ◌<◌, ◌≡◌, ◌∙◌, Bool, true, false, arith, refl, List, [], ◌∷◌, Option, Some, None, ap, sym, inl, inr, subst, ◌⊎◌, slice_index, ◌≤◌}
-use Rattle.std.specs.Prelude.{◌==◌, is_some, ◌||◌, nat_lt}
-use Rattle.std.proofs.lemmas.Bool.{cases_Bool, lt-ltb, and_parts, ltb-true, ltb-false, both_ways}
+use Rattle.std.specs.Prelude.{◌==◌, is_some, ◌||◌, nat_lt, if◌then◌else◌, nat_le}
+use Rattle.std.proofs.lemmas.Bool.{cases_Bool, lt-ltb, and_parts, ltb-true, ltb-false, both_ways, eqb-true, lt-leb}
 use Rattle.tomex_image.specs.Image.{Loaded}
 use Rattle.tomex_config.specs.Row.{Row}
 use Rattle.tomex_rvexec.specs.Flow.{byte_in}
@@ -17,7 +17,7 @@ use Rattle.tomex_rvexec.specs.Access.{IsInside}
 use Rattle.tomex_cycle.specs.Starts.{AllCanBegin, AllInside, CanBegin, HaveBegun, HaveStored, begun, IsStarting, AreLow}
 use Rattle.tomex_cycle.specs.Views.{ShowsMemory, clocks, holds_place, station_at, station_of}
 use Rattle.tomex_cycle.proofs.StartsMade.{begins_at, inside_is, some_is, step_is}
-use Rattle.tomex_cycle.proofs.StartsPicked.{starting_is, starts_at, starts_in, five, unit_low}
+use Rattle.tomex_cycle.proofs.StartsPicked.{starting_is, starts_at, starts_in, five}
 use Rattle.tomex_cycle.proofs.StartsWritten.{written_is}
 use Rattle.tomex_tags.specs.Contents.{step_in}
 use Rattle.tomex_tags.specs.Pools.{Pools, AreBusy}
@@ -27,6 +27,9 @@ use Rattle.std.proofs.lemmas.List.{get_or_past}
 use Rattle.tomex_rvdec.specs.Parts.{place_of_unit}
 use Rattle.tomex_rvdec.specs.declared.pool.UnitId.{UnitId}
 use Rattle.tomex_rvdec.specs.declared.pool.UnitId.TheVariants as units
+
+unstarted : (t u start finish : ℕ) → u ≡ t + 1 → (start == u) ≡ true → (if nat_le start t then Some finish else None) ≡ None
+unstarted t u start finish e f = let at : start ≡ u = eqb-true start u f in rw (lt-leb start t (omega arith)) refl
 
 -- what starts has a unit and an access inside memory
 can_begin : (i : Loaded) (row : Row) (t u x : ℕ) (h part : List Done) (m : Bytes) → AreTimed row part → AreIssuedBy t part → ArePast i part → u ≡ t + 1 → ShowsMemory i t h m → starts_at t u part x ≡ true
@@ -43,6 +46,7 @@ can_begin i row t u x h (d ∷ older) m timed issued past e shown starts = elim 
         rw held refl,
         record {
           inside = subst (λ (y : Step). IsInside m y) (sym same) (inside_is i t u d older h m past s shown);
+          idle = unstarted t u d.at.start d.at.finish e (and_parts (is_some (step_unit d.step)) (d.at.start == u) s).1;
           unit = some_is (step_unit d.step) (and_parts (is_some (step_unit d.step)) (d.at.start == u) s).0;
         },
       )
@@ -74,7 +78,7 @@ or_cases false b e = inr e
 -- what starts is busy
 starting_low : (row : Row) (st : Pools) (next starting : ℕ) → IsStarting row st next starting → AreBusy st.slots st.busy st.ages → (x : ℕ) → x < 128 → has starting x ≡ true → x < 96
 starting_low row st next starting begins filled x l e =
-    let kind : (unit : UnitId) → has (slice_index begins.kinds (place_of_unit unit)) x ≡ true → has st.busy x ≡ true = λ unit k. begins.are_ready.inside (place_of_unit unit) x (unit_low unit) l ((begins.units unit).inside x l k) in
+    let kind : (unit : UnitId) → has (slice_index begins.kinds (place_of_unit unit)) x ≡ true → has st.busy x ≡ true = λ unit k. (begins.are_ready unit).inside x l ((begins.units unit).inside x l k) in
     low_of st x filled l (elim (or_cases _ _ (sym (five begins.kinds x begins.count) ∙ (sym (begins.all x l) ∙ e))) [
       | inl a ↦ kind units.Alu a
       | inr r ↦ elim (or_cases _ _ r) [

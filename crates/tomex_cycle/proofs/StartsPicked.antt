@@ -294,7 +294,7 @@ unit_low units.Bru = omega arith
 none_of_start : (u start : ℕ) (unit : UnitId) (o : Option UnitId) → (start == u) ≡ false → (is_of unit o && (start == u)) ≡ false
 none_of_start u start unit o e = rw e (and_right (is_of unit o) false refl)
 
-unit_same : (v w : UnitId) → place_of_unit v ≡ place_of_unit w → v ≡ w
+pub unit_same : (v w : UnitId) → place_of_unit v ≡ place_of_unit w → v ≡ w
 unit_same units.Alu units.Alu e = refl
 unit_same units.Mul units.Mul e = refl
 unit_same units.Div units.Div e = refl
@@ -386,7 +386,7 @@ one_serves i row t u st sets unit h newer d older good timed issued shown by rea
           let small : x < 96 = rw same at at.small in
           let slot : slice_index_or st.slots x None ≡ Some (station_of i (clocks t t t) d older) = rw same at at.slot in
           let order : order_of t h ≡ order_of t older ++ (x ∷ order_of t newer) = ap (order_of t) e ∙ order_split t x newer d older held in
-          let wants : has (slice_index sets (place_of_unit unit)) x ≡ is_number (wanted st.slots (order_of t older) u (slice_index_or st.slots x None)) (place_of_unit unit) = ready.wants (place_of_unit unit) x (order_of t older) (order_of t newer) (unit_low unit) (omega arith) (rw order at by) in
+          let wants : has (slice_index sets (place_of_unit unit)) x ≡ is_number (wanted st.slots (order_of t older) u (slice_index_or st.slots x None)) (place_of_unit unit) = (ready unit).wants x (omega arith) (order_of t older) (order_of t newer) (rw order at by) in
           sym (ap (λ b. b && nat_lt (count_by (starts_of unit u) older) (option_of row unit).units) (wants ∙ ap (λ o. is_number (wanted st.slots (order_of t older) u o) (place_of_unit unit)) slot)
           ∙ wants_is (is_waiting (station_of i (clocks t t t) d older) && is_clear st.slots (order_of t older) (station_of i (clocks t t t) d older) u) (d.at.start == u) unit (step_unit d.step) (λ v. nat_lt (count_of v u older) (option_of row v).units) (λ v some. begins_is i row t u st h newer d older v good timed issued shown e f some));
     }
@@ -453,6 +453,6 @@ starting_is i row t u x st h starting good timed issued shown filled begins e l 
     let more : AreIssuedBy (t + 1) h = issued_more t (t + 1) h (omega arith) issued in
     let by : IsByAge st.busy st.ages (order_of t h) = order_is i row (clocks t t t) h st good timed more shown filled in
     let kind : (unit : UnitId) → has (slice_index begins.kinds (place_of_unit unit)) x ≡ goes_at t (starts_of unit u) h x = λ unit.
-    picked_goes t (option_of row unit).units st.busy (slice_index begins.ready (place_of_unit unit)) (slice_index begins.kinds (place_of_unit unit)) st.ages (starts_of unit u) h by (λ y m. begins.are_ready.inside (place_of_unit unit) y (unit_low unit) m) (begins.units unit)
+    picked_goes t (option_of row unit).units st.busy (slice_index begins.ready (place_of_unit unit)) (slice_index begins.kinds (place_of_unit unit)) st.ages (starts_of unit u) h by (begins.are_ready unit).inside (begins.units unit)
     (all_serve i row t u st begins.ready unit h [] h good timed issued shown by begins.are_ready e refl) (all_alone row t (starts_of unit u) h good timed more) x l in
     begins.all x l ∙ (five begins.kinds x begins.count ∙ (rw (kind units.Alu, kind units.Mul, kind units.Div, kind units.Mem, kind units.Bru) (kinds_at t u h x)))

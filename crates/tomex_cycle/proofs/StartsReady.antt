@@ -1,133 +1,164 @@
--- The sets of the operations that are ready, by kind of unit, one busy place after the other.
-use Rattle.std.proofs.Common.{ℕ, ◌<◌, ◌≡◌, ◌∙◌, Bool, true, false, arith, refl, List, [], ◌∷◌, ◌++◌, Option, Some, None, ap, sym, inl, inr, length, slice_index, slice_index_or, slice_set}
-use Rattle.std.specs.Prelude.{◌==◌, ◌&&◌, ◌||◌, if◌then◌else◌}
-use Rattle.std.proofs.lemmas.Bool.{cases_Bool, both_ways, eqb-true, eqb-false}
-use Rattle.std.proofs.lemmas.List.{get_or-set_same, get_or-set_other, length-set, get_or-replicate}
-use Rattle.tomex_rvexec.specs.Steps.{is_number}
+-- The sets of the operations that are ready, by kind of unit.
+use Rattle.std.proofs.Common.{ℕ, ◌<◌, ◌≡◌, ◌∙◌, Bool, true, false, refl, List, [], ◌∷◌, Option, Some, None, ap, sym, inl, inr, slice_index, slice_index_or}
+use Rattle.std.specs.Prelude.{◌==◌, ◌≢◌, ◌&&◌, ◌||◌, is_some}
+use Rattle.std.proofs.lemmas.Bool.{cases_Bool, both_ways, and_parts, eqb-true, eqb-false}
+use Rattle.tomex_rvexec.specs.Steps.{bytes_of, is_in, is_number}
+use Rattle.tomex_rvexec.proofs.FlowFields.{bytes_of_memory}
 use Rattle.tomex_bus.specs.Sets.{has, IsWith, IsWithout}
-use Rattle.tomex_bus.specs.Picks.{IsByAge, IsPicked}
+use Rattle.tomex_bus.specs.Picks.{IsPicked}
 use Rattle.tomex_config.specs.Row.{Row, option_of}
+use Rattle.tomex_rvdec.specs.Operands.{pool_of, unit_at, unit_of}
 use Rattle.tomex_rvdec.specs.Parts.{place_of_unit}
+use Rattle.tomex_rvdec.specs.declared.pool.PoolId.{PoolId}
+use Rattle.tomex_rvdec.specs.declared.pool.PoolId.TheVariants as pools
 use Rattle.tomex_rvdec.specs.declared.pool.UnitId.{UnitId}
 use Rattle.tomex_rvdec.specs.declared.pool.UnitId.TheVariants as units
+use Rattle.tomex_timing.specs.History.{is_of}
 use Rattle.tomex_bus.proofs.Bits.{none_in}
 use Rattle.tomex_bus.proofs.Members.{inside_left, none_rest}
+use Rattle.tomex_membuf.specs.Order.{is_clear}
+use Rattle.tomex_membuf.proofs.ByAge.{no_access}
 use Rattle.tomex_tags.proofs.Filing.{is_standing}
+use Rattle.tomex_tags.specs.Contents.{bytes_from, is_memory_op, is_waiting, step_in}
 use Rattle.tomex_tags.specs.Pools.{AreBusy, Pools}
-use Rattle.tomex_tags.specs.Standing.{IsSetOf, waits}
+use Rattle.tomex_tags.specs.Standing.{IsSetOf, waits_for}
 use Rattle.tomex_tags.specs.declared.station.Station.{Station}
-use Rattle.tomex_cycle.specs.Starts.{AreReady, IsStarting, wanted}
+use Rattle.tomex_cycle.specs.Starts.{AreReady, AreReadyFor, IsStarting, IsWanted, kind_if, kind_of, wanted}
+use Rattle.tomex_cycle.proofs.StartsPicked.{unit_same}
 
--- what is wanted for a place, however the busy places are listed
-abbrev pub IsWanted : Pools → ℕ → ℕ → Option ℕ → Type 0
-IsWanted st next x kind = (older younger : List ℕ) → IsByAge st.busy st.ages (older ++ (x ∷ younger)) → kind ≡ wanted st.slots older next (slice_index_or st.slots x None)
+no_kind : (w c : Bool) (u : Option UnitId) (unit : UnitId) → (w && is_of unit u) ≡ false → is_number (kind_if (w && c) (kind_of u)) (place_of_unit unit) ≡ false
+no_kind false c u unit e = refl
+no_kind true false u unit e = refl
+no_kind true true None unit e = refl
+no_kind true true (Some v) unit e = e
+
+one_kind : (w c : Bool) (u : Option UnitId) (unit : UnitId) → (w && is_of unit u) ≡ true → is_number (kind_if (w && c) (kind_of u)) (place_of_unit unit) ≡ c
+one_kind false c u unit e = absurd (both_ways false refl e)
+one_kind true false u unit e = refl
+one_kind true true None unit e = sym (absurd (both_ways false refl e))
+one_kind true true (Some v) unit e = e
+
+-- what waits for no unit of this kind wants none
+wants_not : (slots : List (Option Station)) (older : List ℕ) (next : ℕ) (unit : UnitId) (o : Option Station) → waits_for unit o ≡ false → is_number (wanted slots older next o) (place_of_unit unit) ≡ false
+wants_not slots older next unit None e = refl
+wants_not slots older next unit (Some s) e = no_kind (is_waiting s) (is_clear slots older s next) (unit_of s.instr.op) unit e
+
+-- what waits for one wants it, where no older access is in its way
+pub wants_clear : (slots : List (Option Station)) (older : List ℕ) (next : ℕ) (unit : UnitId) (o : Option Station) (s : Station) → o ≡ Some s → waits_for unit o ≡ true → is_number (wanted slots older next o) (place_of_unit unit) ≡ is_clear slots older s next
+wants_clear slots older next unit o s e w = rw e (one_kind (is_waiting s) (is_clear slots older s next) (unit_of s.instr.op) unit (rw e at w))
+
+-- Memory ports.
 
 -- all but the rest are looked at
-pub record AreLooked (st : Pools) (next rest : ℕ) (sets : List ℕ) : Type 0 where
-  pub count : length sets ≡ 5
-  pub busy : (x : ℕ) → x < 128 → has rest x ≡ true → has st.busy x ≡ true
-  pub inside : (kind x : ℕ) → kind < 5 → x < 128 → has (slice_index sets kind) x ≡ true → (has st.busy x ≡ true) × (has rest x ≡ false)
-  pub wants : (kind x : ℕ) (older younger : List ℕ) → kind < 5 → x < 128 → has rest x ≡ false → IsByAge st.busy st.ages (older ++ (x ∷ younger)) → has (slice_index sets kind) x ≡ is_number (wanted st.slots older next (slice_index_or st.slots x None)) kind
+pub record AreCleared (st : Pools) (next waiting rest clear : ℕ) : Type 0 where
+  pub inside : (x : ℕ) → x < 128 → has rest x ≡ true → has waiting x ≡ true
+  pub found : (x : ℕ) → x < 128 → has clear x ≡ true → has waiting x ≡ true
+  pub wants : (x : ℕ) → x < 128 → has rest x ≡ false → IsWanted st next units.Mem x (has clear x)
+  pub later : (x : ℕ) → x < 128 → has rest x ≡ true → has clear x ≡ false
 
-no_set : (kind x : ℕ) → kind < 5 → has (slice_index (0 ∷ 0 ∷ 0 ∷ 0 ∷ 0 ∷ []) kind) x ≡ false
-no_set kind x l = ap (λ n. has n x) (get_or-replicate 5 kind 0 0 l) ∙ none_in x
-
--- nothing is wanted for a station that waits for more than a unit and older accesses
-wants_not : (slots : List (Option Station)) (older : List ℕ) (next : ℕ) (o : Option Station) → waits o ≡ false → wanted slots older next o ≡ None
-wants_not slots older next None e = refl
-wants_not slots older next (Some s) e = rw e refl
-
-pub first_look : (st : Pools) (next waiting : ℕ) → AreBusy st.slots st.busy st.ages → IsSetOf waits st.slots waiting → AreLooked st next waiting (0 ∷ 0 ∷ 0 ∷ 0 ∷ 0 ∷ [])
-first_look st next waiting filled of = record {
-  count = refl;
-  busy = is_standing waits st.slots st.busy st.ages waiting refl filled of;
-  inside = λ kind x l k e. absurd (both_ways _ (no_set kind x l) e);
-  wants = λ kind x older younger l k e by. no_set kind x l ∙ sym (ap (λ o. is_number o kind) (wants_not st.slots older next (slice_index_or st.slots x None) (sym (of x k) ∙ e)));
+pub first_cleared : (st : Pools) (next waiting : ℕ) → IsSetOf (waits_for units.Mem) st.slots waiting → AreCleared st next waiting waiting 0
+first_cleared st next waiting of = record {
+  inside = λ x l e. e;
+  found = λ x l e. absurd (both_ways (has 0 x) (none_in x) e);
+  wants = λ x l e older younger by. none_in x ∙ sym (wants_not st.slots older next units.Mem (slice_index_or st.slots x None) (sym (of x l) ∙ e));
+  later = λ x l e. none_in x;
 }
-
-set_with : (sets : List ℕ) (kind new k x p : ℕ) → length sets ≡ 5 → kind < 5 → IsWith (slice_index sets kind) p new → has (slice_index (slice_set sets kind new) k) x ≡ (if (kind == k) && (p == x) then true else has (slice_index sets k) x)
-set_with sets kind new k x p count l with = elim (cases_Bool (kind == k)) [
-  | inr e ↦ rw e (ap (λ n. has n x) (get_or-set_other sets kind k new 0 (λ z. eqb-false kind k e (sym z))))
-  | inl e ↦
-      let same : kind ≡ k = eqb-true kind k e in
-      rw (e, ← same, get_or-set_same sets kind new 0 (omega arith)) (elim (cases_Bool (p == x)) [
-        | inl f ↦ let at : p ≡ x = eqb-true p x f in rw (f, ← at) with.same
-        | inr f ↦ rw f (with.others x (λ z. eqb-false p x f (sym z)))
-      ])
-]
 
 left_other : (rest left p x : ℕ) → x < 128 → IsWithout rest p left → (p == x) ≡ false → has left x ≡ has rest x
 left_other rest left p x l without e = without.others x l (λ z. eqb-false p x e (sym z))
 
-pub look_some : (st : Pools) (next rest left p kind new : ℕ) (sets : List ℕ) → AreLooked st next rest sets → p < 128 → has rest p ≡ true → IsWithout rest p left → kind < 5 → IsWanted st next p (Some kind) → IsWith (slice_index sets kind) p new → AreLooked st next left (slice_set sets kind new)
-look_some st next rest left p kind new sets so small member without low wants with = record {
-  count = length-set sets kind new ∙ so.count;
-  busy = inside_left st.busy rest left p so.busy without;
-  inside = λ k x l m e. elim (cases_Bool (p == x)) [
-    | inl f ↦ let at : p ≡ x = eqb-true p x f in (rw (← at) (so.busy p small member), rw (← at) without.same)
-    | inr f ↦
-        let before : has (slice_index sets k) x ≡ true = sym (set_with sets kind new k x p so.count low with ∙ rw (f, and_false (kind == k)) refl) ∙ e in
-        let two = so.inside k x l m before in
-        (two.0, left_other rest left p x m without f ∙ two.1)
+pub one_clear : (st : Pools) (next waiting rest left p clear more : ℕ) → AreCleared st next waiting rest clear → p < 128 → has rest p ≡ true → IsWithout rest p left → IsWanted st next units.Mem p true → IsWith clear p more → AreCleared st next waiting left more
+one_clear st next waiting rest left p clear more so small member without wants with = record {
+  inside = inside_left waiting rest left p so.inside without;
+  found = λ x l e. elim (cases_Bool (p == x)) [
+    | inl f ↦ ap (has waiting) (sym (eqb-true p x f)) ∙ so.inside p small member
+    | inr f ↦ so.found x l (sym (with.others x (λ z. eqb-false p x f (sym z))) ∙ e)
   ];
-  wants = λ k x older younger l m e by. set_with sets kind new k x p so.count low with ∙ elim (cases_Bool (p == x)) [
-    | inr f ↦ rw (f, and_false (kind == k)) (so.wants k x older younger l m (sym (left_other rest left p x m without f) ∙ e) by)
-    | inl f ↦
-        let at : p ≡ x = eqb-true p x f in
-        let w : Some kind ≡ wanted st.slots older next (slice_index_or st.slots x None) = rw at at (wants older younger (rw (sym at) at by)) in
-        let free : has (slice_index sets k) x ≡ false = none_yet k x l m f in
-        rw (← w, f, free) (and_if (kind == k))
+  wants = λ x l e. elim (cases_Bool (p == x)) [
+    | inl f ↦ let same : p ≡ x = eqb-true p x f in rw (← same, with.same) wants
+    | inr f ↦ rw (with.others x (λ z. eqb-false p x f (sym z))) (so.wants x l (sym (left_other rest left p x l without f) ∙ e))
   ];
-}
-  where
-    and_false : (a : Bool) → (a && false) ≡ false
-    and_false true = refl
-    and_false false = refl
-
-    and_if : (a : Bool) → (if a && true then true else false) ≡ a
-    and_if true = refl
-    and_if false = refl
-
-    none_yet : (k x : ℕ) → k < 5 → x < 128 → (p == x) ≡ true → has (slice_index sets k) x ≡ false
-    none_yet k x l m f = elim (cases_Bool (has (slice_index sets k) x)) [
-      | inr e ↦ e
-      | inl e ↦ let at : p ≡ x = eqb-true p x f in absurd (both_ways (has rest x) (so.inside k x l m e).1 (rw (← at) member))
-    ]
-
-pub look_none : (st : Pools) (next rest left p : ℕ) (sets : List ℕ) → AreLooked st next rest sets → p < 128 → has rest p ≡ true → IsWithout rest p left → IsWanted st next p None → AreLooked st next left sets
-look_none st next rest left p sets so small member without wants = record {
-  count = so.count;
-  busy = inside_left st.busy rest left p so.busy without;
-  inside = λ k x l m e. elim (cases_Bool (p == x)) [
-    | inl f ↦ let at : p ≡ x = eqb-true p x f in absurd (both_ways (has rest x) (so.inside k x l m e).1 (rw (← at) member))
-    | inr f ↦ let two = so.inside k x l m e in (two.0, left_other rest left p x m without f ∙ two.1)
-  ];
-  wants = λ k x older younger l m e by. elim (cases_Bool (p == x)) [
-    | inr f ↦ so.wants k x older younger l m (sym (left_other rest left p x m without f) ∙ e) by
-    | inl f ↦
-        let at : p ≡ x = eqb-true p x f in
-        let w : None ≡ wanted st.slots older next (slice_index_or st.slots x None) = rw at at (wants older younger (rw (sym at) at by)) in
-        rw (← w) (elim (cases_Bool (has (slice_index sets k) x)) [
-          | inr g ↦ g
-          | inl g ↦ absurd (both_ways (has rest x) (so.inside k x l m g).1 (rw (← at) member))
-        ])
+  later = λ x l e. elim (cases_Bool (p == x)) [
+    | inl f ↦ absurd (both_ways (has left p) without.same (ap (has left) (eqb-true p x f) ∙ e))
+    | inr f ↦ with.others x (λ z. eqb-false p x f (sym z)) ∙ so.later x l (sym (left_other rest left p x l without f) ∙ e)
   ];
 }
 
-pub all_looked : (st : Pools) (next rest : ℕ) (sets : List ℕ) → AreLooked st next rest sets → rest ≡ 0 → AreReady st next sets
-all_looked st next rest sets so empty = record {
-  inside = λ kind x l m e. (so.inside kind x l m e).0;
-  wants = λ kind x older younger l m by. so.wants kind x older younger l m (none_rest rest x empty) by;
+pub none_clear : (st : Pools) (next waiting rest left p clear : ℕ) → AreCleared st next waiting rest clear → p < 128 → has rest p ≡ true → IsWithout rest p left → IsWanted st next units.Mem p false → AreCleared st next waiting left clear
+none_clear st next waiting rest left p clear so small member without wants = record {
+  inside = inside_left waiting rest left p so.inside without;
+  found = so.found;
+  wants = λ x l e. elim (cases_Bool (p == x)) [
+    | inl f ↦ let same : p ≡ x = eqb-true p x f in rw (← same, so.later p small member) wants
+    | inr f ↦ so.wants x l (sym (left_other rest left p x l without f) ∙ e)
+  ];
+  later = λ x l e. elim (cases_Bool (p == x)) [
+    | inl f ↦ absurd (both_ways (has left p) without.same (ap (has left) (eqb-true p x f) ∙ e))
+    | inr f ↦ so.later x l (sym (left_other rest left p x l without f) ∙ e)
+  ];
+}
+
+none_waits : (unit : UnitId) → waits_for unit None ≡ false
+none_waits unit = refl
+
+pub all_cleared : (st : Pools) (next waiting rest clear : ℕ) → AreBusy st.slots st.busy st.ages → IsSetOf (waits_for units.Mem) st.slots waiting → AreCleared st next waiting rest clear → rest ≡ 0 → AreReadyFor st next units.Mem clear
+all_cleared st next waiting rest clear filled of so empty = record {
+  inside = λ x l e. is_standing (waits_for units.Mem) st.slots st.busy st.ages waiting (none_waits units.Mem) filled of x l (so.found x l e);
+  wants = λ x l. so.wants x l (none_rest rest x empty);
+}
+
+-- Units of the other kinds.
+
+memory_unit : (o : Option PoolId) → (is_in pools.Load o || is_in pools.Store o) ≡ is_of units.Mem (unit_at o)
+memory_unit None = refl
+memory_unit (Some pools.Alu) = refl
+memory_unit (Some pools.Mul) = refl
+memory_unit (Some pools.Div) = refl
+memory_unit (Some pools.Load) = refl
+memory_unit (Some pools.Store) = refl
+memory_unit (Some pools.Bru) = refl
+
+other_unit : (unit : UnitId) (u : Option UnitId) → unit ≢ units.Mem → is_of unit u ≡ true → is_of units.Mem u ≡ false
+other_unit unit None apart e = refl
+other_unit unit (Some v) apart e = elim (cases_Bool (place_of_unit v == place_of_unit units.Mem)) [
+  | inr f ↦ f
+  | inl f ↦ absurd (apart (unit_same unit units.Mem (sym (eqb-true (place_of_unit v) (place_of_unit unit) e) ∙ eqb-true (place_of_unit v) (place_of_unit units.Mem) f)))
+]
+
+none_some : {A : Type 0} (o : Option A) → is_some o ≡ false → o ≡ None
+none_some None e = refl
+none_some (Some a) e = let z : true ≡ false = e in absurd (cc)
+
+no_bytes : (s : Station) (a : Option ℕ) → is_memory_op s.instr.op ≡ false → bytes_from a (step_in s) ≡ None
+no_bytes s None e = refl
+no_bytes s (Some a) e = none_some (bytes_of (step_in s)) (bytes_of_memory (step_in s) ∙ e)
+
+clear_of : (slots : List (Option Station)) (older : List ℕ) (next : ℕ) (unit : UnitId) (s : Station) → unit ≢ units.Mem → waits_for unit (Some s) ≡ true → is_clear slots older s next ≡ true
+clear_of slots older next unit s apart w =
+    no_access slots older s next (no_bytes s s.address (memory_unit (pool_of s.instr.op) ∙ other_unit unit (unit_of s.instr.op) apart (and_parts (is_waiting s) (is_of unit (unit_of s.instr.op)) w).1))
+
+wants_unit : (slots : List (Option Station)) (older : List ℕ) (next : ℕ) (unit : UnitId) (o : Option Station) → unit ≢ units.Mem → waits_for unit o ≡ is_number (wanted slots older next o) (place_of_unit unit)
+wants_unit slots older next unit None apart = refl
+wants_unit slots older next unit (Some s) apart = elim (cases_Bool (waits_for unit (Some s))) [
+  | inr e ↦ e ∙ sym (wants_not slots older next unit (Some s) e)
+  | inl e ↦ e ∙ sym (wants_clear slots older next unit (Some s) s refl e ∙ clear_of slots older next unit s apart e)
+]
+
+pub ready_for : (st : Pools) (next set : ℕ) (unit : UnitId) → AreBusy st.slots st.busy st.ages → IsSetOf (waits_for unit) st.slots set → unit ≢ units.Mem → AreReadyFor st next unit set
+ready_for st next set unit filled of apart = record {
+  inside = is_standing (waits_for unit) st.slots st.busy st.ages set (none_waits unit) filled of;
+  wants = λ x l older younger by. of x l ∙ wants_unit st.slots older next unit (slice_index_or st.slots x None) apart;
 }
 
 -- the oldest of each kind together
-pub are_starting : (row : Row) (st : Pools) (next : ℕ) (sets : List ℕ) (a b c d e f g h all : ℕ) → AreReady st next sets
-    → IsPicked (slice_index sets 0) st.ages (option_of row units.Alu).units a → IsPicked (slice_index sets 1) st.ages (option_of row units.Mul).units b → IsPicked (slice_index sets 2) st.ages (option_of row units.Div).units c → IsPicked (slice_index sets 3) st.ages (option_of row units.Mem).units d → IsPicked (slice_index sets 4) st.ages (option_of row units.Bru).units e
+pub are_starting : (row : Row) (st : Pools) (next : ℕ) (ra rb rc rd re a b c d e f g h all : ℕ)
+    → AreReadyFor st next units.Alu ra → AreReadyFor st next units.Mul rb → AreReadyFor st next units.Div rc → AreReadyFor st next units.Mem rd → AreReadyFor st next units.Bru re
+    → IsPicked ra st.ages (option_of row units.Alu).units a → IsPicked rb st.ages (option_of row units.Mul).units b → IsPicked rc st.ages (option_of row units.Div).units c → IsPicked rd st.ages (option_of row units.Mem).units d → IsPicked re st.ages (option_of row units.Bru).units e
     → ((x : ℕ) → has f x ≡ (has d x || has e x)) → ((x : ℕ) → has g x ≡ (has c x || has f x)) → ((x : ℕ) → has h x ≡ (has b x || has g x)) → ((x : ℕ) → has all x ≡ (has a x || has h x)) → IsStarting row st next all
-are_starting row st next sets a b c d e f g h all ready alu mul div mem bru uf ug uh ua = record {
-  ready = sets;
+are_starting row st next ra rb rc rd re a b c d e f g h all is_alu is_mul is_div is_mem is_bru alu mul div mem bru uf ug uh ua = record {
+  ready = ra ∷ rb ∷ rc ∷ rd ∷ re ∷ [];
   kinds = a ∷ b ∷ c ∷ d ∷ e ∷ [];
-  are_ready = ready;
+  are_ready = kinds;
   units = each;
   count = refl;
   all = λ x l. ua x ∙ ap (λ z. has a x || z) (uh x ∙ ap (λ z. has b x || z) (ug x ∙ ap (λ z. has c x || z) (uf x ∙ ap (λ z. has d x || z) (sym (or_none (has e x))))));
@@ -137,7 +168,14 @@ are_starting row st next sets a b c d e f g h all ready alu mul div mem bru uf u
     or_none true = refl
     or_none false = refl
 
-    each : (unit : UnitId) → IsPicked (slice_index sets (place_of_unit unit)) st.ages (option_of row unit).units (slice_index (a ∷ b ∷ c ∷ d ∷ e ∷ []) (place_of_unit unit))
+    kinds : AreReady st next (ra ∷ rb ∷ rc ∷ rd ∷ re ∷ [])
+    kinds units.Alu = is_alu
+    kinds units.Mul = is_mul
+    kinds units.Div = is_div
+    kinds units.Mem = is_mem
+    kinds units.Bru = is_bru
+
+    each : (unit : UnitId) → IsPicked (slice_index (ra ∷ rb ∷ rc ∷ rd ∷ re ∷ []) (place_of_unit unit)) st.ages (option_of row unit).units (slice_index (a ∷ b ∷ c ∷ d ∷ e ∷ []) (place_of_unit unit))
     each units.Alu = alu
     each units.Mul = mul
     each units.Div = div

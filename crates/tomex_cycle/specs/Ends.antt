@@ -78,6 +78,10 @@ abbrev pub finishes : ℕ → Option Station → Bool
 finishes next None = false
 finishes next (Some s) = is_number s.finish next
 
+-- the set is of the places whose units are done in the cycle
+abbrev pub AreDone : List (Option Station) → ℕ → ℕ → Type 0
+AreDone slots next due = (x : ℕ) → x < 128 → has due x ≡ finishes next (slice_index_or slots x None)
+
 -- the next pc after what a place holds
 abbrev pub target_in : Option Station → ℕ
 target_in None = 0

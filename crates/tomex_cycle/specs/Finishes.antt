@@ -1,31 +1,45 @@
 -- In which cycles the operations of the busy stations finish.
-use Rattle.std.specs.Prelude.{ℕ, Bool, true, false, nat_lt, ◌≡◌, ◌≤◌, ◌<◌, ◌+◌, ◌⊎◌, ⊤, List, Option, Some, None, slice_index_or}
+use Rattle.std.specs.Prelude.{ℕ, Bool, true, false, not, is_some, ◌≡◌, ◌≤◌, ◌<◌, ◌+◌, ◌&&◌, ◌⊎◌, List, Option, Some, None, length, slice_index_or}
+use Rattle.tomex_rvdec.specs.Operands.{dest_of}
+use Rattle.tomex_bus.specs.Sets.{has}
+use Rattle.tomex_bus.specs.Wheel.{is_due}
 use Rattle.tomex_tags.specs.declared.station.Station.{Station}
-use Rattle.tomex_cycle.specs.Ends.{finishes}
+use Rattle.tomex_cycle.specs.declared.finishes.Finishes.{Finishes}
+use Rattle.tomex_cycle.specs.Ends.{after_ends, can_send, finishes, is_done_before}
 
 -- none finishes from one cycle to another, with both
 abbrev pub IsFree : List (Option Station) → ℕ → ℕ → Type 0
 IsFree slots from to = (x v : ℕ) → x < 96 → from ≤ v → v ≤ to → finishes v (slice_index_or slots x None) ≡ false
 
--- the cycle comes before this one, if there is one
-abbrev pub comes_before : ℕ → Option ℕ → Bool
-comes_before v None = true
-comes_before v (Some f) = nat_lt v f
-
--- from a cycle on, what a place holds doesn't finish before this one
-abbrev pub HasNoneBefore : ℕ → Option ℕ → Option Station → Type 0
-HasNoneBefore from best station = (v : ℕ) → from ≤ v → comes_before v best ≡ true → finishes v station ≡ false
-
--- the cycle, if there is one, is no sooner than this one, and a busy station finishes in it
-abbrev pub IsFinish : List (Option Station) → ℕ → Option ℕ → Type 0
-IsFinish slots from None = ⊤
-IsFinish slots from (Some f) = (from ≤ f) × (x : ℕ) × (x < 96) × (finishes f (slice_index_or slots x None) ≡ true)
-
--- there is a finish, no later than this cycle or right after the one that is gone on to
-abbrev pub StopsAt : Option ℕ → ℕ → ℕ → Type 0
-StopsAt None cycle to = ⊥
-StopsAt (Some f) cycle to = (f ≤ cycle) ⊎ (f ≡ to + 1)
-
 -- a busy station finishes in one cycle, or in the one after another
 abbrev pub FinishesSoon : List (Option Station) → ℕ → ℕ → Type 0
 FinishesSoon slots cycle to = (x : ℕ) × (x < 96) × ((finishes cycle (slice_index_or slots x None) ≡ true) ⊎ (finishes (to + 1) (slice_index_or slots x None) ≡ true))
+
+-- what has nothing to send finished before the cycle, and stands there yet
+abbrev pub has_stayed : ℕ → Option Station → Bool
+has_stayed next None = false
+has_stayed next (Some s) = not (is_some (dest_of s.instr)) && is_done_before next s.finish
+
+-- the finishes of these stations, as they are known before a cycle ends
+pub record AreKnown (slots : List (Option Station)) (next : ℕ) (known : Finishes) : Type 0 where
+  pub places : length slots ≡ 96
+  pub ahead : (a x : ℕ) → a < 64 → x < 96 → is_due known.wheel a x ≡ finishes (next + a) (slice_index_or slots x None)
+  pub near : (x v : ℕ) → x < 96 → finishes v (slice_index_or slots x None) ≡ true → v < next + 64
+  pub low : (a x : ℕ) → is_due known.wheel a x ≡ true → x < 96
+  pub ready : (x : ℕ) → x < 128 → has known.ready x ≡ can_send next (slice_index_or slots x None)
+  pub gone : (x : ℕ) → x < 96 → has_stayed next (slice_index_or slots x None) ≡ false
+
+-- what finishes in a cycle is taken out, and the next one is ahead
+pub record HaveTurned (old new : Finishes) (taken : ℕ) : Type 0 where
+  pub due : (x : ℕ) → has taken x ≡ is_due old.wheel 0 x
+  pub wheel : (a x : ℕ) → is_due new.wheel a x ≡ is_due old.wheel (a + 1) x
+  pub ready : new.ready ≡ old.ready
+
+-- once these places have ended, and all others have heard what was sent, the finishes are known before the next cycle
+abbrev pub LeavesKnown : List (Option Station) → ℕ → ℕ → Finishes → Type 0
+LeavesKnown slots next ending known = (new : List (Option Station)) (sent : ℕ → Option ℕ) → length new ≡ 96 → ((x : ℕ) → x < 96 → slice_index_or new x None ≡ after_ends (has ending x) sent (slice_index_or slots x None)) → AreKnown new (next + 1) known
+
+-- how many cycles can be passed: those before the next finish, so far ahead if there is any, but no more than these
+abbrev pub IsIdle : Option ℕ → ℕ → ℕ → Type 0
+IsIdle None most n = n ≡ most
+IsIdle (Some ahead) most n = (n ≤ ahead) × (n < most → n ≡ ahead)

@@ -1,5 +1,5 @@
 -- What holds of each machine.
-use Rattle.std.specs.Prelude.{◌≡◌, ℕ, ◌+◌, ◌≤◌, ◌<◌, ◌^◌, nat_lt, if◌then◌else◌}
+use Rattle.std.specs.Prelude.{◌≡◌, ℕ, ◌+◌, ◌≤◌, ◌<◌, ◌^◌, nat_lt, if◌then◌else◌, List, Option}
 use Rattle.tomex_image.specs.Image.{Loaded, IsLoaded}
 use Rattle.tomex_rvexec.specs.declared.outcome.EndKind.{EndKind}
 use Rattle.tomex_rvexec.specs.Machine.{State}
@@ -10,9 +10,12 @@ use Rattle.tomex_timing.specs.History.{greatest_end}
 use Rattle.tomex_cycle.specs.declared.fetch.Fetch.{Fetch}
 use Rattle.tomex_cycle.specs.declared.progress.Progress.{Progress}
 use Rattle.tomex_cycle.specs.declared.progress.Progress.TheVariants.{Running, Ended}
+use Rattle.tomex_cycle.specs.declared.finishes.Finishes.{Finishes}
+use Rattle.tomex_cycle.specs.Finishes.{AreKnown}
 use Rattle.tomex_cycle.specs.Run.{run_to}
 use Rattle.tomex_cycle.specs.Phases.{IsSnapshot}
 use Rattle.tomex_tags.specs.Pools.{Pools}
+use Rattle.tomex_tags.specs.declared.station.Station.{Station}
 use Rattle.tomex_tags.specs.declared.register_status.RegStatus.{RegStatus}
 
 -- the machine after a cycle of a run that ends after n other steps
@@ -26,3 +29,7 @@ pub record IsSound (i : Loaded) (row : Row) (cycle : ℕ) (last : Progress) (cou
   pub loaded : IsLoaded i.window i.memory i.entry
   pub low : cycle ≤ 2 ^ 40
   pub after : (n : ℕ) (s : State) (kind : EndKind) → n < 262144 → RunEnds i n s kind → IsAfter i row n cycle last count stations registers fetch memory
+
+-- as long as it runs, what is known of the finishes ahead is right
+abbrev pub IsTurning : Progress → List (Option Station) → ℕ → Finishes → Type 0
+IsTurning last slots next known = last ≡ Running → AreKnown slots next known

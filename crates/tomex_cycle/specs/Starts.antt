@@ -28,10 +28,18 @@ abbrev pub wanted : List (Option Station) → List ℕ → ℕ → Option Statio
 wanted slots older next None = None
 wanted slots older next (Some s) = kind_if (is_waiting s && is_clear slots older s next) (kind_of (unit_of s.instr.op))
 
--- by kind of unit, the set of the busy places whose operations can start but for want of a unit
-pub record AreReady (st : Pools) (next : ℕ) (sets : List ℕ) : Type 0 where
-  pub inside : (kind x : ℕ) → kind < 5 → x < 128 → has (slice_index sets kind) x ≡ true → has st.busy x ≡ true
-  pub wants : (kind x : ℕ) (older younger : List ℕ) → kind < 5 → x < 128 → IsByAge st.busy st.ages (older ++ (x ∷ younger)) → has (slice_index sets kind) x ≡ is_number (wanted st.slots older next (slice_index_or st.slots x None)) kind
+-- whether a kind of unit is wanted for a place, however the busy places are listed by age
+abbrev pub IsWanted : Pools → ℕ → UnitId → ℕ → Bool → Type 0
+IsWanted st next unit x is = (older younger : List ℕ) → IsByAge st.busy st.ages (older ++ (x ∷ younger)) → is ≡ is_number (wanted st.slots older next (slice_index_or st.slots x None)) (place_of_unit unit)
+
+-- the set of the busy places whose operations can start but for want of a unit of this kind
+pub record AreReadyFor (st : Pools) (next : ℕ) (unit : UnitId) (set : ℕ) : Type 0 where
+  pub inside : (x : ℕ) → x < 128 → has set x ≡ true → has st.busy x ≡ true
+  pub wants : (x : ℕ) → x < 128 → IsWanted st next unit x (has set x)
+
+-- and so for each kind
+abbrev pub AreReady : Pools → ℕ → List ℕ → Type 0
+AreReady st next sets = (unit : UnitId) → AreReadyFor st next unit (slice_index sets (place_of_unit unit))
 
 abbrev pub is_among : List ℕ → ℕ → Bool
 is_among [] x = false
@@ -58,9 +66,10 @@ begun row next m s = record s { finish = finish_from row next (unit_of s.instr.o
 abbrev pub AreLow : ℕ → Type 0
 AreLow picked = (x : ℕ) → x < 128 → has picked x ≡ true → x < 96
 
--- the operation of a station that starts uses a unit, and its access is inside memory
+-- the operation of a station that starts uses a unit and hasn't started, and its access is inside memory
 pub record CanBegin (m : Bytes) (s : Station) : Type 0 where
   pub inside : IsInside m (step_in s)
+  pub idle : s.finish ≡ None
   pub unit : IsSome (unit_of s.instr.op)
 
 -- so it is of each place that is picked

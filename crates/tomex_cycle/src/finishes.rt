@@ -1,61 +1,111 @@
 //! In which cycles the operations of the busy stations finish.
 
-ghost use Rattle.std.specs.Prelude.{ℕ, ◌≡◌, ◌<◌, ◌≤◌, ◌⊎◌, None, Some, IfSome, slice_index_or, true};
-ghost use Rattle.tomex_cycle.specs.Finishes.{HasNoneBefore, IsFinish, StopsAt, comes_before};
-ghost use Rattle.tomex_cycle.specs.Ends.{finishes};
+ghost use Rattle.std.specs.Prelude.{ℕ, ◌≡◌, ◌<◌, ◌≤◌, ◌+◌, ◌-◌, ◌^◌, ◌&&◌, ◌||◌, not, true};
+ghost use Rattle.tomex_bus.specs.Sets.{has};
+ghost use Rattle.tomex_bus.specs.Wheel.{HasPassed, HasPut, IsClearTo, IsEmpty, Lacks};
+ghost use Rattle.tomex_cycle.specs.Finishes.{AreKnown, FinishesSoon, HaveTurned, IsFree, IsIdle};
 
-use tomex_bus::sets::{lowest, without_lowest};
-use tomex_tags::{Pools, Station};
+use crate::progress::{Made, Progress};
+use tomex_bus::Wheel;
+use tomex_bus::sets::{difference, union};
+use tomex_tags::Pools;
 
-/// The sooner one of a cycle and that in which a station's operation finishes, from a cycle on.
-#[inline(always)]
-fn sooner(best: Option<u64>, station: Option<Station>, from: u64) -> Option<u64>
-    ensures none { HasNoneBefore from result station }
-    ensures less { (v : ℕ) → comes_before v result ≡ true → comes_before v best ≡ true }
-    ensures some { IfSome result (λ f. (best ≡ Some f) ⊎ ((from ≤ f) × (finishes f station ≡ true))) }
-{
-    let Some(station) = station else {
-        return best;
-    };
-    let Some(finish) = station.finish else {
-        return best;
-    };
-    if finish < from {
-        return best;
+/// The finishes ahead, and the results that wait for a common data bus.
+#[derive(Drop)]
+pub struct Finishes {
+    /// The places of the operations under way, by how far ahead they finish.
+    pub wheel: Wheel,
+    /// The places whose results are ready to be sent.
+    pub ready: u128,
+}
+
+impl Finishes {
+    /// Nothing is under way.
+    pub fn new() -> Finishes
+        ensures wheel { IsEmpty result.wheel }
+        ensures ready { result.ready ≡ 0 }
+    {
+        Finishes {
+            wheel: Wheel::new(),
+            ready: 0,
+        }
     }
-    match best {
-        Some(other) if other < finish => best,
-        _ => Some(finish),
+
+    /// The operation of a place starts, and takes so many cycles.
+    #[inline(always)]
+    pub fn start(&mut self, place: usize, latency: u8)
+        requires low { place < 96 }
+        requires some { 1 ≤ latency }
+        requires few { latency ≤ 64 }
+        requires apart { Lacks self.old.wheel place }
+        ensures wheel { HasPut (latency - 1) place self.old.wheel self.new.wheel }
+        ensures ready { self.new.ready ≡ self.old.ready }
+    {
+        self.wheel.put(u32::from(latency) - 1, place);
+    }
+
+    /// Takes out what finishes in the cycle, and goes on to the next one.
+    #[inline(always)]
+    pub fn turn(&mut self) -> u128
+        ensures { HaveTurned self.old self.new result }
+    {
+        let due = self.wheel.due();
+        self.wheel.pass(1);
+        due
+    }
+
+    /// Some results are sent, and others are ready from here on.
+    #[inline(always)]
+    pub fn send(&mut self, sent: u128, results: u128)
+        ensures wheel { self.new.wheel ≡ self.old.wheel }
+        ensures ready { (x : ℕ) → x < 128 → has self.new.ready x ≡ (has self.old.ready x && not (has sent x) || has results x) }
+        ensures fits { self.new.ready < 2 ^ 128 }
+    {
+        self.ready = union(difference(self.ready, sent), results);
+    }
+
+    /// So many cycles pass, in which nothing finishes.
+    #[inline(always)]
+    pub fn pass(&mut self, cycles: u64)
+        requires { IsClearTo self.old.wheel cycles }
+        ensures wheel { HasPassed cycles self.old.wheel self.new.wheel }
+        ensures ready { self.new.ready ≡ self.old.ready }
+    {
+        self.wheel.pass(cycles);
     }
 }
 
-/// The first cycle from a given one on in which the operation of a busy station finishes, if any.
-pub fn next_finish(pools: &Pools, from: u64) -> Option<u64>
-    ensures none { (x : ℕ) → x < 96 → HasNoneBefore from result (slice_index_or pools.now.slots x None) }
-    ensures some { IsFinish pools.now.slots from result }
+/// How many cycles can be passed before the next finish, so far ahead if there is any, but no more than `most`.
+fn idle(next: Option<u32>, most: u64) -> u64
+    ensures most { result ≤ most }
+    ensures idle { IsIdle next most result }
 {
-    let mut best = None;
-    let mut rest = pools.started();
-    'members: while rest != 0 {
-        let place = lowest(rest);
-        rest = without_lowest(rest);
-        best = sooner(best, pools.at(place), from);
+    match next {
+        Some(ahead) if u64::from(ahead) < most => u64::from(ahead),
+        _ => most,
     }
-    best
 }
 
-/// The cycle before the next finish, from a cycle on and no further than `to`.
-pub fn before_finish(finish: Option<u64>, cycle: u64, to: u64) -> u64
-    requires { cycle ≤ to }
+/// Passes the cycles after one that was just made in which nothing happens, but goes no further than
+/// `to`; answers the cycle that it comes to.
+pub fn pass_idle(finishes: &mut Finishes, pools: &Pools, made: Made, cycle: u64, to: u64) -> u64
+    requires ahead { cycle ≤ to }
+    requires known { made.progress ≡ Progress.Running → AreKnown pools.now.slots (cycle + 1) finishes.old }
+    requires quiet { made.still ≡ true → finishes.old.ready ≡ 0 }
     ensures least { cycle ≤ result }
     ensures most { result ≤ to }
-    ensures before { (v : ℕ) → cycle < result → v ≤ result → comes_before v finish ≡ true }
-    ensures stops { result < to → StopsAt finish cycle result }
+    ensures still { cycle < result → (made.still ≡ true) × (made.progress ≡ Progress.Running) × IsFree pools.now.slots cycle result }
+    ensures stops { made.progress ≡ Progress.Running → made.still ≡ true → result < to → FinishesSoon pools.now.slots cycle result }
+    ensures known { made.progress ≡ Progress.Running → AreKnown pools.now.slots (result + 1) finishes.new }
 {
-    match finish {
-        None => to,
-        Some(finish) if finish <= cycle => cycle,
-        Some(finish) if to < finish => to,
-        Some(finish) => finish - 1,
+    match made.progress {
+        Progress::Running => {}
+        _ => return cycle,
     }
+    if !made.still {
+        return cycle;
+    }
+    let idle = idle(finishes.wheel.next(), to - cycle);
+    finishes.pass(idle);
+    cycle + idle
 }

@@ -1,6 +1,6 @@
 //! What a cycle changes, and the one call that makes a cycle.
 
-ghost use Rattle.std.specs.Prelude.{ℕ, List, ◌≡◌, ◌≢◌, ◌⊎◌, ◌≤◌, ◌<◌, ◌+◌, ◌^◌, IfOk, nat_lt, true, false, if◌then◌else◌};
+ghost use Rattle.std.specs.Prelude.{ℕ, List, ◌≡◌, ◌≢◌, ◌⊎◌, ◌≤◌, ◌<◌, ◌+◌, ◌^◌, IfOk, OnOk, OnErr, nat_lt, true, false, if◌then◌else◌};
 ghost use Rattle.tomex_image.specs.Image.{IsLoaded};
 ghost use Rattle.tomex_config.specs.Row.{IsRow};
 ghost use Rattle.tomex_rvexec.specs.declared.outcome.EndKind.{EndKind};
@@ -15,11 +15,11 @@ ghost use Rattle.tomex_tags.specs.Pools.{AreBusy};
 ghost use Rattle.tomex_cycle.specs.Run.{run_to, AreIssuedBy, IsHistory};
 ghost use Rattle.tomex_cycle.specs.Views.{clocks, ShowsStations, ShowsRegisters};
 ghost use Rattle.tomex_cycle.specs.Phases.{IsSnapshot, is_done};
-ghost use Rattle.tomex_cycle.specs.Finishes.{FinishesSoon, IsFree};
+ghost use Rattle.tomex_cycle.specs.Finishes.{AreKnown};
 ghost use Rattle.tomex_cycle.specs.Events.{events_in};
 
 use crate::fetch::Fetch;
-use crate::finishes::{before_finish, next_finish};
+use crate::finishes::Finishes;
 use crate::phases;
 use crate::progress::{Made, Progress};
 use crate::shown::Tables;
@@ -42,10 +42,11 @@ fn leaves_all(starts: bool, addressed: bool, count: u32, before: u32, ended: boo
 /// Stations, registers and memory.
 #[derive(Drop)]
 pub struct Inner<A: Allocator = Global> {
-    pools: Pools,
+    pub(crate) pools: Pools,
     registers: RegStatus,
     memory: Memory<A>,
     fetch: Fetch,
+    pub(crate) finishes: Finishes,
     /// How many instructions have issued.
     count: u32,
     /// How many cycles were made.
@@ -62,6 +63,7 @@ impl<A: Allocator> Inner<A> {
     ) -> Made
         requires next { next < 2 ^ 41 }
         requires few { self.old.worked < 2 ^ 41 }
+        requires known { AreKnown self.old.pools.slots next self.old.finishes }
         ensures worked { self.new.worked ≡ self.old.worked + 1 }
         ensures cycle { (n : ℕ) (s : State) (kind : EndKind) (t : ℕ) → RunEnds fetcher.old n s kind → n < 262144 → next ≡ t + 1 → IsRow row.now → IsLoaded fetcher.old.window fetcher.old.memory fetcher.old.entry
             → IsSnapshot fetcher.old row.now n t self.old.count self.old.pools self.old.registers self.old.fetch self.old.memory
@@ -69,10 +71,18 @@ impl<A: Allocator> Inner<A> {
             × (result.progress ≡ (if nat_lt next (greatest_end (run_to row.now fetcher.old (n + 1))) then Progress.Running else Progress.Ended))
             × (result.still ≡ false → 0 < events_in next (run_to row.now fetcher.old (n + 1))) }
         ensures still { result.still ≡ true → (self.new.count ≡ self.old.count) × (self.new.pools.slots ≡ self.old.pools.slots) }
+        ensures known { result.progress ≡ Progress.Running → AreKnown self.new.pools.slots (next + 1) self.new.finishes }
+        ensures quiet { result.still ≡ true → self.new.finishes.ready ≡ 0 }
         ensures same { fetcher.new ≡ fetcher.old }
     {
         self.worked += 1;
-        let starts = phases::start(&mut self.pools, &mut self.memory, row, next);
+        let starts = phases::start(
+            &mut self.pools,
+            &mut self.memory,
+            &mut self.finishes,
+            row,
+            next,
+        );
         if let Some(fault) = starts.fault {
             return Made::fault(fault);
         }
@@ -94,6 +104,7 @@ impl<A: Allocator> Inner<A> {
             &mut self.pools,
             &mut self.registers,
             &mut self.fetch,
+            &mut self.finishes,
             row,
             next,
         );
@@ -101,24 +112,6 @@ impl<A: Allocator> Inner<A> {
             progress: Progress::after(self.is_over()),
             still: leaves_all(starts.any, addressed, self.count, before, ended),
         }
-    }
-
-    /// The cycle up to which nothing more happens after one that was just made, but no further than `to`.
-    pub fn still_until(&self, made: Made, cycle: u64, to: u64) -> u64
-        requires { cycle ≤ to }
-        ensures least { cycle ≤ result }
-        ensures most { result ≤ to }
-        ensures still { cycle < result → (made.still ≡ true) × (made.progress ≡ Progress.Running) × IsFree self.now.pools.slots cycle result }
-        ensures stops { made.progress ≡ Progress.Running → made.still ≡ true → result < to → FinishesSoon self.now.pools.slots cycle result }
-    {
-        match made.progress {
-            Progress::Running => {}
-            _ => return cycle,
-        }
-        if !made.still {
-            return cycle;
-        }
-        before_finish(next_finish(&self.pools, cycle), cycle, to)
     }
 
     /// Whether nothing is left to issue or to end.
@@ -135,20 +128,42 @@ impl<A: Allocator> Inner<A> {
         ensures start { IfOk result (λ c. (row : _) (n : ℕ) → IsSnapshot image.now row n 0 c.count c.pools c.registers c.fetch c.memory) }
         ensures none { IfOk result (λ c. c.count ≡ 0) }
         ensures unworked { IfOk result (λ c. c.worked ≡ 0) }
+        ensures known { IfOk result (λ c. AreKnown c.pools.slots 1 c.finishes) }
     {
-        let mut bytes = Vec::with_capacity(alloc, image.memory().len())?;
-        bytes.extend_from_slice(image.memory())?;
-        let window = image.window();
-        let end = u64::from(window.base()) + u64::from(window.size());
-        let stack = (end / 16 * 16 % (1 << 32)) as u32;
-        Ok(Inner {
+        let mut inner = Inner {
             pools: Pools::new(),
-            registers: RegStatus::new(stack),
-            memory: Memory::new(window.base(), bytes),
-            fetch: Fetch::At(image.entry()),
+            registers: RegStatus::new(0),
+            memory: Memory::new(0, Vec::new(alloc)),
+            fetch: Fetch::Waits,
+            finishes: Finishes::new(),
             count: 0,
             worked: 0,
-        })
+        };
+        inner.restart(image)?;
+        Ok(inner)
+    }
+
+    /// Before the first cycle of this image, in the memory that was taken before where that is enough.
+    pub fn restart<B: Allocator>(&mut self, image: &Image<B>) -> Result<(), AllocError>
+        ensures start { OnOk result ((row : _) (n : ℕ) → IsSnapshot image.now row n 0 self.new.count self.new.pools self.new.registers self.new.fetch self.new.memory) }
+        ensures none { OnOk result (self.new.count ≡ 0) }
+        ensures unworked { OnOk result (self.new.worked ≡ 0) }
+        ensures known { OnOk result (AreKnown self.new.pools.slots 1 self.new.finishes) }
+        ensures err { OnErr result (self.new ≡ self.old) }
+    {
+        let window = image.window();
+        let base = window.base();
+        // The one step that may be refused comes first, while all is as it was.
+        self.memory.reload(base, image.memory())?;
+        let end = u64::from(base) + u64::from(window.size());
+        let stack = (end / 16 * 16 % (1 << 32)) as u32;
+        self.pools = Pools::new();
+        self.registers = RegStatus::new(stack);
+        self.fetch = Fetch::At(image.entry());
+        self.finishes = Finishes::new();
+        self.count = 0;
+        self.worked = 0;
+        Ok(())
     }
 
     /// How many cycles were made.

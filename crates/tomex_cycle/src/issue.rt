@@ -1,6 +1,8 @@
 //! The issue of one instruction.
 
-ghost use Rattle.std.specs.Prelude.{◌≡◌, Ok, false};
+ghost use Rattle.std.specs.Prelude.{ℕ, ◌≡◌, Ok, false};
+ghost use Rattle.tomex_cycle.specs.declared.finishes.Finishes.{Finishes};
+ghost use Rattle.tomex_cycle.specs.Finishes.{AreKnown};
 ghost use Rattle.tomex_cycle.specs.Issue.{IssuesNext};
 
 use crate::fetch::Fetch;
@@ -20,6 +22,7 @@ pub fn issue_next<A: Allocator>(
 ) -> Result<bool, Fault>
     ensures issues { IssuesNext fetcher.old row.now count pools.old registers.old fetch.old result pools.new registers.new fetch.new }
     ensures none { result ≡ Ok false → pools.new ≡ pools.old }
+    ensures known { (f : Finishes) (next : ℕ) → AreKnown pools.old.slots next f → AreKnown pools.new.slots next f }
     ensures same { fetcher.new ≡ fetcher.old }
 {
     let pc = match *fetch {

@@ -1,12 +1,13 @@
 //! The machine.
 
-ghost use Rattle.std.specs.Prelude.{◌≡◌, ◌≢◌, ◌<◌, ◌≤◌, ◌+◌, ◌^◌, max, IfOk, true};
+ghost use Rattle.std.specs.Prelude.{◌≡◌, ◌≢◌, ◌<◌, ◌≤◌, ◌+◌, ◌^◌, max, IfOk, OnOk, OnErr, true};
 ghost use Rattle.tomex_rvexec.specs.Run.{EndsWithin, IsEnd};
 ghost use Rattle.tomex_timing.specs.Tables.{tables_of};
 ghost use Rattle.tomex_cycle.specs.Run.{run_of};
 ghost use Rattle.tomex_cycle.specs.Seen.{seen, seen_after, is_end};
 ghost use Rattle.tomex_cycle.specs.Events.{IsCounted, Passes};
 
+use crate::finishes::pass_idle;
 use crate::inner::Inner;
 use crate::progress::Progress;
 use crate::shown::Tables;
@@ -27,15 +28,15 @@ pub struct Machine<'a, A: Allocator = Global> {
 }
 
 impl<'a, A: Allocator> Model for Machine<'a, A> {
-    ghost use Rattle.std.specs.Prelude.{◌≤◌};
+    ghost use Rattle.std.specs.Prelude.{◌≤◌, ◌+◌};
     ghost use Rattle.tomex_cycle.specs.Seen.{Counted};
-    ghost use Rattle.tomex_cycle.specs.Sound.{IsSound};
+    ghost use Rattle.tomex_cycle.specs.Sound.{IsSound, IsTurning};
 
     ghost Value = { Counted };
 
     ghost view = { λ m. record { image = m.fetcher; row = m.row; cycle = m.cycle; last = m.last; worked = m.inner.worked } };
 
-    ghost invariant = { λ m. IsSound m.fetcher m.row m.cycle m.last m.inner.count m.inner.pools m.inner.registers m.inner.fetch m.inner.memory × (m.inner.worked ≤ m.cycle) };
+    ghost invariant = { λ m. IsSound m.fetcher m.row m.cycle m.last m.inner.count m.inner.pools m.inner.registers m.inner.fetch m.inner.memory × (m.inner.worked ≤ m.cycle) × IsTurning m.last m.inner.pools.slots (m.cycle + 1) m.inner.finishes };
 }
 
 impl<'a, A: Allocator> Machine<'a, A> {
@@ -54,6 +55,24 @@ impl<'a, A: Allocator> Machine<'a, A> {
             last: Progress::Running,
             inner: Inner::new(alloc, image)?,
         })
+    }
+
+    /// The machine of this image and this row, before the first cycle, in the memory that it has where
+    /// that is enough. Where more is refused it stays as it is.
+    pub fn restart(&mut self, image: &'a Image<A>, row: &Config) -> Result<(), AllocError>
+        ensures start { OnOk result (seen self.new ≡ record { image = image.now; row = row.now; cycle = 0; last = Progress.Running }) }
+        ensures worked { OnOk result (self.new.worked ≡ 0) }
+        ensures err { OnErr result (self.new ≡ self.old) }
+    {
+        // Read for what the types of the row and the image keep.
+        let _buses = row.buses();
+        let _entry = image.entry();
+        self.inner.restart(image)?;
+        self.fetcher = Fetcher::new(image);
+        self.row = *row;
+        self.cycle = 0;
+        self.last = Progress::Running;
+        Ok(())
     }
 
     /// Makes one cycle. Once the program has ended or faulted it changes nothing.
@@ -93,7 +112,7 @@ impl<'a, A: Allocator> Machine<'a, A> {
     {
         let next = self.cycle + 1;
         let made = self.inner.make_cycle(&mut self.fetcher, &self.row, next);
-        self.cycle = self.inner.still_until(made, next, to);
+        self.cycle = pass_idle(&mut self.inner.finishes, &self.inner.pools, made, next, to);
         self.last = made.progress;
         self.last
     }

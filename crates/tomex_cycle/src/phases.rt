@@ -1,10 +1,11 @@
 //! The phases of a cycle. Each reads only what no earlier one of the cycle has changed.
 
-ghost use Rattle.std.specs.Prelude.{◌≡◌, ◌<◌, ◌^◌, IsSome, None, Ok, false, true, option_map, slice_index_or, slice_set};
-ghost use Rattle.tomex_tags.specs.Contents.{with_address};
+ghost use Rattle.std.specs.Prelude.{◌≡◌, ◌<◌, ◌+◌, ◌^◌, None, Ok, false, true};
+ghost use Rattle.tomex_cycle.specs.Finishes.{AreKnown};
 ghost use Rattle.tomex_cycle.specs.Phases.{AddressHappens, EndsHappen, MakesStarts, MakesAddress, MakesIssue, MakesEnds, StartsHappen};
 
 use crate::fetch::Fetch;
+use crate::finishes::Finishes;
 use crate::issue::issue_next;
 use crate::{ends, starts};
 use std::alloc::Allocator;
@@ -26,13 +27,16 @@ pub struct Starts {
 pub fn start<A: Allocator>(
     pools: &mut Pools,
     memory: &mut Memory<A>,
+    finishes: &mut Finishes,
     row: &Config,
     next: u64,
 ) -> Starts
     requires next { next < 2 ^ 41 }
+    requires known { AreKnown pools.old.slots next finishes.old }
     ensures starts { MakesStarts row.now next pools.old memory.old result.fault pools.new memory.new }
     ensures none { result.any ≡ false → pools.new.slots ≡ pools.old.slots }
     ensures any { result.any ≡ true → StartsHappen row.now next pools.old }
+    ensures known { result.fault ≡ None → AreKnown pools.new.slots next finishes.new }
 {
     let starting = starts::starting(pools, row, next);
     if starting == 0 {
@@ -41,19 +45,9 @@ pub fn start<A: Allocator>(
             any: false,
         };
     }
-    let fault = starts::begin(pools, starting, memory, row, next);
+    let fault = starts::begin(pools, finishes, starting, memory, row, next);
     starts::write(pools, starting, memory);
     Starts { fault, any: true }
-}
-
-/// Gives the station of a place its address.
-fn give_address(pools: &mut Pools, place: usize)
-    ensures slots { IsSome (slice_index_or pools.old.slots place None) → pools.new.slots ≡ slice_set pools.old.slots place (option_map with_address (slice_index_or pools.old.slots place None)) }
-    ensures ages { pools.new.ages ≡ pools.old.ages }
-{
-    if let Some(station) = pools.at(place) {
-        pools.update(place, station.with_address());
-    }
 }
 
 /// The address of the oldest load or store without one, where its base is there; answers whether there is such.
@@ -61,10 +55,11 @@ pub fn address(pools: &mut Pools, next: u64) -> bool
     ensures addresses { MakesAddress next pools.old pools.new }
     ensures none { result ≡ false → pools.new.slots ≡ pools.old.slots }
     ensures any { result ≡ true → AddressHappens next pools.old }
+    ensures known { (f : Finishes) → AreKnown pools.old.slots next f → AreKnown pools.new.slots next f }
 {
     match address_next(pools) {
         Some(place) => {
-            give_address(pools, place);
+            pools.compute_address(place);
             true
         }
         None => false,
@@ -83,29 +78,34 @@ pub fn issue<A: Allocator>(
 ) -> Result<u32, Fault>
     ensures issues { MakesIssue fetcher.old row.now next count pools.old registers.old fetch.old result pools.new registers.new fetch.new }
     ensures none { result ≡ Ok count → pools.new.slots ≡ pools.old.slots }
+    ensures known { (f : Finishes) → AreKnown pools.old.slots next f → AreKnown pools.new.slots next f }
     ensures same { fetcher.new ≡ fetcher.old }
 {
     let made = issue_next(pools, registers, fetch, count, fetcher, row)?;
     Ok(count.wrapping_add(u32::from(made)))
 }
 
-/// Sends results over the buses, frees stations, and follows branches; answers whether anything ends.
+/// Sends results over the buses, frees stations, and follows branches; answers whether anything ends or finishes.
 pub fn end(
     pools: &mut Pools,
     registers: &mut RegStatus,
     fetch: &mut Fetch,
+    finishes: &mut Finishes,
     row: &Config,
     next: u64,
 ) -> bool
+    requires known { AreKnown pools.old.slots next finishes.old }
     ensures ends { MakesEnds row.now next pools.old registers.old fetch.old pools.new registers.new fetch.new }
     ensures none { result ≡ false → pools.new.slots ≡ pools.old.slots }
     ensures any { result ≡ true → EndsHappen row.now next pools.old }
+    ensures known { AreKnown pools.new.slots (next + 1) finishes.new }
+    ensures quiet { result ≡ false → finishes.new.ready ≡ 0 }
 {
-    let ending = ends::ending(pools, row.buses(), next);
-    *fetch = ends::follow(*fetch, pools, next);
-    if ending == 0 {
-        return false;
+    let over = ends::settle(pools, finishes, row.buses(), next);
+    *fetch = ends::follow(*fetch, pools, over.due, next);
+    if over.ending == 0 {
+        return over.due != 0;
     }
-    ends::apply(pools, registers, ending);
+    ends::apply(pools, registers, over.ending);
     true
 }

@@ -1,14 +1,16 @@
 //! Which operations start in a cycle, and what they do.
 
-ghost use Rattle.std.specs.Prelude.{ℕ, List, ◌≡◌, ◌<◌, ◌^◌, ◌++◌, ◌∷◌, IfSome, IsSome, None, Some, slice_index_or, slice_set, length, true};
-ghost use Rattle.tomex_bus.specs.Picks.{IsByAge};
+ghost use Rattle.std.specs.Prelude.{ℕ, ◌≡◌, ◌≢◌, ◌<◌, ◌≤◌, ◌+◌, ◌-◌, ◌^◌, IfSome, IsSome, None, Some, slice_index_or, slice_set, length, true};
 ghost use Rattle.tomex_bus.specs.Sets.{has};
 ghost use Rattle.tomex_tags.specs.Contents.{started, step_in};
 ghost use Rattle.tomex_tags.specs.Pools.{AreBusy};
-ghost use Rattle.tomex_tags.specs.Standing.{waits};
+ghost use Rattle.tomex_tags.specs.Standing.{waits_for};
+ghost use Rattle.tomex_rvdec.specs.Operands.{unit_of};
 ghost use Rattle.tomex_rvexec.specs.Access.{HasStored};
-ghost use Rattle.tomex_cycle.specs.Starts.{AllCanBegin, AllInside, AreLow, AreReady, CanBegin, HaveBegun, HaveStored, IsStarting, begun, wanted};
+ghost use Rattle.tomex_cycle.specs.Finishes.{AreKnown};
+ghost use Rattle.tomex_cycle.specs.Starts.{AllCanBegin, AllInside, AreLow, AreReadyFor, CanBegin, HaveBegun, HaveStored, IsStarting, IsWanted, begun};
 
+use crate::finishes::Finishes;
 use std::alloc::Allocator;
 use tomex_bus::pick;
 use tomex_bus::sets::{both, lowest, union, with, without_lowest};
@@ -16,39 +18,47 @@ use tomex_config::Config;
 use tomex_membuf::{may_access, read, write as write_bytes};
 use tomex_rvdec::UnitId;
 use tomex_rvexec::{Fault, FaultKind, Memory};
-use tomex_tags::{Pools, Station};
+use tomex_tags::{Pools, Station, unit};
 
-/// The kind of unit that is wanted for a station that waits for no more, if older accesses let it.
+/// Whether no older access is in the way of the one in a place, which waits for nothing else but a port.
 #[inline(always)]
-fn wanted(pools: &Pools, place: usize, next: u64) -> Option<usize>
+fn is_clear(pools: &Pools, place: usize, next: u64) -> bool
     requires below { place < 128 }
-    requires waits { waits (slice_index_or pools.now.slots place None) ≡ true }
-    ensures kind { (older younger : List ℕ) → IsByAge pools.now.busy pools.now.ages (older ++ (place ∷ younger)) → result ≡ wanted pools.now.slots older next (slice_index_or pools.now.slots place None) }
-    ensures low { IfSome result (λ kind. kind < 5) }
+    requires waits { waits_for UnitId.Mem (slice_index_or pools.now.slots place None) ≡ true }
+    ensures { IsWanted pools.now next UnitId.Mem place result }
 {
-    let station = pools.at(place)?;
-    if !may_access(pools, place, &station, next) {
-        return None;
+    match pools.at(place) {
+        Some(station) => may_access(pools, place, &station, next),
+        None => false,
     }
-    Some(station.instr.unit()?.place())
 }
 
-/// By kind of unit, the places whose operations can start but for want of a unit.
-fn ready(pools: &Pools, next: u64) -> [u128; 5]
-    ensures ready { AreReady pools.now next result }
+/// The places of the loads and stores whose accesses can start but for want of a port.
+fn accessible(pools: &Pools, next: u64) -> u128
+    ensures ready { AreReadyFor pools.now next UnitId.Mem result }
     ensures busy { AreBusy pools.now.slots pools.now.busy pools.now.ages }
 {
-    let mut ready = [0; 5];
-    let waiting = pools.waiting();
+    let mut clear = 0;
+    let waiting = pools.waiting_for(UnitId::Mem);
     let mut rest = waiting;
     'members: while rest != 0 {
         let place = lowest(rest);
         rest = without_lowest(rest);
-        if let Some(kind) = wanted(pools, place, next) {
-            ready[kind] = with(ready[kind], place);
+        if is_clear(pools, place, next) {
+            clear = with(clear, place);
         }
     }
-    ready
+    clear
+}
+
+/// The places whose operations can start but for want of a unit of this kind, which is no memory port.
+#[inline(always)]
+fn ready(pools: &Pools, next: u64, unit: UnitId) -> u128
+    requires { unit ≢ UnitId.Mem }
+    ensures ready { AreReadyFor pools.now next unit result }
+    ensures busy { AreBusy pools.now.slots pools.now.busy pools.now.ages }
+{
+    pools.waiting_for(unit)
 }
 
 /// The places whose operations start in the cycle: of each kind the oldest that are ready, as many as
@@ -57,76 +67,104 @@ pub fn starting(pools: &Pools, row: &Config, next: u64) -> u128
     ensures starting { IsStarting row.now pools.now next result }
     ensures busy { AreBusy pools.now.slots pools.now.busy pools.now.ages }
 {
-    let ready = ready(pools, next);
     let ages = pools.ages();
-    let alu = pick(ready[0], ages, row.units(UnitId::Alu));
-    let mul = pick(ready[1], ages, row.units(UnitId::Mul));
-    let div = pick(ready[2], ages, row.units(UnitId::Div));
-    let mem = pick(ready[3], ages, row.units(UnitId::Mem));
-    let bru = pick(ready[4], ages, row.units(UnitId::Bru));
+    let alu = pick(
+        ready(pools, next, UnitId::Alu),
+        ages,
+        row.units(UnitId::Alu),
+    );
+    let mul = pick(
+        ready(pools, next, UnitId::Mul),
+        ages,
+        row.units(UnitId::Mul),
+    );
+    let div = pick(
+        ready(pools, next, UnitId::Div),
+        ages,
+        row.units(UnitId::Div),
+    );
+    let mem = pick(accessible(pools, next), ages, row.units(UnitId::Mem));
+    let bru = pick(
+        ready(pools, next, UnitId::Bru),
+        ages,
+        row.units(UnitId::Bru),
+    );
     union(alu, union(mul, union(div, union(mem, bru))))
 }
 
-/// The cycle in which the operation of a station is done if it starts now, and its result; `None`
-/// where its access lies outside memory.
+/// The cycles that the operation of a station takes, and its result; `None` where its access lies
+/// outside memory.
 #[inline(always)]
 fn outcome<A: Allocator>(
     station: &Station,
+    unit: UnitId,
     memory: &Memory<A>,
     row: &Config,
-    next: u64,
-) -> Option<(u64, u32)>
-    requires { next < 2 ^ 41 }
-    ensures value { IfSome result (λ o. started o.0 o.1 station.now ≡ begun row.now next memory.now station.now) }
+) -> Option<(u8, u32)>
+    requires { unit_of station.now.instr.op ≡ Some unit }
+    ensures value { (next : ℕ) → IfSome result (λ o. started (next + o.0 - 1) o.1 station.now ≡ begun row.now next memory.now station.now) }
+    ensures range { IfSome result (λ o. (1 ≤ o.0) × (o.0 ≤ 64)) }
     ensures inside { CanBegin memory.now station.now → IsSome result }
 {
-    let unit = station.instr.unit()?;
     let value = read(station, memory)?;
-    Some((next + u64::from(row.latency(unit)) - 1, value))
+    Some((row.latency(unit), value))
 }
 
-/// Starts the operation of a place; a fault where its access lies outside memory.
+/// Starts the operation of a place, where it hasn't started; a fault where its access lies outside memory.
 fn begin_at<A: Allocator>(
     pools: &mut Pools,
+    finishes: &mut Finishes,
     place: usize,
     memory: &Memory<A>,
     row: &Config,
     next: u64,
 ) -> Option<Fault>
     requires next { next < 2 ^ 41 }
+    requires known { AreKnown pools.old.slots next finishes.old }
     ensures slots { (s : Station) → slice_index_or pools.old.slots place None ≡ Some s → CanBegin memory.now s → pools.new.slots ≡ slice_set pools.old.slots place (Some (begun row.now next memory.now s)) }
     ensures good { (s : Station) → slice_index_or pools.old.slots place None ≡ Some s → CanBegin memory.now s → result ≡ None }
     ensures ages { pools.new.ages ≡ pools.old.ages }
+    ensures known { result ≡ None → AreKnown pools.new.slots next finishes.new }
 {
-    if let Some(station) = pools.at(place) {
-        match outcome(&station, memory, row, next) {
-            Some((finish, value)) => pools.start(place, station, finish, value),
-            None => return Some(Fault {
-                kind: FaultKind::Access,
-                pc: station.pc,
-            }),
-        }
+    let Some(station) = pools.at(place) else {
+        return None;
+    };
+    if station.finish.is_some() {
+        return None;
     }
-    None
+    match outcome(&station, unit(place), memory, row) {
+        Some((latency, value)) => {
+            pools.start(place, next + u64::from(latency) - 1, value);
+            finishes.start(place, latency);
+            None
+        }
+        None => Some(Fault {
+            kind: FaultKind::Access,
+            pc: station.pc,
+        }),
+    }
 }
 
 /// Starts the operations of the picked places, over what memory holds before any of them.
 pub fn begin<A: Allocator>(
     pools: &mut Pools,
+    finishes: &mut Finishes,
     picked: u128,
     memory: &Memory<A>,
     row: &Config,
     next: u64,
 ) -> Option<Fault>
     requires next { next < 2 ^ 41 }
+    requires known { AreKnown pools.old.slots next finishes.old }
     ensures begins { length pools.old.slots ≡ 96 → AreLow picked → AllCanBegin memory.now picked pools.old.slots → HaveBegun row.now next memory.now picked 96 pools.old pools.new }
     ensures good { length pools.old.slots ≡ 96 → AreLow picked → AllCanBegin memory.now picked pools.old.slots → result ≡ None }
+    ensures known { result ≡ None → AreKnown pools.new.slots next finishes.new }
 {
     let mut rest = picked;
     'members: while rest != 0 {
         let place = lowest(rest);
         rest = without_lowest(rest);
-        let fault = begin_at(pools, place, memory, row, next);
+        let fault = begin_at(pools, finishes, place, memory, row, next);
         if fault.is_some() {
             return fault;
         }

@@ -1,5 +1,7 @@
 //! How far long work is, shown while it goes on.
 
+ghost use Rattle.std.specs.Prelude.{◌≡◌, IfSome};
+
 use std::io::{IsTerminal, Stderr, Write};
 use std::sync::atomic::{AtomicU64, Ordering};
 use std::time::Clock;
@@ -51,7 +53,10 @@ fn milliseconds(clock: &impl Clock) -> u64 {
 
 impl<'a, R: Clock> TerminalMeter<'a, R> {
     /// A meter on this standard error.
-    pub fn new(clock: &'a R, error: Stderr) -> TerminalMeter<'a, R> {
+    pub fn new(clock: &'a R, error: Stderr) -> TerminalMeter<'a, R>
+        ensures clock { result.clock.now ≡ clock.now }
+        ensures terminal { IfSome result.terminal (λ t. t ≡ error) }
+    {
         let terminal = if error.is_terminal() {
             Some(error)
         } else {

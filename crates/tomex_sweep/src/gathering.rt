@@ -6,7 +6,8 @@ ghost use Rattle.tomex_lanes.specs.Parts.{is_closed};
 ghost use Rattle.tomex_sweep.specs.Cycles.{cycles_of};
 ghost use Rattle.tomex_sweep.specs.Marks.{AreJudged, rows_left};
 
-use crate::row_run::row_cycles;
+use crate::laws::each_program_ends;
+use crate::runs::Runs;
 use crate::study::Study;
 use std::alloc::{AllocError, Allocator};
 use tomex_board::Mark;
@@ -32,12 +33,14 @@ pub(crate) fn gather<A: Allocator + Clone>(
     ensures judged { OnOk result (AreJudged study.now.costs (cycles_of study.now) marks.new.items) }
     ensures counted { IfOk result (λ n. n ≡ rows_left marks.old.items) }
 {
+    each_program_ends(study.programs());
+    let mut runs = Runs::new(alloc);
     let mut gathered = 0;
     for row in 0..marks.len() {
         if is_closed(marks[row]) {
             continue;
         }
-        let cycles = row_cycles(alloc.clone()?, study.programs(), &study.rows()[row])?;
+        let cycles = runs.cycles(study.programs(), &study.rows()[row])?;
         marks[row] = Mark::Finished(cycles);
         gathered += 1;
     }

@@ -12,6 +12,7 @@ mod outcome;
 mod program;
 mod row_run;
 mod running_all;
+mod runs;
 mod stacks;
 mod started;
 mod stop;

@@ -1,9 +1,6 @@
 //! The run of a row: the programs in order, by the cycle machine.
 
-ghost use Rattle.std.specs.Prelude.{◌≡◌, ◌+◌, ◌≤◌, length, IfOk, All};
-ghost use Rattle.tomex_rvexec.specs.Run.{EndsWithin};
-ghost use Rattle.tomex_config.specs.Row.{IsRow};
-ghost use Rattle.tomex_cycle.specs.Run.{total};
+ghost use Rattle.std.specs.Prelude.{◌≡◌, ◌+◌, ◌≤◌, length, IfOk, OnOk, All};
 ghost use Rattle.tomex_sweep.specs.Program.{IsProgram};
 ghost use Rattle.tomex_sweep.specs.Cycles.{cycles_on};
 ghost use Rattle.tomex_sweep.specs.Stops.{stop_at};
@@ -18,13 +15,9 @@ use tomex_cycle::Machine;
 /// Between two looks a run goes on for so many cycles.
 const STRIDE: u64 = 1024;
 
-/// No program takes more cycles: 67 for each of 262,144 steps.
-const MOST_CYCLES: u64 = 17_563_648;
-
 /// A row's run. It goes on from look to look.
 #[derive(Drop)]
 pub(crate) struct RowRun<'s, A: Allocator> {
-    alloc: A,
     programs: &'s [Program<A>],
     row: &'s Config,
     /// How many programs are done.
@@ -48,7 +41,7 @@ impl<'s, A: Allocator> Model for RowRun<'s, A> {
     ghost invariant = { λ r. IsGoing r.programs.now r.row.now r.reached r.place r.done (seen r.machine) };
 }
 
-impl<'s, A: Allocator + Clone> RowRun<'s, A> {
+impl<'s, A: Allocator> RowRun<'s, A> {
     /// The run of a row, before its first cycle.
     pub(crate) fn new(
         alloc: A,
@@ -62,9 +55,8 @@ impl<'s, A: Allocator + Clone> RowRun<'s, A> {
     {
         // Read for what the row's type keeps, which the proof needs.
         let _buses = row.buses();
-        let machine = Machine::new(alloc.clone()?, programs[0].image(), row)?;
+        let machine = Machine::new(alloc, programs[0].image(), row)?;
         Ok(RowRun {
-            alloc,
             programs,
             row,
             place: 0,
@@ -72,6 +64,29 @@ impl<'s, A: Allocator + Clone> RowRun<'s, A> {
             reached: 0,
             machine,
         })
+    }
+
+    /// The run of this row of these programs, before its first cycle, in the memory that the machine has
+    /// where that is enough.
+    pub(crate) fn restart(
+        &mut self,
+        programs: &'s [Program<A>],
+        row: &'s Config,
+    ) -> Result<(), AllocError>
+        requires some { 1 ≤ length programs.now }
+        requires few { length programs.now ≤ 8 }
+        requires ends { All IsProgram programs.now }
+        ensures { OnOk result (self.new ≡ record { programs = programs.now; row = row.now; reached = 0 }) }
+    {
+        // Read for what the row's type keeps, which the proof needs.
+        let _buses = row.buses();
+        self.machine.restart(programs[0].image(), row)?;
+        self.programs = programs;
+        self.row = row;
+        self.place = 0;
+        self.done = 0;
+        self.reached = 0;
+        Ok(())
     }
 
     /// Goes on to the next multiple of 1,024 cycles, where the run isn't over before or at it, or
@@ -96,43 +111,10 @@ impl<'s, A: Allocator + Clone> RowRun<'s, A> {
                 self.done = done;
                 return Ok(Stop::Over(done));
             };
-            let machine = Machine::new(self.alloc.clone()?, program.image(), self.row)?;
-            self.machine = machine;
+            self.machine.restart(program.image(), self.row)?;
             self.place = place;
             self.done = done;
         }
         Ok(Stop::Over(self.done))
     }
-}
-
-/// The cycles that a program takes on a row.
-fn program_cycles<A: Allocator + Clone>(
-    alloc: A,
-    program: &Program<A>,
-    row: &Config,
-) -> Result<u64, AllocError>
-    ensures total { IfOk result (λ n. n ≡ total row.now program.now.image) }
-    ensures bound { IfOk result (λ n. n ≤ 17563648) }
-{
-    // Read for what the row's type keeps, which the proof needs.
-    let _buses = row.buses();
-    let mut machine = Machine::new(alloc, program.image(), row)?;
-    machine.advance(MOST_CYCLES);
-    Ok(machine.cycle())
-}
-
-/// The cycles of a row, which is run to its end.
-pub(crate) fn row_cycles<A: Allocator + Clone>(
-    alloc: A,
-    programs: &[Program<A>],
-    row: &Config,
-) -> Result<u64, AllocError>
-    requires few { length programs.now ≤ 8 }
-    ensures { IfOk result (λ n. n ≡ cycles_on programs.now row.now) }
-{
-    let mut cycles = 0;
-    for program in programs {
-        cycles += program_cycles(alloc.clone()?, program, row)?;
-    }
-    Ok(cycles)
 }

@@ -8,8 +8,9 @@ ghost use Rattle.tomex_sweep.specs.declared.outcome.SweepError.TheVariants.{Memo
 
 use crate::fronts::front;
 use crate::gate::{Gate, OpenGate};
+use crate::laws::each_program_ends;
 use crate::outcome::{Outcome, SweepError};
-use crate::row_run::row_cycles;
+use crate::runs::Runs;
 use crate::study::Study;
 use std::alloc::Allocator;
 use tomex_board::Mark;
@@ -27,10 +28,12 @@ pub fn run_all_under<A: Allocator + Clone, G: Gate>(
 {
     let count = study.rows().len();
     gate.begins(count);
+    each_program_ends(study.programs());
+    let mut runs = Runs::new(alloc.clone()?);
     let mut marks = Vec::with_capacity(alloc.clone()?, count)?;
     for row in study.rows() {
         gate.before(0, marks.len());
-        let cycles = row_cycles(alloc.clone()?, study.programs(), row)?;
+        let cycles = runs.cycles(study.programs(), row)?;
         marks.push(Mark::Finished(cycles))?;
     }
     let front = front(alloc, study.costs(), marks.as_slice())?;

@@ -6,7 +6,7 @@ ghost use Rattle.tomex_sweep.specs.Plans.{IsPlanOf};
 
 use crate::gate::Gate;
 use crate::laws::each_program_ends;
-use crate::row_run::RowRun;
+use crate::runs::Runs;
 use crate::stop::Stop;
 use crate::study::Study;
 use std::alloc::{AllocError, Allocator};
@@ -15,9 +15,9 @@ use tomex_lanes::{Lane, Part};
 
 /// Runs a row that the seat has in hand, until it is over or a look finds a finished row that costs no
 /// more and takes fewer cycles than this one has made, and closes it on the board.
-fn close_row<J: Plan, A: Allocator + Clone>(
-    alloc: A,
-    study: &Study<A>,
+fn close_row<'s, J: Plan, A: Allocator + Clone>(
+    runs: &mut Runs<'s, A>,
+    study: &'s Study<A>,
     board: &Board<J, A>,
     seat: &mut Seat<J>,
     row: usize,
@@ -32,7 +32,7 @@ fn close_row<J: Plan, A: Allocator + Clone>(
     ensures grown { Grows seat.old.view seat.new.view }
 {
     each_program_ends(study.programs());
-    let mut run = RowRun::new(alloc, study.programs(), &study.rows()[row])?;
+    let run = runs.begin(study.programs(), &study.rows()[row])?;
     loop {
         match run.go_on()? {
             Stop::Over(cycles) => {
@@ -52,9 +52,9 @@ fn close_row<J: Plan, A: Allocator + Clone>(
 }
 
 /// Claims a row, and where the claim is true runs and closes it. Either way it isn't open then.
-fn try_row<J: Plan, A: Allocator + Clone, G: Gate>(
-    alloc: A,
-    study: &Study<A>,
+fn try_row<'s, J: Plan, A: Allocator + Clone, G: Gate>(
+    runs: &mut Runs<'s, A>,
+    study: &'s Study<A>,
     board: &Board<J, A>,
     seat: &mut Seat<J>,
     worker: usize,
@@ -75,13 +75,13 @@ fn try_row<J: Plan, A: Allocator + Clone, G: Gate>(
         return Ok(());
     }
     gate.before(worker, row);
-    close_row(alloc, study, board, seat, row)
+    close_row(runs, study, board, seat, row)
 }
 
 /// Takes rows as long as there are any, but at most as many as there are rows, and tries each.
-fn try_taken<J: Plan, A: Allocator + Clone, G: Gate>(
-    alloc: A,
-    study: &Study<A>,
+fn try_taken<'s, J: Plan, A: Allocator + Clone, G: Gate>(
+    runs: &mut Runs<'s, A>,
+    study: &'s Study<A>,
     board: &Board<J, A>,
     seat: &mut Seat<J>,
     lane: &mut Lane<A>,
@@ -101,15 +101,15 @@ fn try_taken<J: Plan, A: Allocator + Clone, G: Gate>(
         let Some(row) = lane.take() else {
             return Ok(());
         };
-        try_row(alloc.clone()?, study, board, seat, worker, row, gate)?;
+        try_row(runs, study, board, seat, worker, row, gate)?;
     }
     Ok(())
 }
 
 /// Tries each row of the lane's list once, rising. None of them is open then.
-fn try_listed<J: Plan, A: Allocator + Clone, G: Gate>(
-    alloc: A,
-    study: &Study<A>,
+fn try_listed<'s, J: Plan, A: Allocator + Clone, G: Gate>(
+    runs: &mut Runs<'s, A>,
+    study: &'s Study<A>,
     board: &Board<J, A>,
     seat: &mut Seat<J>,
     lane: &Lane<A>,
@@ -126,7 +126,7 @@ fn try_listed<J: Plan, A: Allocator + Clone, G: Gate>(
 {
     let worker = lane.worker();
     for row in lane.rows() {
-        try_row(alloc.clone()?, study, board, seat, worker, *row, gate)?;
+        try_row(runs, study, board, seat, worker, *row, gate)?;
     }
     Ok(())
 }
@@ -150,7 +150,8 @@ pub fn work<J: Plan, A: Allocator + Clone, G: Gate>(
     ensures board { IfOk result (λ p. p.seat.board ≡ seat.board) }
     ensures share { IfOk result (λ p. p.seat.view.share ≡ seat.view.share) }
 {
-    try_taken(alloc.clone()?, study, board, &mut seat, &mut lane, gate)?;
-    try_listed(alloc, study, board, &mut seat, &lane, gate)?;
+    let mut runs = Runs::new(alloc);
+    try_taken(&mut runs, study, board, &mut seat, &mut lane, gate)?;
+    try_listed(&mut runs, study, board, &mut seat, &lane, gate)?;
     Ok(Part::new(seat, lane.into_rows()))
 }

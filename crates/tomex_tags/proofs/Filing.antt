@@ -1,15 +1,17 @@
 -- The sets of what stations wait for, as stations come, change and go.
 use Rattle.std.proofs.Common.{ℕ, ◌<◌, ◌≡◌, ◌∙◌, Bool, true, false, refl, ap, sym, subst, inl, inr, List, Option, Some, None, length, slice_index_or, slice_set}
-use Rattle.std.specs.Prelude.{◌==◌, ◌&&◌, ◌||◌, not, is_some, is_none}
+use Rattle.std.specs.Prelude.{◌==◌, ◌&&◌, is_some}
 use Rattle.std.proofs.lemmas.Bool.{both_ways, cases_Bool, eqb-true, eqb-false}
 use Rattle.std.proofs.lemmas.List.{get_or-set_same, get_or-set_other}
 use Rattle.tomex_bus.specs.Sets.{has, IsWith, IsWithout}
 use Rattle.tomex_bus.proofs.Bits.{none_in}
 use Rattle.tomex_tags.specs.declared.standing.Standing.{Standing}
 use Rattle.tomex_tags.specs.declared.station.Station.{Station}
-use Rattle.tomex_tags.specs.Contents.{hears, is_memory_op, is_ready, lacks_address, started}
+use Rattle.tomex_timing.specs.declared.tables.Field.{Field}
+use Rattle.tomex_timing.specs.declared.tables.Field.TheVariants.{Value, Waits, Unread}
+use Rattle.tomex_tags.specs.Contents.{hears, is_waiting, started, with_address}
 use Rattle.tomex_tags.specs.Pools.{AreBusy}
-use Rattle.tomex_tags.specs.Standing.{AreStanding, HasFiled, IsFiled, IsSetOf, expects, has_address, has_started, waits}
+use Rattle.tomex_tags.specs.Standing.{AreStanding, HasFiled, IsFiled, IsSetOf, has_address, waits, writes}
 
 pub filed_with : (set new x : ℕ) (member : Bool) → member ≡ true → IsWith set x new → IsFiled x member set new
 filed_with set new x member is with y l = elim (cases_Bool (x == y)) [
@@ -31,10 +33,9 @@ set_filed test slots old new x v l of filed y m = filed y m ∙ elim (cases_Bool
 
 pub all_filed : (slots : List (Option Station)) (x : ℕ) (v : Option Station) (old new : Standing) → x < length slots → AreStanding slots old → HasFiled x v old new → AreStanding (slice_set slots x v) new
 all_filed slots x v old new l standing filed = record {
-  lacking = set_filed lacks_address slots old.lacking new.lacking x v l standing.lacking filed.lacking;
   addressed = set_filed has_address slots old.addressed new.addressed x v l standing.addressed filed.addressed;
-  expecting = set_filed expects slots old.expecting new.expecting x v l standing.expecting filed.expecting;
-  started = set_filed has_started slots old.started new.started x v l standing.started filed.started;
+  waiting = set_filed waits slots old.waiting new.waiting x v l standing.waiting filed.waiting;
+  writing = set_filed writes slots old.writing new.writing x v l standing.writing filed.writing;
 }
 
 -- what is as before is filed as before
@@ -44,58 +45,42 @@ kept test slots old new x v w l of at same e y m = elim (cases_Bool (x == y)) [
   | inr k ↦ rw (k, e) refl
 ]
 
-pub start_filed : (slots : List (Option Station)) (x finish value : ℕ) (s : Station) (old new : Standing) → x < 128 → AreStanding slots old → slice_index_or slots x None ≡ Some s → IsFiled x true old.started new.started → (new.lacking ≡ old.lacking) × (new.addressed ≡ old.addressed) × (new.expecting ≡ old.expecting) → HasFiled x (Some (started finish value s)) old new
+pub start_filed : (slots : List (Option Station)) (x finish value : ℕ) (s : Station) (old new : Standing) → x < 128 → AreStanding slots old → slice_index_or slots x None ≡ Some s → IsFiled x false old.waiting new.waiting → (new.addressed ≡ old.addressed) × (new.writing ≡ old.writing) → HasFiled x (Some (started finish value s)) old new
 start_filed slots x finish value s old new l standing at filed same = record {
-  lacking = kept lacks_address slots old.lacking new.lacking x (Some (started finish value s)) (Some s) l standing.lacking at refl same.0;
-  addressed = kept has_address slots old.addressed new.addressed x (Some (started finish value s)) (Some s) l standing.addressed at refl same.1;
-  expecting = kept expects slots old.expecting new.expecting x (Some (started finish value s)) (Some s) l standing.expecting at refl same.2;
-  started = filed;
+  addressed = kept has_address slots old.addressed new.addressed x (Some (started finish value s)) (Some s) l standing.addressed at refl same.0;
+  waiting = filed;
+  writing = kept writes slots old.writing new.writing x (Some (started finish value s)) (Some s) l standing.writing at refl same.1;
 }
 
-pub hear_filed : (slots : List (Option Station)) (x : ℕ) (sent : ℕ → Option ℕ) (s h : Station) (b : Bool) (old new : Standing) → x < 128 → AreStanding slots old → slice_index_or slots x None ≡ Some s → h ≡ hears sent s → b ≡ is_ready h → IsFiled x (not b) old.expecting new.expecting → (new.lacking ≡ old.lacking) × (new.addressed ≡ old.addressed) × (new.started ≡ old.started) → HasFiled x (Some h) old new
-hear_filed slots x sent s h b old new l standing at heard is filed same = rw heard (record {
-  lacking = kept lacks_address slots old.lacking new.lacking x (Some (hears sent s)) (Some s) l standing.lacking at refl same.0;
-  addressed = kept has_address slots old.addressed new.addressed x (Some (hears sent s)) (Some s) l standing.addressed at refl same.1;
-  expecting = subst (λ (z : Bool). IsFiled x (not z) old.expecting new.expecting) (is ∙ ap is_ready heard) filed;
-  started = kept has_started slots old.started new.started x (Some (hears sent s)) (Some s) l standing.started at refl same.2;
+address_writes : (s : Station) → writes (Some (with_address s)) ≡ writes (Some s)
+address_writes s = of_field s.j refl
+  where
+    of_field : (f : Field) → s.j ≡ f → writes (Some (with_address s)) ≡ writes (Some s)
+    of_field (Value v) e = rw e refl
+    of_field (Waits tag) e = rw e refl
+    of_field Unread e = rw e refl
+
+pub address_filed : (slots : List (Option Station)) (x : ℕ) (s h : Station) (b w : Bool) (old new : Standing) → x < 128 → AreStanding slots old → slice_index_or slots x None ≡ Some s → h ≡ with_address s → b ≡ is_some h.address → w ≡ is_waiting h → IsFiled x b old.addressed new.addressed → IsFiled x w old.waiting new.waiting → new.writing ≡ old.writing → HasFiled x (Some h) old new
+address_filed slots x s h b w old new l standing at made is stands filed waited same = rw made (record {
+  addressed = subst (λ (z : Bool). IsFiled x z old.addressed new.addressed) (is ∙ ap (λ (z : Station). is_some z.address) made) filed;
+  waiting = subst (λ (z : Bool). IsFiled x z old.waiting new.waiting) (stands ∙ ap is_waiting made) waited;
+  writing = kept writes slots old.writing new.writing x (Some (with_address s)) (Some s) l standing.writing at (address_writes s) same;
+})
+
+pub hear_filed : (slots : List (Option Station)) (x : ℕ) (sent : ℕ → Option ℕ) (s h : Station) (w : Bool) (old new : Standing) → x < 128 → AreStanding slots old → slice_index_or slots x None ≡ Some s → h ≡ hears sent s → w ≡ is_waiting h → IsFiled x w old.waiting new.waiting → (new.addressed ≡ old.addressed) × (new.writing ≡ old.writing) → HasFiled x (Some h) old new
+hear_filed slots x sent s h w old new l standing at heard is filed same = rw heard (record {
+  addressed = kept has_address slots old.addressed new.addressed x (Some (hears sent s)) (Some s) l standing.addressed at refl same.0;
+  waiting = subst (λ (z : Bool). IsFiled x z old.waiting new.waiting) (is ∙ ap is_waiting heard) filed;
+  writing = kept writes slots old.writing new.writing x (Some (hears sent s)) (Some s) l standing.writing at refl same.1;
 })
 
 -- no station is in a set
-pub none_stand : (slots : List (Option Station)) → ((x : ℕ) → x < 128 → slice_index_or slots x None ≡ None) → AreStanding slots (record { lacking = 0; addressed = 0; expecting = 0; started = 0 })
+pub none_stand : (slots : List (Option Station)) → ((x : ℕ) → x < 128 → slice_index_or slots x None ≡ None) → AreStanding slots (record { addressed = 0; waiting = 0; writing = 0 })
 none_stand slots none = record {
-  lacking = λ x l. none_in x ∙ sym (ap lacks_address (none x l));
   addressed = λ x l. none_in x ∙ sym (ap has_address (none x l));
-  expecting = λ x l. none_in x ∙ sym (ap expects (none x l));
-  started = λ x l. none_in x ∙ sym (ap has_started (none x l));
+  waiting = λ x l. none_in x ∙ sym (ap waits (none x l));
+  writing = λ x l. none_in x ∙ sym (ap writes (none x l));
 }
-
--- what waits is busy, and nothing else is in its way
-waits_for : (memory : Bool) (address : Option ℕ) (ready : Bool) (finish : Option ℕ) → (true && not ((memory && not (is_some address)) || (not ready || is_some finish))) ≡ (is_none finish && ready && (not memory || is_some address))
-waits_for true None true None = refl
-waits_for true None true (Some f) = refl
-waits_for true None false None = refl
-waits_for true None false (Some f) = refl
-waits_for true (Some a) true None = refl
-waits_for true (Some a) true (Some f) = refl
-waits_for true (Some a) false None = refl
-waits_for true (Some a) false (Some f) = refl
-waits_for false None true None = refl
-waits_for false None true (Some f) = refl
-waits_for false None false None = refl
-waits_for false None false (Some f) = refl
-waits_for false (Some a) true None = refl
-waits_for false (Some a) true (Some f) = refl
-waits_for false (Some a) false None = refl
-waits_for false (Some a) false (Some f) = refl
-
-waits_by : (o : Option Station) → (is_some o && not (lacks_address o || (expects o || has_started o))) ≡ waits o
-waits_by None = refl
-waits_by (Some s) = waits_for (is_memory_op s.instr.op) s.address (is_ready s) s.finish
-
-pub are_waiting : (slots : List (Option Station)) (busy : ℕ) (ages : List ℕ) (lacking expecting started some kept waiting : ℕ) → AreBusy slots busy ages → IsSetOf lacks_address slots lacking → IsSetOf expects slots expecting → IsSetOf has_started slots started
-    → ((x : ℕ) → has some x ≡ (has expecting x || has started x)) → ((x : ℕ) → has kept x ≡ (has lacking x || has some x)) → ((x : ℕ) → x < 128 → has waiting x ≡ (has busy x && not (has kept x))) → IsSetOf waits slots waiting
-are_waiting slots busy ages lacking expecting started some kept waiting filled lacks expect start either any but x l =
-    but x l ∙ rw (filled.each x l, any x, either x, lacks x l, expect x l, start x l) (waits_by (slice_index_or slots x None))
 
 -- what stands in a place of a set is busy
 pub is_standing : (test : Option Station → Bool) (slots : List (Option Station)) (busy : ℕ) (ages : List ℕ) (set : ℕ) → test None ≡ false → AreBusy slots busy ages → IsSetOf test slots set → (x : ℕ) → x < 128 → has set x ≡ true → has busy x ≡ true
@@ -104,25 +89,6 @@ is_standing test slots busy ages set none filled of x l member = filled.each x l
     some_of : (o : Option Station) → test o ≡ true → is_some o ≡ true
     some_of None e = absurd (both_ways (test None) none e)
     some_of (Some s) e = refl
-
--- those of the busy places that pass a test are those of a set that pass it, where no other passes it
-pub found_in : (outer inner : Option Station → Bool) (slots : List (Option Station)) (busy : ℕ) (ages : List ℕ) (set found : ℕ) → outer None ≡ false → ((o : Option Station) → inner o ≡ true → outer o ≡ true) → AreBusy slots busy ages → IsSetOf outer slots set
-    → ((x : ℕ) → x < 128 → has found x ≡ (has set x && inner (slice_index_or slots x None))) → (x : ℕ) → x < 128 → has found x ≡ (has busy x && inner (slice_index_or slots x None))
-found_in outer inner slots busy ages set found none passes filled of said x l =
-    said x l ∙ rw (filled.each x l, of x l) (same (slice_index_or slots x None))
-  where
-    without : (o : Option Station) → outer o ≡ false → inner o ≡ false
-    without o e = elim (cases_Bool (inner o)) [
-      | inr f ↦ f
-      | inl f ↦ absurd (both_ways (outer o) e (passes o f))
-    ]
-
-    same : (o : Option Station) → (outer o && inner o) ≡ (is_some o && inner o)
-    same None = rw none refl
-    same (Some s) = elim (cases_Bool (outer (Some s))) [
-      | inl e ↦ rw e refl
-      | inr e ↦ rw (e, without (Some s) e) refl
-    ]
 
 -- a set of what passes a test is one of the busy places
 pub of_busy : (test : Option Station → Bool) (slots : List (Option Station)) (busy : ℕ) (ages : List ℕ) (set : ℕ) → test None ≡ false → AreBusy slots busy ages → IsSetOf test slots set → (x : ℕ) → x < 128 → has set x ≡ (has busy x && test (slice_index_or slots x None))

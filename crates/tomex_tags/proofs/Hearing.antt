@@ -1,16 +1,19 @@
 -- A broadcast reaches one busy station after the other.
 use Rattle.std.proofs.Common.{ℕ, ◌<◌, ◌≡◌, ◌∙◌, Bool, true, false, arith, refl, ap, sym, inl, inr, Option, Some, None, length, slice_index_or, slice_set}
-use Rattle.std.specs.Prelude.{◌==◌, if◌then◌else◌, not, option_map}
-use Rattle.std.proofs.lemmas.Bool.{and_parts, cases_Bool, eqb-true, eqb-false}
+use Rattle.std.specs.Prelude.{◌==◌, ◌||◌, if◌then◌else◌, option_map}
+use Rattle.std.proofs.lemmas.Bool.{both_ways, cases_Bool, eqb-true, eqb-false}
 use Rattle.std.proofs.lemmas.List.{get_or-set_same, get_or-set_other, length-set}
 use Rattle.tomex_bus.specs.Sets.{has, IsWithout}
 use Rattle.tomex_tags.specs.declared.station.Station.{Station}
 use Rattle.tomex_timing.specs.declared.tables.Field.{Field}
 use Rattle.tomex_timing.specs.declared.tables.Field.TheVariants.{Value, Waits, Unread}
-use Rattle.tomex_tags.specs.Contents.{hears, is_ready}
-use Rattle.tomex_tags.specs.Operands.{heard, is_there}
+use Rattle.tomex_bus.proofs.Members.{none_rest}
+use Rattle.tomex_tags.specs.Contents.{hears}
+use Rattle.tomex_tags.specs.Listeners.{awaits}
+use Rattle.tomex_tags.specs.Operands.{comes_from, heard, only}
+use Rattle.tomex_tags.specs.Places.{place_of_tag}
+use Rattle.tomex_tags.proofs.Listening.{hears_none}
 use Rattle.tomex_tags.specs.Pools.{AreBusy, Pools}
-use Rattle.tomex_tags.specs.Standing.{IsSetOf, expects}
 
 -- the stations but for a rest have heard what is sent
 pub record AreHearing (sent : ℕ → Option ℕ) (rest : ℕ) (old new : Pools) : Type 0 where
@@ -19,32 +22,46 @@ pub record AreHearing (sent : ℕ → Option ℕ) (rest : ℕ) (old new : Pools)
   pub busy : new.busy ≡ old.busy
   pub ages : new.ages ≡ old.ages
 
--- a station with no operand to come hears nothing
-there : (sent : ℕ → Option ℕ) (f : Field) → is_there f ≡ true → heard sent f ≡ f
-there sent (Value v) e = refl
-there sent (Waits tag) e = absurd (cc)
-there sent Unread e = refl
+-- a station with no operand to come from a place hears nothing that it sends
+there : (from value : ℕ) (f : Field) → comes_from from f ≡ false → heard (only from (Some value)) f ≡ f
+there from value (Value v) e = refl
+there from value Unread e = refl
+there from value (Waits tag) e = elim (cases_Bool (from == place_of_tag tag)) [
+  | inr g ↦ rw g refl
+  | inl g ↦ absurd (eqb-false (place_of_tag tag) from e (sym (eqb-true from (place_of_tag tag) g)))
+]
 
-deaf : (sent : ℕ → Option ℕ) (o : Option Station) → expects o ≡ false → o ≡ option_map (hears sent) o
-deaf sent None e = refl
-deaf sent (Some s) e =
-    let two = and_parts (is_there s.j) (is_there s.k) (not_false (is_ready s) e) in
-    ap (λ (z : Station). Some z) (sym (rw (there sent s.j two.0, there sent s.k two.1) refl))
-  where
-    not_false : (b : Bool) → not b ≡ false → b ≡ true
-    not_false true e = refl
-    not_false false e = absurd (cc)
+neither : (a b : Bool) → (a || b) ≡ false → (a ≡ false) × (b ≡ false)
+neither true b e = absurd (both_ways (true || b) e refl)
+neither false b e = (refl, e)
 
-pub first_heard : (sent : ℕ → Option ℕ) (rest : ℕ) (old : Pools) → AreBusy old.slots old.busy old.ages → IsSetOf expects old.slots rest → AreHearing sent rest old old
-first_heard sent rest old filled expect = record {
+deaf : (from value : ℕ) (o : Option Station) → awaits from o ≡ false → o ≡ option_map (hears (only from (Some value))) o
+deaf from value None e = refl
+deaf from value (Some s) e =
+    let two = neither (comes_from from s.j) (comes_from from s.k) e in
+    ap (λ (z : Station). Some z) (sym (rw (there from value s.j two.0, there from value s.k two.1) refl))
+
+pub first_heard : (from value rest : ℕ) (old : Pools) → AreBusy old.slots old.busy old.ages → ((x : ℕ) → x < 96 → awaits from (slice_index_or old.slots x None) ≡ true → has rest x ≡ true) → AreHearing (only from (Some value)) rest old old
+first_heard from value rest old filled listen = record {
   places = filled.places;
   slots = λ x l. elim (cases_Bool (has rest x)) [
     | inl e ↦ rw e refl
-    | inr e ↦ rw e (deaf sent (slice_index_or old.slots x None) (sym (expect x (omega arith)) ∙ e))
+    | inr e ↦ rw e (deaf from value (slice_index_or old.slots x None) (elim (cases_Bool (awaits from (slice_index_or old.slots x None))) [
+      | inr f ↦ f
+      | inl f ↦ absurd (both_ways (has rest x) e (listen x l f))
+    ]))
   ];
   busy = refl;
   ages = refl;
 }
+
+-- once all have heard it, nothing is to come from the place
+pub none_listening : (from value rest : ℕ) (old new : Pools) → AreHearing (only from (Some value)) rest old new → rest ≡ 0 → (x : ℕ) → x < 96 → awaits from (slice_index_or new.slots x None) ≡ false
+none_listening from value rest old new so empty x l = ap (awaits from) (so.slots x l ∙ rw (none_rest rest x empty) refl) ∙ silent (slice_index_or old.slots x None)
+  where
+    silent : (o : Option Station) → awaits from (option_map (hears (only from (Some value))) o) ≡ false
+    silent None = refl
+    silent (Some s) = hears_none from value s
 
 pub heard_more : (sent : ℕ → Option ℕ) (rest left x : ℕ) (old now new : Pools) (s after : Station) → AreHearing sent rest old now → x < 128 → has rest x ≡ true → IsWithout rest x left → slice_index_or now.slots x None ≡ Some s → after ≡ hears sent s
     → new.slots ≡ slice_set now.slots x (Some after) → new.busy ≡ now.busy → new.ages ≡ now.ages → AreHearing sent left old new

@@ -1,18 +1,18 @@
 -- The places of six pools of 16 stations, one after the other.
-use Rattle.std.proofs.Common.{ℕ, zero, suc, ◌+◌, ◌*◌, ◌-◌, ◌/◌, ◌%◌, ◌^◌, ◌<◌, ◌≤◌, ◌≡◌, ◌∙◌, true, false, arith, refl, ap, sym, inl, inr, List, [], ◌∷◌, ◌++◌, Option, Some, None, length, slice_index_or, slice_set, replicate, get_or}
-use Rattle.std.specs.Prelude.{◌==◌, if◌then◌else◌, is_some, is_none, IsSome, IfSome, IfNone}
+use Rattle.std.proofs.Common.{ℕ, zero, suc, ◌+◌, ◌*◌, ◌-◌, ◌/◌, ◌%◌, ◌^◌, ◌<◌, ◌≡◌, ◌∙◌, true, arith, refl, ap, sym, inl, inr, List, [], ◌∷◌, ◌++◌, Option, None, length, slice_index_or, slice_set, replicate, get_or}
+use Rattle.std.specs.Prelude.{◌==◌, if◌then◌else◌, is_some}
 use Rattle.std.proofs.lemmas.Bool.{cases_Bool, cases_order, eqb-true, eqb-false}
 use Rattle.std.proofs.lemmas.List.{get_or_append_left, get_or-append_right, length-set, get_or-set_same, get_or-set_other, set-append_left, set-append_right}
 use Rattle.std.proofs.lemmas.List.Concat.{flat_map-cons}
 use Rattle.std.proofs.lemmas.Nat.Bits.{bit_at-zero}
 use Rattle.std.proofs.lemmas.List.{get_or-replicate, get_or_past}
-use Rattle.tomex_timing.specs.Recurrence.{IsLeast}
 use Rattle.tomex_bus.specs.Sets.{has, IsWith, IsWithout}
 use Rattle.tomex_tags.specs.declared.standing.Standing.{Standing}
 use Rattle.tomex_tags.specs.declared.station.Station.{Station}
-use Rattle.tomex_tags.specs.Pools.{AreFilled, AreSix, AreSixteen, slots_of}
+use Rattle.tomex_tags.specs.Pools.{AreFilled, AreSix, AreSixteen, IsOwn, slots_of}
 use Rattle.tomex_tags.specs.Standing.{HasFiled}
 use Rattle.tomex_tags.proofs.Filing.{all_filed, none_stand}
+use Rattle.tomex_tags.proofs.Listening.{Listens, listening_set, none_awaits, own_set}
 
 abbrev Pool : Type 0
 Pool = List (Option Station)
@@ -70,8 +70,8 @@ set_place pools x d v six l =
     slot_set pools (x / 16) (x % 16) d v six.sizes (omega arith) (omega arith) ∙ ap (λ (y : ℕ). slice_set (slots_of pools) y v) (parts x)
 
 -- a place is written, and the set of the busy ones says so
-pub filled_by : (pools : List Pool) (busy new : ℕ) (ages later : List ℕ) (x : ℕ) (d : Pool) (v : Option Station) (old standing : Standing) → AreFilled pools busy ages old → x < 96 → length later ≡ 128 → new < 2 ^ 128 → ((y : ℕ) → y < 128 → has new y ≡ (if x == y then is_some v else has busy y)) → HasFiled x v old standing → AreFilled (set_in pools x d v) new later standing
-filled_by pools busy new ages later x d v old standing filled l count small said filed =
+pub filled_by : (pools : List Pool) (busy new : ℕ) (ages later : List ℕ) (x : ℕ) (d : Pool) (v : Option Station) (old standing : Standing) (listeners more : List ℕ) → AreFilled pools busy ages old listeners → x < 96 → length later ≡ 128 → new < 2 ^ 128 → ((y : ℕ) → y < 128 → has new y ≡ (if x == y then is_some v else has busy y)) → HasFiled x v old standing → IsOwn x v → Listens x v listeners more → AreFilled (set_in pools x d v) new later standing more
+filled_by pools busy new ages later x d v old standing listeners more filled l count small said filed own listens =
     let six = filled.six in
     let places : length (slots_of pools) ≡ 96 = filled.filled.places in
     let pool_count : length pools ≡ 6 = six.count in
@@ -80,6 +80,8 @@ filled_by pools busy new ages later x d v old standing filled l count small said
         count = length-set pools (x / 16) (slice_set (get_or pools (x / 16) d) (x % 16) v) ∙ six.count;
         sizes = sizes_set pools (x / 16) (slice_set (get_or pools (x / 16) d) (x % 16) v) six.sizes (length-set (get_or pools (x / 16) d) (x % 16) v ∙ size_at pools (x / 16) d six.sizes (omega arith));
       };
+      own = rw (set_place pools x d v six l) (own_set (slots_of pools) x v (omega arith) filled.own own);
+      listening = rw (set_place pools x d v six l) (listening_set (slots_of pools) x v listeners more (omega arith) filled.listening listens);
       standing = rw (set_place pools x d v six l) (all_filed (slots_of pools) x v old standing (omega arith) filled.standing filed);
       filled = record {
         places = ap length (set_place pools x d v six l) ∙ (length-set (slots_of pools) x v ∙ places);
@@ -110,35 +112,6 @@ said_same busy x v same y l = elim (cases_Bool (x == y)) [
   | inr e ↦ rw e refl
 ]
 
-some_busy : (o : Option Station) → IsSome o → true ≡ is_some o
-some_busy None h = sym h
-some_busy (Some s) h = refl
-
--- a busy place is in the set
-pub busy_at : (pools : List Pool) (busy : ℕ) (ages : List ℕ) (standing : Standing) (x : ℕ) → AreFilled pools busy ages standing → x < 96 → IsSome (slice_index_or (slots_of pools) x None) → has busy x ≡ true
-busy_at pools busy ages standing x filled l some = filled.filled.each x (omega arith) ∙ sym (some_busy (slice_index_or (slots_of pools) x None) some)
-
--- a number of a pool is a place
-number_at : (pools : List Pool) (p n : ℕ) (s : Pool) → AreSix pools → p < 6 → n < 16 → s ≡ get_or pools p s → slice_index_or s n None ≡ slice_index_or (slots_of pools) (16 * p + n) None
-number_at pools p n s six l small e =
-    let count : length pools ≡ 6 = six.count in
-    ap (λ (xs : Pool). slice_index_or xs n None) e ∙ sym (slot_get pools p n s six.sizes (omega arith) small)
-
-least_open : (pools : List Pool) (p n : ℕ) (s : Pool) → AreSix pools → p < 6 → n < 16 → s ≡ get_or pools p s → IsLeast (λ m. is_none (slice_index_or s m None)) n → IsLeast (λ m. is_none (slice_index_or (slots_of pools) (16 * p + m) None)) n
-least_open pools p n s six l small e least = (
-  ap is_none (sym (number_at pools p n s six l small e)) ∙ least.0,
-  λ m less. ap is_none (sym (number_at pools p m s six l (omega arith) e)) ∙ least.1 m less,
-)
-
-pub free_some : (pools : List Pool) (p count : ℕ) (s : Pool) (o : Option ℕ) → AreSix pools → p < 6 → count ≤ 16 → s ≡ get_or pools p s → IfSome o (λ n. IsLeast (λ m. is_none (slice_index_or s m None)) n) → IfSome o (λ n. n < count)
-    → IfSome o (λ n. IsLeast (λ m. is_none (slice_index_or (slots_of pools) (16 * p + m) None)) n × (n < count))
-free_some pools p count s None six l few e least less = tt
-free_some pools p count s (Some n) six l few e least less = let k : n < count = less in (least_open pools p n s six l (omega arith) e least, less)
-
-pub free_none : (pools : List Pool) (p count : ℕ) (s : Pool) (o : Option ℕ) → AreSix pools → p < 6 → count ≤ 16 → s ≡ get_or pools p s → IfNone o ((n : ℕ) → n < count → is_none (slice_index_or s n None) ≡ false) → IfNone o ((n : ℕ) → n < count → is_none (slice_index_or (slots_of pools) (16 * p + n) None) ≡ false)
-free_none pools p count s (Some n) six l few e none = tt
-free_none pools p count s None six l few e none = λ n less. ap is_none (sym (number_at pools p n s six l (omega arith) e)) ∙ none n less
-
 -- six pools in which nothing stands
 abbrev pub idle_pools : List Pool
 idle_pools = replicate 6 (replicate 16 None)
@@ -150,9 +123,11 @@ no_station x l = elim (cases_order x 96) [
   | inr (inr more) ↦ get_or_past (slots_of idle_pools) x None (omega arith)
 ]
 
-pub idle_filled : (a b c d e f : Pool) (ages : List ℕ) → a ≡ replicate 16 None → b ≡ replicate 16 None → c ≡ replicate 16 None → d ≡ replicate 16 None → e ≡ replicate 16 None → f ≡ replicate 16 None → length ages ≡ 128 → AreFilled (a ∷ b ∷ c ∷ d ∷ e ∷ f ∷ []) 0 ages (record { lacking = 0; addressed = 0; expecting = 0; started = 0 })
-idle_filled a b c d e f ages ea eb ec ed ee ef count = rw (ea, eb, ec, ed, ee, ef) (record {
+pub idle_filled : (a b c d e f : Pool) (ages listeners : List ℕ) → a ≡ replicate 16 None → b ≡ replicate 16 None → c ≡ replicate 16 None → d ≡ replicate 16 None → e ≡ replicate 16 None → f ≡ replicate 16 None → length ages ≡ 128 → listeners ≡ replicate 96 0 → AreFilled (a ∷ b ∷ c ∷ d ∷ e ∷ f ∷ []) 0 ages (record { addressed = 0; waiting = 0; writing = 0 }) listeners
+idle_filled a b c d e f ages listeners ea eb ec ed ee ef count none = rw (ea, eb, ec, ed, ee, ef, none) (record {
   six = record { count = refl; sizes = (refl, (refl, (refl, (refl, (refl, (refl, tt)))))) };
+  own = λ x l. rw (no_station x (omega arith)) tt;
+  listening = none_awaits (slots_of idle_pools) no_station;
   standing = none_stand (slots_of idle_pools) no_station;
   filled = record { places = refl; ages_count = count; small = omega arith; each = λ x l. ap (λ b. b == 1) (bit_at-zero x) ∙ sym (ap is_some (no_station x l)) };
 })

@@ -4,3 +4,4 @@ pub mod Contents
 pub mod Standing
 pub mod Pools
 pub mod Registers
+pub mod Listeners

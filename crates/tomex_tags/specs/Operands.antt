@@ -30,3 +30,9 @@ heard sent Unread = Unread
 -- one place sends
 abbrev pub only : ℕ → Option ℕ → ℕ → Option ℕ
 only x sent y = if x == y then sent else None
+
+-- the operand is still to come from this place
+abbrev pub comes_from : ℕ → Field → Bool
+comes_from x (Value v) = false
+comes_from x (Waits tag) = place_of_tag tag == x
+comes_from x Unread = false

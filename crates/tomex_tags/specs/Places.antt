@@ -1,8 +1,11 @@
 -- Stations are numbered over all pools: 16 places a pool, in the order of the pools.
-use Rattle.std.specs.Prelude.{ℕ, ◌+◌, ◌*◌, ◌/◌, ◌%◌, ◌==◌, if◌then◌else◌, Option, Some, None}
+use Rattle.std.specs.Prelude.{ℕ, ◌+◌, ◌*◌, ◌/◌, ◌%◌, ◌==◌, Bool, ◌&&◌, nat_lt, if◌then◌else◌, Option, Some, None}
+use Rattle.tomex_rvdec.specs.Operands.{unit_of_pool}
 use Rattle.tomex_rvdec.specs.Parts.{place_of_pool}
 use Rattle.tomex_rvdec.specs.declared.pool.PoolId.{PoolId}
 use Rattle.tomex_rvdec.specs.declared.pool.PoolId.TheVariants as pools
+use Rattle.tomex_rvdec.specs.declared.pool.UnitId.{UnitId}
+use Rattle.tomex_timing.specs.History.{is_of}
 use Rattle.tomex_timing.specs.declared.tables.Tag.{Tag}
 
 abbrev pub place_of_tag : Tag → ℕ
@@ -18,3 +21,7 @@ pool_at n = if n == 0 then pools.Alu else (if n == 1 then pools.Mul else (if n =
 -- the station of a place
 abbrev pub tag_at_place : ℕ → Tag
 tag_at_place x = record { pool = pool_at (x / 16); number = x % 16 }
+
+-- the operations of the station in a place are run by this kind of unit
+abbrev pub is_served : UnitId → ℕ → Bool
+is_served unit x = nat_lt x 96 && is_of unit (Some (unit_of_pool (pool_at (x / 16))))

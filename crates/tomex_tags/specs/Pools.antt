@@ -1,12 +1,15 @@
 -- The stations of all pools.
-use Rattle.std.specs.Prelude.{ℕ, ◌+◌, ◌*◌, ◌^◌, ◌<◌, ◌≡◌, Bool, List, [], ◌∷◌, ⊤, Option, None, is_none, is_some, length, slice_index_or, option_map}
+use Rattle.std.specs.Prelude.{ℕ, ◌+◌, ◌*◌, ◌/◌, ◌^◌, ◌<◌, ◌≡◌, Bool, List, [], ◌∷◌, ⊤, Option, Some, None, is_none, is_some, length, slice_index_or, option_map}
 use Rattle.std.specs.List.{flat_map}
 use Rattle.tomex_bus.specs.Sets.{has}
+use Rattle.tomex_rvdec.specs.Operands.{pool_of}
 use Rattle.tomex_rvdec.specs.Parts.{place_of_pool}
 use Rattle.tomex_rvdec.specs.declared.pool.PoolId.{PoolId}
 use Rattle.tomex_tags.specs.declared.station.Station.{Station}
 use Rattle.tomex_tags.specs.Contents.{hears}
 use Rattle.tomex_tags.specs.declared.standing.Standing.{Standing}
+use Rattle.tomex_tags.specs.Listeners.{AreListening}
+use Rattle.tomex_tags.specs.Places.{pool_at}
 use Rattle.tomex_tags.specs.Standing.{AreStanding}
 
 -- by place: what stands there, the set of the busy ones, and how many instructions issued before each of them
@@ -34,8 +37,18 @@ pub record AreBusy (slots : List (Option Station)) (busy : ℕ) (ages : List ℕ
   pub small : busy < 2 ^ 128
   pub each : (x : ℕ) → x < 128 → has busy x ≡ is_some (slice_index_or slots x None)
 
-pub record AreFilled (pools : List (List (Option Station))) (busy : ℕ) (ages : List ℕ) (sets : Standing) : Type 0 where
+-- a station holds an instruction of its own pool
+abbrev pub IsOwn : ℕ → Option Station → Type 0
+IsOwn x None = ⊤
+IsOwn x (Some s) = pool_of s.instr.op ≡ Some (pool_at (x / 16))
+
+abbrev pub AreOwn : List (Option Station) → Type 0
+AreOwn slots = (x : ℕ) → x < 96 → IsOwn x (slice_index_or slots x None)
+
+pub record AreFilled (pools : List (List (Option Station))) (busy : ℕ) (ages : List ℕ) (sets : Standing) (listeners : List ℕ) : Type 0 where
   pub six : AreSix pools
+  pub own : AreOwn (slots_of pools)
+  pub listening : AreListening (slots_of pools) listeners
   pub standing : AreStanding (slots_of pools) sets
   pub filled : AreBusy (slots_of pools) busy ages
 

@@ -1,7 +1,7 @@
 //! The issue of an instruction to a free station.
 
 ghost use Rattle.std.specs.Prelude.{◌≡◌, ◌<◌, Some, IfSome, slice_set};
-ghost use Rattle.tomex_rvdec.specs.Operands.{sources_of, dest_of};
+ghost use Rattle.tomex_rvdec.specs.Operands.{sources_of, dest_of, pool_of};
 ghost use Rattle.tomex_bus.specs.Sets.{IsWith};
 ghost use Rattle.tomex_tags.specs.Places.{place_of_tag};
 ghost use Rattle.tomex_tags.specs.Contents.{issued};
@@ -27,7 +27,8 @@ pub fn issue(
     pc: u32,
     age: u32,
 )
-    requires { tag.number < 16 }
+    requires low { tag.number < 16 }
+    requires own { pool_of instr.op ≡ Some tag.pool }
     ensures slots { pools.new.slots ≡ slice_set pools.old.slots (place_of_tag tag) (Some (issued instr pc (operand_in registers.old (sources_of instr).j) (operand_in registers.old (sources_of instr).k))) }
     ensures busy { IsWith pools.old.busy (place_of_tag tag) pools.new.busy }
     ensures ages { pools.new.ages ≡ slice_set pools.old.ages (place_of_tag tag) age }

@@ -11,6 +11,7 @@
 
 mod broadcasting;
 mod issuing;
+mod listeners;
 mod places;
 mod pools;
 mod register_status;
@@ -20,7 +21,7 @@ mod stations;
 
 pub use broadcasting::broadcast;
 pub use issuing::issue;
-pub use places::{place, tag};
+pub use places::{place, served_by, tag, unit};
 pub use pools::Pools;
 pub use register_status::RegStatus;
 pub use station::Station;

@@ -1,9 +1,11 @@
 //! Stations are numbered over all pools: 16 places a pool, in the order of the pools.
 
-ghost use Rattle.std.specs.Prelude.{◌≡◌, ◌<◌};
-ghost use Rattle.tomex_tags.specs.Places.{place_of_tag, tag_at_place};
+ghost use Rattle.std.specs.Prelude.{ℕ, ◌≡◌, ◌<◌, ◌/◌};
+ghost use Rattle.tomex_rvdec.specs.Operands.{unit_of_pool};
+ghost use Rattle.tomex_bus.specs.Sets.{has};
+ghost use Rattle.tomex_tags.specs.Places.{is_served, place_of_tag, pool_at, tag_at_place};
 
-use tomex_rvdec::PoolId;
+use tomex_rvdec::{PoolId, UnitId};
 use tomex_timing::Tag;
 
 /// The place of a station, below 96.
@@ -30,5 +32,33 @@ pub fn tag(place: usize) -> Tag
     Tag {
         pool,
         number: (place % 16) as u8,
+    }
+}
+
+/// The kind of unit that runs the operations of the station in a place.
+#[inline(always)]
+pub fn unit(place: usize) -> UnitId
+    ensures { result ≡ unit_of_pool (pool_at (place / 16)) }
+{
+    match place / 16 {
+        0 => UnitId::Alu,
+        1 => UnitId::Mul,
+        2 => UnitId::Div,
+        3 | 4 => UnitId::Mem,
+        _ => UnitId::Bru,
+    }
+}
+
+/// The places of the stations whose operations a kind of unit runs.
+#[inline(always)]
+pub fn served_by(unit: UnitId) -> u128
+    ensures { (x : ℕ) → x < 128 → has result x ≡ is_served unit x }
+{
+    match unit {
+        UnitId::Alu => 0xffff,
+        UnitId::Mul => 0xffff_0000,
+        UnitId::Div => 0xffff_0000_0000,
+        UnitId::Mem => 0xffff_ffff_0000_0000_0000,
+        UnitId::Bru => 0xffff_0000_0000_0000_0000_0000,
     }
 }

@@ -1,21 +1,24 @@
 //! The reservation stations of all pools.
 
-ghost use Rattle.std.specs.Prelude.{ℕ, ◌≡◌, ◌<◌, ◌≤◌, Some, None, IfSome, IfNone, IsSome, false, replicate, slice_index_or, slice_set, length, option_map};
+ghost use Rattle.std.specs.Prelude.{ℕ, ◌≡◌, ◌<◌, ◌≤◌, ◌/◌, Some, None, IfSome, IfNone, IsSome, true, false, replicate, slice_index_or, slice_set, length, option_map};
 ghost use Rattle.tomex_timing.specs.Recurrence.{IsLeast};
-ghost use Rattle.tomex_bus.specs.Sets.{IsWith, IsWithout};
-ghost use Rattle.tomex_tags.specs.Places.{tag_at_place};
-ghost use Rattle.tomex_tags.specs.Contents.{busy_from, hears, lacks_address, started};
+ghost use Rattle.tomex_bus.specs.Sets.{IsWith, IsWithout, has};
+ghost use Rattle.tomex_rvdec.specs.Operands.{pool_of, unit_of, unit_of_pool};
+ghost use Rattle.tomex_tags.specs.Places.{pool_at, tag_at_place};
+ghost use Rattle.tomex_tags.specs.Contents.{busy_from, hears, lacks_address, started, with_address};
+ghost use Rattle.tomex_tags.specs.Listeners.{awaits};
 ghost use Rattle.tomex_tags.specs.Operands.{only};
-ghost use Rattle.tomex_tags.specs.Pools.{AreBusy, HaveHeard, is_open};
-ghost use Rattle.tomex_tags.specs.Standing.{IsSetOf, expects, has_address, has_started, waits};
+ghost use Rattle.tomex_tags.specs.Pools.{AreBusy, AreOwn, HaveHeard, is_open};
+ghost use Rattle.tomex_tags.specs.Standing.{IsSetOf, has_address, waits, waits_for, writes};
 
-use crate::places::tag;
+use crate::listeners::Listeners;
+use crate::places::{served_by, tag};
 use crate::standing::Standing;
 use crate::station::Station;
 use crate::stations::Stations;
 use std::marker::Model;
-use tomex_bus::sets::{difference, lowest, union, with, without, without_lowest};
-use tomex_rvdec::PoolId;
+use tomex_bus::sets::{both, difference, lowest, with, without, without_lowest};
+use tomex_rvdec::{PoolId, UnitId};
 use tomex_timing::Busy;
 
 /// The stations of the six pools, by place.
@@ -27,6 +30,7 @@ pub struct Pools {
     /// How many instructions had issued before the one in a place.
     ages: [u32; 128],
     standing: Standing,
+    listeners: Listeners,
 }
 
 impl Model for Pools {
@@ -36,7 +40,7 @@ impl Model for Pools {
 
     ghost view = { λ p. record { slots = slots_of p.pools; busy = p.busy; ages = p.ages } };
 
-    ghost invariant = { λ p. AreFilled p.pools p.busy p.ages p.standing };
+    ghost invariant = { λ p. AreFilled p.pools p.busy p.ages p.standing p.listeners.sets };
 }
 
 impl Pools {
@@ -58,18 +62,20 @@ impl Pools {
             busy: 0,
             ages: [0; 128],
             standing: Standing {
-                lacking: 0,
                 addressed: 0,
-                expecting: 0,
-                started: 0,
+                waiting: 0,
+                writing: 0,
             },
+            listeners: Listeners::new(),
         }
     }
 
     /// The station in a place, where it is busy.
     #[inline(always)]
     pub fn at(&self, place: usize) -> Option<Station>
-        ensures { result ≡ slice_index_or self.now.slots place None }
+        ensures value { result ≡ slice_index_or self.now.slots place None }
+        ensures own { IfSome result (λ s. unit_of s.instr.op ≡ Some (unit_of_pool (pool_at (place / 16)))) }
+        ensures low { IsSome result → place < 96 }
     {
         if place < 96 {
             self.pools[place / 16].at(place % 16)
@@ -83,6 +89,7 @@ impl Pools {
     pub fn busy(&self) -> u128
         ensures set { result ≡ self.now.busy }
         ensures busy { AreBusy self.now.slots result self.now.ages }
+        ensures own { AreOwn self.now.slots }
     {
         self.busy
     }
@@ -93,7 +100,10 @@ impl Pools {
         ensures set { IsSetOf lacks_address self.now.slots result }
         ensures busy { AreBusy self.now.slots self.now.busy self.now.ages }
     {
-        self.standing.lacking
+        difference(
+            both(self.busy, served_by(UnitId::Mem)),
+            self.standing.addressed,
+        )
     }
 
     /// The places of the loads and stores whose address is computed.
@@ -105,22 +115,13 @@ impl Pools {
         self.standing.addressed
     }
 
-    /// The places whose stations have an operand that is still to come.
+    /// The places whose stations have a result to send: their instructions write a register.
     #[inline(always)]
-    pub fn expecting(&self) -> u128
-        ensures set { IsSetOf expects self.now.slots result }
+    pub fn writing(&self) -> u128
+        ensures set { IsSetOf writes self.now.slots result }
         ensures busy { AreBusy self.now.slots self.now.busy self.now.ages }
     {
-        self.standing.expecting
-    }
-
-    /// The places whose operations have started.
-    #[inline(always)]
-    pub fn started(&self) -> u128
-        ensures set { IsSetOf has_started self.now.slots result }
-        ensures busy { AreBusy self.now.slots self.now.busy self.now.ages }
-    {
-        self.standing.started
+        self.standing.writing
     }
 
     /// The places whose operations wait for nothing but a unit and older accesses.
@@ -128,9 +129,9 @@ impl Pools {
     pub fn waiting(&self) -> u128
         ensures set { IsSetOf waits self.now.slots result }
         ensures busy { AreBusy self.now.slots self.now.busy self.now.ages }
+        ensures own { AreOwn self.now.slots }
     {
-        let kept = union(self.lacking(), union(self.expecting(), self.started()));
-        difference(self.busy(), kept)
+        self.standing.waiting
     }
 
     /// How many instructions had issued before the one in each busy place.
@@ -141,35 +142,52 @@ impl Pools {
         &self.ages
     }
 
-    /// The station of a busy place from here on.
+    /// Of those, the ones whose operations a kind of unit runs.
     #[inline(always)]
-    pub fn update(&mut self, place: usize, station: Station)
-        requires { IsSome (slice_index_or self.old.slots place None) }
-        ensures slots { self.new.slots ≡ slice_set self.old.slots place (Some station) }
+    pub fn waiting_for(&self, unit: UnitId) -> u128
+        ensures set { IsSetOf (waits_for unit) self.now.slots result }
+        ensures busy { AreBusy self.now.slots self.now.busy self.now.ages }
+    {
+        both(self.waiting(), served_by(unit))
+    }
+
+    /// Computes the address of the station in a place, where its base is there.
+    #[inline(always)]
+    pub fn compute_address(&mut self, place: usize)
+        ensures slots { IsSome (slice_index_or self.old.slots place None) → self.new.slots ≡ slice_set self.old.slots place (option_map with_address (slice_index_or self.old.slots place None)) }
+        ensures busy { self.new.busy ≡ self.old.busy }
+        ensures ages { self.new.ages ≡ self.old.ages }
+    {
+        if let Some(station) = self.at(place) {
+            self.address_at(place, station);
+        }
+    }
+
+    #[inline(always)]
+    fn address_at(&mut self, place: usize, station: Station)
+        requires { slice_index_or self.old.slots place None ≡ Some station }
+        ensures slots { self.new.slots ≡ slice_set self.old.slots place (Some (with_address station)) }
         ensures busy { self.new.busy ≡ self.old.busy }
         ensures ages { self.new.ages ≡ self.old.ages }
     {
         if place < 96 {
-            self.pools[place / 16].put(place % 16, Some(station));
-            self.standing.file(place, &station);
+            let addressed = station.with_address();
+            self.pools[place / 16].put(place % 16, Some(addressed));
+            self.standing
+                .address(place, addressed.address.is_some(), addressed.is_waiting());
         }
     }
 
     /// The operation of the station in a place starts.
     #[inline(always)]
-    pub fn start(&mut self, place: usize, station: Station, finish: u64, value: u32)
-        requires { slice_index_or self.old.slots place None ≡ Some station }
-        ensures slots { self.new.slots ≡ slice_set self.old.slots place (Some (started finish value station)) }
+    pub fn start(&mut self, place: usize, finish: u64, value: u32)
+        requires { IsSome (slice_index_or self.old.slots place None) }
+        ensures slots { self.new.slots ≡ slice_set self.old.slots place (option_map (started finish value) (slice_index_or self.old.slots place None)) }
         ensures busy { self.new.busy ≡ self.old.busy }
         ensures ages { self.new.ages ≡ self.old.ages }
     {
         if place < 96 {
-            let begun = Station {
-                finish: Some(finish),
-                value,
-                ..station
-            };
-            self.pools[place / 16].put(place % 16, Some(begun));
+            self.pools[place / 16].start(place % 16, finish, value);
             self.standing.start(place);
         }
     }
@@ -185,19 +203,22 @@ impl Pools {
         if place < 96 {
             let heard = station.hears(from, value);
             self.pools[place / 16].put(place % 16, Some(heard));
-            self.standing.expect(place, !heard.ready());
+            self.standing.wait(place, heard.is_waiting());
         }
     }
 
     /// A station takes a place; so many instructions had issued before its own.
     #[inline(always)]
     pub fn take(&mut self, place: usize, station: Station, age: u32)
-        requires { place < 96 }
+        requires place { place < 96 }
+        requires own { pool_of station.instr.op ≡ Some (pool_at (place / 16)) }
         ensures slots { self.new.slots ≡ slice_set self.old.slots place (Some station) }
         ensures busy { IsWith self.old.busy place self.new.busy }
         ensures ages { self.new.ages ≡ slice_set self.old.ages place age }
     {
         self.pools[place / 16].put(place % 16, Some(station));
+        self.listeners.add(place, station.j);
+        self.listeners.add(place, station.k);
         self.standing.file(place, &station);
         self.busy = with(self.busy, place);
         self.ages[place] = age;
@@ -223,7 +244,12 @@ impl Pools {
         ensures some { IfSome result (λ n. IsLeast (is_open self.now.slots pool) n × (n < count)) }
         ensures none { IfNone result ((n : ℕ) → n < count → is_open self.now.slots pool n ≡ false) }
     {
-        self.pools[pool.place()].free(count)
+        let open = difference(0xffff, self.busy >> (16 * pool.place()));
+        if open == 0 {
+            return None;
+        }
+        let number = lowest(open) as u8;
+        if number < count { Some(number) } else { None }
     }
 
     /// What the tables show of each place.
@@ -248,10 +274,11 @@ impl Pools {
     }
 
     /// Turns each Q that names a place into V.
+    #[inline(always)]
     pub fn hear(&mut self, from: usize, value: u32)
         ensures { HaveHeard (only from (Some value)) self.old self.new }
     {
-        let mut rest = self.expecting();
+        let mut rest = self.listening_to(from);
         'members: while rest != 0 {
             let place = lowest(rest);
             rest = without_lowest(rest);
@@ -260,6 +287,31 @@ impl Pools {
                     self.hear_at(place, station, from, value);
                 }
             }
+        }
+        self.forget(from);
+    }
+
+    /// The places of all stations with an operand to come from a place, and perhaps of others.
+    #[inline(always)]
+    fn listening_to(&self, from: usize) -> u128
+        ensures each { (x : ℕ) → x < 96 → awaits from (slice_index_or self.now.slots x None) ≡ true → has result x ≡ true }
+        ensures busy { AreBusy self.now.slots self.now.busy self.now.ages }
+    {
+        if from < 96 {
+            self.listeners.sets[from]
+        } else {
+            self.busy
+        }
+    }
+
+    /// No station has an operand to come from a place any more.
+    #[inline(always)]
+    fn forget(&mut self, from: usize)
+        requires { (x : ℕ) → x < 96 → awaits from (slice_index_or self.old.slots x None) ≡ false }
+        ensures { self.new ≡ self.old }
+    {
+        if from < 96 {
+            self.listeners.clear(from);
         }
     }
 }

@@ -1,6 +1,6 @@
 //! What the busy stations wait for.
 
-ghost use Rattle.std.specs.Prelude.{◌≡◌, ◌<◌, None, Some, true};
+ghost use Rattle.std.specs.Prelude.{◌≡◌, ◌<◌, None, Some, false};
 ghost use Rattle.tomex_tags.specs.Standing.{HasFiled, IsFiled};
 
 use crate::station::Station;
@@ -11,14 +11,12 @@ use tomex_bus::sets::{with, without};
 /// They follow from the stations, and spare a walk over all that are busy.
 #[derive(Clone, Copy)]
 pub struct Standing {
-    /// Loads and stores whose address isn't computed yet.
-    pub lacking: u128,
-    /// Those whose address is.
+    /// Loads and stores whose address is computed.
     pub addressed: u128,
-    /// Stations with an operand that is still to come.
-    pub expecting: u128,
-    /// Stations whose operation has started.
-    pub started: u128,
+    /// Stations whose operations wait for nothing but a unit and older accesses.
+    pub waiting: u128,
+    /// Stations whose instruction writes a register.
+    pub writing: u128,
 }
 
 /// The set with a place as a member, or not.
@@ -42,31 +40,42 @@ impl Standing {
         ensures { HasFiled place (Some station.now) self.old self.new }
     {
         *self = Standing {
-            lacking: filed(self.lacking, place, station.lacks_address()),
             addressed: filed(self.addressed, place, station.address.is_some()),
-            expecting: filed(self.expecting, place, !station.ready()),
-            started: filed(self.started, place, station.finish.is_some()),
+            waiting: filed(self.waiting, place, station.is_waiting()),
+            writing: filed(self.writing, place, station.instr.dest().is_some()),
         };
+    }
+
+    /// The station in a place has an address, or not, and waits for no more, or does; all else of it is as before.
+    #[inline(always)]
+    pub fn address(&mut self, place: usize, addressed: bool, waits: bool)
+        requires { place < 128 }
+        ensures addressed { IsFiled place addressed self.old.addressed self.new.addressed }
+        ensures waiting { IsFiled place waits self.old.waiting self.new.waiting }
+        ensures others { self.new.writing ≡ self.old.writing }
+    {
+        self.addressed = filed(self.addressed, place, addressed);
+        self.waiting = filed(self.waiting, place, waits);
     }
 
     /// The operation of the station in a place has started; all else of it is as before.
     #[inline(always)]
     pub fn start(&mut self, place: usize)
         requires { place < 128 }
-        ensures started { IsFiled place true self.old.started self.new.started }
-        ensures others { (self.new.lacking ≡ self.old.lacking) × (self.new.addressed ≡ self.old.addressed) × (self.new.expecting ≡ self.old.expecting) }
+        ensures waiting { IsFiled place false self.old.waiting self.new.waiting }
+        ensures others { (self.new.addressed ≡ self.old.addressed) × (self.new.writing ≡ self.old.writing) }
     {
-        self.started = with(self.started, place);
+        self.waiting = without(self.waiting, place);
     }
 
-    /// Whether an operand of the station in a place is still to come; all else of it is as before.
+    /// Whether the station in a place waits for no more; all else of it is as before.
     #[inline(always)]
-    pub fn expect(&mut self, place: usize, expects: bool)
+    pub fn wait(&mut self, place: usize, waits: bool)
         requires { place < 128 }
-        ensures expecting { IsFiled place expects self.old.expecting self.new.expecting }
-        ensures others { (self.new.lacking ≡ self.old.lacking) × (self.new.addressed ≡ self.old.addressed) × (self.new.started ≡ self.old.started) }
+        ensures waiting { IsFiled place waits self.old.waiting self.new.waiting }
+        ensures others { (self.new.addressed ≡ self.old.addressed) × (self.new.writing ≡ self.old.writing) }
     {
-        self.expecting = filed(self.expecting, place, expects);
+        self.waiting = filed(self.waiting, place, waits);
     }
 
     /// Nothing stands in a place.
@@ -76,10 +85,9 @@ impl Standing {
         ensures { HasFiled place None self.old self.new }
     {
         *self = Standing {
-            lacking: without(self.lacking, place),
             addressed: without(self.addressed, place),
-            expecting: without(self.expecting, place),
-            started: without(self.started, place),
+            waiting: without(self.waiting, place),
+            writing: without(self.writing, place),
         };
     }
 }

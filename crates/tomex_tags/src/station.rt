@@ -2,7 +2,7 @@
 
 ghost use Rattle.std.specs.Prelude.{ℕ, ◌≡◌, Some, false};
 ghost use Rattle.tomex_tags.specs.Operands.{is_there, value_in, heard, only};
-ghost use Rattle.tomex_tags.specs.Contents.{bytes_in, busy_from, hears, is_memory_op, is_ready, lacks_address, step_in, with_address};
+ghost use Rattle.tomex_tags.specs.Contents.{bytes_in, busy_from, hears, is_memory_op, is_ready, is_waiting, step_in, with_address};
 
 use crate::places::place;
 use tomex_rvdec::{Instr, PoolId};
@@ -119,12 +119,12 @@ impl Station {
         }
     }
 
-    /// Whether it is a load or store whose address isn't computed yet.
+    /// Whether it waits for nothing but a unit and older accesses.
     #[inline(always)]
-    pub fn lacks_address(&self) -> bool
-        ensures { result ≡ lacks_address (Some self.now) }
+    pub fn is_waiting(&self) -> bool
+        ensures { result ≡ is_waiting self.now }
     {
-        self.is_memory() && self.address.is_none()
+        self.finish.is_none() && self.ready() && (!self.is_memory() || self.address.is_some())
     }
 
     /// The station with its address, where its base is there.

@@ -1,7 +1,7 @@
 //! The reservation stations of one pool.
 
-ghost use Rattle.std.specs.Prelude.{ℕ, ◌≡◌, ◌<◌, ◌≤◌, Some, None, IfSome, IfNone, false, is_none, replicate, slice_index_or, slice_set};
-ghost use Rattle.tomex_timing.specs.Recurrence.{IsLeast};
+ghost use Rattle.std.specs.Prelude.{◌≡◌, ◌<◌, None, option_map, replicate, slice_index_or, slice_set};
+ghost use Rattle.tomex_tags.specs.Contents.{started};
 
 use crate::station::Station;
 use arrayvec::ArrayVec;
@@ -52,18 +52,15 @@ impl Stations {
         self.stations[number] = station;
     }
 
-    /// The least free number of so many stations.
-    pub fn free(&self, count: u8) -> Option<u8>
-        requires { count ≤ 16 }
-        ensures some { IfSome result (λ n. IsLeast (λ m. is_none (slice_index_or self.now m None)) n) }
-        ensures low { IfSome result (λ n. n < count) }
-        ensures none { IfNone result ((n : ℕ) → n < count → is_none (slice_index_or self.now n None) ≡ false) }
+    /// The operation of the station of a number has started, where it is busy.
+    #[inline(always)]
+    pub fn start(&mut self, number: usize, finish: u64, value: u32)
+        requires { number < 16 }
+        ensures { self.new ≡ slice_set self.old number (option_map (started finish value) (slice_index_or self.old number None)) }
     {
-        for number in 0..count {
-            if self.at(number as usize).is_none() {
-                return Some(number);
-            }
+        if let Some(station) = &mut self.stations[number] {
+            station.finish = Some(finish);
+            station.value = value;
         }
-        None
     }
 }

@@ -74,19 +74,19 @@ fn a_row_is_dropped(rt: HostRuntime) -> Result<(), Fail> {
     assert!(rt; board.look(&mut seat, 1).is_none());
     board.finish(&mut seat, 0, 2_000);
     let bound = board.look(&mut seat, 1).ok_or("no bound")?;
-    assert_eq!(rt;
-        bound,
-        Bound {
-            cycles: 2_000,
-            row: 0
-        }
+    assert!(rt;
+        bound
+            == Bound {
+                cycles: 2_000,
+                row: 0
+            }
     );
     assert!(rt; board.claim(&mut seat, 1));
     board.give_up(&mut seat, 1, bound, 2_048);
     let marks = board.close(seat);
-    assert_eq!(rt; marks.len(), 2);
-    assert_eq!(rt; marks[0], Mark::Finished(2_000));
-    assert_eq!(rt; marks[1], Mark::Dropped(0));
+    assert!(rt; marks.len() == 2);
+    assert!(rt; marks[0] == Mark::Finished(2_000));
+    assert!(rt; marks[1] == Mark::Dropped(0));
     Ok(())
 }
 
@@ -94,8 +94,8 @@ fn a_row_is_dropped(rt: HostRuntime) -> Result<(), Fail> {
 fn a_new_board_is_open(rt: HostRuntime) -> Result<(), Fail> {
     let (board, seat) = Board::<TwoRows, Global>::new(rt.alloc(), &[5, 9])?;
     let marks = board.close(seat);
-    assert_eq!(rt; marks[0], Mark::Open);
-    assert_eq!(rt; marks[1], Mark::Open);
+    assert!(rt; marks[0] == Mark::Open);
+    assert!(rt; marks[1] == Mark::Open);
     Ok(())
 }
 
@@ -106,18 +106,18 @@ fn two_seats_are_joined(rt: HostRuntime) -> Result<(), Fail> {
     board.finish(&mut a, 0, 2_000);
     assert!(rt; board.claim(&mut b, 1));
     let bound = board.look(&mut b, 1).ok_or("no bound")?;
-    assert_eq!(rt;
-        bound,
-        Bound {
-            cycles: 2_000,
-            row: 0
-        }
+    assert!(rt;
+        bound
+            == Bound {
+                cycles: 2_000,
+                row: 0
+            }
     );
     board.give_up(&mut b, 1, bound, 2_048);
     let seat = board.join(a, b);
     let marks = board.close(seat);
-    assert_eq!(rt; marks[0], Mark::Finished(2_000));
-    assert_eq!(rt; marks[1], Mark::Dropped(0));
+    assert!(rt; marks[0] == Mark::Finished(2_000));
+    assert!(rt; marks[1] == Mark::Dropped(0));
     Ok(())
 }
 
@@ -127,8 +127,8 @@ fn a_dropped_seat_leaves_its_row_taken(rt: HostRuntime) -> Result<(), Fail> {
     assert!(rt; board.claim(&mut b, 0));
     drop(b);
     let marks = board.close(a);
-    assert_eq!(rt; marks[0], Mark::Taken);
-    assert_eq!(rt; marks[1], Mark::Open);
+    assert!(rt; marks[0] == Mark::Taken);
+    assert!(rt; marks[1] == Mark::Open);
     Ok(())
 }
 
@@ -140,25 +140,25 @@ fn a_row_above_all_floors_is_not_published(rt: HostRuntime) -> Result<(), Fail> 
         cycles: 500,
         row: 2,
     });
-    assert_eq!(rt; bounds[0], None);
-    assert_eq!(rt; bounds[1], bound);
-    assert_eq!(rt; bounds[2], bound);
+    assert!(rt; bounds[0] == None);
+    assert!(rt; bounds[1] == bound);
+    assert!(rt; bounds[2] == bound);
     Ok(())
 }
 
 #[test]
 fn words_and_floors(rt: HostRuntime) -> Result<(), Fail> {
-    assert_eq!(rt; mark_word(Mark::Open), 0);
-    assert_eq!(rt; mark_word(Mark::Taken), 1);
-    assert_eq!(rt; mark_word(Mark::Finished(2_000)), 8_002);
-    assert_eq!(rt; mark_word(Mark::Dropped(0)), 3);
-    assert_eq!(rt; band_word(2_000, 0), 32_768_000);
-    assert_eq!(rt; band_word(500, 2), 8_192_002);
+    assert!(rt; mark_word(Mark::Open) == 0);
+    assert!(rt; mark_word(Mark::Taken) == 1);
+    assert!(rt; mark_word(Mark::Finished(2_000)) == 8_002);
+    assert!(rt; mark_word(Mark::Dropped(0)) == 3);
+    assert!(rt; band_word(2_000, 0) == 32_768_000);
+    assert!(rt; band_word(500, 2) == 8_192_002);
     let costs = to_hundred(rt.alloc())?;
-    assert_eq!(rt; floor(costs.as_slice(), 0), Some(1));
-    assert_eq!(rt; floor(costs.as_slice(), 1), Some(2));
-    assert_eq!(rt; floor(costs.as_slice(), 2), Some(4));
-    assert_eq!(rt; floor(costs.as_slice(), 63), Some(99));
-    assert_eq!(rt; floor(costs.as_slice(), 64), None);
+    assert!(rt; floor(costs.as_slice(), 0) == Some(1));
+    assert!(rt; floor(costs.as_slice(), 1) == Some(2));
+    assert!(rt; floor(costs.as_slice(), 2) == Some(4));
+    assert!(rt; floor(costs.as_slice(), 63) == Some(99));
+    assert!(rt; floor(costs.as_slice(), 64) == None);
     Ok(())
 }

@@ -20,8 +20,8 @@ fn every_beginning(rt: HostRuntime) -> Result<(), Fail> {
                 assert!(rt; 0 < length && length < 4);
                 match run(rt.alloc(), &image, 1000) {
                     Err(RunError::Fault(fault)) => {
-                        assert_eq!(rt; fault.kind, FaultKind::Illegal);
-                        assert_eq!(rt; fault.pc, 65536);
+                        assert!(rt; fault.kind == FaultKind::Illegal);
+                        assert!(rt; fault.pc == 65536);
                     }
                     _ => assert!(rt; false, "{length} bytes run"),
                 }
@@ -32,7 +32,7 @@ fn every_beginning(rt: HostRuntime) -> Result<(), Fail> {
                 } else {
                     ImageError::Truncated
                 };
-                assert_eq!(rt; error, wanted);
+                assert!(rt; error == wanted);
             }
         }
     }
@@ -80,9 +80,9 @@ fn every_byte_changed(rt: HostRuntime) -> Result<(), Fail> {
         }
     }
     // So many are loaded, which leaves as many as are refused: each of the 25,600 is counted once.
-    assert_eq!(rt; loaded, 16_357);
+    assert!(rt; loaded == 16_357);
     for (kind, count) in left {
-        assert_eq!(rt; count, 0, "{kind}");
+        assert_eq!(rt; (kind, count), (kind, 0));
     }
     Ok(())
 }

@@ -68,9 +68,9 @@ pub fn comes_to<R: Abort + AllocGlobal + Threads + Wait + Sync>(
 ) -> Result<(), Fail> {
     let outcome = outcome_of(rt, files, words, 10_000)?;
     let (status, out, err) = wanted;
-    assert_eq!(rt; outcome.out.as_slice(), out.as_bytes());
-    assert_eq!(rt; outcome.err.as_slice(), err.as_bytes());
-    assert_eq!(rt; outcome.status, status);
+    assert!(rt; outcome.out.as_slice() == out.as_bytes());
+    assert!(rt; outcome.err.as_slice() == err.as_bytes());
+    assert!(rt; outcome.status == status);
     Ok(())
 }
 
@@ -104,9 +104,9 @@ pub fn ends<R: Abort + AllocGlobal + Threads + Wait + Sync>(
     words.extend_from_slice(options)?;
     let outcome = run_into(rt, Some(image), words.as_slice(), 10_000)?;
     let text = text_of(rt.alloc(), registers, last)?;
-    assert_eq!(rt; outcome.out.as_slice(), text.as_bytes());
-    assert_eq!(rt; outcome.err.as_slice(), b"".as_slice());
-    assert_eq!(rt; outcome.status, 0);
+    assert!(rt; outcome.out.as_slice() == text.as_bytes());
+    assert!(rt; outcome.err.as_slice() == b"".as_slice());
+    assert!(rt; outcome.status == 0);
     Ok(())
 }
 
@@ -122,215 +122,171 @@ pub fn fails<R: Abort + AllocGlobal + Threads + Wait + Sync>(
     words.extend_from_slice(["tomex", "run", "image"].as_slice())?;
     words.extend_from_slice(options)?;
     let outcome = run_into(rt, image, words.as_slice(), 10_000)?;
-    assert_eq!(rt; outcome.out.as_slice(), b"".as_slice());
-    assert_eq!(rt; outcome.err.as_slice(), told.as_bytes());
-    assert_eq!(rt; outcome.status, status);
+    assert!(rt; outcome.out.as_slice() == b"".as_slice());
+    assert!(rt; outcome.err.as_slice() == told.as_bytes());
+    assert!(rt; outcome.status == status);
     Ok(())
 }
 
 /// `addi x1,x0,5; addi x2,x0,7; mul x3,x1,x2; ebreak`
 pub const PRODUCT: &[u8; 16] = b"\x93\x00\x50\x00\x13\x01\x70\x00\xb3\x81\x20\x02\x73\x00\x10\x00";
 
+/// The window that ends at the top of the address space.
+const TOP: [&str; 4] = ["--base", "4294963200", "--size", "4096"];
+
 /// The registers at the end of the product.
 pub const PRODUCT_END: [(usize, u32); 3] = [(1, 5), (2, 7), (3, 0x23)];
 
+/// Images with the options of their runs, the registers that aren't zero at the end, and the last line.
+static ENDING: [(&[u8], &[&str], &[(usize, u32)], &str); 8] = [
+    (PRODUCT, &[], &PRODUCT_END, "ebreak at 0000000c after 4"),
+    (
+        PRODUCT,
+        &["--limit", "4"],
+        &PRODUCT_END,
+        "ebreak at 0000000c after 4",
+    ),
+    // lui x5,74565
+    (
+        b"\xb7\x52\x34\x12\x73\x00\x10\x00",
+        &[],
+        &[(2, 0x10000), (5, 0x12345000)],
+        "ebreak at 00000004 after 2",
+    ),
+    (
+        b"\x73\x00\x00\x00",
+        &[],
+        &[(2, 0x10000)],
+        "ecall at 00000000 after 1",
+    ),
+    // addi x8,x0,256; addi x1,x0,768; sw x1,0(x8); lb x2,1(x8)
+    (
+        b"\x13\x04\x00\x10\x93\x00\x00\x30\x23\x20\x14\x00\x03\x01\x14\x00\x73\x00\x10\x00",
+        &[],
+        &[(1, 768), (2, 3), (8, 256)],
+        "ebreak at 00000010 after 5",
+    ),
+    // sw x0,8(x0); addi x1,x0,1; addi x3,x0,9: the word at 8 is written, and runs as it was loaded.
+    (
+        b"\x23\x24\x00\x00\x93\x00\x10\x00\x93\x01\x90\x00\x73\x00\x10\x00",
+        &[],
+        &[(1, 1), (2, 0x10000), (3, 9)],
+        "ebreak at 0000000c after 4",
+    ),
+    // lw x1,-4(x0) at the top of the address space
+    (
+        b"\x83\x20\xc0\xff\x73\x00\x10\x00",
+        &TOP,
+        &[],
+        "ebreak at fffff004 after 2",
+    ),
+    // A branch that isn't taken, to no multiple of four.
+    (
+        b"\x63\x11\x00\x00\x73\x00\x10\x00",
+        &[],
+        &[(2, 0x10000)],
+        "ebreak at 00000004 after 2",
+    ),
+];
+
 #[test]
 fn flat_images_end(rt: HostRuntime) -> Result<(), Fail> {
-    let product = PRODUCT.as_slice();
-    let last = "ebreak at 0000000c after 4";
-    ends(&rt, product, [].as_slice(), PRODUCT_END.as_slice(), last)?;
-    ends(
-        &rt,
-        product,
-        ["--limit", "4"].as_slice(),
-        PRODUCT_END.as_slice(),
-        last,
-    )?;
-    // lui x5,74565
-    let lui = b"\xb7\x52\x34\x12\x73\x00\x10\x00".as_slice();
-    let registers = [(2, 0x10000), (5, 0x12345000)];
-    ends(
-        &rt,
-        lui,
-        [].as_slice(),
-        registers.as_slice(),
-        "ebreak at 00000004 after 2",
-    )?;
-    let ecall = b"\x73\x00\x00\x00".as_slice();
-    ends(
-        &rt,
-        ecall,
-        [].as_slice(),
-        [(2, 0x10000)].as_slice(),
-        "ecall at 00000000 after 1",
-    )
+    for (image, options, registers, last) in &ENDING {
+        ends(&rt, image, options, registers, last)?;
+    }
+    Ok(())
 }
 
-#[test]
-fn memory_is_read_and_written(rt: HostRuntime) -> Result<(), Fail> {
-    // addi x8,x0,256; addi x1,x0,768; sw x1,0(x8); lb x2,1(x8)
-    let byte = b"\x13\x04\x00\x10\x93\x00\x00\x30\x23\x20\x14\x00\x03\x01\x14\x00\x73\x00\x10\x00";
-    let registers = [(1, 768), (2, 3), (8, 256)];
-    ends(
-        &rt,
-        byte.as_slice(),
-        [].as_slice(),
-        registers.as_slice(),
-        "ebreak at 00000010 after 5",
-    )?;
-    // sw x0,8(x0); addi x1,x0,1; addi x3,x0,9: the word at 8 is written, and runs as it was loaded.
-    let own = b"\x23\x24\x00\x00\x93\x00\x10\x00\x93\x01\x90\x00\x73\x00\x10\x00";
-    let registers = [(1, 1), (2, 0x10000), (3, 9)];
-    ends(
-        &rt,
-        own.as_slice(),
-        [].as_slice(),
-        registers.as_slice(),
-        "ebreak at 0000000c after 4",
-    )?;
-    // lw x1,-4(x0) at the top of the address space
-    let top = ["--base", "4294963200", "--size", "4096"];
-    let last = b"\x83\x20\xc0\xff\x73\x00\x10\x00".as_slice();
-    ends(
-        &rt,
-        last,
-        top.as_slice(),
-        [].as_slice(),
-        "ebreak at fffff004 after 2",
-    )?;
-    // lw x1,-2(x0) there has bytes past it, which don't wrap.
-    let past = b"\x83\x20\xe0\xff\x73\x00\x10\x00".as_slice();
-    fails(
-        &rt,
-        Some(past),
-        top.as_slice(),
+/// Images, or none, with the options of their runs, what is told of them, and the status.
+static REFUSED: [(Option<&[u8]>, &[&str], &str, u8); 12] = [
+    // lw x1,-2(x0) at the top of the address space has bytes past it, which don't wrap.
+    (
+        Some(b"\x83\x20\xe0\xff\x73\x00\x10\x00"),
+        &TOP,
         "tomex: fault: access at fffff000\n",
         1,
-    )
-}
-
-#[test]
-fn targets_are_multiples_of_four(rt: HostRuntime) -> Result<(), Fail> {
-    let taken = b"\x63\x01\x00\x00".as_slice();
-    fails(
-        &rt,
-        Some(taken),
-        [].as_slice(),
+    ),
+    // A branch that is taken, to no multiple of four.
+    (
+        Some(b"\x63\x01\x00\x00"),
+        &[],
         "tomex: fault: misaligned target at 00000000\n",
         1,
-    )?;
-    let not_taken = b"\x63\x11\x00\x00\x73\x00\x10\x00".as_slice();
-    ends(
-        &rt,
-        not_taken,
-        [].as_slice(),
-        [(2, 0x10000)].as_slice(),
-        "ebreak at 00000004 after 2",
-    )
-}
-
-#[test]
-fn limits(rt: HostRuntime) -> Result<(), Fail> {
-    let product = Some(PRODUCT.as_slice());
-    fails(
-        &rt,
-        product,
-        ["--limit", "3"].as_slice(),
+    ),
+    (Some(PRODUCT), &["--limit", "3"], "tomex: too long\n", 1),
+    // A jump to itself.
+    (
+        Some(b"\x6f\x00\x00\x00"),
+        &["--limit", "262144"],
         "tomex: too long\n",
         1,
-    )?;
-    let for_ever = Some(b"\x6f\x00\x00\x00".as_slice());
-    fails(
-        &rt,
-        for_ever,
-        ["--limit", "262144"].as_slice(),
-        "tomex: too long\n",
-        1,
-    )
-}
-
-#[test]
-fn bad_windows_and_images(rt: HostRuntime) -> Result<(), Fail> {
-    let product = Some(PRODUCT.as_slice());
-    fails(
-        &rt,
-        product,
-        ["--base", "2"].as_slice(),
-        "tomex: bad window\n",
-        1,
-    )?;
-    fails(
-        &rt,
-        product,
-        ["--size", "6"].as_slice(),
-        "tomex: bad window\n",
-        1,
-    )?;
-    fails(
-        &rt,
-        None,
-        ["--base", "4294967292"].as_slice(),
-        "tomex: bad window\n",
-        1,
-    )?;
-    fails(
-        &rt,
-        product,
-        ["--size", "12"].as_slice(),
+    ),
+    (Some(PRODUCT), &["--base", "2"], "tomex: bad window\n", 1),
+    (Some(PRODUCT), &["--size", "6"], "tomex: bad window\n", 1),
+    (None, &["--base", "4294967292"], "tomex: bad window\n", 1),
+    (
+        Some(PRODUCT),
+        &["--size", "12"],
         "tomex: image: too large\n",
         1,
-    )?;
-    fails(
-        &rt,
-        Some(b"".as_slice()),
-        [].as_slice(),
-        "tomex: image: empty\n",
-        1,
-    )?;
-    let zeros = Some(b"\x00\x00\x00\x00".as_slice());
-    fails(
-        &rt,
-        zeros,
-        [].as_slice(),
+    ),
+    (Some(b""), &[], "tomex: image: empty\n", 1),
+    (
+        Some(b"\x00\x00\x00\x00"),
+        &[],
         "tomex: fault: illegal at 00000000\n",
         1,
-    )?;
-    let three = Some(b"\x7f\x45\x4c".as_slice());
-    fails(
-        &rt,
-        three,
-        [].as_slice(),
+    ),
+    (
+        Some(b"\x7f\x45\x4c"),
+        &[],
         "tomex: fault: illegal at 00000000\n",
         1,
-    )?;
-    fails(&rt, None, [].as_slice(), "tomex: cannot read image\n", 3)
+    ),
+    (None, &[], "tomex: cannot read image\n", 3),
+];
+
+#[test]
+fn images_are_refused(rt: HostRuntime) -> Result<(), Fail> {
+    for (image, options, told, status) in &REFUSED {
+        fails(&rt, *image, options, told, *status)?;
+    }
+    Ok(())
+}
+
+/// Lines that the parser refuses.
+static MISTAKEN: [&[&str]; 12] = [
+    &["tomex"],
+    &["tomex", "jump"],
+    &["tomex", "run"],
+    &["tomex", "run", "image", "--limit", "0"],
+    &["tomex", "run", "image", "--limit", "262145"],
+    &["tomex", "run", "image", "--size", "x"],
+    &["tomex", "run", "image", "--base", "0", "--base", "0"],
+    &["tomex", "explore", "study", "--workers", "0"],
+    &["tomex", "explore", "study", "--workers", "33"],
+    &["tomex", "explore"],
+    &["tomex", "all"],
+    &["tomex", "all", "study", "--workers", "1"],
+];
+
+#[test]
+fn lines_that_the_parser_refuses(rt: HostRuntime) -> Result<(), Fail> {
+    for words in &MISTAKEN {
+        let outcome = run_into(&rt, None, words, 10_000)?;
+        assert!(rt; outcome.status == 2 && outcome.out.is_empty() && !outcome.err.is_empty());
+    }
+    Ok(())
 }
 
 #[test]
-fn lines_that_the_parser_ends(rt: HostRuntime) -> Result<(), Fail> {
-    let refused = [
-        ["tomex"].as_slice(),
-        ["tomex", "jump"].as_slice(),
-        ["tomex", "run"].as_slice(),
-        ["tomex", "run", "image", "--limit", "0"].as_slice(),
-        ["tomex", "run", "image", "--limit", "262145"].as_slice(),
-        ["tomex", "run", "image", "--size", "x"].as_slice(),
-        ["tomex", "run", "image", "--base", "0", "--base", "0"].as_slice(),
-    ];
-    for words in refused {
-        let outcome = run_into(&rt, None, words, 10_000)?;
-        assert_eq!(rt; outcome.status, 2);
-        assert_eq!(rt; outcome.out.len(), 0);
-        assert!(rt; outcome.err.len() > 0);
-    }
+fn lines_that_ask_for_help(rt: HostRuntime) -> Result<(), Fail> {
     for words in [
         ["tomex", "--help"].as_slice(),
         ["tomex", "run", "-h"].as_slice(),
     ] {
         let outcome = run_into(&rt, None, words, 10_000)?;
-        assert_eq!(rt; outcome.status, 0);
-        assert!(rt; outcome.out.len() > 0);
-        assert_eq!(rt; outcome.err.len(), 0);
+        assert!(rt; outcome.status == 0 && !outcome.out.is_empty() && outcome.err.is_empty());
     }
     Ok(())
 }
@@ -364,8 +320,8 @@ fn names_are_shown_on_one_line(rt: HostRuntime) -> Result<(), Fail> {
 fn a_full_device(rt: HostRuntime) -> Result<(), Fail> {
     let words = ["tomex", "run", "image"];
     let outcome = run_into(&rt, Some(PRODUCT.as_slice()), words.as_slice(), 10)?;
-    assert_eq!(rt; outcome.status, 3);
-    assert_eq!(rt; outcome.out.as_slice(), b"x0=0000000".as_slice());
-    assert_eq!(rt; outcome.err.as_slice(), b"tomex: cannot write\n".as_slice());
+    assert!(rt; outcome.status == 3);
+    assert!(rt; outcome.out.as_slice() == b"x0=0000000".as_slice());
+    assert!(rt; outcome.err.as_slice() == b"tomex: cannot write\n".as_slice());
     Ok(())
 }

@@ -92,19 +92,11 @@ const CLANG_END: [(usize, u32); 13] = [
 
 #[test]
 fn of_two_compilers(rt: HostRuntime) -> Result<(), Fail> {
-    let none = [].as_slice();
-    ends(
-        &rt,
-        GCC.as_slice(),
-        none,
-        GCC_END.as_slice(),
-        "ebreak at 000000ec after 400",
-    )?;
-    ends(
-        &rt,
-        CLANG.as_slice(),
-        none,
-        CLANG_END.as_slice(),
-        "ebreak at 000010f4 after 444",
-    )
+    for (image, end, last) in [
+        (GCC.as_slice(), &GCC_END, "ebreak at 000000ec after 400"),
+        (CLANG.as_slice(), &CLANG_END, "ebreak at 000010f4 after 444"),
+    ] {
+        ends(&rt, image, [].as_slice(), end.as_slice(), last)?;
+    }
+    Ok(())
 }

@@ -38,56 +38,19 @@ fn they_end(rt: HostRuntime) -> Result<(), Fail> {
 
 #[test]
 fn they_are_refused(rt: HostRuntime) -> Result<(), Fail> {
-    let options = AT_65536.as_slice();
-    fails(
-        &rt,
-        Some(&ELF.as_slice()[..99]),
-        options,
-        "tomex: image: truncated\n",
-        1,
-    )?;
-    fails(
-        &rt,
-        Some(&ELF.as_slice()[..3]),
-        options,
-        "tomex: fault: illegal at 00010000\n",
-        1,
-    )?;
-    fails(
-        &rt,
-        Some(b"".as_slice()),
-        options,
-        "tomex: image: empty\n",
-        1,
-    )?;
-    // Without the base the segment lies past the window.
-    fails(
-        &rt,
-        Some(ELF.as_slice()),
-        [].as_slice(),
-        "tomex: image: segment\n",
-        1,
-    )
-}
-
-#[test]
-fn changed_ones_are_refused(rt: HostRuntime) -> Result<(), Fail> {
-    let options = AT_65536.as_slice();
     // A byte of the file more than of memory, and a header that asks for an interpreter.
-    let longer = changed(68, 33);
-    fails(
-        &rt,
-        Some(longer.as_slice()),
-        options,
-        "tomex: image: segment\n",
-        1,
-    )?;
-    let dynamic = changed(52, 3);
-    fails(
-        &rt,
-        Some(dynamic.as_slice()),
-        options,
-        "tomex: image: dynamic\n",
-        1,
-    )
+    let (longer, dynamic) = (changed(68, 33), changed(52, 3));
+    let (file, based) = (ELF.as_slice(), AT_65536.as_slice());
+    for (image, options, told) in [
+        (&file[..99], based, "tomex: image: truncated\n"),
+        (&file[..3], based, "tomex: fault: illegal at 00010000\n"),
+        (&file[..0], based, "tomex: image: empty\n"),
+        // Without the base the segment lies past the window.
+        (file, [].as_slice(), "tomex: image: segment\n"),
+        (longer.as_slice(), based, "tomex: image: segment\n"),
+        (dynamic.as_slice(), based, "tomex: image: dynamic\n"),
+    ] {
+        fails(&rt, Some(image), options, told, 1)?;
+    }
+    Ok(())
 }

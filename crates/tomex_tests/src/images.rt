@@ -10,9 +10,9 @@ fn with_ample_memory(rt: HostRuntime) -> Result<(), Fail> {
     let program = &ELF.as_slice()[84..];
     for file in [program, ELF.as_slice()] {
         let image = load(rt.alloc(), file, window)?;
-        assert_eq!(rt; image.window(), window);
-        assert_eq!(rt; image.entry(), 65536);
-        assert_eq!(rt; image.memory().len(), 65536);
+        assert!(rt; image.window() == window);
+        assert!(rt; image.entry() == 65536);
+        assert!(rt; image.memory().len() == 65536);
         assert!(rt; image.memory().starts_with(program));
         assert!(rt; image.memory()[16..].iter().all(|byte| *byte == 0));
     }
@@ -36,7 +36,7 @@ fn refusals_have_texts(rt: HostRuntime) -> Result<(), Fail> {
         (ImageError::Memory, "out of memory"),
     ] {
         let shown = format!(in rt.alloc(); "{error}")?;
-        assert_eq!(rt; shown.as_str(), text);
+        assert!(rt; shown.as_str() == text);
     }
     Ok(())
 }

@@ -96,24 +96,18 @@ fn a_write_stops_where_the_sink_does(rt: HostRuntime) -> Result<(), Fail> {
     for room in 0..13usize {
         for step in [1, 4, 100] {
             let mut sink = Narrow::new(rt.alloc(), room, step);
-            assert_eq!(rt;
-                write_all_of(&mut sink, text),
-                Err(WriteFault { written: room })
-            );
-            assert_eq!(rt; sink.bytes.as_slice(), &text[..room]);
-            assert_eq!(rt; sink.faults, 1);
+            assert!(rt; write_all_of(&mut sink, text) == Err(WriteFault { written: room }));
+            assert!(rt; sink.bytes.as_slice() == &text[..room]);
+            assert!(rt; sink.faults == 1);
         }
     }
     let mut sink = Narrow::new(rt.alloc(), 13, 1);
-    assert_eq!(rt; write_all_of(&mut sink, text), Ok(()));
-    assert_eq!(rt; sink.bytes.as_slice(), text);
-    assert_eq!(rt; sink.faults, 0);
+    assert!(rt; write_all_of(&mut sink, text) == Ok(()));
+    assert!(rt; sink.bytes.as_slice() == text);
+    assert!(rt; sink.faults == 0);
     let mut sink = Narrow::new(rt.alloc(), 0, 1);
     sink.is_silent = true;
-    assert_eq!(rt;
-        write_all_of(&mut sink, text),
-        Err(WriteFault { written: 0 })
-    );
+    assert!(rt; write_all_of(&mut sink, text) == Err(WriteFault { written: 0 }));
     Ok(())
 }
 
@@ -129,33 +123,15 @@ pub fn words(alloc: Global, line: &str) -> Result<Vec<String>, AllocError> {
 #[test]
 fn files_of_the_system_are_read(rt: HostRuntime) -> Result<(), Fail> {
     let files = HostFiles::new(&rt);
-    assert_eq!(rt;
-        files.read(rt.alloc(), "no such file").err(),
-        Some(ReadFault::NoFile)
-    );
-    assert_eq!(rt; files.read(rt.alloc(), "/").err(), Some(ReadFault::NoFile));
-    assert_eq!(rt;
-        files.read(rt.alloc(), "/dev/null")?.as_slice(),
-        b"".as_slice()
-    );
+    assert!(rt; files.read(rt.alloc(), "no such file").err() == Some(ReadFault::NoFile));
+    assert!(rt; files.read(rt.alloc(), "/").err() == Some(ReadFault::NoFile));
+    assert!(rt; files.read(rt.alloc(), "/dev/null")?.as_slice() == b"".as_slice());
     // A device without an end is refused once it has given more than a file may have.
     let zeros = File::open(&rt, "/dev/zero")?;
-    assert_eq!(rt;
-        bytes_within(rt.alloc(), zeros, 10).err(),
-        Some(ReadFault::NoFile)
-    );
-    assert_eq!(rt;
-        bytes_within(rt.alloc(), TEXT.as_slice(), 13)?.as_slice(),
-        TEXT.as_slice()
-    );
-    assert_eq!(rt;
-        bytes_within(rt.alloc(), TEXT.as_slice(), 12).err(),
-        Some(ReadFault::NoFile)
-    );
+    assert!(rt; bytes_within(rt.alloc(), zeros, 10).err() == Some(ReadFault::NoFile));
+    assert!(rt; bytes_within(rt.alloc(), TEXT.as_slice(), 13)?.as_slice() == TEXT.as_slice());
+    assert!(rt; bytes_within(rt.alloc(), TEXT.as_slice(), 12).err() == Some(ReadFault::NoFile));
     let refused = Refusing::new(rt.alloc(), Budget::new(rt.alloc(), 0)?);
-    assert_eq!(rt;
-        files.read(refused, "/proc/self/cmdline").err(),
-        Some(ReadFault::Memory)
-    );
+    assert!(rt; files.read(refused, "/proc/self/cmdline").err() == Some(ReadFault::Memory));
     Ok(())
 }

@@ -30,8 +30,8 @@ fn words_and_their_texts(rt: HostRuntime) -> Result<(), Fail> {
     for (word, text) in WORDS {
         let instr = decode(word).ok_or("no instruction")?;
         let shown = format!(in rt.alloc(); "{instr}")?;
-        assert_eq!(rt; shown.as_str(), text);
-        assert_eq!(rt; encode(&instr), word);
+        assert!(rt; shown.as_str() == text);
+        assert!(rt; encode(&instr) == word);
     }
     Ok(())
 }
@@ -43,6 +43,6 @@ fn words_that_mean_nothing(rt: HostRuntime) {
     for word in [
         0x40001013, 0x464c457f, 0, 0xffffffff, 0x30200073, 0x00001073, 0x0000100f,
     ] {
-        assert_eq!(rt; decode(word), None);
+        assert!(rt; decode(word) == None);
     }
 }

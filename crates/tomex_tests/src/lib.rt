@@ -36,6 +36,8 @@ mod programs;
 #[cfg(test)]
 mod refused_memory;
 #[cfg(test)]
+mod restarts;
+#[cfg(test)]
 mod sweeps;
 #[cfg(test)]
 mod tables;

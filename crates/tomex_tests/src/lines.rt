@@ -138,9 +138,9 @@ fn faults_of_a_line_are_told(rt: HostRuntime) -> Result<(), Fail> {
     ] {
         let mut out = Narrow::new(alloc, room, 3);
         let mut err = Narrow::new(alloc, 100, 3);
-        assert_eq!(rt; tell_line_fault(&fault, &mut out, &mut err), status);
-        assert_eq!(rt; out.bytes.as_slice(), output.as_bytes());
-        assert_eq!(rt; err.bytes.as_slice(), error.as_bytes());
+        assert!(rt; tell_line_fault(&fault, &mut out, &mut err) == status);
+        assert!(rt; out.bytes.as_slice() == output.as_bytes());
+        assert!(rt; err.bytes.as_slice() == error.as_bytes());
     }
     Ok(())
 }

@@ -34,12 +34,12 @@ const PRODUCT: [u32; 4] = [0x00500093, 0x00700113, 0x022081b3, 0x00100073];
 #[test]
 fn four_steps_within_limits(rt: HostRuntime) -> Result<(), Fail> {
     let product = program_of(rt.alloc(), PRODUCT.as_slice(), 4)??;
-    assert_eq!(rt; product.name(), "mul");
-    assert_eq!(rt; product.limit(), 4);
-    assert_eq!(rt; product.image().memory().len(), 4096);
-    assert_eq!(rt; product.watch().len(), 1);
+    assert!(rt; product.name() == "mul");
+    assert!(rt; product.limit() == 4);
+    assert!(rt; product.image().memory().len() == 4096);
+    assert!(rt; product.watch().len() == 1);
     let short = program_of(rt.alloc(), PRODUCT.as_slice(), 3)?;
-    assert_eq!(rt; short.err(), Some(ProgramError::TooLong));
+    assert!(rt; short.err() == Some(ProgramError::TooLong));
     Ok(())
 }
 
@@ -52,13 +52,13 @@ fn a_fault_is_told(rt: HostRuntime) -> Result<(), Fail> {
         pc: 4,
     };
     let faulty = program_of(rt.alloc(), words.as_slice(), 262_144)?;
-    assert_eq!(rt; faulty.err(), Some(ProgramError::Fault(fault)));
+    assert!(rt; faulty.err() == Some(ProgramError::Fault(fault)));
     let shown = format!(in rt.alloc(); "{}", ProgramError::Fault(fault))?;
-    assert_eq!(rt; shown.as_str(), "fault: illegal at 00000004");
+    assert!(rt; shown.as_str() == "fault: illegal at 00000004");
     let shown = format!(in rt.alloc(); "{}", ProgramError::TooLong)?;
-    assert_eq!(rt; shown.as_str(), "too long");
+    assert!(rt; shown.as_str() == "too long");
     let shown = format!(in rt.alloc(); "{}", ProgramError::Memory)?;
-    assert_eq!(rt; shown.as_str(), "out of memory");
+    assert!(rt; shown.as_str() == "out of memory");
     Ok(())
 }
 
@@ -83,16 +83,13 @@ fn costs_of_two_rows(rt: HostRuntime) -> Result<(), Fail> {
     let programs = vec![in rt.alloc(); product]?;
     let rows = vec![in rt.alloc(); two, one]?;
     let study = Study::new(rt.alloc(), programs, rows, prices)?;
-    assert_eq!(rt; study.costs(), [184, 174].as_slice());
-    assert_eq!(rt; study.prices(), prices);
-    assert_eq!(rt; study.rows().len(), 2);
-    assert_eq!(rt; study.row(1).copied(), Some(one));
-    assert_eq!(rt; study.row(2).copied(), None);
-    assert_eq!(rt; study.programs().len(), 1);
-    assert_eq!(rt;
-        study.program("mul").map(|program| program.limit()),
-        Some(4)
-    );
+    assert!(rt; study.costs() == [184, 174].as_slice());
+    assert!(rt; study.prices() == prices);
+    assert!(rt; study.rows().len() == 2);
+    assert!(rt; study.row(1).copied() == Some(one));
+    assert!(rt; study.row(2).copied() == None);
+    assert!(rt; study.programs().len() == 1);
+    assert!(rt; study.program("mul").map(|program| program.limit()) == Some(4));
     assert!(rt; study.program("loop").is_none());
     Ok(())
 }

@@ -48,6 +48,7 @@ macro_rules! refusals_of {
 mod boards;
 mod commands;
 mod explorations;
+mod once;
 mod runs;
 mod studies;
 mod tables;

@@ -35,48 +35,94 @@ const NO_ROW: (u8, &str, &str) = (1, "", "tomex: no such row\n");
 
 const NO_PROGRAM: (u8, &str, &str) = (1, "", "tomex: no such program\n");
 
-#[test]
-fn tables_of_worked_runs(rt: HostRuntime) -> Result<(), Fail> {
-    let product = [("study", STUDY.as_bytes()), ("mul.bin", PRODUCT.as_slice())];
-    let twice = [("study", SLOW.as_bytes()), ("a", WRITTEN_TWICE.as_slice())];
-    let stored = [("study", MEMORY.as_bytes()), ("a", STORED.as_slice())];
-    for (files, program, cycle, wanted) in [
-        (product.as_slice(), "mul", "0", "cycle 0\n"),
-        (product.as_slice(), "mul", "3", PRODUCT_AFTER_3),
-        (product.as_slice(), "mul", "8", "cycle 8\n"),
+/// A study, and the name and the bytes of its program's file.
+type OneProgram = (&'static str, &'static str, &'static [u8]);
+
+const PRODUCT_STUDY: OneProgram = (STUDY, "mul.bin", PRODUCT);
+
+const TWICE_STUDY: OneProgram = (SLOW, "a", WRITTEN_TWICE);
+
+const STORED_STUDY: OneProgram = (MEMORY, "a", STORED);
+
+/// Studies, with a program, a cycle, and what comes of the tables on the first row.
+static WORKED: [(OneProgram, &str, &str, (u8, &str, &str)); 10] = [
+    (PRODUCT_STUDY, "mul", "0", (0, "cycle 0\n", "")),
+    (PRODUCT_STUDY, "mul", "3", (0, PRODUCT_AFTER_3, "")),
+    (PRODUCT_STUDY, "mul", "8", (0, "cycle 8\n", "")),
+    (PRODUCT_STUDY, "mul", "9", PAST),
+    (PRODUCT_STUDY, "mul", "17563648", PAST),
+    (
+        TWICE_STUDY,
+        "twice",
+        "4",
         (
-            twice.as_slice(),
-            "twice",
-            "4",
+            0,
             "cycle 4\nmul0 mul Vj=00000000 Vk=00010000 Qj=- Qk=- A=-\n",
+            "",
         ),
-        (twice.as_slice(), "twice", "12", "cycle 12\n"),
+    ),
+    (TWICE_STUDY, "twice", "12", (0, "cycle 12\n", "")),
+    (TWICE_STUDY, "twice", "13", PAST),
+    (
+        STORED_STUDY,
+        "stored",
+        "5",
         (
-            stored.as_slice(),
-            "stored",
-            "5",
+            0,
             "cycle 5\n\
              load0 lb Vj=00000100 Vk=- Qj=- Qk=- A=00000101\n\
              store0 sw Vj=00000100 Vk=00000300 Qj=- Qk=- A=00000100\n\
              x2 Qi=load0\n",
+            "",
         ),
-    ] {
-        let words = ["tomex", "tables", "study", "0", program, cycle];
-        comes_to(&rt, files, words.as_slice(), (0, wanted, ""))?;
-    }
-    for (files, program, cycle) in [
-        (product.as_slice(), "mul", "9"),
-        (product.as_slice(), "mul", "17563648"),
-        (twice.as_slice(), "twice", "13"),
-        (stored.as_slice(), "stored", "10"),
-    ] {
-        let words = ["tomex", "tables", "study", "0", program, cycle];
-        comes_to(&rt, files, words.as_slice(), PAST)?;
+    ),
+    (STORED_STUDY, "stored", "10", PAST),
+];
+
+#[test]
+fn tables_of_worked_runs(rt: HostRuntime) -> Result<(), Fail> {
+    for ((study, name, bytes), program, cycle, wanted) in &WORKED {
+        let files = [("study", study.as_bytes()), (*name, *bytes)];
+        let words = ["tomex", "tables", "study", "0", *program, *cycle];
+        comes_to(&rt, files.as_slice(), words.as_slice(), *wanted)?;
     }
     Ok(())
 }
 
-/// The row, the program and then the cycle are those that are asked for, and are looked for in this order.
+/// Rows, programs and cycles, and what comes of them in the study of two programs. They are looked for in this
+/// order.
+static ASKED: [(&str, &str, &str, (u8, &str, &str)); 11] = [
+    ("0", "mul", "8", (0, "cycle 8\n", "")),
+    ("0", "mul", "9", PAST),
+    ("1", "mul", "10", (0, "cycle 10\n", "")),
+    ("1", "mul", "11", PAST),
+    ("1", "sum", "3", (0, "cycle 3\n", "")),
+    ("1", "sum", "4", PAST),
+    (
+        "1",
+        "mul",
+        "4",
+        (
+            0,
+            "cycle 4\nalu0 addi Vj=00000000 Vk=- Qj=- Qk=- A=-\nx2 Qi=alu0\n",
+            "",
+        ),
+    ),
+    (
+        "1",
+        "sum",
+        "1",
+        (
+            0,
+            "cycle 1\nalu0 addi Vj=00000000 Vk=- Qj=- Qk=- A=-\nx1 Qi=alu0\n",
+            "",
+        ),
+    ),
+    ("2", "div", "17563648", NO_ROW),
+    ("2", "mul", "17563648", NO_ROW),
+    ("1", "div", "17563648", NO_PROGRAM),
+];
+
 #[test]
 fn rows_programs_and_cycles(rt: HostRuntime) -> Result<(), Fail> {
     let two = [
@@ -84,47 +130,24 @@ fn rows_programs_and_cycles(rt: HostRuntime) -> Result<(), Fail> {
         ("a", PRODUCT.as_slice()),
         ("z", SUM.as_slice()),
     ];
-    for (row, program, cycle, wanted) in [
-        ("0", "mul", "8", (0, "cycle 8\n", "")),
-        ("0", "mul", "9", PAST),
-        ("1", "mul", "10", (0, "cycle 10\n", "")),
-        ("1", "mul", "11", PAST),
-        ("1", "sum", "3", (0, "cycle 3\n", "")),
-        ("1", "sum", "4", PAST),
-        (
-            "1",
-            "mul",
-            "4",
-            (
-                0,
-                "cycle 4\nalu0 addi Vj=00000000 Vk=- Qj=- Qk=- A=-\nx2 Qi=alu0\n",
-                "",
-            ),
-        ),
-        (
-            "1",
-            "sum",
-            "1",
-            (
-                0,
-                "cycle 1\nalu0 addi Vj=00000000 Vk=- Qj=- Qk=- A=-\nx1 Qi=alu0\n",
-                "",
-            ),
-        ),
-        ("2", "div", "17563648", NO_ROW),
-        ("2", "mul", "17563648", NO_ROW),
-        ("1", "div", "17563648", NO_PROGRAM),
-    ] {
-        let words = ["tomex", "tables", "study", row, program, cycle];
-        comes_to(&rt, two.as_slice(), words.as_slice(), wanted)?;
+    for (row, program, cycle, wanted) in &ASKED {
+        let words = ["tomex", "tables", "study", *row, *program, *cycle];
+        comes_to(&rt, two.as_slice(), words.as_slice(), *wanted)?;
     }
+    Ok(())
+}
+
+#[test]
+fn studies_that_are_refused(rt: HostRuntime) -> Result<(), Fail> {
     let words = ["tomex", "tables", "study", "9", "div", "9"];
-    let zeros = b"\x00\x00\x00\x00".as_slice();
+    let study = ("study", STUDY.as_bytes());
+    let two = ("study", TWO.as_bytes());
+    let faulty = ("mul.bin", b"\x00\x00\x00\x00".as_slice());
     for (files, status, told) in [
         ([].as_slice(), 3, "tomex: cannot read study\n"),
-        (&two[..1], 3, "tomex: cannot read z\n"),
+        ([two].as_slice(), 3, "tomex: cannot read z\n"),
         (
-            [("study", STUDY.as_bytes()), ("mul.bin", zeros)].as_slice(),
+            [study, faulty].as_slice(),
             1,
             "tomex: program mul: fault: illegal at 00000000\n",
         ),

@@ -28,6 +28,17 @@ const SUM_REPORT: &str = "step,pc,instr,issue,addr,start,finish,end,station\n\
     2,00000004,ebreak,2,-,2,2,2,-\n\
     total,-,-,-,-,-,-,3,-\n";
 
+/// Rows and programs, of the study of one program or of that of two, and what comes of them.
+static ASKED: [(bool, &str, &str, (u8, &str, &str)); 6] = [
+    (false, "1", "mul", (0, REPORT, "")),
+    // The row is looked for first.
+    (false, "2", "div", (1, "", "tomex: no such row\n")),
+    (false, "16383", "mul", (1, "", "tomex: no such row\n")),
+    (false, "0", "div", (1, "", "tomex: no such program\n")),
+    (true, "1", "mul", (0, REPORT, "")),
+    (true, "1", "sum", (0, SUM_REPORT, "")),
+];
+
 #[test]
 fn a_row_and_a_program(rt: HostRuntime) -> Result<(), Fail> {
     let one = [("study", STUDY.as_bytes()), ("mul.bin", PRODUCT.as_slice())];
@@ -36,27 +47,14 @@ fn a_row_and_a_program(rt: HostRuntime) -> Result<(), Fail> {
         ("a", PRODUCT.as_slice()),
         ("z", SUM.as_slice()),
     ];
-    for (files, row, program, wanted) in [
-        (one.as_slice(), "1", "mul", (0, REPORT, "")),
-        // The row is looked for first.
-        (one.as_slice(), "2", "div", (1, "", "tomex: no such row\n")),
-        (
-            one.as_slice(),
-            "16383",
-            "mul",
-            (1, "", "tomex: no such row\n"),
-        ),
-        (
-            one.as_slice(),
-            "0",
-            "div",
-            (1, "", "tomex: no such program\n"),
-        ),
-        (two.as_slice(), "1", "mul", (0, REPORT, "")),
-        (two.as_slice(), "1", "sum", (0, SUM_REPORT, "")),
-    ] {
-        let words = ["tomex", "times", "study", row, program];
-        comes_to(&rt, files, words.as_slice(), wanted)?;
+    for (of_two, row, program, wanted) in &ASKED {
+        let files = if *of_two {
+            two.as_slice()
+        } else {
+            one.as_slice()
+        };
+        let words = ["tomex", "times", "study", *row, *program];
+        comes_to(&rt, files, words.as_slice(), *wanted)?;
     }
     Ok(())
 }

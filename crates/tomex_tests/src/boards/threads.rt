@@ -73,10 +73,7 @@ fn alike(alloc: Global, rows: usize) -> Result<Vec<u64>, AllocError>
 #[test]
 fn each_row_is_claimed_once(rt: HostRuntime) -> Result<(), Fail> {
     let costs = alike(rt.alloc(), 16_384)?;
-    assert_eq!(rt;
-        won_once::<Brand, _>(&rt, rt.alloc(), costs.as_slice())?,
-        16_384
-    );
+    assert!(rt; won_once::<Brand, _>(&rt, rt.alloc(), costs.as_slice())? == 16_384);
     Ok(())
 }
 
@@ -122,12 +119,12 @@ fn a_publishing_is_seen_from_another_thread(rt: HostRuntime) -> Result<(), Fail>
         move || look_until(shared, b, flag),
     );
     assert!(rt; finished);
-    assert_eq!(rt;
-        bound,
-        Some(Bound {
-            cycles: 2_000,
-            row: 0
-        })
+    assert!(rt;
+        bound
+            == Some(Bound {
+                cycles: 2_000,
+                row: 0
+            })
     );
     Ok(())
 }

@@ -47,58 +47,33 @@ fn command_in<R: Threads + Wait + Sync>(
 }
 
 #[test]
-fn of_run(rt: HostRuntime) -> Result<(), Fail> {
+fn of_each_command(rt: HostRuntime) -> Result<(), Fail> {
     let other = rt.alloc();
-    let text = text_of(other, PRODUCT_END.as_slice(), "ebreak at 0001000c after 4")?;
-    let named = [("image", ELF.as_slice())];
-    let files = named.as_slice();
-    let line = "tomex run image --base 65536";
-    let granted =
-        refusals_of!(other, heap => command_in(&rt, heap, other, line, files, text.as_str())?);
-    // The file's bytes, the window's, those that the run changes, and the text.
-    assert!(rt; matches!(granted, Some(granted) if granted > 3));
-    Ok(())
-}
-
-#[test]
-fn of_times(rt: HostRuntime) -> Result<(), Fail> {
-    let other = rt.alloc();
-    let named = [("study", STUDY.as_bytes()), ("mul.bin", PRODUCT.as_slice())];
-    let files = named.as_slice();
-    let line = "tomex times study 1 mul";
-    let granted = refusals_of!(other, heap => command_in(&rt, heap, other, line, files, REPORT)?);
-    // The study's bytes and its file's, names, the program, rows, costs, steps, times and the text.
-    assert!(rt; matches!(granted, Some(granted) if granted > 10));
-    Ok(())
-}
-
-#[test]
-fn of_tables(rt: HostRuntime) -> Result<(), Fail> {
-    let other = rt.alloc();
-    let named = [("study", STUDY.as_bytes()), ("mul.bin", PRODUCT.as_slice())];
-    let files = named.as_slice();
-    let line = "tomex tables study 0 mul 3";
-    let granted =
-        refusals_of!(other, heap => command_in(&rt, heap, other, line, files, PRODUCT_AFTER_3)?);
-    // What a times report takes but for steps and times; the machine's memory and the text.
-    assert!(rt; matches!(granted, Some(granted) if granted > 10));
-    Ok(())
-}
-
-#[test]
-fn of_explorations(rt: HostRuntime) -> Result<(), Fail> {
-    let other = rt.alloc();
-    let named = [("study", DROPPED.as_bytes()), ("loop.bin", LOOP.as_slice())];
-    let files = named.as_slice();
-    for line in [
-        "tomex all study",
-        "tomex explore study",
-        "tomex explore study --workers 2",
+    let ended = text_of(other, PRODUCT_END.as_slice(), "ebreak at 0001000c after 4")?;
+    let image = [("image", ELF.as_slice())];
+    let product = [("study", STUDY.as_bytes()), ("mul.bin", PRODUCT.as_slice())];
+    let dropped = [("study", DROPPED.as_bytes()), ("loop.bin", LOOP.as_slice())];
+    let (image, product, dropped) = (image.as_slice(), product.as_slice(), dropped.as_slice());
+    for (line, files, output, least) in [
+        // The file's bytes, the window's, those that the run changes, and the text.
+        ("tomex run image --base 65536", image, ended.as_str(), 4),
+        // The study's bytes and its file's, names, the program, rows, costs, steps, times and the text.
+        ("tomex times study 1 mul", product, REPORT, 11),
+        // All that but steps and times; the machine's memory and the text.
+        ("tomex tables study 0 mul 3", product, PRODUCT_AFTER_3, 11),
+        // All that but steps and times; marks, machines, the front and its ends.
+        ("tomex all study", dropped, DROPPED_REPORT, 16),
+        ("tomex explore study", dropped, DROPPED_REPORT, 16),
+        (
+            "tomex explore study --workers 2",
+            dropped,
+            DROPPED_REPORT,
+            16,
+        ),
     ] {
         let granted =
-            refusals_of!(other, heap => command_in(&rt, heap, other, line, files, DROPPED_REPORT)?);
-        // What a times report takes but for steps and times; marks, machines, the front and its ends.
-        assert!(rt; matches!(granted, Some(granted) if granted > 15));
+            refusals_of!(other, heap => command_in(&rt, heap, other, line, files, output)?);
+        assert!(rt; matches!(granted, Some(granted) if granted >= least));
     }
     Ok(())
 }

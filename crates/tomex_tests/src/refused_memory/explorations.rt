@@ -93,9 +93,9 @@ fn of_runs_of_rows(rt: HostRuntime) -> Result<(), Fail> {
     let other = rt.alloc();
     let study = study_in(other)?;
     let judged = [Mark::Dropped(0), Mark::Finished(6500)];
-    // Marks, the memory of machines, finished rows and the front; then also lanes, the board and parts.
+    // Marks, the memory of a machine, finished rows and the front; then also lanes, the board and parts.
     let all = RunAll { study: &study };
-    assert!(rt; matches!(refusals(other, &all)?, Some(granted) if granted > 4));
+    assert_eq!(rt; refusals(other, &all)?, Some(4));
     for workers in [1, 2] {
         let some = refusals_of!(other, heap => {
             tried(explore(&rt, heap, &study, workers, &OpenGate), judged.as_slice())

@@ -189,7 +189,7 @@ fn of_their_parts(rt: HostRuntime) -> Result<(), Fail> {
     assert!(rt; matches!(refusals(other, &Grid { axes: &axes })?, Some(granted) if granted > 2));
     let row = Config::new([1; 6], [PLAIN; 5], 1).ok_or("no row")?;
     // The bytes that the run changes, and a cost.
-    assert_eq!(rt; refusals(other, &Parts { other, row })?, Some(2));
+    assert!(rt; refusals(other, &Parts { other, row })? == Some(2));
     assert!(rt; matches!(refusals(other, &Times { other, row })?, Some(granted) if granted > 1));
     Ok(())
 }

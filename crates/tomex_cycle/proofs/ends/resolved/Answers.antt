@@ -1,5 +1,8 @@
-use Rattle.tomex_cycle.proofs.Finished.{first_unfinished}
+use Rattle.tomex_cycle.proofs.KnownEnds.{no_branch, one_branch}
 use Rattle.tomex_cycle.proofs.ends.resolved.Goals as goal
 
-pub members-init : goal.members-init
-members-init c = first_unfinished c.args.pools.now.slots c.started-rest.result c.args.next c.started-rest.ensures.set
+pub returns-then-branches-eq0 : goal.returns-then-branches-eq0
+returns-then-branches-eq0 c = no_branch c.args.pools.now.slots c.args.next c.args.due c.both-branches.result c.served_by.result c.requires c.served_by.ensures c.both-branches.ensures c.if-branches-eq0.true
+
+pub returns : goal.returns
+returns c = one_branch c.args.pools.now.slots c.args.next c.args.due c.both-branches.result c.served_by.result c.lowest.result c.requires c.served_by.ensures c.both-branches.ensures c.lowest.ensures.below c.lowest.ensures.member

@@ -1,5 +1,6 @@
 use Rattle.std.proofs.Common.{◌∙◌, refl, sym}
 use Rattle.tomex_cycle.proofs.IssuesCases.{fault_case, full_case, none_case, some_case, waits_case}
+use Rattle.tomex_cycle.proofs.Known.{known_taken}
 use Rattle.tomex_cycle.proofs.issue.issue_next.Goals as goal
 
 pub returns-in_default-clause-issues : goal.returns-in_default-clause-issues
@@ -20,3 +21,6 @@ returns-clause-issues g c =
     c.in-At.is (sym c.fetch.ensures.value ∙ c.in-Ok.is) (sym c.pool.ensures ∙ c.in-Some.is) c.stations.ensures.count c.in-Some-free.ensures.some.0 c.in-Some-free.ensures.some.1
     refl refl c.issue.ensures.sources.0 c.issue.ensures.sources.1 c.issue.ensures.dest
     c.issue.ensures.slots c.issue.ensures.ages c.issue.ensures.values c.issue.ensures.status c.after-2.ensures
+
+pub returns-clause-known : goal.returns-clause-known
+returns-clause-known g c = λ f next known. known_taken c.args.pools.now.slots c.issue.new.pools.slots next c.in-Some-free.number c.stations.result c.in-Some.pool _ f c.issue.ensures.slots c.in-Some-free.ensures.some.0.0 c.in-Some-free.ensures.some.1 c.stations.ensures.range.1 refl known

@@ -1,18 +1,32 @@
-use Rattle.tomex_cycle.proofs.Happens.{end_happens}
-use Rattle.tomex_cycle.proofs.EndsFetch.{made_ends}
-use Rattle.tomex_cycle.proofs.EndsNone.{ends_none}
+use Rattle.tomex_cycle.specs.Ends.{sent_below}
+use Rattle.tomex_cycle.specs.Starts.{AreLow}
+use Rattle.tomex_cycle.proofs.Happens.{due_happens, end_happens, not_zero}
+use Rattle.tomex_cycle.proofs.EndsFetch.{ending_low, made_ends}
+use Rattle.tomex_cycle.proofs.EndsNone.{ends_none, none_over}
 use Rattle.tomex_cycle.proofs.phases.end.Goals as goal
 
-pub returns-then-ending-eq0-clause-ends : goal.returns-then-ending-eq0-clause-ends
-returns-then-ending-eq0-clause-ends c =
-    ends_none c.args.row.now c.args.next c.ending-ending.result c.args.pools.now c.args.registers.now c.args.fetch.now c.follow.result
-    (rw c.buses.ensures.count at c.ending-ending.ensures.ending) c.ending-ending.ensures.busy c.follow.ensures c.if-ending-eq0.true
+pub returns-then-over-eq0-clause-ends : goal.returns-then-over-eq0-clause-ends
+returns-then-over-eq0-clause-ends c =
+    ends_none c.args.row.now c.args.next c.settle-over.result.ending c.args.pools.now c.args.registers.now c.args.fetch.now c.follow.result
+    (rw c.buses.ensures.count at c.settle-over.ensures.ending) c.settle-over.ensures.busy c.follow.ensures c.if-over-eq0.true
+
+pub returns-then-over-eq0-clause-any : goal.returns-then-over-eq0-clause-any
+returns-then-over-eq0-clause-any c = λ some i h t e past issued shown. due_happens i t c.args.next c.args.pools.now h c.settle-over.result.due shown c.settle-over.ensures.due c.settle-over.ensures.fits.0 (not_zero c.settle-over.result.due some)
+
+pub returns-then-over-eq0-clause-known : goal.returns-then-over-eq0-clause-known
+returns-then-over-eq0-clause-known c = none_over c.args.pools.now.slots c.args.next c.settle-over.result.ending c.settle-over.new.finishes c.settle-over.ensures.busy.places c.settle-over.ensures.known c.if-over-eq0.true
 
 pub returns-clause-ends : goal.returns-clause-ends
 returns-clause-ends c =
-    made_ends c.args.row.now c.args.next c.args.pools.now c.apply.new.pools c.args.registers.now c.apply.new.registers c.args.fetch.now c.follow.result c.ending-ending.result
-    (rw c.buses.ensures.count at c.ending-ending.ensures.ending) c.ending-ending.ensures.busy c.follow.ensures c.apply.ensures.stations c.apply.ensures.registers
+    made_ends c.args.row.now c.args.next c.args.pools.now c.apply.new.pools c.args.registers.now c.apply.new.registers c.args.fetch.now c.follow.result c.settle-over.result.ending
+    (rw c.buses.ensures.count at c.settle-over.ensures.ending) c.settle-over.ensures.busy c.follow.ensures c.apply.ensures.stations c.apply.ensures.registers
 
 pub returns-clause-any : goal.returns-clause-any
 returns-clause-any c = λ some i h t e past issued shown.
-    end_happens i c.args.row.now t c.args.next c.args.pools.now h c.ending-ending.result past issued shown c.ending-ending.ensures.busy (rw c.buses.ensures.count at c.ending-ending.ensures.ending) e c.ending-ending.type_inv c.if-ending-eq0.false
+    end_happens i c.args.row.now t c.args.next c.args.pools.now h c.settle-over.result.ending past issued shown c.settle-over.ensures.busy (rw c.buses.ensures.count at c.settle-over.ensures.ending) e c.settle-over.ensures.fits.1 c.if-over-eq0.false
+
+pub returns-clause-known : goal.returns-clause-known
+returns-clause-known c =
+    let low : AreLow c.settle-over.result.ending = λ x l e. ending_low c.args.pools.now c.args.row.now.buses c.args.next c.settle-over.result.ending (rw c.buses.ensures.count at c.settle-over.ensures.ending) c.settle-over.ensures.busy x l e in
+    let after = c.apply.ensures.stations low c.settle-over.ensures.busy.places in
+    c.settle-over.ensures.known c.apply.new.pools.slots (sent_below c.args.pools.now.slots c.settle-over.result.ending 96) after.places after.slots

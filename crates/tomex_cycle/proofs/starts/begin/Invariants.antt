@@ -1,11 +1,15 @@
 use Rattle.std.proofs.Common.{◌≡◌, length}
+use Rattle.tomex_cycle.specs.Finishes.{AreKnown}
 use Rattle.tomex_cycle.specs.Starts.{AllCanBegin, AreLow}
 use Rattle.tomex_cycle.proofs.StartsBegun.{IsBegun}
 use Rattle.tomex_cycle.proofs.starts.begin.Given as goal
 
 -- all but the rest have started
 abbrev pub invariant-members : goal.invariant-members
-invariant-members g l = length l.initial.pools.slots ≡ 96 → AreLow l.picked → AllCanBegin l.memory l.picked l.initial.pools.slots → IsBegun l.row l.next l.memory l.picked l.rest l.initial.pools l.pools
+invariant-members g l = record {
+  begun : length l.initial.pools.slots ≡ 96 → AreLow l.picked → AllCanBegin l.memory l.picked l.initial.pools.slots → IsBegun l.row l.next l.memory l.picked l.rest l.initial.pools l.pools;
+  known : AreKnown l.pools.slots l.next l.finishes;
+}
 
 abbrev pub decreases-members : goal.decreases-members
 decreases-members g l = l.rest

@@ -1,7 +1,7 @@
 -- One row more is closed, by a run where nobody had closed it.
-use Rattle.std.proofs.Common.{◌≡◌, ◌<◌, ◌∙◌, length, sym, ap, rules, arith}
+use Rattle.std.proofs.Common.{◌≡◌, ◌<◌, ◌≤◌, ◌∙◌, length, sym, ap, rules, arith}
 use Rattle.tomex_lanes.specs.Parts.{is_closed}
-use Rattle.tomex_sweep.proofs.Leftovers.{none_gathered, one_closed, one_run, read_mark, run_cycles}
+use Rattle.tomex_sweep.proofs.Leftovers.{all_gathered, none_gathered, one_closed, one_run, read_mark, run_cycles}
 use Rattle.tomex_sweep.proofs.gathering.gather.Goals as goal
 
 pub loop-row-init : goal.loop-row-init
@@ -23,4 +23,12 @@ loop-row-preserved g c =
     let test : c.loop-row.row < c.len-row-end.result = c.loop-row-test.true in
     let low : c.loop-row.row < length c.loop-row.marks.items = omega arith in
     one_run _ _ _ _ _ c.in_ok-cycles.cycles c.loop-row.invariant low (ap is_closed (read_mark c.loop-row.marks.items c.loop-row.row c.index.result.now low c.index.ensures) ∙ sym c.if-is_closed.ensures)
-    (run_cycles c.args.study.now _ c.rows.result.now c.index-rows-row.result c.loop-row.row c.in_ok-cycles.cycles c.rows.ensures.study c.programs.ensures.value c.rows.ensures.value (omega arith) c.index-rows-row.is c.in_ok-cycles.ensures)
+    (run_cycles c.args.study.now _ c.rows.result.now c.index-rows-row.result c.loop-row.row c.in_ok-cycles.cycles c.rows.ensures.study c.programs-in-loop-row.ensures.value c.rows.ensures.value (omega arith) c.index-rows-row.is c.in_ok-cycles.ensures)
+
+pub returns-clause-judged : goal.returns-clause-judged
+returns-clause-judged g c =
+    let long : c.len-row-end.result ≡ length c.args.marks.now.items = let e = c.len-row-end.ensures in search rules in
+    let count : length c.loop-row.marks.items ≡ length c.args.marks.now.items = c.loop-row.invariant.count in
+    let test : c.len-row-end.result ≤ c.loop-row.row = c.loop-row-test.false in
+    let past : length c.loop-row.marks.items ≤ c.loop-row.row = omega arith in
+    (all_gathered _ _ _ _ _ c.loop-row.invariant c.requires.count past).0

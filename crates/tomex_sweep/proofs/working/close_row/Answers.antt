@@ -9,8 +9,8 @@ use Rattle.tomex_sweep.specs.Stops.{Going}
 use Rattle.tomex_sweep.proofs.Closing.{first_running, next_running, look_on, over_on, none_in_hand, row_there}
 use Rattle.tomex_sweep.proofs.working.close_row.Goals as goal
 
-pub loop-run-init : goal.loop-run-init
-loop-run-init g c =
+pub loop-cycles-init : goal.loop-cycles-init
+loop-cycles-init g c =
     let low : c.args.row < length c.rows.result.now = subst (λ (rs : List Row). c.args.row < length rs) (sym c.rows.ensures.value) (row_there c.args.study.now _ _ c.args.row c.rows.ensures.study c.requires.plan c.requires.row) in
     let read : slice_get c.rows.result.now c.args.row ≡ Some c.index-rows-row.result = slice_get_read c.rows.result.now _ c.args.row c.index-rows-row.result refl low c.index-rows-row.is in
     let at : slice_get c.args.study.now.rows c.args.row ≡ Some c.index-rows-row.result = ap (λ (rs : List Row). slice_get rs c.args.row) (sym c.rows.ensures.value) ∙ read in
@@ -18,17 +18,17 @@ loop-run-init g c =
 
 pub finish-requires-clause-cycles : goal.finish-requires-clause-cycles
 finish-requires-clause-cycles g c =
-    over_on _ _ _ _ _ _ _ c.loop-run.invariant c.in_ok-cycles.ensures.stop c.in-Over.is ∙ ap (λ (cs : List ℕ). get_or cs c.args.row 0) c.requires.plan.its_cycles
+    over_on _ _ _ _ _ _ _ c.loop-cycles.invariant c.in_ok-cycles.ensures.stop c.in-Over.is ∙ ap (λ (cs : List ℕ). get_or cs c.args.row 0) c.requires.plan.its_cycles
 
 pub returns-in-Over-clause-hand : goal.returns-in-Over-clause-hand
-returns-in-Over-clause-hand g c = none_in_hand _ _ _ c.loop-run.invariant.hand c.finish.ensures.hand
+returns-in-Over-clause-hand g c = none_in_hand _ _ _ c.loop-cycles.invariant.hand c.finish.ensures.hand
 
 pub returns-in-Over-clause-grown : goal.returns-in-Over-clause-grown
-returns-in-Over-clause-grown g c = grows_on _ _ _ c.loop-run.invariant.grown c.finish.ensures.grown
+returns-in-Over-clause-grown g c = grows_on _ _ _ c.loop-cycles.invariant.grown c.finish.ensures.grown
 
 pub give_up-requires-clause-reached : goal.give_up-requires-clause-reached
 give_up-requires-clause-reached g c =
-    let w = look_on _ _ _ _ _ _ c.go_on.new.self.reached _ c.loop-run.invariant c.in_ok-cycles.ensures.stop c.in-Look.is c.in_ok-cycles.ensures.look in
+    let w = look_on _ _ _ _ _ _ c.go_on.new.self.reached _ c.loop-cycles.invariant c.in_ok-cycles.ensures.stop c.in-Look.is c.in_ok-cycles.ensures.look in
     let below : c.in-Look.reached < get_or (cycles_of c.args.study.now) c.args.row 0 = w.1 in
     let same : get_or (cycles_of c.args.study.now) c.args.row 0 ≡ get_or g.J.Plan.cycles c.args.row 0 = ap (λ (cs : List ℕ). get_or cs c.args.row 0) c.requires.plan.its_cycles in
     omega arith
@@ -37,19 +37,19 @@ pub give_up-requires-clause-slower : goal.give_up-requires-clause-slower
 give_up-requires-clause-slower g c = c.if-bound-reached.true
 
 pub returns-then-bound-reached-clause-hand : goal.returns-then-bound-reached-clause-hand
-returns-then-bound-reached-clause-hand g c = none_in_hand _ _ _ (c.look.ensures.hand ∙ c.loop-run.invariant.hand) (ap (λ (v : View). v.hand) c.give_up.ensures.view)
+returns-then-bound-reached-clause-hand g c = none_in_hand _ _ _ (c.look.ensures.hand ∙ c.loop-cycles.invariant.hand) (ap (λ (v : View). v.hand) c.give_up.ensures.view)
 
 pub returns-then-bound-reached-clause-grown : goal.returns-then-bound-reached-clause-grown
-returns-then-bound-reached-clause-grown g c = grows_on _ _ _ c.loop-run.invariant.grown (grows_on _ _ _ c.look.ensures.grown c.give_up.ensures.grown)
+returns-then-bound-reached-clause-grown g c = grows_on _ _ _ c.loop-cycles.invariant.grown (grows_on _ _ _ c.look.ensures.grown c.give_up.ensures.grown)
 
-pub loop-run-smaller-else-bound-reached : goal.loop-run-smaller-else-bound-reached
-loop-run-smaller-else-bound-reached g c = (look_on _ _ _ _ _ _ c.go_on.new.self.reached _ c.loop-run.invariant c.in_ok-cycles.ensures.stop c.in-Look.is c.in_ok-cycles.ensures.look).0
+pub loop-cycles-smaller-else-bound-reached : goal.loop-cycles-smaller-else-bound-reached
+loop-cycles-smaller-else-bound-reached g c = (look_on _ _ _ _ _ _ c.go_on.new.self.reached _ c.loop-cycles.invariant c.in_ok-cycles.ensures.stop c.in-Look.is c.in_ok-cycles.ensures.look).0
 
-pub loop-run-preserved-else-bound-reached : goal.loop-run-preserved-else-bound-reached
-loop-run-preserved-else-bound-reached g c = next_running _ _ _ _ _ _ _ c.loop-run.invariant c.look.ensures.board c.look.ensures.hand c.look.ensures.share c.look.ensures.grown c.go_on.ensures.parts.0 c.go_on.ensures.parts.1
+pub loop-cycles-preserved-else-bound-reached : goal.loop-cycles-preserved-else-bound-reached
+loop-cycles-preserved-else-bound-reached g c = next_running _ _ _ _ _ _ _ c.loop-cycles.invariant c.look.ensures.board c.look.ensures.hand c.look.ensures.share c.look.ensures.grown c.go_on.ensures.parts.0 c.go_on.ensures.parts.1
 
-pub loop-run-smaller : goal.loop-run-smaller
-loop-run-smaller g c = (look_on _ _ _ _ _ _ c.go_on.new.self.reached _ c.loop-run.invariant c.in_ok-cycles.ensures.stop c.in-Look.is c.in_ok-cycles.ensures.look).0
+pub loop-cycles-smaller : goal.loop-cycles-smaller
+loop-cycles-smaller g c = (look_on _ _ _ _ _ _ c.go_on.new.self.reached _ c.loop-cycles.invariant c.in_ok-cycles.ensures.stop c.in-Look.is c.in_ok-cycles.ensures.look).0
 
-pub loop-run-preserved : goal.loop-run-preserved
-loop-run-preserved g c = next_running _ _ _ _ _ _ _ c.loop-run.invariant c.look.ensures.board c.look.ensures.hand c.look.ensures.share c.look.ensures.grown c.go_on.ensures.parts.0 c.go_on.ensures.parts.1
+pub loop-cycles-preserved : goal.loop-cycles-preserved
+loop-cycles-preserved g c = next_running _ _ _ _ _ _ _ c.loop-cycles.invariant c.look.ensures.board c.look.ensures.hand c.look.ensures.share c.look.ensures.grown c.go_on.ensures.parts.0 c.go_on.ensures.parts.1

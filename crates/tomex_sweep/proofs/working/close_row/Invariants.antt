@@ -4,8 +4,8 @@ use Rattle.tomex_sweep.specs.Cycles.{cycles_of}
 use Rattle.tomex_sweep.proofs.Closing.{IsRunning}
 use Rattle.tomex_sweep.proofs.working.close_row.Given as goal
 
-abbrev pub invariant-loop-run : goal.invariant-loop-run
-invariant-loop-run g l = IsRunning l.study l.row l.initial.seat l.seat l.run
+abbrev pub invariant-loop-cycles : goal.invariant-loop-cycles
+invariant-loop-cycles g l = IsRunning l.study l.row l.initial.seat l.seat l.run
 
-abbrev pub decreases-loop-run : goal.decreases-loop-run
-decreases-loop-run g l = slice_index (cycles_of l.study) l.row - l.run.reached
+abbrev pub decreases-loop-cycles : goal.decreases-loop-cycles
+decreases-loop-cycles g l = slice_index (cycles_of l.study) l.row - l.run.reached

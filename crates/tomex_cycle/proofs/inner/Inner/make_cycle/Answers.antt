@@ -21,3 +21,6 @@ returns-clause-cycle g c =
     let made = cycle_made c.args.fetcher.now c.args.row.now n t c.args.next c.args.self.now.count s kind _ _ _ _ _ _ _ _ _ on c.end-ended.ensures.ends ends e good loaded in
     let two = cycle_answer c.args.fetcher.now c.args.row.now n c.args.next c.in-Ok.count s kind _ _ _ _ _ _ _ _ made ends good loaded c.in-Ok.is c.is_over.ensures.busy c.is_over.ensures.over c.after.ensures in
     (two.0, two.1, λ moves. cycle_happens c.args.fetcher.now c.args.row.now n t c.args.next c.args.self.now.count c.in-Ok.count s kind _ _ _ _ _ _ _ _ _ _ _ _ _ _ c.start-starts.ensures.starts c.start-starts.ensures.any c.address-addressed.ensures.any c.end-ended.ensures.any on c.in-Ok.is ends e good loaded old (c.leaves_all.ensures.some moves))
+
+pub end-ended-requires : goal.end-ended-requires
+end-ended-requires g c = record { known = c.issue.ensures.known c.start-starts.new.finishes (c.address-addressed.ensures.known c.start-starts.new.finishes (c.start-starts.ensures.known c.in_default.is)) }

@@ -3,4 +3,4 @@ use Rattle.tomex_cycle.proofs.Outer.{sound_start}
 use Rattle.tomex_cycle.proofs.machine.Machine.new.Goals as goal
 
 pub invariant_of-result : goal.invariant_of-result
-invariant_of-result g c = (rw c.new.ensures (sound_start _ _ _ _ _ _ _ c.buses-buses.ensures.lawful c.entry-entry.ensures.loaded c.in_ok-new.ensures.start c.in_ok-new.ensures.none), omega (arith, c.in_ok-new.ensures.unworked))
+invariant_of-result g c = (rw c.new.ensures (sound_start _ _ _ _ _ _ _ c.buses-buses.ensures.lawful c.entry-entry.ensures.loaded c.in_ok-new.ensures.start c.in_ok-new.ensures.none), omega (arith, c.in_ok-new.ensures.unworked), λ runs. c.in_ok-new.ensures.known)

@@ -1,6 +1,7 @@
 -- The run goes on to the look, to its end, or to the next program.
-use Rattle.std.proofs.Common.{arith, ◌≡◌, ◌+◌, ◌≤◌, ◌<◌, sym, ◌∙◌, length, refl}
+use Rattle.std.proofs.Common.{arith, ap, ◌≡◌, ◌+◌, ◌≤◌, ◌<◌, sym, ◌∙◌, length, refl}
 use Rattle.std.proofs.lemmas.Option.{slice_get_read}
+use Rattle.tomex_cycle.specs.Seen.{Counted, seen}
 use Rattle.tomex_sweep.proofs.Totals.{all_cycles}
 use Rattle.tomex_sweep.proofs.Stops.{looked, looks, still_going, ended_total, next_going, last_going, look_at, over_at}
 use Rattle.tomex_sweep.proofs.row_run.RowRun.go_on.Goals as goal
@@ -40,13 +41,10 @@ returns-in_default-clause-stop g c =
     over_at _ _ _ _ _ _ _ c.loop-self.invariant.programs c.loop-self.invariant.row c.loop-self.invariant.reached
     (rw c.cycle.ensures.value (t.0 ∙ all_cycles _ _ _ past)) (rw c.cycle.ensures.value t.1)
 
-pub invariant_of-self-in_err-clone : goal.invariant_of-self-in_err-clone
-invariant_of-self-in_err-clone g c =
-    still_going _ _ _ _ _ _ _ c.loop-self.invariant.going c.loop-self-test.true (rw c.loop-self.invariant.next at c.advance.ensures.ends)
-
-pub invariant_of-self-in_err-machine : goal.invariant_of-self-in_err-machine
-invariant_of-self-in_err-machine g c =
-    still_going _ _ _ _ _ _ _ c.loop-self.invariant.going c.loop-self-test.true (rw c.loop-self.invariant.next at c.advance.ensures.ends)
+pub invariant_of-self-in_err-restart : goal.invariant_of-self-in_err-restart
+invariant_of-self-in_err-restart g c =
+    let same = ap (λ (m : Counted). seen m) c.in_err-restart.ensures.err in
+    still_going _ _ _ _ _ _ _ c.loop-self.invariant.going c.loop-self-test.true (rw same (rw c.loop-self.invariant.next at c.advance.ensures.ends))
 
 pub loop-self-smaller : goal.loop-self-smaller
 loop-self-smaller g c = let l : c.loop-self.self-inside.place < length c.loop-self.self-inside.programs.now = c.loop-self-test.true in omega arith
@@ -57,7 +55,7 @@ loop-self-preserved g c =
     let t = ended_total _ _ _ _ _ _ _ c.loop-self.invariant.going c.loop-self-test.true goes (sym c.ended.ensures.value ∙ c.if-not-ended.false) in
     let at = c.in-Some.ensures.lookup.3 in
     record {
-      going = next_going _ _ _ _ _ _ _ _ c.in-Some.program.now c.loop-self.invariant.going c.loop-self-test.true (rw c.cycle.ensures.value t.0) (rw c.cycle.ensures.value t.1) (slice_get_read c.loop-self.self-inside.programs.now _ (c.loop-self.self-inside.place + 1) c.in-Some.program.now refl at.0 (at.1 c.in-Some.program.now)) (rw c.image.ensures.value at c.in_ok-machine.ensures.start);
+      going = next_going _ _ _ _ _ _ _ _ c.in-Some.program.now c.loop-self.invariant.going c.loop-self-test.true (rw c.cycle.ensures.value t.0) (rw c.cycle.ensures.value t.1) (slice_get_read c.loop-self.self-inside.programs.now _ (c.loop-self.self-inside.place + 1) c.in-Some.program.now refl at.0 (at.1 c.in-Some.program.now)) (rw c.image.ensures.value at c.in_ok-restart.ensures.start);
       next = c.loop-self.invariant.next;
       programs = c.loop-self.invariant.programs;
       row = c.loop-self.invariant.row;

@@ -1,6 +1,6 @@
-use Rattle.std.proofs.Common.{refl, true}
-use Rattle.tomex_tags.proofs.Filing.{filed_with}
+use Rattle.std.proofs.Common.{false, refl}
+use Rattle.tomex_tags.proofs.Filing.{filed_without}
 use Rattle.tomex_tags.proofs.standing.Standing.start.Goals as goal
 
-pub returns-clause-started : goal.returns-clause-started
-returns-clause-started c = filed_with c.args.self.now.started c.with-self.result c.args.place true refl c.with-self.ensures
+pub returns-clause-waiting : goal.returns-clause-waiting
+returns-clause-waiting c = filed_without c.args.self.now.waiting c.without-self.result c.args.place false refl c.without-self.ensures.others

@@ -1,0 +1,9 @@
+use Rattle.tomex_cycle.proofs.StartsReady.{AreCleared}
+use Rattle.tomex_cycle.proofs.starts.accessible.Given as goal
+
+-- all but the rest are looked at
+abbrev pub invariant-members : goal.invariant-members
+invariant-members l = AreCleared l.pools l.next l.waiting l.rest l.clear
+
+abbrev pub decreases-members : goal.decreases-members
+decreases-members l = l.rest

@@ -1,0 +1,6 @@
+-- Short searches, so that a wrong body is soon refused.
+use Rattle.std.proofs.Common.{rules}
+use Rattle.tomex_image.proofs.window.Window.base.Goals as goal
+
+pub returns-clause-value : goal.returns-clause-value
+returns-clause-value c = search rules fits 100

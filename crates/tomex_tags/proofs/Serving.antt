@@ -1,0 +1,112 @@
+-- Which kind of unit runs the operations of a place, and which numbers of a pool are open.
+use Rattle.std.proofs.Common.{ℕ, ◌+◌, ◌*◌, ◌/◌, ◌^◌, ◌<◌, ◌≤◌, ◌≡◌, ◌∙◌, Bool, true, false, arith, refl, sym, inl, inr, List, Option, Some, None, slice_index_or}
+use Rattle.std.specs.Prelude.{◌&&◌, ◌||◌, not, nat_lt, is_none, is_some}
+use Rattle.std.proofs.lemmas.Bool.{and_parts, cases_Bool, lt-ltb, ltb-true, ltb-false}
+use Rattle.std.proofs.lemmas.List.{get_or_past}
+use Rattle.tomex_rvdec.specs.Operands.{pool_of, unit_of_pool}
+use Rattle.tomex_rvdec.specs.Parts.{place_of_pool}
+use Rattle.tomex_rvdec.specs.declared.op.Op.{Op}
+use Rattle.tomex_rvdec.specs.declared.pool.PoolId.{PoolId}
+use Rattle.tomex_rvdec.specs.declared.pool.PoolId.TheVariants as pools
+use Rattle.tomex_rvdec.specs.declared.pool.UnitId.{UnitId}
+use Rattle.tomex_rvdec.specs.declared.pool.UnitId.TheVariants as units
+use Rattle.tomex_rvexec.specs.Steps.{is_in}
+use Rattle.tomex_timing.specs.History.{is_of}
+use Rattle.tomex_timing.specs.Recurrence.{IsLeast}
+use Rattle.tomex_bus.specs.Sets.{has}
+use Rattle.tomex_bus.proofs.Bits.{agree, agreed, none_in, shifted}
+use Rattle.tomex_tags.specs.Contents.{is_memory_op, lacks_address}
+use Rattle.tomex_tags.specs.Places.{is_served, pool_at}
+use Rattle.tomex_tags.specs.Pools.{AreBusy, AreOwn, IsOwn, is_open}
+use Rattle.tomex_tags.specs.Standing.{IsSetOf, has_address, waits, waits_for}
+use Rattle.tomex_tags.specs.declared.station.Station.{Station}
+
+pub are_served : (set : ℕ) (unit : UnitId) → agree (has set) (is_served unit) 128 ≡ true → (x : ℕ) → x < 128 → has set x ≡ is_served unit x
+are_served set unit e x l = agreed (has set) (is_served unit) 128 e x l
+
+-- a pool's place in the order
+pub pool_place : (pool : PoolId) → pool_at (place_of_pool pool) ≡ pool
+pool_place pools.Alu = refl
+pool_place pools.Mul = refl
+pool_place pools.Div = refl
+pool_place pools.Load = refl
+pool_place pools.Store = refl
+pool_place pools.Bru = refl
+
+served_from : (b : Bool) (x : ℕ) (unit : UnitId) → x < 96 → (nat_lt x 96 && b) ≡ b
+served_from b x unit l = rw (lt-ltb x 96 l) refl
+
+is_memory_pool : (pool : PoolId) → (is_in pools.Load (Some pool) || is_in pools.Store (Some pool)) ≡ is_of units.Mem (Some (unit_of_pool pool))
+is_memory_pool pools.Alu = refl
+is_memory_pool pools.Mul = refl
+is_memory_pool pools.Div = refl
+is_memory_pool pools.Load = refl
+is_memory_pool pools.Store = refl
+is_memory_pool pools.Bru = refl
+
+memory_at : (x : ℕ) (op : Op) (pool : PoolId) → pool_of op ≡ Some pool → is_memory_op op ≡ is_of units.Mem (Some (unit_of_pool pool))
+memory_at x op pool e = rw e (is_memory_pool pool)
+
+-- a load or store is one in a place of theirs; it lacks an address where it isn't among those that have one
+lacks_by : (x : ℕ) (o : Option Station) → x < 96 → IsOwn x o → ((is_some o && is_served units.Mem x) && not (has_address o)) ≡ lacks_address o
+lacks_by x None l own = refl
+lacks_by x (Some s) l own = rw (served_from (is_of units.Mem (Some (unit_of_pool (pool_at (x / 16))))) x units.Mem l, memory_at x s.instr.op (pool_at (x / 16)) own) refl
+
+none_past : (slots : List (Option Station)) (busy : ℕ) (ages : List ℕ) (x : ℕ) → AreBusy slots busy ages → x < 128 → 96 ≤ x → slice_index_or slots x None ≡ None
+none_past slots busy ages x filled l high = get_or_past slots x None (rw filled.places high)
+
+pub are_lacking : (slots : List (Option Station)) (busy served addressed memory lacking : ℕ) (ages : List ℕ) → AreBusy slots busy ages → AreOwn slots → IsSetOf has_address slots addressed → ((x : ℕ) → x < 128 → has served x ≡ is_served units.Mem x)
+    → ((x : ℕ) → has memory x ≡ (has busy x && has served x)) → ((x : ℕ) → x < 128 → has lacking x ≡ (has memory x && not (has addressed x))) → IsSetOf lacks_address slots lacking
+are_lacking slots busy served addressed memory lacking ages filled own with_one serves both but x l =
+    but x l ∙ rw (both x, filled.each x l, serves x l, with_one x l) (elim (cases_Bool (nat_lt x 96)) [
+      | inl e ↦ let low : x < 96 = ltb-true x 96 e in lacks_by x (slice_index_or slots x None) low (own x low)
+      | inr e ↦ rw (none_past slots busy ages x filled l (ltb-false x 96 e)) refl
+    ])
+
+waits_by : (x : ℕ) (unit : UnitId) (o : Option Station) → x < 96 → IsOwn x o → (waits o && is_served unit x) ≡ waits_for unit o
+waits_by x unit None l own = refl
+waits_by x unit (Some s) l own = rw (served_from (is_of unit (Some (unit_of_pool (pool_at (x / 16))))) x unit l, own) refl
+
+pub wait_for : (slots : List (Option Station)) (busy waiting served found : ℕ) (ages : List ℕ) (unit : UnitId) → AreBusy slots busy ages → AreOwn slots → IsSetOf waits slots waiting → ((x : ℕ) → x < 128 → has served x ≡ is_served unit x)
+    → ((x : ℕ) → has found x ≡ (has waiting x && has served x)) → IsSetOf (waits_for unit) slots found
+wait_for slots busy waiting served found ages unit filled own wait serves both x l =
+    both x ∙ rw (wait x l, serves x l) (elim (cases_Bool (nat_lt x 96)) [
+      | inl e ↦ let low : x < 96 = ltb-true x 96 e in waits_by x unit (slice_index_or slots x None) low (own x low)
+      | inr e ↦ rw (none_past slots busy ages x filled l (ltb-false x 96 e)) refl
+    ])
+
+-- The least number of a pool whose place is open.
+
+abbrev sixteen : ℕ → Bool
+sixteen x = nat_lt x 16
+
+first_sixteen : (x : ℕ) → x < 128 → has 65535 x ≡ sixteen x
+first_sixteen x l = agreed (has 65535) sixteen 128 refl x l
+
+open_is : (slots : List (Option Station)) (busy found n p : ℕ) (ages : List ℕ) → AreBusy slots busy ages → p < 6 → n < 16 → ((x : ℕ) → x < 128 → has found x ≡ (has 65535 x && not (has (busy / 2 ^ (16 * p)) x))) → has found n ≡ is_none (slice_index_or slots (16 * p + n) None)
+open_is slots busy found n p ages filled l m said =
+    said n (omega arith) ∙ rw (first_sixteen n (omega arith), lt-ltb n 16 m, shifted busy (16 * p) n, filled.each (16 * p + n) (omega arith)) (turned (slice_index_or slots (16 * p + n) None))
+  where
+    turned : (o : Option Station) → (true && not (is_some o)) ≡ is_none o
+    turned None = refl
+    turned (Some s) = refl
+
+is_low : (found taken n : ℕ) → n < 128 → ((x : ℕ) → x < 128 → has found x ≡ (has 65535 x && not (has taken x))) → has found n ≡ true → n < 16
+is_low found taken n l said e = ltb-true n 16 (sym (first_sixteen n l) ∙ (and_parts (has 65535 n) (not (has taken n)) (sym (said n l) ∙ e)).0)
+
+pub least_open : (slots : List (Option Station)) (busy found p n : ℕ) (ages : List ℕ) (pool : PoolId) → AreBusy slots busy ages → p ≡ place_of_pool pool → p < 6 → n < 128 → ((x : ℕ) → x < 128 → has found x ≡ (has 65535 x && not (has (busy / 2 ^ (16 * p)) x))) → has found n ≡ true → ((i : ℕ) → i < n → has found i ≡ false) → IsLeast (is_open slots pool) n
+least_open slots busy found p n ages pool filled e l m said here least =
+    let low : n < 16 = is_low found (busy / 2 ^ (16 * p)) n m said here in
+    rw (← e) (
+      sym (open_is slots busy found n p ages filled l low said) ∙ here,
+      λ i less. sym (open_is slots busy found i p ages filled l (omega arith) said) ∙ least i less,
+    )
+
+none_open : (slots : List (Option Station)) (busy found p n : ℕ) (ages : List ℕ) (pool : PoolId) → AreBusy slots busy ages → p ≡ place_of_pool pool → p < 6 → n < 16 → ((x : ℕ) → x < 128 → has found x ≡ (has 65535 x && not (has (busy / 2 ^ (16 * p)) x))) → has found n ≡ false → is_open slots pool n ≡ false
+none_open slots busy found p n ages pool filled e l low said here = rw (← e) (sym (open_is slots busy found n p ages filled l low said) ∙ here)
+
+pub all_taken : (slots : List (Option Station)) (busy found p count : ℕ) (ages : List ℕ) (pool : PoolId) → AreBusy slots busy ages → p ≡ place_of_pool pool → p < 6 → count ≤ 16 → ((x : ℕ) → x < 128 → has found x ≡ (has 65535 x && not (has (busy / 2 ^ (16 * p)) x))) → found ≡ 0 → (n : ℕ) → n < count → is_open slots pool n ≡ false
+all_taken slots busy found p count ages pool filled e l few said empty n less = none_open slots busy found p n ages pool filled e l (omega arith) said (rw empty (none_in n))
+
+pub none_before : (slots : List (Option Station)) (busy found p least count : ℕ) (ages : List ℕ) (pool : PoolId) → AreBusy slots busy ages → p ≡ place_of_pool pool → p < 6 → count ≤ 16 → ((x : ℕ) → x < 128 → has found x ≡ (has 65535 x && not (has (busy / 2 ^ (16 * p)) x))) → ((i : ℕ) → i < least → has found i ≡ false) → count ≤ least → (n : ℕ) → n < count → is_open slots pool n ≡ false
+none_before slots busy found p least count ages pool filled e l few said none high n less = none_open slots busy found p n ages pool filled e l (omega arith) said (none n (omega arith))

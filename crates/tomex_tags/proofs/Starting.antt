@@ -1,0 +1,32 @@
+-- The operation of a station starts where the station stands.
+use Rattle.std.proofs.Common.{ℕ, ◌/◌, ◌%◌, ◌<◌, ◌≡◌, ◌∙◌, arith, ap, false, true, refl, List, Option, Some, None, slice_index_or, slice_set, get_or}
+use Rattle.std.specs.Prelude.{IsSome, is_some, option_map}
+use Rattle.tomex_tags.specs.declared.standing.Standing.{Standing}
+use Rattle.tomex_tags.specs.declared.station.Station.{Station}
+use Rattle.tomex_tags.specs.Contents.{started}
+use Rattle.tomex_tags.specs.Pools.{AreFilled, AreSix, slots_of}
+use Rattle.tomex_tags.specs.Standing.{IsFiled}
+use Rattle.tomex_tags.proofs.Filing.{start_filed}
+use Rattle.tomex_tags.proofs.Listening.{own_here, same_listens}
+use Rattle.tomex_tags.proofs.Slots.{at_place, filled_by, said_same, set_in, set_place}
+
+pub starts_in : (pools : List (List (Option Station))) (x finish value : ℕ) (d : List (Option Station)) → AreSix pools → x < 96
+    → slots_of (set_in pools x d (option_map (started finish value) (slice_index_or (get_or pools (x / 16) d) (x % 16) None))) ≡ slice_set (slots_of pools) x (option_map (started finish value) (slice_index_or (slots_of pools) x None))
+starts_in pools x finish value d six l =
+    set_place pools x d (option_map (started finish value) (slice_index_or (get_or pools (x / 16) d) (x % 16) None)) six l
+    ∙ ap (λ (o : Option Station). slice_set (slots_of pools) x (option_map (started finish value) o)) (at_place pools x d six l)
+
+pub starts_filled : (pools : List (List (Option Station))) (busy x finish value : ℕ) (ages listeners : List ℕ) (d : List (Option Station)) (old standing : Standing) → AreFilled pools busy ages old listeners → x < 96 → IsSome (slice_index_or (slots_of pools) x None)
+    → IsFiled x false old.waiting standing.waiting → (standing.addressed ≡ old.addressed) × (standing.writing ≡ old.writing)
+    → AreFilled (set_in pools x d (option_map (started finish value) (slice_index_or (get_or pools (x / 16) d) (x % 16) None))) busy ages standing listeners
+starts_filled pools busy x finish value ages listeners d old standing filled l some waits others = of (slice_index_or (slots_of pools) x None) refl
+  where
+    of : (o : Option Station) → slice_index_or (slots_of pools) x None ≡ o → AreFilled (set_in pools x d (option_map (started finish value) (slice_index_or (get_or pools (x / 16) d) (x % 16) None))) busy ages standing listeners
+    of None e = let z : false ≡ true = rw e at some in absurd (cc)
+    of (Some s) e =
+        let here : slice_index_or (get_or pools (x / 16) d) (x % 16) None ≡ Some s = at_place pools x d filled.six l ∙ e in
+        rw here (filled_by pools busy busy ages ages x d (Some (started finish value s)) old standing listeners listeners filled l filled.filled.ages_count filled.filled.small
+        (said_same busy x (Some (started finish value s)) (filled.filled.each x (omega arith) ∙ ap is_some e))
+        (start_filed (slots_of pools) x finish value s old standing (omega arith) filled.standing e waits others)
+        (own_here (slots_of pools) x s l filled.own e)
+        (same_listens (slots_of pools) x s (started finish value s) listeners l filled.listening e (λ y k. k)))

@@ -1,0 +1,22 @@
+-- Which stations wait for what a place will send.
+use Rattle.std.specs.Prelude.{ℕ, Bool, true, false, ◌<◌, ◌≡◌, ◌||◌, List, Option, Some, None, length, slice_index, slice_index_or}
+use Rattle.tomex_bus.specs.Sets.{has}
+use Rattle.tomex_timing.specs.declared.tables.Field.{Field}
+use Rattle.tomex_tags.specs.declared.station.Station.{Station}
+use Rattle.tomex_tags.specs.Operands.{comes_from}
+
+-- an operand of what stands in a place is still to come from place x
+abbrev pub awaits : ℕ → Option Station → Bool
+awaits x None = false
+awaits x (Some s) = comes_from x s.j || comes_from x s.k
+
+-- by place, a set of places that those with an operand to come from it are members of
+pub record AreListening (slots : List (Option Station)) (sets : List ℕ) : Type 0 where
+  pub count : length sets ≡ 96
+  pub each : (x y : ℕ) → x < 96 → y < 96 → awaits y (slice_index_or slots x None) ≡ true → has (slice_index sets y) x ≡ true
+
+-- the place of an operand is a member of the set of the place that the operand is still to come from; no member is lost
+pub record IsListening (x : ℕ) (operand : Field) (old new : List ℕ) : Type 0 where
+  pub count : length new ≡ length old
+  pub kept : (y z : ℕ) → y < 96 → has (slice_index old y) z ≡ true → has (slice_index new y) z ≡ true
+  pub added : (y : ℕ) → y < 96 → comes_from y operand ≡ true → has (slice_index new y) x ≡ true
