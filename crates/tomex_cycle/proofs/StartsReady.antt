@@ -16,12 +16,13 @@ use Rattle.tomex_rvdec.specs.declared.pool.UnitId.TheVariants as units
 use Rattle.tomex_timing.specs.History.{is_of}
 use Rattle.tomex_bus.proofs.Bits.{none_in}
 use Rattle.tomex_bus.proofs.Members.{inside_left, none_rest}
+use Rattle.tomex_bus.proofs.Picking.{single_picked}
 use Rattle.tomex_membuf.specs.Order.{is_clear}
 use Rattle.tomex_membuf.proofs.ByAge.{no_access}
 use Rattle.tomex_tags.proofs.Filing.{is_standing}
 use Rattle.tomex_tags.specs.Contents.{bytes_from, is_memory_op, is_waiting, step_in}
 use Rattle.tomex_tags.specs.Pools.{AreBusy, Pools}
-use Rattle.tomex_tags.specs.Standing.{IsSetOf, waits_for}
+use Rattle.tomex_tags.specs.Standing.{IsSetOf, waits, waits_for}
 use Rattle.tomex_tags.specs.declared.station.Station.{Station}
 use Rattle.tomex_cycle.specs.Starts.{AreReady, AreReadyFor, IsStarting, IsWanted, kind_if, kind_of, wanted}
 use Rattle.tomex_cycle.proofs.StartsPicked.{unit_same}
@@ -150,18 +151,36 @@ ready_for st next set unit filled of apart = record {
   wants = λ x l older younger by. of x l ∙ wants_unit st.slots older next unit (slice_index_or st.slots x None) apart;
 }
 
+-- all that wait for a unit of a kind, where at most one operation waits
+pub single_of : (unit : UnitId) (slots : List (Option Station)) (waiting set n : ℕ) (ages : List ℕ) → ((a b : ℕ) → a < 128 → b < 128 → has waiting a ≡ true → has waiting b ≡ true → a ≡ b) → IsSetOf waits slots waiting → 0 < n
+    → ((x : ℕ) → x < 128 → has set x ≡ true → waits_for unit (slice_index_or slots x None) ≡ true) → IsPicked set ages n set
+single_of unit slots waiting set n ages single are some wait = single_picked set n ages some (λ a b l m e f. single a b l m (among a l e) (among b m f))
+  where
+    waits_too : (o : Option Station) → waits_for unit o ≡ true → waits o ≡ true
+    waits_too None e = e
+    waits_too (Some s) e = (and_parts (is_waiting s) (is_of unit (unit_of s.instr.op)) e).0
+
+    among : (x : ℕ) → x < 128 → has set x ≡ true → has waiting x ≡ true
+    among x l e = are x l ∙ waits_too (slice_index_or slots x None) (wait x l e)
+
+pub all_of : (unit : UnitId) (slots : List (Option Station)) (set : ℕ) → IsSetOf (waits_for unit) slots set → (x : ℕ) → x < 128 → has set x ≡ true → waits_for unit (slice_index_or slots x None) ≡ true
+all_of unit slots set of x l e = sym (of x l) ∙ e
+
+pub found_waiting : (st : Pools) (next waiting rest clear : ℕ) → IsSetOf (waits_for units.Mem) st.slots waiting → AreCleared st next waiting rest clear → (x : ℕ) → x < 128 → has clear x ≡ true → waits_for units.Mem (slice_index_or st.slots x None) ≡ true
+found_waiting st next waiting rest clear of so x l e = sym (of x l) ∙ so.found x l e
+
 -- the oldest of each kind together
-pub are_starting : (row : Row) (st : Pools) (next : ℕ) (ra rb rc rd re a b c d e f g h all : ℕ)
+pub are_starting : (row : Row) (st : Pools) (next : ℕ) (ra rb rc rd re a b c d e all : ℕ)
     → AreReadyFor st next units.Alu ra → AreReadyFor st next units.Mul rb → AreReadyFor st next units.Div rc → AreReadyFor st next units.Mem rd → AreReadyFor st next units.Bru re
     → IsPicked ra st.ages (option_of row units.Alu).units a → IsPicked rb st.ages (option_of row units.Mul).units b → IsPicked rc st.ages (option_of row units.Div).units c → IsPicked rd st.ages (option_of row units.Mem).units d → IsPicked re st.ages (option_of row units.Bru).units e
-    → ((x : ℕ) → has f x ≡ (has d x || has e x)) → ((x : ℕ) → has g x ≡ (has c x || has f x)) → ((x : ℕ) → has h x ≡ (has b x || has g x)) → ((x : ℕ) → has all x ≡ (has a x || has h x)) → IsStarting row st next all
-are_starting row st next ra rb rc rd re a b c d e f g h all is_alu is_mul is_div is_mem is_bru alu mul div mem bru uf ug uh ua = record {
+    → ((x : ℕ) → has all x ≡ (has a x || (has b x || (has c x || (has d x || has e x))))) → IsStarting row st next all
+are_starting row st next ra rb rc rd re a b c d e all is_alu is_mul is_div is_mem is_bru alu mul div mem bru together = record {
   ready = ra ∷ rb ∷ rc ∷ rd ∷ re ∷ [];
   kinds = a ∷ b ∷ c ∷ d ∷ e ∷ [];
   are_ready = kinds;
   units = each;
   count = refl;
-  all = λ x l. ua x ∙ ap (λ z. has a x || z) (uh x ∙ ap (λ z. has b x || z) (ug x ∙ ap (λ z. has c x || z) (uf x ∙ ap (λ z. has d x || z) (sym (or_none (has e x))))));
+  all = λ x l. together x ∙ ap (λ z. has a x || (has b x || (has c x || (has d x || z)))) (sym (or_none (has e x)));
 }
   where
     or_none : (z : Bool) → (z || false) ≡ z

@@ -1,18 +1,15 @@
 -- What a store leaves in memory.
 use Rattle.std.proofs.Common.{length, slice_index_or, zero, suc, Option, Some, None, ℕ, ◌+◌, ◌<◌, ◌≤◌, ◌≡◌, ◌∙◌, Bool, true, false, arith, refl, List, ap, sym}
-use Rattle.std.specs.Prelude.{if◌then◌else◌, ◌&&◌, ◌||◌, not, is_some, IfSome}
+use Rattle.std.specs.Prelude.{if◌then◌else◌, ◌&&◌, IfSome}
 use Rattle.std.proofs.lemmas.Bool.{and_parts}
-use Rattle.tomex_rvdec.specs.Operands.{pool_of}
-use Rattle.tomex_rvdec.specs.declared.pool.PoolId.{PoolId}
-use Rattle.tomex_rvdec.specs.declared.pool.PoolId.TheVariants as pools
 use Rattle.tomex_rvexec.specs.declared.step.ByteRange.{ByteRange}
 use Rattle.tomex_rvexec.specs.Access.{HasStored, IsInside}
 use Rattle.tomex_rvexec.specs.Flow.{byte_in, covers, overwrites, stored_byte}
 use Rattle.tomex_rvexec.specs.Memory.{Bytes}
-use Rattle.tomex_rvexec.specs.Steps.{bytes_of, is_in}
+use Rattle.tomex_rvexec.specs.Steps.{bytes_of}
 use Rattle.tomex_cycle.specs.Starts.{AllInside, HaveStored, stored_at, written_by, AreLow}
-use Rattle.tomex_tags.specs.Contents.{is_memory_op, lacks_address, step_in}
-use Rattle.tomex_tags.specs.Standing.{IsSetOf, has_address}
+use Rattle.tomex_tags.specs.Contents.{step_in}
+use Rattle.tomex_tags.specs.Standing.{IsSetOf, holds_store}
 use Rattle.tomex_tags.specs.declared.station.Station.{Station}
 use Rattle.tomex_bus.specs.Sets.{has, IsWithout}
 use Rattle.tomex_bus.proofs.Members.{AreFrom, all_left, least_from, least_in, left_from, none_after, none_between, skip_to}
@@ -91,28 +88,14 @@ pub all_stored : (slots : List (Option Station)) (picked rest : ℕ) (old now : 
 all_stored slots picked rest old now low empty so =
     skip_to (λ j. HaveStored slots picked j old now) picked so.k 96 so.high (λ j from to. none_after picked rest so.k so.from empty j from (omega arith)) (λ j e b. skip_stored slots picked j old now e b) so.stored
 
--- What is no load or store leaves memory as it is.
+-- What is no store leaves memory as it is.
 
-no_store : (o : Option PoolId) → (is_in pools.Load o || is_in pools.Store o) ≡ false → is_in pools.Store o ≡ false
-no_store o e = or_last (is_in pools.Load o) (is_in pools.Store o) e
+stores_not : (o : Option Station) (picked : Bool) (a before : ℕ) → holds_store o ≡ false → stored_at picked o a before ≡ before
+stores_not None picked a before none = refl
+stores_not (Some s) picked a before none =
+    let not_here : overwrites (step_in s) a ≡ false = ap (λ b. b && covers (step_in s) a) none in
+    rw (not_here, and_false picked) refl
   where
-    or_last : (a b : Bool) → (a || b) ≡ false → b ≡ false
-    or_last a false e = refl
-    or_last true true e = absurd (cc)
-    or_last false true e = absurd (cc)
-
--- a place whose station neither lacks an address nor has one
-pub stores_not : (o : Option Station) (picked : Bool) (a before : ℕ) → lacks_address o ≡ false → has_address o ≡ false → stored_at picked o a before ≡ before
-stores_not None picked a before lacks has = refl
-stores_not (Some s) picked a before lacks has =
-    let none : overwrites (step_in s) a ≡ false = ap (λ b. b && covers (step_in s) a) (no_store (pool_of s.instr.op) (no_op (is_memory_op s.instr.op) (is_some s.address) lacks has)) in
-    rw (none, and_false picked) refl
-  where
-    no_op : (op address : Bool) → (op && not address) ≡ false → address ≡ false → op ≡ false
-    no_op false address e f = refl
-    no_op true true e f = absurd (cc)
-    no_op true false e f = absurd (cc)
-
     and_false : (b : Bool) → (b && false) ≡ false
     and_false true = refl
     and_false false = refl
@@ -123,28 +106,23 @@ same_stored o false true a before none = refl
 same_stored o true false a before none = stored_skip o a before ∙ sym (none refl)
 same_stored o false false a before none = refl
 
--- so the stores of the loads and stores among the picked places are those of all
-same_written : (slots : List (Option Station)) (picked accesses lacking addressed : ℕ) (byte : ℕ → ℕ) (k a : ℕ) → k ≤ 128 → IsSetOf lacks_address slots lacking → IsSetOf has_address slots addressed → ((x : ℕ) → has accesses x ≡ (has picked x && (has lacking x || has addressed x)))
-    → written_by slots accesses byte k a ≡ written_by slots picked byte k a
-same_written slots picked accesses lacking addressed byte zero a l lacks has_one both = refl
-same_written slots picked accesses lacking addressed byte (suc k) a l lacks has_one both =
-    ap (stored_at (has accesses k) (slice_index_or slots k None) a) (same_written slots picked accesses lacking addressed byte k a (omega arith) lacks has_one both)
-    ∙ rw (both k) (same_stored (slice_index_or slots k None) (has picked k) (has lacking k || has addressed k) a (written_by slots picked byte k a) (λ none.
-    let two = or_none (has lacking k) (has addressed k) none in
-    stores_not (slice_index_or slots k None) (has picked k) a (written_by slots picked byte k a) (sym (lacks k (omega arith)) ∙ two.0) (sym (has_one k (omega arith)) ∙ two.1)))
-  where
-    or_none : (a b : Bool) → (a || b) ≡ false → (a ≡ false) × (b ≡ false)
-    or_none true b e = absurd (cc)
-    or_none false b e = (refl, e)
+-- so the stores among the picked places write what all of them do
+same_written : (slots : List (Option Station)) (picked found stores : ℕ) (byte : ℕ → ℕ) (k a : ℕ) → k ≤ 128 → IsSetOf holds_store slots stores → ((x : ℕ) → has found x ≡ (has picked x && has stores x))
+    → written_by slots found byte k a ≡ written_by slots picked byte k a
+same_written slots picked found stores byte zero a l are both = refl
+same_written slots picked found stores byte (suc k) a l are both =
+    ap (stored_at (has found k) (slice_index_or slots k None) a) (same_written slots picked found stores byte k a (omega arith) are both)
+    ∙ rw (both k) (same_stored (slice_index_or slots k None) (has picked k) (has stores k) a (written_by slots picked byte k a) (λ none.
+    stores_not (slice_index_or slots k None) (has picked k) a (written_by slots picked byte k a) (sym (are k (omega arith)) ∙ none)))
 
-pub accesses_stored : (slots : List (Option Station)) (picked accesses either lacking addressed : ℕ) (old now : Bytes) → IsSetOf lacks_address slots lacking → IsSetOf has_address slots addressed → ((x : ℕ) → has either x ≡ (has lacking x || has addressed x)) → ((x : ℕ) → has accesses x ≡ (has picked x && has either x))
-    → HaveStored slots accesses 96 old now → HaveStored slots picked 96 old now
-accesses_stored slots picked accesses either lacking addressed old now lacks has_one any both stored = record {
+pub stores_stored : (slots : List (Option Station)) (picked found stores : ℕ) (old now : Bytes) → IsSetOf holds_store slots stores → ((x : ℕ) → has found x ≡ (has picked x && has stores x))
+    → HaveStored slots found 96 old now → HaveStored slots picked 96 old now
+stores_stored slots picked found stores old now are both stored = record {
   base = stored.base;
   size = stored.size;
-  bytes = λ a l. stored.bytes a l ∙ same_written slots picked accesses lacking addressed (byte_in old) 96 a (omega arith) lacks has_one (λ x. both x ∙ ap (λ b. has picked x && b) (any x));
+  bytes = λ a l. stored.bytes a l ∙ same_written slots picked found stores (byte_in old) 96 a (omega arith) are both;
 }
 
 -- they are among the picked places
-pub access_picked : (picked accesses either : ℕ) → ((x : ℕ) → has accesses x ≡ (has picked x && has either x)) → (x : ℕ) → has accesses x ≡ true → has picked x ≡ true
-access_picked picked accesses either both x e = (and_parts (has picked x) (has either x) (sym (both x) ∙ e)).0
+pub store_picked : (picked found stores : ℕ) → ((x : ℕ) → has found x ≡ (has picked x && has stores x)) → (x : ℕ) → has found x ≡ true → has picked x ≡ true
+store_picked picked found stores both x e = (and_parts (has picked x) (has stores x) (sym (both x) ∙ e)).0

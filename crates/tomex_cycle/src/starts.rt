@@ -1,10 +1,10 @@
 //! Which operations start in a cycle, and what they do.
 
-ghost use Rattle.std.specs.Prelude.{ℕ, ◌≡◌, ◌≢◌, ◌<◌, ◌≤◌, ◌+◌, ◌-◌, ◌^◌, IfSome, IsSome, None, Some, slice_index_or, slice_set, length, true};
+ghost use Rattle.std.specs.Prelude.{ℕ, ◌≡◌, ◌≢◌, ◌<◌, ◌≤◌, ◌+◌, ◌-◌, ◌^◌, IfSome, IsSome, None, Some, slice_index_or, slice_set, length, true, ◌||◌};
 ghost use Rattle.tomex_bus.specs.Sets.{has};
 ghost use Rattle.tomex_tags.specs.Contents.{started, step_in};
 ghost use Rattle.tomex_tags.specs.Pools.{AreBusy};
-ghost use Rattle.tomex_tags.specs.Standing.{waits_for};
+ghost use Rattle.tomex_tags.specs.Standing.{IsSetOf, waits_for};
 ghost use Rattle.tomex_rvdec.specs.Operands.{unit_of};
 ghost use Rattle.tomex_rvexec.specs.Access.{HasStored};
 ghost use Rattle.tomex_cycle.specs.Finishes.{AreKnown};
@@ -13,7 +13,7 @@ ghost use Rattle.tomex_cycle.specs.Starts.{AllCanBegin, AllInside, AreLow, AreRe
 use crate::finishes::Finishes;
 use std::alloc::Allocator;
 use tomex_bus::pick;
-use tomex_bus::sets::{both, lowest, union, with, without_lowest};
+use tomex_bus::sets::{both, is_single, lowest, union, with, without_lowest};
 use tomex_config::Config;
 use tomex_membuf::{may_access, read, write as write_bytes};
 use tomex_rvdec::UnitId;
@@ -36,6 +36,7 @@ fn is_clear(pools: &Pools, place: usize, next: u64) -> bool
 /// The places of the loads and stores whose accesses can start but for want of a port.
 fn accessible(pools: &Pools, next: u64) -> u128
     ensures ready { AreReadyFor pools.now next UnitId.Mem result }
+    ensures wait { (x : ℕ) → x < 128 → has result x ≡ true → waits_for UnitId.Mem (slice_index_or pools.now.slots x None) ≡ true }
     ensures busy { AreBusy pools.now.slots pools.now.busy pools.now.ages }
 {
     let mut clear = 0;
@@ -56,9 +57,18 @@ fn accessible(pools: &Pools, next: u64) -> u128
 fn ready(pools: &Pools, next: u64, unit: UnitId) -> u128
     requires { unit ≢ UnitId.Mem }
     ensures ready { AreReadyFor pools.now next unit result }
+    ensures wait { IsSetOf (waits_for unit) pools.now.slots result }
     ensures busy { AreBusy pools.now.slots pools.now.busy pools.now.ages }
 {
     pools.waiting_for(unit)
+}
+
+/// The members of all the sets.
+#[inline(always)]
+fn together(alu: u128, mul: u128, div: u128, mem: u128, bru: u128) -> u128
+    ensures { (x : ℕ) → has result x ≡ (has alu x || (has mul x || (has div x || (has mem x || has bru x)))) }
+{
+    union(alu, union(mul, union(div, union(mem, bru))))
 }
 
 /// The places whose operations start in the cycle: of each kind the oldest that are ready, as many as
@@ -67,29 +77,24 @@ pub fn starting(pools: &Pools, row: &Config, next: u64) -> u128
     ensures starting { IsStarting row.now pools.now next result }
     ensures busy { AreBusy pools.now.slots pools.now.busy pools.now.ages }
 {
+    let alu = ready(pools, next, UnitId::Alu);
+    let mul = ready(pools, next, UnitId::Mul);
+    let div = ready(pools, next, UnitId::Div);
+    let mem = accessible(pools, next);
+    let bru = ready(pools, next, UnitId::Bru);
+    if is_single(pools.waiting()) {
+        // Read for what the row's type keeps: there is a unit of each kind.
+        let _buses = row.buses();
+        return together(alu, mul, div, mem, bru);
+    }
     let ages = pools.ages();
-    let alu = pick(
-        ready(pools, next, UnitId::Alu),
-        ages,
-        row.units(UnitId::Alu),
-    );
-    let mul = pick(
-        ready(pools, next, UnitId::Mul),
-        ages,
-        row.units(UnitId::Mul),
-    );
-    let div = pick(
-        ready(pools, next, UnitId::Div),
-        ages,
-        row.units(UnitId::Div),
-    );
-    let mem = pick(accessible(pools, next), ages, row.units(UnitId::Mem));
-    let bru = pick(
-        ready(pools, next, UnitId::Bru),
-        ages,
-        row.units(UnitId::Bru),
-    );
-    union(alu, union(mul, union(div, union(mem, bru))))
+    together(
+        pick(alu, ages, row.units(UnitId::Alu)),
+        pick(mul, ages, row.units(UnitId::Mul)),
+        pick(div, ages, row.units(UnitId::Div)),
+        pick(mem, ages, row.units(UnitId::Mem)),
+        pick(bru, ages, row.units(UnitId::Bru)),
+    )
 }
 
 /// The cycles that the operation of a station takes, and its result; `None` where its access lies
@@ -186,8 +191,8 @@ fn write_at<A: Allocator>(pools: &Pools, place: usize, memory: &mut Memory<A>)
 pub fn write<A: Allocator>(pools: &Pools, picked: u128, memory: &mut Memory<A>)
     ensures { AreLow picked → AllInside memory.old picked pools.now.slots → HaveStored pools.now.slots picked 96 memory.old memory.new }
 {
-    let accesses = both(picked, union(pools.lacking(), pools.addressed()));
-    let mut rest = accesses;
+    let stores = both(picked, pools.stores());
+    let mut rest = stores;
     'members: while rest != 0 {
         let place = lowest(rest);
         rest = without_lowest(rest);

@@ -1,24 +1,20 @@
 -- Which kind of unit runs the operations of a place, and which numbers of a pool are open.
 use Rattle.std.proofs.Common.{ℕ, ◌+◌, ◌*◌, ◌/◌, ◌^◌, ◌<◌, ◌≤◌, ◌≡◌, ◌∙◌, Bool, true, false, arith, refl, sym, inl, inr, List, Option, Some, None, slice_index_or}
-use Rattle.std.specs.Prelude.{◌&&◌, ◌||◌, not, nat_lt, is_none, is_some}
+use Rattle.std.specs.Prelude.{◌&&◌, not, nat_lt, is_none, is_some}
 use Rattle.std.proofs.lemmas.Bool.{and_parts, cases_Bool, lt-ltb, ltb-true, ltb-false}
 use Rattle.std.proofs.lemmas.List.{get_or_past}
-use Rattle.tomex_rvdec.specs.Operands.{pool_of, unit_of_pool}
+use Rattle.tomex_rvdec.specs.Operands.{unit_of_pool}
 use Rattle.tomex_rvdec.specs.Parts.{place_of_pool}
-use Rattle.tomex_rvdec.specs.declared.op.Op.{Op}
 use Rattle.tomex_rvdec.specs.declared.pool.PoolId.{PoolId}
 use Rattle.tomex_rvdec.specs.declared.pool.PoolId.TheVariants as pools
 use Rattle.tomex_rvdec.specs.declared.pool.UnitId.{UnitId}
-use Rattle.tomex_rvdec.specs.declared.pool.UnitId.TheVariants as units
-use Rattle.tomex_rvexec.specs.Steps.{is_in}
 use Rattle.tomex_timing.specs.History.{is_of}
 use Rattle.tomex_timing.specs.Recurrence.{IsLeast}
 use Rattle.tomex_bus.specs.Sets.{has}
 use Rattle.tomex_bus.proofs.Bits.{agree, agreed, none_in, shifted}
-use Rattle.tomex_tags.specs.Contents.{is_memory_op, lacks_address}
-use Rattle.tomex_tags.specs.Places.{is_served, pool_at}
+use Rattle.tomex_tags.specs.Places.{is_served, is_store_place, pool_at}
 use Rattle.tomex_tags.specs.Pools.{AreBusy, AreOwn, IsOwn, is_open}
-use Rattle.tomex_tags.specs.Standing.{IsSetOf, has_address, waits, waits_for}
+use Rattle.tomex_tags.specs.Standing.{IsSetOf, holds_store, waits, waits_for}
 use Rattle.tomex_tags.specs.declared.station.Station.{Station}
 
 pub are_served : (set : ℕ) (unit : UnitId) → agree (has set) (is_served unit) 128 ≡ true → (x : ℕ) → x < 128 → has set x ≡ is_served unit x
@@ -36,30 +32,24 @@ pool_place pools.Bru = refl
 served_from : (b : Bool) (x : ℕ) (unit : UnitId) → x < 96 → (nat_lt x 96 && b) ≡ b
 served_from b x unit l = rw (lt-ltb x 96 l) refl
 
-is_memory_pool : (pool : PoolId) → (is_in pools.Load (Some pool) || is_in pools.Store (Some pool)) ≡ is_of units.Mem (Some (unit_of_pool pool))
-is_memory_pool pools.Alu = refl
-is_memory_pool pools.Mul = refl
-is_memory_pool pools.Div = refl
-is_memory_pool pools.Load = refl
-is_memory_pool pools.Store = refl
-is_memory_pool pools.Bru = refl
+are_store_places : (set : ℕ) → agree (has set) is_store_place 128 ≡ true → (x : ℕ) → x < 128 → has set x ≡ is_store_place x
+are_store_places set e x l = agreed (has set) is_store_place 128 e x l
 
-memory_at : (x : ℕ) (op : Op) (pool : PoolId) → pool_of op ≡ Some pool → is_memory_op op ≡ is_of units.Mem (Some (unit_of_pool pool))
-memory_at x op pool e = rw e (is_memory_pool pool)
+pub places_of_stores : (x : ℕ) → x < 128 → has 1208907372870555465154560 x ≡ is_store_place x
+places_of_stores = are_store_places 1208907372870555465154560 refl
 
--- a load or store is one in a place of theirs; it lacks an address where it isn't among those that have one
-lacks_by : (x : ℕ) (o : Option Station) → x < 96 → IsOwn x o → ((is_some o && is_served units.Mem x) && not (has_address o)) ≡ lacks_address o
-lacks_by x None l own = refl
-lacks_by x (Some s) l own = rw (served_from (is_of units.Mem (Some (unit_of_pool (pool_at (x / 16))))) x units.Mem l, memory_at x s.instr.op (pool_at (x / 16)) own) refl
+-- a store is one in a place of theirs
+stores_by : (x : ℕ) (o : Option Station) → x < 96 → IsOwn x o → (is_some o && is_store_place x) ≡ holds_store o
+stores_by x None l own = refl
+stores_by x (Some s) l own = rw (lt-ltb x 96 l, own) refl
 
 none_past : (slots : List (Option Station)) (busy : ℕ) (ages : List ℕ) (x : ℕ) → AreBusy slots busy ages → x < 128 → 96 ≤ x → slice_index_or slots x None ≡ None
 none_past slots busy ages x filled l high = get_or_past slots x None (rw filled.places high)
 
-pub are_lacking : (slots : List (Option Station)) (busy served addressed memory lacking : ℕ) (ages : List ℕ) → AreBusy slots busy ages → AreOwn slots → IsSetOf has_address slots addressed → ((x : ℕ) → x < 128 → has served x ≡ is_served units.Mem x)
-    → ((x : ℕ) → has memory x ≡ (has busy x && has served x)) → ((x : ℕ) → x < 128 → has lacking x ≡ (has memory x && not (has addressed x))) → IsSetOf lacks_address slots lacking
-are_lacking slots busy served addressed memory lacking ages filled own with_one serves both but x l =
-    but x l ∙ rw (both x, filled.each x l, serves x l, with_one x l) (elim (cases_Bool (nat_lt x 96)) [
-      | inl e ↦ let low : x < 96 = ltb-true x 96 e in lacks_by x (slice_index_or slots x None) low (own x low)
+pub are_stores : (slots : List (Option Station)) (busy places stores : ℕ) (ages : List ℕ) → AreBusy slots busy ages → AreOwn slots → ((x : ℕ) → x < 128 → has places x ≡ is_store_place x) → ((x : ℕ) → has stores x ≡ (has busy x && has places x)) → IsSetOf holds_store slots stores
+are_stores slots busy places stores ages filled own are both x l =
+    both x ∙ rw (filled.each x l, are x l) (elim (cases_Bool (nat_lt x 96)) [
+      | inl e ↦ let low : x < 96 = ltb-true x 96 e in stores_by x (slice_index_or slots x None) low (own x low)
       | inr e ↦ rw (none_past slots busy ages x filled l (ltb-false x 96 e)) refl
     ])
 

@@ -5,7 +5,7 @@ use Rattle.tomex_tags.specs.declared.standing.Standing.{Standing}
 use Rattle.tomex_tags.specs.declared.station.Station.{Station}
 use Rattle.tomex_tags.specs.Contents.{started}
 use Rattle.tomex_tags.specs.Pools.{AreFilled, AreSix, slots_of}
-use Rattle.tomex_tags.specs.Standing.{IsFiled}
+use Rattle.tomex_tags.specs.Standing.{IsFiled, IsKept}
 use Rattle.tomex_tags.proofs.Filing.{start_filed}
 use Rattle.tomex_tags.proofs.Listening.{own_here, same_listens}
 use Rattle.tomex_tags.proofs.Slots.{at_place, filled_by, said_same, set_in, set_place}
@@ -17,7 +17,7 @@ starts_in pools x finish value d six l =
     ∙ ap (λ (o : Option Station). slice_set (slots_of pools) x (option_map (started finish value) o)) (at_place pools x d six l)
 
 pub starts_filled : (pools : List (List (Option Station))) (busy x finish value : ℕ) (ages listeners : List ℕ) (d : List (Option Station)) (old standing : Standing) → AreFilled pools busy ages old listeners → x < 96 → IsSome (slice_index_or (slots_of pools) x None)
-    → IsFiled x false old.waiting standing.waiting → (standing.addressed ≡ old.addressed) × (standing.writing ≡ old.writing)
+    → IsFiled x false old.waiting standing.waiting → IsKept old standing
     → AreFilled (set_in pools x d (option_map (started finish value) (slice_index_or (get_or pools (x / 16) d) (x % 16) None))) busy ages standing listeners
 starts_filled pools busy x finish value ages listeners d old standing filled l some waits others = of (slice_index_or (slots_of pools) x None) refl
   where

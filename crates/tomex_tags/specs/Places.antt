@@ -5,6 +5,7 @@ use Rattle.tomex_rvdec.specs.Parts.{place_of_pool}
 use Rattle.tomex_rvdec.specs.declared.pool.PoolId.{PoolId}
 use Rattle.tomex_rvdec.specs.declared.pool.PoolId.TheVariants as pools
 use Rattle.tomex_rvdec.specs.declared.pool.UnitId.{UnitId}
+use Rattle.tomex_rvexec.specs.Steps.{is_in}
 use Rattle.tomex_timing.specs.History.{is_of}
 use Rattle.tomex_timing.specs.declared.tables.Tag.{Tag}
 
@@ -21,6 +22,10 @@ pool_at n = if n == 0 then pools.Alu else (if n == 1 then pools.Mul else (if n =
 -- the station of a place
 abbrev pub tag_at_place : ℕ → Tag
 tag_at_place x = record { pool = pool_at (x / 16); number = x % 16 }
+
+-- a place of a store buffer
+abbrev pub is_store_place : ℕ → Bool
+is_store_place x = nat_lt x 96 && is_in pools.Store (Some (pool_at (x / 16)))
 
 -- the operations of the station in a place are run by this kind of unit
 abbrev pub is_served : UnitId → ℕ → Bool

@@ -1,6 +1,6 @@
 //! The issue of an instruction to a free station.
 
-ghost use Rattle.std.specs.Prelude.{◌≡◌, ◌<◌, Some, IfSome, slice_set};
+ghost use Rattle.std.specs.Prelude.{◌≡◌, ◌<◌, Some, None, IfSome, slice_index_or, slice_set};
 ghost use Rattle.tomex_rvdec.specs.Operands.{sources_of, dest_of, pool_of};
 ghost use Rattle.tomex_bus.specs.Sets.{IsWith};
 ghost use Rattle.tomex_tags.specs.Places.{place_of_tag};
@@ -14,7 +14,7 @@ use crate::station::Station;
 use tomex_rvdec::Instr;
 use tomex_timing::Tag;
 
-/// Issues an instruction to the station of a tag; so many have issued before it.
+/// Issues an instruction to the station of a tag, which is free; so many have issued before it.
 ///
 /// A source whose register has no Qi gives its value, any other the tag that will send it. From here
 /// on the destination waits for the new tag.
@@ -29,6 +29,7 @@ pub fn issue(
 )
     requires low { tag.number < 16 }
     requires own { pool_of instr.op ≡ Some tag.pool }
+    requires open { slice_index_or pools.old.slots (place_of_tag tag) None ≡ None }
     ensures slots { pools.new.slots ≡ slice_set pools.old.slots (place_of_tag tag) (Some (issued instr pc (operand_in registers.old (sources_of instr).j) (operand_in registers.old (sources_of instr).k))) }
     ensures busy { IsWith pools.old.busy (place_of_tag tag) pools.new.busy }
     ensures ages { pools.new.ages ≡ slice_set pools.old.ages (place_of_tag tag) age }

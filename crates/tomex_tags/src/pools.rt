@@ -9,10 +9,10 @@ ghost use Rattle.tomex_tags.specs.Contents.{busy_from, hears, lacks_address, sta
 ghost use Rattle.tomex_tags.specs.Listeners.{awaits};
 ghost use Rattle.tomex_tags.specs.Operands.{only};
 ghost use Rattle.tomex_tags.specs.Pools.{AreBusy, AreOwn, HaveHeard, is_open};
-ghost use Rattle.tomex_tags.specs.Standing.{IsSetOf, has_address, waits, waits_for, writes};
+ghost use Rattle.tomex_tags.specs.Standing.{IsSetOf, has_address, holds_store, waits, waits_for, writes};
 
 use crate::listeners::Listeners;
-use crate::places::{served_by, tag};
+use crate::places::{served_by, store_places, tag};
 use crate::standing::Standing;
 use crate::station::Station;
 use crate::stations::Stations;
@@ -62,6 +62,7 @@ impl Pools {
             busy: 0,
             ages: [0; 128],
             standing: Standing {
+                lacking: 0,
                 addressed: 0,
                 waiting: 0,
                 writing: 0,
@@ -100,10 +101,7 @@ impl Pools {
         ensures set { IsSetOf lacks_address self.now.slots result }
         ensures busy { AreBusy self.now.slots self.now.busy self.now.ages }
     {
-        difference(
-            both(self.busy, served_by(UnitId::Mem)),
-            self.standing.addressed,
-        )
+        self.standing.lacking
     }
 
     /// The places of the loads and stores whose address is computed.
@@ -113,6 +111,15 @@ impl Pools {
         ensures busy { AreBusy self.now.slots self.now.busy self.now.ages }
     {
         self.standing.addressed
+    }
+
+    /// The places of the stores.
+    #[inline(always)]
+    pub fn stores(&self) -> u128
+        ensures set { IsSetOf holds_store self.now.slots result }
+        ensures busy { AreBusy self.now.slots self.now.busy self.now.ages }
+    {
+        both(self.busy, store_places())
     }
 
     /// The places whose stations have a result to send: their instructions write a register.
@@ -173,8 +180,7 @@ impl Pools {
         if place < 96 {
             let addressed = station.with_address();
             self.pools[place / 16].put(place % 16, Some(addressed));
-            self.standing
-                .address(place, addressed.address.is_some(), addressed.is_waiting());
+            self.standing.address(place, &addressed);
         }
     }
 
@@ -207,10 +213,11 @@ impl Pools {
         }
     }
 
-    /// A station takes a place; so many instructions had issued before its own.
+    /// A station takes a place that is free; so many instructions had issued before its own.
     #[inline(always)]
     pub fn take(&mut self, place: usize, station: Station, age: u32)
         requires place { place < 96 }
+        requires open { slice_index_or self.old.slots place None ≡ None }
         requires own { pool_of station.instr.op ≡ Some (pool_at (place / 16)) }
         ensures slots { self.new.slots ≡ slice_set self.old.slots place (Some station) }
         ensures busy { IsWith self.old.busy place self.new.busy }

@@ -1,7 +1,9 @@
 //! What the busy stations wait for.
 
 ghost use Rattle.std.specs.Prelude.{◌≡◌, ◌<◌, None, Some, false};
-ghost use Rattle.tomex_tags.specs.Standing.{HasFiled, IsFiled};
+ghost use Rattle.tomex_bus.specs.Sets.{has};
+ghost use Rattle.tomex_tags.specs.Contents.{lacks_address};
+ghost use Rattle.tomex_tags.specs.Standing.{HasFiled, IsFiled, IsKept, IsOut, has_address, waits};
 
 use crate::station::Station;
 use tomex_bus::sets::{with, without};
@@ -11,6 +13,8 @@ use tomex_bus::sets::{with, without};
 /// They follow from the stations, and spare a walk over all that are busy.
 #[derive(Clone, Copy)]
 pub struct Standing {
+    /// Loads and stores whose address isn't computed yet.
+    pub lacking: u128,
     /// Loads and stores whose address is computed.
     pub addressed: u128,
     /// Stations whose operations wait for nothing but a unit and older accesses.
@@ -32,30 +36,44 @@ fn filed(set: u128, place: usize, member: bool) -> u128
     }
 }
 
+/// The set, to which a place comes, or doesn't.
+#[inline(always)]
+fn joined(set: u128, place: usize, member: bool) -> u128
+    requires low { place < 128 }
+    requires out { has set place ≡ false }
+    ensures { IsFiled place member set result }
+{
+    if member { with(set, place) } else { set }
+}
+
 impl Standing {
-    /// A station stands in a place.
+    /// A station stands in a place, in which nothing stood.
     #[inline(always)]
     pub fn file(&mut self, place: usize, station: &Station)
-        requires { place < 128 }
+        requires low { place < 128 }
+        requires out { IsOut place self.old }
         ensures { HasFiled place (Some station.now) self.old self.new }
     {
         *self = Standing {
-            addressed: filed(self.addressed, place, station.address.is_some()),
-            waiting: filed(self.waiting, place, station.is_waiting()),
-            writing: filed(self.writing, place, station.instr.dest().is_some()),
+            lacking: joined(self.lacking, place, station.lacks_address()),
+            addressed: joined(self.addressed, place, station.address.is_some()),
+            waiting: joined(self.waiting, place, station.is_waiting()),
+            writing: joined(self.writing, place, station.instr.dest().is_some()),
         };
     }
 
-    /// The station in a place has an address, or not, and waits for no more, or does; all else of it is as before.
+    /// The station in a place has its address, where its base is there; all else of it is as before.
     #[inline(always)]
-    pub fn address(&mut self, place: usize, addressed: bool, waits: bool)
+    pub fn address(&mut self, place: usize, station: &Station)
         requires { place < 128 }
-        ensures addressed { IsFiled place addressed self.old.addressed self.new.addressed }
-        ensures waiting { IsFiled place waits self.old.waiting self.new.waiting }
+        ensures lacking { IsFiled place (lacks_address (Some station.now)) self.old.lacking self.new.lacking }
+        ensures addressed { IsFiled place (has_address (Some station.now)) self.old.addressed self.new.addressed }
+        ensures waiting { IsFiled place (waits (Some station.now)) self.old.waiting self.new.waiting }
         ensures others { self.new.writing ≡ self.old.writing }
     {
-        self.addressed = filed(self.addressed, place, addressed);
-        self.waiting = filed(self.waiting, place, waits);
+        self.lacking = filed(self.lacking, place, station.lacks_address());
+        self.addressed = filed(self.addressed, place, station.address.is_some());
+        self.waiting = filed(self.waiting, place, station.is_waiting());
     }
 
     /// The operation of the station in a place has started; all else of it is as before.
@@ -63,7 +81,7 @@ impl Standing {
     pub fn start(&mut self, place: usize)
         requires { place < 128 }
         ensures waiting { IsFiled place false self.old.waiting self.new.waiting }
-        ensures others { (self.new.addressed ≡ self.old.addressed) × (self.new.writing ≡ self.old.writing) }
+        ensures others { IsKept self.old self.new }
     {
         self.waiting = without(self.waiting, place);
     }
@@ -73,7 +91,7 @@ impl Standing {
     pub fn wait(&mut self, place: usize, waits: bool)
         requires { place < 128 }
         ensures waiting { IsFiled place waits self.old.waiting self.new.waiting }
-        ensures others { (self.new.addressed ≡ self.old.addressed) × (self.new.writing ≡ self.old.writing) }
+        ensures others { IsKept self.old self.new }
     {
         self.waiting = filed(self.waiting, place, waits);
     }
@@ -85,6 +103,7 @@ impl Standing {
         ensures { HasFiled place None self.old self.new }
     {
         *self = Standing {
+            lacking: without(self.lacking, place),
             addressed: without(self.addressed, place),
             waiting: without(self.waiting, place),
             writing: without(self.writing, place),

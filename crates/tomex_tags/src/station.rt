@@ -2,7 +2,7 @@
 
 ghost use Rattle.std.specs.Prelude.{ℕ, ◌≡◌, Some, false};
 ghost use Rattle.tomex_tags.specs.Operands.{is_there, value_in, heard, only};
-ghost use Rattle.tomex_tags.specs.Contents.{bytes_in, busy_from, hears, is_memory_op, is_ready, is_waiting, step_in, with_address};
+ghost use Rattle.tomex_tags.specs.Contents.{bytes_in, busy_from, hears, is_memory_op, is_ready, is_waiting, lacks_address, step_in, with_address};
 
 use crate::places::place;
 use tomex_rvdec::{Instr, PoolId};
@@ -106,6 +106,14 @@ impl Station {
             Some(PoolId::Load) | Some(PoolId::Store) => true,
             _ => false,
         }
+    }
+
+    /// Whether it holds a load or store whose address isn't computed yet.
+    #[inline(always)]
+    pub fn lacks_address(&self) -> bool
+        ensures { result ≡ lacks_address (Some self.now) }
+    {
+        self.is_memory() && self.address.is_none()
     }
 
     /// The bytes of an access whose address is known.

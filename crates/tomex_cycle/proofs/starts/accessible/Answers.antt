@@ -1,5 +1,5 @@
 use Rattle.std.proofs.Common.{◌∙◌, sym}
-use Rattle.tomex_cycle.proofs.StartsReady.{all_cleared, first_cleared, none_clear, one_clear}
+use Rattle.tomex_cycle.proofs.StartsReady.{all_cleared, first_cleared, found_waiting, none_clear, one_clear}
 use Rattle.tomex_cycle.proofs.starts.accessible.Goals as goal
 
 pub members-init : goal.members-init
@@ -18,3 +18,6 @@ members-preserved c = none_clear c.args.pools.now c.args.next c.waiting_for-wait
 
 pub returns-clause-ready : goal.returns-clause-ready
 returns-clause-ready c = all_cleared c.args.pools.now c.args.next c.waiting_for-waiting.result c.members.rest c.members.clear c.waiting_for-waiting.ensures.busy c.waiting_for-waiting.ensures.set c.members.invariant c.members-test.false
+
+pub returns-clause-wait : goal.returns-clause-wait
+returns-clause-wait c = found_waiting c.args.pools.now c.args.next c.waiting_for-waiting.result c.members.rest c.members.clear c.waiting_for-waiting.ensures.set c.members.invariant

@@ -1,8 +1,25 @@
-use Rattle.tomex_cycle.proofs.StartsReady.{are_starting}
+use Rattle.tomex_rvdec.specs.declared.pool.UnitId.TheVariants as units
+use Rattle.tomex_timing.proofs.Limits.{units_low}
+use Rattle.tomex_cycle.proofs.StartsReady.{all_of, are_starting, single_of}
 use Rattle.tomex_cycle.proofs.starts.starting.Goals as goal
 
+-- there is a unit for the one that waits
+pub returns-then-is_single-clause-starting : goal.returns-then-is_single-clause-starting
+returns-then-is_single-clause-starting c =
+    let slots = c.args.pools.now.slots in
+    let single = c.is_single.ensures c.if-is_single.true in
+    let lawful = c.buses-buses.ensures.lawful in
+    are_starting c.args.row.now c.args.pools.now c.args.next c.ready-alu.result c.ready-mul.result c.ready-div.result c.accessible-mem.result c.ready-bru.result c.ready-alu.result c.ready-mul.result c.ready-div.result c.accessible-mem.result c.ready-bru.result c.together.result
+    c.ready-alu.ensures.ready c.ready-mul.ensures.ready c.ready-div.ensures.ready c.accessible-mem.ensures.ready c.ready-bru.ensures.ready
+    (single_of units.Alu slots c.waiting.result c.ready-alu.result _ c.args.pools.now.ages single c.waiting.ensures.set (units_low c.args.row.now units.Alu lawful) (all_of units.Alu slots c.ready-alu.result c.ready-alu.ensures.wait))
+    (single_of units.Mul slots c.waiting.result c.ready-mul.result _ c.args.pools.now.ages single c.waiting.ensures.set (units_low c.args.row.now units.Mul lawful) (all_of units.Mul slots c.ready-mul.result c.ready-mul.ensures.wait))
+    (single_of units.Div slots c.waiting.result c.ready-div.result _ c.args.pools.now.ages single c.waiting.ensures.set (units_low c.args.row.now units.Div lawful) (all_of units.Div slots c.ready-div.result c.ready-div.ensures.wait))
+    (single_of units.Mem slots c.waiting.result c.accessible-mem.result _ c.args.pools.now.ages single c.waiting.ensures.set (units_low c.args.row.now units.Mem lawful) c.accessible-mem.ensures.wait)
+    (single_of units.Bru slots c.waiting.result c.ready-bru.result _ c.args.pools.now.ages single c.waiting.ensures.set (units_low c.args.row.now units.Bru lawful) (all_of units.Bru slots c.ready-bru.result c.ready-bru.ensures.wait))
+    c.together.ensures
+
 pub returns-clause-starting : goal.returns-clause-starting
-returns-clause-starting c = are_starting c.args.row.now c.args.pools.now c.args.next c.ready.result c.ready-2.result c.ready-3.result c.accessible.result c.ready-4.result c.pick-alu.result c.pick-mul.result c.pick-div.result c.pick-mem.result c.pick-bru.result c.union.result c.union-2.result c.union-3.result c.union-4.result
-    c.ready.ensures.ready c.ready-2.ensures.ready c.ready-3.ensures.ready c.accessible.ensures.ready c.ready-4.ensures.ready
-    (rw (c.ages-ages.ensures, c.units.ensures.count) at c.pick-alu.ensures.picked) (rw (c.ages-ages.ensures, c.units-2.ensures.count) at c.pick-mul.ensures.picked) (rw (c.ages-ages.ensures, c.units-3.ensures.count) at c.pick-div.ensures.picked) (rw (c.ages-ages.ensures, c.units-4.ensures.count) at c.pick-mem.ensures.picked) (rw (c.ages-ages.ensures, c.units-5.ensures.count) at c.pick-bru.ensures.picked)
-    c.union.ensures c.union-2.ensures c.union-3.ensures c.union-4.ensures
+returns-clause-starting c = are_starting c.args.row.now c.args.pools.now c.args.next c.ready-alu.result c.ready-mul.result c.ready-div.result c.accessible-mem.result c.ready-bru.result c.pick.result c.pick-2.result c.pick-3.result c.pick-4.result c.pick-5.result c.together-2.result
+    c.ready-alu.ensures.ready c.ready-mul.ensures.ready c.ready-div.ensures.ready c.accessible-mem.ensures.ready c.ready-bru.ensures.ready
+    (rw (c.ages-ages.ensures, c.units.ensures.count) at c.pick.ensures.picked) (rw (c.ages-ages.ensures, c.units-2.ensures.count) at c.pick-2.ensures.picked) (rw (c.ages-ages.ensures, c.units-3.ensures.count) at c.pick-3.ensures.picked) (rw (c.ages-ages.ensures, c.units-4.ensures.count) at c.pick-4.ensures.picked) (rw (c.ages-ages.ensures, c.units-5.ensures.count) at c.pick-5.ensures.picked)
+    c.together-2.ensures

@@ -1,5 +1,0 @@
-use Rattle.tomex_tags.proofs.Serving.{are_lacking}
-use Rattle.tomex_tags.proofs.pools.Pools.lacking.Goals as goal
-
-pub returns-clause-set : goal.returns-clause-set
-returns-clause-set c = rw (← c.self.view_is) (are_lacking _ c.self.inside.busy c.served_by.result c.self.inside.standing.addressed c.both.result c.difference.result c.self.inside.ages c.self.invariant.filled c.self.invariant.own c.self.invariant.standing.addressed c.served_by.ensures c.both.ensures c.difference.ensures)
