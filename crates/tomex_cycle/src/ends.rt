@@ -100,15 +100,14 @@ fn target_at(station: Option<Station>) -> u32
 }
 
 /// Where the next instruction comes from, once the branch that it waits for is done.
-pub fn follow(fetch: Fetch, pools: &Pools, due: u128, next: u64) -> Fetch
+#[inline(always)]
+pub fn follow(fetch: &mut Fetch, pools: &Pools, due: u128, next: u64)
     requires { AreDone pools.now.slots next due }
-    ensures { Follows next pools.now.slots fetch result }
+    ensures { Follows next pools.now.slots fetch.old fetch.new }
 {
-    match fetch {
-        Fetch::Waits => match resolved(pools, due, next) {
-            Some(place) => Fetch::At(target_at(pools.at(place))),
-            None => fetch,
-        },
-        _ => fetch,
+    if let Fetch::Waits = *fetch {
+        if let Some(place) = resolved(pools, due, next) {
+            *fetch = Fetch::At(target_at(pools.at(place)));
+        }
     }
 }

@@ -102,7 +102,7 @@ pub fn end(
     ensures quiet { result ≡ false → finishes.new.ready ≡ 0 }
 {
     let over = ends::settle(pools, finishes, row.buses(), next);
-    *fetch = ends::follow(*fetch, pools, over.due, next);
+    ends::follow(fetch, pools, over.due, next);
     if over.ending == 0 {
         return over.due != 0;
     }

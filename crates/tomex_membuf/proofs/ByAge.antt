@@ -8,7 +8,9 @@ use Rattle.tomex_timing.specs.Recurrence.{shares_byte}
 use Rattle.tomex_bus.specs.Sets.{has, is_in, IsWithout}
 use Rattle.tomex_bus.specs.Picks.{IsByAge, Rises}
 use Rattle.tomex_tags.specs.declared.station.Station.{Station}
-use Rattle.tomex_tags.specs.Contents.{bytes_from, bytes_in, lacks_address, step_in}
+use Rattle.tomex_rvexec.specs.Steps.{bytes_of}
+use Rattle.tomex_rvexec.proofs.FlowFields.{bytes_of_memory}
+use Rattle.tomex_tags.specs.Contents.{bytes_from, bytes_in, is_memory_op, lacks_address, step_in}
 use Rattle.tomex_tags.specs.Standing.{IsSetOf, has_address}
 use Rattle.tomex_membuf.specs.Addresses.{first_waiting, next_address, where_base_is_there, has_base}
 use Rattle.tomex_membuf.specs.Order.{is_clear, lets}
@@ -167,16 +169,19 @@ pub none_by : {A : Type 0} (o : Option A) (b : Bool) → is_some o ≡ not b →
 none_by None b e f = refl
 none_by (Some x) b e f = let z : true ≡ not true = rw f at e in absurd (cc)
 
+no_option : {A : Type 0} (o : Option A) → is_some o ≡ false → o ≡ None
+no_option None e = refl
+no_option (Some a) e = let z : true ≡ false = e in absurd (cc)
+
 -- nothing waits for a station without an address
 lets_no_address : (o : Option Station) (s : Station) (next : ℕ) → has_address o ≡ false → lets o s next ≡ true
 lets_no_address None s next e = refl
-lets_no_address (Some other) s next e =
-    let none : bytes_in other ≡ None = ap (λ a. bytes_from a (step_in other)) (no_option other.address e) in
-    rw none refl
+lets_no_address (Some other) s next e = rw (no_bytes (is_memory_op other.instr.op) other.address refl e) refl
   where
-    no_option : (o : Option ℕ) → is_some o ≡ false → o ≡ None
-    no_option None e = refl
-    no_option (Some a) e = absurd (cc)
+    no_bytes : (memory : Bool) (a : Option ℕ) → is_memory_op other.instr.op ≡ memory → (memory && is_some a) ≡ false → bytes_from a (step_in other) ≡ None
+    no_bytes memory None m f = refl
+    no_bytes true (Some a) m f = absurd (cc)
+    no_bytes false (Some a) m f = no_option (bytes_of (step_in other)) (bytes_of_memory (step_in other) ∙ m)
 
 pub looked_first : (slots : List (Option Station)) (busy addressed : ℕ) (ages : List ℕ) (age : ℕ) (s : Station) (next : ℕ) → IsSetOf has_address slots addressed
     → (x : ℕ) → x < 128 → has busy x ≡ true → slice_index ages x < age → (has addressed x ≡ true) ⊎ (lets (slice_index_or slots x None) s next ≡ true)

@@ -11,7 +11,7 @@ use Rattle.tomex_timing.specs.declared.tables.Field.{Field}
 use Rattle.tomex_timing.specs.declared.tables.Field.TheVariants.{Value, Waits, Unread}
 use Rattle.tomex_tags.specs.Contents.{hears, is_waiting, lacks_address, started, with_address}
 use Rattle.tomex_tags.specs.Pools.{AreBusy}
-use Rattle.tomex_tags.specs.Standing.{AreStanding, HasFiled, IsFiled, IsKept, IsSetOf, has_address, waits, writes}
+use Rattle.tomex_tags.specs.Standing.{AreStanding, HasFiled, IsFiled, IsKept, IsSetOf, waits, writes}
 
 pub filed_with : (set new x : ℕ) (member : Bool) → member ≡ true → IsWith set x new → IsFiled x member set new
 filed_with set new x member is with y l = elim (cases_Bool (x == y)) [
@@ -34,7 +34,6 @@ set_filed test slots old new x v l of filed y m = filed y m ∙ elim (cases_Bool
 pub all_filed : (slots : List (Option Station)) (x : ℕ) (v : Option Station) (old new : Standing) → x < length slots → AreStanding slots old → HasFiled x v old new → AreStanding (slice_set slots x v) new
 all_filed slots x v old new l standing filed = record {
   lacking = set_filed lacks_address slots old.lacking new.lacking x v l standing.lacking filed.lacking;
-  addressed = set_filed has_address slots old.addressed new.addressed x v l standing.addressed filed.addressed;
   waiting = set_filed waits slots old.waiting new.waiting x v l standing.waiting filed.waiting;
   writing = set_filed writes slots old.writing new.writing x v l standing.writing filed.writing;
 }
@@ -49,7 +48,6 @@ kept test slots old new x v w l of at same e y m = elim (cases_Bool (x == y)) [
 pub start_filed : (slots : List (Option Station)) (x finish value : ℕ) (s : Station) (old new : Standing) → x < 128 → AreStanding slots old → slice_index_or slots x None ≡ Some s → IsFiled x false old.waiting new.waiting → IsKept old new → HasFiled x (Some (started finish value s)) old new
 start_filed slots x finish value s old new l standing at filed same = record {
   lacking = kept lacks_address slots old.lacking new.lacking x (Some (started finish value s)) (Some s) l standing.lacking at refl same.lacking;
-  addressed = kept has_address slots old.addressed new.addressed x (Some (started finish value s)) (Some s) l standing.addressed at refl same.addressed;
   waiting = filed;
   writing = kept writes slots old.writing new.writing x (Some (started finish value s)) (Some s) l standing.writing at refl same.writing;
 }
@@ -62,10 +60,9 @@ address_writes s = of_field s.j refl
     of_field (Waits tag) e = rw e refl
     of_field Unread e = rw e refl
 
-pub address_filed : (slots : List (Option Station)) (x : ℕ) (s h : Station) (old new : Standing) → x < 128 → AreStanding slots old → slice_index_or slots x None ≡ Some s → h ≡ with_address s → IsFiled x (lacks_address (Some h)) old.lacking new.lacking → IsFiled x (has_address (Some h)) old.addressed new.addressed → IsFiled x (waits (Some h)) old.waiting new.waiting → new.writing ≡ old.writing → HasFiled x (Some h) old new
-address_filed slots x s h old new l standing at made lacks filed waited same = record {
+pub address_filed : (slots : List (Option Station)) (x : ℕ) (s h : Station) (old new : Standing) → x < 128 → AreStanding slots old → slice_index_or slots x None ≡ Some s → h ≡ with_address s → IsFiled x (lacks_address (Some h)) old.lacking new.lacking → IsFiled x (waits (Some h)) old.waiting new.waiting → new.writing ≡ old.writing → HasFiled x (Some h) old new
+address_filed slots x s h old new l standing at made lacks waited same = record {
   lacking = lacks;
-  addressed = filed;
   waiting = waited;
   writing = kept writes slots old.writing new.writing x (Some h) (Some s) l standing.writing at (rw made (address_writes s)) same;
 }
@@ -73,16 +70,14 @@ address_filed slots x s h old new l standing at made lacks filed waited same = r
 pub hear_filed : (slots : List (Option Station)) (x : ℕ) (sent : ℕ → Option ℕ) (s h : Station) (w : Bool) (old new : Standing) → x < 128 → AreStanding slots old → slice_index_or slots x None ≡ Some s → h ≡ hears sent s → w ≡ is_waiting h → IsFiled x w old.waiting new.waiting → IsKept old new → HasFiled x (Some h) old new
 hear_filed slots x sent s h w old new l standing at heard is filed same = rw heard (record {
   lacking = kept lacks_address slots old.lacking new.lacking x (Some (hears sent s)) (Some s) l standing.lacking at refl same.lacking;
-  addressed = kept has_address slots old.addressed new.addressed x (Some (hears sent s)) (Some s) l standing.addressed at refl same.addressed;
   waiting = subst (λ (z : Bool). IsFiled x z old.waiting new.waiting) (is ∙ ap is_waiting heard) filed;
   writing = kept writes slots old.writing new.writing x (Some (hears sent s)) (Some s) l standing.writing at refl same.writing;
 })
 
 -- no station is in a set
-pub none_stand : (slots : List (Option Station)) → ((x : ℕ) → x < 128 → slice_index_or slots x None ≡ None) → AreStanding slots (record { lacking = 0; addressed = 0; waiting = 0; writing = 0 })
+pub none_stand : (slots : List (Option Station)) → ((x : ℕ) → x < 128 → slice_index_or slots x None ≡ None) → AreStanding slots (record { lacking = 0; waiting = 0; writing = 0 })
 none_stand slots none = record {
   lacking = λ x l. none_in x ∙ sym (ap lacks_address (none x l));
-  addressed = λ x l. none_in x ∙ sym (ap has_address (none x l));
   waiting = λ x l. none_in x ∙ sym (ap waits (none x l));
   writing = λ x l. none_in x ∙ sym (ap writes (none x l));
 }

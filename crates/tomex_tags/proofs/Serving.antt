@@ -1,20 +1,24 @@
 -- Which kind of unit runs the operations of a place, and which numbers of a pool are open.
 use Rattle.std.proofs.Common.{ℕ, ◌+◌, ◌*◌, ◌/◌, ◌^◌, ◌<◌, ◌≤◌, ◌≡◌, ◌∙◌, Bool, true, false, arith, refl, sym, inl, inr, List, Option, Some, None, slice_index_or}
-use Rattle.std.specs.Prelude.{◌&&◌, not, nat_lt, is_none, is_some}
+use Rattle.std.specs.Prelude.{◌&&◌, ◌||◌, not, nat_lt, is_none, is_some}
 use Rattle.std.proofs.lemmas.Bool.{and_parts, cases_Bool, lt-ltb, ltb-true, ltb-false}
 use Rattle.std.proofs.lemmas.List.{get_or_past}
-use Rattle.tomex_rvdec.specs.Operands.{unit_of_pool}
+use Rattle.tomex_rvdec.specs.Operands.{pool_of, unit_of_pool}
 use Rattle.tomex_rvdec.specs.Parts.{place_of_pool}
 use Rattle.tomex_rvdec.specs.declared.pool.PoolId.{PoolId}
 use Rattle.tomex_rvdec.specs.declared.pool.PoolId.TheVariants as pools
 use Rattle.tomex_rvdec.specs.declared.pool.UnitId.{UnitId}
+use Rattle.tomex_rvdec.specs.declared.op.Op.{Op}
+use Rattle.tomex_rvdec.specs.declared.pool.UnitId.TheVariants as units
+use Rattle.tomex_rvexec.specs.Steps.{is_in}
 use Rattle.tomex_timing.specs.History.{is_of}
 use Rattle.tomex_timing.specs.Recurrence.{IsLeast}
 use Rattle.tomex_bus.specs.Sets.{has}
 use Rattle.tomex_bus.proofs.Bits.{agree, agreed, none_in, shifted}
+use Rattle.tomex_tags.specs.Contents.{is_memory_op, lacks_address}
 use Rattle.tomex_tags.specs.Places.{is_served, is_store_place, pool_at}
 use Rattle.tomex_tags.specs.Pools.{AreBusy, AreOwn, IsOwn, is_open}
-use Rattle.tomex_tags.specs.Standing.{IsSetOf, holds_store, waits, waits_for}
+use Rattle.tomex_tags.specs.Standing.{IsSetOf, has_address, holds_store, waits, waits_for}
 use Rattle.tomex_tags.specs.declared.station.Station.{Station}
 
 pub are_served : (set : ℕ) (unit : UnitId) → agree (has set) (is_served unit) 128 ≡ true → (x : ℕ) → x < 128 → has set x ≡ is_served unit x
@@ -31,6 +35,17 @@ pool_place pools.Bru = refl
 
 served_from : (b : Bool) (x : ℕ) (unit : UnitId) → x < 96 → (nat_lt x 96 && b) ≡ b
 served_from b x unit l = rw (lt-ltb x 96 l) refl
+
+is_memory_pool : (pool : PoolId) → (is_in pools.Load (Some pool) || is_in pools.Store (Some pool)) ≡ is_of units.Mem (Some (unit_of_pool pool))
+is_memory_pool pools.Alu = refl
+is_memory_pool pools.Mul = refl
+is_memory_pool pools.Div = refl
+is_memory_pool pools.Load = refl
+is_memory_pool pools.Store = refl
+is_memory_pool pools.Bru = refl
+
+memory_at : (x : ℕ) (op : Op) (pool : PoolId) → pool_of op ≡ Some pool → is_memory_op op ≡ is_of units.Mem (Some (unit_of_pool pool))
+memory_at x op pool e = rw e (is_memory_pool pool)
 
 are_store_places : (set : ℕ) → agree (has set) is_store_place 128 ≡ true → (x : ℕ) → x < 128 → has set x ≡ is_store_place x
 are_store_places set e x l = agreed (has set) is_store_place 128 e x l
@@ -50,6 +65,24 @@ pub are_stores : (slots : List (Option Station)) (busy places stores : ℕ) (age
 are_stores slots busy places stores ages filled own are both x l =
     both x ∙ rw (filled.each x l, are x l) (elim (cases_Bool (nat_lt x 96)) [
       | inl e ↦ let low : x < 96 = ltb-true x 96 e in stores_by x (slice_index_or slots x None) low (own x low)
+      | inr e ↦ rw (none_past slots busy ages x filled l (ltb-false x 96 e)) refl
+    ])
+
+-- a load or store is one in a place of theirs; it has its address where it isn't among those that lack it
+addressed_by : (x : ℕ) (o : Option Station) → x < 96 → IsOwn x o → ((is_some o && is_served units.Mem x) && not (lacks_address o)) ≡ has_address o
+addressed_by x None l own = refl
+addressed_by x (Some s) l own = rw (served_from (is_of units.Mem (Some (unit_of_pool (pool_at (x / 16))))) x units.Mem l, ← memory_at x s.instr.op (pool_at (x / 16)) own) (turned (is_memory_op s.instr.op) (is_some s.address))
+  where
+    turned : (m a : Bool) → (m && not (m && not a)) ≡ (m && a)
+    turned false a = refl
+    turned true true = refl
+    turned true false = refl
+
+pub are_addressed : (slots : List (Option Station)) (busy served lacking memory found : ℕ) (ages : List ℕ) → AreBusy slots busy ages → AreOwn slots → IsSetOf lacks_address slots lacking → ((x : ℕ) → x < 128 → has served x ≡ is_served units.Mem x)
+    → ((x : ℕ) → has memory x ≡ (has busy x && has served x)) → ((x : ℕ) → x < 128 → has found x ≡ (has memory x && not (has lacking x))) → IsSetOf has_address slots found
+are_addressed slots busy served lacking memory found ages filled own without serves both but x l =
+    but x l ∙ rw (both x, filled.each x l, serves x l, without x l) (elim (cases_Bool (nat_lt x 96)) [
+      | inl e ↦ let low : x < 96 = ltb-true x 96 e in addressed_by x (slice_index_or slots x None) low (own x low)
       | inr e ↦ rw (none_past slots busy ages x filled l (ltb-false x 96 e)) refl
     ])
 

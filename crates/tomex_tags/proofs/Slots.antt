@@ -123,7 +123,7 @@ no_station x l = elim (cases_order x 96) [
   | inr (inr more) ↦ get_or_past (slots_of idle_pools) x None (omega arith)
 ]
 
-pub idle_filled : (a b c d e f : Pool) (ages listeners : List ℕ) → a ≡ replicate 16 None → b ≡ replicate 16 None → c ≡ replicate 16 None → d ≡ replicate 16 None → e ≡ replicate 16 None → f ≡ replicate 16 None → length ages ≡ 128 → listeners ≡ replicate 96 0 → AreFilled (a ∷ b ∷ c ∷ d ∷ e ∷ f ∷ []) 0 ages (record { lacking = 0; addressed = 0; waiting = 0; writing = 0 }) listeners
+pub idle_filled : (a b c d e f : Pool) (ages listeners : List ℕ) → a ≡ replicate 16 None → b ≡ replicate 16 None → c ≡ replicate 16 None → d ≡ replicate 16 None → e ≡ replicate 16 None → f ≡ replicate 16 None → length ages ≡ 128 → listeners ≡ replicate 96 0 → AreFilled (a ∷ b ∷ c ∷ d ∷ e ∷ f ∷ []) 0 ages (record { lacking = 0; waiting = 0; writing = 0 }) listeners
 idle_filled a b c d e f ages listeners ea eb ec ed ee ef count none = rw (ea, eb, ec, ed, ee, ef, none) (record {
   six = record { count = refl; sizes = (refl, (refl, (refl, (refl, (refl, (refl, tt)))))) };
   own = λ x l. rw (no_station x (omega arith)) tt;

@@ -8,12 +8,12 @@ use Rattle.tomex_rvdec.specs.declared.pool.UnitId.{UnitId}
 use Rattle.tomex_timing.specs.History.{is_of}
 use Rattle.tomex_tags.specs.declared.standing.Standing.{Standing}
 use Rattle.tomex_tags.specs.declared.station.Station.{Station}
-use Rattle.tomex_tags.specs.Contents.{is_waiting, lacks_address}
+use Rattle.tomex_tags.specs.Contents.{is_memory_op, is_waiting, lacks_address}
 
 -- a load or store whose address is computed
 abbrev pub has_address : Option Station → Bool
 has_address None = false
-has_address (Some s) = is_some s.address
+has_address (Some s) = is_memory_op s.instr.op && is_some s.address
 
 -- a store
 abbrev pub holds_store : Option Station → Bool
@@ -42,7 +42,6 @@ IsSetOf test slots set = (x : ℕ) → x < 128 → has set x ≡ test (slice_ind
 -- the sets are of what stands in the places
 pub record AreStanding (slots : List (Option Station)) (sets : Standing) : Type 0 where
   pub lacking : IsSetOf lacks_address slots sets.lacking
-  pub addressed : IsSetOf has_address slots sets.addressed
   pub waiting : IsSetOf waits slots sets.waiting
   pub writing : IsSetOf writes slots sets.writing
 
@@ -53,19 +52,16 @@ IsFiled x member old new = (y : ℕ) → y < 128 → has new y ≡ (if x == y th
 -- the sets once this stands in a place
 pub record HasFiled (x : ℕ) (station : Option Station) (old new : Standing) : Type 0 where
   pub lacking : IsFiled x (lacks_address station) old.lacking new.lacking
-  pub addressed : IsFiled x (has_address station) old.addressed new.addressed
   pub waiting : IsFiled x (waits station) old.waiting new.waiting
   pub writing : IsFiled x (writes station) old.writing new.writing
 
 -- a place is in none of the sets
 pub record IsOut (x : ℕ) (sets : Standing) : Type 0 where
   pub lacking : has sets.lacking x ≡ false
-  pub addressed : has sets.addressed x ≡ false
   pub waiting : has sets.waiting x ≡ false
   pub writing : has sets.writing x ≡ false
 
 -- all but the set of those that wait is as before
 pub record IsKept (old new : Standing) : Type 0 where
   pub lacking : new.lacking ≡ old.lacking
-  pub addressed : new.addressed ≡ old.addressed
   pub writing : new.writing ≡ old.writing

@@ -63,7 +63,6 @@ impl Pools {
             ages: [0; 128],
             standing: Standing {
                 lacking: 0,
-                addressed: 0,
                 waiting: 0,
                 writing: 0,
             },
@@ -110,7 +109,10 @@ impl Pools {
         ensures set { IsSetOf has_address self.now.slots result }
         ensures busy { AreBusy self.now.slots self.now.busy self.now.ages }
     {
-        self.standing.addressed
+        difference(
+            both(self.busy, served_by(UnitId::Mem)),
+            self.standing.lacking,
+        )
     }
 
     /// The places of the stores.

@@ -3,7 +3,7 @@
 ghost use Rattle.std.specs.Prelude.{◌≡◌, ◌<◌, None, Some, false};
 ghost use Rattle.tomex_bus.specs.Sets.{has};
 ghost use Rattle.tomex_tags.specs.Contents.{lacks_address};
-ghost use Rattle.tomex_tags.specs.Standing.{HasFiled, IsFiled, IsKept, IsOut, has_address, waits};
+ghost use Rattle.tomex_tags.specs.Standing.{HasFiled, IsFiled, IsKept, IsOut, waits};
 
 use crate::station::Station;
 use tomex_bus::sets::{with, without};
@@ -15,8 +15,6 @@ use tomex_bus::sets::{with, without};
 pub struct Standing {
     /// Loads and stores whose address isn't computed yet.
     pub lacking: u128,
-    /// Loads and stores whose address is computed.
-    pub addressed: u128,
     /// Stations whose operations wait for nothing but a unit and older accesses.
     pub waiting: u128,
     /// Stations whose instruction writes a register.
@@ -56,7 +54,6 @@ impl Standing {
     {
         *self = Standing {
             lacking: joined(self.lacking, place, station.lacks_address()),
-            addressed: joined(self.addressed, place, station.address.is_some()),
             waiting: joined(self.waiting, place, station.is_waiting()),
             writing: joined(self.writing, place, station.instr.dest().is_some()),
         };
@@ -67,12 +64,10 @@ impl Standing {
     pub fn address(&mut self, place: usize, station: &Station)
         requires { place < 128 }
         ensures lacking { IsFiled place (lacks_address (Some station.now)) self.old.lacking self.new.lacking }
-        ensures addressed { IsFiled place (has_address (Some station.now)) self.old.addressed self.new.addressed }
         ensures waiting { IsFiled place (waits (Some station.now)) self.old.waiting self.new.waiting }
         ensures others { self.new.writing ≡ self.old.writing }
     {
         self.lacking = filed(self.lacking, place, station.lacks_address());
-        self.addressed = filed(self.addressed, place, station.address.is_some());
         self.waiting = filed(self.waiting, place, station.is_waiting());
     }
 
@@ -104,7 +99,6 @@ impl Standing {
     {
         *self = Standing {
             lacking: without(self.lacking, place),
-            addressed: without(self.addressed, place),
             waiting: without(self.waiting, place),
             writing: without(self.writing, place),
         };

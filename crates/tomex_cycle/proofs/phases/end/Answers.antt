@@ -7,7 +7,7 @@ use Rattle.tomex_cycle.proofs.phases.end.Goals as goal
 
 pub returns-then-over-eq0-clause-ends : goal.returns-then-over-eq0-clause-ends
 returns-then-over-eq0-clause-ends c =
-    ends_none c.args.row.now c.args.next c.settle-over.result.ending c.args.pools.now c.args.registers.now c.args.fetch.now c.follow.result
+    ends_none c.args.row.now c.args.next c.settle-over.result.ending c.args.pools.now c.args.registers.now c.args.fetch.now c.follow.new.fetch
     (rw c.buses.ensures.count at c.settle-over.ensures.ending) c.settle-over.ensures.busy c.follow.ensures c.if-over-eq0.true
 
 pub returns-then-over-eq0-clause-any : goal.returns-then-over-eq0-clause-any
@@ -18,7 +18,7 @@ returns-then-over-eq0-clause-known c = none_over c.args.pools.now.slots c.args.n
 
 pub returns-clause-ends : goal.returns-clause-ends
 returns-clause-ends c =
-    made_ends c.args.row.now c.args.next c.args.pools.now c.apply.new.pools c.args.registers.now c.apply.new.registers c.args.fetch.now c.follow.result c.settle-over.result.ending
+    made_ends c.args.row.now c.args.next c.args.pools.now c.apply.new.pools c.args.registers.now c.apply.new.registers c.args.fetch.now c.follow.new.fetch c.settle-over.result.ending
     (rw c.buses.ensures.count at c.settle-over.ensures.ending) c.settle-over.ensures.busy c.follow.ensures c.apply.ensures.stations c.apply.ensures.registers
 
 pub returns-clause-any : goal.returns-clause-any
