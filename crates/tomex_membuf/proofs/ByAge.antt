@@ -1,6 +1,6 @@
 -- A search by age finds what a pass over the stations, the oldest first, finds.
 use Rattle.std.proofs.Common.{ℕ, ◌<◌, ◌≤◌, ◌≡◌, ◌∙◌, Bool, true, false, arith, refl, ap, sym, inl, inr, ◌⊎◌, List, [], ◌∷◌, ◌++◌, Option, Some, None, slice_index, slice_index_or}
-use Rattle.std.specs.Prelude.{◌==◌, ◌&&◌, not, nat_lt, is_some, if◌then◌else◌}
+use Rattle.std.specs.Prelude.{◌==◌, ◌&&◌, ◌||◌, not, nat_lt, is_some, if◌then◌else◌}
 use Rattle.std.proofs.lemmas.Bool.{cases_Bool, both_ways, ltb-true, eq-eqb, eqb-true, eqb-false, lt-ltb, and_parts, or_right}
 use Rattle.tomex_bus.proofs.Members.{none_rest}
 use Rattle.tomex_rvexec.specs.declared.step.ByteRange.{ByteRange}
@@ -8,12 +8,12 @@ use Rattle.tomex_timing.specs.Recurrence.{shares_byte}
 use Rattle.tomex_bus.specs.Sets.{has, is_in, IsWithout}
 use Rattle.tomex_bus.specs.Picks.{IsByAge, Rises}
 use Rattle.tomex_tags.specs.declared.station.Station.{Station}
-use Rattle.tomex_rvexec.specs.Steps.{bytes_of}
+use Rattle.tomex_rvexec.specs.Steps.{bytes_of, is_store}
 use Rattle.tomex_rvexec.proofs.FlowFields.{bytes_of_memory}
 use Rattle.tomex_tags.specs.Contents.{bytes_from, bytes_in, is_memory_op, lacks_address, step_in}
-use Rattle.tomex_tags.specs.Standing.{IsSetOf, has_address}
+use Rattle.tomex_tags.specs.Standing.{IsSetOf, has_address, holds_store}
 use Rattle.tomex_membuf.specs.Addresses.{first_waiting, next_address, where_base_is_there, has_base}
-use Rattle.tomex_membuf.specs.Order.{is_clear, lets}
+use Rattle.tomex_membuf.specs.Order.{is_before, is_clear, lets}
 
 -- Lists that rise.
 
@@ -183,11 +183,29 @@ lets_no_address (Some other) s next e = rw (no_bytes (is_memory_op other.instr.o
     no_bytes true (Some a) m f = absurd (cc)
     no_bytes false (Some a) m f = no_option (bytes_of (step_in other)) (bytes_of_memory (step_in other) ∙ m)
 
-pub looked_first : (slots : List (Option Station)) (busy addressed : ℕ) (ages : List ℕ) (age : ℕ) (s : Station) (next : ℕ) → IsSetOf has_address slots addressed
-    → (x : ℕ) → x < 128 → has busy x ≡ true → slice_index ages x < age → (has addressed x ≡ true) ⊎ (lets (slice_index_or slots x None) s next ≡ true)
-looked_first slots busy addressed ages age s next of x l member less = elim (cases_Bool (has addressed x)) [
+-- a load waits for no load
+lets_no_store : (o : Option Station) (s : Station) (next : ℕ) → holds_store o ≡ false → is_store (step_in s) ≡ false → lets o s next ≡ true
+lets_no_store None s next e f = refl
+lets_no_store (Some other) s next e f = rw (e, f) (let_by (shares_byte (bytes_in other) (bytes_in s)) (is_before other.finish next))
+  where
+    let_by : (shares before : Bool) → (not (shares && (false || false)) || before) ≡ true
+    let_by true before = refl
+    let_by false before = refl
+
+pub lets_unaddressed : (slots : List (Option Station)) (addressed : ℕ) (s : Station) (next x : ℕ) → IsSetOf has_address slots addressed → x < 128 → has addressed x ≡ false → lets (slice_index_or slots x None) s next ≡ true
+lets_unaddressed slots addressed s next x of l e = lets_no_address (slice_index_or slots x None) s next (sym (of x l) ∙ e)
+
+pub lets_loads : (slots : List (Option Station)) (addressed stores found : ℕ) (s : Station) (next x : ℕ) → IsSetOf has_address slots addressed → IsSetOf holds_store slots stores → ((y : ℕ) → has found y ≡ (has addressed y && has stores y)) → is_store (step_in s) ≡ false → x < 128 → has found x ≡ false → lets (slice_index_or slots x None) s next ≡ true
+lets_loads slots addressed stores found s next x of are both load l e = elim (cases_Bool (has addressed x)) [
+  | inr f ↦ lets_unaddressed slots addressed s next x of l f
+  | inl f ↦ lets_no_store (slice_index_or slots x None) s next (sym (are x l) ∙ (sym (both x ∙ rw f refl) ∙ e)) load
+]
+
+pub looked_first : (slots : List (Option Station)) (busy rivals : ℕ) (ages : List ℕ) (age : ℕ) (s : Station) (next : ℕ) → ((later x : ℕ) → x < 128 → has rivals x ≡ false → lets (slice_index_or slots x None) s later ≡ true)
+    → (x : ℕ) → x < 128 → has busy x ≡ true → slice_index ages x < age → (has rivals x ≡ true) ⊎ (lets (slice_index_or slots x None) s next ≡ true)
+looked_first slots busy rivals ages age s next others x l member less = elim (cases_Bool (has rivals x)) [
   | inl e ↦ inl e
-  | inr e ↦ inr (lets_no_address (slice_index_or slots x None) s next (sym (of x l) ∙ e))
+  | inr e ↦ inr (others next x l e)
 ]
 
 -- the answers of a search for older accesses

@@ -1,11 +1,12 @@
 //! Accesses that share a byte are made in program order.
 
-ghost use Rattle.std.specs.Prelude.{ℕ, List, None, ◌≡◌, ◌<◌, ◌++◌, ◌∷◌, ◌&&◌, not, nat_lt, slice_index, slice_index_or};
+ghost use Rattle.std.specs.Prelude.{ℕ, List, None, true, false, ◌≡◌, ◌<◌, ◌++◌, ◌∷◌, ◌&&◌, not, nat_lt, slice_index, slice_index_or};
 ghost use Rattle.tomex_bus.specs.Picks.{IsByAge};
+ghost use Rattle.tomex_bus.specs.Sets.{has};
 ghost use Rattle.tomex_timing.specs.Recurrence.{shares_byte};
 ghost use Rattle.tomex_membuf.specs.Order.{is_before, is_clear, lets};
 
-use tomex_bus::sets::{lowest, without_lowest};
+use tomex_bus::sets::{both, lowest, without_lowest};
 use tomex_rvexec::ByteRange;
 use tomex_tags::{Pools, Station};
 
@@ -53,6 +54,21 @@ fn is_blocked_by(pools: &Pools, other: usize, station: &Station, age: u32, next:
     pools.ages()[other] < age && !lets(pools.at(other), station, next)
 }
 
+/// The places of the loads and stores with an address, of which an older one can be in a station's
+/// way: for a load the stores alone.
+#[inline(always)]
+fn rivals(pools: &Pools, station: &Station) -> u128
+    ensures inside { (x : ℕ) → x < 128 → has result x ≡ true → has pools.now.busy x ≡ true }
+    ensures others { (next x : ℕ) → x < 128 → has result x ≡ false → lets (slice_index_or pools.now.slots x None) station.now next ≡ true }
+{
+    let addressed = pools.addressed();
+    if station.step().is_store() {
+        addressed
+    } else {
+        both(addressed, pools.stores())
+    }
+}
+
 /// Whether no older load or store that isn't finished before the cycle shares a byte with the one in
 /// a place, one of the two being a store. What accesses no memory waits for none.
 pub fn may_access(pools: &Pools, place: usize, station: &Station, next: u64) -> bool
@@ -63,7 +79,7 @@ pub fn may_access(pools: &Pools, place: usize, station: &Station, next: u64) -> 
         return true;
     }
     let age = pools.ages()[place];
-    let mut rest = pools.addressed();
+    let mut rest = rivals(pools, station);
     'members: while rest != 0 {
         let other = lowest(rest);
         rest = without_lowest(rest);

@@ -181,7 +181,7 @@ impl Pools {
     {
         if place < 96 {
             let addressed = station.with_address();
-            self.pools[place / 16].put(place % 16, Some(addressed));
+            self.pools[place / 16].address(place % 16);
             self.standing.address(place, &addressed);
         }
     }
@@ -210,7 +210,7 @@ impl Pools {
     {
         if place < 96 {
             let heard = station.hears(from, value);
-            self.pools[place / 16].put(place % 16, Some(heard));
+            self.pools[place / 16].hear(place % 16, from, value);
             self.standing.wait(place, heard.is_waiting());
         }
     }

@@ -49,7 +49,7 @@ fn value(field: Field) -> u32
 
 /// An operand after a place has sent a value.
 #[inline(always)]
-fn heard(field: Field, from: usize, value: u32) -> Field
+pub(crate) fn heard(field: Field, from: usize, value: u32) -> Field
     ensures { result ≡ heard (only from (Some value)) field }
 {
     match field {

@@ -1,11 +1,13 @@
 //! The reservation stations of one pool.
 
-ghost use Rattle.std.specs.Prelude.{◌≡◌, ◌<◌, None, option_map, replicate, slice_index_or, slice_set};
-ghost use Rattle.tomex_tags.specs.Contents.{started};
+ghost use Rattle.std.specs.Prelude.{◌≡◌, ◌<◌, None, Some, option_map, replicate, slice_index_or, slice_set};
+ghost use Rattle.tomex_tags.specs.Contents.{hears, started, with_address};
+ghost use Rattle.tomex_tags.specs.Operands.{only};
 
-use crate::station::Station;
+use crate::station::{Station, heard};
 use arrayvec::ArrayVec;
 use std::marker::Model;
+use tomex_timing::Field;
 
 /// The stations of one pool, at most 16, by number: contracts see a list of 16.
 #[derive(Drop)]
@@ -50,6 +52,31 @@ impl Stations {
         ensures { self.new ≡ slice_set self.old number station }
     {
         self.stations[number] = station;
+    }
+
+    /// The address of the station of a number is computed, where it is busy and its base is there.
+    #[inline(always)]
+    pub fn address(&mut self, number: usize)
+        requires { number < 16 }
+        ensures { self.new ≡ slice_set self.old number (option_map with_address (slice_index_or self.old number None)) }
+    {
+        if let Some(station) = &mut self.stations[number] {
+            if let Field::Value(base) = station.j {
+                station.address = Some(base.wrapping_add(station.instr.imm()));
+            }
+        }
+    }
+
+    /// The station of a number hears what a place sends, where it is busy.
+    #[inline(always)]
+    pub fn hear(&mut self, number: usize, from: usize, value: u32)
+        requires { number < 16 }
+        ensures { self.new ≡ slice_set self.old number (option_map (hears (only from (Some value))) (slice_index_or self.old number None)) }
+    {
+        if let Some(station) = &mut self.stations[number] {
+            station.j = heard(station.j, from, value);
+            station.k = heard(station.k, from, value);
+        }
     }
 
     /// The operation of the station of a number has started, where it is busy.

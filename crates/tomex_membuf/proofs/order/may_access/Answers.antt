@@ -1,8 +1,6 @@
 use Rattle.std.proofs.Common.{◌∙◌, ap, refl, sym}
 use Rattle.std.specs.Prelude.{slice_index}
 use Rattle.tomex_bus.proofs.Members.{inside_left}
-use Rattle.tomex_tags.proofs.Filing.{is_standing}
-use Rattle.tomex_tags.specs.Standing.{has_address}
 use Rattle.tomex_membuf.proofs.ByAge.{found_blocked, found_clear, looked_first, looked_more, no_access, none_by}
 use Rattle.tomex_membuf.proofs.order.may_access.Goals as goal
 
@@ -11,8 +9,8 @@ returns-then-is_none c older younger by = sym (no_access c.args.pools.now.slots 
 
 pub members-init : goal.members-init
 members-init c = record {
-  inside = is_standing has_address c.args.pools.now.slots c.args.pools.now.busy c.args.pools.now.ages c.addressed-rest.result refl c.addressed-rest.ensures.busy c.addressed-rest.ensures.set;
-  looked = looked_first c.args.pools.now.slots c.args.pools.now.busy c.addressed-rest.result c.args.pools.now.ages _ c.args.station.now c.args.next c.addressed-rest.ensures.set;
+  inside = c.rivals-rest.ensures.inside;
+  looked = looked_first c.args.pools.now.slots c.args.pools.now.busy c.rivals-rest.result c.args.pools.now.ages _ c.args.station.now c.args.next c.rivals-rest.ensures.others;
 }
 
 pub returns-then-is_blocked_by : goal.returns-then-is_blocked_by
