@@ -92,13 +92,13 @@ next_at w filled n ring small some none =
     ((one.0, due_at w n ((w.head + n) % 64) one.0 small refl ∙ one.1), before_next w filled n ring none)
 
 -- the next is in a place after the head
-pub next_later : (w : Ring) (filled n : ℕ) → IsRing w.sets filled w.head → filled < 2 ^ 128 → has (filled / 2 ^ w.head) n ≡ true → ((i : ℕ) → i < n → has (filled / 2 ^ w.head) i ≡ false) → IsNext w (Some n)
+pub next_later : (w : Ring) (filled n : ℕ) → IsRing w.sets filled w.head → filled < 2 ^ 64 → has (filled / 2 ^ w.head) n ≡ true → ((i : ℕ) → i < n → has (filled / 2 ^ w.head) i ≡ false) → IsNext w (Some n)
 next_later w filled n ring fits some none =
     let head : w.head < 64 = ring.inside in
     let here : has filled (w.head + n) ≡ true = sym (shifted filled w.head n) ∙ some in
-    let low : w.head + n < 64 = elim (cases_Bool (nat_lt (w.head + n) 128)) [
-      | inl e ↦ ring.low (w.head + n) (ltb-true _ _ e) here
-      | inr e ↦ absurd (both_ways (has filled (w.head + n)) (has_none filled (w.head + n) (bit_at_above filled 128 (w.head + n) fits (ltb-false _ _ e))) here)
+    let low : w.head + n < 64 = elim (cases_Bool (nat_lt (w.head + n) 64)) [
+      | inl e ↦ ltb-true _ _ e
+      | inr e ↦ absurd (both_ways (has filled (w.head + n)) (has_none filled (w.head + n) (bit_at_above filled 64 (w.head + n) fits (ltb-false _ _ e))) here)
     ] in
     let same : w.head + n ≡ (w.head + n) % 64 = omega arith in
     next_at w filled n ring (omega arith) (ap (λ (k : ℕ). has filled k) (sym same) ∙ here) (λ a less small.
@@ -106,10 +106,9 @@ next_later w filled n ring fits some none =
     ap (λ (k : ℕ). has filled k) at ∙ (sym (shifted filled w.head a) ∙ none a less))
 
 -- or before it
-pub next_round : (w : Ring) (filled n : ℕ) → IsRing w.sets filled w.head → filled / 2 ^ w.head ≡ 0 → n < 128 → has filled n ≡ true → ((i : ℕ) → i < n → has filled i ≡ false) → IsNext w (Some (64 - w.head + n))
-next_round w filled n ring none l some least =
+pub next_round : (w : Ring) (filled n : ℕ) → IsRing w.sets filled w.head → filled / 2 ^ w.head ≡ 0 → n < 64 → has filled n ≡ true → ((i : ℕ) → i < n → has filled i ≡ false) → IsNext w (Some (64 - w.head + n))
+next_round w filled n ring none low some least =
     let head : w.head < 64 = ring.inside in
-    let low : n < 64 = ring.low n l some in
     let above : (a : ℕ) → has filled (w.head + a) ≡ false = λ a. sym (shifted filled w.head a) ∙ (ap (λ (k : ℕ). has k a) none ∙ none_in a) in
     let before : n < w.head = elim (cases_Bool (nat_lt n w.head)) [
       | inl e ↦ ltb-true _ _ e
@@ -135,8 +134,8 @@ passed_on w sets filled head from cycles e ring f clear =
     let r : Ring = record { sets = sets; head = head } in
     subst (λ (v : Ring). IsClearTo v cycles → HasPassed cycles v (record { sets = sets; head = (from + cycles % 64) % 64 })) e (passed r ((from + cycles % 64) % 64) cycles ring.inside (ap (λ (k : ℕ). (k + cycles % 64) % 64) f)) clear
 
-pub later_is : (w : Ring) (sets : List ℕ) (filled head n : ℕ) → ◌≡◌ {A = Ring} (record { sets = sets; head = head }) w → IsRing sets filled head → filled < 2 ^ 128 → has (filled / 2 ^ head) n ≡ true → ((i : ℕ) → i < n → has (filled / 2 ^ head) i ≡ false) → IsNext w (Some n)
+pub later_is : (w : Ring) (sets : List ℕ) (filled head n : ℕ) → ◌≡◌ {A = Ring} (record { sets = sets; head = head }) w → IsRing sets filled head → filled < 2 ^ 64 → has (filled / 2 ^ head) n ≡ true → ((i : ℕ) → i < n → has (filled / 2 ^ head) i ≡ false) → IsNext w (Some n)
 later_is w sets filled head n e ring fits some least = subst (λ (v : Ring). IsNext v (Some n)) e (next_later (record { sets = sets; head = head }) filled n ring fits some least)
 
-pub round_is : (w : Ring) (sets : List ℕ) (filled head n : ℕ) → ◌≡◌ {A = Ring} (record { sets = sets; head = head }) w → IsRing sets filled head → filled / 2 ^ head ≡ 0 → n < 128 → has filled n ≡ true → ((i : ℕ) → i < n → has filled i ≡ false) → IsNext w (Some (64 - head + n))
-round_is w sets filled head n e ring none l some least = subst (λ (v : Ring). IsNext v (Some (64 - head + n))) e (next_round (record { sets = sets; head = head }) filled n ring none l some least)
+pub round_is : (w : Ring) (sets : List ℕ) (filled head n : ℕ) → ◌≡◌ {A = Ring} (record { sets = sets; head = head }) w → IsRing sets filled head → filled / 2 ^ head ≡ 0 → n < 64 → has filled n ≡ true → ((i : ℕ) → i < n → has filled i ≡ false) → IsNext w (Some (64 - head + n))
+round_is w sets filled head n e ring none low some least = subst (λ (v : Ring). IsNext v (Some (64 - head + n))) e (next_round (record { sets = sets; head = head }) filled n ring none low some least)

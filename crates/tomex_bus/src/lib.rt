@@ -6,6 +6,7 @@
 #![tactic(auto)]
 
 mod arbiter;
+mod places;
 pub mod sets;
 mod wheel;
 

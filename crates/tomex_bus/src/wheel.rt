@@ -3,7 +3,8 @@
 ghost use Rattle.std.specs.Prelude.{◌<◌, ◌≤◌};
 ghost use Rattle.tomex_bus.specs.Wheel.{AreDue, HasGiven, HasPassed, HasPut, IsClearTo, IsEmpty, IsNext, Lacks};
 
-use crate::sets::{lowest, with, without};
+use crate::places::{lowest, with_place, without_place};
+use crate::sets::with;
 use std::marker::Model;
 
 /// Numbers that fall due in one of the 64 cycles ahead, the first of which is 0 ahead.
@@ -13,8 +14,8 @@ use std::marker::Model;
 pub struct Wheel {
     /// The numbers that are due in each cycle.
     sets: [u128; 64],
-    /// The places of the sets that have members.
-    filled: u128,
+    /// The places of the sets that have members, a bit each.
+    filled: u64,
     /// The place of the cycle that is 0 ahead.
     head: u32,
 }
@@ -51,7 +52,7 @@ impl Wheel {
     {
         let place = ((self.head + ahead) % 64) as usize;
         self.sets[place] = with(self.sets[place], number);
-        self.filled = with(self.filled, place);
+        self.filled = with_place(self.filled, place);
     }
 
     /// How far ahead the next cycle is in which anything is due.
@@ -88,7 +89,7 @@ impl Wheel {
         let due = self.sets[place];
         if due != 0 {
             self.sets[place] = 0;
-            self.filled = without(self.filled, place);
+            self.filled = without_place(self.filled, place);
         }
         due
     }

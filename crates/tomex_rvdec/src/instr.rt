@@ -92,16 +92,17 @@ impl Instr {
     pub fn pool(&self) -> Option<PoolId>
         ensures { result ≡ pool_of self.now.op }
     {
+        let pool = match self.op {
+            Op::Mul | Op::Mulh | Op::Mulhsu | Op::Mulhu => PoolId::Mul,
+            Op::Div | Op::Divu | Op::Rem | Op::Remu => PoolId::Div,
+            Op::Lb | Op::Lh | Op::Lw | Op::Lbu | Op::Lhu => PoolId::Load,
+            Op::Sb | Op::Sh | Op::Sw => PoolId::Store,
+            Op::Beq | Op::Bne | Op::Blt | Op::Bge | Op::Bltu | Op::Bgeu | Op::Jalr => PoolId::Bru,
+            _ => PoolId::Alu,
+        };
         match self.op {
-            Op::Mul | Op::Mulh | Op::Mulhsu | Op::Mulhu => Some(PoolId::Mul),
-            Op::Div | Op::Divu | Op::Rem | Op::Remu => Some(PoolId::Div),
-            Op::Lb | Op::Lh | Op::Lw | Op::Lbu | Op::Lhu => Some(PoolId::Load),
-            Op::Sb | Op::Sh | Op::Sw => Some(PoolId::Store),
-            Op::Beq | Op::Bne | Op::Blt | Op::Bge | Op::Bltu | Op::Bgeu | Op::Jalr => Some(
-                PoolId::Bru,
-            ),
             Op::Fence | Op::Ecall | Op::Ebreak => None,
-            _ => Some(PoolId::Alu),
+            _ => Some(pool),
         }
     }
 

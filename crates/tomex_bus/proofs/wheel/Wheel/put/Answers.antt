@@ -3,4 +3,4 @@ use Rattle.tomex_bus.proofs.Turning.{put_ring}
 use Rattle.tomex_bus.proofs.wheel.Wheel.put.Goals as goal
 
 pub invariant_of-self : goal.invariant_of-self
-invariant_of-self c = put_ring c.self.inside.sets c.self.inside.filled c.self.inside.head _ c.with.result c.with-self-inside.result c.args.number c.self.invariant (omega arith) c.with.ensures c.with-self-inside.ensures
+invariant_of-self c = put_ring c.self.inside.sets c.self.inside.filled c.self.inside.head _ c.with.result c.with_place-self-inside.result c.args.number c.self.invariant (omega arith) c.with.ensures c.with_place-self-inside.ensures
