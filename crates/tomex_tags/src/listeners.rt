@@ -37,13 +37,4 @@ impl Listeners {
             }
         }
     }
-
-    /// Nothing is to come from a place any more.
-    #[inline(always)]
-    pub fn clear(&mut self, from: usize)
-        requires { from < 96 }
-        ensures { self.new.sets ≡ slice_set self.old.sets from 0 }
-    {
-        self.sets[from] = 0;
-    }
 }

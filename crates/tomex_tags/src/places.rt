@@ -3,7 +3,7 @@
 ghost use Rattle.std.specs.Prelude.{ℕ, ◌≡◌, ◌<◌, ◌/◌};
 ghost use Rattle.tomex_rvdec.specs.Operands.{unit_of_pool};
 ghost use Rattle.tomex_bus.specs.Sets.{has};
-ghost use Rattle.tomex_tags.specs.Places.{is_served, is_store_place, place_of_tag, pool_at, tag_at_place};
+ghost use Rattle.tomex_tags.specs.Places.{is_served, place_of_tag, pool_at, tag_at_place};
 
 use tomex_rvdec::{PoolId, UnitId};
 use tomex_timing::Tag;
@@ -50,12 +50,7 @@ pub fn unit(place: usize) -> UnitId
 }
 
 /// The places of the store buffers.
-#[inline(always)]
-pub fn store_places() -> u128
-    ensures { (x : ℕ) → x < 128 → has result x ≡ is_store_place x }
-{
-    0xffff_0000_0000_0000_0000
-}
+pub const STORES: u128 = 0xffff_0000_0000_0000_0000;
 
 /// The places of the stations whose operations a kind of unit runs.
 #[inline(always)]

@@ -12,7 +12,7 @@ ghost use Rattle.tomex_tags.specs.Pools.{AreBusy, AreOwn, HaveHeard, is_open};
 ghost use Rattle.tomex_tags.specs.Standing.{IsSetOf, has_address, holds_store, waits, waits_for, writes};
 
 use crate::listeners::Listeners;
-use crate::places::{served_by, store_places, tag};
+use crate::places::{STORES, served_by, tag};
 use crate::standing::Standing;
 use crate::station::Station;
 use crate::stations::Stations;
@@ -121,7 +121,7 @@ impl Pools {
         ensures set { IsSetOf holds_store self.now.slots result }
         ensures busy { AreBusy self.now.slots self.now.busy self.now.ages }
     {
-        both(self.busy, store_places())
+        both(self.busy, STORES)
     }
 
     /// The places whose stations have a result to send: their instructions write a register.
@@ -168,21 +168,8 @@ impl Pools {
         ensures ages { self.new.ages ≡ self.old.ages }
     {
         if let Some(station) = self.at(place) {
-            self.address_at(place, station);
-        }
-    }
-
-    #[inline(always)]
-    fn address_at(&mut self, place: usize, station: Station)
-        requires { slice_index_or self.old.slots place None ≡ Some station }
-        ensures slots { self.new.slots ≡ slice_set self.old.slots place (Some (with_address station)) }
-        ensures busy { self.new.busy ≡ self.old.busy }
-        ensures ages { self.new.ages ≡ self.old.ages }
-    {
-        if place < 96 {
-            let addressed = station.with_address();
             self.pools[place / 16].address(place % 16);
-            self.standing.address(place, &addressed);
+            self.standing.address(place, &station.with_address());
         }
     }
 
@@ -196,7 +183,7 @@ impl Pools {
     {
         if place < 96 {
             self.pools[place / 16].start(place % 16, finish, value);
-            self.standing.start(place);
+            self.standing.wait(place, false);
         }
     }
 
@@ -320,7 +307,7 @@ impl Pools {
         ensures { self.new ≡ self.old }
     {
         if from < 96 {
-            self.listeners.clear(from);
+            self.listeners.sets[from] = 0;
         }
     }
 }

@@ -71,16 +71,6 @@ impl Standing {
         self.waiting = filed(self.waiting, place, station.is_waiting());
     }
 
-    /// The operation of the station in a place has started; all else of it is as before.
-    #[inline(always)]
-    pub fn start(&mut self, place: usize)
-        requires { place < 128 }
-        ensures waiting { IsFiled place false self.old.waiting self.new.waiting }
-        ensures others { IsKept self.old self.new }
-    {
-        self.waiting = without(self.waiting, place);
-    }
-
     /// Whether the station in a place waits for no more; all else of it is as before.
     #[inline(always)]
     pub fn wait(&mut self, place: usize, waits: bool)

@@ -5,7 +5,7 @@ pub invariant_of-self : goal.invariant_of-self
 invariant_of-self c = record {
   six = c.self.invariant.six;
   own = c.self.invariant.own;
-  listening = rw c.clear.ensures (forgotten _ c.self.inside.listeners.sets c.args.from c.self.invariant.listening c.if-from-lt96.true (rw (← c.self.view_is) at c.requires));
+  listening = forgotten _ c.self.inside.listeners.sets c.args.from c.self.invariant.listening c.if-from-lt96.true (rw (← c.self.view_is) at c.requires);
   standing = c.self.invariant.standing;
   filled = c.self.invariant.filled;
 }
