@@ -1,4 +1,4 @@
-use Rattle.std.proofs.Common.{◌∙◌, ap, refl, sym}
+use Rattle.std.proofs.Common.{◌∙◌, ap, sym}
 use Rattle.std.specs.Prelude.{slice_index}
 use Rattle.tomex_bus.proofs.Members.{inside_left}
 use Rattle.tomex_membuf.proofs.ByAge.{found_blocked, found_clear, looked_first, looked_more, no_access, none_by}

@@ -1,0 +1,8 @@
+use Rattle.std.proofs.Common.{rules}
+use Rattle.tomex_tags.proofs.issuing.issue.Goals as goal
+
+pub returns-clause-slots : goal.returns-clause-slots
+returns-clause-slots c = search rules fits 100
+
+pub returns-clause-status : goal.returns-clause-status
+returns-clause-status c = search rules fits 100
