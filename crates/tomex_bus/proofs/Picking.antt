@@ -119,6 +119,17 @@ all_taken ready ages turn n rest picked made none l xs by x small =
     let before : IsByAge 0 ages (drop turn xs) = rw none at (made.left xs by) in
     made.taken xs by x small ∙ ap (λ ys. is_in ys x) (sym (take_whole xs turn n (none_left (drop turn xs) ages before) l))
 
+none_taken : (n : ℕ) → take {A = ℕ} n [] ≡ []
+none_taken zero = refl
+none_taken (suc n) = refl
+
+-- of none there are none
+pub none_picked : (n : ℕ) (ages : List ℕ) → IsPicked 0 ages n 0
+none_picked n ages = record {
+  inside = λ x l e. e;
+  oldest = λ xs by x l. none_in x ∙ sym (ap (λ (ys : List ℕ). is_in (take n ys) x) (none_left xs ages by) ∙ ap (λ (ys : List ℕ). is_in ys x) (none_taken n));
+}
+
 -- of one member the oldest is that one
 pub single_picked : (set n : ℕ) (ages : List ℕ) → 0 < n → ((a b : ℕ) → a < 128 → b < 128 → has set a ≡ true → has set b ≡ true → a ≡ b) → IsPicked set ages n set
 single_picked set n ages some single = record {
@@ -126,10 +137,6 @@ single_picked set n ages some single = record {
   oldest = λ xs by x l. by.members x l ∙ sym (ap (λ (ys : List ℕ). is_in ys x) (whole n xs some by));
 }
   where
-    none_taken : (n : ℕ) → take {A = ℕ} n [] ≡ []
-    none_taken zero = refl
-    none_taken (suc n) = refl
-
     whole : (n : ℕ) (xs : List ℕ) → 0 < n → IsByAge set ages xs → take n xs ≡ xs
     whole zero xs some by = absurd (omega arith)
     whole (suc n) [] some by = refl

@@ -16,7 +16,7 @@ use Rattle.tomex_rvdec.specs.declared.pool.UnitId.TheVariants as units
 use Rattle.tomex_timing.specs.History.{is_of}
 use Rattle.tomex_bus.proofs.Bits.{none_in}
 use Rattle.tomex_bus.proofs.Members.{inside_left, none_rest}
-use Rattle.tomex_bus.proofs.Picking.{single_picked}
+use Rattle.tomex_bus.proofs.Picking.{none_picked, single_picked}
 use Rattle.tomex_membuf.specs.Order.{is_clear}
 use Rattle.tomex_membuf.proofs.ByAge.{no_access}
 use Rattle.tomex_tags.proofs.Filing.{is_standing}
@@ -200,3 +200,18 @@ are_starting row st next ra rb rc rd re a b c d e all is_alu is_mul is_div is_me
     each units.Div = div
     each units.Mem = mem
     each units.Bru = bru
+
+-- where nothing waits, nothing starts
+pub none_starts : (row : Row) (st : Pools) (next waiting : ℕ) → AreBusy st.slots st.busy st.ages → IsSetOf waits st.slots waiting → waiting ≡ 0 → IsStarting row st next 0
+none_starts row st next waiting filled of empty =
+    are_starting row st next 0 0 0 0 0 0 0 0 0 0 0
+    (ready_for st next 0 units.Alu filled (none_for units.Alu) (λ e. absurd (cc))) (ready_for st next 0 units.Mul filled (none_for units.Mul) (λ e. absurd (cc))) (ready_for st next 0 units.Div filled (none_for units.Div) (λ e. absurd (cc)))
+    (all_cleared st next 0 0 0 filled (none_for units.Mem) (first_cleared st next 0 (none_for units.Mem)) refl) (ready_for st next 0 units.Bru filled (none_for units.Bru) (λ e. absurd (cc)))
+    (none_picked _ st.ages) (none_picked _ st.ages) (none_picked _ st.ages) (none_picked _ st.ages) (none_picked _ st.ages) (λ x. rw (none_in x) refl)
+  where
+    none_too : (unit : UnitId) (o : Option Station) → waits o ≡ false → waits_for unit o ≡ false
+    none_too unit None e = refl
+    none_too unit (Some s) e = ap (λ b. b && is_of unit (unit_of s.instr.op)) e
+
+    none_for : (unit : UnitId) → IsSetOf (waits_for unit) st.slots 0
+    none_for unit x l = none_in x ∙ sym (none_too unit (slice_index_or st.slots x None) (sym (of x l) ∙ (rw empty (none_in x))))

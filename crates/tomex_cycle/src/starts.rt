@@ -77,12 +77,16 @@ pub fn starting(pools: &Pools, row: &Config, next: u64) -> u128
     ensures starting { IsStarting row.now pools.now next result }
     ensures busy { AreBusy pools.now.slots pools.now.busy pools.now.ages }
 {
+    let waiting = pools.waiting();
+    if waiting == 0 {
+        return 0;
+    }
     let alu = ready(pools, next, UnitId::Alu);
     let mul = ready(pools, next, UnitId::Mul);
     let div = ready(pools, next, UnitId::Div);
     let mem = accessible(pools, next);
     let bru = ready(pools, next, UnitId::Bru);
-    if is_single(pools.waiting()) {
+    if is_single(waiting) {
         // Read for what the row's type keeps: there is a unit of each kind.
         let _buses = row.buses();
         return together(alu, mul, div, mem, bru);

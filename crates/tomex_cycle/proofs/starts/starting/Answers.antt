@@ -1,7 +1,10 @@
 use Rattle.tomex_rvdec.specs.declared.pool.UnitId.TheVariants as units
 use Rattle.tomex_timing.proofs.Limits.{units_low}
-use Rattle.tomex_cycle.proofs.StartsReady.{all_of, are_starting, single_of}
+use Rattle.tomex_cycle.proofs.StartsReady.{all_of, are_starting, none_starts, single_of}
 use Rattle.tomex_cycle.proofs.starts.starting.Goals as goal
+
+pub returns-then-waiting-eq0-clause-starting : goal.returns-then-waiting-eq0-clause-starting
+returns-then-waiting-eq0-clause-starting c = none_starts c.args.row.now c.args.pools.now c.args.next c.waiting-waiting.result c.waiting-waiting.ensures.busy c.waiting-waiting.ensures.set c.if-waiting-eq0.true
 
 -- there is a unit for the one that waits
 pub returns-then-is_single-clause-starting : goal.returns-then-is_single-clause-starting
@@ -11,11 +14,11 @@ returns-then-is_single-clause-starting c =
     let lawful = c.buses-buses.ensures.lawful in
     are_starting c.args.row.now c.args.pools.now c.args.next c.ready-alu.result c.ready-mul.result c.ready-div.result c.accessible-mem.result c.ready-bru.result c.ready-alu.result c.ready-mul.result c.ready-div.result c.accessible-mem.result c.ready-bru.result c.together.result
     c.ready-alu.ensures.ready c.ready-mul.ensures.ready c.ready-div.ensures.ready c.accessible-mem.ensures.ready c.ready-bru.ensures.ready
-    (single_of units.Alu slots c.waiting.result c.ready-alu.result _ c.args.pools.now.ages single c.waiting.ensures.set (units_low c.args.row.now units.Alu lawful) (all_of units.Alu slots c.ready-alu.result c.ready-alu.ensures.wait))
-    (single_of units.Mul slots c.waiting.result c.ready-mul.result _ c.args.pools.now.ages single c.waiting.ensures.set (units_low c.args.row.now units.Mul lawful) (all_of units.Mul slots c.ready-mul.result c.ready-mul.ensures.wait))
-    (single_of units.Div slots c.waiting.result c.ready-div.result _ c.args.pools.now.ages single c.waiting.ensures.set (units_low c.args.row.now units.Div lawful) (all_of units.Div slots c.ready-div.result c.ready-div.ensures.wait))
-    (single_of units.Mem slots c.waiting.result c.accessible-mem.result _ c.args.pools.now.ages single c.waiting.ensures.set (units_low c.args.row.now units.Mem lawful) c.accessible-mem.ensures.wait)
-    (single_of units.Bru slots c.waiting.result c.ready-bru.result _ c.args.pools.now.ages single c.waiting.ensures.set (units_low c.args.row.now units.Bru lawful) (all_of units.Bru slots c.ready-bru.result c.ready-bru.ensures.wait))
+    (single_of units.Alu slots c.waiting-waiting.result c.ready-alu.result _ c.args.pools.now.ages single c.waiting-waiting.ensures.set (units_low c.args.row.now units.Alu lawful) (all_of units.Alu slots c.ready-alu.result c.ready-alu.ensures.wait))
+    (single_of units.Mul slots c.waiting-waiting.result c.ready-mul.result _ c.args.pools.now.ages single c.waiting-waiting.ensures.set (units_low c.args.row.now units.Mul lawful) (all_of units.Mul slots c.ready-mul.result c.ready-mul.ensures.wait))
+    (single_of units.Div slots c.waiting-waiting.result c.ready-div.result _ c.args.pools.now.ages single c.waiting-waiting.ensures.set (units_low c.args.row.now units.Div lawful) (all_of units.Div slots c.ready-div.result c.ready-div.ensures.wait))
+    (single_of units.Mem slots c.waiting-waiting.result c.accessible-mem.result _ c.args.pools.now.ages single c.waiting-waiting.ensures.set (units_low c.args.row.now units.Mem lawful) c.accessible-mem.ensures.wait)
+    (single_of units.Bru slots c.waiting-waiting.result c.ready-bru.result _ c.args.pools.now.ages single c.waiting-waiting.ensures.set (units_low c.args.row.now units.Bru lawful) (all_of units.Bru slots c.ready-bru.result c.ready-bru.ensures.wait))
     c.together.ensures
 
 pub returns-clause-starting : goal.returns-clause-starting
