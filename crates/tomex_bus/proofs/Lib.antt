@@ -1,4 +1,4 @@
-pub mod Alone
+pub mod Powers
 pub mod Bits
 pub mod Members
 pub mod Picking

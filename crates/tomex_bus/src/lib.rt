@@ -5,6 +5,7 @@
 //! set, not how many stations there are.
 #![tactic(auto)]
 
+mod alone;
 mod arbiter;
 mod places;
 pub mod sets;

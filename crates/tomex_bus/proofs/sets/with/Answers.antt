@@ -2,7 +2,7 @@ use Rattle.std.proofs.Common.{◌∙◌, ap}
 use Rattle.std.specs.Prelude.{◌==◌}
 use Rattle.std.specs.Int.{w128}
 use Rattle.std.proofs.lemmas.Nat.Bits.{bit_at_set_same, bit_at_set_other}
-use Rattle.tomex_bus.proofs.Alone.{shifted_one}
+use Rattle.tomex_bus.proofs.Powers.{shifted_one}
 use Rattle.tomex_bus.proofs.Bits.{has_one}
 use Rattle.tomex_bus.proofs.sets.with.Goals as goal
 

@@ -3,7 +3,7 @@ use Rattle.std.specs.Prelude.{◌==◌}
 use Rattle.std.specs.Int.{w128}
 use Rattle.std.proofs.lemmas.Nat.{and_le_l}
 use Rattle.std.proofs.lemmas.Nat.Bits.{bit_at_clear_same, bit_at_clear_other}
-use Rattle.tomex_bus.proofs.Alone.{shifted_one}
+use Rattle.tomex_bus.proofs.Powers.{shifted_one}
 use Rattle.tomex_bus.proofs.Bits.{has_none, fewer}
 use Rattle.tomex_bus.proofs.sets.without.Goals as goal
 
