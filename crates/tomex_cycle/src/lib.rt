@@ -21,6 +21,3 @@ pub use machine::Machine;
 pub use progress::Progress;
 pub use shown::Tables;
 pub use tomex_timing::{Busy, Field, Tag};
-
-#[cfg(test)]
-mod tests;

@@ -14,6 +14,8 @@ mod commands;
 #[cfg(test)]
 mod compiled;
 #[cfg(test)]
+mod cycle_machine;
+#[cfg(test)]
 mod documents;
 #[cfg(test)]
 mod elf_images;

@@ -1,9 +1,9 @@
 //! Runs of the machine, beside worked examples, the in-order run and the recurrence.
 
-use crate::{Busy, Field, Machine, Progress, Tables, Tag};
 use std::alloc::Allocator;
 use std::test::Fail;
 use tomex_config::{Config, UnitOption};
+use tomex_cycle::{Busy, Field, Machine, Progress, Tables, Tag};
 use tomex_image::{Image, Window, load};
 use tomex_rvdec::{PoolId, decode};
 use tomex_rvexec::End;

@@ -3,9 +3,9 @@
 ghost use Rattle.std.specs.Prelude.{◌≤◌};
 
 use super::{end_of, holds, image_of, tick, unit};
-use crate::{Busy, Field, Machine, Progress, Tables, Tag};
 use std::test::Fail;
 use tomex_config::Config;
+use tomex_cycle::{Busy, Field, Machine, Progress, Tables, Tag};
 use tomex_image::Image;
 use tomex_rvexec::{Operand, run, trace};
 use tomex_timing::Done;
