@@ -1,6 +1,6 @@
 //! The runs of rows, one after another, by one machine.
 
-ghost use Rattle.std.specs.Prelude.{◌≡◌, ◌≤◌, length, IfOk, All};
+ghost use Rattle.std.specs.Prelude.{◌≡◌, ◌≤◌, length, IfOk, All, None};
 ghost use Rattle.tomex_sweep.specs.Program.{IsProgram};
 ghost use Rattle.tomex_sweep.specs.Cycles.{cycles_on};
 
@@ -19,7 +19,10 @@ pub(crate) struct Runs<'s, A: Allocator> {
 
 impl<'s, A: Allocator + Clone> Runs<'s, A> {
     /// Before the first row. Takes no memory.
-    pub(crate) fn new(alloc: A) -> Runs<'s, A> {
+    pub(crate) fn new(alloc: A) -> Runs<'s, A>
+        ensures alloc { result.alloc ≡ alloc }
+        ensures none { result.last ≡ None }
+    {
         Runs { alloc, last: None }
     }
 

@@ -1,3 +1,4 @@
+use Rattle.std.proofs.Common.{rules}
 -- The counts are read first, then the options kind by kind, up to the first fault.
 use Rattle.std.proofs.lemmas.Result.{err_from_is_err_and}
 use Rattle.tomex_document.specs.Axes.{axes_of}
@@ -38,3 +39,7 @@ returns-in_err-bru_units g c =
     let p = err_from_is_err_and c.from_residual-in_err-bru_units.result c.from_residual-in_err-bru_units.ensures.1 in
     let counts = c.in_ok-counts.ensures in
     rw (p.1, p.2) (λ other. goes_on _ _ _ _ counts (goes_on _ _ _ _ c.in_ok-tables.ensures (goes_on _ _ _ _ c.in_ok-alu_units.ensures (goes_on _ _ _ _ c.in_ok-mul_units.ensures (goes_on _ _ _ _ c.in_ok-div_units.ensures (goes_on _ _ _ _ c.in_ok-mem_units.ensures (stops _ _ _ (c.in_err-bru_units.ensures other))))))))
+
+pub returns-in_err-tables : goal.returns-in_err-tables
+unfolding axes_of
+returns-in_err-tables g c = search rules fits 100
