@@ -1,5 +1,5 @@
 -- The number is that of the text in the rows.
-use Rattle.std.proofs.Common.{◌≡◌, ◌∙◌, sym, subst, refl, ℕ, List, Option, Some, None}
+use Rattle.std.proofs.Common.{◌≡◌, ◌∙◌, sym, subst, refl, ℕ, List, Option, Some, None, rules}
 use Rattle.std.specs.Str.Parse.{ParsesUnsigned, ExplainsUnsignedError, HasUnsignedDigitsIfOk}
 use Rattle.std.specs.declared.num.ParseIntError.{ParseIntError}
 use Rattle.std.specs.Prelude.{Result}
@@ -25,3 +25,6 @@ number_read f id read number none value is = go (one_text f id) refl
 pub returns-in-Some-clause-number : goal.returns-in-Some-clause-number
 returns-in-Some-clause-number c =
     number_read (found_of c.args.matches.now) c.args.name.now c.get_one.result c.in-Some.number c.get_one.ensures.none c.get_one.ensures.value c.in-Some.is
+
+pub returns-in-Some-clause-within : goal.returns-in-Some-clause-within
+returns-in-Some-clause-within c = search rules fits 100
