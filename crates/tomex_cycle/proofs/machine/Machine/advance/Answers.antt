@@ -1,4 +1,4 @@
-use Rattle.std.proofs.Common.{◌≡◌, ◌<◌, arith, refl, ap, sym, ◌∙◌}
+use Rattle.std.proofs.Common.{◌≡◌, ◌<◌, arith, refl, ap, sym, ◌∙◌, rules}
 use Rattle.tomex_cycle.specs.Seen.{Counted, seen_after}
 use Rattle.tomex_config.specs.Row.{Row}
 use Rattle.tomex_image.specs.Image.{Loaded}
@@ -37,3 +37,6 @@ loop-self-preserved g c =
           let within = rw c.go_on.ensures.image at e in
           rw (c.go_on.ensures.image, c.go_on.ensures.row, c.go_on.ensures.worked) (paid_next _ c.args.to c.args.self.now.cycle c.loop-self.self.cycle _ _ _ ahead (c.loop-self.invariant.paid within) (c.go_on.ensures.passes within));
     }
+
+pub returns-clause-runs : goal.returns-clause-runs
+returns-clause-runs g c = search rules fits 100
