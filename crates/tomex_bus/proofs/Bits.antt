@@ -1,10 +1,11 @@
 -- Bits of a number as members of a set.
 use Rattle.std.proofs.Common.{ℕ, zero, suc, ◌-◌, ◌+◌, ◌/◌, ◌%◌, ◌^◌, Bool, true, false, ◌≡◌, ◌≤◌, ◌<◌, arith, inl, inr, ap, refl, sym, ◌∙◌}
 use Rattle.std.specs.Prelude.{◌==◌, ◌&&◌, ◌||◌, ◌≢◌, not, max, min}
-use Rattle.std.specs.Int.{bit_at}
+use Rattle.std.specs.Int.{w64, bit_at, bit_not}
 use Rattle.std.specs.Int.Bits.{bit_and}
-use Rattle.std.proofs.lemmas.Nat.Bits.{bit_at_and, bit_at_lowest, bit_at-suc, bit_at-zero}
-use Rattle.std.proofs.lemmas.Nat.{pow-add}
+use Rattle.std.proofs.lemmas.Nat.Bits.{bit_at_and, bit_at_lowest, bit_at_not, bit_at-suc, bit_at-zero}
+use Rattle.std.proofs.lemmas.Nat.{field_of, pow-add}
+use Rattle.std.proofs.Math.Pow.{mod-mod-pow}
 use Rattle.std.proofs.Math.Nat.{div-div-eq-div-mul}
 use Rattle.std.proofs.lemmas.Bool.{and_parts, cases_order, both_ways, eq-eqb, eqb-true, eqb-false}
 use Rattle.tomex_bus.specs.Sets.{has, IsWithout}
@@ -133,3 +134,27 @@ agreed f g (suc n) e x l =
     is_same true b k = sym k
     is_same false true k = k
     is_same false false k = refl
+
+-- the members below k of a set cut off there
+pub cut : (n k i : ℕ) → i < k → has (n % 2 ^ k) i ≡ has n i
+cut n k i l =
+    let parts : (k - i) + i ≡ k = omega arith in
+    let one : (k - i - 1) + 1 ≡ k - i = omega arith in
+    ap (λ m. m % 2 == 1) (ap (λ j. n % 2 ^ j / 2 ^ i) (sym parts) ∙ field_of n (k - i) i) ∙ ap (λ b. b == 1) (ap (λ j. n / 2 ^ i % 2 ^ j % 2 ^ 1) (sym one) ∙ mod-mod-pow (n / 2 ^ i) (k - i - 1) 1)
+
+not_of : (b : ℕ) → b < 2 → (1 - b == 1) ≡ not (b == 1)
+not_of zero l = refl
+not_of (suc b) l = let e : b ≡ 0 = omega arith in rw e refl
+
+-- the members of a complement
+pub complement : (set i : ℕ) → set < 2 ^ 64 → i < 64 → has (bit_not w64 set) i ≡ not (has set i)
+complement set i fits l = ap (λ b. b == 1) (bit_at_not w64 set i fits l) ∙ not_of (bit_at set i) (bit_low set i)
+
+-- what a complement has the set lacks, and the other way round
+pub lacked : (b : Bool) → not b ≡ true → b ≡ false
+lacked true e = sym e
+lacked false e = refl
+
+pub kept : (b : Bool) → not b ≡ false → b ≡ true
+kept true e = refl
+kept false e = sym e

@@ -7,7 +7,7 @@
 
 mod alone;
 mod arbiter;
-mod places;
+pub mod places;
 pub mod sets;
 mod wheel;
 

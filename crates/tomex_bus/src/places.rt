@@ -1,7 +1,7 @@
-//! Sets of the places of a ring of 64, a bit each. A shift of 64 bits is one operation, where one of
-//! 128 bits is several.
+//! Sets of numbers below 64, a bit each: the places of a ring, and the numbers of a pool. A shift of
+//! 64 bits is one operation, where one of 128 bits is several.
 
-ghost use Rattle.std.specs.Prelude.{ℕ, ◌≡◌, ◌<◌, true, false};
+ghost use Rattle.std.specs.Prelude.{ℕ, ◌≡◌, ◌<◌, ◌≤◌, ◌+◌, ◌*◌, true, false};
 ghost use Rattle.tomex_bus.specs.Sets.{has, IsWith, IsWithout};
 
 /// The set and the place.
@@ -31,4 +31,24 @@ pub(crate) fn lowest(set: u64) -> usize
     ensures least { (i : ℕ) → i < result → has set i ≡ false }
 {
     set.trailing_zeros() as usize
+}
+
+/// The members of a wider set that are in one of its eight groups of 16, each by its number in there.
+#[inline(always)]
+pub fn in_group(set: u128, group: usize) -> u64
+    requires { group < 8 }
+    ensures { (n : ℕ) → n < 16 → has result n ≡ has set (16 * group + n) }
+{
+    let half = if group < 4 { (set % (1 << 64)) as u64 } else { (set >> 64) as u64 };
+    half >> (16 * (group % 4))
+}
+
+/// The least number below 16 that isn't in the set, 16 where all are.
+#[inline(always)]
+pub fn least_absent(set: u64) -> usize
+    ensures below { result ≤ 16 }
+    ensures absent { result < 16 → has set result ≡ false }
+    ensures least { (i : ℕ) → i < result → has set i ≡ true }
+{
+    lowest(with_place(!set, 16))
 }

@@ -238,3 +238,12 @@ one_branch slots next due branches served x done serves both l e =
     let two = and_parts (has due x) (has served x) (sym (both x) ∙ e) in
     let place = and_parts (nat_le 80 x) (nat_lt x 96) (sym (branch_places x l) ∙ (sym (serves x l) ∙ two.1)) in
     (leb-true 80 x place.0, ltb-true x 96 place.1, sym (done x l) ∙ two.0)
+
+-- where nothing is sent and nothing finishes, what is ready stays so
+pub nothing_sent : (slots : List (Option Station)) (due found sending : ℕ) (g : Finishes) → sending ≡ 0 → due ≡ 0 → ((x : ℕ) → x < 128 → has found x ≡ (has due x && writes (slice_index_or slots x None)))
+    → (x : ℕ) → x < 128 → has g.ready x ≡ (has g.ready x && not (has sending x) || has found x)
+nothing_sent slots due found sending g none over with_result x l = rw (with_result x l, none, over, none_in x) (stays (has g.ready x))
+  where
+    stays : (b : Bool) → b ≡ (b && true || false)
+    stays true = refl
+    stays false = refl

@@ -40,11 +40,13 @@ pub fn settle(pools: &Pools, finishes: &mut Finishes, buses: u8, next: u64) -> O
     let sending = pick(finishes.ready, pools.ages(), buses);
     let due = finishes.turn();
     let results = both(due, pools.writing());
-    finishes.send(sending, results);
-    Over {
-        due,
-        ending: union(sending, difference(due, results)),
+    let ending = union(sending, difference(due, results));
+    // In many cycles nothing finishes and no result waits.
+    if sending == 0 && due == 0 {
+        return Over { due, ending };
     }
+    finishes.send(sending, results);
+    Over { due, ending }
 }
 
 /// Frees a place, and sends what its station has to send.
@@ -54,7 +56,7 @@ fn end_at(pools: &mut Pools, registers: &mut RegStatus, place: usize)
     ensures registers { AreNamed pools.old.slots registers.old → Hears (only place (sends_of (slice_index_or pools.old.slots place None))) registers.old registers.new }
 {
     if let Some(station) = pools.at(place) {
-        pools.release(place);
+        pools.release(place, &station);
         if let Some(register) = station.instr.dest() {
             broadcast(pools, registers, place, register, station.value);
         }

@@ -4,6 +4,7 @@ ghost use Rattle.std.specs.Prelude.{◌≡◌, ◌<◌};
 
 use crate::op::{Form, Op};
 use crate::pool::{PoolId, UnitId};
+use crate::pool_table::pool_of;
 use std::marker::Model;
 
 /// An instruction that some word of 32 bits means.
@@ -92,18 +93,7 @@ impl Instr {
     pub fn pool(&self) -> Option<PoolId>
         ensures { result ≡ pool_of self.now.op }
     {
-        let pool = match self.op {
-            Op::Mul | Op::Mulh | Op::Mulhsu | Op::Mulhu => PoolId::Mul,
-            Op::Div | Op::Divu | Op::Rem | Op::Remu => PoolId::Div,
-            Op::Lb | Op::Lh | Op::Lw | Op::Lbu | Op::Lhu => PoolId::Load,
-            Op::Sb | Op::Sh | Op::Sw => PoolId::Store,
-            Op::Beq | Op::Bne | Op::Blt | Op::Bge | Op::Bltu | Op::Bgeu | Op::Jalr => PoolId::Bru,
-            _ => PoolId::Alu,
-        };
-        match self.op {
-            Op::Fence | Op::Ecall | Op::Ebreak => None,
-            _ => Some(pool),
-        }
+        pool_of(self.op)
     }
 
     /// The kind of unit that runs the instruction; FENCE, ECALL and EBREAK use none.

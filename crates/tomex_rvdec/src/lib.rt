@@ -12,6 +12,7 @@ mod instr;
 mod laws;
 mod op;
 mod pool;
+mod pool_table;
 
 pub use decoding::decode;
 pub use encoding::encode;

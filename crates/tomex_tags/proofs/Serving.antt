@@ -14,7 +14,7 @@ use Rattle.tomex_rvexec.specs.Steps.{is_in}
 use Rattle.tomex_timing.specs.History.{is_of}
 use Rattle.tomex_timing.specs.Recurrence.{IsLeast}
 use Rattle.tomex_bus.specs.Sets.{has}
-use Rattle.tomex_bus.proofs.Bits.{agree, agreed, none_in, shifted}
+use Rattle.tomex_bus.proofs.Bits.{agree, agreed}
 use Rattle.tomex_tags.specs.Contents.{is_memory_op, lacks_address}
 use Rattle.tomex_tags.specs.Places.{is_served, is_store_place, pool_at}
 use Rattle.tomex_tags.specs.Pools.{AreBusy, AreOwn, IsOwn, is_open}
@@ -100,36 +100,18 @@ wait_for slots busy waiting served found ages unit filled own wait serves both x
 
 -- The least number of a pool whose place is open.
 
-abbrev sixteen : ℕ → Bool
-sixteen x = nat_lt x 16
-
-first_sixteen : (x : ℕ) → x < 128 → has 65535 x ≡ sixteen x
-first_sixteen x l = agreed (has 65535) sixteen 128 refl x l
-
-open_is : (slots : List (Option Station)) (busy found n p : ℕ) (ages : List ℕ) → AreBusy slots busy ages → p < 6 → n < 16 → ((x : ℕ) → x < 128 → has found x ≡ (has 65535 x && not (has (busy / 2 ^ (16 * p)) x))) → has found n ≡ is_none (slice_index_or slots (16 * p + n) None)
-open_is slots busy found n p ages filled l m said =
-    said n (omega arith) ∙ rw (first_sixteen n (omega arith), lt-ltb n 16 m, shifted busy (16 * p) n, filled.each (16 * p + n) (omega arith)) (turned (slice_index_or slots (16 * p + n) None))
+open_is : (slots : List (Option Station)) (busy taken n p : ℕ) (ages : List ℕ) (pool : PoolId) → AreBusy slots busy ages → p ≡ place_of_pool pool → p < 6 → n < 16 → ((x : ℕ) → x < 16 → has taken x ≡ has busy (16 * p + x)) → is_open slots pool n ≡ not (has taken n)
+open_is slots busy taken n p ages pool filled e l m in_pool = rw (in_pool n m, filled.each (16 * p + n) (omega arith), ← e) (turned (slice_index_or slots (16 * p + n) None))
   where
-    turned : (o : Option Station) → (true && not (is_some o)) ≡ is_none o
+    turned : (o : Option Station) → is_none o ≡ not (is_some o)
     turned None = refl
     turned (Some s) = refl
 
-is_low : (found taken n : ℕ) → n < 128 → ((x : ℕ) → x < 128 → has found x ≡ (has 65535 x && not (has taken x))) → has found n ≡ true → n < 16
-is_low found taken n l said e = ltb-true n 16 (sym (first_sixteen n l) ∙ (and_parts (has 65535 n) (not (has taken n)) (sym (said n l) ∙ e)).0)
+pub least_open : (slots : List (Option Station)) (busy taken p n : ℕ) (ages : List ℕ) (pool : PoolId) → AreBusy slots busy ages → p ≡ place_of_pool pool → p < 6 → n < 16 → ((x : ℕ) → x < 16 → has taken x ≡ has busy (16 * p + x)) → has taken n ≡ false → ((i : ℕ) → i < n → has taken i ≡ true) → IsLeast (is_open slots pool) n
+least_open slots busy taken p n ages pool filled e l low in_pool here least = (
+  rw (open_is slots busy taken n p ages pool filled e l low in_pool, here) refl,
+  λ i less. rw (open_is slots busy taken i p ages pool filled e l (omega arith) in_pool, least i less) refl,
+)
 
-pub least_open : (slots : List (Option Station)) (busy found p n : ℕ) (ages : List ℕ) (pool : PoolId) → AreBusy slots busy ages → p ≡ place_of_pool pool → p < 6 → n < 128 → ((x : ℕ) → x < 128 → has found x ≡ (has 65535 x && not (has (busy / 2 ^ (16 * p)) x))) → has found n ≡ true → ((i : ℕ) → i < n → has found i ≡ false) → IsLeast (is_open slots pool) n
-least_open slots busy found p n ages pool filled e l m said here least =
-    let low : n < 16 = is_low found (busy / 2 ^ (16 * p)) n m said here in
-    rw (← e) (
-      sym (open_is slots busy found n p ages filled l low said) ∙ here,
-      λ i less. sym (open_is slots busy found i p ages filled l (omega arith) said) ∙ least i less,
-    )
-
-none_open : (slots : List (Option Station)) (busy found p n : ℕ) (ages : List ℕ) (pool : PoolId) → AreBusy slots busy ages → p ≡ place_of_pool pool → p < 6 → n < 16 → ((x : ℕ) → x < 128 → has found x ≡ (has 65535 x && not (has (busy / 2 ^ (16 * p)) x))) → has found n ≡ false → is_open slots pool n ≡ false
-none_open slots busy found p n ages pool filled e l low said here = rw (← e) (sym (open_is slots busy found n p ages filled l low said) ∙ here)
-
-pub all_taken : (slots : List (Option Station)) (busy found p count : ℕ) (ages : List ℕ) (pool : PoolId) → AreBusy slots busy ages → p ≡ place_of_pool pool → p < 6 → count ≤ 16 → ((x : ℕ) → x < 128 → has found x ≡ (has 65535 x && not (has (busy / 2 ^ (16 * p)) x))) → found ≡ 0 → (n : ℕ) → n < count → is_open slots pool n ≡ false
-all_taken slots busy found p count ages pool filled e l few said empty n less = none_open slots busy found p n ages pool filled e l (omega arith) said (rw empty (none_in n))
-
-pub none_before : (slots : List (Option Station)) (busy found p least count : ℕ) (ages : List ℕ) (pool : PoolId) → AreBusy slots busy ages → p ≡ place_of_pool pool → p < 6 → count ≤ 16 → ((x : ℕ) → x < 128 → has found x ≡ (has 65535 x && not (has (busy / 2 ^ (16 * p)) x))) → ((i : ℕ) → i < least → has found i ≡ false) → count ≤ least → (n : ℕ) → n < count → is_open slots pool n ≡ false
-none_before slots busy found p least count ages pool filled e l few said none high n less = none_open slots busy found p n ages pool filled e l (omega arith) said (none n (omega arith))
+pub none_before : (slots : List (Option Station)) (busy taken p least count : ℕ) (ages : List ℕ) (pool : PoolId) → AreBusy slots busy ages → p ≡ place_of_pool pool → p < 6 → least ≤ 16 → ((x : ℕ) → x < 16 → has taken x ≡ has busy (16 * p + x)) → ((i : ℕ) → i < least → has taken i ≡ true) → count ≤ least → (n : ℕ) → n < count → is_open slots pool n ≡ false
+none_before slots busy taken p least count ages pool filled e l few in_pool none high n less = rw (open_is slots busy taken n p ages pool filled e l (omega arith) in_pool, none n (omega arith)) refl

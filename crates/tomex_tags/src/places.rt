@@ -35,18 +35,23 @@ pub fn tag(place: usize) -> Tag
     }
 }
 
+/// By pool, the kind of unit that runs its operations.
+static UNITS: [UnitId; 6] = [
+    UnitId::Alu,
+    UnitId::Mul,
+    UnitId::Div,
+    UnitId::Mem,
+    UnitId::Mem,
+    UnitId::Bru,
+];
+
 /// The kind of unit that runs the operations of the station in a place.
 #[inline(always)]
 pub fn unit(place: usize) -> UnitId
+    requires { place < 96 }
     ensures { result ≡ unit_of_pool (pool_at (place / 16)) }
 {
-    match place / 16 {
-        0 => UnitId::Alu,
-        1 => UnitId::Mul,
-        2 => UnitId::Div,
-        3 | 4 => UnitId::Mem,
-        _ => UnitId::Bru,
-    }
+    UNITS[place / 16]
 }
 
 /// The places of the store buffers.

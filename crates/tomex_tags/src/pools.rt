@@ -17,6 +17,7 @@ use crate::standing::Standing;
 use crate::station::Station;
 use crate::stations::Stations;
 use std::marker::Model;
+use tomex_bus::places::{in_group, least_absent};
 use tomex_bus::sets::{both, difference, lowest, with, without, without_lowest};
 use tomex_rvdec::{PoolId, UnitId};
 use tomex_timing::Busy;
@@ -212,7 +213,7 @@ impl Pools {
         ensures busy { IsWith self.old.busy place self.new.busy }
         ensures ages { self.new.ages ≡ slice_set self.old.ages place age }
     {
-        self.pools[place / 16].put(place % 16, Some(station));
+        self.pools[place / 16].put(place % 16, station);
         self.listeners.add(place, station.j);
         self.listeners.add(place, station.k);
         self.standing.file(place, &station);
@@ -220,16 +221,17 @@ impl Pools {
         self.ages[place] = age;
     }
 
-    /// Frees the station of a place.
+    /// Frees the place of the station that stands there.
     #[inline(always)]
-    pub fn release(&mut self, place: usize)
-        requires { place < 96 }
+    pub fn release(&mut self, place: usize, station: &Station)
+        requires place { place < 96 }
+        requires here { slice_index_or self.old.slots place None ≡ Some station.now }
         ensures slots { self.new.slots ≡ slice_set self.old.slots place None }
         ensures busy { IsWithout self.old.busy place self.new.busy }
         ensures ages { self.new.ages ≡ self.old.ages }
     {
-        self.pools[place / 16].put(place % 16, None);
-        self.standing.clear(place);
+        self.pools[place / 16].clear(place % 16);
+        self.standing.clear(place, station);
         self.busy = without(self.busy, place);
     }
 
@@ -240,11 +242,7 @@ impl Pools {
         ensures some { IfSome result (λ n. IsLeast (is_open self.now.slots pool) n × (n < count)) }
         ensures none { IfNone result ((n : ℕ) → n < count → is_open self.now.slots pool n ≡ false) }
     {
-        let open = difference(0xffff, self.busy >> (16 * pool.place()));
-        if open == 0 {
-            return None;
-        }
-        let number = lowest(open) as u8;
+        let number = least_absent(in_group(self.busy, pool.place())) as u8;
         if number < count { Some(number) } else { None }
     }
 

@@ -3,7 +3,7 @@
 ghost use Rattle.std.specs.Prelude.{◌≡◌, ◌<◌, None, Some, false};
 ghost use Rattle.tomex_bus.specs.Sets.{has};
 ghost use Rattle.tomex_tags.specs.Contents.{lacks_address};
-ghost use Rattle.tomex_tags.specs.Standing.{HasFiled, IsFiled, IsKept, IsOut, waits};
+ghost use Rattle.tomex_tags.specs.Standing.{HasFiled, IsFiled, IsFiledIn, IsKept, IsOut, waits};
 
 use crate::station::Station;
 use tomex_bus::sets::{with, without};
@@ -34,14 +34,28 @@ fn filed(set: u128, place: usize, member: bool) -> u128
     }
 }
 
-/// The set, to which a place comes, or doesn't.
+/// A place comes to the set, or doesn't.
 #[inline(always)]
-fn joined(set: u128, place: usize, member: bool) -> u128
+fn join(set: &mut u128, place: usize, member: bool)
     requires low { place < 128 }
-    requires out { has set place ≡ false }
-    ensures { IsFiled place member set result }
+    requires out { has set.old place ≡ false }
+    ensures { IsFiled place member set.old set.new }
 {
-    if member { with(set, place) } else { set }
+    if member {
+        *set = with(*set, place);
+    }
+}
+
+/// A place leaves the set, if it is a member.
+#[inline(always)]
+fn leave(set: &mut u128, place: usize, member: bool)
+    requires low { place < 128 }
+    requires is { has set.old place ≡ member }
+    ensures { IsFiled place false set.old set.new }
+{
+    if member {
+        *set = without(*set, place);
+    }
 }
 
 impl Standing {
@@ -52,11 +66,9 @@ impl Standing {
         requires out { IsOut place self.old }
         ensures { HasFiled place (Some station.now) self.old self.new }
     {
-        *self = Standing {
-            lacking: joined(self.lacking, place, station.lacks_address()),
-            waiting: joined(self.waiting, place, station.is_waiting()),
-            writing: joined(self.writing, place, station.instr.dest().is_some()),
-        };
+        join(&mut self.lacking, place, station.lacks_address());
+        join(&mut self.waiting, place, station.is_waiting());
+        join(&mut self.writing, place, station.instr.dest().is_some());
     }
 
     /// The station in a place has its address, where its base is there; all else of it is as before.
@@ -81,16 +93,15 @@ impl Standing {
         self.waiting = filed(self.waiting, place, waits);
     }
 
-    /// Nothing stands in a place.
+    /// The station in a place leaves it. As it ends, it waits for nothing: most often one set changes.
     #[inline(always)]
-    pub fn clear(&mut self, place: usize)
-        requires { place < 128 }
+    pub fn clear(&mut self, place: usize, station: &Station)
+        requires low { place < 128 }
+        requires is { IsFiledIn place station.now self.old }
         ensures { HasFiled place None self.old self.new }
     {
-        *self = Standing {
-            lacking: without(self.lacking, place),
-            waiting: without(self.waiting, place),
-            writing: without(self.writing, place),
-        };
+        leave(&mut self.lacking, place, station.lacks_address());
+        leave(&mut self.waiting, place, station.is_waiting());
+        self.writing = without(self.writing, place);
     }
 }

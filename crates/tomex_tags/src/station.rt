@@ -5,7 +5,7 @@ ghost use Rattle.tomex_tags.specs.Operands.{is_there, value_in, heard, only};
 ghost use Rattle.tomex_tags.specs.Contents.{bytes_in, busy_from, hears, is_memory_op, is_ready, is_waiting, lacks_address, step_in, with_address};
 
 use crate::places::place;
-use tomex_rvdec::{Instr, PoolId};
+use tomex_rvdec::{Instr, Op};
 use tomex_rvexec::{ByteRange, Step};
 use tomex_timing::{Busy, Field, Tag};
 
@@ -102,8 +102,8 @@ impl Station {
     pub fn is_memory(&self) -> bool
         ensures { result ≡ is_memory_op self.now.instr.op }
     {
-        match self.instr.pool() {
-            Some(PoolId::Load) | Some(PoolId::Store) => true,
+        match self.instr.op() {
+            Op::Lb | Op::Lh | Op::Lw | Op::Lbu | Op::Lhu | Op::Sb | Op::Sh | Op::Sw => true,
             _ => false,
         }
     }

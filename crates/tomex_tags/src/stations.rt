@@ -45,13 +45,22 @@ impl Stations {
         self.stations[number]
     }
 
-    /// What stands at a number from here on.
+    /// A station is busy from here on.
     #[inline(always)]
-    pub fn put(&mut self, number: usize, station: Option<Station>)
+    pub fn put(&mut self, number: usize, station: Station)
         requires { number < 16 }
-        ensures { self.new ≡ slice_set self.old number station }
+        ensures { self.new ≡ slice_set self.old number (Some station) }
     {
-        self.stations[number] = station;
+        self.stations[number] = Some(station);
+    }
+
+    /// None is busy at a number from here on.
+    #[inline(always)]
+    pub fn clear(&mut self, number: usize)
+        requires { number < 16 }
+        ensures { self.new ≡ slice_set self.old number None }
+    {
+        self.stations[number] = None;
     }
 
     /// The address of the station of a number is computed, where it is busy and its base is there.
