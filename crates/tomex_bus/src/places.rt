@@ -39,7 +39,11 @@ pub fn in_group(set: u128, group: usize) -> u64
     requires { group < 8 }
     ensures { (n : ℕ) → n < 16 → has result n ≡ has set (16 * group + n) }
 {
-    let half = if group < 4 { (set % (1 << 64)) as u64 } else { (set >> 64) as u64 };
+    let half = if group < 4 {
+        (set % (1 << 64)) as u64
+    } else {
+        (set >> 64) as u64
+    };
     half >> (16 * (group % 4))
 }
 

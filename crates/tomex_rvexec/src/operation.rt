@@ -1,7 +1,7 @@
 //! What the operation of one step computes and does, once its operands are there: its result, its
 //! store, and the pc that follows it. For machines that carry values apart from registers.
 
-ghost use Rattle.std.specs.Prelude.{◌≡◌, IfSome, IsSome, IsTrue, true};
+ghost use Rattle.std.specs.Prelude.{ℕ, ◌≡◌, IfSome, IsSome, IsTrue, true, false};
 ghost use Rattle.tomex_rvdec.specs.Operands.{pool_of};
 ghost use Rattle.tomex_rvdec.specs.declared.pool.PoolId.TheVariants as pools;
 ghost use Rattle.tomex_rvexec.specs.Access.{HasStored, IsInside, has_bytes};
@@ -31,6 +31,27 @@ fn loaded<A: Allocator>(op: Op, address: u32, memory: &Memory<A>) -> Option<u32>
     }
 }
 
+/// What an operation that reads no memory computes from its operands, its immediate and its pc; 0 for
+/// one that has no result.
+fn computed(step: &Step) -> u32
+    requires { is_in pools.Load (pool_of step.now.instr.op) ≡ false }
+    ensures { (byte : ℕ → ℕ) → result ≡ result_of step.now byte }
+{
+    let op = step.instr.op();
+    let imm = step.instr.imm();
+    match op {
+        Op::Lui => imm,
+        Op::Auipc => step.pc.wrapping_add(imm),
+        Op::Jal | Op::Jalr => step.pc.wrapping_add(4),
+        Op::Mul | Op::Mulh | Op::Mulhsu | Op::Mulhu => muldiv(op, step.vj, step.vk),
+        Op::Div | Op::Divu | Op::Rem | Op::Remu => muldiv(op, step.vj, step.vk),
+        _ => match op.form() {
+            Form::Register => alu(op, step.vj, step.vk),
+            _ => alu(op, step.vj, imm),
+        },
+    }
+}
+
 /// The result of a step, what its destination gets; 0 where the step writes no register.
 ///
 /// `None` only where a byte of its access lies outside memory.
@@ -40,29 +61,23 @@ pub fn result<A: Allocator>(step: &Step, memory: &Memory<A>) -> Option<u32>
     ensures outside { IfSome result (λ v. IsInside memory.now step.now) }
 {
     let op = step.instr.op();
-    let imm = step.instr.imm();
-    match op {
-        Op::Lui => Some(imm),
-        Op::Auipc => Some(step.pc.wrapping_add(imm)),
-        Op::Jal | Op::Jalr => Some(step.pc.wrapping_add(4)),
-        _ => match step.pool() {
-            Some(PoolId::Alu) => match op.form() {
-                Form::Register => Some(alu(op, step.vj, step.vk)),
-                _ => Some(alu(op, step.vj, imm)),
-            },
-            Some(PoolId::Mul) | Some(PoolId::Div) => Some(muldiv(op, step.vj, step.vk)),
-            Some(PoolId::Load) => loaded(op, step.vj.wrapping_add(imm), memory),
-            Some(PoolId::Store) => {
-                let size = match op {
-                    Op::Sb => 1,
-                    Op::Sh => 2,
-                    _ => 4,
-                };
-                let _place = memory.place(step.vj.wrapping_add(imm), size)?;
-                Some(0)
-            }
+    // Asked by pool first: which pool comes next is easier for a processor to foresee than which operation.
+    match step.pool() {
+        Some(PoolId::Load) => loaded(op, step.vj.wrapping_add(step.instr.imm()), memory),
+        Some(PoolId::Store) => {
+            let size = match op {
+                Op::Sb => 1,
+                Op::Sh => 2,
+                _ => 4,
+            };
+            let _place = memory.place(step.vj.wrapping_add(step.instr.imm()), size)?;
+            Some(0)
+        }
+        Some(PoolId::Bru) => match op {
+            Op::Jalr => Some(step.pc.wrapping_add(4)),
             _ => Some(0),
         },
+        _ => Some(computed(step)),
     }
 }
 

@@ -61,11 +61,6 @@ pub record IsOut (x : ℕ) (sets : Standing) : Type 0 where
   pub waiting : has sets.waiting x ≡ false
   pub writing : has sets.writing x ≡ false
 
--- a place is in the sets of what waits where the station that stands there does
-pub record IsFiledIn (x : ℕ) (station : Station) (sets : Standing) : Type 0 where
-  pub lacking : has sets.lacking x ≡ lacks_address (Some station)
-  pub waiting : has sets.waiting x ≡ waits (Some station)
-
 -- all but the set of those that wait is as before
 pub record IsKept (old new : Standing) : Type 0 where
   pub lacking : new.lacking ≡ old.lacking

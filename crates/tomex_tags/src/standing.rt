@@ -3,7 +3,7 @@
 ghost use Rattle.std.specs.Prelude.{◌≡◌, ◌<◌, None, Some, false};
 ghost use Rattle.tomex_bus.specs.Sets.{has};
 ghost use Rattle.tomex_tags.specs.Contents.{lacks_address};
-ghost use Rattle.tomex_tags.specs.Standing.{HasFiled, IsFiled, IsFiledIn, IsKept, IsOut, waits};
+ghost use Rattle.tomex_tags.specs.Standing.{HasFiled, IsFiled, IsKept, IsOut, waits};
 
 use crate::station::Station;
 use tomex_bus::sets::{with, without};
@@ -46,18 +46,6 @@ fn join(set: &mut u128, place: usize, member: bool)
     }
 }
 
-/// A place leaves the set, if it is a member.
-#[inline(always)]
-fn leave(set: &mut u128, place: usize, member: bool)
-    requires low { place < 128 }
-    requires is { has set.old place ≡ member }
-    ensures { IsFiled place false set.old set.new }
-{
-    if member {
-        *set = without(*set, place);
-    }
-}
-
 impl Standing {
     /// A station stands in a place, in which nothing stood.
     #[inline(always)]
@@ -93,15 +81,17 @@ impl Standing {
         self.waiting = filed(self.waiting, place, waits);
     }
 
-    /// The station in a place leaves it. As it ends, it waits for nothing: most often one set changes.
+    /// The station in a place leaves it. As it ends, it waits for nothing more: that set seldom changes.
     #[inline(always)]
     pub fn clear(&mut self, place: usize, station: &Station)
         requires low { place < 128 }
-        requires is { IsFiledIn place station.now self.old }
+        requires waiting { has self.old.waiting place ≡ waits (Some station.now) }
         ensures { HasFiled place None self.old self.new }
     {
-        leave(&mut self.lacking, place, station.lacks_address());
-        leave(&mut self.waiting, place, station.is_waiting());
+        self.lacking = without(self.lacking, place);
+        if station.is_waiting() {
+            self.waiting = without(self.waiting, place);
+        }
         self.writing = without(self.writing, place);
     }
 }
