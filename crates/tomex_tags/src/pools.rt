@@ -213,7 +213,7 @@ impl Pools {
         ensures busy { IsWith self.old.busy place self.new.busy }
         ensures ages { self.new.ages ≡ slice_set self.old.ages place age }
     {
-        self.pools[place / 16].put(place % 16, station);
+        self.pools[place / 16].put(place % 16, Some(station));
         self.listeners.add(place, station.j);
         self.listeners.add(place, station.k);
         self.standing.file(place, &station);
@@ -230,7 +230,7 @@ impl Pools {
         ensures busy { IsWithout self.old.busy place self.new.busy }
         ensures ages { self.new.ages ≡ self.old.ages }
     {
-        self.pools[place / 16].clear(place % 16);
+        self.pools[place / 16].put(place % 16, None);
         self.standing.clear(place, station);
         self.busy = without(self.busy, place);
     }

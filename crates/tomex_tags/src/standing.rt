@@ -88,10 +88,10 @@ impl Standing {
         requires waiting { has self.old.waiting place ≡ waits (Some station.now) }
         ensures { HasFiled place None self.old self.new }
     {
-        self.lacking = without(self.lacking, place);
         if station.is_waiting() {
             self.waiting = without(self.waiting, place);
         }
+        self.lacking = without(self.lacking, place);
         self.writing = without(self.writing, place);
     }
 }

@@ -45,22 +45,13 @@ impl Stations {
         self.stations[number]
     }
 
-    /// A station is busy from here on.
+    /// What stands at a number from here on.
     #[inline(always)]
-    pub fn put(&mut self, number: usize, station: Station)
+    pub fn put(&mut self, number: usize, station: Option<Station>)
         requires { number < 16 }
-        ensures { self.new ≡ slice_set self.old number (Some station) }
+        ensures { self.new ≡ slice_set self.old number station }
     {
-        self.stations[number] = Some(station);
-    }
-
-    /// None is busy at a number from here on.
-    #[inline(always)]
-    pub fn clear(&mut self, number: usize)
-        requires { number < 16 }
-        ensures { self.new ≡ slice_set self.old number None }
-    {
-        self.stations[number] = None;
+        self.stations[number] = station;
     }
 
     /// The address of the station of a number is computed, where it is busy and its base is there.

@@ -1,4 +1,4 @@
-use Rattle.std.proofs.Common.{ℕ, ◌+◌, ◌*◌, ◌/◌, ◌%◌, ◌^◌, ◌≡◌, ◌∙◌, arith, ap, sym}
+use Rattle.std.proofs.Common.{◌+◌, ◌*◌, ◌%◌, ◌≡◌, ◌∙◌, arith, ap}
 use Rattle.tomex_bus.specs.Sets.{has}
 use Rattle.tomex_bus.proofs.Bits.{cut, shifted}
 use Rattle.tomex_bus.proofs.places.in_group.Goals as goal

@@ -1,4 +1,4 @@
-use Rattle.std.proofs.Common.{◌<◌, ◌≤◌, ◌∙◌, arith, inl, inr, sym}
+use Rattle.std.proofs.Common.{◌≤◌, ◌∙◌, arith, inl, inr, sym}
 use Rattle.std.specs.Prelude.{nat_lt}
 use Rattle.std.proofs.lemmas.Bool.{both_ways, cases_Bool, ltb-true, ltb-false}
 use Rattle.tomex_bus.specs.Sets.{has}
