@@ -239,10 +239,17 @@ one_branch slots next due branches served x done serves both l e =
     let place = and_parts (nat_le 80 x) (nat_lt x 96) (sym (branch_places x l) ∙ (sym (serves x l) ∙ two.1)) in
     (leb-true 80 x place.0, ltb-true x 96 place.1, sym (done x l) ∙ two.0)
 
--- where nothing is sent and nothing finishes, what is ready stays so
-pub nothing_sent : (slots : List (Option Station)) (due found sending : ℕ) (g : Finishes) → sending ≡ 0 → due ≡ 0 → ((x : ℕ) → x < 128 → has found x ≡ (has due x && writes (slice_index_or slots x None)))
-    → (x : ℕ) → x < 128 → has g.ready x ≡ (has g.ready x && not (has sending x) || has found x)
-nothing_sent slots due found sending g none over with_result x l = rw (with_result x l, none, over, none_in x) (stays (has g.ready x))
+-- where nothing finishes no result is found among it
+pub nothing_found : (test : ℕ → Bool) (due : ℕ) → due ≡ 0 → (x : ℕ) → x < 128 → has 0 x ≡ (has due x && test x)
+nothing_found test due over x l = rw (over, none_in x) refl
+
+-- and where nothing is sent either, nothing ends
+pub nothing_ends : (sending : ℕ) → sending ≡ 0 → (x : ℕ) → has 0 x ≡ (has sending x || has 0 x)
+nothing_ends sending none x = rw (none, none_in x) refl
+
+-- and what is ready stays so
+pub nothing_sent : (sending : ℕ) (g : Finishes) → sending ≡ 0 → (x : ℕ) → x < 128 → has g.ready x ≡ (has g.ready x && not (has sending x) || has 0 x)
+nothing_sent sending g none x l = rw (none, none_in x) (stays (has g.ready x))
   where
     stays : (b : Bool) → b ≡ (b && true || false)
     stays true = refl

@@ -37,16 +37,19 @@ pub fn settle(pools: &Pools, finishes: &mut Finishes, buses: u8, next: u64) -> O
     ensures quiet { result.ending ≡ 0 → result.due ≡ 0 → finishes.new.ready ≡ 0 }
     ensures fits { (result.due < 2 ^ 128) × (result.ending < 2 ^ 128) }
 {
+    let writing = pools.writing();
     let sending = pick(finishes.ready, pools.ages(), buses);
     let due = finishes.turn();
-    let results = both(due, pools.writing());
-    let ending = union(sending, difference(due, results));
     // In many cycles nothing finishes and no result waits.
     if sending == 0 && due == 0 {
-        return Over { due, ending };
+        return Over { due: 0, ending: 0 };
     }
+    let results = both(due, writing);
     finishes.send(sending, results);
-    Over { due, ending }
+    Over {
+        due,
+        ending: union(sending, difference(due, results)),
+    }
 }
 
 /// Frees a place, and sends what its station has to send.

@@ -165,10 +165,6 @@ pub no_access : (slots : List (Option Station)) (xs : List ℕ) (s : Station) (n
 no_access slots [] s next e = refl
 no_access slots (x ∷ xs) s next e = rw (lets_none (slice_index_or slots x None) s next e) (no_access slots xs s next e)
 
-pub none_by : {A : Type 0} (o : Option A) (b : Bool) → is_some o ≡ not b → b ≡ true → o ≡ None
-none_by None b e f = refl
-none_by (Some x) b e f = let z : true ≡ not true = rw f at e in absurd (cc)
-
 no_option : {A : Type 0} (o : Option A) → is_some o ≡ false → o ≡ None
 no_option None e = refl
 no_option (Some a) e = let z : true ≡ false = e in absurd (cc)

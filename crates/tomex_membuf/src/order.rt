@@ -75,9 +75,6 @@ pub fn may_access(pools: &Pools, place: usize, station: &Station, next: u64) -> 
     requires { place < 128 }
     ensures { (older younger : List ℕ) → IsByAge pools.now.busy pools.now.ages (older ++ (place ∷ younger)) → result ≡ is_clear pools.now.slots older station.now next }
 {
-    if station.bytes().is_none() {
-        return true;
-    }
     let age = pools.ages()[place];
     let mut rest = rivals(pools, station);
     'members: while rest != 0 {

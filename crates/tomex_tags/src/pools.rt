@@ -170,7 +170,7 @@ impl Pools {
     {
         if let Some(station) = self.at(place) {
             self.pools[place / 16].address(place % 16);
-            self.standing.address(place, &station.with_address());
+            self.standing.address(place, &station);
         }
     }
 

@@ -2,11 +2,12 @@
 
 ghost use Rattle.std.specs.Prelude.{◌≡◌, ◌<◌, None, Some, false};
 ghost use Rattle.tomex_bus.specs.Sets.{has};
-ghost use Rattle.tomex_tags.specs.Contents.{lacks_address};
+ghost use Rattle.tomex_tags.specs.Contents.{lacks_address, with_address};
 ghost use Rattle.tomex_tags.specs.Standing.{HasFiled, IsFiled, IsKept, IsOut, waits};
 
 use crate::station::Station;
 use tomex_bus::sets::{with, without};
+use tomex_timing::Field;
 
 /// Sets of the busy places, by what their stations wait for.
 ///
@@ -59,16 +60,24 @@ impl Standing {
         join(&mut self.writing, place, station.instr.dest().is_some());
     }
 
-    /// The station in a place has its address, where its base is there; all else of it is as before.
+    /// The station in a place gets its address, where its base is there; all else of it is as before.
     #[inline(always)]
     pub fn address(&mut self, place: usize, station: &Station)
-        requires { place < 128 }
-        ensures lacking { IsFiled place (lacks_address (Some station.now)) self.old.lacking self.new.lacking }
-        ensures waiting { IsFiled place (waits (Some station.now)) self.old.waiting self.new.waiting }
+        requires low { place < 128 }
+        requires lacking { has self.old.lacking place ≡ lacks_address (Some station.now) }
+        requires waiting { has self.old.waiting place ≡ waits (Some station.now) }
+        ensures lacking { IsFiled place (lacks_address (Some (with_address station.now))) self.old.lacking self.new.lacking }
+        ensures waiting { IsFiled place (waits (Some (with_address station.now))) self.old.waiting self.new.waiting }
         ensures others { self.new.writing ≡ self.old.writing }
     {
-        self.lacking = filed(self.lacking, place, station.lacks_address());
-        self.waiting = filed(self.waiting, place, station.is_waiting());
+        if let Field::Value(_) = station.j {
+            self.lacking = without(self.lacking, place);
+            self.waiting = filed(
+                self.waiting,
+                place,
+                station.finish.is_none() && station.has_second(),
+            );
+        }
     }
 
     /// Whether the station in a place waits for no more; all else of it is as before.

@@ -2,7 +2,7 @@
 
 ghost use Rattle.std.specs.Prelude.{ℕ, ◌≡◌, Some, false};
 ghost use Rattle.tomex_tags.specs.Operands.{is_there, value_in, heard, only};
-ghost use Rattle.tomex_tags.specs.Contents.{bytes_in, busy_from, hears, is_memory_op, is_ready, is_waiting, lacks_address, step_in, with_address};
+ghost use Rattle.tomex_tags.specs.Contents.{bytes_in, busy_from, hears, is_memory_op, is_ready, is_waiting, lacks_address, step_in};
 
 use crate::places::place;
 use tomex_rvdec::{Instr, Op};
@@ -135,17 +135,12 @@ impl Station {
         self.finish.is_none() && self.ready() && (!self.is_memory() || self.address.is_some())
     }
 
-    /// The station with its address, where its base is there.
-    pub fn with_address(&self) -> Station
-        ensures { result ≡ with_address self.now }
+    /// Whether its second operand is there.
+    #[inline(always)]
+    pub(crate) fn has_second(&self) -> bool
+        ensures { result ≡ is_there self.now.k }
     {
-        match self.j {
-            Field::Value(base) => Station {
-                address: Some(base.wrapping_add(self.instr.imm())),
-                ..*self
-            },
-            _ => *self,
-        }
+        is_there(self.k)
     }
 
     /// Whether an operand waits for a place.

@@ -1,11 +1,8 @@
 use Rattle.std.proofs.Common.{◌∙◌, ap, sym}
 use Rattle.std.specs.Prelude.{slice_index}
 use Rattle.tomex_bus.proofs.Members.{inside_left}
-use Rattle.tomex_membuf.proofs.ByAge.{found_blocked, found_clear, looked_first, looked_more, no_access, none_by}
+use Rattle.tomex_membuf.proofs.ByAge.{found_blocked, found_clear, looked_first, looked_more}
 use Rattle.tomex_membuf.proofs.order.may_access.Goals as goal
-
-pub returns-then-is_none : goal.returns-then-is_none
-returns-then-is_none c older younger by = sym (no_access c.args.pools.now.slots older c.args.station.now c.args.next (sym c.bytes.ensures ∙ none_by c.bytes.result c.is_none.result c.is_none.ensures c.if-is_none.true))
 
 pub members-init : goal.members-init
 members-init c = record {

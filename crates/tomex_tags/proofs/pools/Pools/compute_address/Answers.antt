@@ -12,7 +12,7 @@ invariant_of-self c =
     let low = c.at.ensures.low (rw c.in-Some.is refl) in
     rw (c.address.ensures, at_place c.self.inside.pools c.args.place c.index-self-place.result c.self.invariant.six low ∙ at) (filled_by c.self.inside.pools c.self.inside.busy c.self.inside.busy c.self.inside.ages c.self.inside.ages c.args.place c.index-self-place.result (Some (with_address c.in-Some.station)) c.self.inside.standing c.address-in-Some.new.self c.self.inside.listeners.sets c.self.inside.listeners.sets c.self.invariant low c.self.invariant.filled.ages_count c.self.invariant.filled.small
     (said_same c.self.inside.busy c.args.place (Some (with_address c.in-Some.station)) (c.self.invariant.filled.each c.args.place (omega arith) ∙ ap is_some at))
-    (rw (← c.with_address.ensures) (address_filed _ c.args.place c.in-Some.station c.with_address.result c.self.inside.standing c.address-in-Some.new.self (omega arith) c.self.invariant.standing at c.with_address.ensures c.address-in-Some.ensures.lacking c.address-in-Some.ensures.waiting c.address-in-Some.ensures.others))
+    (address_filed _ c.args.place c.in-Some.station (with_address c.in-Some.station) c.self.inside.standing c.address-in-Some.new.self (omega arith) c.self.invariant.standing at refl c.address-in-Some.ensures.lacking c.address-in-Some.ensures.waiting c.address-in-Some.ensures.others)
     (address_own c.args.place c.in-Some.station (own_here _ c.args.place c.in-Some.station low c.self.invariant.own at))
     (same_listens _ c.args.place c.in-Some.station (with_address c.in-Some.station) c.self.inside.listeners.sets low c.self.invariant.listening at (address_same c.in-Some.station)))
 
