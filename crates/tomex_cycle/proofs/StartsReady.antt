@@ -45,8 +45,9 @@ wants_not slots older next unit None e = refl
 wants_not slots older next unit (Some s) e = no_kind (is_waiting s) (is_clear slots older s next) (unit_of s.instr.op) unit e
 
 -- what waits for one wants it, where no older access is in its way
-pub wants_clear : (slots : List (Option Station)) (older : List ℕ) (next : ℕ) (unit : UnitId) (o : Option Station) (s : Station) → o ≡ Some s → waits_for unit o ≡ true → is_number (wanted slots older next o) (place_of_unit unit) ≡ is_clear slots older s next
-wants_clear slots older next unit o s e w = rw e (one_kind (is_waiting s) (is_clear slots older s next) (unit_of s.instr.op) unit (rw e at w))
+pub wants_clear : (slots : List (Option Station)) (older : List ℕ) (next : ℕ) (unit : UnitId) (o : Option Station) (clear : Bool) → waits_for unit o ≡ true → ((s : Station) → o ≡ Some s → clear ≡ is_clear slots older s next) → clear ≡ is_number (wanted slots older next o) (place_of_unit unit)
+wants_clear slots older next unit None clear w each = absurd (both_ways false refl w)
+wants_clear slots older next unit (Some s) clear w each = each s refl ∙ sym (one_kind (is_waiting s) (is_clear slots older s next) (unit_of s.instr.op) unit w)
 
 -- Memory ports.
 
@@ -142,7 +143,7 @@ wants_unit : (slots : List (Option Station)) (older : List ℕ) (next : ℕ) (un
 wants_unit slots older next unit None apart = refl
 wants_unit slots older next unit (Some s) apart = elim (cases_Bool (waits_for unit (Some s))) [
   | inr e ↦ e ∙ sym (wants_not slots older next unit (Some s) e)
-  | inl e ↦ e ∙ sym (wants_clear slots older next unit (Some s) s refl e ∙ clear_of slots older next unit s apart e)
+  | inl e ↦ e ∙ sym (one_kind (is_waiting s) (is_clear slots older s next) (unit_of s.instr.op) unit e ∙ clear_of slots older next unit s apart e)
 ]
 
 pub ready_for : (st : Pools) (next set : ℕ) (unit : UnitId) → AreBusy st.slots st.busy st.ages → IsSetOf (waits_for unit) st.slots set → unit ≢ units.Mem → AreReadyFor st next unit set

@@ -113,8 +113,8 @@ impl<'a, A: Allocator> Machine<'a, A> {
         let next = self.cycle + 1;
         let made = self.inner.make_cycle(&mut self.fetcher, &self.row, next);
         self.cycle = pass_idle(&mut self.inner.finishes, &self.inner.pools, made, next, to);
-        self.last = made.progress;
-        self.last
+        self.last.come_to(made.progress);
+        made.progress
     }
 
     /// Does what as many ticks do as bring the cycle to `to`, fewer where the machine ends or faults.

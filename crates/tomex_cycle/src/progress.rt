@@ -24,6 +24,18 @@ impl Progress {
             Progress::Running
         }
     }
+
+    /// What the next cycle comes to. Mostly the program runs on, and nothing is written.
+    #[inline(always)]
+    pub(crate) fn come_to(&mut self, next: Progress)
+        requires { self.old ≡ Progress.Running }
+        ensures { self.new ≡ next }
+    {
+        match next {
+            Progress::Running => {}
+            over => *self = over,
+        }
+    }
 }
 
 /// What a cycle comes to, and whether it leaves all stations as they were.

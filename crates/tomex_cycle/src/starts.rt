@@ -27,10 +27,7 @@ fn is_clear(pools: &Pools, place: usize, next: u64) -> bool
     requires waits { waits_for UnitId.Mem (slice_index_or pools.now.slots place None) ≡ true }
     ensures { IsWanted pools.now next UnitId.Mem place result }
 {
-    match pools.at(place) {
-        Some(station) => may_access(pools, place, &station, next),
-        None => false,
-    }
+    may_access(pools, place, next)
 }
 
 /// The places of the loads and stores whose accesses can start but for want of a port.

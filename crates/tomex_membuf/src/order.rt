@@ -1,12 +1,12 @@
 //! Accesses that share a byte are made in program order.
 
-ghost use Rattle.std.specs.Prelude.{ℕ, List, None, true, false, ◌≡◌, ◌<◌, ◌++◌, ◌∷◌, ◌&&◌, not, nat_lt, slice_index, slice_index_or};
+ghost use Rattle.std.specs.Prelude.{ℕ, List, None, Some, true, false, ◌≡◌, ◌<◌, ◌++◌, ◌∷◌, ◌&&◌, not, nat_lt, slice_index, slice_index_or};
 ghost use Rattle.tomex_bus.specs.Picks.{IsByAge};
 ghost use Rattle.tomex_bus.specs.Sets.{has};
 ghost use Rattle.tomex_timing.specs.Recurrence.{shares_byte};
 ghost use Rattle.tomex_membuf.specs.Order.{is_before, is_clear, lets};
 
-use tomex_bus::sets::{both, lowest, without_lowest};
+use tomex_bus::sets::{both, has, lowest, without_lowest};
 use tomex_rvexec::ByteRange;
 use tomex_tags::{Pools, Station};
 
@@ -54,29 +54,32 @@ fn is_blocked_by(pools: &Pools, other: usize, station: &Station, age: u32, next:
     pools.ages()[other] < age && !lets(pools.at(other), station, next)
 }
 
-/// The places of the loads and stores with an address, of which an older one can be in a station's
-/// way: for a load the stores alone.
+/// The places of the loads and stores with an address, of which an older one can be in the way of the
+/// one in a place: for a load the stores alone.
 #[inline(always)]
-fn rivals(pools: &Pools, station: &Station) -> u128
+fn rivals(pools: &Pools, place: usize) -> u128
+    requires { place < 128 }
     ensures inside { (x : ℕ) → x < 128 → has result x ≡ true → has pools.now.busy x ≡ true }
-    ensures others { (next x : ℕ) → x < 128 → has result x ≡ false → lets (slice_index_or pools.now.slots x None) station.now next ≡ true }
+    ensures others { (s : Station) (next x : ℕ) → slice_index_or pools.now.slots place None ≡ Some s → x < 128 → has result x ≡ false → lets (slice_index_or pools.now.slots x None) s next ≡ true }
 {
     let addressed = pools.addressed();
-    if station.step().is_store() {
+    let stores = pools.stores();
+    if has(stores, place) {
         addressed
     } else {
-        both(addressed, pools.stores())
+        both(addressed, stores)
     }
 }
 
-/// Whether no older load or store that isn't finished before the cycle shares a byte with the one in
-/// a place, one of the two being a store. What accesses no memory waits for none.
-pub fn may_access(pools: &Pools, place: usize, station: &Station, next: u64) -> bool
-    requires { place < 128 }
+/// Whether a station, which stands in a place, needn't wait for any of its rivals.
+fn passes(pools: &Pools, place: usize, rivals: u128, station: &Station, next: u64) -> bool
+    requires low { place < 128 }
+    requires inside { (x : ℕ) → x < 128 → has rivals x ≡ true → has pools.now.busy x ≡ true }
+    requires others { (x : ℕ) → x < 128 → has rivals x ≡ false → lets (slice_index_or pools.now.slots x None) station.now next ≡ true }
     ensures { (older younger : List ℕ) → IsByAge pools.now.busy pools.now.ages (older ++ (place ∷ younger)) → result ≡ is_clear pools.now.slots older station.now next }
 {
     let age = pools.ages()[place];
-    let mut rest = rivals(pools, station);
+    let mut rest = rivals;
     'members: while rest != 0 {
         let other = lowest(rest);
         rest = without_lowest(rest);
@@ -85,4 +88,24 @@ pub fn may_access(pools: &Pools, place: usize, station: &Station, next: u64) -> 
         }
     }
     true
+}
+
+/// Whether no older load or store that isn't finished before the cycle shares a byte with the one in
+/// a place, one of the two being a store. What accesses no memory waits for none, and nor does a free
+/// place.
+#[inline(always)]
+pub fn may_access(pools: &Pools, place: usize, next: u64) -> bool
+    requires { place < 128 }
+    ensures access { (s : Station) (older younger : List ℕ) → slice_index_or pools.now.slots place None ≡ Some s → IsByAge pools.now.busy pools.now.ages (older ++ (place ∷ younger)) → result ≡ is_clear pools.now.slots older s next }
+    ensures free { slice_index_or pools.now.slots place None ≡ None → result ≡ true }
+{
+    let rivals = rivals(pools, place);
+    // Mostly there is none, and no station need be read.
+    if rivals == 0 {
+        return true;
+    }
+    match pools.at(place) {
+        Some(station) => passes(pools, place, rivals, &station, next),
+        None => true,
+    }
 }

@@ -216,9 +216,10 @@ impl Pools {
         self.pools[place / 16].put(place % 16, Some(station));
         self.listeners.add(place, station.j);
         self.listeners.add(place, station.k);
-        self.standing.file(place, &station);
         self.busy = with(self.busy, place);
         self.ages[place] = age;
+        // Last, for its last test, whether a register is written, is the first one of what an issue does next.
+        self.standing.file(place, &station);
     }
 
     /// Frees the place of the station that stands there.

@@ -1,25 +1,5 @@
-use Rattle.std.proofs.Common.{◌∙◌, ap, sym}
-use Rattle.std.specs.Prelude.{slice_index}
-use Rattle.tomex_bus.proofs.Members.{inside_left}
-use Rattle.tomex_membuf.proofs.ByAge.{found_blocked, found_clear, looked_first, looked_more}
+use Rattle.tomex_membuf.proofs.ByAge.{none_found}
 use Rattle.tomex_membuf.proofs.order.may_access.Goals as goal
 
-pub members-init : goal.members-init
-members-init c = record {
-  inside = c.rivals-rest.ensures.inside;
-  looked = looked_first c.args.pools.now.slots c.args.pools.now.busy c.rivals-rest.result c.args.pools.now.ages _ c.args.station.now c.args.next c.rivals-rest.ensures.others;
-}
-
-pub returns-then-is_blocked_by : goal.returns-then-is_blocked_by
-returns-then-is_blocked_by c older younger by = found_blocked c.args.pools.now.slots c.args.pools.now.busy c.args.pools.now.ages older younger c.args.place c.lowest-other.result _ c.args.station.now c.args.next c.is_blocked_by.result by (ap (λ xs. slice_index xs c.args.place) c.ages.ensures) c.lowest-other.ensures.below
-    (c.members.invariant.inside c.lowest-other.result c.lowest-other.ensures.below c.lowest-other.ensures.member) c.is_blocked_by.ensures c.if-is_blocked_by.true
-
-pub members-preserved : goal.members-preserved
-members-preserved c =
-    let without = c.without_lowest-rest.ensures.others c.lowest-other.result c.lowest-other.ensures.member c.lowest-other.ensures.least in record {
-      inside = inside_left c.args.pools.now.busy c.members.rest c.without_lowest-rest.result c.lowest-other.result c.members.invariant.inside without;
-      looked = looked_more c.args.pools.now.slots c.args.pools.now.busy c.members.rest c.without_lowest-rest.result c.args.pools.now.ages c.lowest-other.result _ c.args.station.now c.args.next c.members.invariant.looked without (sym c.is_blocked_by.ensures ∙ c.if-is_blocked_by.false);
-    }
-
-pub returns : goal.returns
-returns c older younger by = found_clear c.args.pools.now.slots c.args.pools.now.busy c.members.rest c.args.pools.now.ages older younger c.args.place _ c.args.station.now c.args.next by (ap (λ xs. slice_index xs c.args.place) c.ages.ensures) c.members-test.false c.members.invariant.looked
+pub returns-then-rivals-eq0-clause-access : goal.returns-then-rivals-eq0-clause-access
+returns-then-rivals-eq0-clause-access c s older younger here by = none_found c.args.pools.now.slots c.args.pools.now.busy c.rivals-rivals.result c.args.pools.now.ages older younger c.args.place s c.args.next by c.if-rivals-eq0.true (λ x l e. c.rivals-rivals.ensures.others s c.args.next x here l e)

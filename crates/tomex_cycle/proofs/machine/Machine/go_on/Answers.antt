@@ -11,7 +11,7 @@ pub invariant_of-self : goal.invariant_of-self
 invariant_of-self g c =
     let running = ap (λ x. x.last) c.self.view_is ∙ c.requires.running in
     let most : c.pass_idle-self-inside.result ≤ c.args.to = c.pass_idle-self-inside.ensures.most in
-    let least : c.self.inside.cycle + 1 ≤ c.pass_idle-self-inside.result = c.pass_idle-self-inside.ensures.least in (
+    let least : c.self.inside.cycle + 1 ≤ c.pass_idle-self-inside.result = c.pass_idle-self-inside.ensures.least in rw c.come_to.ensures (
       rw c.make_cycle-made.ensures.same (sound_later _ _ c.self.inside.cycle c.pass_idle-self-inside.result c.self.inside.last _ _ _ _ _ _ _ _ _ _ _ c.self.invariant.0 running
           (λ n s kind t ends few e good loaded old. let r = c.make_cycle-made.ensures.cycle n s kind t ends few e good loaded old in (r.0, r.1)) c.pass_idle-self-inside.ensures.least (omega arith) (λ l.
           let still = c.pass_idle-self-inside.ensures.still l in

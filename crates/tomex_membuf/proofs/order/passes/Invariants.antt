@@ -1,7 +1,7 @@
 use Rattle.std.proofs.Common.{ℕ, ◌≡◌, ◌<◌, true, slice_index, slice_index_or, None, ◌⊎◌}
 use Rattle.tomex_bus.specs.Sets.{has}
 use Rattle.tomex_membuf.specs.Order.{lets}
-use Rattle.tomex_membuf.proofs.order.may_access.Given as goal
+use Rattle.tomex_membuf.proofs.order.passes.Given as goal
 
 -- the older ones that were looked at let it
 abbrev pub invariant-members : goal.invariant-members
