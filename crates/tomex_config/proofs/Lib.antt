@@ -1,4 +1,5 @@
 pub mod Ranges
+pub mod Grown
 pub mod Lengths
 pub mod Varied
 pub mod Counted

@@ -1,0 +1,9 @@
+use Rattle.tomex_config.specs.Row.{with_stations}
+use Rattle.tomex_config.proofs.Grown.{one_row, one_value}
+use Rattle.tomex_config.proofs.product.vary_stations.Goals as goal
+
+pub loop-count-preserved : goal.loop-count-preserved
+loop-count-preserved g c = one_value (with_stations c.args.pool) c.row-item.result c.args.counts.now c.loop-count.count-index _ c.loop-row.varied.items c.loop-count.varied.items c.push.new.self.items c.with_stations.result c.loop-count-test.true c.loop-count.invariant c.with_stations.ensures c.in_ok-push.ensures.items
+
+pub loop-row-preserved : goal.loop-row-preserved
+loop-row-preserved g c = one_row (with_stations c.args.pool) c.args.counts.now c.args.rows.now c.loop-row.row-index c.loop-count.count-index c.row-item.result c.loop-row.varied.items c.loop-count.varied.items c.loop-row-test.true c.loop-count-test.false c.loop-row.invariant c.row-item.is c.loop-count.invariant
