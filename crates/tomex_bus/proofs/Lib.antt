@@ -1,6 +1,7 @@
 pub mod Powers
 pub mod Bits
 pub mod Members
+pub mod Split
 pub mod Picking
 pub mod Turning
 mod Rows

@@ -7,6 +7,7 @@
 
 mod alone;
 mod arbiter;
+mod halves;
 pub mod places;
 pub mod sets;
 mod wheel;

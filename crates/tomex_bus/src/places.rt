@@ -4,6 +4,8 @@
 ghost use Rattle.std.specs.Prelude.{ℕ, ◌≡◌, ◌<◌, ◌≤◌, ◌+◌, ◌*◌, true, false};
 ghost use Rattle.tomex_bus.specs.Sets.{has, IsWith, IsWithout};
 
+use crate::halves::{lower, upper};
+
 /// The set and the place.
 #[inline(always)]
 pub(crate) fn with_place(set: u64, place: usize) -> u64
@@ -33,17 +35,23 @@ pub(crate) fn lowest(set: u64) -> usize
     set.trailing_zeros() as usize
 }
 
+/// The set but for its least member.
+#[inline(always)]
+pub(crate) fn without_lowest(set: u64) -> u64
+    requires { 0 < set }
+    ensures others { (x : ℕ) → has set x ≡ true → ((i : ℕ) → i < x → has set i ≡ false) → IsWithout set x result }
+    ensures less { result < set }
+{
+    set & (set - 1)
+}
+
 /// The members of a wider set that are in one of its eight groups of 16, each by its number in there.
 #[inline(always)]
 pub fn in_group(set: u128, group: usize) -> u64
     requires { group < 8 }
     ensures { (n : ℕ) → n < 16 → has result n ≡ has set (16 * group + n) }
 {
-    let half = if group < 4 {
-        (set % (1 << 64)) as u64
-    } else {
-        (set >> 64) as u64
-    };
+    let half = if group < 4 { lower(set) } else { upper(set) };
     half >> (16 * (group % 4))
 }
 

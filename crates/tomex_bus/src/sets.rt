@@ -4,6 +4,8 @@ ghost use Rattle.std.specs.Prelude.{ℕ, ◌≡◌, ◌<◌, ◌&&◌, ◌||◌,
 ghost use Rattle.tomex_bus.specs.Sets.{has, IsWith, IsWithout};
 
 use crate::alone::alone;
+use crate::halves::{lower, upper, whole};
+use crate::places;
 
 /// Whether a number is in the set.
 #[inline(always)]
@@ -21,6 +23,16 @@ pub fn with(set: u128, number: usize) -> u128
     ensures { IsWith set number result }
 {
     set | alone(number)
+}
+
+/// The set, and the number where it is to be a member: no branch is taken.
+#[inline(always)]
+pub fn with_if(set: u128, number: usize, member: bool) -> u128
+    requires { number < 128 }
+    ensures comes { member ≡ true → IsWith set number result }
+    ensures stays { member ≡ false → result ≡ set }
+{
+    set | u128::from(member) << number
 }
 
 /// The set but for the number.
@@ -41,7 +53,11 @@ pub fn lowest(set: u128) -> usize
     ensures member { has set result ≡ true }
     ensures least { (i : ℕ) → i < result → has set i ≡ false }
 {
-    set.trailing_zeros() as usize
+    let near = lower(set);
+    if near != 0 {
+        return places::lowest(near);
+    }
+    64 + places::lowest(upper(set))
 }
 
 /// The set but for its least member, in fewer operations than `without` takes for any member.
@@ -51,7 +67,11 @@ pub fn without_lowest(set: u128) -> u128
     ensures others { (x : ℕ) → has set x ≡ true → ((i : ℕ) → i < x → has set i ≡ false) → IsWithout set x result }
     ensures less { result < set }
 {
-    set & (set - 1)
+    let near = lower(set);
+    if near != 0 {
+        return whole(places::without_lowest(near), upper(set));
+    }
+    whole(0, places::without_lowest(upper(set)))
 }
 
 /// Whether there is at most one member.

@@ -100,6 +100,13 @@ now_seen i row cycle last seen count st rg ft m e sound =
     let P : Seen → Type 0 = λ x. EndsWithin x.image 262144 → x ≡ seen_after x.image x.row x.cycle in
     subst P e (λ ends. seen_is i row cycle last count st rg ft m sound ends)
 
+-- a machine that has ended is as it is after any more ticks
+pub over_seen : (i : Loaded) (row : Row) (k to : ℕ) (seen : Seen) → seen ≡ seen_after i row k → (seen.last ≡ Running → ⊥) → k ≤ to → seen ≡ seen_after i row to
+over_seen i row k to seen e over l =
+    let last : seen.last ≡ (if nat_lt k (total row i) then Running else Ended) = ap (λ (x : Seen). x.last) e in
+    let low : total row i ≤ k = other_high k (total row i) seen.last last over in
+    e ∙ same_seen i row (min k (total row i)) (min to (total row i)) (if nat_lt k (total row i) then Running else Ended) (if nat_lt to (total row i) then Running else Ended) (omega arith) (rw (le-ltb k (total row i) low, le-ltb to (total row i) (omega arith)) refl)
+
 end_is_not_running : (last : Progress) → is_end last ≡ true → last ≡ Running → ⊥
 end_is_not_running last e f = let g : is_end Running ≡ true = rw f at e in absurd (cc)
 

@@ -11,7 +11,6 @@ ghost use Rattle.tomex_image.specs.Image.{Loaded};
 ghost use Rattle.tomex_rvexec.specs.Run.{IsEnd};
 ghost use Rattle.tomex_timing.specs.Tables.{tables_of};
 ghost use Rattle.tomex_timing.specs.declared.times.Done.{Done};
-ghost use Rattle.tomex_tags.specs.Pools.{AreBusy};
 ghost use Rattle.tomex_cycle.specs.Run.{run_to, AreIssuedBy, IsHistory};
 ghost use Rattle.tomex_cycle.specs.Views.{clocks, ShowsStations, ShowsRegisters};
 ghost use Rattle.tomex_cycle.specs.Phases.{IsSnapshot, is_done};
@@ -108,6 +107,8 @@ impl<A: Allocator> Inner<A> {
             row,
             next,
         );
+        // Read for what the type of the stations keeps.
+        let _busy = self.pools.busy();
         Made {
             progress: Progress::after(self.is_over()),
             still: leaves_all(starts.any, addressed, self.count, before, ended),
@@ -116,11 +117,12 @@ impl<A: Allocator> Inner<A> {
 
     /// Whether nothing is left to issue or to end.
     fn is_over(&self) -> bool
-        ensures over { result ≡ is_done self.now.fetch self.now.pools.busy }
-        ensures busy { AreBusy self.now.pools.slots self.now.pools.busy self.now.pools.ages }
+        ensures { result ≡ is_done self.now.fetch self.now.pools.busy }
     {
-        let busy = self.pools.busy();
-        matches!(self.fetch, Fetch::Stopped(..)) && busy == 0
+        match self.fetch {
+            Fetch::Stopped(..) => self.pools.busy() == 0,
+            _ => false,
+        }
     }
 
     /// Before the first cycle.

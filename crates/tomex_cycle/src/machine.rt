@@ -133,14 +133,17 @@ impl<'a, A: Allocator> Machine<'a, A> {
     {
         // Read for what the machine's type keeps.
         let _start = self.cycle();
-        while self.cycle < to {
-            match self.last {
-                Progress::Running => {}
-                _ => break,
-            }
-            self.go_on(to);
+        match self.last {
+            Progress::Running => {}
+            over => return over,
         }
-        self.last
+        while self.cycle < to {
+            match self.go_on(to) {
+                Progress::Running => {}
+                over => return over,
+            }
+        }
+        Progress::Running
     }
 
     /// The cycle that was made last.

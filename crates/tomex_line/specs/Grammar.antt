@@ -1,5 +1,5 @@
 -- The grammar of the command line: what each command takes.
-use Rattle.std.specs.Prelude.{ℕ, List, [], ◌∷◌, codes, true, false, pos, Some}
+use Rattle.std.specs.Prelude.{ℕ, [], ◌∷◌, codes, true, false, pos, Some}
 use Rattle.clap.specs.Words.{App, Rule, Shape, Text, new_app, new_rule}
 use Rattle.clap.specs.Simple.{new_shape, on_top}
 use Rattle.clap.specs.declared.builder.value_parser.ValueParser.TheVariants as parsers

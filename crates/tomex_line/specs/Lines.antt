@@ -1,5 +1,5 @@
 -- What a command line that asks for no command comes to.
-use Rattle.std.specs.Prelude.{ℕ, ◌≢◌, ◌≡◌, ◌⊎◌}
+use Rattle.std.specs.Prelude.{ℕ, ◌≢◌, ◌≡◌, ◌⊎◌, ◌++◌, ◌∷◌, List, [], codes}
 use Rattle.clap.specs.Values.{kind_of}
 use Rattle.clap.specs.declared.error.Error.{Error}
 use Rattle.clap.specs.declared.error.kind.ErrorKind.TheVariants.{DisplayHelp, DisplayVersion, OutOfMemory}
@@ -24,3 +24,7 @@ abbrev pub IsRefusal : LineFault → Type 0
 IsRefusal (Help text) = ⊥
 IsRefusal (Usage text) = Unit {0}
 IsRefusal Memory = Unit {0}
+
+-- what is said of a line whose words are not all text
+abbrev pub not_text : List ℕ
+not_text = codes "error: the command line is not UTF-8" ++ (10 ∷ [])

@@ -3,6 +3,7 @@
 #![tactic(auto)]
 
 mod line;
+mod system;
 
 pub use line::all::AllLine;
 pub use line::explore::ExploreLine;
@@ -10,3 +11,4 @@ pub use line::run::RunLine;
 pub use line::tables::TablesLine;
 pub use line::times::TimesLine;
 pub use line::{Line, LineFault, read_line};
+pub use system::{not_text, unread};

@@ -1,7 +1,7 @@
 -- The sets of what stations wait for, as stations come, change and go.
-use Rattle.std.proofs.Common.{ℕ, ◌<◌, ◌≡◌, ◌∙◌, Bool, true, false, refl, ap, sym, subst, inl, inr, List, Option, Some, None, length, slice_index_or, slice_set}
-use Rattle.std.specs.Prelude.{◌==◌, ◌&&◌, is_some}
-use Rattle.std.proofs.lemmas.Bool.{both_ways, cases_Bool, eqb-true, eqb-false}
+use Rattle.std.proofs.Common.{ℕ, ◌<◌, ◌≡◌, ◌∙◌, Bool, true, false, refl, ap, sym, inl, inr, List, Option, Some, None, length, slice_index_or, slice_set}
+use Rattle.std.specs.Prelude.{◌==◌, ◌&&◌, ◌||◌, not, is_none, is_some, option_map}
+use Rattle.std.proofs.lemmas.Bool.{and_parts, both_ways, cases_Bool, eqb-true, eqb-false}
 use Rattle.std.proofs.lemmas.List.{get_or-set_same, get_or-set_other}
 use Rattle.tomex_bus.specs.Sets.{has, IsWith, IsWithout}
 use Rattle.tomex_bus.proofs.Bits.{none_in}
@@ -9,7 +9,8 @@ use Rattle.tomex_tags.specs.declared.standing.Standing.{Standing}
 use Rattle.tomex_tags.specs.declared.station.Station.{Station}
 use Rattle.tomex_timing.specs.declared.tables.Field.{Field}
 use Rattle.tomex_timing.specs.declared.tables.Field.TheVariants.{Value, Waits, Unread}
-use Rattle.tomex_tags.specs.Contents.{hears, is_waiting, lacks_address, started, with_address}
+use Rattle.tomex_tags.specs.Contents.{hears, is_memory_op, is_ready, lacks_address, started, with_address}
+use Rattle.tomex_tags.specs.Operands.{heard, is_there}
 use Rattle.tomex_tags.specs.Pools.{AreBusy}
 use Rattle.tomex_tags.specs.Standing.{AreStanding, HasFiled, IsFiled, IsKept, IsSetOf, waits, writes}
 
@@ -67,12 +68,34 @@ address_filed slots x s h old new l standing at made lacks waited same = record 
   writing = kept writes slots old.writing new.writing x (Some h) (Some s) l standing.writing at (rw made (address_writes s)) same;
 }
 
-pub hear_filed : (slots : List (Option Station)) (x : ℕ) (sent : ℕ → Option ℕ) (s h : Station) (w : Bool) (old new : Standing) → x < 128 → AreStanding slots old → slice_index_or slots x None ≡ Some s → h ≡ hears sent s → w ≡ is_waiting h → IsFiled x w old.waiting new.waiting → IsKept old new → HasFiled x (Some h) old new
-hear_filed slots x sent s h w old new l standing at heard is filed same = rw heard (record {
-  lacking = kept lacks_address slots old.lacking new.lacking x (Some (hears sent s)) (Some s) l standing.lacking at refl same.lacking;
-  waiting = subst (λ (z : Bool). IsFiled x z old.waiting new.waiting) (is ∙ ap is_waiting heard) filed;
-  writing = kept writes slots old.writing new.writing x (Some (hears sent s)) (Some s) l standing.writing at refl same.writing;
-})
+pub hear_filed : (slots : List (Option Station)) (x : ℕ) (sent : ℕ → Option ℕ) (o : Option Station) (old new : Standing) → x < 128 → AreStanding slots old → slice_index_or slots x None ≡ o → IsFiled x (waits (option_map (hears sent) o)) old.waiting new.waiting → IsKept old new → HasFiled x (option_map (hears sent) o) old new
+hear_filed slots x sent o old new l standing at filed same = record {
+  lacking = kept lacks_address slots old.lacking new.lacking x (option_map (hears sent) o) o l standing.lacking at (lacks_still o) same.lacking;
+  waiting = filed;
+  writing = kept writes slots old.writing new.writing x (option_map (hears sent) o) o l standing.writing at (writes_still o) same.writing;
+}
+  where
+    lacks_still : (p : Option Station) → lacks_address (option_map (hears sent) p) ≡ lacks_address p
+    lacks_still None = refl
+    lacks_still (Some s) = refl
+
+    writes_still : (p : Option Station) → writes (option_map (hears sent) p) ≡ writes p
+    writes_still None = refl
+    writes_still (Some s) = refl
+
+-- a station that waits for nothing has nothing to hear
+still_there : (sent : ℕ → Option ℕ) (f : Field) → is_there f ≡ true → is_there (heard sent f) ≡ true
+still_there sent (Value v) e = refl
+still_there sent Unread e = refl
+still_there sent (Waits tag) e = absurd (cc)
+
+pub still_waits : (sent : ℕ → Option ℕ) (o : Option Station) → waits o ≡ true → waits (option_map (hears sent) o) ≡ true
+still_waits sent None e = e
+still_waits sent (Some s) e =
+    let two = and_parts (is_none s.finish && is_ready s) (not (is_memory_op s.instr.op) || is_some s.address) e in
+    let none = and_parts (is_none s.finish) (is_ready s) two.0 in
+    let operands = and_parts (is_there s.j) (is_there s.k) none.1 in
+    rw (none.0, still_there sent s.j operands.0, still_there sent s.k operands.1, two.1) refl
 
 -- no station is in a set
 pub none_stand : (slots : List (Option Station)) → ((x : ℕ) → x < 128 → slice_index_or slots x None ≡ None) → AreStanding slots (record { lacking = 0; waiting = 0; writing = 0 })

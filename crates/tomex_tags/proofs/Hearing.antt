@@ -1,5 +1,5 @@
 -- A broadcast reaches one busy station after the other.
-use Rattle.std.proofs.Common.{ℕ, ◌<◌, ◌≡◌, ◌∙◌, Bool, true, false, arith, refl, ap, sym, inl, inr, Option, Some, None, length, slice_index_or, slice_set}
+use Rattle.std.proofs.Common.{ℕ, ◌<◌, ◌≤◌, ◌≡◌, ◌∙◌, Bool, true, false, arith, refl, ap, sym, inl, inr, Option, Some, None, length, slice_index_or, slice_set}
 use Rattle.std.specs.Prelude.{◌==◌, ◌||◌, if◌then◌else◌, option_map}
 use Rattle.std.proofs.lemmas.Bool.{both_ways, cases_Bool, eqb-true, eqb-false}
 use Rattle.std.proofs.lemmas.List.{get_or-set_same, get_or-set_other, length-set}
@@ -63,40 +63,31 @@ none_listening from value rest old new so empty x l = ap (awaits from) (so.slots
     silent None = refl
     silent (Some s) = hears_none from value s
 
-pub heard_more : (sent : ℕ → Option ℕ) (rest left x : ℕ) (old now new : Pools) (s after : Station) → AreHearing sent rest old now → x < 128 → has rest x ≡ true → IsWithout rest x left → slice_index_or now.slots x None ≡ Some s → after ≡ hears sent s
-    → new.slots ≡ slice_set now.slots x (Some after) → new.busy ≡ now.busy → new.ages ≡ now.ages → AreHearing sent left old new
-heard_more sent rest left x old now new s after so small member without here made slots busy ages =
+-- what stands in one place more has heard it
+pub heard_more : (sent : ℕ → Option ℕ) (rest left x : ℕ) (old now new : Pools) → AreHearing sent rest old now → x < 96 → has rest x ≡ true → IsWithout rest x left
+    → new.slots ≡ slice_set now.slots x (option_map (hears sent) (slice_index_or now.slots x None)) → new.busy ≡ now.busy → new.ages ≡ now.ages → AreHearing sent left old new
+heard_more sent rest left x old now new so small member without slots busy ages =
     let count : length now.slots ≡ 96 = so.places in
     record {
-      places = ap length slots ∙ (length-set now.slots x (Some after) ∙ so.places);
+      places = ap length slots ∙ (length-set now.slots x (option_map (hears sent) (slice_index_or now.slots x None)) ∙ so.places);
       slots = λ y l. elim (cases_Bool (x == y)) [
         | inl k ↦
             let same : x ≡ y = eqb-true x y k in
-            let low : x < 96 = rw (← same) at l in
-            let before : Some s ≡ slice_index_or old.slots x None = sym here ∙ (so.slots x low ∙ rw member refl) in
-            rw (← same, slots, without.same) (get_or-set_same now.slots x (Some after) None (omega arith) ∙ (ap (λ (z : Station). Some z) made ∙ ap (option_map (hears sent)) before))
+            let before : slice_index_or now.slots x None ≡ slice_index_or old.slots x None = so.slots x small ∙ rw member refl in
+            rw (← same, slots, without.same) (get_or-set_same now.slots x (option_map (hears sent) (slice_index_or now.slots x None)) None (omega arith) ∙ ap (option_map (hears sent)) before)
         | inr k ↦
             let other : has left y ≡ has rest y = without.others y (omega arith) (λ z. eqb-false x y k (sym z)) in
-            rw (slots, other) (get_or-set_other now.slots x y (Some after) None (λ z. eqb-false x y k (sym z)) ∙ so.slots y l)
+            rw (slots, other) (get_or-set_other now.slots x y (option_map (hears sent) (slice_index_or now.slots x None)) None (λ z. eqb-false x y k (sym z)) ∙ so.slots y l)
       ];
       busy = busy ∙ so.busy;
       ages = ages ∙ so.ages;
     }
 
--- a station that waits for nothing of it stays as it is
-pub heard_kept : (sent : ℕ → Option ℕ) (rest left x : ℕ) (old now : Pools) (s : Station) → AreHearing sent rest old now → x < 128 → has rest x ≡ true → IsWithout rest x left → slice_index_or now.slots x None ≡ Some s → s ≡ hears sent s → AreHearing sent left old now
-heard_kept sent rest left x old now s so small member without here stays = record {
+-- nothing stands past the last place
+pub heard_past : (sent : ℕ → Option ℕ) (rest left x : ℕ) (old now : Pools) → AreHearing sent rest old now → 96 ≤ x → IsWithout rest x left → AreHearing sent left old now
+heard_past sent rest left x old now so high without = record {
   places = so.places;
-  slots = λ y l. elim (cases_Bool (x == y)) [
-    | inl k ↦
-        let same : x ≡ y = eqb-true x y k in
-        let low : x < 96 = rw (← same) at l in
-        let before : Some s ≡ slice_index_or old.slots x None = sym here ∙ (so.slots x low ∙ rw member refl) in
-        rw (← same, without.same) (here ∙ (ap (λ (z : Station). Some z) stays ∙ ap (option_map (hears sent)) before))
-    | inr k ↦
-        let other : has left y ≡ has rest y = without.others y (omega arith) (λ z. eqb-false x y k (sym z)) in
-        rw other (so.slots y l)
-  ];
+  slots = λ y l. let other : has left y ≡ has rest y = without.others y (omega arith) (λ z. absurd (omega arith)) in rw other (so.slots y l);
   busy = so.busy;
   ages = so.ages;
 }

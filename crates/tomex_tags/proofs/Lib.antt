@@ -4,3 +4,4 @@ pub mod Filing
 pub mod Listening
 pub mod Serving
 pub mod Starting
+pub mod Reaching

@@ -1,6 +1,6 @@
 -- The places of six pools of 16 stations, one after the other.
 use Rattle.std.proofs.Common.{ℕ, zero, suc, ◌+◌, ◌*◌, ◌-◌, ◌/◌, ◌%◌, ◌^◌, ◌<◌, ◌≡◌, ◌∙◌, true, arith, refl, ap, sym, inl, inr, List, [], ◌∷◌, ◌++◌, Option, None, length, slice_index_or, slice_set, replicate, get_or}
-use Rattle.std.specs.Prelude.{◌==◌, if◌then◌else◌, is_some}
+use Rattle.std.specs.Prelude.{◌==◌, if◌then◌else◌, is_some, option_map}
 use Rattle.std.proofs.lemmas.Bool.{cases_Bool, cases_order, eqb-true, eqb-false}
 use Rattle.std.proofs.lemmas.List.{get_or_append_left, get_or-append_right, length-set, get_or-set_same, get_or-set_other, set-append_left, set-append_right}
 use Rattle.std.proofs.lemmas.List.Concat.{flat_map-cons}
@@ -68,6 +68,13 @@ pub set_place : (pools : List Pool) (x : ℕ) (d : Pool) (v : Option Station) �
 set_place pools x d v six l =
     let count : length pools ≡ 6 = six.count in
     slot_set pools (x / 16) (x % 16) d v six.sizes (omega arith) (omega arith) ∙ ap (λ (y : ℕ). slice_set (slots_of pools) y v) (parts x)
+
+-- the station in a place, where there is one, is changed
+pub changed_in : (change : Station → Station) (pools : List Pool) (x : ℕ) (d : Pool) → AreSix pools → x < 96
+    → slots_of (set_in pools x d (option_map change (slice_index_or (get_or pools (x / 16) d) (x % 16) None))) ≡ slice_set (slots_of pools) x (option_map change (slice_index_or (slots_of pools) x None))
+changed_in change pools x d six l =
+    set_place pools x d (option_map change (slice_index_or (get_or pools (x / 16) d) (x % 16) None)) six l
+    ∙ ap (λ (o : Option Station). slice_set (slots_of pools) x (option_map change o)) (at_place pools x d six l)
 
 -- a place is written, and the set of the busy ones says so
 pub filled_by : (pools : List Pool) (busy new : ℕ) (ages later : List ℕ) (x : ℕ) (d : Pool) (v : Option Station) (old standing : Standing) (listeners more : List ℕ) → AreFilled pools busy ages old listeners → x < 96 → length later ≡ 128 → new < 2 ^ 128 → ((y : ℕ) → y < 128 → has new y ≡ (if x == y then is_some v else has busy y)) → HasFiled x v old standing → IsOwn x v → Listens x v listeners more → AreFilled (set_in pools x d v) new later standing more

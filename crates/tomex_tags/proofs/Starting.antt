@@ -1,20 +1,14 @@
 -- The operation of a station starts where the station stands.
-use Rattle.std.proofs.Common.{ℕ, ◌/◌, ◌%◌, ◌<◌, ◌≡◌, ◌∙◌, arith, ap, false, true, refl, List, Option, Some, None, slice_index_or, slice_set, get_or}
+use Rattle.std.proofs.Common.{ℕ, ◌/◌, ◌%◌, ◌<◌, ◌≡◌, ◌∙◌, arith, ap, false, true, refl, List, Option, Some, None, slice_index_or, get_or}
 use Rattle.std.specs.Prelude.{IsSome, is_some, option_map}
 use Rattle.tomex_tags.specs.declared.standing.Standing.{Standing}
 use Rattle.tomex_tags.specs.declared.station.Station.{Station}
 use Rattle.tomex_tags.specs.Contents.{started}
-use Rattle.tomex_tags.specs.Pools.{AreFilled, AreSix, slots_of}
+use Rattle.tomex_tags.specs.Pools.{AreFilled, slots_of}
 use Rattle.tomex_tags.specs.Standing.{IsFiled, IsKept}
 use Rattle.tomex_tags.proofs.Filing.{start_filed}
 use Rattle.tomex_tags.proofs.Listening.{own_here, same_listens}
-use Rattle.tomex_tags.proofs.Slots.{at_place, filled_by, said_same, set_in, set_place}
-
-pub starts_in : (pools : List (List (Option Station))) (x finish value : ℕ) (d : List (Option Station)) → AreSix pools → x < 96
-    → slots_of (set_in pools x d (option_map (started finish value) (slice_index_or (get_or pools (x / 16) d) (x % 16) None))) ≡ slice_set (slots_of pools) x (option_map (started finish value) (slice_index_or (slots_of pools) x None))
-starts_in pools x finish value d six l =
-    set_place pools x d (option_map (started finish value) (slice_index_or (get_or pools (x / 16) d) (x % 16) None)) six l
-    ∙ ap (λ (o : Option Station). slice_set (slots_of pools) x (option_map (started finish value) o)) (at_place pools x d six l)
+use Rattle.tomex_tags.proofs.Slots.{at_place, filled_by, said_same, set_in}
 
 pub starts_filled : (pools : List (List (Option Station))) (busy x finish value : ℕ) (ages listeners : List ℕ) (d : List (Option Station)) (old standing : Standing) → AreFilled pools busy ages old listeners → x < 96 → IsSome (slice_index_or (slots_of pools) x None)
     → IsFiled x false old.waiting standing.waiting → IsKept old standing

@@ -188,21 +188,6 @@ impl Pools {
         }
     }
 
-    /// Turns each Q of the station in a place that names another into V.
-    #[inline(always)]
-    fn hear_at(&mut self, place: usize, station: Station, from: usize, value: u32)
-        requires { slice_index_or self.old.slots place None ≡ Some station }
-        ensures slots { self.new.slots ≡ slice_set self.old.slots place (Some (hears (only from (Some value)) station)) }
-        ensures busy { self.new.busy ≡ self.old.busy }
-        ensures ages { self.new.ages ≡ self.old.ages }
-    {
-        if place < 96 {
-            let heard = station.hears(from, value);
-            self.pools[place / 16].hear(place % 16, from, value);
-            self.standing.wait(place, heard.is_waiting());
-        }
-    }
-
     /// A station takes a place that is free; so many instructions had issued before its own.
     #[inline(always)]
     pub fn take(&mut self, place: usize, station: Station, age: u32)
@@ -277,13 +262,23 @@ impl Pools {
         'members: while rest != 0 {
             let place = lowest(rest);
             rest = without_lowest(rest);
-            if let Some(station) = self.at(place) {
-                if station.awaits(from) {
-                    self.hear_at(place, station, from, value);
-                }
+            if place < 96 {
+                self.hear_at(place, from, value);
             }
         }
         self.forget(from);
+    }
+
+    /// Turns each Q of the station in a place that names another into V, where a station is busy there.
+    #[inline(always)]
+    fn hear_at(&mut self, place: usize, from: usize, value: u32)
+        requires { place < 96 }
+        ensures slots { self.new.slots ≡ slice_set self.old.slots place (option_map (hears (only from (Some value))) (slice_index_or self.old.slots place None)) }
+        ensures busy { self.new.busy ≡ self.old.busy }
+        ensures ages { self.new.ages ≡ self.old.ages }
+    {
+        let waits = self.pools[place / 16].hear(place % 16, from, value);
+        self.standing.hear(place, waits);
     }
 
     /// The places of all stations with an operand to come from a place, and perhaps of others.

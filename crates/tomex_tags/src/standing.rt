@@ -1,12 +1,12 @@
 //! What the busy stations wait for.
 
-ghost use Rattle.std.specs.Prelude.{◌≡◌, ◌<◌, None, Some, false};
+ghost use Rattle.std.specs.Prelude.{◌≡◌, ◌<◌, None, Some, false, true};
 ghost use Rattle.tomex_bus.specs.Sets.{has};
 ghost use Rattle.tomex_tags.specs.Contents.{lacks_address, with_address};
 ghost use Rattle.tomex_tags.specs.Standing.{HasFiled, IsFiled, IsKept, IsOut, waits};
 
 use crate::station::Station;
-use tomex_bus::sets::{with, without};
+use tomex_bus::sets::{with, with_if, without};
 use tomex_timing::Field;
 
 /// Sets of the busy places, by what their stations wait for.
@@ -88,6 +88,17 @@ impl Standing {
         ensures others { IsKept self.old self.new }
     {
         self.waiting = filed(self.waiting, place, waits);
+    }
+
+    /// The station in a place has heard a result: where it waited for nothing before, it does so still.
+    #[inline(always)]
+    pub fn hear(&mut self, place: usize, waits: bool)
+        requires low { place < 128 }
+        requires still { has self.old.waiting place ≡ true → waits ≡ true }
+        ensures waiting { IsFiled place waits self.old.waiting self.new.waiting }
+        ensures others { IsKept self.old self.new }
+    {
+        self.waiting = with_if(self.waiting, place, waits);
     }
 
     /// The station in a place leaves it. As it ends, it waits for nothing more: that set seldom changes.

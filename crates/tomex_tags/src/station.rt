@@ -1,8 +1,8 @@
 //! A busy reservation station.
 
-ghost use Rattle.std.specs.Prelude.{ℕ, ◌≡◌, Some, false};
+ghost use Rattle.std.specs.Prelude.{◌≡◌, Some};
 ghost use Rattle.tomex_tags.specs.Operands.{is_there, value_in, heard, only};
-ghost use Rattle.tomex_tags.specs.Contents.{bytes_in, busy_from, hears, is_memory_op, is_ready, is_waiting, lacks_address, step_in};
+ghost use Rattle.tomex_tags.specs.Contents.{bytes_in, busy_from, is_memory_op, is_ready, is_waiting, lacks_address, step_in};
 
 use crate::places::place;
 use tomex_rvdec::{Instr, Op};
@@ -61,17 +61,6 @@ pub(crate) fn heard(field: Field, from: usize, value: u32) -> Field
             }
         }
         _ => field,
-    }
-}
-
-/// Whether an operand waits for a place.
-#[inline(always)]
-fn awaits(field: Field, from: usize) -> bool
-    ensures { result ≡ false → (value : ℕ) → field ≡ heard (only from (Some value)) field }
-{
-    match field {
-        Field::Waits(tag) => from == place(tag),
-        _ => false,
     }
 }
 
@@ -141,26 +130,6 @@ impl Station {
         ensures { result ≡ is_there self.now.k }
     {
         is_there(self.k)
-    }
-
-    /// Whether an operand waits for a place.
-    #[inline(always)]
-    pub fn awaits(&self, from: usize) -> bool
-        ensures { result ≡ false → (value : ℕ) → self.now ≡ hears (only from (Some value)) self.now }
-    {
-        awaits(self.j, from) || awaits(self.k, from)
-    }
-
-    /// The station after a place has sent a value.
-    #[inline(always)]
-    pub fn hears(&self, from: usize, value: u32) -> Station
-        ensures { result ≡ hears (only from (Some value)) self.now }
-    {
-        Station {
-            j: heard(self.j, from, value),
-            k: heard(self.k, from, value),
-            ..*self
-        }
     }
 
     /// What the tables show of it.

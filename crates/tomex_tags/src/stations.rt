@@ -3,6 +3,7 @@
 ghost use Rattle.std.specs.Prelude.{◌≡◌, ◌<◌, None, Some, option_map, replicate, slice_index_or, slice_set};
 ghost use Rattle.tomex_tags.specs.Contents.{hears, started, with_address};
 ghost use Rattle.tomex_tags.specs.Operands.{only};
+ghost use Rattle.tomex_tags.specs.Standing.{waits};
 
 use crate::station::{Station, heard};
 use arrayvec::ArrayVec;
@@ -67,16 +68,20 @@ impl Stations {
         }
     }
 
-    /// The station of a number hears what a place sends, where it is busy.
+    /// The station of a number hears what a place sends, where it is busy. Whether it waits for nothing
+    /// but a unit and older accesses then.
     #[inline(always)]
-    pub fn hear(&mut self, number: usize, from: usize, value: u32)
+    pub fn hear(&mut self, number: usize, from: usize, value: u32) -> bool
         requires { number < 16 }
-        ensures { self.new ≡ slice_set self.old number (option_map (hears (only from (Some value))) (slice_index_or self.old number None)) }
+        ensures heard { self.new ≡ slice_set self.old number (option_map (hears (only from (Some value))) (slice_index_or self.old number None)) }
+        ensures waits { result ≡ waits (option_map (hears (only from (Some value))) (slice_index_or self.old number None)) }
     {
         if let Some(station) = &mut self.stations[number] {
             station.j = heard(station.j, from, value);
             station.k = heard(station.k, from, value);
+            return station.is_waiting();
         }
+        false
     }
 
     /// The operation of the station of a number has started, where it is busy.

@@ -4,7 +4,7 @@ use crate::in_memory::{Narrow, words};
 use std::alloc::{AllocError, Global};
 use std::test::Fail;
 use tomex_command::tell_line_fault;
-use tomex_line::{Line, LineFault, read_line};
+use tomex_line::{Line, LineFault, not_text, read_line, unread};
 
 /// What the words after the program's name come to: the name and the numbers of a run, or the kind of
 /// the fault and its text.
@@ -135,6 +135,27 @@ fn faults_of_a_line_are_told(rt: HostRuntime) -> Result<(), Fail> {
             "usage",
         ),
         (LineFault::Memory, 100, 3, "", "tomex: out of memory\n"),
+        (
+            unread(false, not_text(alloc)),
+            100,
+            2,
+            "",
+            "error: the command line is not UTF-8\n",
+        ),
+        (
+            unread(false, Err(AllocError)),
+            100,
+            3,
+            "",
+            "tomex: out of memory\n",
+        ),
+        (
+            unread(true, not_text(alloc)),
+            100,
+            3,
+            "",
+            "tomex: out of memory\n",
+        ),
     ] {
         let mut out = Narrow::new(alloc, room, 3);
         let mut err = Narrow::new(alloc, 100, 3);

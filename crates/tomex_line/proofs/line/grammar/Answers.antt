@@ -1,5 +1,5 @@
 -- The commands, one after the other.
-use Rattle.std.proofs.Common.{◌≡◌, ◌∙◌, ap₂, refl}
+use Rattle.std.proofs.Common.{◌∙◌, ap₂, refl}
 use Rattle.std.proofs.lemmas.Result.{IfOk-weaker}
 use Rattle.clap.specs.Words.{with_subcommand}
 use Rattle.tomex_line.proofs.Plain.{no_globals}

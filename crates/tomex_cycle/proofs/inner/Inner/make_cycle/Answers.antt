@@ -19,7 +19,7 @@ returns-clause-cycle g c =
     λ n s kind t ends l e good loaded old.
     let on = issue_made c.args.fetcher.now c.args.row.now n t c.args.next c.args.self.now.count s kind _ _ _ _ _ _ _ _ _ _ _ _ c.start-starts.ensures.starts c.address-addressed.ensures.addresses c.issue.ensures.issues ends l e good loaded old in
     let made = cycle_made c.args.fetcher.now c.args.row.now n t c.args.next c.args.self.now.count s kind _ _ _ _ _ _ _ _ _ on c.end-ended.ensures.ends ends e good loaded in
-    let two = cycle_answer c.args.fetcher.now c.args.row.now n c.args.next c.in-Ok.count s kind _ _ _ _ _ _ _ _ made ends good loaded c.in-Ok.is c.is_over.ensures.busy c.is_over.ensures.over c.after.ensures in
+    let two = cycle_answer c.args.fetcher.now c.args.row.now n c.args.next c.in-Ok.count s kind _ _ _ _ _ _ _ _ made ends good loaded c.in-Ok.is (rw c.busy-busy.ensures.set at c.busy-busy.ensures.busy) c.is_over.ensures c.after.ensures in
     (two.0, two.1, λ moves. cycle_happens c.args.fetcher.now c.args.row.now n t c.args.next c.args.self.now.count c.in-Ok.count s kind _ _ _ _ _ _ _ _ _ _ _ _ _ _ c.start-starts.ensures.starts c.start-starts.ensures.any c.address-addressed.ensures.any c.end-ended.ensures.any on c.in-Ok.is ends e good loaded old (c.leaves_all.ensures.some moves))
 
 pub end-ended-requires : goal.end-ended-requires

@@ -1,9 +1,7 @@
-use Rattle.std.proofs.Common.{◌≡◌, ◌<◌, arith, refl, ap, sym, ◌∙◌, rules}
-use Rattle.tomex_cycle.specs.Seen.{Counted, seen_after}
-use Rattle.tomex_config.specs.Row.{Row}
-use Rattle.tomex_image.specs.Image.{Loaded}
-use Rattle.tomex_cycle.specs.declared.progress.Progress.TheVariants.{Running}
-use Rattle.tomex_cycle.proofs.Counts.{paid_first, paid_next}
+use Rattle.std.proofs.Common.{◌≡◌, ◌<◌, arith, refl, ap, sym, max, ◌∙◌}
+use Rattle.tomex_cycle.specs.Seen.{seen}
+use Rattle.tomex_cycle.proofs.Counts.{paid_counts, paid_first, paid_next}
+use Rattle.tomex_cycle.proofs.Ticks.{over_seen}
 use Rattle.tomex_cycle.proofs.machine.Machine.advance.Goals as goal
 
 pub loop-self-init : goal.loop-self-init
@@ -12,7 +10,7 @@ loop-self-init g c = record {
   row = refl;
   low = omega arith;
   high = omega arith;
-  stays = λ h. refl;
+  running = sym (ap (λ x. x.last) c.self.view_is) ∙ c.in-Running.is;
   none = λ h. refl;
   ends = c.cycle-start.ensures.ends;
   paid = λ ends. paid_first _ _ _ _;
@@ -20,23 +18,25 @@ loop-self-init g c = record {
 
 pub loop-self-preserved : goal.loop-self-preserved
 loop-self-preserved g c =
-    let at : c.self.inside.cycle ≡ c.loop-self.self.cycle = ap (λ x. x.cycle) c.self.view_is in
+    let at : c.self-in-loop-self.inside.cycle ≡ c.loop-self.self.cycle = ap (λ x. x.cycle) c.self-in-loop-self.view_is in
     let ahead : c.loop-self.self.cycle < c.args.to = omega (arith, c.loop-self-test.true) in
-    let running : c.loop-self.self.last ≡ Running = sym (ap (λ x. x.last) c.self.view_is) ∙ c.in-Running.is in
     record {
       image = c.go_on.ensures.image ∙ c.loop-self.invariant.image;
       row = c.go_on.ensures.row ∙ c.loop-self.invariant.row;
       low = omega (arith, c.go_on.ensures.least, c.loop-self.invariant.low);
       high = omega (arith, c.go_on.ensures.most);
-      stays = λ h. absurd (h (sym (ap (λ (x : Counted). x.last) (c.loop-self.invariant.stays h)) ∙ running));
-      none = λ h. let e : c.loop-self.self.cycle ≡ c.args.self.now.cycle = ap (λ (x : Counted). x.cycle) (c.loop-self.invariant.none h) in absurd (omega arith);
-      ends = λ e.
-          c.go_on.ensures.ends (rw c.go_on.ensures.image at e)
-          ∙ (ap (λ (i : Loaded). seen_after i c.loop-self.self.row c.go_on.new.self.cycle) (sym c.go_on.ensures.image) ∙ ap (λ (row : Row). seen_after c.go_on.new.self.image row c.go_on.new.self.cycle) (sym c.go_on.ensures.row));
-      paid = λ e.
-          let within = rw c.go_on.ensures.image at e in
-          rw (c.go_on.ensures.image, c.go_on.ensures.row, c.go_on.ensures.worked) (paid_next _ c.args.to c.args.self.now.cycle c.loop-self.self.cycle _ _ _ ahead (c.loop-self.invariant.paid within) (c.go_on.ensures.passes within));
+      running = sym c.go_on.ensures.answer ∙ c.in-Running-go_on.is;
+      none = λ h. absurd (omega (arith, h, c.loop-self.invariant.low));
+      ends = rw (c.loop-self.invariant.image, c.loop-self.invariant.row) at c.go_on.ensures.ends;
+      paid = λ e. rw c.go_on.ensures.worked (paid_next _ c.args.to c.args.self.now.cycle c.loop-self.self.cycle _ _ _ ahead (c.loop-self.invariant.paid e) ((rw (c.loop-self.invariant.image, c.loop-self.invariant.row) at c.go_on.ensures.passes) e));
     }
 
-pub returns-clause-runs : goal.returns-clause-runs
-returns-clause-runs g c = search rules fits 100
+pub returns-in_default-go_on-clause-ends : goal.returns-in_default-go_on-clause-ends
+returns-in_default-go_on-clause-ends g c = λ e.
+    over_seen c.args.self.now.image c.args.self.now.row c.go_on.new.self.cycle (max c.args.self.now.cycle c.args.to) (seen c.go_on.new.self) ((rw (c.loop-self.invariant.image, c.loop-self.invariant.row) at c.go_on.ensures.ends) e) (λ runs. c.in_default-go_on.not-Running (c.go_on.ensures.answer ∙ runs)) (omega (arith, c.go_on.ensures.most))
+
+pub returns-in_default-go_on-clause-counts : goal.returns-in_default-go_on-clause-counts
+returns-in_default-go_on-clause-counts g c = λ e.
+    let at : c.self-in-loop-self.inside.cycle ≡ c.loop-self.self.cycle = ap (λ x. x.cycle) c.self-in-loop-self.view_is in
+    let ahead : c.loop-self.self.cycle < c.args.to = omega (arith, c.loop-self-test.true) in
+    rw c.go_on.ensures.worked (paid_counts _ c.args.to c.args.self.now.cycle c.go_on.new.self.cycle _ _ (paid_next _ c.args.to c.args.self.now.cycle c.loop-self.self.cycle _ _ _ ahead (c.loop-self.invariant.paid e) ((rw (c.loop-self.invariant.image, c.loop-self.invariant.row) at c.go_on.ensures.passes) e)))

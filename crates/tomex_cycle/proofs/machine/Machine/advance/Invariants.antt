@@ -1,5 +1,4 @@
 use Rattle.std.proofs.Common.{◌≡◌, ◌≤◌, ◌-◌, max}
-use Rattle.std.specs.Prelude.{◌≢◌}
 use Rattle.tomex_rvexec.specs.Run.{EndsWithin}
 use Rattle.tomex_cycle.specs.Seen.{seen, seen_after}
 use Rattle.tomex_cycle.specs.declared.progress.Progress.TheVariants.{Running}
@@ -13,10 +12,10 @@ invariant-loop-self g l = record {
   row : l.self.row ≡ l.initial.self.row;
   low : l.initial.self.cycle ≤ l.self.cycle;
   high : l.self.cycle ≤ max l.initial.self.cycle l.to;
-  stays : l.initial.self.last ≢ Running → l.self ≡ l.initial.self;
+  running : l.self.last ≡ Running;
   none : l.to ≤ l.initial.self.cycle → l.self ≡ l.initial.self;
-  ends : EndsWithin l.self.image 262144 → seen l.self ≡ seen_after l.self.image l.self.row l.self.cycle;
-  paid : EndsWithin l.self.image 262144 → IsPaid (run_of l.self.row l.self.image) l.to l.initial.self.cycle l.self.cycle l.initial.self.worked l.self.worked;
+  ends : EndsWithin l.initial.self.image 262144 → seen l.self ≡ seen_after l.initial.self.image l.initial.self.row l.self.cycle;
+  paid : EndsWithin l.initial.self.image 262144 → IsPaid (run_of l.initial.self.row l.initial.self.image) l.to l.initial.self.cycle l.self.cycle l.initial.self.worked l.self.worked;
 }
 
 abbrev pub decreases-loop-self : goal.decreases-loop-self

@@ -1,8 +1,7 @@
 -- The arguments of `run`, one after the other.
-use Rattle.std.proofs.Common.{rules, ◌≡◌, ◌∙◌, ap, ap₂, codes, ℕ}
+use Rattle.std.proofs.Common.{rules, ◌≡◌, ◌∙◌, ap, ap₂, codes}
 use Rattle.std.proofs.lemmas.Result.{IfOk-weaker}
-use Rattle.clap.specs.Words.{App, app_of, new_app, rule_of, with_rule}
-use Rattle.tomex_line.specs.Grammar.{word_rule, option_rule}
+use Rattle.clap.specs.Words.{App, app_of, new_app, with_rule}
 use Rattle.tomex_line.proofs.line.run.grammar.Goals as goal
 
 pub returns : goal.returns

@@ -1,0 +1,27 @@
+//! A command line that the system doesn't give as words of text.
+ghost use Rattle.std.specs.Prelude.{◌≡◌, true, false, string_bytes, IfOk, IfErr};
+ghost use Rattle.tomex_line.specs.Lines.{not_text};
+ghost use Rattle.tomex_line.specs.declared.line.LineFault.TheVariants as fault;
+
+use crate::line::LineFault;
+use std::alloc::{AllocError, Global};
+
+/// What is said of a line with a word that is no UTF-8 text.
+pub fn not_text(alloc: Global) -> Result<String, AllocError>
+    ensures { IfOk result (λ text. string_bytes text ≡ not_text) }
+{
+    String::from_str(alloc, "error: the command line is not UTF-8\n")
+}
+
+/// Why the words weren't got: for want of memory, or else since one of them is no text, which is a
+/// mistake in the line; what is said of that may have found no memory itself.
+pub fn unread(wants_memory: bool, said: Result<String, AllocError>) -> LineFault
+    ensures memory { wants_memory ≡ true → result ≡ fault.Memory }
+    ensures said { wants_memory ≡ false → IfOk said (λ text. result ≡ fault.Usage text) }
+    ensures unsaid { IfErr said (λ e. result ≡ fault.Memory) }
+{
+    match said {
+        Ok(text) if !wants_memory => LineFault::Usage(text),
+        _ => LineFault::Memory,
+    }
+}
