@@ -1,13 +1,13 @@
 -- What is known of the finishes ahead once a cycle has ended: what was due is over or waits for a bus.
-use Rattle.std.proofs.Common.{ℕ, ◌+◌, ◌^◌, ◌<◌, ◌≤◌, ◌≡◌, ◌∙◌, Bool, true, false, arith, refl, ap, sym, inl, inr, List, Option, Some, None, length, slice_index_or, option_map}
-use Rattle.std.specs.Prelude.{nat_le, nat_lt, ◌==◌, ◌≢◌, ◌&&◌, ◌||◌, ◌⊎◌, not, is_some}
-use Rattle.std.proofs.lemmas.Bool.{and_parts, and_right, both_ways, cases_Bool, eqb-true, eqb-false, le-leb, le-ltb, leb-true, lt-leb, lt-ltb, ltb-true, ltb-false, ne_eqb}
+use Rattle.std.proofs.Common.{ℕ, zero, suc, ◌+◌, ◌^◌, ◌<◌, ◌≤◌, ◌≡◌, ◌∙◌, Bool, true, false, arith, refl, ap, sym, inl, inr, List, [], ◌∷◌, Option, Some, None, length, slice_index_or, option_map}
+use Rattle.std.specs.Prelude.{nat_le, nat_lt, ◌==◌, ◌≢◌, ◌&&◌, ◌||◌, ◌⊎◌, not, is_some, take}
+use Rattle.std.proofs.lemmas.Bool.{and_parts, and_right, both_ways, cases_Bool, eq-eqb, eqb-true, eqb-false, le-leb, le-ltb, leb-true, lt-leb, lt-ltb, ltb-true, ltb-false, ne_eqb}
 use Rattle.std.proofs.lemmas.List.{get_or_past}
 use Rattle.tomex_rvdec.specs.Operands.{dest_of}
 use Rattle.tomex_rvdec.specs.declared.pool.UnitId.TheVariants as units
 use Rattle.tomex_rvexec.specs.Steps.{is_number}
-use Rattle.tomex_bus.specs.Picks.{IsPicked}
-use Rattle.tomex_bus.specs.Sets.{has}
+use Rattle.tomex_bus.specs.Picks.{IsByAge, IsPicked}
+use Rattle.tomex_bus.specs.Sets.{has, is_in}
 use Rattle.tomex_bus.specs.Wheel.{Ring, is_due}
 use Rattle.tomex_bus.proofs.Bits.{agreed, member_some, none_in}
 use Rattle.tomex_tags.proofs.Filing.{of_busy}
@@ -242,6 +242,20 @@ one_branch slots next due branches served x done serves both l e =
 -- where nothing finishes no result is found among it
 pub nothing_found : (test : ℕ → Bool) (due : ℕ) → due ≡ 0 → (x : ℕ) → x < 128 → has 0 x ≡ (has due x && test x)
 nothing_found test due over x l = rw (over, none_in x) refl
+
+-- of none that is ready none is picked
+pub none_picked : (ready : ℕ) (ages : List ℕ) (n : ℕ) → ready ≡ 0 → IsPicked ready ages n 0
+none_picked ready ages n none = record {
+  inside = λ x l e. absurd (both_ways (has 0 x) (none_in x) e);
+  oldest = λ xs by x l. none_in x ∙ none_of xs by n x;
+}
+  where
+    none_of : (xs : List ℕ) → IsByAge ready ages xs → (m x : ℕ) → false ≡ is_in (take m xs) x
+    none_of [] by zero x = refl
+    none_of [] by (suc m) x = refl
+    none_of (y ∷ ys) by m x =
+        let first : is_in (y ∷ ys) y ≡ true = rw (eq-eqb y y refl) refl in
+        absurd (both_ways (has ready y) (rw none (none_in y)) (by.members y (by.low y first) ∙ first))
 
 -- and where nothing is sent either, nothing ends
 pub nothing_ends : (sending : ℕ) → sending ≡ 0 → (x : ℕ) → has 0 x ≡ (has sending x || has 0 x)

@@ -37,4 +37,5 @@ pub mod Counts
 pub mod Moves
 pub mod Known
 pub mod KnownEnds
+pub mod Moved
 pub mod KnownIdle

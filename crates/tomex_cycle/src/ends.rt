@@ -37,13 +37,15 @@ pub fn settle(pools: &Pools, finishes: &mut Finishes, buses: u8, next: u64) -> O
     ensures quiet { result.ending ≡ 0 → result.due ≡ 0 → finishes.new.ready ≡ 0 }
     ensures fits { (result.due < 2 ^ 128) × (result.ending < 2 ^ 128) }
 {
-    let writing = pools.writing();
-    let sending = pick(finishes.ready, pools.ages(), buses);
     let due = finishes.turn();
     // In many cycles nothing finishes and no result waits.
-    if sending == 0 && due == 0 {
+    if due == 0 && finishes.ready == 0 {
+        // Read for what the type of the stations keeps.
+        let _busy = pools.busy();
         return Over { due: 0, ending: 0 };
     }
+    let writing = pools.writing();
+    let sending = pick(finishes.ready, pools.ages(), buses);
     let results = both(due, writing);
     finishes.send(sending, results);
     Over {

@@ -1,6 +1,6 @@
 //! What a cycle changes, and the one call that makes a cycle.
 
-ghost use Rattle.std.specs.Prelude.{ℕ, List, ◌≡◌, ◌≢◌, ◌⊎◌, ◌≤◌, ◌<◌, ◌+◌, ◌^◌, IfOk, OnOk, OnErr, nat_lt, true, false, if◌then◌else◌};
+ghost use Rattle.std.specs.Prelude.{ℕ, List, ◌≡◌, ◌≢◌, ◌⊎◌, ◌≤◌, ◌<◌, ◌+◌, ◌^◌, IfOk, OnOk, OnErr, nat_lt, true, false, ◌||◌, if◌then◌else◌};
 ghost use Rattle.tomex_image.specs.Image.{IsLoaded};
 ghost use Rattle.tomex_config.specs.Row.{IsRow};
 ghost use Rattle.tomex_rvexec.specs.declared.outcome.EndKind.{EndKind};
@@ -28,14 +28,14 @@ use tomex_image::Image;
 use tomex_rvexec::{End, Fetcher, Memory};
 use tomex_tags::{Pools, RegStatus};
 
-/// Whether a cycle leaves all stations as they were: none starts, gets an address or ends, and the
-/// count of issues stays.
+/// Notes that the cycle has changed something, where it has.
 #[inline(always)]
-fn leaves_all(starts: bool, addressed: bool, count: u32, before: u32, ended: bool) -> bool
-    ensures all { result ≡ true → (starts ≡ false) × (addressed ≡ false) × (count ≡ before) × (ended ≡ false) }
-    ensures some { result ≡ false → (starts ≡ true) ⊎ ((addressed ≡ true) ⊎ ((count ≢ before) ⊎ (ended ≡ true))) }
+fn note(moved: &mut bool, changes: bool)
+    ensures { moved.new ≡ (moved.old || changes) }
 {
-    !starts && !addressed && count == before && !ended
+    if changes {
+        *moved = true;
+    }
 }
 
 /// Stations, registers and memory.
@@ -50,6 +50,10 @@ pub struct Inner<A: Allocator = Global> {
     count: u32,
     /// How many cycles were made.
     worked: u64,
+    /// Whether the cycle that is being made has changed any station so far.
+    ///
+    /// It stands in memory since the few events write it, and no cycle carries a flag for each phase.
+    moved: bool,
 }
 
 impl<A: Allocator> Inner<A> {
@@ -75,6 +79,7 @@ impl<A: Allocator> Inner<A> {
         ensures same { fetcher.new ≡ fetcher.old }
     {
         self.worked += 1;
+        self.moved = false;
         let starts = phases::start(
             &mut self.pools,
             &mut self.memory,
@@ -85,8 +90,9 @@ impl<A: Allocator> Inner<A> {
         if let Some(fault) = starts.fault {
             return Made::fault(fault);
         }
+        note(&mut self.moved, starts.any);
         let addressed = phases::address(&mut self.pools, next);
-        let before = self.count;
+        note(&mut self.moved, addressed);
         match phases::issue(
             &mut self.pools,
             &mut self.registers,
@@ -96,7 +102,10 @@ impl<A: Allocator> Inner<A> {
             row,
             next,
         ) {
-            Ok(count) => self.count = count,
+            Ok(count) => {
+                note(&mut self.moved, count != self.count);
+                self.count = count;
+            }
             Err(fault) => return Made::fault(fault),
         }
         let ended = phases::end(
@@ -107,11 +116,12 @@ impl<A: Allocator> Inner<A> {
             row,
             next,
         );
+        note(&mut self.moved, ended);
         // Read for what the type of the stations keeps.
         let _busy = self.pools.busy();
         Made {
             progress: Progress::after(self.is_over()),
-            still: leaves_all(starts.any, addressed, self.count, before, ended),
+            still: !self.moved,
         }
     }
 
@@ -140,6 +150,7 @@ impl<A: Allocator> Inner<A> {
             finishes: Finishes::new(),
             count: 0,
             worked: 0,
+            moved: false,
         };
         inner.restart(image)?;
         Ok(inner)

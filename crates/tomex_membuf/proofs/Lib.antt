@@ -1,1 +1,2 @@
 pub mod ByAge
+pub mod Stores

@@ -6,9 +6,12 @@ ghost use Rattle.tomex_bus.specs.Sets.{has};
 ghost use Rattle.tomex_timing.specs.Recurrence.{shares_byte};
 ghost use Rattle.tomex_membuf.specs.Order.{is_before, is_clear, lets};
 
-use tomex_bus::sets::{both, has, lowest, without_lowest};
+use tomex_bus::sets::{both, lowest, without_lowest};
 use tomex_rvexec::ByteRange;
 use tomex_tags::{Pools, Station};
+
+/// The place of the first store buffer.
+const FIRST_STORE: usize = 64;
 
 #[inline(always)]
 fn shares_byte(a: Option<ByteRange>, b: Option<ByteRange>) -> bool
@@ -63,11 +66,12 @@ fn rivals(pools: &Pools, place: usize) -> u128
     ensures others { (s : Station) (next x : ℕ) → slice_index_or pools.now.slots place None ≡ Some s → x < 128 → has result x ≡ false → lets (slice_index_or pools.now.slots x None) s next ≡ true }
 {
     let addressed = pools.addressed();
-    let stores = pools.stores();
-    if has(stores, place) {
+    // Read for what the type of the stations keeps: no store stands below the store buffers.
+    let _busy = pools.busy();
+    if place >= FIRST_STORE {
         addressed
     } else {
-        both(addressed, stores)
+        both(addressed, pools.stores())
     }
 }
 

@@ -72,11 +72,9 @@ impl Standing {
     {
         if let Field::Value(_) = station.j {
             self.lacking = without(self.lacking, place);
-            self.waiting = filed(
-                self.waiting,
-                place,
-                station.finish.is_none() && station.has_second(),
-            );
+            if station.finish.is_none() && station.has_second() {
+                self.waiting = with(self.waiting, place);
+            }
         }
     }
 
