@@ -1,6 +1,6 @@
 //! What a cycle changes, and the one call that makes a cycle.
 
-ghost use Rattle.std.specs.Prelude.{ℕ, List, ◌≡◌, ◌≢◌, ◌⊎◌, ◌≤◌, ◌<◌, ◌+◌, ◌^◌, IfOk, OnOk, OnErr, nat_lt, true, false, ◌||◌, if◌then◌else◌};
+ghost use Rattle.std.specs.Prelude.{ℕ, List, ◌≡◌, ◌≤◌, ◌<◌, ◌+◌, ◌^◌, IfOk, OnOk, OnErr, nat_lt, true, false, not, ◌||◌, if◌then◌else◌};
 ghost use Rattle.tomex_image.specs.Image.{IsLoaded};
 ghost use Rattle.tomex_config.specs.Row.{IsRow};
 ghost use Rattle.tomex_rvexec.specs.declared.outcome.EndKind.{EndKind};
@@ -38,6 +38,14 @@ fn note(moved: &mut bool, changes: bool)
     }
 }
 
+/// Whether nothing is noted of a cycle, and nothing ends in it.
+#[inline(always)]
+fn is_still(moved: bool, ended: bool) -> bool
+    ensures { result ≡ not (moved || ended) }
+{
+    !moved && !ended
+}
+
 /// Stations, registers and memory.
 #[derive(Drop)]
 pub struct Inner<A: Allocator = Global> {
@@ -50,7 +58,7 @@ pub struct Inner<A: Allocator = Global> {
     count: u32,
     /// How many cycles were made.
     worked: u64,
-    /// Whether the cycle that is being made has changed any station so far.
+    /// Whether the cycle that is being made has changed any station before its end.
     ///
     /// It stands in memory since the few events write it, and no cycle carries a flag for each phase.
     moved: bool,
@@ -116,12 +124,11 @@ impl<A: Allocator> Inner<A> {
             row,
             next,
         );
-        note(&mut self.moved, ended);
         // Read for what the type of the stations keeps.
         let _busy = self.pools.busy();
         Made {
             progress: Progress::after(self.is_over()),
-            still: !self.moved,
+            still: is_still(self.moved, ended),
         }
     }
 

@@ -22,17 +22,17 @@ returns-clause-cycle g c =
     let on = issue_made c.args.fetcher.now c.args.row.now n t c.args.next c.args.self.now.count s kind _ _ _ _ _ _ _ _ _ _ _ _ c.start-starts.ensures.starts c.address-addressed.ensures.addresses c.issue.ensures.issues ends l e good loaded old in
     let made = cycle_made c.args.fetcher.now c.args.row.now n t c.args.next c.args.self.now.count s kind _ _ _ _ _ _ _ _ _ on c.end-ended.ensures.ends ends e good loaded in
     let two = cycle_answer c.args.fetcher.now c.args.row.now n c.args.next c.in-Ok.count s kind _ _ _ _ _ _ _ _ made ends good loaded c.in-Ok.is (rw c.busy-busy.ensures.set at c.busy-busy.ensures.busy) c.is_over.ensures c.after.ensures in
-    (two.0, two.1, λ moves. cycle_happens c.args.fetcher.now c.args.row.now n t c.args.next c.args.self.now.count c.in-Ok.count s kind _ _ _ _ _ _ _ _ _ _ _ _ _ _ c.start-starts.ensures.starts c.start-starts.ensures.any c.address-addressed.ensures.any c.end-ended.ensures.any on c.in-Ok.is ends e good loaded old (what_moved c.start-starts.result.any c.address-addressed.result c.end-ended.result c.in-Ok.count c.args.self.now.count (rw (c.note-3.ensures, c.note-in-Ok.ensures, c.note-2.ensures, c.note.ensures) at moves)))
+    (two.0, two.1, λ moves. cycle_happens c.args.fetcher.now c.args.row.now n t c.args.next c.args.self.now.count c.in-Ok.count s kind _ _ _ _ _ _ _ _ _ _ _ _ _ _ c.start-starts.ensures.starts c.start-starts.ensures.any c.address-addressed.ensures.any c.end-ended.ensures.any on c.in-Ok.is ends e good loaded old (what_moved c.start-starts.result.any c.address-addressed.result c.end-ended.result c.in-Ok.count c.args.self.now.count (rw (c.is_still.ensures, c.note-in-Ok.ensures, c.note-2.ensures, c.note.ensures) at moves)))
 
 pub end-ended-requires : goal.end-ended-requires
 end-ended-requires g c = record { known = c.issue.ensures.known c.start-starts.new.finishes (c.address-addressed.ensures.known c.start-starts.new.finishes (c.start-starts.ensures.known c.in_default.is)) }
 
 pub returns-clause-still : goal.returns-clause-still
 returns-clause-still g c = λ still.
-    let none = none_moved c.start-starts.result.any c.address-addressed.result c.end-ended.result c.in-Ok.count c.args.self.now.count (rw (c.note-3.ensures, c.note-in-Ok.ensures, c.note-2.ensures, c.note.ensures) at still) in
+    let none = none_moved c.start-starts.result.any c.address-addressed.result c.end-ended.result c.in-Ok.count c.args.self.now.count (rw (c.is_still.ensures, c.note-in-Ok.ensures, c.note-2.ensures, c.note.ensures) at still) in
     (none.2, c.end-ended.ensures.none none.3 ∙ (c.issue.ensures.none (c.in-Ok.is ∙ ap (λ (k : ℕ). Ok k) none.2) ∙ (c.address-addressed.ensures.none none.1 ∙ c.start-starts.ensures.none none.0)))
 
 pub returns-clause-quiet : goal.returns-clause-quiet
 returns-clause-quiet g c = λ still.
-    let none = none_moved c.start-starts.result.any c.address-addressed.result c.end-ended.result c.in-Ok.count c.args.self.now.count (rw (c.note-3.ensures, c.note-in-Ok.ensures, c.note-2.ensures, c.note.ensures) at still) in
+    let none = none_moved c.start-starts.result.any c.address-addressed.result c.end-ended.result c.in-Ok.count c.args.self.now.count (rw (c.is_still.ensures, c.note-in-Ok.ensures, c.note-2.ensures, c.note.ensures) at still) in
     c.end-ended.ensures.quiet none.3
