@@ -60,7 +60,7 @@ pub struct Inner<A: Allocator = Global> {
     worked: u64,
     /// Whether the cycle that is being made has changed any station before its end.
     ///
-    /// It stands in memory since the few events write it, and no cycle carries a flag for each phase.
+    /// A field, and no local: what happens writes it, and a cycle doesn't carry a flag of each phase to its end.
     moved: bool,
 }
 
