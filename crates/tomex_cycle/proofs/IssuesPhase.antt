@@ -1,6 +1,6 @@
 -- With a width of one the issue of one instruction is the phase.
-use Rattle.std.proofs.Common.{ℕ, ◌+◌, ◌%◌, ◌<◌, ◌≤◌, ◌≡◌, ◌∙◌, Bool, true, false, arith, refl, List, [], ◌∷◌, ap, inl, inr}
-use Rattle.std.specs.Prelude.{nat_lt, Result, Ok, Err}
+use Rattle.std.proofs.Common.{ℕ, ◌+◌, ◌%◌, ◌<◌, ◌≤◌, ◌≡◌, ◌∙◌, Bool, true, false, arith, refl, List, [], ◌∷◌, ap, sym, inl, inr}
+use Rattle.std.specs.Prelude.{nat_lt, Result, if◌then◌else◌}
 use Rattle.std.proofs.lemmas.Bool.{cases_Bool, ltb-true, ltb-false, lt-ltb, le-ltb, le-leb, both_ways}
 use Rattle.tomex_image.specs.Image.{Loaded}
 use Rattle.tomex_config.specs.Row.{Row, IsRow}
@@ -17,7 +17,7 @@ use Rattle.tomex_timing.proofs.Limits.{width_low}
 use Rattle.tomex_timing.proofs.Search.{times_are}
 use Rattle.tomex_timing.proofs.Width.{issues_alone, none_later}
 use Rattle.tomex_cycle.specs.declared.fetch.Fetch.{Fetch}
-use Rattle.tomex_cycle.specs.Issue.{IsIssuing, IssuesNext, count_after}
+use Rattle.tomex_cycle.specs.Issue.{IsIssuing, IssuesNext, count_after, counted_by}
 use Rattle.tomex_cycle.specs.Phases.{IsIssuedTo, IsYetToIssue, MakesIssue}
 use Rattle.tomex_cycle.specs.Run.{AreIssuedBy, run_to}
 use Rattle.tomex_cycle.specs.Views.{clocks}
@@ -82,27 +82,13 @@ count_up : (made : Bool) (count : ℕ) → count ≤ count_after made count
 count_up false count = omega arith
 count_up true count = omega arith
 
-ok_made : {A E : Type 0} (r : Result A E) (x y : A) → r ≡ Ok x → r ≡ Ok y → x ≡ y
-ok_made r x y e f = cc
-
-pub phase_is : (i : Loaded) (row : Row) (u count c : ℕ) (st new : Pools) (rg status : RegStatus) (ft from : Fetch) (made : Bool) (result : Result Bool Fault)
-    → IssuesNext i row count st rg ft result new status from → result ≡ Ok made → (count < 4294967295 → c ≡ count_after made count) → MakesIssue i row u count st rg ft (Ok c) new status from
-phase_is i row u count c st new rg status ft from made result issues is counted n s kind t ends l e good loaded old =
-    let few : count ≤ n + 1 = old.few in
+pub phase_is : (i : Loaded) (row : Row) (u count : ℕ) (st new : Pools) (rg status : RegStatus) (ft from : Fetch) (result : Result Bool Fault)
+    → IssuesNext i row count st rg ft result new status from → MakesIssue i row u count st rg ft (counted_by count result) new status from
+phase_is i row u count st new rg status ft from result issues n s kind t ends l e good loaded old =
     let on = issues n t u s kind ends l e good loaded (slot_first row t u (run_to row i count) (run_timed row i count good) old.issued e) (before_one i row n count t u st rg ft e old) in
-    let same : on.0 ≡ made = ok_made result on.0 made on.1 is in
-    let k : c ≡ count_after on.0 count = rw same (counted (omega arith)) in
-    (count_after on.0 count, ap (λ (x : ℕ). Ok x) k, count_up on.0 count, after_one i row n count t u s kind on.0 new status from ends good e old.next on.2 on.3)
+    (count_after on.0 count, ap (counted_by count) on.1, count_up on.0 count, after_one i row n count t u s kind on.0 new status from ends good e old.next on.2 on.3)
 
-ok_not : {A E : Type 0} (r : Result A E) (x : A) (y : E) → r ≡ Ok x → r ≡ Err y → ⊥
-ok_not r x y e f = cc
-
-pub phase_never : (i : Loaded) (row : Row) (u count : ℕ) (st new : Pools) (rg status : RegStatus) (ft from : Fetch) (why : Fault) (result : Result Bool Fault) (made : Result ℕ Fault)
-    → IssuesNext i row count st rg ft result new status from → result ≡ Err why → MakesIssue i row u count st rg ft made new status from
-phase_never i row u count st new rg status ft from why result made issues is n s kind t ends l e good loaded old =
-    let on = issues n t u s kind ends l e good loaded (slot_first row t u (run_to row i count) (run_timed row i count good) old.issued e) (before_one i row n count t u st rg ft e old) in
-    absurd (ok_not result on.0 why on.1 is)
-
-pub counted : (made : Bool) (count one : ℕ) → (made ≡ false → one ≡ 0) → (made ≡ true → one ≡ 1) → count < 4294967295 → (count + one) % 4294967296 ≡ count_after made count
-counted false count one no_more more l = let e : one ≡ 0 = no_more refl in omega arith
-counted true count one no_more more l = let e : one ≡ 1 = more refl in omega arith
+-- no machine counts as far as its numbers go
+pub counted_in_word : (made : Bool) (count c : ℕ) → count < 4294967295 → c ≡ (if made then (count + 1) % 4294967296 else count) → count_after made count ≡ c
+counted_in_word false count c l e = sym e
+counted_in_word true count c l e = omega (arith, e)

@@ -1,5 +1,5 @@
 -- The issue of one instruction, in a cycle in which others may have issued before it.
-use Rattle.std.specs.Prelude.{◌≡◌, ℕ, ◌+◌, ◌≤◌, ◌<◌, Bool, true, false, if◌then◌else◌, Result, Ok}
+use Rattle.std.specs.Prelude.{◌≡◌, ℕ, ◌+◌, ◌≤◌, ◌<◌, Bool, true, false, if◌then◌else◌, Result, Ok, Err}
 use Rattle.tomex_image.specs.Image.{Loaded, IsLoaded}
 use Rattle.tomex_rvexec.specs.declared.outcome.EndKind.{EndKind}
 use Rattle.tomex_rvexec.specs.declared.outcome.Fault.{Fault}
@@ -26,6 +26,11 @@ pub record IsIssuing (i : Loaded) (row : Row) (n t u count : ℕ) (stations : Po
 -- how many more are issued
 abbrev pub count_after : Bool → ℕ → ℕ
 count_after made count = if made then count + 1 else count
+
+-- how many are issued then, or why none could be
+abbrev pub counted_by : ℕ → Result Bool Fault → Result ℕ Fault
+counted_by count (Ok made) = Ok (count_after made count)
+counted_by count (Err fault) = Err fault
 
 -- The next step issues, or can't in the cycle. The width leaves one more issue before it.
 abbrev pub IssuesNext : Loaded → Row → ℕ → Pools → RegStatus → Fetch → Result Bool Fault → Pools → RegStatus → Fetch → Type 0

@@ -61,7 +61,7 @@ fn end_at(pools: &mut Pools, registers: &mut RegStatus, place: usize)
     ensures registers { AreNamed pools.old.slots registers.old → Hears (only place (sends_of (slice_index_or pools.old.slots place None))) registers.old registers.new }
 {
     if let Some(station) = pools.at(place) {
-        pools.release(place, &station);
+        pools.release(place);
         if let Some(register) = station.instr.dest() {
             broadcast(pools, registers, place, register, station.value);
         }

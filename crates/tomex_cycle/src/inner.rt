@@ -1,6 +1,6 @@
 //! What a cycle changes, and the one call that makes a cycle.
 
-ghost use Rattle.std.specs.Prelude.{ℕ, List, ◌≡◌, ◌≤◌, ◌<◌, ◌+◌, ◌^◌, IfOk, OnOk, OnErr, nat_lt, true, false, not, ◌||◌, if◌then◌else◌};
+ghost use Rattle.std.specs.Prelude.{ℕ, List, ◌≡◌, ◌≤◌, ◌<◌, ◌+◌, ◌%◌, ◌^◌, IfOk, OnOk, OnErr, nat_lt, true, false, not, ◌||◌, if◌then◌else◌};
 ghost use Rattle.tomex_image.specs.Image.{IsLoaded};
 ghost use Rattle.tomex_config.specs.Row.{IsRow};
 ghost use Rattle.tomex_rvexec.specs.declared.outcome.EndKind.{EndKind};
@@ -34,6 +34,18 @@ fn note(moved: &mut bool, changes: bool)
     ensures { moved.new ≡ (moved.old || changes) }
 {
     if changes {
+        *moved = true;
+    }
+}
+
+/// Counts an instruction that has issued in the cycle, if one has, and notes it.
+#[inline(always)]
+fn count_issue(count: &mut u32, moved: &mut bool, made: bool)
+    ensures count { count.new ≡ (if made then (count.old + 1) % 2 ^ 32 else count.old) }
+    ensures moved { moved.new ≡ (moved.old || made) }
+{
+    if made {
+        *count = count.wrapping_add(1);
         *moved = true;
     }
 }
@@ -110,10 +122,7 @@ impl<A: Allocator> Inner<A> {
             row,
             next,
         ) {
-            Ok(count) => {
-                note(&mut self.moved, count != self.count);
-                self.count = count;
-            }
+            Ok(made) => count_issue(&mut self.count, &mut self.moved, made),
             Err(fault) => return Made::fault(fault),
         }
         let ended = phases::end(

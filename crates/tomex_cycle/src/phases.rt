@@ -2,6 +2,7 @@
 
 ghost use Rattle.std.specs.Prelude.{◌≡◌, ◌<◌, ◌+◌, ◌^◌, None, Ok, false, true};
 ghost use Rattle.tomex_cycle.specs.Finishes.{AreKnown};
+ghost use Rattle.tomex_cycle.specs.Issue.{counted_by};
 ghost use Rattle.tomex_cycle.specs.Phases.{AddressHappens, EndsHappen, MakesStarts, MakesAddress, MakesIssue, MakesEnds, StartsHappen};
 
 use crate::fetch::Fetch;
@@ -66,7 +67,7 @@ pub fn address(pools: &mut Pools, next: u64) -> bool
     }
 }
 
-/// Issues the next instruction, where nothing is in its way.
+/// Issues the next instruction, where nothing is in its way, and answers whether it did; so many have issued before.
 pub fn issue<A: Allocator>(
     pools: &mut Pools,
     registers: &mut RegStatus,
@@ -75,14 +76,13 @@ pub fn issue<A: Allocator>(
     fetcher: &mut Fetcher<'_, A>,
     row: &Config,
     next: u64,
-) -> Result<u32, Fault>
-    ensures issues { MakesIssue fetcher.old row.now next count pools.old registers.old fetch.old result pools.new registers.new fetch.new }
-    ensures none { result ≡ Ok count → pools.new.slots ≡ pools.old.slots }
+) -> Result<bool, Fault>
+    ensures issues { MakesIssue fetcher.old row.now next count pools.old registers.old fetch.old (counted_by count result) pools.new registers.new fetch.new }
+    ensures none { result ≡ Ok false → pools.new.slots ≡ pools.old.slots }
     ensures known { (f : Finishes) → AreKnown pools.old.slots next f → AreKnown pools.new.slots next f }
     ensures same { fetcher.new ≡ fetcher.old }
 {
-    let made = issue_next(pools, registers, fetch, count, fetcher, row)?;
-    Ok(count.wrapping_add(u32::from(made)))
+    issue_next(pools, registers, fetch, count, fetcher, row)
 }
 
 /// Sends results over the buses, frees stations, and follows branches; answers whether anything ends or finishes.

@@ -197,18 +197,31 @@ lets_loads slots addressed stores found s next x of are both load l e = elim (ca
   | inl f ↦ lets_no_store (slice_index_or slots x None) s next (sym (are x l) ∙ (sym (both x ∙ rw f refl) ∙ e)) load
 ]
 
-pub looked_first : (slots : List (Option Station)) (busy rivals : ℕ) (ages : List ℕ) (age : ℕ) (s : Station) (next : ℕ) → ((x : ℕ) → x < 128 → has rivals x ≡ false → lets (slice_index_or slots x None) s next ≡ true)
+-- an older one is another one
+pub left_out : (set left place x : ℕ) (ages : List ℕ) → IsWithout set place left → x < 128 → slice_index ages x < slice_index ages place → has left x ≡ false → has set x ≡ false
+left_out set left place x ages without l less e = elim (cases_Bool (place == x)) [
+  | inl k ↦ let same : place ≡ x = eqb-true place x k in let none : slice_index ages x < slice_index ages x = rw same at less in absurd (omega arith)
+  | inr k ↦ sym (without.others x l (λ z. eqb-false place x k (sym z))) ∙ e
+]
+
+pub left_in : (set left place x : ℕ) → IsWithout set place left → x < 128 → has left x ≡ true → has set x ≡ true
+left_in set left place x without l e = elim (cases_Bool (place == x)) [
+  | inl k ↦ let same : place ≡ x = eqb-true place x k in absurd (both_ways (has left place) without.same (ap (has left) same ∙ e))
+  | inr k ↦ sym (without.others x l (λ z. eqb-false place x k (sym z))) ∙ e
+]
+
+pub looked_first : (slots : List (Option Station)) (busy rivals : ℕ) (ages : List ℕ) (age : ℕ) (s : Station) (next : ℕ) → ((x : ℕ) → x < 128 → slice_index ages x < age → has rivals x ≡ false → lets (slice_index_or slots x None) s next ≡ true)
     → (x : ℕ) → x < 128 → has busy x ≡ true → slice_index ages x < age → (has rivals x ≡ true) ⊎ (lets (slice_index_or slots x None) s next ≡ true)
 looked_first slots busy rivals ages age s next others x l member less = elim (cases_Bool (has rivals x)) [
   | inl e ↦ inl e
-  | inr e ↦ inr (others x l e)
+  | inr e ↦ inr (others x l less e)
 ]
 
 -- where there is none that could be in the way
 pub none_found : (slots : List (Option Station)) (busy rivals : ℕ) (ages older younger : List ℕ) (place : ℕ) (s : Station) (next : ℕ) → IsByAge busy ages (older ++ (place ∷ younger)) → rivals ≡ 0
-    → ((x : ℕ) → x < 128 → has rivals x ≡ false → lets (slice_index_or slots x None) s next ≡ true) → true ≡ is_clear slots older s next
+    → ((x : ℕ) → x < 128 → slice_index ages x < slice_index ages place → has rivals x ≡ false → lets (slice_index_or slots x None) s next ≡ true) → true ≡ is_clear slots older s next
 none_found slots busy rivals ages older younger place s next by empty others =
-    clear_by slots busy ages older younger place s next by (λ x l member less. others x l (none_rest rivals x empty))
+    clear_by slots busy ages older younger place s next by (λ x l member less. others x l less (none_rest rivals x empty))
 
 -- the answers of a search for older accesses
 pub found_blocked : (slots : List (Option Station)) (busy : ℕ) (ages older younger : List ℕ) (place other age : ℕ) (s : Station) (next : ℕ) (b : Bool) → IsByAge busy ages (older ++ (place ∷ younger)) → age ≡ slice_index ages place → other < 128 → has busy other ≡ true

@@ -6,7 +6,7 @@ ghost use Rattle.tomex_bus.specs.Sets.{has};
 ghost use Rattle.tomex_timing.specs.Recurrence.{shares_byte};
 ghost use Rattle.tomex_membuf.specs.Order.{is_before, is_clear, lets};
 
-use tomex_bus::sets::{both, lowest, without_lowest};
+use tomex_bus::sets::{both, lowest, without, without_lowest};
 use tomex_rvexec::ByteRange;
 use tomex_tags::{Pools, Station};
 
@@ -57,19 +57,19 @@ fn is_blocked_by(pools: &Pools, other: usize, station: &Station, age: u32, next:
     pools.ages()[other] < age && !lets(pools.at(other), station, next)
 }
 
-/// The places of the loads and stores with an address, of which an older one can be in the way of the
-/// one in a place: for a load the stores alone.
+/// The places of the other loads and stores with an address, of which an older one can be in the way of
+/// the one in a place: for a load the stores alone.
 #[inline(always)]
 fn rivals(pools: &Pools, place: usize) -> u128
     requires { place < 128 }
     ensures inside { (x : ℕ) → x < 128 → has result x ≡ true → has pools.now.busy x ≡ true }
-    ensures others { (s : Station) (next x : ℕ) → slice_index_or pools.now.slots place None ≡ Some s → x < 128 → has result x ≡ false → lets (slice_index_or pools.now.slots x None) s next ≡ true }
+    ensures others { (s : Station) (next x : ℕ) → slice_index_or pools.now.slots place None ≡ Some s → x < 128 → slice_index pools.now.ages x < slice_index pools.now.ages place → has result x ≡ false → lets (slice_index_or pools.now.slots x None) s next ≡ true }
 {
     let addressed = pools.addressed();
     // Read for what the type of the stations keeps: no store stands below the store buffers.
     let _busy = pools.busy();
     if place >= FIRST_STORE {
-        addressed
+        without(addressed, place)
     } else {
         both(addressed, pools.stores())
     }
@@ -79,7 +79,7 @@ fn rivals(pools: &Pools, place: usize) -> u128
 fn passes(pools: &Pools, place: usize, rivals: u128, station: &Station, next: u64) -> bool
     requires low { place < 128 }
     requires inside { (x : ℕ) → x < 128 → has rivals x ≡ true → has pools.now.busy x ≡ true }
-    requires others { (x : ℕ) → x < 128 → has rivals x ≡ false → lets (slice_index_or pools.now.slots x None) station.now next ≡ true }
+    requires others { (x : ℕ) → x < 128 → slice_index pools.now.ages x < slice_index pools.now.ages place → has rivals x ≡ false → lets (slice_index_or pools.now.slots x None) station.now next ≡ true }
     ensures { (older younger : List ℕ) → IsByAge pools.now.busy pools.now.ages (older ++ (place ∷ younger)) → result ≡ is_clear pools.now.slots older station.now next }
 {
     let age = pools.ages()[place];

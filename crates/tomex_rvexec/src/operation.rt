@@ -1,11 +1,12 @@
 //! What the operation of one step computes and does, once its operands are there: its result, its
 //! store, and the pc that follows it. For machines that carry values apart from registers.
 
-ghost use Rattle.std.specs.Prelude.{ℕ, ◌≡◌, IfSome, IsSome, IsTrue, true, false};
+ghost use Rattle.std.specs.Prelude.{ℕ, ◌≡◌, IfSome, IsSome, IsTrue, Some, true};
+ghost use Rattle.tomex_rvdec.specs.Meaning.{form_of};
 ghost use Rattle.tomex_rvdec.specs.Operands.{pool_of};
 ghost use Rattle.tomex_rvdec.specs.declared.pool.PoolId.TheVariants as pools;
 ghost use Rattle.tomex_rvexec.specs.Access.{HasStored, IsInside, has_bytes};
-ghost use Rattle.tomex_rvexec.specs.Flow.{byte_in, loaded, next_pc_of, result_of};
+ghost use Rattle.tomex_rvexec.specs.Flow.{byte_in, loaded, next_pc_of, result_of, second_at};
 ghost use Rattle.tomex_rvexec.specs.Steps.{access_size, is_in};
 
 use crate::memory::Memory;
@@ -31,10 +32,20 @@ fn loaded<A: Allocator>(op: Op, address: u32, memory: &Memory<A>) -> Option<u32>
     }
 }
 
-/// What an operation that reads no memory computes from its operands, its immediate and its pc; 0 for
-/// one that has no result.
+/// The second operand of an operation: rs2's value, or the immediate.
+#[inline(always)]
+fn second(step: &Step) -> u32
+    ensures { result ≡ second_at (form_of step.now.instr.op) step.now }
+{
+    match step.instr.op().form() {
+        Form::Register => step.vk,
+        _ => step.instr.imm(),
+    }
+}
+
+/// What the operation of an arithmetic unit computes from its operands, its immediate and its pc.
 fn computed(step: &Step) -> u32
-    requires { is_in pools.Load (pool_of step.now.instr.op) ≡ false }
+    requires { pool_of step.now.instr.op ≡ Some pools.Alu }
     ensures { (byte : ℕ → ℕ) → result ≡ result_of step.now byte }
 {
     let op = step.instr.op();
@@ -42,13 +53,8 @@ fn computed(step: &Step) -> u32
     match op {
         Op::Lui => imm,
         Op::Auipc => step.pc.wrapping_add(imm),
-        Op::Jal | Op::Jalr => step.pc.wrapping_add(4),
-        Op::Mul | Op::Mulh | Op::Mulhsu | Op::Mulhu => muldiv(op, step.vj, step.vk),
-        Op::Div | Op::Divu | Op::Rem | Op::Remu => muldiv(op, step.vj, step.vk),
-        _ => match op.form() {
-            Form::Register => alu(op, step.vj, step.vk),
-            _ => alu(op, step.vj, imm),
-        },
+        Op::Jal => step.pc.wrapping_add(4),
+        _ => alu(op, step.vj, second(step)),
     }
 }
 
@@ -77,7 +83,9 @@ pub fn result<A: Allocator>(step: &Step, memory: &Memory<A>) -> Option<u32>
             Op::Jalr => Some(step.pc.wrapping_add(4)),
             _ => Some(0),
         },
-        _ => Some(computed(step)),
+        Some(PoolId::Alu) => Some(computed(step)),
+        Some(PoolId::Mul) | Some(PoolId::Div) => Some(muldiv(op, step.vj, step.vk)),
+        None => Some(0),
     }
 }
 

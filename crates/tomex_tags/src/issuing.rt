@@ -45,9 +45,9 @@ pub fn issue(
         j: registers.read(sources.j),
         k: registers.read(sources.k),
         address: None,
-        finish: None,
         value: 0,
+        finish: None,
     };
-    pools.take(place(tag), station, age);
-    registers.await_result(instr.dest(), tag);
+    let dest = pools.take(place(tag), station, age);
+    registers.await_result(dest, tag);
 }

@@ -3,7 +3,7 @@
 ghost use Rattle.std.specs.Prelude.{ℕ, ◌≡◌, ◌<◌, ◌≤◌, ◌/◌, Some, None, IfSome, IfNone, IsSome, true, false, replicate, slice_index_or, slice_set, length, option_map};
 ghost use Rattle.tomex_timing.specs.Recurrence.{IsLeast};
 ghost use Rattle.tomex_bus.specs.Sets.{IsWith, IsWithout, has};
-ghost use Rattle.tomex_rvdec.specs.Operands.{pool_of, unit_of, unit_of_pool};
+ghost use Rattle.tomex_rvdec.specs.Operands.{dest_of, pool_of, unit_of, unit_of_pool};
 ghost use Rattle.tomex_tags.specs.Places.{pool_at, tag_at_place};
 ghost use Rattle.tomex_tags.specs.Contents.{busy_from, hears, lacks_address, started, with_address};
 ghost use Rattle.tomex_tags.specs.Listeners.{awaits};
@@ -188,15 +188,18 @@ impl Pools {
         }
     }
 
-    /// A station takes a place that is free; so many instructions had issued before its own.
+    /// A station takes a place that is free; so many instructions had issued before its own. Answers the
+    /// register that it writes.
     #[inline(always)]
-    pub fn take(&mut self, place: usize, station: Station, age: u32)
+    pub fn take(&mut self, place: usize, station: Station, age: u32) -> Option<u8>
         requires place { place < 96 }
         requires open { slice_index_or self.old.slots place None ≡ None }
         requires own { pool_of station.instr.op ≡ Some (pool_at (place / 16)) }
         ensures slots { self.new.slots ≡ slice_set self.old.slots place (Some station) }
         ensures busy { IsWith self.old.busy place self.new.busy }
         ensures ages { self.new.ages ≡ slice_set self.old.ages place age }
+        ensures dest { result ≡ dest_of station.instr }
+        ensures register { IfSome result (λ r. r < 32) }
     {
         self.pools[place / 16].put(place % 16, Some(station));
         self.listeners.add(place, station.j);
@@ -204,20 +207,19 @@ impl Pools {
         self.busy = with(self.busy, place);
         self.ages[place] = age;
         // Last, for its last test, whether a register is written, is the first one of what an issue does next.
-        self.standing.file(place, &station);
+        self.standing.file(place, &station)
     }
 
-    /// Frees the place of the station that stands there.
+    /// Frees a place.
     #[inline(always)]
-    pub fn release(&mut self, place: usize, station: &Station)
-        requires place { place < 96 }
-        requires here { slice_index_or self.old.slots place None ≡ Some station.now }
+    pub fn release(&mut self, place: usize)
+        requires { place < 96 }
         ensures slots { self.new.slots ≡ slice_set self.old.slots place None }
         ensures busy { IsWithout self.old.busy place self.new.busy }
         ensures ages { self.new.ages ≡ self.old.ages }
     {
         self.pools[place / 16].put(place % 16, None);
-        self.standing.clear(place, station);
+        self.standing.clear(place);
         self.busy = without(self.busy, place);
     }
 

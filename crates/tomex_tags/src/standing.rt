@@ -1,6 +1,7 @@
 //! What the busy stations wait for.
 
-ghost use Rattle.std.specs.Prelude.{◌≡◌, ◌<◌, None, Some, false, true};
+ghost use Rattle.std.specs.Prelude.{◌≡◌, ◌<◌, IfSome, None, Some, false, true};
+ghost use Rattle.tomex_rvdec.specs.Operands.{dest_of};
 ghost use Rattle.tomex_bus.specs.Sets.{has};
 ghost use Rattle.tomex_tags.specs.Contents.{lacks_address, with_address};
 ghost use Rattle.tomex_tags.specs.Standing.{HasFiled, IsFiled, IsKept, IsOut, waits};
@@ -48,16 +49,20 @@ fn join(set: &mut u128, place: usize, member: bool)
 }
 
 impl Standing {
-    /// A station stands in a place, in which nothing stood.
+    /// A station stands in a place, in which nothing stood; answers the register that its instruction writes.
     #[inline(always)]
-    pub fn file(&mut self, place: usize, station: &Station)
+    pub fn file(&mut self, place: usize, station: &Station) -> Option<u8>
         requires low { place < 128 }
         requires out { IsOut place self.old }
-        ensures { HasFiled place (Some station.now) self.old self.new }
+        ensures filed { HasFiled place (Some station.now) self.old self.new }
+        ensures dest { result ≡ dest_of station.now.instr }
+        ensures register { IfSome result (λ r. r < 32) }
     {
         join(&mut self.lacking, place, station.lacks_address());
         join(&mut self.waiting, place, station.is_waiting());
-        join(&mut self.writing, place, station.instr.dest().is_some());
+        let dest = station.instr.dest();
+        join(&mut self.writing, place, dest.is_some());
+        dest
     }
 
     /// The station in a place gets its address, where its base is there; all else of it is as before.
@@ -99,17 +104,14 @@ impl Standing {
         self.waiting = with_if(self.waiting, place, waits);
     }
 
-    /// The station in a place leaves it. As it ends, it waits for nothing more: that set seldom changes.
+    /// Nothing stands in a place any more.
     #[inline(always)]
-    pub fn clear(&mut self, place: usize, station: &Station)
-        requires low { place < 128 }
-        requires waiting { has self.old.waiting place ≡ waits (Some station.now) }
+    pub fn clear(&mut self, place: usize)
+        requires { place < 128 }
         ensures { HasFiled place None self.old self.new }
     {
-        if station.is_waiting() {
-            self.waiting = without(self.waiting, place);
-        }
         self.lacking = without(self.lacking, place);
+        self.waiting = without(self.waiting, place);
         self.writing = without(self.writing, place);
     }
 }

@@ -10,6 +10,8 @@ use tomex_rvexec::{ByteRange, Step};
 use tomex_timing::{Busy, Field, Tag};
 
 /// A busy station: an instruction that has issued and not ended.
+///
+/// Its fields are in an order that leaves no gaps: with the mark of a busy place it takes 64 bytes.
 #[derive(Clone, Copy)]
 pub struct Station {
     pub instr: Instr,
@@ -19,10 +21,10 @@ pub struct Station {
     pub k: Field,
     /// The address of a load or store, from its address cycle on.
     pub address: Option<u32>,
-    /// The cycle in which the unit is done, from the start on.
-    pub finish: Option<u64>,
     /// The result, from the start on, and 0 before.
     pub value: u32,
+    /// The cycle in which the unit is done, from the start on.
+    pub finish: Option<u64>,
 }
 
 /// Whether no Q stands.

@@ -1,4 +1,4 @@
-use Rattle.std.proofs.Common.{◌∙◌, ap, sym}
+use Rattle.std.proofs.Common.{◌∙◌, ap, arith, sym}
 use Rattle.std.specs.Prelude.{slice_index}
 use Rattle.tomex_bus.proofs.Members.{inside_left}
 use Rattle.tomex_membuf.proofs.ByAge.{found_blocked, found_clear, looked_first, looked_more}
@@ -7,7 +7,7 @@ use Rattle.tomex_membuf.proofs.order.passes.Goals as goal
 pub members-init : goal.members-init
 members-init c = record {
   inside = c.requires.inside;
-  looked = looked_first c.args.pools.now.slots c.args.pools.now.busy c.args.rivals c.args.pools.now.ages _ c.args.station.now c.args.next c.requires.others;
+  looked = looked_first c.args.pools.now.slots c.args.pools.now.busy c.args.rivals c.args.pools.now.ages _ c.args.station.now c.args.next (λ x l less e. c.requires.others x l (omega (arith, less, ap (λ xs. slice_index xs c.args.place) c.ages.ensures)) e);
 }
 
 pub returns-then-is_blocked_by : goal.returns-then-is_blocked_by

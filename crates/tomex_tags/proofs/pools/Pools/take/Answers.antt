@@ -6,7 +6,7 @@ use Rattle.tomex_tags.proofs.pools.Pools.take.Goals as goal
 
 pub invariant_of-self : goal.invariant_of-self
 invariant_of-self c = rw c.put.ensures (filled_by c.self.inside.pools c.self.inside.busy c.with-self-inside.result c.self.inside.ages _ c.args.place c.index-self-place.result (Some c.args.station) c.self.inside.standing c.file.new.self c.self.inside.listeners.sets c.add-2.new.self.sets c.self.invariant c.requires.place (length-set c.self.inside.ages c.args.place c.args.age ∙ c.self.invariant.filled.ages_count) c.with-self-inside.type_inv
-    (said_with c.self.inside.busy c.with-self-inside.result c.args.place (Some c.args.station) refl c.with-self-inside.ensures) c.file.ensures c.requires.own
+    (said_with c.self.inside.busy c.with-self-inside.result c.args.place (Some c.args.station) refl c.with-self-inside.ensures) c.file.ensures.filed c.requires.own
     (station_listens c.args.place c.args.station c.self.inside.listeners.sets c.add.new.self.sets c.add-2.new.self.sets c.self.invariant.listening.count c.add.ensures c.add-2.ensures))
 
 pub returns-clause-slots : goal.returns-clause-slots
