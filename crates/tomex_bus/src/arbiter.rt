@@ -26,18 +26,14 @@ pub fn oldest(set: u128, ages: &[u32; 128]) -> usize
     best
 }
 
-/// The n oldest of the ready ones, all of them where there are no more than n.
+/// The n oldest of the ready ones, one search after the other.
 ///
-/// Ages are by number: the count of instructions that issued before, so no two that are ready have
-/// one age. It serves units, memory ports and common data buses.
-#[inline(always)]
-pub fn pick(ready: u128, ages: &[u32; 128], n: u8) -> u128
+/// Mostly no more than one is ready, and `pick` answers: so this takes no registers of its caller.
+#[inline(never)]
+fn pick_by_age(ready: u128, ages: &[u32; 128], n: u8) -> u128
     ensures picked { IsPicked ready ages.now n result }
     ensures some { 0 < n → ready ≢ 0 → result ≢ 0 }
 {
-    if n > 0 && is_single(ready) {
-        return ready;
-    }
     let mut rest = ready;
     let mut picked = 0;
     for turn in 0..n {
@@ -49,4 +45,20 @@ pub fn pick(ready: u128, ages: &[u32; 128], n: u8) -> u128
         picked = with(picked, number);
     }
     picked
+}
+
+/// The n oldest of the ready ones, all of them where there are no more than n.
+///
+/// Ages are by number: the count of instructions that issued before, so no two that are ready have
+/// one age. It serves units, memory ports and common data buses.
+#[inline(always)]
+#[inline(always)]
+pub fn pick(ready: u128, ages: &[u32; 128], n: u8) -> u128
+    ensures picked { IsPicked ready ages.now n result }
+    ensures some { 0 < n → ready ≢ 0 → result ≢ 0 }
+{
+    if n > 0 && is_single(ready) {
+        return ready;
+    }
+    pick_by_age(ready, ages, n)
 }

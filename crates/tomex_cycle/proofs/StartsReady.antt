@@ -1,11 +1,11 @@
 -- The sets of the operations that are ready, by kind of unit.
-use Rattle.std.proofs.Common.{ℕ, ◌<◌, ◌≡◌, ◌∙◌, Bool, true, false, refl, List, [], ◌∷◌, Option, Some, None, ap, sym, inl, inr, slice_index, slice_index_or}
-use Rattle.std.specs.Prelude.{◌==◌, ◌≢◌, ◌&&◌, ◌||◌, is_some}
+use Rattle.std.proofs.Common.{ℕ, ◌<◌, ◌≡◌, ◌∙◌, Bool, true, false, refl, List, [], ◌∷◌, ◌++◌, Option, Some, None, ap, sym, inl, inr, slice_index, slice_index_or}
+use Rattle.std.specs.Prelude.{◌==◌, ◌≢◌, ◌&&◌, ◌||◌, not, is_none, is_some}
 use Rattle.std.proofs.lemmas.Bool.{cases_Bool, both_ways, and_parts, eqb-true, eqb-false}
 use Rattle.tomex_rvexec.specs.Steps.{bytes_of, is_in, is_number}
 use Rattle.tomex_rvexec.proofs.FlowFields.{bytes_of_memory}
 use Rattle.tomex_bus.specs.Sets.{has, IsWith, IsWithout}
-use Rattle.tomex_bus.specs.Picks.{IsPicked}
+use Rattle.tomex_bus.specs.Picks.{IsByAge, IsPicked}
 use Rattle.tomex_config.specs.Row.{Row, option_of}
 use Rattle.tomex_rvdec.specs.Operands.{pool_of, unit_at, unit_of}
 use Rattle.tomex_rvdec.specs.Parts.{place_of_unit}
@@ -20,9 +20,9 @@ use Rattle.tomex_bus.proofs.Picking.{none_picked, single_picked}
 use Rattle.tomex_membuf.specs.Order.{is_clear}
 use Rattle.tomex_membuf.proofs.ByAge.{no_access}
 use Rattle.tomex_tags.proofs.Filing.{is_standing}
-use Rattle.tomex_tags.specs.Contents.{bytes_from, is_memory_op, is_waiting, step_in}
+use Rattle.tomex_tags.specs.Contents.{bytes_from, is_memory_op, is_ready, is_waiting, step_in}
 use Rattle.tomex_tags.specs.Pools.{AreBusy, Pools}
-use Rattle.tomex_tags.specs.Standing.{IsSetOf, waits, waits_for}
+use Rattle.tomex_tags.specs.Standing.{IsSetOf, has_address, waits, waits_for}
 use Rattle.tomex_tags.specs.declared.station.Station.{Station}
 use Rattle.tomex_cycle.specs.Starts.{AreReady, AreReadyFor, IsStarting, IsWanted, kind_if, kind_of, wanted}
 use Rattle.tomex_cycle.proofs.StartsPicked.{unit_same}
@@ -119,6 +119,30 @@ memory_unit (Some pools.Div) = refl
 memory_unit (Some pools.Load) = refl
 memory_unit (Some pools.Store) = refl
 memory_unit (Some pools.Bru) = refl
+
+-- Memory operations of which none is in another's way.
+
+-- a memory operation that waits for nothing else has its address
+addressed_one : (s : Station) → waits_for units.Mem (Some s) ≡ true → has_address (Some s) ≡ true
+addressed_one s w =
+    let two = and_parts (is_waiting s) (is_of units.Mem (unit_of s.instr.op)) w in
+    let memory : is_memory_op s.instr.op ≡ true = memory_unit (pool_of s.instr.op) ∙ two.1 in
+    let address : (not (is_memory_op s.instr.op) || is_some s.address) ≡ true = (and_parts (is_none s.finish && is_ready s) (not (is_memory_op s.instr.op) || is_some s.address) two.0).1 in
+    rw memory (rw memory at address)
+
+-- all that wait are clear, where each of them is
+pub all_waiting : (st : Pools) (next waiting : ℕ) → AreBusy st.slots st.busy st.ages → IsSetOf (waits_for units.Mem) st.slots waiting
+    → ((place next : ℕ) (s : Station) (older younger : List ℕ) → place < 128 → slice_index_or st.slots place None ≡ Some s → has_address (Some s) ≡ true → IsByAge st.busy st.ages (older ++ (place ∷ younger)) → is_clear st.slots older s next ≡ true)
+    → AreReadyFor st next units.Mem waiting
+all_waiting st next waiting filled of clear = record {
+  inside = is_standing (waits_for units.Mem) st.slots st.busy st.ages waiting (none_waits units.Mem) filled of;
+  wants = λ x l older younger by. of x l ∙ elim (cases_Bool (waits_for units.Mem (slice_index_or st.slots x None))) [
+    | inr e ↦ e ∙ sym (wants_not st.slots older next units.Mem (slice_index_or st.slots x None) e)
+    | inl e ↦ e ∙ wants_clear st.slots older next units.Mem (slice_index_or st.slots x None) true e (λ s here. sym (clear x next s older younger l here (addressed_one s (ap (waits_for units.Mem) (sym here) ∙ e)) by))
+  ];
+}
+
+-- An operation of another kind needs no access.
 
 other_unit : (unit : UnitId) (u : Option UnitId) → unit ≢ units.Mem → is_of unit u ≡ true → is_of units.Mem u ≡ false
 other_unit unit None apart e = refl

@@ -15,7 +15,7 @@ use std::alloc::Allocator;
 use tomex_bus::pick;
 use tomex_bus::sets::{both, is_single, lowest, union, with, without_lowest};
 use tomex_config::Config;
-use tomex_membuf::{may_access, read, write as write_bytes};
+use tomex_membuf::{is_alone, may_access, read, write as write_bytes};
 use tomex_rvdec::UnitId;
 use tomex_rvexec::{Fault, FaultKind, Memory};
 use tomex_tags::{Pools, Station, unit};
@@ -30,14 +30,17 @@ fn is_clear(pools: &Pools, place: usize, next: u64) -> bool
     may_access(pools, place, next)
 }
 
-/// The places of the loads and stores whose accesses can start but for want of a port.
-fn accessible(pools: &Pools, next: u64) -> u128
+/// Of the places of loads and stores that wait for nothing else, those that no older access is in the way of.
+///
+/// Mostly no more than one has its address, and none is asked: so this takes no registers of its caller.
+#[inline(never)]
+fn clear_among(pools: &Pools, waiting: u128, next: u64) -> u128
+    requires set { IsSetOf (waits_for UnitId.Mem) pools.now.slots waiting }
+    requires busy { AreBusy pools.now.slots pools.now.busy pools.now.ages }
     ensures ready { AreReadyFor pools.now next UnitId.Mem result }
     ensures wait { (x : ℕ) → x < 128 → has result x ≡ true → waits_for UnitId.Mem (slice_index_or pools.now.slots x None) ≡ true }
-    ensures busy { AreBusy pools.now.slots pools.now.busy pools.now.ages }
 {
     let mut clear = 0;
-    let waiting = pools.waiting_for(UnitId::Mem);
     let mut rest = waiting;
     'members: while rest != 0 {
         let place = lowest(rest);
@@ -47,6 +50,22 @@ fn accessible(pools: &Pools, next: u64) -> u128
         }
     }
     clear
+}
+
+/// The places of the loads and stores whose accesses can start but for want of a port.
+fn accessible(pools: &Pools, next: u64) -> u128
+    ensures ready { AreReadyFor pools.now next UnitId.Mem result }
+    ensures wait { (x : ℕ) → x < 128 → has result x ≡ true → waits_for UnitId.Mem (slice_index_or pools.now.slots x None) ≡ true }
+    ensures busy { AreBusy pools.now.slots pools.now.busy pools.now.ages }
+{
+    let waiting = pools.waiting_for(UnitId::Mem);
+    if waiting == 0 {
+        return 0;
+    }
+    if is_alone(pools) {
+        return waiting;
+    }
+    clear_among(pools, waiting, next)
 }
 
 /// The places whose operations can start but for want of a unit of this kind, which is no memory port.

@@ -217,6 +217,19 @@ looked_first slots busy rivals ages age s next others x l member less = elim (ca
   | inr e ↦ inr (others x l less e)
 ]
 
+-- the one access with an address is in no way but its own
+pub alone_clear : (slots : List (Option Station)) (busy addressed : ℕ) (ages older younger : List ℕ) (place next : ℕ) (s : Station) → ((a b : ℕ) → a < 128 → b < 128 → has addressed a ≡ true → has addressed b ≡ true → a ≡ b) → IsSetOf has_address slots addressed
+    → place < 128 → slice_index_or slots place None ≡ Some s → has_address (Some s) ≡ true → IsByAge busy ages (older ++ (place ∷ younger)) → is_clear slots older s next ≡ true
+alone_clear slots busy addressed ages older younger place next s single of l here access by =
+    let member : has addressed place ≡ true = of place l ∙ (ap has_address here ∙ access) in
+    sym (clear_by slots busy ages older younger place s next by (λ x low busy_too less. elim (cases_Bool (has addressed x)) [
+      | inr e ↦ lets_unaddressed slots addressed s next x of low e
+      | inl e ↦
+          let same : x ≡ place = single x place low l e member in
+          let none : slice_index ages place < slice_index ages place = rw same at less in
+          absurd (omega arith)
+    ]))
+
 -- where there is none that could be in the way
 pub none_found : (slots : List (Option Station)) (busy rivals : ℕ) (ages older younger : List ℕ) (place : ℕ) (s : Station) (next : ℕ) → IsByAge busy ages (older ++ (place ∷ younger)) → rivals ≡ 0
     → ((x : ℕ) → x < 128 → slice_index ages x < slice_index ages place → has rivals x ≡ false → lets (slice_index_or slots x None) s next ≡ true) → true ≡ is_clear slots older s next

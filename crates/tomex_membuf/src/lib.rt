@@ -10,4 +10,4 @@ mod order;
 
 pub use access::{read, write};
 pub use addresses::address_next;
-pub use order::may_access;
+pub use order::{is_alone, may_access};

@@ -4,9 +4,10 @@ ghost use Rattle.std.specs.Prelude.{ℕ, List, None, Some, true, false, ◌≡�
 ghost use Rattle.tomex_bus.specs.Picks.{IsByAge};
 ghost use Rattle.tomex_bus.specs.Sets.{has};
 ghost use Rattle.tomex_timing.specs.Recurrence.{shares_byte};
+ghost use Rattle.tomex_tags.specs.Standing.{has_address};
 ghost use Rattle.tomex_membuf.specs.Order.{is_before, is_clear, lets};
 
-use tomex_bus::sets::{both, lowest, without, without_lowest};
+use tomex_bus::sets::{both, is_single, lowest, without, without_lowest};
 use tomex_rvexec::ByteRange;
 use tomex_tags::{Pools, Station};
 
@@ -112,4 +113,12 @@ pub fn may_access(pools: &Pools, place: usize, next: u64) -> bool
         Some(station) => passes(pools, place, rivals, &station, next),
         None => true,
     }
+}
+
+/// Whether at most one load or store has its address: then no access is in the way of another.
+#[inline(always)]
+pub fn is_alone(pools: &Pools) -> bool
+    ensures { result ≡ true → (place next : ℕ) (s : Station) (older younger : List ℕ) → place < 128 → slice_index_or pools.now.slots place None ≡ Some s → has_address (Some s) ≡ true → IsByAge pools.now.busy pools.now.ages (older ++ (place ∷ younger)) → is_clear pools.now.slots older s next ≡ true }
+{
+    is_single(pools.addressed())
 }

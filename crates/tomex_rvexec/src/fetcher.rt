@@ -74,6 +74,16 @@ impl<'a, A: Allocator> Fetcher<'a, A> {
         if let Some(instr) = self.cache.get(pc) {
             return Ok(instr);
         }
+        self.fetch_anew(pc)
+    }
+
+    /// Decodes the instruction at an address, and keeps it. Most fetches find theirs kept.
+    #[cold]
+    #[inline(never)]
+    fn fetch_anew(&mut self, pc: u32) -> Result<Instr, FaultKind>
+        ensures value { result ≡ instruction_at self.old pc }
+        ensures same { self.new ≡ self.old }
+    {
         let instr = instruction_at(self.image, pc)?;
         self.cache.keep(pc, instr);
         Ok(instr)

@@ -1,23 +1,6 @@
 use Rattle.std.proofs.Common.{arith}
-use Rattle.tomex_bus.proofs.Bits.{member_some}
-use Rattle.tomex_bus.proofs.Picking.{all_taken, one_more, single_picked, taken_some}
+use Rattle.tomex_bus.proofs.Picking.{single_picked}
 use Rattle.tomex_bus.proofs.arbiter.pick.Goals as goal
 
 pub returns-then-is_single-clause-picked : goal.returns-then-is_single-clause-picked
 returns-then-is_single-clause-picked c = single_picked c.args.ready c.args.n c.args.ages.now (omega (arith, c.if-n-gt0.true)) (c.is_single.ensures c.if-is_single.true)
-
-pub returns-then-rest-eq0-clause-picked : goal.returns-then-rest-eq0-clause-picked
-returns-then-rest-eq0-clause-picked c = record {
-  inside = c.loop-turn.invariant.made.picked_in;
-  oldest = all_taken c.args.ready c.args.ages.now c.loop-turn.turn c.args.n c.loop-turn.rest c.loop-turn.picked c.loop-turn.invariant.made c.if-rest-eq0.true (let a = c.loop-turn-test.true in omega arith);
-}
-
-pub returns-then-rest-eq0-clause-some : goal.returns-then-rest-eq0-clause-some
-returns-then-rest-eq0-clause-some c = λ l apart. taken_some c.args.ready c.loop-turn.turn c.loop-turn.rest c.loop-turn.picked c.loop-turn.invariant.first c.loop-turn.invariant.some c.if-rest-eq0.true apart
-
-pub loop-turn-preserved : goal.loop-turn-preserved
-loop-turn-preserved c = record {
-  made = one_more c.args.ready c.args.ages.now c.loop-turn.turn c.loop-turn.rest c.loop-turn.picked c.oldest-number.result c.without-rest.result c.with-picked.result c.loop-turn.invariant.made c.oldest-number.ensures.below c.oldest-number.ensures.member c.oldest-number.ensures.least c.without-rest.ensures.others c.with-picked.ensures;
-  first = λ e. absurd (omega arith);
-  some = λ l. member_some c.with-picked.result c.oldest-number.result c.with-picked.ensures.same;
-}

@@ -1,23 +1,17 @@
-use Rattle.std.proofs.Common.{◌∙◌, sym}
-use Rattle.tomex_cycle.proofs.StartsReady.{all_cleared, first_cleared, found_waiting, none_clear, one_clear}
+use Rattle.tomex_rvdec.specs.declared.pool.UnitId.TheVariants as units
+use Rattle.tomex_cycle.proofs.StartsReady.{all_cleared, all_of, all_waiting, first_cleared, found_waiting}
 use Rattle.tomex_cycle.proofs.starts.accessible.Goals as goal
 
-pub members-init : goal.members-init
-members-init c = first_cleared c.args.pools.now c.args.next c.waiting_for-waiting.result c.waiting_for-waiting.ensures.set
+-- none waits
+pub returns-then-waiting-eq0-clause-ready : goal.returns-then-waiting-eq0-clause-ready
+returns-then-waiting-eq0-clause-ready c = all_cleared c.args.pools.now c.args.next c.waiting_for-waiting.result c.waiting_for-waiting.result 0 c.waiting_for-waiting.ensures.busy c.waiting_for-waiting.ensures.set (first_cleared c.args.pools.now c.args.next c.waiting_for-waiting.result c.waiting_for-waiting.ensures.set) c.if-waiting-eq0.true
 
-pub is_clear-requires-clause-waits : goal.is_clear-requires-clause-waits
-is_clear-requires-clause-waits c = sym (c.waiting_for-waiting.ensures.set c.lowest-place.result c.lowest-place.ensures.below) ∙ c.members.invariant.inside c.lowest-place.result c.lowest-place.ensures.below c.lowest-place.ensures.member
+pub returns-then-waiting-eq0-clause-wait : goal.returns-then-waiting-eq0-clause-wait
+returns-then-waiting-eq0-clause-wait c = found_waiting c.args.pools.now c.args.next c.waiting_for-waiting.result c.waiting_for-waiting.result 0 c.waiting_for-waiting.ensures.set (first_cleared c.args.pools.now c.args.next c.waiting_for-waiting.result c.waiting_for-waiting.ensures.set)
 
-pub members-preserved-then-is_clear : goal.members-preserved-then-is_clear
-members-preserved-then-is_clear c = one_clear c.args.pools.now c.args.next c.waiting_for-waiting.result c.members.rest c.without_lowest-rest.result c.lowest-place.result c.members.clear c.with-clear.result c.members.invariant c.lowest-place.ensures.below c.lowest-place.ensures.member (c.without_lowest-rest.ensures.others c.lowest-place.result c.lowest-place.ensures.member c.lowest-place.ensures.least)
-    (λ older younger by. sym c.if-is_clear.true ∙ c.is_clear.ensures older younger by) c.with-clear.ensures
+-- none is in another's way
+pub returns-then-is_alone-clause-ready : goal.returns-then-is_alone-clause-ready
+returns-then-is_alone-clause-ready c = all_waiting c.args.pools.now c.args.next c.waiting_for-waiting.result c.waiting_for-waiting.ensures.busy c.waiting_for-waiting.ensures.set (c.is_alone.ensures c.if-is_alone.true)
 
-pub members-preserved : goal.members-preserved
-members-preserved c = none_clear c.args.pools.now c.args.next c.waiting_for-waiting.result c.members.rest c.without_lowest-rest.result c.lowest-place.result c.members.clear c.members.invariant c.lowest-place.ensures.below c.lowest-place.ensures.member (c.without_lowest-rest.ensures.others c.lowest-place.result c.lowest-place.ensures.member c.lowest-place.ensures.least)
-    (λ older younger by. sym c.if-is_clear.false ∙ c.is_clear.ensures older younger by)
-
-pub returns-clause-ready : goal.returns-clause-ready
-returns-clause-ready c = all_cleared c.args.pools.now c.args.next c.waiting_for-waiting.result c.members.rest c.members.clear c.waiting_for-waiting.ensures.busy c.waiting_for-waiting.ensures.set c.members.invariant c.members-test.false
-
-pub returns-clause-wait : goal.returns-clause-wait
-returns-clause-wait c = found_waiting c.args.pools.now c.args.next c.waiting_for-waiting.result c.members.rest c.members.clear c.waiting_for-waiting.ensures.set c.members.invariant
+pub returns-then-is_alone-clause-wait : goal.returns-then-is_alone-clause-wait
+returns-then-is_alone-clause-wait c = all_of units.Mem c.args.pools.now.slots c.waiting_for-waiting.result c.waiting_for-waiting.ensures.set

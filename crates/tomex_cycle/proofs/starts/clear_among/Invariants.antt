@@ -1,5 +1,5 @@
 use Rattle.tomex_cycle.proofs.StartsReady.{AreCleared}
-use Rattle.tomex_cycle.proofs.starts.accessible.Given as goal
+use Rattle.tomex_cycle.proofs.starts.clear_among.Given as goal
 
 -- all but the rest are looked at
 abbrev pub invariant-members : goal.invariant-members

@@ -1,7 +1,7 @@
 use Rattle.std.proofs.Common.{◌≡◌, ◌<◌}
 use Rattle.std.specs.Prelude.{◌≢◌}
 use Rattle.tomex_bus.proofs.Picking.{AreMade}
-use Rattle.tomex_bus.proofs.arbiter.pick.Given as goal
+use Rattle.tomex_bus.proofs.arbiter.pick_by_age.Given as goal
 
 abbrev pub invariant-loop-turn : goal.invariant-loop-turn
 invariant-loop-turn l = record {
