@@ -1,9 +1,11 @@
 -- Turns of a loop over the members of a set, the least first.
-use Rattle.std.proofs.Common.{ℕ, zero, suc, ◌+◌, ◌-◌, Bool, true, false, ◌≡◌, ◌≤◌, ◌<◌, ◌∙◌, ◌⊎◌, List, slice_index, arith, inl, inr, ap, refl, sym}
+use Rattle.std.proofs.Common.{ℕ, zero, suc, ◌+◌, ◌-◌, ◌^◌, Bool, true, false, ◌≡◌, ◌≤◌, ◌<◌, ◌∙◌, ◌⊎◌, List, slice_index, arith, inl, inr, ap, refl, sym}
 use Rattle.std.specs.Prelude.{◌==◌, ◌&&◌, not, nat_le}
 use Rattle.std.proofs.lemmas.Bool.{cases_Bool, cases_order, both_ways, eqb-true, eqb-false, le-leb, leb-true, lt-leb, and_parts, and_right}
-use Rattle.tomex_bus.specs.Sets.{has, IsWith, IsWithout}
-use Rattle.tomex_bus.proofs.Bits.{none_in}
+use Rattle.std.specs.Int.{trailing_zeros, w128}
+use Rattle.std.proofs.lemmas.Nat.Bits.{bit_at-trailing_zeros}
+use Rattle.tomex_bus.specs.Sets.{has, IsSingle, IsWith, IsWithout}
+use Rattle.tomex_bus.proofs.Bits.{has_none, has_one, none_in}
 
 pub none_rest : (rest x : ℕ) → rest ≡ 0 → has rest x ≡ false
 none_rest rest x e = rw e (none_in x)
@@ -157,4 +159,23 @@ one_member set left without empty a b l m ha hb =
     is_it y small member x out = elim (cases_Bool (y == x)) [
       | inl e ↦ eqb-true y x e
       | inr e ↦ absurd (both_ways (has left y) (none_rest left y empty) (out.others y small (eqb-false y x e) ∙ member))
+    ]
+
+-- what isn't empty has a least member
+least_member : (set : ℕ) → 0 < set → set < 2 ^ 128 → (x : ℕ) × (x < 128) × (has set x ≡ true) × ((i : ℕ) → i < x → has set i ≡ false)
+least_member set some fits =
+    let first = bit_at-trailing_zeros w128 set some fits in
+    (trailing_zeros w128 set, first.0, has_one _ _ first.1, λ i l. has_none _ i (first.2 i l))
+
+-- where one is left without the least, there are two
+pub two_members : (set left : ℕ) → 0 < set → set < 2 ^ 128 → 0 < left → left < 2 ^ 128 → ((x : ℕ) → has set x ≡ true → ((i : ℕ) → i < x → has set i ≡ false) → IsWithout set x left) → IsSingle set → ⊥
+two_members set left some fits more fit without single =
+    let least = least_member set some fits in
+    let other = least_member left more fit in
+    let gone : IsWithout set least.0 left = without least.0 least.2 least.3 in
+    elim (cases_Bool (least.0 == other.0)) [
+      | inl e ↦ both_ways (has left least.0) gone.same (ap (has left) (eqb-true least.0 other.0 e) ∙ other.2)
+      | inr e ↦
+          let there : has set other.0 ≡ true = sym (gone.others other.0 other.1 (λ z. eqb-false least.0 other.0 e (sym z))) ∙ other.2 in
+          eqb-false least.0 other.0 e (single least.0 other.0 least.1 other.1 least.2 there)
     ]

@@ -15,6 +15,10 @@ pub record IsWithout (set number new : ℕ) : Type 0 where
   pub same : has new number ≡ false
   pub others : (x : ℕ) → x < 128 → x ≢ number → has new x ≡ has set x
 
+-- no two numbers are in the set
+abbrev pub IsSingle : ℕ → Type 0
+IsSingle set = (a b : ℕ) → a < 128 → b < 128 → has set a ≡ true → has set b ≡ true → a ≡ b
+
 -- a number stands in a list
 abbrev pub is_in : List ℕ → ℕ → Bool
 is_in [] x = false

@@ -1,7 +1,7 @@
 //! Sets of numbers below 128, a bit each.
 
 ghost use Rattle.std.specs.Prelude.{ℕ, ◌≡◌, ◌<◌, ◌&&◌, ◌||◌, not, true, false};
-ghost use Rattle.tomex_bus.specs.Sets.{has, IsWith, IsWithout};
+ghost use Rattle.tomex_bus.specs.Sets.{has, IsSingle, IsWith, IsWithout};
 
 use crate::alone::alone;
 use crate::halves::{lower, upper, whole};
@@ -77,7 +77,8 @@ pub fn without_lowest(set: u128) -> u128
 /// Whether there is at most one member.
 #[inline(always)]
 pub fn is_single(set: u128) -> bool
-    ensures { result ≡ true → (a b : ℕ) → a < 128 → b < 128 → has set a ≡ true → has set b ≡ true → a ≡ b }
+    ensures single { result ≡ true → IsSingle set }
+    ensures several { result ≡ false → IsSingle set → ⊥ }
 {
     set == 0 || without_lowest(set) == 0
 }

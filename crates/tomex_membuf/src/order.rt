@@ -118,7 +118,8 @@ pub fn may_access(pools: &Pools, place: usize, next: u64) -> bool
 /// Whether at most one load or store has its address: then no access is in the way of another.
 #[inline(always)]
 pub fn is_alone(pools: &Pools) -> bool
-    ensures { result ≡ true → (place next : ℕ) (s : Station) (older younger : List ℕ) → place < 128 → slice_index_or pools.now.slots place None ≡ Some s → has_address (Some s) ≡ true → IsByAge pools.now.busy pools.now.ages (older ++ (place ∷ younger)) → is_clear pools.now.slots older s next ≡ true }
+    ensures alone { result ≡ true → (place next : ℕ) (s : Station) (older younger : List ℕ) → place < 128 → slice_index_or pools.now.slots place None ≡ Some s → has_address (Some s) ≡ true → IsByAge pools.now.busy pools.now.ages (older ++ (place ∷ younger)) → is_clear pools.now.slots older s next ≡ true }
+    ensures several { result ≡ false → ((a b : ℕ) → a < 128 → b < 128 → has_address (slice_index_or pools.now.slots a None) ≡ true → has_address (slice_index_or pools.now.slots b None) ≡ true → a ≡ b) → ⊥ }
 {
     is_single(pools.addressed())
 }

@@ -11,7 +11,7 @@ returns-then-waiting-eq0-clause-wait c = found_waiting c.args.pools.now c.args.n
 
 -- none is in another's way
 pub returns-then-is_alone-clause-ready : goal.returns-then-is_alone-clause-ready
-returns-then-is_alone-clause-ready c = all_waiting c.args.pools.now c.args.next c.waiting_for-waiting.result c.waiting_for-waiting.ensures.busy c.waiting_for-waiting.ensures.set (c.is_alone.ensures c.if-is_alone.true)
+returns-then-is_alone-clause-ready c = all_waiting c.args.pools.now c.args.next c.waiting_for-waiting.result c.waiting_for-waiting.ensures.busy c.waiting_for-waiting.ensures.set (c.is_alone.ensures.alone c.if-is_alone.true)
 
 pub returns-then-is_alone-clause-wait : goal.returns-then-is_alone-clause-wait
 returns-then-is_alone-clause-wait c = all_of units.Mem c.args.pools.now.slots c.waiting_for-waiting.result c.waiting_for-waiting.ensures.set

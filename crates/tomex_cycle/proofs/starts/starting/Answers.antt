@@ -10,7 +10,7 @@ returns-then-waiting-eq0-clause-starting c = none_starts c.args.row.now c.args.p
 pub returns-then-is_single-clause-starting : goal.returns-then-is_single-clause-starting
 returns-then-is_single-clause-starting c =
     let slots = c.args.pools.now.slots in
-    let single = c.is_single.ensures c.if-is_single.true in
+    let single = c.is_single.ensures.single c.if-is_single.true in
     let lawful = c.buses-buses.ensures.lawful in
     are_starting c.args.row.now c.args.pools.now c.args.next c.ready-alu.result c.ready-mul.result c.ready-div.result c.accessible-mem.result c.ready-bru.result c.ready-alu.result c.ready-mul.result c.ready-div.result c.accessible-mem.result c.ready-bru.result c.together.result
     c.ready-alu.ensures.ready c.ready-mul.ensures.ready c.ready-div.ensures.ready c.accessible-mem.ensures.ready c.ready-bru.ensures.ready
