@@ -204,12 +204,6 @@ left_out set left place x ages without l less e = elim (cases_Bool (place == x))
   | inr k ↦ sym (without.others x l (λ z. eqb-false place x k (sym z))) ∙ e
 ]
 
-pub left_in : (set left place x : ℕ) → IsWithout set place left → x < 128 → has left x ≡ true → has set x ≡ true
-left_in set left place x without l e = elim (cases_Bool (place == x)) [
-  | inl k ↦ let same : place ≡ x = eqb-true place x k in absurd (both_ways (has left place) without.same (ap (has left) same ∙ e))
-  | inr k ↦ sym (without.others x l (λ z. eqb-false place x k (sym z))) ∙ e
-]
-
 pub looked_first : (slots : List (Option Station)) (busy rivals : ℕ) (ages : List ℕ) (age : ℕ) (s : Station) (next : ℕ) → ((x : ℕ) → x < 128 → slice_index ages x < age → has rivals x ≡ false → lets (slice_index_or slots x None) s next ≡ true)
     → (x : ℕ) → x < 128 → has busy x ≡ true → slice_index ages x < age → (has rivals x ≡ true) ⊎ (lets (slice_index_or slots x None) s next ≡ true)
 looked_first slots busy rivals ages age s next others x l member less = elim (cases_Bool (has rivals x)) [
