@@ -7,15 +7,6 @@ use crate::alone::alone;
 use crate::halves::{lower, upper, whole};
 use crate::places;
 
-/// Whether a number is in the set.
-#[inline(always)]
-pub fn has(set: u128, number: usize) -> bool
-    requires { number < 128 }
-    ensures { result ≡ has set number }
-{
-    set >> number & 1 == 1
-}
-
 /// The set and the number.
 #[inline(always)]
 pub fn with(set: u128, number: usize) -> u128
