@@ -191,7 +191,7 @@ impl Pools {
     /// A station takes a place that is free; so many instructions had issued before its own. Answers the
     /// register that it writes.
     #[inline(always)]
-    pub fn take(&mut self, place: usize, station: Station, age: u32) -> Option<u8>
+    pub(crate) fn take(&mut self, place: usize, station: Station, age: u32) -> Option<u8>
         requires place { place < 96 }
         requires open { slice_index_or self.old.slots place None ≡ None }
         requires own { pool_of station.instr.op ≡ Some (pool_at (place / 16)) }
@@ -257,7 +257,7 @@ impl Pools {
 
     /// Turns each Q that names a place into V.
     #[inline(always)]
-    pub fn hear(&mut self, from: usize, value: u32)
+    pub(crate) fn hear(&mut self, from: usize, value: u32)
         ensures { HaveHeard (only from (Some value)) self.old self.new }
     {
         let mut rest = self.listening_to(from);

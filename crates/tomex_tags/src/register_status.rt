@@ -57,7 +57,7 @@ impl RegStatus {
 
     /// From here on a destination's value is still to come from the station.
     #[inline(always)]
-    pub fn await_result(&mut self, dest: Option<u8>, tag: Tag)
+    pub(crate) fn await_result(&mut self, dest: Option<u8>, tag: Tag)
         requires { IfSome dest (λ r. r < 32) }
         ensures values { self.new.values ≡ self.old.values }
         ensures tags { self.new.tags ≡ tags_with self.old.tags dest tag }
@@ -69,7 +69,7 @@ impl RegStatus {
 
     /// Takes what a place sends, where the register still waits for it.
     #[inline(always)]
-    pub fn receive(&mut self, register: u8, from: usize, value: u32)
+    pub(crate) fn receive(&mut self, register: u8, from: usize, value: u32)
         requires { register < 32 }
         ensures { self.new ≡ received self.old register from value }
     {

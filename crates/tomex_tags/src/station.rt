@@ -90,7 +90,7 @@ impl Station {
 
     /// Whether it holds a load or store.
     #[inline(always)]
-    pub fn is_memory(&self) -> bool
+    pub(crate) fn is_memory(&self) -> bool
         ensures { result ≡ is_memory_op self.now.instr.op }
     {
         match self.instr.op() {
@@ -101,7 +101,7 @@ impl Station {
 
     /// Whether it holds a load or store whose address isn't computed yet.
     #[inline(always)]
-    pub fn lacks_address(&self) -> bool
+    pub(crate) fn lacks_address(&self) -> bool
         ensures { result ≡ lacks_address (Some self.now) }
     {
         self.is_memory() && self.address.is_none()
@@ -120,7 +120,7 @@ impl Station {
 
     /// Whether it waits for nothing but a unit and older accesses.
     #[inline(always)]
-    pub fn is_waiting(&self) -> bool
+    pub(crate) fn is_waiting(&self) -> bool
         ensures { result ≡ is_waiting self.now }
     {
         self.finish.is_none() && self.ready() && (!self.is_memory() || self.address.is_some())
