@@ -1,5 +1,5 @@
 -- Where nothing ends, nothing changes.
-use Rattle.std.proofs.Common.{ℕ, ◌+◌, ◌≡◌, ◌∙◌, false, refl, List, Option, Some, None, ap, sym, length, slice_index, slice_index_or, option_map}
+use Rattle.std.proofs.Common.{ℕ, ◌+◌, ◌≡◌, arith, ◌∙◌, false, refl, List, Option, Some, None, ap, sym, length, slice_index, slice_index_or, option_map}
 use Rattle.std.specs.Prelude.{nat_lt, ◌&&◌, if◌then◌else◌}
 use Rattle.std.proofs.lemmas.Bool.{and_right}
 use Rattle.tomex_config.specs.Row.{Row}
@@ -9,7 +9,8 @@ use Rattle.tomex_timing.specs.declared.tables.Field.TheVariants.{Value, Waits, U
 use Rattle.tomex_bus.specs.Sets.{has}
 use Rattle.tomex_bus.proofs.Bits.{none_in}
 use Rattle.tomex_cycle.specs.declared.fetch.Fetch.{Fetch}
-use Rattle.tomex_cycle.specs.Ends.{AreEnding, EndsIn, Follows, Hears, after_ends, sends_of, sent_below}
+use Rattle.tomex_cycle.specs.declared.fetch.Fetch.TheVariants as from
+use Rattle.tomex_cycle.specs.Ends.{AreDone, AreEnding, EndsIn, Follows, Hears, after_ends, sends_of, sent_below}
 use Rattle.tomex_cycle.specs.Finishes.{AreKnown, LeavesKnown}
 use Rattle.tomex_cycle.specs.Phases.{MakesEnds}
 use Rattle.tomex_cycle.specs.declared.finishes.Finishes.{Finishes}
@@ -52,3 +53,9 @@ ends_none row next ending old registers fetch result ends filled follows e =
 
 pub none_over : (slots : List (Option Station)) (next ending : ℕ) (f : Finishes) → length slots ≡ 96 → LeavesKnown slots next ending f → ending ≡ 0 → AreKnown slots (next + 1) f
 none_over slots next ending f count leaves e = leaves slots (λ y. None) count (λ x l. rw (e, none_in x) (hears_none (λ y. None) (slice_index_or slots x None) (λ y. refl)))
+
+-- where nothing finishes, no branch is followed
+pub none_followed : (next due : ℕ) (slots : List (Option Station)) (fetch : Fetch) → AreDone slots next due → due ≡ 0 → Follows next slots fetch fetch
+none_followed next due slots (from.At pc) done e = refl
+none_followed next due slots (from.Stopped kind pc) done e = refl
+none_followed next due slots from.Waits done e = (None, (λ x low high. sym (done x (omega arith)) ∙ rw e (none_in x)), refl)

@@ -268,3 +268,11 @@ nothing_sent sending g none x l = rw (none, none_in x) (stays (has g.ready x))
     stays : (b : Bool) → b ≡ (b && true || false)
     stays true = refl
     stays false = refl
+
+-- where nothing finishes and no result waits, nothing ends
+pub ending_none : (st : Pools) (buses next due : ℕ) (f g : Finishes) → AreBusy st.slots st.busy st.ages → AreKnown st.slots next f → HaveTurned f g due → due ≡ 0 → g.ready ≡ 0 → AreEnding st buses next 0
+ending_none st buses next due f g filled known turned e none = are_ending st buses next due 0 0 0 0 f g filled known turned (nothing_found _ due e) (none_picked f.ready st.ages buses (sym turned.ready ∙ none)) (nothing_found _ due e) (nothing_ends 0 refl)
+
+-- and what is known stays right
+pub leaves_none : (st : Pools) (buses next due : ℕ) (f g : Finishes) → AreBusy st.slots st.busy st.ages → AreKnown st.slots next f → HaveTurned f g due → due ≡ 0 → g.ready ≡ 0 → LeavesKnown st.slots next 0 g
+leaves_none st buses next due f g filled known turned e none = leaves_known st buses next due 0 0 0 0 f g g filled known turned (nothing_found _ due e) (none_picked f.ready st.ages buses (sym turned.ready ∙ none)) (nothing_found _ due e) (nothing_ends 0 refl) refl (nothing_sent 0 g refl)

@@ -35,6 +35,12 @@ pub record HaveTurned (old new : Finishes) (taken : ℕ) : Type 0 where
   pub wheel : (a x : ℕ) → is_due new.wheel a x ≡ is_due old.wheel (a + 1) x
   pub ready : new.ready ≡ old.ready
 
+-- what was known before a cycle ends, once what finishes in it is taken out
+pub record AreTurned (slots : List (Option Station)) (next due : ℕ) (now : Finishes) : Type 0 where
+  pub before : Finishes
+  pub known : AreKnown slots next before
+  pub turned : HaveTurned before now due
+
 -- once these places have ended, and all others have heard what was sent, the finishes are known before the next cycle
 abbrev pub LeavesKnown : List (Option Station) → ℕ → ℕ → Finishes → Type 0
 LeavesKnown slots next ending known = (new : List (Option Station)) (sent : ℕ → Option ℕ) → length new ≡ 96 → ((x : ℕ) → x < 96 → slice_index_or new x None ≡ after_ends (has ending x) sent (slice_index_or slots x None)) → AreKnown new (next + 1) known

@@ -5,7 +5,7 @@ ghost use Rattle.tomex_bus.specs.Sets.{has};
 ghost use Rattle.tomex_tags.specs.Operands.{only};
 ghost use Rattle.tomex_tags.specs.Pools.{AreBusy};
 ghost use Rattle.tomex_cycle.specs.Ends.{AreDone, AreEnding, AreNamed, EndsIn, Follows, Hears, IsDoneBranch, sends_of, sent_below, target_in};
-ghost use Rattle.tomex_cycle.specs.Finishes.{AreKnown, LeavesKnown};
+ghost use Rattle.tomex_cycle.specs.Finishes.{AreTurned, LeavesKnown};
 ghost use Rattle.tomex_cycle.specs.Starts.{AreLow};
 
 use crate::fetch::Fetch;
@@ -26,9 +26,10 @@ pub struct Over {
     pub ending: u128,
 }
 
-/// What is over in the cycle. From here on what finishes in it is known by the results that are ready.
-pub fn settle(pools: &Pools, finishes: &mut Finishes, buses: u8, next: u64) -> Over
-    requires known { AreKnown pools.now.slots next finishes.old }
+/// What is over in the cycle, in which these places finish. From here on what finishes in it is known by
+/// the results that are ready.
+pub fn settle(pools: &Pools, finishes: &mut Finishes, due: u128, buses: u8, next: u64) -> Over
+    requires known { AreTurned pools.now.slots next due finishes.old }
     requires some { 1 ≤ buses }
     ensures due { AreDone pools.now.slots next result.due }
     ensures ending { AreEnding pools.now buses next result.ending }
@@ -37,13 +38,6 @@ pub fn settle(pools: &Pools, finishes: &mut Finishes, buses: u8, next: u64) -> O
     ensures quiet { result.ending ≡ 0 → result.due ≡ 0 → finishes.new.ready ≡ 0 }
     ensures fits { (result.due < 2 ^ 128) × (result.ending < 2 ^ 128) }
 {
-    let due = finishes.turn();
-    // In many cycles nothing finishes and no result waits.
-    if due == 0 && finishes.ready == 0 {
-        // Read for what the type of the stations keeps.
-        let _busy = pools.busy();
-        return Over { due: 0, ending: 0 };
-    }
     let writing = pools.writing();
     let sending = pick(finishes.ready, pools.ages(), buses);
     let results = both(due, writing);

@@ -101,7 +101,14 @@ pub fn end(
     ensures known { AreKnown pools.new.slots (next + 1) finishes.new }
     ensures quiet { result ≡ false → finishes.new.ready ≡ 0 }
 {
-    let over = ends::settle(pools, finishes, row.buses(), next);
+    let due = finishes.turn();
+    // In many cycles nothing finishes and no result waits.
+    if due == 0 && finishes.ready == 0 {
+        // Read for what the type of the stations keeps.
+        let _busy = pools.busy();
+        return false;
+    }
+    let over = ends::settle(pools, finishes, due, row.buses(), next);
     ends::follow(fetch, pools, over.due, next);
     if over.ending == 0 {
         return over.due != 0;

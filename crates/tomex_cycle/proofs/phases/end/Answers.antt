@@ -1,9 +1,28 @@
+use Rattle.std.proofs.Common.{refl, sym}
 use Rattle.tomex_cycle.specs.Ends.{sent_below}
 use Rattle.tomex_cycle.specs.Starts.{AreLow}
 use Rattle.tomex_cycle.proofs.Happens.{due_happens, end_happens, not_zero}
 use Rattle.tomex_cycle.proofs.EndsFetch.{ending_low, made_ends}
-use Rattle.tomex_cycle.proofs.EndsNone.{ends_none, none_over}
+use Rattle.tomex_cycle.proofs.EndsNone.{ends_none, none_followed, none_over}
+use Rattle.tomex_cycle.proofs.KnownEnds.{all_due, ending_none, leaves_none}
 use Rattle.tomex_cycle.proofs.phases.end.Goals as goal
+
+pub returns-then-finishes-eq0-clause-ends : goal.returns-then-finishes-eq0-clause-ends
+returns-then-finishes-eq0-clause-ends c =
+    ends_none c.args.row.now c.args.next 0 c.args.pools.now c.args.registers.now c.args.fetch.now c.args.fetch.now
+    (ending_none c.args.pools.now c.args.row.now.buses c.args.next c.turn-due.result c.args.finishes.now c.turn-due.new.self (rw c.busy-busy.ensures.set at c.busy-busy.ensures.busy) c.requires.known c.turn-due.ensures c.if-due-eq0.true c.if-finishes-eq0.true)
+    (rw c.busy-busy.ensures.set at c.busy-busy.ensures.busy)
+    (none_followed c.args.next c.turn-due.result c.args.pools.now.slots c.args.fetch.now (all_due c.args.pools.now.slots c.args.next c.turn-due.result c.args.finishes.now c.turn-due.new.self c.requires.known c.turn-due.ensures) c.if-due-eq0.true) refl
+
+pub returns-then-finishes-eq0-clause-known : goal.returns-then-finishes-eq0-clause-known
+returns-then-finishes-eq0-clause-known c = none_over c.args.pools.now.slots c.args.next 0 c.turn-due.new.self c.requires.known.places
+    (leaves_none c.args.pools.now c.args.row.now.buses c.args.next c.turn-due.result c.args.finishes.now c.turn-due.new.self (rw c.busy-busy.ensures.set at c.busy-busy.ensures.busy) c.requires.known c.turn-due.ensures c.if-due-eq0.true c.if-finishes-eq0.true) refl
+
+pub settle-over-requires : goal.settle-over-requires
+settle-over-requires c = record {
+  known = record { before = c.args.finishes.now; known = c.requires.known; turned = c.turn-due.ensures };
+  some = c.buses.ensures.range.0;
+}
 
 pub returns-then-over-eq0-clause-ends : goal.returns-then-over-eq0-clause-ends
 returns-then-over-eq0-clause-ends c =
