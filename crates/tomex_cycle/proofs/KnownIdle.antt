@@ -73,10 +73,6 @@ known_later slots cycle k f g known none clear passed ready =
       gone = λ x l. stay_later cycle (cycle + k + 1) (slice_index_or slots x None) (omega arith) (known.gone x l) (λ v from to. free x v l from (omega arith));
     }
 
-pub not_false : (b : Bool) → not b ≡ false → b ≡ true
-not_false true e = refl
-not_false false e = sym e
-
 pub clear_idle : (next : Option ℕ) (w : Ring) (most n : ℕ) → IsNext w next → IsIdle next most n → IsClearTo w n
 clear_idle None w most n empty idle a x l = empty a x
 clear_idle (Some ahead) w most n is idle a x l = let few : n ≤ ahead = idle.0 in is.1 a x (omega arith)

@@ -29,6 +29,7 @@ pub mod StartsReady
 pub mod Quiet
 pub mod Shifting
 pub mod Stillness
+mod Calmness
 pub mod StartsNone
 pub mod EndsNone
 pub mod Skips

@@ -3,22 +3,20 @@ use Rattle.std.proofs.Common.{ℕ, Bool, true, false, ◌≡◌, arith, refl, in
 use Rattle.std.specs.Prelude.{◌≢◌, ◌||◌, ◌⊎◌, not}
 use Rattle.tomex_cycle.specs.Issue.{count_after}
 
--- starts, an address, an issue, ends: each is noted on top of those before it
-abbrev pub noted : (any addressed made ended : Bool) → Bool
-noted any addressed made ended = (((false || any) || addressed) || made) || ended
+-- an address, an issue: each is noted on top of those before it
+abbrev pub noted : (addressed made : Bool) → Bool
+noted addressed made = (false || addressed) || made
 
--- where something is noted, something has changed
-pub what_moved : (any addressed made ended : Bool) (before now : ℕ) → count_after made before ≡ now → not (noted any addressed made ended) ≡ false → (any ≡ true) ⊎ ((addressed ≡ true) ⊎ ((now ≢ before) ⊎ (ended ≡ true)))
-what_moved true addressed made ended before now counted e = inl refl
-what_moved false true made ended before now counted e = inr (inl refl)
-what_moved false false true ended before now counted e = inr (inr (inl (λ same. absurd (omega (arith, counted, same)))))
-what_moved false false false true before now counted e = inr (inr (inr refl))
-what_moved false false false false before now counted e = absurd (cc)
+-- where something is noted, ends or starts, something has changed
+pub what_moved : (any addressed made ended : Bool) (before now : ℕ) → count_after made before ≡ now → (noted addressed made ≡ true) ⊎ ((ended ≡ true) ⊎ (any ≡ true)) → (any ≡ true) ⊎ ((addressed ≡ true) ⊎ ((now ≢ before) ⊎ (ended ≡ true)))
+what_moved any addressed made ended before now counted (inr (inr e)) = inl e
+what_moved any addressed made ended before now counted (inr (inl e)) = inr (inr (inr e))
+what_moved any true made ended before now counted (inl e) = inr (inl refl)
+what_moved any false true ended before now counted (inl e) = inr (inr (inl (λ same. absurd (omega (arith, counted, same)))))
+what_moved any false false ended before now counted (inl e) = absurd (cc)
 
--- and where nothing is, nothing
-pub none_moved : (any addressed made ended : Bool) → not (noted any addressed made ended) ≡ true → (any ≡ false) × (addressed ≡ false) × (made ≡ false) × (ended ≡ false)
-none_moved true addressed made ended e = absurd (cc)
-none_moved false true made ended e = absurd (cc)
-none_moved false false true ended e = absurd (cc)
-none_moved false false false true e = absurd (cc)
-none_moved false false false false e = (refl, refl, refl, refl)
+-- and where nothing is noted, nothing
+pub none_moved : (addressed made : Bool) → noted addressed made ≡ false → (addressed ≡ false) × (made ≡ false)
+none_moved true made e = absurd (cc)
+none_moved false true e = absurd (cc)
+none_moved false false e = (refl, refl)

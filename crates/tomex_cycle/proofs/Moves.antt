@@ -1,6 +1,6 @@
 -- What is made and what is passed, as counts of cycles see it.
 use Rattle.std.proofs.Common.{ℕ, ◌+◌, ◌<◌, ◌≤◌, ◌≡◌, ◌∙◌, Bool, true, false, arith, refl, List, None, ap, sym, inl, inr, slice_index_or}
-use Rattle.std.specs.Prelude.{nat_lt, if◌then◌else◌}
+use Rattle.std.specs.Prelude.{nat_lt, ◌⊎◌, if◌then◌else◌}
 use Rattle.std.proofs.lemmas.Bool.{cases_Bool, ltb-true, ltb-false}
 use Rattle.tomex_image.specs.Image.{Loaded, IsLoaded}
 use Rattle.tomex_config.specs.Row.{Row, IsRow}
@@ -12,7 +12,11 @@ use Rattle.tomex_timing.specs.declared.times.Done.{Done}
 use Rattle.tomex_timing.specs.History.{greatest_end}
 use Rattle.tomex_cycle.specs.declared.fetch.Fetch.{Fetch}
 use Rattle.tomex_cycle.specs.declared.progress.Progress.{Progress}
-use Rattle.tomex_cycle.specs.declared.progress.Progress.TheVariants.{Running, Ended}
+use Rattle.tomex_cycle.specs.declared.progress.Made.{Made}
+use Rattle.tomex_cycle.specs.declared.progress.Made.TheVariants as made_as
+use Rattle.tomex_cycle.specs.declared.progress.Progress.TheVariants.{Running, Ended, Faulted}
+use Rattle.tomex_cycle.specs.Calm.{AllCalm}
+use Rattle.tomex_cycle.specs.Made.{progress_of}
 use Rattle.tomex_cycle.specs.Ends.{finishes}
 use Rattle.tomex_cycle.specs.Events.{Passes, events_in}
 use Rattle.tomex_cycle.specs.Finishes.{FinishesSoon, IsFree}
@@ -21,25 +25,33 @@ use Rattle.tomex_cycle.specs.Run.{run_of, run_to}
 use Rattle.tomex_cycle.specs.Sound.{IsAfter, IsSound}
 use Rattle.tomex_cycle.specs.Views.{clocks}
 use Rattle.tomex_cycle.proofs.Happens.{finish_happens, over_happens, run_happens, still_none}
-use Rattle.tomex_cycle.proofs.Quiet.{AllStillTo}
 use Rattle.tomex_cycle.proofs.Runs.{run_whole}
-use Rattle.tomex_cycle.proofs.Skips.{still_past}
+use Rattle.tomex_cycle.proofs.Shifting.{AllStillAfter}
+use Rattle.tomex_cycle.proofs.Skips.{MakesCycle, calm_past}
 use Rattle.tomex_cycle.proofs.Ticks.{running_low}
 use Rattle.tomex_tags.specs.Pools.{Pools}
 use Rattle.tomex_tags.specs.declared.register_status.RegStatus.{RegStatus}
+
+-- a program that runs on moves, or nothing happens before the next finish
+runs_how : (made : Made) → progress_of made ≡ Running → (made ≡ made_as.Moving) ⊎ (made ≡ made_as.Still)
+runs_how made_as.Moving e = inl refl
+runs_how made_as.Still e = inr refl
+runs_how made_as.Ended e = let z : Ended ≡ Running = e in absurd (cc)
+runs_how (made_as.Faulted fault) e = let z : Faulted fault ≡ Running = e in absurd (cc)
+
+pub moving_not_still : (made : Made) → made ≡ made_as.Moving → made ≡ made_as.Still → ⊥
+moving_not_still made e f = cc
 
 shown_finish : (i : Loaded) (row : Row) (n u v more x : ℕ) (s : State) (kind : EndKind) (st : Pools) (rg : RegStatus) (ft : Fetch) (m : Bytes) → RunEnds i n s kind → IsSnapshot i row n u more st rg ft m → x < 96 → finishes v (slice_index_or st.slots x None) ≡ true → 0 < events_in v (run_to row i (n + 1))
 shown_finish i row n u v more x s kind st rg ft m ends shot small e =
     run_happens row i n more v s kind ends shot.issue.few (finish_happens i (clocks u u u) v x (run_to row i more) (ap (finishes v) (sym (shot.issue.slots.slots x small)) ∙ e))
 
 -- one cycle is made, and those after it are passed
-pub go_passes : (i : Loaded) (row : Row) (cycle w to : ℕ) (last now : Progress) (still : Bool) (count more : ℕ) (st st2 : Pools) (rg rg2 : RegStatus) (ft ft2 : Fetch) (m m2 : Bytes) → IsSound i row cycle last count st rg ft m → last ≡ Running
-    → ((n : ℕ) (s : State) (kind : EndKind) (t : ℕ) → RunEnds i n s kind → n < 262144 → cycle + 1 ≡ t + 1 → IsRow row → IsLoaded i.window i.memory i.entry → IsSnapshot i row n t count st rg ft m
-    → IsSnapshot i row n (cycle + 1) more st2 rg2 ft2 m2 × (now ≡ (if nat_lt (cycle + 1) (greatest_end (run_to row i (n + 1))) then Running else Ended)) × (still ≡ false → 0 < events_in (cycle + 1) (run_to row i (n + 1))))
-    → cycle + 1 ≤ w → (cycle + 1 < w → (more ≡ count) × (st2.slots ≡ st.slots) × (now ≡ Running) × IsFree st2.slots (cycle + 1) w)
-    → (now ≡ Running → still ≡ true → w < to → FinishesSoon st2.slots (cycle + 1) w)
+pub go_passes : (i : Loaded) (row : Row) (cycle w to : ℕ) (last : Progress) (made : Made) (count more : ℕ) (st st2 : Pools) (rg rg2 : RegStatus) (ft ft2 : Fetch) (m m2 : Bytes) → IsSound i row cycle last count st rg ft m → last ≡ Running
+    → MakesCycle i row cycle made count more st st2 rg rg2 ft ft2 m m2 → cycle + 1 ≤ w → (cycle + 1 < w → (made ≡ made_as.Still) × IsFree st2.slots (cycle + 1) w)
+    → (made ≡ made_as.Still → w < to → FinishesSoon st2.slots (cycle + 1) w)
     → EndsWithin i 262144 → Passes (run_of row i) to cycle w
-go_passes i row cycle w to last now still count more st st2 rg rg2 ft ft2 m m2 sound run made l skips stops within =
+go_passes i row cycle w to last made count more st st2 rg rg2 ft ft2 m m2 sound run makes l skips stops within =
     let n : ℕ = within.0 in
     let s : State = within.1 in
     let kind : EndKind = within.2 in
@@ -47,31 +59,30 @@ go_passes i row cycle w to last now still count more st st2 rg rg2 ft ft2 m m2 s
     let few : n < 262144 = within.3 in
     let h : List Done = run_to row i (n + 1) in
     let before : IsAfter i row n cycle last count st rg ft m = sound.after n s kind few ends in
-    let shot = made n s kind cycle ends few refl sound.lawful sound.loaded before.snapshot in
+    let shot = makes n s kind cycle ends few refl sound.lawful sound.loaded before.snapshot in
     let low : cycle < greatest_end h = running_low cycle (greatest_end h) last before.answer run in
-    let after : IsSnapshot i row n (cycle + 1) more st2 rg2 ft2 m2 = shot.0 in
+    let now : IsSnapshot i row n (cycle + 1) more st2 rg2 ft2 m2 = shot.0 in
     rw (run_whole row i n s kind ends few) (record {
       on = l;
       idle = λ k a b.
           let skip = skips (omega arith) in
-          let old : IsSnapshot i row n cycle more st rg ft m = rw skip.0 before.snapshot in
-          let still_to : AllStillTo (cycle + 1) w h = still_past row i n cycle (cycle + 1) w more s kind st st2 rg rg2 ft ft2 m m2 sound.lawful ends refl l old after skip.1 skip.3 in
-          still_none k h (still_to k (omega arith) b);
-      pays = elim (cases_Bool still) [
-        | inr moved ↦ inl (shot.2 moved)
-        | inl quiet ↦ elim (cases_Bool (nat_lt (cycle + 1) (greatest_end h))) [
-          | inr over ↦ let high : greatest_end h ≤ cycle + 1 = ltb-false _ _ over in inl (over_happens (cycle + 1) h (omega arith) (omega arith))
-          | inl on ↦
-              let runs : now ≡ Running = shot.1 ∙ ap (λ b. if b then Running else Ended) on in
-              elim (cases_Bool (nat_lt w to)) [
+          let still : AllStillAfter (cycle + 1) w h = calm_past row i n (cycle + 1) w more s kind st2 rg2 ft2 m2 sound.lawful ends (omega arith) l now (shot.3 skip.0) skip.1 in
+          still_none k h (still k a b);
+      pays = elim (cases_Bool (nat_lt (cycle + 1) (greatest_end h))) [
+        | inr over ↦ let high : greatest_end h ≤ cycle + 1 = ltb-false _ _ over in inl (over_happens (cycle + 1) h (omega arith) (omega arith))
+        | inl on ↦
+            let runs : progress_of made ≡ Running = shot.1 ∙ ap (λ b. if b then Running else Ended) on in
+            elim (runs_how made runs) [
+              | inl moving ↦ inl (shot.2 moving)
+              | inr still ↦ elim (cases_Bool (nat_lt w to)) [
                 | inr past ↦ inr (inl (ltb-false _ _ past))
                 | inl short ↦
-                    let f = stops runs quiet (ltb-true _ _ short) in
+                    let f = stops still (ltb-true _ _ short) in
                     elim f.2 [
-                      | inl here ↦ inl (shown_finish i row n (cycle + 1) (cycle + 1) more f.0 s kind st2 rg2 ft2 m2 ends after f.1 here)
-                      | inr next ↦ inr (inr (shown_finish i row n (cycle + 1) (w + 1) more f.0 s kind st2 rg2 ft2 m2 ends after f.1 next))
+                      | inl here ↦ inl (shown_finish i row n (cycle + 1) (cycle + 1) more f.0 s kind st2 rg2 ft2 m2 ends now f.1 here)
+                      | inr next ↦ inr (inr (shown_finish i row n (cycle + 1) (w + 1) more f.0 s kind st2 rg2 ft2 m2 ends now f.1 next))
                     ]
               ]
-        ]
+            ]
       ];
     })

@@ -1,5 +1,5 @@
 -- Where nothing happens in a cycle and nothing finishes for a while, nothing happens for that while.
-use Rattle.std.proofs.Common.{ℕ, zero, suc, ◌+◌, ◌<◌, ◌≤◌, ◌≡◌, ◌∙◌, Bool, true, false, arith, refl, List, [], ◌∷◌, Option, Some, None, ap, sym, inl, inr}
+use Rattle.std.proofs.Common.{ℕ, zero, suc, ◌+◌, ◌-◌, ◌<◌, ◌≤◌, ◌≡◌, ◌∙◌, Bool, true, false, arith, refl, List, [], ◌∷◌, Option, Some, None, ap, sym, inl, inr}
 use Rattle.std.specs.Prelude.{◌≢◌, nat_lt, nat_le, ◌==◌, not, ◌&&◌, ◌||◌, is_some, count_by, if◌then◌else◌, MatchOption}
 use Rattle.std.specs.Bool.{MatchBool}
 use Rattle.std.specs.List.{AllByRecursion}
@@ -20,8 +20,19 @@ use Rattle.tomex_timing.specs.Laws.{can_issue_alone}
 use Rattle.tomex_timing.proofs.Limits.{units_low, buses_low}
 use Rattle.tomex_timing.proofs.Settled.{count_none}
 use Rattle.tomex_timing.proofs.Width.{issues_alone}
+use Rattle.tomex_cycle.specs.Calm.{AllCalm, IsCalm}
 use Rattle.tomex_cycle.proofs.IssuesPhase.{width_one}
 use Rattle.tomex_cycle.proofs.Totals.{reach}
+
+-- nothing of the step falls in the cycle but perhaps its start
+pub record IsAtRest (v : ℕ) (d : Done) : Type 0 where
+  pub issue : d.at.issue ≢ v
+  pub address : cycle_of d.at.address ≢ v
+  pub finish : d.at.finish ≢ v
+  pub end : d.at.end ≢ v
+
+abbrev pub AllAtRest : ℕ → List Done → Type 0
+AllAtRest v h = AllByRecursion (IsAtRest v) h
 
 -- nothing of the step falls in the cycle
 pub record IsStill (v : ℕ) (d : Done) : Type 0 where
@@ -34,28 +45,36 @@ pub record IsStill (v : ℕ) (d : Done) : Type 0 where
 abbrev pub AllStill : ℕ → List Done → Type 0
 AllStill v h = AllByRecursion (IsStill v) h
 
+still_rests : (v : ℕ) (h : List Done) → AllStill v h → AllAtRest v h
+still_rests v [] still = tt
+still_rests v (d ∷ h) still = (record { issue = still.0.issue; address = still.0.address; finish = still.0.finish; end = still.0.end }, still_rests v h still.1)
+
+pub calm_rests : (v : ℕ) (h : List Done) → AllCalm v h → AllAtRest v h
+calm_rests v [] calm = tt
+calm_rests v (d ∷ h) calm = (record { issue = calm.0.issue; address = calm.0.address; finish = calm.0.finish; end = calm.0.end }, calm_rests v h calm.1)
+
 less : (a v : ℕ) → nat_lt a (v + 1) ≡ true → a ≢ v → nat_lt a v ≡ true
 less a v e apart = let k : a < v + 1 = ltb-true a (v + 1) e in lt-ltb a v (omega arith)
 
-last_issue_still : (v : ℕ) (h : List Done) → 0 < v → AllStill v h → last_issue h ≢ v
+last_issue_still : (v : ℕ) (h : List Done) → 0 < v → AllAtRest v h → last_issue h ≢ v
 last_issue_still v [] l still e = omega arith
 last_issue_still v (d ∷ h) l still e = still.0.issue e
 
-last_address_still : (v : ℕ) (h : List Done) → 0 < v → AllStill v h → last_address h ≢ v
+last_address_still : (v : ℕ) (h : List Done) → 0 < v → AllAtRest v h → last_address h ≢ v
 last_address_still v [] l still e = omega arith
 last_address_still v (d ∷ h) l still e = elim (cases_Bool (is_memory d.step)) [
   | inl m ↦ still.0.address (rw m at e)
   | inr m ↦ last_address_still v h l still.1 (rw m at e)
 ]
 
-writer_still : (v r : ℕ) (h : List Done) → 0 < v → AllStill v h → writer_end h r ≢ v
+writer_still : (v r : ℕ) (h : List Done) → 0 < v → AllAtRest v h → writer_end h r ≢ v
 writer_still v r [] l still e = omega arith
 writer_still v r (d ∷ h) l still e = elim (cases_Bool (is_number (step_dest d.step) r)) [
   | inl m ↦ still.0.end (rw m at e)
   | inr m ↦ writer_still v r h l still.1 (rw m at e)
 ]
 
-source_still : (v : ℕ) (h : List Done) (o : Option Operand) → 0 < v → AllStill v h → source_end h o ≢ v
+source_still : (v : ℕ) (h : List Done) (o : Option Operand) → 0 < v → AllAtRest v h → source_end h o ≢ v
 source_still v h None l still e = omega arith
 source_still v h (Some o) l still e = writer_still v o.register h l still e
 
@@ -64,13 +83,13 @@ or_less true f v e apart = less f v e apart
 or_less false f v e apart = refl
 
 -- what has finished before the next cycle has before this one
-branches_still : (v : ℕ) (h : List Done) → AllStill v h → are_branches_finished h (v + 1) ≡ true → are_branches_finished h v ≡ true
+branches_still : (v : ℕ) (h : List Done) → AllAtRest v h → are_branches_finished h (v + 1) ≡ true → are_branches_finished h v ≡ true
 branches_still v [] still e = refl
 branches_still v (d ∷ h) still e =
     let two = and_parts (not (is_branch d.step) || nat_lt d.at.finish (v + 1)) (are_branches_finished h (v + 1)) e in
     and_from _ _ (or_less (is_branch d.step) d.at.finish v two.0 still.0.finish) (branches_still v h still.1 two.1)
 
-conflicts_still : (v : ℕ) (h : List Done) (s : Step) → AllStill v h → are_conflicts_finished h s (v + 1) ≡ true → are_conflicts_finished h s v ≡ true
+conflicts_still : (v : ℕ) (h : List Done) (s : Step) → AllAtRest v h → are_conflicts_finished h s (v + 1) ≡ true → are_conflicts_finished h s v ≡ true
 conflicts_still v [] s still e = refl
 conflicts_still v (d ∷ h) s still e =
     let two = and_parts (not (conflicts d.step s) || nat_lt d.at.finish (v + 1)) (are_conflicts_finished h s (v + 1)) e in
@@ -82,13 +101,13 @@ held_still v end apart = elim (cases_Bool (nat_le v end)) [
   | inr e ↦ let k : end < v = leb-false v end e in rw (e, lt-leb (v + 1) end (omega arith)) refl
 ]
 
-holders_still : (v : ℕ) (pool : PoolId) (h : List Done) → AllStill v h → count_by (is_held pool (v + 1)) h ≡ count_by (is_held pool v) h
+holders_still : (v : ℕ) (pool : PoolId) (h : List Done) → AllAtRest v h → count_by (is_held pool (v + 1)) h ≡ count_by (is_held pool v) h
 holders_still v pool [] still = refl
 holders_still v pool (d ∷ h) still =
     let one : is_held pool (v + 1) d ≡ is_held pool v d = ap (λ b. is_in pool (step_pool d.step) && b) (held_still v d.at.end still.0.end) in
     sum_by-cons _ d h ∙ (rw (one, holders_still v pool h still.1) refl ∙ sym (sum_by-cons (λ (e : Done). if is_held pool v e then 1 else 0) d h))
 
-station_still : (row : Row) (v : ℕ) (h : List Done) (pool : Option PoolId) → AllStill v h → has_station row h pool (v + 1) ≡ true → has_station row h pool v ≡ true
+station_still : (row : Row) (v : ℕ) (h : List Done) (pool : Option PoolId) → AllAtRest v h → has_station row h pool (v + 1) ≡ true → has_station row h pool v ≡ true
 station_still row v h None still e = refl
 station_still row v h (Some pool) still e = rw (holders_still v pool h still) at e
 
@@ -97,14 +116,14 @@ unit_still row v h unit good still =
     rw (count_none (λ (d : Done). is_of unit (step_unit d.step) && d.at.start == v) (IsStill v) (λ d s. and_right (is_of unit (step_unit d.step)) (d.at.start == v) (ne_eqb d.at.start v s.start)) h still)
     (lt-ltb 0 (option_of row unit).units (units_low row unit good))
 
-bus_still : (row : Row) (v : ℕ) (h : List Done) → IsRow row → AllStill v h → has_bus row h v ≡ true
+bus_still : (row : Row) (v : ℕ) (h : List Done) → IsRow row → AllAtRest v h → has_bus row h v ≡ true
 bus_still row v h good still =
-    rw (count_none (λ (d : Done). is_some (step_dest d.step) && d.at.end == v) (IsStill v) (λ d s. and_right (is_some (step_dest d.step)) (d.at.end == v) (ne_eqb d.at.end v s.end)) h still)
+    rw (count_none (λ (d : Done). is_some (step_dest d.step) && d.at.end == v) (IsAtRest v) (λ d s. and_right (is_some (step_dest d.step)) (d.at.end == v) (ne_eqb d.at.end v s.end)) h still)
     (lt-ltb 0 row.buses (buses_low row good))
 
 -- What passes a test of the next cycle passes it in a cycle in which nothing happens.
 
-issue_still : (row : Row) (v : ℕ) (h : List Done) (s : Step) → 0 < v → AreTimed row h → AllStill v h → can_issue row h s (v + 1) ≡ true → can_issue row h s v ≡ true
+pub issue_still : (row : Row) (v : ℕ) (h : List Done) (s : Step) → 0 < v → AreTimed row h → AllAtRest v h → can_issue row h s (v + 1) ≡ true → can_issue row h s v ≡ true
 issue_still row v h s l timed still e =
     let alone : can_issue_alone row h s (v + 1) ≡ true = sym (issues_alone row h s (v + 1) (width_one row) timed) ∙ e in
     let a = and_parts (nat_lt (last_issue h) (v + 1) && are_branches_finished h (v + 1)) (has_station row h (step_pool s) (v + 1)) alone in
@@ -112,7 +131,7 @@ issue_still row v h s l timed still e =
     issues_alone row h s v (width_one row) timed
     ∙ and_from _ _ (and_from _ _ (less (last_issue h) v b.0 (last_issue_still v h l still)) (branches_still v h still b.1)) (station_still row v h (step_pool s) still a.1)
 
-address_still : (v : ℕ) (h : List Done) (s : Step) (issue : ℕ) → 0 < v → AllStill v h → issue ≢ v → can_address h s issue (v + 1) ≡ true → can_address h s issue v ≡ true
+address_still : (v : ℕ) (h : List Done) (s : Step) (issue : ℕ) → 0 < v → AllAtRest v h → issue ≢ v → can_address h s issue (v + 1) ≡ true → can_address h s issue v ≡ true
 address_still v h s issue l still apart e =
     let a = and_parts (nat_lt issue (v + 1) && nat_lt (source_end h (j_of s)) (v + 1)) (nat_lt (last_address h) (v + 1)) e in
     let b = and_parts (nat_lt issue (v + 1)) (nat_lt (source_end h (j_of s)) (v + 1)) a.0 in
@@ -126,16 +145,16 @@ start_still row v h s unit issue address l good still i a e =
     let two = and_parts (nat_lt issue (v + 1)) (nat_lt address (v + 1)) r.0 in
     let ops = and_parts (nat_lt (source_end h (j_of s)) (v + 1)) (nat_lt (source_end h (k_of s)) (v + 1)) r.1 in
     and_from _ _ (and_from _ _ (and_from _ _ (and_from _ _ (less issue v two.0 i) (less address v two.1 a))
-    (and_from _ _ (less (source_end h (j_of s)) v ops.0 (source_still v h (j_of s) l still)) (less (source_end h (k_of s)) v ops.1 (source_still v h (k_of s) l still))))
-    (conflicts_still v h s still q.1)) (unit_still row v h unit good still)
+    (and_from _ _ (less (source_end h (j_of s)) v ops.0 (source_still v h (j_of s) l (still_rests v h still))) (less (source_end h (k_of s)) v ops.1 (source_still v h (k_of s) l (still_rests v h still)))))
+    (conflicts_still v h s (still_rests v h still) q.1)) (unit_still row v h unit good still)
 
-end_still : (row : Row) (v : ℕ) (h : List Done) (finish : ℕ) → IsRow row → AllStill v h → finish ≢ v → can_end row h finish (v + 1) ≡ true → can_end row h finish v ≡ true
+end_still : (row : Row) (v : ℕ) (h : List Done) (finish : ℕ) → IsRow row → AllAtRest v h → finish ≢ v → can_end row h finish (v + 1) ≡ true → can_end row h finish v ≡ true
 end_still row v h finish good still apart e =
     let two = and_parts (nat_lt finish (v + 1)) (has_bus row h (v + 1)) e in
     and_from _ _ (less finish v two.0 apart) (bus_still row v h good still)
 
 -- so the least cycle that passes it isn't the next one
-not_least : (p : ℕ → Bool) (a v : ℕ) → (p (v + 1) ≡ true → p v ≡ true) → IsLeast p a → a ≢ v + 1
+pub not_least : (p : ℕ → Bool) (a v : ℕ) → (p (v + 1) ≡ true → p v ≡ true) → IsLeast p a → a ≢ v + 1
 not_least p a v before least e =
     let here : p a ≡ true = least.0 in
     let now : p (v + 1) ≡ true = ap p (sym e) ∙ here in
@@ -156,13 +175,13 @@ start_by : (row : Row) (v : ℕ) (h : List Done) (x : Step) (at : Times) (unit :
 start_by row v h x at None l good still i a next timed e = let f : at.start ≡ at.issue = timed in next (omega arith)
 start_by row v h x at (Some unit) l good still i a next timed e = not_least (can_start row h x unit at.issue (cycle_of at.address)) at.start v (start_still row v h x unit at.issue (cycle_of at.address) l good still i a) timed e
 
-end_by : (row : Row) (v : ℕ) (h : List Done) (at : Times) (unit : Option UnitId) (dest : Bool) → IsRow row → AllStill v h → at.finish ≢ v → at.issue ≢ v + 1 → at.finish ≢ v + 1
+end_by : (row : Row) (v : ℕ) (h : List Done) (at : Times) (unit : Option UnitId) (dest : Bool) → IsRow row → AllAtRest v h → at.finish ≢ v → at.issue ≢ v + 1 → at.finish ≢ v + 1
     → MatchOption unit (at.end ≡ at.issue) (λ u. MatchBool dest (IsLeast (can_end row h at.finish) at.end) (at.end ≡ at.finish)) → at.end ≢ v + 1
 end_by row v h at None dest good still f i g timed e = let k : at.end ≡ at.issue = timed in i (omega arith)
 end_by row v h at (Some unit) true good still f i g timed e = not_least (can_end row h at.finish) at.end v (end_still row v h at.finish good still f) timed e
 end_by row v h at (Some unit) false good still f i g timed e = let k : at.end ≡ at.finish = timed in g (omega arith)
 
-address_by : (v : ℕ) (h : List Done) (x : Step) (at : Times) (memory : Bool) → 0 < v → AllStill v h → at.issue ≢ v → MatchBool memory (IsLeast (can_address h x at.issue) (cycle_of at.address)) (at.address ≡ None) → cycle_of at.address ≢ v + 1
+address_by : (v : ℕ) (h : List Done) (x : Step) (at : Times) (memory : Bool) → 0 < v → AllAtRest v h → at.issue ≢ v → MatchBool memory (IsLeast (can_address h x at.issue) (cycle_of at.address)) (at.address ≡ None) → cycle_of at.address ≢ v + 1
 address_by v h x at true l still i timed e = not_least (can_address h x at.issue) (cycle_of at.address) v (address_still v h x at.issue l still i) timed e
 address_by v h x at false l still i timed e = let k : at.address ≡ None = timed in let z : cycle_of at.address ≡ 0 = rw k refl in omega arith
 
@@ -181,13 +200,14 @@ still_next row u v (d ∷ h) good timed l m still free =
     let older : AllStill (v + 1) h = still_next row u v h good timed.1 l m (λ k a b. (still k a b).1) free.1 in
     let now : IsStill v d = (still v m (omega arith)).0 in
     let before : AllStill v h = (still v m (omega arith)).1 in
+    let rest : AllAtRest v h = still_rests v h before in
     let low : 0 < v = omega arith in
-    let issue : d.at.issue ≢ v + 1 = not_least (can_issue row h d.step) d.at.issue v (issue_still row v h d.step low timed.1 before) timed.0.issue in
-    let address : cycle_of d.at.address ≢ v + 1 = address_by v h d.step d.at (is_memory d.step) low before now.issue timed.0.address in
+    let issue : d.at.issue ≢ v + 1 = not_least (can_issue row h d.step) d.at.issue v (issue_still row v h d.step low timed.1 rest) timed.0.issue in
+    let address : cycle_of d.at.address ≢ v + 1 = address_by v h d.step d.at (is_memory d.step) low rest now.issue timed.0.address in
     let start : d.at.start ≢ v + 1 = start_by row v h d.step d.at (step_unit d.step) low good before now.issue now.address issue timed.0.start in
     let order : d.at.start ≤ d.at.finish = (reach row d h good timed).order in
     let finish : d.at.finish ≢ v + 1 = finish_by u v d.at.start d.at.finish m (λ k a b. (still k a b).0.start) start order free.0 in
-    let end : d.at.end ≢ v + 1 = end_by row v h d.at (step_unit d.step) (is_some (step_dest d.step)) good before now.finish issue finish timed.0.end in
+    let end : d.at.end ≢ v + 1 = end_by row v h d.at (step_unit d.step) (is_some (step_dest d.step)) good rest now.finish issue finish timed.0.end in
     (record { issue = issue; address = address; start = start; finish = finish; end = end }, older)
 
 -- where nothing happens in the cycle u, and nothing that had started finishes in the next ones, nothing happens in them
@@ -202,3 +222,53 @@ quiet row u (suc n) h good timed l still free k a b =
           let at : k ≡ u + n + 1 = omega arith in
           rw at (still_next row u (u + n) h good timed l (omega arith) before (free (u + n + 1) (omega arith) (omega arith)))
     ]
+
+-- After a calm cycle.
+
+-- a cycle in which nothing happens is calm
+pub still_calm : (row : Row) (u : ℕ) (h : List Done) → IsRow row → AreTimed row h → 0 < u → AllStill u h → AllCalm u h
+still_calm row u [] good timed l still = tt
+still_calm row u (d ∷ h) good timed l still =
+    let now : IsStill u d = still.0 in
+    let issue : d.at.issue ≢ u + 1 = not_least (can_issue row h d.step) d.at.issue u (issue_still row u h d.step l timed.1 (still_rests u h still.1)) timed.0.issue in
+    (
+      record { issue = now.issue; address = now.address; finish = now.finish; end = now.end; later = start_by row u h d.step d.at (step_unit d.step) l good still.1 now.issue now.address issue timed.0.start },
+      still_calm row u h good timed.1 l still.1,
+    )
+
+calm_finish : (u start finish : ℕ) → start ≢ u + 1 → start ≤ finish → (start ≤ u → finish ≢ u + 1) → finish ≢ u + 1
+calm_finish u start finish later order free e = elim (cases_Bool (nat_le start u)) [
+  | inl k ↦ free (leb-true start u k) e
+  | inr k ↦ let late : u < start = leb-false start u k in later (omega arith)
+]
+
+-- nothing happens in the next one, where nothing finishes in it
+calm_next : (row : Row) (u : ℕ) (h : List Done) → IsRow row → AreTimed row h → 0 < u → AllCalm u h → AllFree u (u + 1) h → AllStill (u + 1) h
+calm_next row u [] good timed l calm free = tt
+calm_next row u (d ∷ h) good timed l calm free =
+    let now : IsCalm u d = calm.0 in
+    let rest : AllAtRest u h = calm_rests u h calm.1 in
+    let issue : d.at.issue ≢ u + 1 = not_least (can_issue row h d.step) d.at.issue u (issue_still row u h d.step l timed.1 rest) timed.0.issue in
+    let address : cycle_of d.at.address ≢ u + 1 = address_by u h d.step d.at (is_memory d.step) l rest now.issue timed.0.address in
+    let order : d.at.start ≤ d.at.finish = (reach row d h good timed).order in
+    let finish : d.at.finish ≢ u + 1 = calm_finish u d.at.start d.at.finish now.later order free.0 in
+    let end : d.at.end ≢ u + 1 = end_by row u h d.at (step_unit d.step) (is_some (step_dest d.step)) good rest now.finish issue finish timed.0.end in
+    (record { issue = issue; address = address; start = now.later; finish = finish; end = end }, calm_next row u h good timed.1 l calm.1 free.1)
+
+-- what had started by the next cycle had by this one
+free_on : (u w : ℕ) (h : List Done) → AllCalm u h → AllFree u w h → AllFree (u + 1) w h
+free_on u w [] calm free = tt
+free_on u w (d ∷ h) calm free = (
+  (λ started. free.0 (elim (cases_Bool (nat_le d.at.start u)) [
+    | inl k ↦ leb-true d.at.start u k
+    | inr k ↦ let late : u < d.at.start = leb-false d.at.start u k in absurd (calm.0.later (omega arith))
+  ])),
+  free_on u w h calm.1 free.1,
+)
+
+-- and nothing in those after it, where nothing that had started finishes in them
+pub calm_quiet : (row : Row) (u n : ℕ) (h : List Done) → IsRow row → AreTimed row h → 0 < u → AllCalm u h → ((w : ℕ) → u < w → w ≤ u + n → AllFree u w h) → (k : ℕ) → u < k → k ≤ u + n → AllStill k h
+calm_quiet row u n h good timed l calm free k a b =
+    let first : AllStill (u + 1) h = calm_next row u h good timed l calm (free (u + 1) (omega arith) (omega arith)) in
+    let at : u + 1 + (n - 1) ≡ u + n = omega arith in
+    quiet row (u + 1) (n - 1) h good timed (omega arith) first (λ w c d. free_on u w h calm (free w (omega arith) (omega arith))) k (omega arith) (omega arith)

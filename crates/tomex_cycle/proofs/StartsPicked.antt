@@ -18,7 +18,7 @@ use Rattle.tomex_timing.specs.Recurrence.{AreTimed, IsTimed, IsLeast, are_confli
 use Rattle.tomex_timing.specs.Tables.{field_of, field_from, producer, tag_at, tag_of}
 use Rattle.tomex_cycle.specs.Run.{AreIssuedBy}
 use Rattle.tomex_cycle.specs.Starts.{wanted, kind_if, is_among, kind_of, IsStarting, AreReady}
-use Rattle.tomex_cycle.specs.Views.{ShowsStations, clocks, holds_place, order_of, place_of, station_at, station_of}
+use Rattle.tomex_cycle.specs.Views.{Clocks, ShowsStations, clocks, holds_place, order_of, place_of, station_at, station_of}
 use Rattle.tomex_cycle.proofs.Addresses.{address_is, address_rises, field_parts, order_here, number_is_some}
 use Rattle.tomex_cycle.proofs.Totals.{issued_more}
 use Rattle.tomex_cycle.proofs.Places.{place_low, order-append}
@@ -155,7 +155,35 @@ lets_is i row t u d older s x good timed issued e l bytes store =
     let order : d.at.start ≤ d.at.finish = (reach row d older good timed).order in
     rw (bytes_are i row t d older timed issued l, bytes, store, before_is d.at.start d.at.finish t u e order) refl
 
--- a busy step of a history, in its place
+-- a busy step of a history, in its place, whatever starts and addresses are made
+pub record IsHeld (i : Loaded) (c : Clocks) (st : Pools) (d : Done) (older : List Done) : Type 0 where
+  pub x : ℕ
+  pub place : place_of d ≡ Some x
+  pub small : x < 96
+  pub held : holds_place c.end x d ≡ true
+  pub slot : slice_index_or st.slots x None ≡ Some (station_of i c d older)
+
+pub held_at : (i : Loaded) (row : Row) (c : Clocks) (st : Pools) (h newer : List Done) (d : Done) (older : List Done) → IsRow row → AreTimed row h → AreIssuedBy c.end h → ShowsStations i c h st → h ≡ newer ++ (d ∷ older) → nat_lt c.end d.at.end ≡ true → IsHeld i c st d older
+held_at i row c st h newer d older good timed issued shown e l =
+    let here : AreTimed row (newer ++ (d ∷ older)) = rw e at timed in
+    let by : AreIssuedBy c.end (newer ++ (d ∷ older)) = rw e at issued in
+    let k : c.end < d.at.end = ltb-true _ _ l in
+    let part : AreTimed row (d ∷ older) = timed_part row newer (d ∷ older) here in
+    let at : d.at.issue ≤ c.end = (issued_part c.end newer (d ∷ older) by).0 in
+    let tag = tag_there row d older c.end part.0 at k in
+    let place : place_of d ≡ Some (place_of_tag tag.0) = ap place_at tag.1 in
+    let held : holds_place c.end (place_of_tag tag.0) d ≡ true = rw (place, l, eq-eqb (place_of_tag tag.0) (place_of_tag tag.0) refl) refl in
+    let small : place_of_tag tag.0 < 96 = place_low (step_pool d.step) d.at.station (place_of_tag tag.0) (low row (d ∷ older) good part).0 place in
+    let there : station_at i c (newer ++ (d ∷ older)) (place_of_tag tag.0) ≡ Some (station_of i c d older) = station_here i row c newer d older (place_of_tag tag.0) good here (issued_more c.end (c.end + 1) (newer ++ (d ∷ older)) (omega arith) by) held in
+    record {
+      x = place_of_tag tag.0;
+      place = place;
+      small = small;
+      held = held;
+      slot = shown.slots (place_of_tag tag.0) small ∙ (ap (λ xs. station_at i c xs (place_of_tag tag.0)) e ∙ there);
+    }
+
+-- and in the order of ages
 pub record IsSeen (i : Loaded) (t : ℕ) (st : Pools) (d : Done) (older : List Done) : Type 0 where
   pub x : ℕ
   pub place : place_of d ≡ Some x
@@ -166,24 +194,8 @@ pub record IsSeen (i : Loaded) (t : ℕ) (st : Pools) (d : Done) (older : List D
 
 pub seen : (i : Loaded) (row : Row) (t : ℕ) (st : Pools) (h newer : List Done) (d : Done) (older : List Done) → IsRow row → AreTimed row h → AreIssuedBy t h → ShowsStations i (clocks t t t) h st → h ≡ newer ++ (d ∷ older) → nat_lt t d.at.end ≡ true → IsSeen i t st d older
 seen i row t st h newer d older good timed issued shown e l =
-    let here : AreTimed row (newer ++ (d ∷ older)) = rw e at timed in
-    let by : AreIssuedBy t (newer ++ (d ∷ older)) = rw e at issued in
-    let k : t < d.at.end = ltb-true _ _ l in
-    let part : AreTimed row (d ∷ older) = timed_part row newer (d ∷ older) here in
-    let at : d.at.issue ≤ t = (issued_part t newer (d ∷ older) by).0 in
-    let tag = tag_there row d older t part.0 at k in
-    let place : place_of d ≡ Some (place_of_tag tag.0) = ap place_at tag.1 in
-    let held : holds_place t (place_of_tag tag.0) d ≡ true = rw (place, l, eq-eqb (place_of_tag tag.0) (place_of_tag tag.0) refl) refl in
-    let small : place_of_tag tag.0 < 96 = place_low (step_pool d.step) d.at.station (place_of_tag tag.0) (low row (d ∷ older) good part).0 place in
-    let there : station_at i (clocks t t t) (newer ++ (d ∷ older)) (place_of_tag tag.0) ≡ Some (station_of i (clocks t t t) d older) = station_here i row (clocks t t t) newer d older (place_of_tag tag.0) good here (issued_more t (t + 1) (newer ++ (d ∷ older)) (omega arith) by) held in
-    record {
-      x = place_of_tag tag.0;
-      place = place;
-      small = small;
-      held = held;
-      slot = shown.slots (place_of_tag tag.0) small ∙ (ap (λ xs. station_at i (clocks t t t) xs (place_of_tag tag.0)) e ∙ there);
-      order = order_here t (place_of_tag tag.0) d older place l;
-    }
+    let at : IsHeld i (clocks t t t) st d older = held_at i row (clocks t t t) st h newer d older good timed issued shown e l in
+    record { x = at.x; place = at.place; small = at.small; held = at.held; slot = at.slot; order = order_here t at.x d older at.place l }
 
 -- the older accesses that a station with an address waits for are those of the recurrence
 pub clear_is : (i : Loaded) (row : Row) (t u : ℕ) (st : Pools) (h newer part : List Done) (s : Station) (x : Step) → IsRow row → AreTimed row h → AreIssuedBy t h → ShowsStations i (clocks t t t) h st → h ≡ newer ++ part → u ≡ t + 1

@@ -1,25 +1,30 @@
--- Where a cycle leaves the stations as they were, and no operation finishes in it, nothing happens in it.
+-- What the stations tell of a cycle: where they stay as they were, and no operation finishes in it, nothing happens in it;
+-- where operations start, and leave none that waits for a unit, it is calm.
 use Rattle.std.proofs.Common.{ℕ, ◌+◌, ◌<◌, ◌≤◌, ◌≡◌, ◌∙◌, Bool, true, false, arith, refl, List, [], ◌∷◌, ◌++◌, Option, Some, None, ap, sym, inl, inr, append_assoc, slice_index_or}
 use Rattle.std.specs.Prelude.{◌≢◌, nat_lt, nat_le, ◌&&◌, ◌==◌, if◌then◌else◌, MatchOption}
-use Rattle.std.proofs.lemmas.Bool.{cases_Bool, both_ways, le-ltb, ltb-true, ltb-false, le-leb, lt-leb, and_parts, eq-eqb, MatchBool-at_false, MatchBool-at_true}
+use Rattle.std.proofs.lemmas.Bool.{cases_Bool, both_ways, le-ltb, lt-ltb, ltb-true, ltb-false, le-leb, lt-leb, and_from, and_parts, eq-eqb, MatchBool-at_false, MatchBool-at_true}
 use Rattle.tomex_image.specs.Image.{Loaded}
 use Rattle.tomex_config.specs.Row.{Row, IsRow}
 use Rattle.tomex_rvdec.specs.declared.pool.UnitId.{UnitId}
-use Rattle.tomex_rvexec.specs.Steps.{address_of, is_number, step_unit, j_of}
+use Rattle.tomex_rvexec.specs.Steps.{address_of, is_number, step_unit, j_of, k_of}
 use Rattle.tomex_timing.specs.declared.times.Done.{Done}
 use Rattle.tomex_timing.specs.History.{cycle_of, is_memory, last_address, source_end}
-use Rattle.tomex_timing.specs.Recurrence.{AreTimed, IsTimed, IsLeast, can_address, can_start}
+use Rattle.tomex_timing.specs.Recurrence.{AreTimed, IsTimed, IsLeast, are_conflicts_finished, can_address, can_issue, can_start, has_operands, has_unit}
+use Rattle.tomex_cycle.specs.Calm.{AllCalm, IsCalm}
 use Rattle.tomex_cycle.specs.Ends.{finishes}
 use Rattle.tomex_cycle.specs.Run.{AreIssuedBy}
+use Rattle.tomex_cycle.specs.Starts.{NoneWaits}
 use Rattle.tomex_cycle.specs.Views.{clocks, holds_place, place_of, station_at, station_of, ShowsStations}
 use Rattle.tomex_cycle.proofs.Cycles.{can_start_later}
 use Rattle.tomex_cycle.proofs.Fields.{timed_part, issued_part}
 use Rattle.tomex_cycle.proofs.Places.{is_vacant, station_here, vacant, vacant_none}
-use Rattle.tomex_cycle.proofs.Quiet.{AllFree, AllStill, IsStill}
+use Rattle.tomex_cycle.proofs.Quiet.{AllFree, AllStill, IsStill, calm_rests, issue_still, not_least}
 use Rattle.tomex_cycle.proofs.Runs.{AreLater}
-use Rattle.tomex_cycle.proofs.StartsPicked.{seen}
+use Rattle.tomex_cycle.proofs.StartsPicked.{held_at, ready_is, seen}
 use Rattle.tomex_cycle.proofs.Totals.{issued_more, reach}
+use Rattle.tomex_tags.specs.Contents.{is_waiting}
 use Rattle.tomex_tags.specs.Pools.{Pools}
+use Rattle.tomex_tags.specs.Standing.{waits}
 use Rattle.tomex_tags.specs.declared.station.Station.{Station}
 
 some_not_none : {A : Type 0} (x : A) → Some x ≡ None → ⊥
@@ -113,6 +118,65 @@ issued_still i row t u old new h newer (d ∷ older) good timed issued e before 
     ] in
     (one, issued_still i row t u old new h (newer ++ (d ∷ [])) older good timed issued e before after same free (split ∙ sym (append_assoc newer (d ∷ []) older)))
 
+-- what starts in the next cycle waits for a unit in this one
+waits_before : (i : Loaded) (row : Row) (u : ℕ) (d : Done) (older : List Done) → AreTimed row (d ∷ older) → AreIssuedBy u (d ∷ older) → d.at.start ≡ u + 1 → is_waiting (station_of i (clocks u u u) d older) ≡ true
+waits_before i row u d older timed issued e = of (step_unit d.step) timed.0.start
+  where
+    of : (unit : Option UnitId) → MatchOption unit (d.at.start ≡ d.at.issue) (λ k. IsLeast (can_start row older d.step k d.at.issue (cycle_of d.at.address)) d.at.start) → is_waiting (station_of i (clocks u u u) d older) ≡ true
+    of None s = let same : d.at.start ≡ d.at.issue = s in let past : d.at.issue ≤ u = issued.0 in absurd (omega arith)
+    of (Some k) s =
+        let now : can_start row older d.step k d.at.issue (cycle_of d.at.address) (u + 1) ≡ true = ap (λ (v : ℕ). can_start row older d.step k d.at.issue (cycle_of d.at.address) v) (sym e) ∙ s.0 in
+        let p = and_parts (nat_lt d.at.issue (u + 1) && nat_lt (cycle_of d.at.address) (u + 1) && has_operands older d.step (u + 1) && are_conflicts_finished older d.step (u + 1)) (has_unit row older k (u + 1)) now in
+        let q = and_parts (nat_lt d.at.issue (u + 1) && nat_lt (cycle_of d.at.address) (u + 1) && has_operands older d.step (u + 1)) (are_conflicts_finished older d.step (u + 1)) p.0 in
+        let r = and_parts (nat_lt d.at.issue (u + 1) && nat_lt (cycle_of d.at.address) (u + 1)) (has_operands older d.step (u + 1)) q.0 in
+        let two = and_parts (nat_lt d.at.issue (u + 1)) (nat_lt (cycle_of d.at.address) (u + 1)) r.0 in
+        let ops = and_parts (nat_lt (source_end older (j_of d.step)) (u + 1)) (nat_lt (source_end older (k_of d.step)) (u + 1)) r.1 in
+        ready_is i row u (u + 1) d older timed issued refl ∙ and_from _ _ (and_from _ _ (and_from _ _ (lt-ltb u d.at.start (omega arith)) ops.0) ops.1) two.1
+
+over_calm : (row : Row) (t u : ℕ) (d : Done) (older : List Done) → IsRow row → AreTimed row (d ∷ older) → d.at.end ≤ t → u ≡ t + 1 → IsCalm u d
+over_calm row t u d older good timed over e =
+    let still : IsStill u d = over_still row t u d older good timed over e in
+    let start : d.at.start ≤ d.at.end = (reach row d older good timed).start in
+    record { issue = still.issue; address = still.address; finish = still.finish; end = still.end; later = λ z. omega arith }
+
+-- a busy step, where all but starts leave its station as it was, and none waits
+busy_calm : (i : Loaded) (row : Row) (t u : ℕ) (mid new : Pools) (h newer : List Done) (d : Done) (older : List Done) → IsRow row → AreTimed row h → AreIssuedBy t h → u ≡ t + 1 → ShowsStations i (clocks u t t) h mid → ShowsStations i (clocks u u u) h new → new.slots ≡ mid.slots
+    → ((x : ℕ) → x < 96 → finishes u (slice_index_or new.slots x None) ≡ false) → NoneWaits new.slots → h ≡ newer ++ (d ∷ older) → nat_lt t d.at.end ≡ true → IsCalm u d
+busy_calm i row t u mid new h newer d older good timed issued e before after same free idle split late =
+    let here : AreTimed row (newer ++ (d ∷ older)) = rw split at timed in
+    let by : AreIssuedBy (t + 1) (newer ++ (d ∷ older)) = rw split at (issued_more t (t + 1) h (omega arith) issued) in
+    let part : AreTimed row (d ∷ older) = timed_part row newer (d ∷ older) here in
+    let at = held_at i row (clocks u t t) mid h newer d older good timed issued before split late in
+    elim (cases_Bool (nat_lt u d.at.end)) [
+      | inr l ↦
+          let none : slice_index_or new.slots at.x None ≡ None = after.slots at.x at.small ∙ (ap (λ xs. station_at i (clocks u u u) xs at.x) split ∙ left_empty i row t u at.x newer d older good here by e at.held (ltb-false u d.at.end l)) in
+          let some : slice_index_or new.slots at.x None ≡ Some (station_of i (clocks u t t) d older) = ap (λ xs. slice_index_or xs at.x None) same ∙ at.slot in
+          absurd (some_not_none (station_of i (clocks u t t) d older) (sym some ∙ none))
+      | inl l ↦
+          let more : AreIssuedBy u h = issued_more t u h (omega arith) issued in
+          let now = held_at i row (clocks u u u) new h newer d older good timed more after split l in
+          let place : at.x ≡ now.x = same_some at.x now.x (sym at.place ∙ now.place) in
+          let stays : station_of i (clocks u t t) d older ≡ station_of i (clocks u u u) d older = same_some _ _ (sym at.slot ∙ (ap (λ xs. slice_index_or xs at.x None) (sym same) ∙ (ap (λ (x : ℕ). slice_index_or new.slots x None) place ∙ now.slot))) in
+          let address : cycle_of d.at.address ≢ u = not_given t u (cycle_of d.at.address) (address_of d.step) (is_memory d.step) e (no_address row d older part.0) (ap (λ (s : Station). s.address) stays) in
+          let order : d.at.start ≤ d.at.finish = (reach row d older good part).order in
+          let none : is_number (if nat_le d.at.start u then Some d.at.finish else None) u ≡ false = ap (finishes u) (sym now.slot) ∙ free now.x now.small in
+          let rests : is_waiting (station_of i (clocks u u u) d older) ≡ false = ap waits (sym now.slot) ∙ idle now.x now.small in
+          let i0 : d.at.issue ≤ t = (issued_part t newer (d ∷ older) (rw split at issued)).0 in
+          let past : AreIssuedBy u (d ∷ older) = issued_part u newer (d ∷ older) (rw split at more) in
+          let k : u < d.at.end = ltb-true u d.at.end l in
+          record { issue = λ z. omega arith; address = address; finish = λ z. not_done u u d.at.start d.at.finish (omega arith) none z; end = λ z. omega arith; later = λ z. both_ways _ rests (waits_before i row u d older part past z) }
+    ]
+
+pub issued_calm : (i : Loaded) (row : Row) (t u : ℕ) (mid new : Pools) (h newer part : List Done) → IsRow row → AreTimed row h → AreIssuedBy t h → u ≡ t + 1 → ShowsStations i (clocks u t t) h mid → ShowsStations i (clocks u u u) h new → new.slots ≡ mid.slots
+    → ((x : ℕ) → x < 96 → finishes u (slice_index_or new.slots x None) ≡ false) → NoneWaits new.slots → h ≡ newer ++ part → AllCalm u part
+issued_calm i row t u mid new h newer [] good timed issued e before after same free idle split = tt
+issued_calm i row t u mid new h newer (d ∷ older) good timed issued e before after same free idle split =
+    let one : IsCalm u d = elim (cases_Bool (nat_lt t d.at.end)) [
+      | inl l ↦ busy_calm i row t u mid new h newer d older good timed issued e before after same free idle split l
+      | inr l ↦ over_calm row t u d older good (timed_part row newer (d ∷ older) (rw split at timed)) (ltb-false t d.at.end l) e
+    ] in
+    (one, issued_calm i row t u mid new h (newer ++ (d ∷ [])) older good timed issued e before after same free idle (split ∙ sym (append_assoc newer (d ∷ []) older)))
+
 start_after : (row : Row) (d : Done) (older : List Done) (unit : Option UnitId) → MatchOption unit (d.at.start ≡ d.at.issue) (λ u. IsLeast (can_start row older d.step u d.at.issue (cycle_of d.at.address)) d.at.start) → d.at.issue ≤ d.at.start
 start_after row d older None timed = let e : d.at.start ≡ d.at.issue = timed in omega arith
 start_after row d older (Some u) timed = let l : d.at.issue < d.at.start = can_start_later row d older u d.at.start timed.0 in omega arith
@@ -127,16 +191,25 @@ address_after row d older u timed l e low = elim (cases_Bool (is_memory d.step))
       omega arith
 ]
 
--- what issues later has nothing before
-pub later_still : (row : Row) (u : ℕ) (newer h : List Done) → IsRow row → AreTimed row (newer ++ h) → AreLater u newer → 0 < u → AllStill u h → AllStill u (newer ++ h)
-later_still row u [] h good timed later low still = still
-later_still row u (d ∷ newer) h good timed later low still =
+start_apart : (row : Row) (d : Done) (older : List Done) (u : ℕ) (unit : Option UnitId) → MatchOption unit (d.at.start ≡ d.at.issue) (λ k. IsLeast (can_start row older d.step k d.at.issue (cycle_of d.at.address)) d.at.start) → u < d.at.issue → d.at.issue ≢ u + 1 → d.at.start ≢ u + 1
+start_apart row d older u None timed late apart e = let same : d.at.start ≡ d.at.issue = timed in apart (omega arith)
+start_apart row d older u (Some k) timed late apart e = let l : d.at.issue < d.at.start = can_start_later row d older k d.at.start timed.0 in omega arith
+
+-- what issues later has nothing before, and doesn't issue in the next cycle
+pub later_calm : (row : Row) (u : ℕ) (newer h : List Done) → IsRow row → AreTimed row (newer ++ h) → AreLater u newer → 0 < u → AllCalm u h → AllCalm u (newer ++ h)
+later_calm row u [] h good timed later low calm = calm
+later_calm row u (d ∷ newer) h good timed later low calm =
+    let older : AllCalm u (newer ++ h) = later_calm row u newer h good timed.1 later.1 low calm in
     let l : u < d.at.issue = later.0 in
+    let apart : d.at.issue ≢ u + 1 = not_least (can_issue row (newer ++ h) d.step) d.at.issue u (issue_still row u (newer ++ h) d.step low timed.1 (calm_rests u (newer ++ h) older)) timed.0.issue in
     let s : d.at.issue ≤ d.at.start = start_after row d (newer ++ h) (step_unit d.step) timed.0.start in
     let r = reach row d (newer ++ h) good timed in
     let order : d.at.start ≤ d.at.finish = r.order in
     let end : d.at.finish ≤ d.at.end = r.finish in
-    (record { issue = λ z. omega arith; address = λ z. address_after row d (newer ++ h) u timed.0 l z low; start = λ z. omega arith; finish = λ z. omega arith; end = λ z. omega arith }, later_still row u newer h good timed.1 later.1 low still)
+    (
+      record { issue = λ z. omega arith; address = λ z. address_after row d (newer ++ h) u timed.0 l z low; finish = λ z. omega arith; end = λ z. omega arith; later = start_apart row d (newer ++ h) u (step_unit d.step) timed.0.start l apart },
+      older,
+    )
 
 pub later_free : (row : Row) (u w : ℕ) (newer h : List Done) → AreTimed row (newer ++ h) → AreLater u newer → AllFree u w h → AllFree u w (newer ++ h)
 later_free row u w [] h timed later free = free

@@ -7,4 +7,6 @@ pub mod Issue
 pub mod Starts
 pub mod Ends
 pub mod Finishes
+pub mod Made
+pub mod Calm
 pub mod Events

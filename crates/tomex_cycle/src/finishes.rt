@@ -5,7 +5,6 @@ ghost use Rattle.tomex_bus.specs.Sets.{has};
 ghost use Rattle.tomex_bus.specs.Wheel.{HasPassed, HasPut, IsClearTo, IsEmpty, Lacks};
 ghost use Rattle.tomex_cycle.specs.Finishes.{AreKnown, FinishesSoon, HaveTurned, IsFree, IsIdle};
 
-use crate::progress::{Made, Progress};
 use tomex_bus::Wheel;
 use tomex_bus::sets::{difference, union};
 use tomex_tags::Pools;
@@ -86,25 +85,18 @@ fn idle(next: Option<u32>, most: u64) -> u64
     }
 }
 
-/// Passes the cycles after one that was just made in which nothing happens, but goes no further than
+/// Passes the cycles after one that was just made in which nothing finishes, but goes no further than
 /// `to`; answers the cycle that it comes to.
-pub fn pass_idle(finishes: &mut Finishes, pools: &Pools, made: Made, cycle: u64, to: u64) -> u64
+pub fn pass_idle(finishes: &mut Finishes, pools: &Pools, cycle: u64, to: u64) -> u64
     requires ahead { cycle ≤ to }
-    requires known { made.progress ≡ Progress.Running → AreKnown pools.now.slots (cycle + 1) finishes.old }
-    requires quiet { made.still ≡ true → finishes.old.ready ≡ 0 }
+    requires known { AreKnown pools.now.slots (cycle + 1) finishes.old }
+    requires quiet { finishes.old.ready ≡ 0 }
     ensures least { cycle ≤ result }
     ensures most { result ≤ to }
-    ensures still { cycle < result → (made.still ≡ true) × (made.progress ≡ Progress.Running) × IsFree pools.now.slots cycle result }
-    ensures stops { made.progress ≡ Progress.Running → made.still ≡ true → result < to → FinishesSoon pools.now.slots cycle result }
-    ensures known { made.progress ≡ Progress.Running → AreKnown pools.now.slots (result + 1) finishes.new }
+    ensures free { IsFree pools.now.slots cycle result }
+    ensures stops { result < to → FinishesSoon pools.now.slots cycle result }
+    ensures known { AreKnown pools.now.slots (result + 1) finishes.new }
 {
-    match made.progress {
-        Progress::Running => {}
-        _ => return cycle,
-    }
-    if !made.still {
-        return cycle;
-    }
     let idle = idle(finishes.wheel.next(), to - cycle);
     finishes.pass(idle);
     cycle + idle

@@ -1,6 +1,6 @@
 //! What a cycle changes, and the one call that makes a cycle.
 
-ghost use Rattle.std.specs.Prelude.{ℕ, List, ◌≡◌, ◌≤◌, ◌<◌, ◌+◌, ◌%◌, ◌^◌, IfOk, OnOk, OnErr, nat_lt, true, false, not, ◌||◌, if◌then◌else◌};
+ghost use Rattle.std.specs.Prelude.{ℕ, List, ◌≡◌, ◌≤◌, ◌<◌, ◌+◌, ◌%◌, ◌^◌, IfOk, OnOk, OnErr, nat_lt, true, false, ◌||◌, ◌⊎◌, if◌then◌else◌};
 ghost use Rattle.tomex_image.specs.Image.{IsLoaded};
 ghost use Rattle.tomex_config.specs.Row.{IsRow};
 ghost use Rattle.tomex_rvexec.specs.declared.outcome.EndKind.{EndKind};
@@ -15,12 +15,16 @@ ghost use Rattle.tomex_cycle.specs.Run.{run_to, AreIssuedBy, IsHistory};
 ghost use Rattle.tomex_cycle.specs.Views.{clocks, ShowsStations, ShowsRegisters};
 ghost use Rattle.tomex_cycle.specs.Phases.{IsSnapshot, is_done};
 ghost use Rattle.tomex_cycle.specs.Finishes.{AreKnown};
+ghost use Rattle.tomex_cycle.specs.Calm.{AllCalm};
 ghost use Rattle.tomex_cycle.specs.Events.{events_in};
+ghost use Rattle.tomex_cycle.specs.Made.{progress_of};
+ghost use Rattle.tomex_cycle.specs.declared.progress.Progress.{Progress};
+ghost use Rattle.tomex_cycle.specs.Starts.{NoneWaits};
 
 use crate::fetch::Fetch;
 use crate::finishes::Finishes;
 use crate::phases;
-use crate::progress::{Made, Progress};
+use crate::progress::Made;
 use crate::shown::Tables;
 use std::alloc::{AllocError, Allocator, Global};
 use tomex_config::Config;
@@ -50,12 +54,14 @@ fn count_issue(count: &mut u32, moved: &mut bool, made: bool)
     }
 }
 
-/// Whether nothing is noted of a cycle, and nothing ends in it.
+/// Whether nothing happens after a cycle before the next finish: it has computed no address, issued nothing and
+/// ended nothing, and where it has started operations none waits for a unit.
 #[inline(always)]
-fn is_still(moved: bool, ended: bool) -> bool
-    ensures { result ≡ not (moved || ended) }
+fn is_still(moved: bool, ended: bool, began: bool, pools: &Pools) -> bool
+    ensures still { result ≡ true → (moved ≡ false) × (ended ≡ false) × ((began ≡ false) ⊎ NoneWaits pools.now.slots) }
+    ensures moving { result ≡ false → (moved ≡ true) ⊎ ((ended ≡ true) ⊎ (began ≡ true)) }
 {
-    !moved && !ended
+    !moved && !ended && !(began && pools.waiting() != 0)
 }
 
 /// Stations, registers and memory.
@@ -70,7 +76,9 @@ pub struct Inner<A: Allocator = Global> {
     count: u32,
     /// How many cycles were made.
     worked: u64,
-    /// Whether the cycle that is being made has changed any station before its end.
+    /// Whether the cycle that is being made has started any operation.
+    began: bool,
+    /// Whether it has computed an address or issued an instruction.
     ///
     /// A field, and no local: what happens writes it, and a cycle doesn't carry a flag of each phase to its end.
     moved: bool,
@@ -91,11 +99,11 @@ impl<A: Allocator> Inner<A> {
         ensures cycle { (n : ℕ) (s : State) (kind : EndKind) (t : ℕ) → RunEnds fetcher.old n s kind → n < 262144 → next ≡ t + 1 → IsRow row.now → IsLoaded fetcher.old.window fetcher.old.memory fetcher.old.entry
             → IsSnapshot fetcher.old row.now n t self.old.count self.old.pools self.old.registers self.old.fetch self.old.memory
             → IsSnapshot fetcher.old row.now n next self.new.count self.new.pools self.new.registers self.new.fetch self.new.memory
-            × (result.progress ≡ (if nat_lt next (greatest_end (run_to row.now fetcher.old (n + 1))) then Progress.Running else Progress.Ended))
-            × (result.still ≡ false → 0 < events_in next (run_to row.now fetcher.old (n + 1))) }
-        ensures still { result.still ≡ true → (self.new.count ≡ self.old.count) × (self.new.pools.slots ≡ self.old.pools.slots) }
-        ensures known { result.progress ≡ Progress.Running → AreKnown self.new.pools.slots (next + 1) self.new.finishes }
-        ensures quiet { result.still ≡ true → self.new.finishes.ready ≡ 0 }
+            × (progress_of result ≡ (if nat_lt next (greatest_end (run_to row.now fetcher.old (n + 1))) then Progress.Running else Progress.Ended))
+            × (result ≡ Made.Moving → 0 < events_in next (run_to row.now fetcher.old (n + 1)))
+            × (result ≡ Made.Still → AllCalm next (run_to row.now fetcher.old self.new.count)) }
+        ensures known { progress_of result ≡ Progress.Running → AreKnown self.new.pools.slots (next + 1) self.new.finishes }
+        ensures quiet { result ≡ Made.Still → self.new.finishes.ready ≡ 0 }
         ensures same { fetcher.new ≡ fetcher.old }
     {
         self.worked += 1;
@@ -108,9 +116,9 @@ impl<A: Allocator> Inner<A> {
             next,
         );
         if let Some(fault) = starts.fault {
-            return Made::fault(fault);
+            return Made::Faulted(fault);
         }
-        note(&mut self.moved, starts.any);
+        self.began = starts.any;
         let addressed = phases::address(&mut self.pools, next);
         note(&mut self.moved, addressed);
         match phases::issue(
@@ -123,7 +131,7 @@ impl<A: Allocator> Inner<A> {
             next,
         ) {
             Ok(made) => count_issue(&mut self.count, &mut self.moved, made),
-            Err(fault) => return Made::fault(fault),
+            Err(fault) => return Made::Faulted(fault),
         }
         let ended = phases::end(
             &mut self.pools,
@@ -135,10 +143,8 @@ impl<A: Allocator> Inner<A> {
         );
         // Read for what the type of the stations keeps.
         let _busy = self.pools.busy();
-        Made {
-            progress: Progress::after(self.is_over()),
-            still: is_still(self.moved, ended),
-        }
+        let still = is_still(self.moved, ended, self.began, &self.pools);
+        Made::after(self.is_over(), still)
     }
 
     /// Whether nothing is left to issue or to end.
@@ -166,6 +172,7 @@ impl<A: Allocator> Inner<A> {
             finishes: Finishes::new(),
             count: 0,
             worked: 0,
+            began: false,
             moved: false,
         };
         inner.restart(image)?;

@@ -9,7 +9,7 @@ ghost use Rattle.tomex_cycle.specs.Events.{IsCounted, Passes};
 
 use crate::finishes::pass_idle;
 use crate::inner::Inner;
-use crate::progress::Progress;
+use crate::progress::{Made, Progress};
 use crate::shown::Tables;
 use std::alloc::{AllocError, Allocator, Global};
 use std::marker::Model;
@@ -111,10 +111,21 @@ impl<'a, A: Allocator> Machine<'a, A> {
         ensures passes { EndsWithin self.old.image 262144 → Passes (run_of self.old.row self.old.image) to self.old.cycle self.new.cycle }
     {
         let next = self.cycle + 1;
-        let made = self.inner.make_cycle(&mut self.fetcher, &self.row, next);
-        self.cycle = pass_idle(&mut self.inner.finishes, &self.inner.pools, made, next, to);
-        self.last.come_to(made.progress);
-        made.progress
+        match self.inner.make_cycle(&mut self.fetcher, &self.row, next) {
+            Made::Moving => {
+                self.cycle = next;
+                Progress::Running
+            }
+            Made::Still => {
+                self.cycle = pass_idle(&mut self.inner.finishes, &self.inner.pools, next, to);
+                Progress::Running
+            }
+            over => {
+                self.cycle = next;
+                self.last = over.progress();
+                self.last
+            }
+        }
     }
 
     /// Does what as many ticks do as bring the cycle to `to`, fewer where the machine ends or faults.

@@ -1,6 +1,7 @@
 //! What a cycle comes to.
 
-ghost use Rattle.std.specs.Prelude.{◌≡◌, false, if◌then◌else◌};
+ghost use Rattle.std.specs.Prelude.{◌≡◌, true, false, if◌then◌else◌};
+ghost use Rattle.tomex_cycle.specs.Made.{progress_of};
 
 use tomex_rvexec::Fault;
 
@@ -13,46 +14,44 @@ pub enum Progress {
     Faulted(Fault),
 }
 
-impl Progress {
-    /// What a cycle without fault comes to.
-    pub(crate) fn after(over: bool) -> Progress
-        ensures { result ≡ (if over then Progress.Ended else Progress.Running) }
-    {
-        if over {
-            Progress::Ended
-        } else {
-            Progress::Running
-        }
-    }
-
-    /// What the next cycle comes to. Mostly the program runs on, and nothing is written.
-    #[inline(always)]
-    pub(crate) fn come_to(&mut self, next: Progress)
-        requires { self.old ≡ Progress.Running }
-        ensures { self.new ≡ next }
-    {
-        match next {
-            Progress::Running => {}
-            over => *self = over,
-        }
-    }
-}
-
-/// What a cycle comes to, and whether it leaves all stations as they were.
+/// What a cycle comes to.
 #[derive(Clone, Copy)]
-pub(crate) struct Made {
-    pub progress: Progress,
-    pub still: bool,
+pub(crate) enum Made {
+    /// The program runs on, and something may happen in the next cycle.
+    Moving,
+    /// The program runs on, and nothing happens before the next finish.
+    Still,
+    /// The program has ended, and so has each of its instructions.
+    Ended,
+    Faulted(Fault),
 }
 
 impl Made {
-    /// A cycle that faults.
-    pub(crate) fn fault(fault: Fault) -> Made
-        ensures { result ≡ record { progress = Progress.Faulted fault; still = false } }
+    /// What a cycle without fault comes to.
+    #[inline(always)]
+    pub(crate) fn after(over: bool, still: bool) -> Made
+        ensures progress { progress_of result ≡ (if over then Progress.Ended else Progress.Running) }
+        ensures moving { result ≡ Made.Moving → still ≡ false }
+        ensures still { result ≡ Made.Still → still ≡ true }
     {
-        Made {
-            progress: Progress::Faulted(fault),
-            still: false,
+        if over {
+            Made::Ended
+        } else if still {
+            Made::Still
+        } else {
+            Made::Moving
+        }
+    }
+
+    /// What the machine is after the cycle.
+    #[inline(always)]
+    pub(crate) fn progress(self) -> Progress
+        ensures { result ≡ progress_of self }
+    {
+        match self {
+            Made::Moving | Made::Still => Progress::Running,
+            Made::Ended => Progress::Ended,
+            Made::Faulted(fault) => Progress::Faulted(fault),
         }
     }
 }
