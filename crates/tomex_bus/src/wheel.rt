@@ -79,6 +79,14 @@ impl Wheel {
         self.head = ((u64::from(self.head) + cycles % 64) % 64) as u32;
     }
 
+    /// What is due 0 cycles ahead, a bit a number.
+    #[inline(always)]
+    pub fn first(&self) -> u128
+        ensures { AreDue self.now result }
+    {
+        self.sets[self.head as usize]
+    }
+
     /// Takes out what is due 0 cycles ahead, a bit a number.
     #[inline(always)]
     pub fn due(&mut self) -> u128

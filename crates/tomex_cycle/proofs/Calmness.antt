@@ -1,5 +1,5 @@
 -- A cycle that issues nothing, computes no address and ends nothing, and leaves nothing that waits for a unit, is calm.
-use Rattle.std.proofs.Common.{ℕ, ◌+◌, ◌<◌, ◌≤◌, ◌≡◌, ◌∙◌, Bool, true, false, arith, refl, [], Option, None, inl, inr, slice_index_or, subst}
+use Rattle.std.proofs.Common.{ℕ, ◌+◌, ◌<◌, ◌≡◌, ◌∙◌, Bool, false, arith, refl, [], Option, None, inl, inr, slice_index_or, subst}
 use Rattle.std.specs.Prelude.{◌⊎◌}
 use Rattle.tomex_image.specs.Image.{Loaded, IsLoaded}
 use Rattle.tomex_config.specs.Row.{Row, IsRow}

@@ -4,7 +4,7 @@ use Rattle.std.specs.Prelude.{◌==◌, if◌then◌else◌}
 use Rattle.std.proofs.Math.Numerals.{suc-eq-add-one}
 use Rattle.std.proofs.lemmas.Bool.{cases_Bool, eq-eqb}
 use Rattle.tomex_timing.specs.declared.times.Done.{Done}
-use Rattle.tomex_cycle.specs.Events.{IsCounted, Passes, busy_by, events_by, events_in}
+use Rattle.tomex_cycle.specs.Events.{GoesOn, IsCounted, Passes, busy_by, events_by, events_in}
 
 events_next : (h : List Done) (t : ℕ) → events_by h (t + 1) ≡ events_by h t + events_in (t + 1) h
 events_next h t = ap (λ (k : ℕ). events_by h k) (sym (suc-eq-add-one t)) ∙ ap (λ (k : ℕ). events_by h t + events_in k h) (suc-eq-add-one t)
@@ -39,7 +39,7 @@ pub record IsPaid (h : List Done) (to from now before after : ℕ) : Type 0 wher
 pub paid_first : (h : List Done) (to from before : ℕ) → IsPaid h to from from before before
 paid_first h to from before = record { least = omega arith; most = inl (omega arith) }
 
-pub paid_next : (h : List Done) (to from c w before after : ℕ) → c < to → IsPaid h to from c before after → Passes h to c w → IsPaid h to from w before (after + 1)
+paid_next : (h : List Done) (to from c w before after : ℕ) → c < to → IsPaid h to from c before after → Passes h to c w → IsPaid h to from w before (after + 1)
 paid_next h to from c w before after ahead paid passes =
     let on : c + 1 ≤ w = passes.on in
     let at : c + 1 + (w - (c + 1)) ≡ w = omega arith in
@@ -63,6 +63,15 @@ paid_next h to from c w before after ahead paid passes =
       ];
     }
 
+pub paid_on : (h : List Done) (to from c w before after more : ℕ) → c < to → IsPaid h to from c before after → GoesOn h to c w after more → IsPaid h to from w before more
+paid_on h to from c w before after more ahead paid goes = elim goes [
+  | inl one ↦ let e : more ≡ after + 1 = one.0 in rw e (paid_next h to from c w before after ahead paid one.1)
+  | inr two ↦
+      let a : more ≡ after + 2 = two.2 in
+      let e : more ≡ after + 1 + 1 = omega arith in
+      rw e (paid_next h to from two.0 w before (after + 1) two.1 (paid_next h to from c two.0 before after ahead paid two.3) two.4)
+]
+
 pub paid_counts : (h : List Done) (to from now before after : ℕ) → IsPaid h to from now before after → IsCounted h from now before after
 paid_counts h to from now before after paid = record {
   least = paid.least;
@@ -73,8 +82,8 @@ paid_counts h to from now before after paid = record {
 }
 
 -- of one cycle, and those that are passed after it
-pub one_counts : (h : List Done) (to from now before after : ℕ) → from < to → after ≡ before + 1 → Passes h to from now → IsCounted h from now before after
-one_counts h to from now before after ahead e passes = rw e (paid_counts h to from now before (before + 1) (paid_next h to from from now before before ahead (paid_first h to from before) passes))
+pub one_counts : (h : List Done) (to from now before after : ℕ) → from < to → GoesOn h to from now before after → IsCounted h from now before after
+one_counts h to from now before after ahead goes = paid_counts h to from now before after (paid_on h to from from now before before after ahead (paid_first h to from before) goes)
 
 -- where nothing is made
 pub none_counts : (h : List Done) (at worked : ℕ) → IsCounted h at at worked worked

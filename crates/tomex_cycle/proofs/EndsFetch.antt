@@ -60,7 +60,7 @@ branch_from (Some p) (Some n) x few e high =
     let f : 16 * place_of_pool p + n ≡ x = cc in
     bru_sum p n x (few n refl) f high
 
-place_high : (pool : Option PoolId) (station : Option ℕ) (x : ℕ) → is_in pools.Bru pool ≡ true → place_at (tag_at pool station) ≡ Some x → 80 ≤ x
+pub place_high : (pool : Option PoolId) (station : Option ℕ) (x : ℕ) → is_in pools.Bru pool ≡ true → place_at (tag_at pool station) ≡ Some x → 80 ≤ x
 place_high None station x e f = absurd (cc)
 place_high (Some p) None x e f = absurd (cc)
 place_high (Some p) (Some n) x e f =

@@ -217,10 +217,10 @@ none_ready due found sending silent ending buses f g h sending_fits fits turned 
 
 -- A branch that is done.
 
-abbrev is_branch_place : ℕ → Bool
+abbrev pub is_branch_place : ℕ → Bool
 is_branch_place x = nat_le 80 x && nat_lt x 96
 
-branch_places : (x : ℕ) → x < 128 → is_served units.Bru x ≡ is_branch_place x
+pub branch_places : (x : ℕ) → x < 128 → is_served units.Bru x ≡ is_branch_place x
 branch_places x l = agreed (is_served units.Bru) is_branch_place 128 refl x l
 
 pub no_branch : (slots : List (Option Station)) (next due branches served : ℕ) → AreDone slots next due → ((x : ℕ) → x < 128 → has served x ≡ is_served units.Bru x) → ((x : ℕ) → has branches x ≡ (has due x && has served x)) → branches ≡ 0 → IsDoneBranch next slots None

@@ -40,3 +40,4 @@ pub mod Known
 pub mod KnownEnds
 pub mod Moved
 pub mod KnownIdle
+pub mod KnownResults

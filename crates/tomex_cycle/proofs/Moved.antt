@@ -1,6 +1,6 @@
 -- What is noted of a cycle as its phases change something.
 use Rattle.std.proofs.Common.{ℕ, Bool, true, false, ◌≡◌, arith, refl, inl, inr}
-use Rattle.std.specs.Prelude.{◌≢◌, ◌||◌, ◌⊎◌, not}
+use Rattle.std.specs.Prelude.{◌≢◌, ◌||◌, ◌⊎◌}
 use Rattle.tomex_cycle.specs.Issue.{count_after}
 
 -- an address, an issue: each is noted on top of those before it

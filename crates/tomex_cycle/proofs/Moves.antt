@@ -1,9 +1,9 @@
 -- What is made and what is passed, as counts of cycles see it.
-use Rattle.std.proofs.Common.{ℕ, ◌+◌, ◌<◌, ◌≤◌, ◌≡◌, ◌∙◌, Bool, true, false, arith, refl, List, None, ap, sym, inl, inr, slice_index_or}
+use Rattle.std.proofs.Common.{ℕ, ◌+◌, ◌<◌, ◌≤◌, ◌≡◌, ◌∙◌, true, arith, refl, List, Option, None, ap, sym, inl, inr, slice_index_or}
 use Rattle.std.specs.Prelude.{nat_lt, ◌⊎◌, if◌then◌else◌}
-use Rattle.std.proofs.lemmas.Bool.{cases_Bool, ltb-true, ltb-false}
-use Rattle.tomex_image.specs.Image.{Loaded, IsLoaded}
-use Rattle.tomex_config.specs.Row.{Row, IsRow}
+use Rattle.std.proofs.lemmas.Bool.{both_ways, cases_Bool, ltb-true, ltb-false}
+use Rattle.tomex_image.specs.Image.{Loaded}
+use Rattle.tomex_config.specs.Row.{Row}
 use Rattle.tomex_rvexec.specs.declared.outcome.EndKind.{EndKind}
 use Rattle.tomex_rvexec.specs.Machine.{State}
 use Rattle.tomex_rvexec.specs.Memory.{Bytes}
@@ -15,11 +15,10 @@ use Rattle.tomex_cycle.specs.declared.progress.Progress.{Progress}
 use Rattle.tomex_cycle.specs.declared.progress.Made.{Made}
 use Rattle.tomex_cycle.specs.declared.progress.Made.TheVariants as made_as
 use Rattle.tomex_cycle.specs.declared.progress.Progress.TheVariants.{Running, Ended, Faulted}
-use Rattle.tomex_cycle.specs.Calm.{AllCalm}
 use Rattle.tomex_cycle.specs.Made.{progress_of}
 use Rattle.tomex_cycle.specs.Ends.{finishes}
-use Rattle.tomex_cycle.specs.Events.{Passes, events_in}
-use Rattle.tomex_cycle.specs.Finishes.{FinishesSoon, IsFree}
+use Rattle.tomex_cycle.specs.Events.{GoesOn, Passes, events_in}
+use Rattle.tomex_cycle.specs.Finishes.{FinishesSoon, IsFree, IsPassed}
 use Rattle.tomex_cycle.specs.Phases.{IsSnapshot}
 use Rattle.tomex_cycle.specs.Run.{run_of, run_to}
 use Rattle.tomex_cycle.specs.Sound.{IsAfter, IsSound}
@@ -31,6 +30,7 @@ use Rattle.tomex_cycle.proofs.Skips.{MakesCycle, calm_past}
 use Rattle.tomex_cycle.proofs.Ticks.{running_low}
 use Rattle.tomex_tags.specs.Pools.{Pools}
 use Rattle.tomex_tags.specs.declared.register_status.RegStatus.{RegStatus}
+use Rattle.tomex_tags.specs.declared.station.Station.{Station}
 
 -- a program that runs on moves, or nothing happens before the next finish
 runs_how : (made : Made) → progress_of made ≡ Running → (made ≡ made_as.Moving) ⊎ (made ≡ made_as.Still)
@@ -86,3 +86,39 @@ go_passes i row cycle w to last made count more st st2 rg rg2 ft ft2 m m2 sound 
             ]
       ];
     })
+
+-- in the cycle after those that are passed something finishes
+soon_happens : (i : Loaded) (row : Row) (cycle w : ℕ) (last : Progress) (made : Made) (count more : ℕ) (st st2 : Pools) (rg rg2 : RegStatus) (ft ft2 : Fetch) (m m2 : Bytes) → IsSound i row cycle last count st rg ft m
+    → MakesCycle i row cycle made count more st st2 rg rg2 ft ft2 m m2 → cycle + 1 ≤ w → IsFree st2.slots (cycle + 1) w → FinishesSoon st2.slots (cycle + 1) w → EndsWithin i 262144 → 0 < events_in (w + 1) (run_of row i)
+soon_happens i row cycle w last made count more st st2 rg rg2 ft ft2 m m2 sound makes l free soon within =
+    let n : ℕ = within.0 in
+    let s : State = within.1 in
+    let kind : EndKind = within.2 in
+    let shot = makes n s kind cycle within.4 within.3 refl sound.lawful sound.loaded (sound.after n s kind within.3 within.4).snapshot in
+    rw (run_whole row i n s kind within.4 within.3) (elim soon.2 [
+      | inl here ↦ absurd (both_ways (finishes (cycle + 1) (slice_index_or st2.slots soon.0 None)) (free soon.0 (cycle + 1) soon.1 (omega arith) l) here)
+      | inr next ↦ shown_finish i row n (cycle + 1) (w + 1) more soon.0 s kind st2 rg2 ft2 m2 within.4 shot.0 soon.1 next
+    ])
+
+-- after a cycle in which nothing happens
+pub still_goes : (i : Loaded) (row : Row) (cycle to now before after : ℕ) (last : Progress) (made : Made) (count more : ℕ) (st st2 : Pools) (rg rg2 : RegStatus) (ft ft2 : Fetch) (m m2 : Bytes) → IsSound i row cycle last count st rg ft m → last ≡ Running
+    → MakesCycle i row cycle made count more st st2 rg rg2 ft ft2 m m2 → made ≡ made_as.Still → IsPassed st2.slots (cycle + 1) to now (before + 1) after → EndsWithin i 262144 → GoesOn (run_of row i) to cycle now before after
+still_goes i row cycle to now before after last made count more st st2 rg rg2 ft ft2 m m2 sound run makes still passed within =
+    let first : Passes (run_of row i) to cycle passed.idle = go_passes i row cycle passed.idle to last made count more st st2 rg rg2 ft ft2 m m2 sound run makes passed.least (λ less. (still, passed.free)) (λ s. passed.stops) within in
+    elim passed.last [
+      | inl here ↦ let e : now ≡ passed.idle = here.0 in inl (here.1, rw e first)
+      | inr one ↦
+          let e : now ≡ passed.idle + 1 = one.0 in
+          let k : after ≡ before + 1 + 1 = one.2 in
+          let some = soon_happens i row cycle passed.idle last made count more st st2 rg rg2 ft ft2 m m2 sound makes passed.least passed.free (passed.stops one.1) within in
+          inr (passed.idle, one.1, omega arith, first, rw e (record { on = omega arith; idle = λ v a b. absurd (omega arith); pays = inl some }))
+    ]
+
+-- the count stays below the cycle
+pub passed_low : (slots : List (Option Station)) (cycle to now before after : ℕ) → IsPassed slots cycle to now before after → before ≤ cycle → after ≤ now
+passed_low slots cycle to now before after passed low =
+    let l : cycle ≤ passed.idle = passed.least in
+    elim passed.last [
+      | inl here ↦ let e : now ≡ passed.idle = here.0 in let k : after ≡ before = here.1 in omega arith
+      | inr one ↦ let e : now ≡ passed.idle + 1 = one.0 in let k : after ≡ before + 1 = one.2 in omega arith
+    ]

@@ -34,16 +34,35 @@ pub record IsAtRest (v : ℕ) (d : Done) : Type 0 where
 abbrev pub AllAtRest : ℕ → List Done → Type 0
 AllAtRest v h = AllByRecursion (IsAtRest v) h
 
--- nothing of the step falls in the cycle
-pub record IsStill (v : ℕ) (d : Done) : Type 0 where
+-- nothing of the step falls in the cycle but perhaps its finish, where it is so
+pub record IsStillBut (P : Done → Type 0) (v : ℕ) (d : Done) : Type 0 where
   pub issue : d.at.issue ≢ v
   pub address : cycle_of d.at.address ≢ v
   pub start : d.at.start ≢ v
-  pub finish : d.at.finish ≢ v
+  pub finish : d.at.finish ≡ v → P d
   pub end : d.at.end ≢ v
+
+-- nothing of the step falls in the cycle
+abbrev pub IsStill : ℕ → Done → Type 0
+IsStill v d = IsStillBut (λ d. ⊥) v d
 
 abbrev pub AllStill : ℕ → List Done → Type 0
 AllStill v h = AllByRecursion (IsStill v) h
+
+-- the step has a result to send, and gives no next pc
+abbrev pub HasResult : Done → Type 0
+HasResult d = (is_some (step_dest d.step) ≡ true) × (is_branch d.step ≡ false)
+
+-- nothing of the step falls in the cycle but perhaps the finish of a result
+abbrev pub IsSteady : ℕ → Done → Type 0
+IsSteady v d = IsStillBut HasResult v d
+
+abbrev pub AllSteady : ℕ → List Done → Type 0
+AllSteady v h = AllByRecursion (IsSteady v) h
+
+pub still_steady : (v : ℕ) (h : List Done) → AllStill v h → AllSteady v h
+still_steady v [] still = tt
+still_steady v (d ∷ h) still = (record { issue = still.0.issue; address = still.0.address; start = still.0.start; finish = λ e. absurd (still.0.finish e); end = still.0.end }, still_steady v h still.1)
 
 still_rests : (v : ℕ) (h : List Done) → AllStill v h → AllAtRest v h
 still_rests v [] still = tt
@@ -162,9 +181,13 @@ not_least p a v before least e =
 
 -- The next cycle.
 
--- what had started by the cycle u doesn't finish in the cycle w
+-- what had started by the cycle u, and finishes in the cycle w, is so
+abbrev pub AllDue : (Done → Type 0) → ℕ → ℕ → List Done → Type 0
+AllDue P u w h = AllByRecursion (λ d. d.at.start ≤ u → d.at.finish ≡ w → P d) h
+
+-- there is no such step
 abbrev pub AllFree : ℕ → ℕ → List Done → Type 0
-AllFree u w h = AllByRecursion (λ d. d.at.start ≤ u → d.at.finish ≢ w) h
+AllFree u w h = AllDue (λ d. ⊥) u w h
 
 -- nothing happens from the cycle u to v
 abbrev pub AllStillTo : ℕ → ℕ → List Done → Type 0
@@ -175,11 +198,11 @@ start_by : (row : Row) (v : ℕ) (h : List Done) (x : Step) (at : Times) (unit :
 start_by row v h x at None l good still i a next timed e = let f : at.start ≡ at.issue = timed in next (omega arith)
 start_by row v h x at (Some unit) l good still i a next timed e = not_least (can_start row h x unit at.issue (cycle_of at.address)) at.start v (start_still row v h x unit at.issue (cycle_of at.address) l good still i a) timed e
 
-end_by : (row : Row) (v : ℕ) (h : List Done) (at : Times) (unit : Option UnitId) (dest : Bool) → IsRow row → AllAtRest v h → at.finish ≢ v → at.issue ≢ v + 1 → at.finish ≢ v + 1
+end_by : (row : Row) (v : ℕ) (h : List Done) (at : Times) (unit : Option UnitId) (dest : Bool) → IsRow row → AllAtRest v h → at.finish ≢ v → at.issue ≢ v + 1 → (dest ≡ false → at.finish ≢ v + 1)
     → MatchOption unit (at.end ≡ at.issue) (λ u. MatchBool dest (IsLeast (can_end row h at.finish) at.end) (at.end ≡ at.finish)) → at.end ≢ v + 1
 end_by row v h at None dest good still f i g timed e = let k : at.end ≡ at.issue = timed in i (omega arith)
 end_by row v h at (Some unit) true good still f i g timed e = not_least (can_end row h at.finish) at.end v (end_still row v h at.finish good still f) timed e
-end_by row v h at (Some unit) false good still f i g timed e = let k : at.end ≡ at.finish = timed in g (omega arith)
+end_by row v h at (Some unit) false good still f i g timed e = let k : at.end ≡ at.finish = timed in g refl (omega arith)
 
 address_by : (v : ℕ) (h : List Done) (x : Step) (at : Times) (memory : Bool) → 0 < v → AllAtRest v h → at.issue ≢ v → MatchBool memory (IsLeast (can_address h x at.issue) (cycle_of at.address)) (at.address ≡ None) → cycle_of at.address ≢ v + 1
 address_by v h x at true l still i timed e = not_least (can_address h x at.issue) (cycle_of at.address) v (address_still v h x at.issue l still i) timed e
@@ -207,7 +230,7 @@ still_next row u v (d ∷ h) good timed l m still free =
     let start : d.at.start ≢ v + 1 = start_by row v h d.step d.at (step_unit d.step) low good before now.issue now.address issue timed.0.start in
     let order : d.at.start ≤ d.at.finish = (reach row d h good timed).order in
     let finish : d.at.finish ≢ v + 1 = finish_by u v d.at.start d.at.finish m (λ k a b. (still k a b).0.start) start order free.0 in
-    let end : d.at.end ≢ v + 1 = end_by row v h d.at (step_unit d.step) (is_some (step_dest d.step)) good rest now.finish issue finish timed.0.end in
+    let end : d.at.end ≢ v + 1 = end_by row v h d.at (step_unit d.step) (is_some (step_dest d.step)) good rest now.finish issue (λ silent. finish) timed.0.end in
     (record { issue = issue; address = address; start = start; finish = finish; end = end }, older)
 
 -- where nothing happens in the cycle u, and nothing that had started finishes in the next ones, nothing happens in them
@@ -230,30 +253,30 @@ pub still_calm : (row : Row) (u : ℕ) (h : List Done) → IsRow row → AreTime
 still_calm row u [] good timed l still = tt
 still_calm row u (d ∷ h) good timed l still =
     let now : IsStill u d = still.0 in
-    let issue : d.at.issue ≢ u + 1 = not_least (can_issue row h d.step) d.at.issue u (issue_still row u h d.step l timed.1 (still_rests u h still.1)) timed.0.issue in
-    (
+    let issue : d.at.issue ≢ u + 1 = not_least (can_issue row h d.step) d.at.issue u (issue_still row u h d.step l timed.1 (still_rests u h still.1)) timed.0.issue in (
       record { issue = now.issue; address = now.address; finish = now.finish; end = now.end; later = start_by row u h d.step d.at (step_unit d.step) l good still.1 now.issue now.address issue timed.0.start },
       still_calm row u h good timed.1 l still.1,
     )
 
-calm_finish : (u start finish : ℕ) → start ≢ u + 1 → start ≤ finish → (start ≤ u → finish ≢ u + 1) → finish ≢ u + 1
-calm_finish u start finish later order free e = elim (cases_Bool (nat_le start u)) [
-  | inl k ↦ free (leb-true start u k) e
-  | inr k ↦ let late : u < start = leb-false start u k in later (omega arith)
+-- what finishes in the next one had started by this one
+calm_finish : (P : Type 0) (u start finish : ℕ) → start ≢ u + 1 → start ≤ finish → (start ≤ u → finish ≡ u + 1 → P) → finish ≡ u + 1 → P
+calm_finish P u start finish later order due e = elim (cases_Bool (nat_le start u)) [
+  | inl k ↦ due (leb-true start u k) e
+  | inr k ↦ let late : u < start = leb-false start u k in absurd (later (omega arith))
 ]
 
--- nothing happens in the next one, where nothing finishes in it
-calm_next : (row : Row) (u : ℕ) (h : List Done) → IsRow row → AreTimed row h → 0 < u → AllCalm u h → AllFree u (u + 1) h → AllStill (u + 1) h
-calm_next row u [] good timed l calm free = tt
-calm_next row u (d ∷ h) good timed l calm free =
+-- nothing falls in the next one but such finishes, where all that finishes in it is so, and what is so has a result to send
+pub calm_next : (P : Done → Type 0) (row : Row) (u : ℕ) (h : List Done) → ((d : Done) → P d → is_some (step_dest d.step) ≡ true) → IsRow row → AreTimed row h → 0 < u → AllCalm u h → AllDue P u (u + 1) h → AllByRecursion (IsStillBut P (u + 1)) h
+calm_next P row u [] sends good timed l calm due = tt
+calm_next P row u (d ∷ h) sends good timed l calm due =
     let now : IsCalm u d = calm.0 in
     let rest : AllAtRest u h = calm_rests u h calm.1 in
     let issue : d.at.issue ≢ u + 1 = not_least (can_issue row h d.step) d.at.issue u (issue_still row u h d.step l timed.1 rest) timed.0.issue in
     let address : cycle_of d.at.address ≢ u + 1 = address_by u h d.step d.at (is_memory d.step) l rest now.issue timed.0.address in
     let order : d.at.start ≤ d.at.finish = (reach row d h good timed).order in
-    let finish : d.at.finish ≢ u + 1 = calm_finish u d.at.start d.at.finish now.later order free.0 in
-    let end : d.at.end ≢ u + 1 = end_by row u h d.at (step_unit d.step) (is_some (step_dest d.step)) good rest now.finish issue finish timed.0.end in
-    (record { issue = issue; address = address; start = now.later; finish = finish; end = end }, calm_next row u h good timed.1 l calm.1 free.1)
+    let finish : d.at.finish ≡ u + 1 → P d = calm_finish (P d) u d.at.start d.at.finish now.later order due.0 in
+    let end : d.at.end ≢ u + 1 = end_by row u h d.at (step_unit d.step) (is_some (step_dest d.step)) good rest now.finish issue (λ silent e. both_ways (is_some (step_dest d.step)) silent (sends d (finish e))) timed.0.end in
+    (record { issue = issue; address = address; start = now.later; finish = finish; end = end }, calm_next P row u h sends good timed.1 l calm.1 due.1)
 
 -- what had started by the next cycle had by this one
 free_on : (u w : ℕ) (h : List Done) → AllCalm u h → AllFree u w h → AllFree (u + 1) w h
@@ -269,6 +292,6 @@ free_on u w (d ∷ h) calm free = (
 -- and nothing in those after it, where nothing that had started finishes in them
 pub calm_quiet : (row : Row) (u n : ℕ) (h : List Done) → IsRow row → AreTimed row h → 0 < u → AllCalm u h → ((w : ℕ) → u < w → w ≤ u + n → AllFree u w h) → (k : ℕ) → u < k → k ≤ u + n → AllStill k h
 calm_quiet row u n h good timed l calm free k a b =
-    let first : AllStill (u + 1) h = calm_next row u h good timed l calm (free (u + 1) (omega arith) (omega arith)) in
+    let first : AllStill (u + 1) h = calm_next (λ d. ⊥) row u h (λ d none. absurd none) good timed l calm (free (u + 1) (omega arith) (omega arith)) in
     let at : u + 1 + (n - 1) ≡ u + n = omega arith in
     quiet row (u + 1) (n - 1) h good timed (omega arith) first (λ w c d. free_on u w h calm (free w (omega arith) (omega arith))) k (omega arith) (omega arith)

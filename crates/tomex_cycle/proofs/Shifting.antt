@@ -1,8 +1,8 @@
--- What a state shows after a cycle it shows after a later one, where nothing happens between.
-use Rattle.std.proofs.Common.{ℕ, zero, suc, ◌+◌, ◌-◌, ◌<◌, ◌≤◌, ◌≡◌, ◌∙◌, arith, refl, List, [], ◌∷◌, ◌++◌, Option, Some, None, ap, inl, inr, subst}
+-- What a state shows after a cycle it shows after a later one, where nothing happens between but finishes of results.
+use Rattle.std.proofs.Common.{ℕ, zero, suc, ◌+◌, ◌-◌, ◌<◌, ◌≤◌, ◌≡◌, ◌∙◌, true, arith, refl, List, [], ◌∷◌, ◌++◌, Option, Some, None, ap, inl, inr, subst}
 use Rattle.std.specs.Prelude.{◌≢◌, nat_lt, nat_le, ◌&&◌}
 use Rattle.std.specs.List.{AllByRecursion}
-use Rattle.std.proofs.lemmas.Bool.{cases_Bool, le-ltb, ltb-true, ltb-false, le-leb, leb-true, leb-false}
+use Rattle.std.proofs.lemmas.Bool.{both_ways, cases_Bool, le-ltb, ltb-true, ltb-false, le-leb, leb-true, leb-false}
 use Rattle.tomex_image.specs.Image.{Loaded}
 use Rattle.tomex_config.specs.Row.{Row, IsRow}
 use Rattle.tomex_rvexec.specs.declared.outcome.EndKind.{EndKind}
@@ -21,7 +21,7 @@ use Rattle.tomex_cycle.specs.declared.fetch.Fetch.{Fetch}
 use Rattle.tomex_cycle.specs.Phases.{IsSnapshot, IsYetToIssue}
 use Rattle.tomex_cycle.specs.Run.{byte_at, run_to}
 use Rattle.tomex_cycle.specs.Views.{clocks, fetch_after, fetch_of, holds_place, place_of, station_at, station_of}
-use Rattle.tomex_cycle.proofs.Quiet.{AllStill}
+use Rattle.tomex_cycle.proofs.Quiet.{AllSteady, AllStill}
 use Rattle.tomex_cycle.proofs.Runs.{next_done, not_by, run_next, run_timed, step_is}
 use Rattle.tomex_cycle.proofs.Totals.{issued_more}
 use Rattle.tomex_tags.specs.Pools.{Pools}
@@ -31,7 +31,7 @@ use Rattle.tomex_tags.specs.declared.register_status.RegStatus.{RegStatus}
 pub record IsAlike (u w : ℕ) (d : Done) : Type 0 where
   pub address : nat_le (cycle_of d.at.address) u ≡ nat_le (cycle_of d.at.address) w
   pub start : nat_le d.at.start u ≡ nat_le d.at.start w
-  pub finish : nat_lt u d.at.finish ≡ nat_lt w d.at.finish
+  pub finish : is_branch d.step ≡ true → nat_lt u d.at.finish ≡ nat_lt w d.at.finish
   pub end : nat_lt u d.at.end ≡ nat_lt w d.at.end
 
 abbrev pub AllAlike : ℕ → ℕ → List Done → Type 0
@@ -40,6 +40,10 @@ AllAlike u w h = AllByRecursion (IsAlike u w) h
 -- nothing happens after the cycle u up to w
 abbrev pub AllStillAfter : ℕ → ℕ → List Done → Type 0
 AllStillAfter u w h = (k : ℕ) → u < k → k ≤ w → AllStill k h
+
+-- nothing does but finishes of results
+abbrev pub AllSteadyAfter : ℕ → ℕ → List Done → Type 0
+AllSteadyAfter u w h = (k : ℕ) → u < k → k ≤ w → AllSteady k h
 
 le_alike : (x u w : ℕ) → u ≤ w → ((k : ℕ) → u < k → k ≤ w → x ≢ k) → nat_le x u ≡ nat_le x w
 le_alike x u w l never = elim (cases_Bool (nat_le x u)) [
@@ -63,16 +67,16 @@ lt_alike x u w l never = elim (cases_Bool (nat_lt u x)) [
       ]
 ]
 
-pub all_alike : (u w : ℕ) (h : List Done) → u ≤ w → AllStillAfter u w h → AllAlike u w h
-all_alike u w [] l still = tt
-all_alike u w (d ∷ h) l still = (
+pub all_alike : (u w : ℕ) (h : List Done) → u ≤ w → AllSteadyAfter u w h → AllAlike u w h
+all_alike u w [] l steady = tt
+all_alike u w (d ∷ h) l steady = (
   record {
-    address = le_alike (cycle_of d.at.address) u w l (λ k a b. (still k a b).0.address);
-    start = le_alike d.at.start u w l (λ k a b. (still k a b).0.start);
-    finish = lt_alike d.at.finish u w l (λ k a b. (still k a b).0.finish);
-    end = lt_alike d.at.end u w l (λ k a b. (still k a b).0.end);
+    address = le_alike (cycle_of d.at.address) u w l (λ k a b. (steady k a b).0.address);
+    start = le_alike d.at.start u w l (λ k a b. (steady k a b).0.start);
+    finish = λ branch. lt_alike d.at.finish u w l (λ k a b e. both_ways (is_branch d.step) ((steady k a b).0.finish e).1 branch);
+    end = lt_alike d.at.end u w l (λ k a b. (steady k a b).0.end);
   },
-  all_alike u w h l (λ k a b. (still k a b).1),
+  all_alike u w h l (λ k a b. (steady k a b).1),
 )
 
 producer_alike : (u w r : ℕ) (h : List Done) → AllAlike u w h → producer u h r ≡ producer w h r
@@ -104,7 +108,10 @@ byte_alike i u w a (d ∷ older) same = rw (same.0.start, byte_alike i u w a old
 
 fetch_alike : (i : Loaded) (u w : ℕ) (h : List Done) → AllAlike u w h → fetch_of i u h ≡ fetch_of i w h
 fetch_alike i u w [] same = refl
-fetch_alike i u w (d ∷ older) same = ap (λ b. fetch_after d.step (is_branch d.step && b) (end_of d.step)) same.0.finish
+fetch_alike i u w (d ∷ older) same = elim (cases_Bool (is_branch d.step)) [
+  | inl e ↦ rw e (ap (λ b. fetch_after d.step b (end_of d.step)) (same.0.finish e))
+  | inr e ↦ rw e refl
+]
 
 -- a run's beginning is a part of the run
 pub run_part : (row : Row) (i : Loaded) (n k j : ℕ) (s : State) (kind : EndKind) → RunEnds i n s kind → j + k ≤ n + 1 → (newer : List Done) × (run_to row i (j + k) ≡ newer ++ run_to row i k)
@@ -122,21 +129,21 @@ run_split row i n k m s kind ends l high =
     let e : m - k + k ≡ m = omega arith in
     subst (λ (x : ℕ). (newer : List Done) × (run_to row i x ≡ newer ++ run_to row i k)) e (run_part row i n k (m - k) s kind ends (omega arith))
 
-still_tail : (k : ℕ) (newer h : List Done) → AllStill k (newer ++ h) → AllStill k h
-still_tail k [] h still = still
-still_tail k (d ∷ newer) h still = still_tail k newer h still.1
+steady_tail : (k : ℕ) (newer h : List Done) → AllSteady k (newer ++ h) → AllSteady k h
+steady_tail k [] h steady = steady
+steady_tail k (d ∷ newer) h steady = steady_tail k newer h steady.1
 
-pub still_part : (row : Row) (i : Loaded) (n m k : ℕ) (s : State) (kind : EndKind) → RunEnds i n s kind → m ≤ n + 1 → AllStill k (run_to row i (n + 1)) → AllStill k (run_to row i m)
-still_part row i n m k s kind ends l still =
+steady_part : (row : Row) (i : Loaded) (n m k : ℕ) (s : State) (kind : EndKind) → RunEnds i n s kind → m ≤ n + 1 → AllSteady k (run_to row i (n + 1)) → AllSteady k (run_to row i m)
+steady_part row i n m k s kind ends l steady =
     let part = run_split row i n m (n + 1) s kind ends l (omega arith) in
-    still_tail k part.0 (run_to row i m) (rw part.1 at still)
+    steady_tail k part.0 (run_to row i m) (rw part.1 at steady)
 
 -- the next step doesn't issue there either
-yet_later : (row : Row) (i : Loaded) (n count u w : ℕ) (s : State) (kind : EndKind) → IsRow row → RunEnds i n s kind → count ≤ n → u ≤ w → IsYetToIssue i row count u → AllStillAfter u w (run_to row i (n + 1)) → IsYetToIssue i row count w
-yet_later row i n count u w s kind good ends l m yet still x e v low =
+yet_later : (row : Row) (i : Loaded) (n count u w : ℕ) (s : State) (kind : EndKind) → IsRow row → RunEnds i n s kind → count ≤ n → u ≤ w → IsYetToIssue i row count u → AllSteadyAfter u w (run_to row i (n + 1)) → IsYetToIssue i row count w
+yet_later row i n count u w s kind good ends l m yet steady x e v low =
     let h : List Done = run_to row i count in
     let late : u < (times_of row h x).issue = not_by row h x u good (run_timed row i count good) (yet x e) in
-    let never : (k : ℕ) → u < k → k ≤ w → (times_of row h x).issue ≢ k = λ k a b. (rw (run_next row i count x e) at (still_part row i n (count + 1) k s kind ends (omega arith) (still k a b))).0.issue in
+    let never : (k : ℕ) → u < k → k ≤ w → (times_of row h x).issue ≢ k = λ k a b. (rw (run_next row i count x e) at (steady_part row i n (count + 1) k s kind ends (omega arith) (steady k a b))).0.issue in
     let past : w < (times_of row h x).issue = elim (cases_Bool (nat_lt w (times_of row h x).issue)) [
       | inl f ↦ ltb-true _ _ f
       | inr f ↦ absurd (never (times_of row h x).issue late (ltb-false w (times_of row h x).issue f) refl)
@@ -144,11 +151,11 @@ yet_later row i n count u w s kind good ends l m yet still x e v low =
     (times_are row h x good (run_timed row i count good)).issue.1 v (omega arith)
 
 -- the snapshot after the cycle u is that after w
-pub shifted : (row : Row) (i : Loaded) (n u w count : ℕ) (s : State) (kind : EndKind) (st : Pools) (rg : RegStatus) (ft : Fetch) (m : Bytes) → IsRow row → RunEnds i n s kind → u ≤ w → AllStillAfter u w (run_to row i (n + 1)) → IsSnapshot i row n u count st rg ft m → IsSnapshot i row n w count st rg ft m
-shifted row i n u w count s kind st rg ft m good ends l still old =
+pub shifted : (row : Row) (i : Loaded) (n u w count : ℕ) (s : State) (kind : EndKind) (st : Pools) (rg : RegStatus) (ft : Fetch) (m : Bytes) → IsRow row → RunEnds i n s kind → u ≤ w → AllSteadyAfter u w (run_to row i (n + 1)) → IsSnapshot i row n u count st rg ft m → IsSnapshot i row n w count st rg ft m
+shifted row i n u w count s kind st rg ft m good ends l steady old =
     let h : List Done = run_to row i count in
     let few : count ≤ n + 1 = old.issue.few in
-    let same : AllAlike u w h = all_alike u w h l (λ k a b. still_part row i n count k s kind ends few (still k a b)) in
+    let same : AllAlike u w h = all_alike u w h l (λ k a b. steady_part row i n count k s kind ends few (steady k a b)) in
     record {
       issue = record {
         few = few;
@@ -161,7 +168,7 @@ shifted row i n u w count s kind st rg ft m good ends l still old =
         };
         from = old.issue.from ∙ fetch_alike i u w h same;
         issued = issued_more u w h l old.issue.issued;
-        next = λ less. yet_later row i n count u w s kind good ends less l (old.issue.next less) still;
+        next = λ less. yet_later row i n count u w s kind good ends less l (old.issue.next less) steady;
       };
       bytes = record { base = old.bytes.base; size = old.bytes.size; bytes = λ a from to. old.bytes.bytes a from to ∙ byte_alike i u w a h same };
     }

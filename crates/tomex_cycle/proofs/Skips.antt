@@ -17,27 +17,27 @@ use Rattle.tomex_cycle.specs.declared.progress.Progress.TheVariants.{Running, En
 use Rattle.tomex_cycle.specs.declared.progress.Made.{Made}
 use Rattle.tomex_cycle.specs.declared.progress.Made.TheVariants as made_as
 use Rattle.tomex_cycle.specs.Events.{events_in}
-use Rattle.tomex_cycle.specs.Finishes.{IsFree}
+use Rattle.tomex_cycle.specs.Finishes.{AreResults, IsFree, IsPassed}
 use Rattle.tomex_cycle.specs.Made.{progress_of}
 use Rattle.tomex_cycle.specs.Phases.{IsSnapshot}
 use Rattle.tomex_cycle.specs.Run.{run_to}
 use Rattle.tomex_cycle.specs.Seen.{Seen, seen_after}
 use Rattle.tomex_cycle.specs.Sound.{IsAfter, IsSound}
 use Rattle.tomex_cycle.specs.Calm.{AllCalm}
-use Rattle.tomex_cycle.proofs.Quiet.{AllStill, calm_quiet}
+use Rattle.tomex_cycle.proofs.Quiet.{AllDue, AllSteady, HasResult, calm_next, calm_quiet, still_calm, still_steady}
 use Rattle.tomex_cycle.proofs.Runs.{rest_to, run_timed}
-use Rattle.tomex_cycle.proofs.Shifting.{AllStillAfter, shifted}
-use Rattle.tomex_cycle.proofs.Stillness.{issued_free, later_calm, later_free}
+use Rattle.tomex_cycle.proofs.Shifting.{AllSteadyAfter, AllStillAfter, shifted}
+use Rattle.tomex_cycle.proofs.Stillness.{issued_free, issued_results, later_calm, later_due}
 use Rattle.tomex_cycle.proofs.Ticks.{running_low, seen_is, sound_next}
 use Rattle.tomex_tags.specs.Pools.{Pools}
 use Rattle.tomex_tags.specs.declared.register_status.RegStatus.{RegStatus}
 
--- no run is over in a cycle in which nothing happens
-over_elsewhere : (u : ℕ) (h : List Done) → 0 < u → AllStill u h → greatest_end h ≢ u
-over_elsewhere u [] l still e = omega arith
-over_elsewhere u (d ∷ h) l still e = elim (cases_Bool (d.at.end == u)) [
-  | inl k ↦ still.0.end (eqb-true _ _ k)
-  | inr k ↦ let apart : d.at.end ≢ u = eqb-false _ _ k in over_elsewhere u h l still.1 (omega arith)
+-- no run is over in a cycle in which nothing happens but finishes of results
+over_elsewhere : (u : ℕ) (h : List Done) → 0 < u → AllSteady u h → greatest_end h ≢ u
+over_elsewhere u [] l steady e = omega arith
+over_elsewhere u (d ∷ h) l steady e = elim (cases_Bool (d.at.end == u)) [
+  | inl k ↦ steady.0.end (eqb-true _ _ k)
+  | inr k ↦ let apart : d.at.end ≢ u = eqb-false _ _ k in over_elsewhere u h l steady.1 (omega arith)
 ]
 
 -- nothing happens in the cycles after a calm one, up to the next finish
@@ -50,28 +50,50 @@ calm_past row i n u w count s kind st rg ft m good ends low l now calm free k a 
     let timed : AreTimed row h = run_timed row i count good in
     let whole : AreTimed row (rest.0 ++ h) = rw rest.1.same at (run_timed row i (n + 1) good) in
     let all : AllCalm u (rest.0 ++ h) = later_calm row u rest.0 h good whole rest.1.later low calm in
-    let still = calm_quiet row u (w - u) (rest.0 ++ h) good whole low all (λ v from to. later_free row u v rest.0 h whole rest.1.later (issued_free i row u v st h [] h good timed now.issue.issued from now.issue.slots (λ x small. free x v small (omega arith) (omega arith)) refl)) in
+    let still = calm_quiet row u (w - u) (rest.0 ++ h) good whole low all (λ v from to. later_due (λ d. ⊥) row u v rest.0 h whole rest.1.later (issued_free i row u v st h good timed now.issue.issued from now.issue.slots (λ x small. free x v small (omega arith) (omega arith)))) in
     rw rest.1.same (still k a (omega arith))
 
--- so the machine is as it is after these cycles
-skip_sound : (i : Loaded) (row : Row) (cycle w : ℕ) (now : Progress) (more : ℕ) (st : Pools) (rg : RegStatus) (ft : Fetch) (m : Bytes) → IsSound i row (cycle + 1) now more st rg ft m
-    → cycle + 1 ≤ w → w ≤ 2 ^ 40 → now ≡ Running → IsFree st.slots (cycle + 1) w → ((n : ℕ) (s : State) (kind : EndKind) → n < 262144 → RunEnds i n s kind → AllCalm (cycle + 1) (run_to row i more)) → IsSound i row w now more st rg ft m
-skip_sound i row cycle w now more st rg ft m next l high runs free calm = record {
+-- so the last of them is calm too
+calm_last : (row : Row) (i : Loaded) (n u w count : ℕ) (s : State) (kind : EndKind) (st : Pools) (rg : RegStatus) (ft : Fetch) (m : Bytes) → IsRow row → RunEnds i n s kind → 0 < u → u ≤ w
+    → IsSnapshot i row n u count st rg ft m → AllCalm u (run_to row i count) → IsFree st.slots u w → AllCalm w (run_to row i (n + 1))
+calm_last row i n u w count s kind st rg ft m good ends low l now calm free = elim (cases_order u w) [
+  | inl e ↦
+      let h : List Done = run_to row i count in
+      let rest = rest_to row i n count (n + 1) u s kind good ends now.issue.next now.issue.few (omega arith) in
+      rw (← e, rest.1.same) (later_calm row u rest.0 h good (rw rest.1.same at (run_timed row i (n + 1) good)) rest.1.later low calm)
+  | inr (inl less) ↦ still_calm row w (run_to row i (n + 1)) good (run_timed row i (n + 1) good) (omega arith) (calm_past row i n u w count s kind st rg ft m good ends low l now calm free w less (omega arith))
+  | inr (inr beyond) ↦ absurd (omega arith)
+]
+
+-- after a calm cycle nothing happens in the next one but finishes of results, where the stations show no others
+next_steady : (row : Row) (i : Loaded) (n u count : ℕ) (s : State) (kind : EndKind) (st : Pools) (rg : RegStatus) (ft : Fetch) (m : Bytes) → IsRow row → RunEnds i n s kind → 0 < u
+    → IsSnapshot i row n u count st rg ft m → AllCalm u (run_to row i (n + 1)) → AreResults st.slots (u + 1) → AllSteady (u + 1) (run_to row i (n + 1))
+next_steady row i n u count s kind st rg ft m good ends low now calm results =
+    let h : List Done = run_to row i count in
+    let rest = rest_to row i n count (n + 1) u s kind good ends now.issue.next now.issue.few (omega arith) in
+    let timed : AreTimed row (run_to row i (n + 1)) = run_timed row i (n + 1) good in
+    let due : AllDue HasResult u (u + 1) (rest.0 ++ h) = later_due HasResult row u (u + 1) rest.0 h (rw rest.1.same at timed) rest.1.later (issued_results i row u (u + 1) st h good (run_timed row i count good) now.issue.issued (omega arith) now.issue.slots results) in
+    calm_next HasResult row u (run_to row i (n + 1)) (λ d result. result.0) good timed low calm (rw rest.1.same due)
+
+-- the machine is as it is after cycles in which nothing happens but finishes of results
+steady_sound : (i : Loaded) (row : Row) (u w : ℕ) (now : Progress) (more : ℕ) (st : Pools) (rg : RegStatus) (ft : Fetch) (m : Bytes) → IsSound i row u now more st rg ft m
+    → u ≤ w → w ≤ 2 ^ 40 → now ≡ Running → ((n : ℕ) (s : State) (kind : EndKind) → n < 262144 → RunEnds i n s kind → AllSteadyAfter u w (run_to row i (n + 1))) → IsSound i row w now more st rg ft m
+steady_sound i row u w now more st rg ft m next l high runs all = record {
   lawful = next.lawful;
   loaded = next.loaded;
   low = high;
   after = λ n s kind few ends.
-      let after : IsAfter i row n (cycle + 1) now more st rg ft m = next.after n s kind few ends in
-      let still : AllStillAfter (cycle + 1) w (run_to row i (n + 1)) = calm_past row i n (cycle + 1) w more s kind st rg ft m next.lawful ends (omega arith) l after.snapshot (calm n s kind few ends) free in
-      let on : cycle + 1 < greatest_end (run_to row i (n + 1)) = running_low (cycle + 1) (greatest_end (run_to row i (n + 1))) now after.answer runs in
+      let after : IsAfter i row n u now more st rg ft m = next.after n s kind few ends in
+      let steady : AllSteadyAfter u w (run_to row i (n + 1)) = all n s kind few ends in
+      let on : u < greatest_end (run_to row i (n + 1)) = running_low u (greatest_end (run_to row i (n + 1))) now after.answer runs in
       let below : w < greatest_end (run_to row i (n + 1)) = elim (cases_Bool (nat_lt w (greatest_end (run_to row i (n + 1))))) [
         | inl k ↦ ltb-true _ _ k
-        | inr k ↦ absurd (over_elsewhere (greatest_end (run_to row i (n + 1))) (run_to row i (n + 1)) (omega arith) (still (greatest_end (run_to row i (n + 1))) on (ltb-false _ _ k)) refl)
+        | inr k ↦ absurd (over_elsewhere (greatest_end (run_to row i (n + 1))) (run_to row i (n + 1)) (omega arith) (steady (greatest_end (run_to row i (n + 1))) on (ltb-false _ _ k)) refl)
       ] in
       record {
         high = omega arith;
         answer = runs ∙ sym (ap (λ b. if b then Running else Ended) (lt-ltb w (greatest_end (run_to row i (n + 1))) below));
-        snapshot = shifted row i n (cycle + 1) w more s kind st rg ft m next.lawful ends l still after.snapshot;
+        snapshot = shifted row i n u w more s kind st rg ft m next.lawful ends l steady after.snapshot;
       };
 }
 
@@ -91,8 +113,34 @@ sound_later i row cycle w last now made count more st st2 rg rg2 ft ft2 m m2 sou
       | inl e ↦ rw (← e) next
       | inr (inl less) ↦
           let k = skips less in
-          skip_sound i row cycle w now more st2 rg2 ft2 m2 next l high (sym same ∙ ap progress_of k.0) k.1 (λ n s kind few ends. (makes n s kind cycle ends few refl sound.lawful sound.loaded (sound.after n s kind few ends).snapshot).3 k.0)
+          steady_sound i row (cycle + 1) w now more st2 rg2 ft2 m2 next l high (sym same ∙ ap progress_of k.0) (λ n s kind few ends v from to.
+          let shot = makes n s kind cycle ends few refl sound.lawful sound.loaded (sound.after n s kind few ends).snapshot in
+          still_steady v (run_to row i (n + 1)) (calm_past row i n (cycle + 1) w more s kind st2 rg2 ft2 m2 sound.lawful ends (omega arith) l shot.0 (shot.3 k.0) k.1 v from to))
       | inr (inr beyond) ↦ absurd (omega arith)
+    ]
+
+-- and so does one more, in which nothing happens but finishes of results
+sound_taken : (i : Loaded) (row : Row) (cycle w : ℕ) (last now : Progress) (made : Made) (count more : ℕ) (st st2 : Pools) (rg rg2 : RegStatus) (ft ft2 : Fetch) (m m2 : Bytes) → IsSound i row cycle last count st rg ft m
+    → MakesCycle i row cycle made count more st st2 rg rg2 ft ft2 m m2 → made ≡ made_as.Still → now ≡ Running → cycle + 1 ≤ w → w + 1 ≤ 2 ^ 40 → IsFree st2.slots (cycle + 1) w → AreResults st2.slots (w + 1)
+    → IsSound i row w now more st2 rg2 ft2 m2 → IsSound i row (w + 1) now more st2 rg2 ft2 m2
+sound_taken i row cycle w last now made count more st st2 rg rg2 ft ft2 m m2 sound makes still runs l high free results next =
+    steady_sound i row w (w + 1) now more st2 rg2 ft2 m2 next (omega arith) high runs (λ n s kind few ends v from to.
+    let shot = makes n s kind cycle ends few refl sound.lawful sound.loaded (sound.after n s kind few ends).snapshot in
+    let calm : AllCalm w (run_to row i (n + 1)) = calm_last row i n (cycle + 1) w more s kind st2 rg2 ft2 m2 sound.lawful ends (omega arith) l shot.0 (shot.3 still) free in
+    let at : v ≡ w + 1 = omega arith in
+    rw at (next_steady row i n w more s kind st2 rg2 ft2 m2 sound.lawful ends (omega arith) (next.after n s kind few ends).snapshot calm results))
+
+-- so it does as far as no station changes
+pub sound_passed : (i : Loaded) (row : Row) (cycle to w before after : ℕ) (last now : Progress) (made : Made) (count more : ℕ) (st st2 : Pools) (rg rg2 : RegStatus) (ft ft2 : Fetch) (m m2 : Bytes) → IsSound i row cycle last count st rg ft m → last ≡ Running
+    → MakesCycle i row cycle made count more st st2 rg rg2 ft ft2 m m2 → made ≡ made_as.Still → progress_of made ≡ now → w ≤ 2 ^ 40 → IsPassed st2.slots (cycle + 1) to w before after → IsSound i row w now more st2 rg2 ft2 m2
+sound_passed i row cycle to w before after last now made count more st st2 rg rg2 ft ft2 m m2 sound run makes still same high passed =
+    let l : cycle + 1 ≤ passed.idle = passed.least in
+    let at : passed.idle ≤ 2 ^ 40 → IsSound i row passed.idle now more st2 rg2 ft2 m2 = λ low. sound_later i row cycle passed.idle last now made count more st st2 rg rg2 ft ft2 m m2 sound run makes same l low (λ less. (still, passed.free)) in
+    elim passed.last [
+      | inl here ↦ let e : w ≡ passed.idle = here.0 in rw e (at (omega arith))
+      | inr one ↦
+          let e : w ≡ passed.idle + 1 = one.0 in
+          rw e (sound_taken i row cycle passed.idle last now made count more st st2 rg rg2 ft ft2 m m2 sound makes still (sym same ∙ ap progress_of still) l (omega arith) passed.free one.3 (at (omega arith)))
     ]
 
 -- what contracts see of it

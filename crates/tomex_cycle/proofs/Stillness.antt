@@ -1,30 +1,33 @@
 -- What the stations tell of a cycle: where they stay as they were, and no operation finishes in it, nothing happens in it;
 -- where operations start, and leave none that waits for a unit, it is calm.
 use Rattle.std.proofs.Common.{ℕ, ◌+◌, ◌<◌, ◌≤◌, ◌≡◌, ◌∙◌, Bool, true, false, arith, refl, List, [], ◌∷◌, ◌++◌, Option, Some, None, ap, sym, inl, inr, append_assoc, slice_index_or}
-use Rattle.std.specs.Prelude.{◌≢◌, nat_lt, nat_le, ◌&&◌, ◌==◌, if◌then◌else◌, MatchOption}
+use Rattle.std.specs.Prelude.{◌≢◌, nat_lt, nat_le, ◌&&◌, ◌==◌, if◌then◌else◌, is_some, MatchOption}
 use Rattle.std.proofs.lemmas.Bool.{cases_Bool, both_ways, le-ltb, lt-ltb, ltb-true, ltb-false, le-leb, lt-leb, and_from, and_parts, eq-eqb, MatchBool-at_false, MatchBool-at_true}
 use Rattle.tomex_image.specs.Image.{Loaded}
 use Rattle.tomex_config.specs.Row.{Row, IsRow}
 use Rattle.tomex_rvdec.specs.declared.pool.UnitId.{UnitId}
-use Rattle.tomex_rvexec.specs.Steps.{address_of, is_number, step_unit, j_of, k_of}
+use Rattle.tomex_rvdec.specs.Operands.{dest_of}
+use Rattle.tomex_rvexec.specs.Steps.{address_of, is_branch, is_number, step_pool, step_unit, j_of, k_of}
 use Rattle.tomex_timing.specs.declared.times.Done.{Done}
 use Rattle.tomex_timing.specs.History.{cycle_of, is_memory, last_address, source_end}
 use Rattle.tomex_timing.specs.Recurrence.{AreTimed, IsTimed, IsLeast, are_conflicts_finished, can_address, can_issue, can_start, has_operands, has_unit}
 use Rattle.tomex_cycle.specs.Calm.{AllCalm, IsCalm}
 use Rattle.tomex_cycle.specs.Ends.{finishes}
+use Rattle.tomex_cycle.specs.Finishes.{AreResults}
 use Rattle.tomex_cycle.specs.Run.{AreIssuedBy}
 use Rattle.tomex_cycle.specs.Starts.{NoneWaits}
 use Rattle.tomex_cycle.specs.Views.{clocks, holds_place, place_of, station_at, station_of, ShowsStations}
 use Rattle.tomex_cycle.proofs.Cycles.{can_start_later}
+use Rattle.tomex_cycle.proofs.EndsFetch.{place_high}
 use Rattle.tomex_cycle.proofs.Fields.{timed_part, issued_part}
 use Rattle.tomex_cycle.proofs.Places.{is_vacant, station_here, vacant, vacant_none}
-use Rattle.tomex_cycle.proofs.Quiet.{AllFree, AllStill, IsStill, calm_rests, issue_still, not_least}
+use Rattle.tomex_cycle.proofs.Quiet.{AllDue, AllFree, AllStill, HasResult, IsStill, calm_rests, issue_still, not_least}
 use Rattle.tomex_cycle.proofs.Runs.{AreLater}
 use Rattle.tomex_cycle.proofs.StartsPicked.{held_at, ready_is, seen}
 use Rattle.tomex_cycle.proofs.Totals.{issued_more, reach}
 use Rattle.tomex_tags.specs.Contents.{is_waiting}
 use Rattle.tomex_tags.specs.Pools.{Pools}
-use Rattle.tomex_tags.specs.Standing.{waits}
+use Rattle.tomex_tags.specs.Standing.{waits, writes}
 use Rattle.tomex_tags.specs.declared.station.Station.{Station}
 
 some_not_none : {A : Type 0} (x : A) → Some x ≡ None → ⊥
@@ -205,31 +208,49 @@ later_calm row u (d ∷ newer) h good timed later low calm =
     let s : d.at.issue ≤ d.at.start = start_after row d (newer ++ h) (step_unit d.step) timed.0.start in
     let r = reach row d (newer ++ h) good timed in
     let order : d.at.start ≤ d.at.finish = r.order in
-    let end : d.at.finish ≤ d.at.end = r.finish in
-    (
+    let end : d.at.finish ≤ d.at.end = r.finish in (
       record { issue = λ z. omega arith; address = λ z. address_after row d (newer ++ h) u timed.0 l z low; finish = λ z. omega arith; end = λ z. omega arith; later = start_apart row d (newer ++ h) u (step_unit d.step) timed.0.start l apart },
       older,
     )
 
-pub later_free : (row : Row) (u w : ℕ) (newer h : List Done) → AreTimed row (newer ++ h) → AreLater u newer → AllFree u w h → AllFree u w (newer ++ h)
-later_free row u w [] h timed later free = free
-later_free row u w (d ∷ newer) h timed later free = (
-  (λ started _. let l : u < d.at.issue = later.0 in let s : d.at.issue ≤ d.at.start = start_after row d (newer ++ h) (step_unit d.step) timed.0.start in omega arith),
-  later_free row u w newer h timed.1 later.1 free,
+pub later_due : (P : Done → Type 0) (row : Row) (u w : ℕ) (newer h : List Done) → AreTimed row (newer ++ h) → AreLater u newer → AllDue P u w h → AllDue P u w (newer ++ h)
+later_due P row u w [] h timed later due = due
+later_due P row u w (d ∷ newer) h timed later due = (
+  (λ started _. let l : u < d.at.issue = later.0 in let s : d.at.issue ≤ d.at.start = start_after row d (newer ++ h) (step_unit d.step) timed.0.start in absurd (omega arith)),
+  later_due P row u w newer h timed.1 later.1 due,
 )
 
--- no station shows a finish in a cycle, so what had started doesn't finish in it
-pub issued_free : (i : Loaded) (row : Row) (u w : ℕ) (st : Pools) (h newer part : List Done) → IsRow row → AreTimed row h → AreIssuedBy u h → u < w → ShowsStations i (clocks u u u) h st → ((x : ℕ) → x < 96 → finishes w (slice_index_or st.slots x None) ≡ false) → h ≡ newer ++ part → AllFree u w part
-issued_free i row u w st h newer [] good timed issued l shown free split = tt
-issued_free i row u w st h newer (d ∷ older) good timed issued l shown free split =
+-- of what had started, and finishes in a cycle, the stations show what holds of it
+pub issued_due : (P : Done → Type 0) (i : Loaded) (row : Row) (u w : ℕ) (st : Pools) (h newer part : List Done) → IsRow row → AreTimed row h → AreIssuedBy u h → u < w → ShowsStations i (clocks u u u) h st
+    → ((d : Done) (x : ℕ) (s : Station) → x < 96 → place_of d ≡ Some x → slice_index_or st.slots x None ≡ Some s → s.instr ≡ d.step.instr → finishes w (Some s) ≡ true → P d) → h ≡ newer ++ part → AllDue P u w part
+issued_due P i row u w st h newer [] good timed issued l shown of split = tt
+issued_due P i row u w st h newer (d ∷ older) good timed issued l shown of split =
     let part : AreTimed row (d ∷ older) = timed_part row newer (d ∷ older) (rw split at timed) in
-    let one : d.at.start ≤ u → d.at.finish ≢ w = λ started same. elim (cases_Bool (nat_lt u d.at.end)) [
+    let one : d.at.start ≤ u → d.at.finish ≡ w → P d = λ started same. elim (cases_Bool (nat_lt u d.at.end)) [
       | inl k ↦
           let now = seen i row u st h newer d older good timed issued shown split k in
-          not_done u w d.at.start d.at.finish started (ap (finishes w) (sym now.slot) ∙ free now.x now.small) same
+          of d now.x (station_of i (clocks u u u) d older) now.small now.place now.slot refl (rw (le-leb d.at.start u started) (eq-eqb d.at.finish w same))
       | inr k ↦
           let over : d.at.end ≤ u = ltb-false u d.at.end k in
           let end : d.at.finish ≤ d.at.end = (reach row d older good part).finish in
-          omega arith
+          absurd (omega arith)
     ] in
-    (one, issued_free i row u w st h (newer ++ (d ∷ [])) older good timed issued l shown free (split ∙ sym (append_assoc newer (d ∷ []) older)))
+    (one, issued_due P i row u w st h (newer ++ (d ∷ [])) older good timed issued l shown of (split ∙ sym (append_assoc newer (d ∷ []) older)))
+
+-- no station shows a finish
+pub issued_free : (i : Loaded) (row : Row) (u w : ℕ) (st : Pools) (h : List Done) → IsRow row → AreTimed row h → AreIssuedBy u h → u < w → ShowsStations i (clocks u u u) h st → ((x : ℕ) → x < 96 → finishes w (slice_index_or st.slots x None) ≡ false) → AllFree u w h
+issued_free i row u w st h good timed issued l shown free = issued_due (λ d. ⊥) i row u w st h [] h good timed issued l shown (λ d x s small place slot instr done. both_ways (finishes w (Some s)) (ap (finishes w) (sym slot) ∙ free x small) done) refl
+
+-- they show finishes of results alone
+pub issued_results : (i : Loaded) (row : Row) (u w : ℕ) (st : Pools) (h : List Done) → IsRow row → AreTimed row h → AreIssuedBy u h → u < w → ShowsStations i (clocks u u u) h st → AreResults st.slots w → AllDue HasResult u w h
+issued_results i row u w st h good timed issued l shown results = issued_due HasResult i row u w st h [] h good timed issued l shown of refl
+  where
+    of : (d : Done) (x : ℕ) (s : Station) → x < 96 → place_of d ≡ Some x → slice_index_or st.slots x None ≡ Some s → s.instr ≡ d.step.instr → finishes w (Some s) ≡ true → HasResult d
+    of d x s small place slot instr done =
+        let result = results x small (ap (finishes w) slot ∙ done) in (
+          ap (λ z. is_some (dest_of z)) (sym instr) ∙ (ap writes (sym slot) ∙ result.0),
+          elim (cases_Bool (is_branch d.step)) [
+            | inr e ↦ e
+            | inl e ↦ let high : 80 ≤ x = place_high (step_pool d.step) d.at.station x e place in let low : x < 80 = result.1 in absurd (omega arith)
+          ],
+        )

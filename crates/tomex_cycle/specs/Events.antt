@@ -39,3 +39,7 @@ pub record Passes (h : List Done) (to from now : ℕ) : Type 0 where
   pub on : from + 1 ≤ now
   pub idle : (k : ℕ) → from + 1 < k → k ≤ now → events_in k h ≡ 0
   pub pays : (0 < events_in (from + 1) h) ⊎ ((to ≤ now) ⊎ (0 < events_in (now + 1) h))
+
+-- so once, or twice, with what the count of cycles that are made was before and is after it
+abbrev pub GoesOn : List Done → (to from now before after : ℕ) → Type 0
+GoesOn h to from now before after = ((after ≡ before + 1) × Passes h to from now) ⊎ ((between : ℕ) × (between < to) × (after ≡ before + 2) × Passes h to from between × Passes h to between now)

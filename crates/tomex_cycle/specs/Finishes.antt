@@ -3,6 +3,7 @@ use Rattle.std.specs.Prelude.{ℕ, Bool, true, false, not, is_some, ◌≡◌, �
 use Rattle.tomex_rvdec.specs.Operands.{dest_of}
 use Rattle.tomex_bus.specs.Sets.{has}
 use Rattle.tomex_bus.specs.Wheel.{is_due}
+use Rattle.tomex_tags.specs.Standing.{writes}
 use Rattle.tomex_tags.specs.declared.station.Station.{Station}
 use Rattle.tomex_cycle.specs.declared.finishes.Finishes.{Finishes}
 use Rattle.tomex_cycle.specs.Ends.{after_ends, can_send, finishes, is_done_before}
@@ -10,6 +11,10 @@ use Rattle.tomex_cycle.specs.Ends.{after_ends, can_send, finishes, is_done_befor
 -- none finishes from one cycle to another, with both
 abbrev pub IsFree : List (Option Station) → ℕ → ℕ → Type 0
 IsFree slots from to = (x v : ℕ) → x < 96 → from ≤ v → v ≤ to → finishes v (slice_index_or slots x None) ≡ false
+
+-- all that finishes in the cycle has a result to send, and none is a branch
+abbrev pub AreResults : List (Option Station) → ℕ → Type 0
+AreResults slots v = (x : ℕ) → x < 96 → finishes v (slice_index_or slots x None) ≡ true → (writes (slice_index_or slots x None) ≡ true) × (x < 80)
 
 -- a busy station finishes in one cycle, or in the one after another
 abbrev pub FinishesSoon : List (Option Station) → ℕ → ℕ → Type 0
@@ -49,3 +54,11 @@ LeavesKnown slots next ending known = (new : List (Option Station)) (sent : ℕ 
 abbrev pub IsIdle : Option ℕ → ℕ → ℕ → Type 0
 IsIdle None most n = n ≡ most
 IsIdle (Some ahead) most n = (n ≤ ahead) × (n < most → n ≡ ahead)
+
+-- the cycles up to the next finish are passed, and the one of that finish too where nothing but results finishes in it: it is counted
+pub record IsPassed (slots : List (Option Station)) (cycle to now before after : ℕ) : Type 0 where
+  pub idle : ℕ
+  pub least : cycle ≤ idle
+  pub free : IsFree slots cycle idle
+  pub stops : idle < to → FinishesSoon slots cycle idle
+  pub last : ((now ≡ idle) × (after ≡ before)) ⊎ ((now ≡ idle + 1) × (idle < to) × (after ≡ before + 1) × AreResults slots (idle + 1))

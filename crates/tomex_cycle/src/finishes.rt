@@ -1,13 +1,14 @@
 //! In which cycles the operations of the busy stations finish.
 
-ghost use Rattle.std.specs.Prelude.{ℕ, ◌≡◌, ◌<◌, ◌≤◌, ◌+◌, ◌-◌, ◌^◌, ◌&&◌, ◌||◌, not, true};
+ghost use Rattle.std.specs.Prelude.{ℕ, ◌≡◌, ◌<◌, ◌≤◌, ◌+◌, ◌-◌, ◌^◌, ◌&&◌, ◌||◌, not, true, false};
 ghost use Rattle.tomex_bus.specs.Sets.{has};
 ghost use Rattle.tomex_bus.specs.Wheel.{HasPassed, HasPut, IsClearTo, IsEmpty, Lacks};
-ghost use Rattle.tomex_cycle.specs.Finishes.{AreKnown, FinishesSoon, HaveTurned, IsFree, IsIdle};
+ghost use Rattle.tomex_cycle.specs.Finishes.{AreKnown, AreResults, FinishesSoon, HaveTurned, IsFree, IsIdle, IsPassed};
 
 use tomex_bus::Wheel;
 use tomex_bus::sets::{difference, union};
-use tomex_tags::Pools;
+use tomex_rvdec::UnitId;
+use tomex_tags::{Pools, served_by};
 
 /// The finishes ahead, and the results that wait for a common data bus.
 #[derive(Drop)]
@@ -87,7 +88,7 @@ fn idle(next: Option<u32>, most: u64) -> u64
 
 /// Passes the cycles after one that was just made in which nothing finishes, but goes no further than
 /// `to`; answers the cycle that it comes to.
-pub fn pass_idle(finishes: &mut Finishes, pools: &Pools, cycle: u64, to: u64) -> u64
+fn pass_idle(finishes: &mut Finishes, pools: &Pools, cycle: u64, to: u64) -> u64
     requires ahead { cycle ≤ to }
     requires known { AreKnown pools.now.slots (cycle + 1) finishes.old }
     requires quiet { finishes.old.ready ≡ 0 }
@@ -96,8 +97,52 @@ pub fn pass_idle(finishes: &mut Finishes, pools: &Pools, cycle: u64, to: u64) ->
     ensures free { IsFree pools.now.slots cycle result }
     ensures stops { result < to → FinishesSoon pools.now.slots cycle result }
     ensures known { AreKnown pools.now.slots (result + 1) finishes.new }
+    ensures quiet { finishes.new.ready ≡ 0 }
 {
     let idle = idle(finishes.wheel.next(), to - cycle);
     finishes.pass(idle);
     cycle + idle
+}
+
+/// Takes what finishes in the next cycle as results that are ready after it, where nothing else finishes in
+/// it: no branch, and nothing that ends as it finishes.
+#[inline(always)]
+fn take_results(finishes: &mut Finishes, pools: &Pools) -> bool
+    requires { finishes.old.ready ≡ 0 }
+    ensures none { result ≡ false → finishes.new ≡ finishes.old }
+    ensures results { result ≡ true → (next : ℕ) → AreKnown pools.now.slots next finishes.old → AreResults pools.now.slots next × AreKnown pools.now.slots (next + 1) finishes.new }
+{
+    let results = difference(pools.writing(), served_by(UnitId::Bru));
+    let others = difference(finishes.wheel.first(), results);
+    if others != 0 {
+        return false;
+    }
+    finishes.ready = finishes.turn();
+    true
+}
+
+/// Passes the cycles after one that was just made, as far as no station changes in them, but goes no further
+/// than `to`; answers the cycle that it comes to. The last of them is counted where results finish in it.
+pub fn pass_still(
+    finishes: &mut Finishes,
+    pools: &Pools,
+    worked: &mut u64,
+    cycle: u64,
+    to: u64,
+) -> u64
+    requires ahead { cycle ≤ to }
+    requires few { worked.old < 2 ^ 41 }
+    requires known { AreKnown pools.now.slots (cycle + 1) finishes.old }
+    requires quiet { finishes.old.ready ≡ 0 }
+    ensures least { cycle ≤ result }
+    ensures most { result ≤ to }
+    ensures passed { IsPassed pools.now.slots cycle to result worked.old worked.new }
+    ensures known { AreKnown pools.now.slots (result + 1) finishes.new }
+{
+    let idle = pass_idle(finishes, pools, cycle, to);
+    if idle < to && take_results(finishes, pools) {
+        *worked += 1;
+        return idle + 1;
+    }
+    idle
 }

@@ -74,8 +74,8 @@ pub struct Inner<A: Allocator = Global> {
     pub(crate) finishes: Finishes,
     /// How many instructions have issued.
     count: u32,
-    /// How many cycles were made.
-    worked: u64,
+    /// How many cycles were made, or passed though results finish in them.
+    pub(crate) worked: u64,
     /// Whether the cycle that is being made has started any operation.
     began: bool,
     /// Whether it has computed an address or issued an instruction.

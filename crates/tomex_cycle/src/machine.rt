@@ -5,9 +5,9 @@ ghost use Rattle.tomex_rvexec.specs.Run.{EndsWithin, IsEnd};
 ghost use Rattle.tomex_timing.specs.Tables.{tables_of};
 ghost use Rattle.tomex_cycle.specs.Run.{run_of};
 ghost use Rattle.tomex_cycle.specs.Seen.{seen, seen_after, is_end};
-ghost use Rattle.tomex_cycle.specs.Events.{IsCounted, Passes};
+ghost use Rattle.tomex_cycle.specs.Events.{GoesOn, IsCounted};
 
-use crate::finishes::pass_idle;
+use crate::finishes::pass_still;
 use crate::inner::Inner;
 use crate::progress::{Made, Progress};
 use crate::shown::Tables;
@@ -96,7 +96,7 @@ impl<'a, A: Allocator> Machine<'a, A> {
         self.go_on(next)
     }
 
-    /// Makes one cycle, and passes those after it in which nothing happens, but goes no further than `to`.
+    /// Makes one cycle, and passes those after it in which no station changes, but goes no further than `to`.
     fn go_on(&mut self, to: u64) -> Progress
         requires running { self.old.last ≡ Progress.Running }
         requires ahead { self.old.cycle < to }
@@ -107,8 +107,7 @@ impl<'a, A: Allocator> Machine<'a, A> {
         ensures least { self.old.cycle < self.new.cycle }
         ensures most { self.new.cycle ≤ to }
         ensures ends { EndsWithin self.old.image 262144 → seen self.new ≡ seen_after self.old.image self.old.row self.new.cycle }
-        ensures worked { self.new.worked ≡ self.old.worked + 1 }
-        ensures passes { EndsWithin self.old.image 262144 → Passes (run_of self.old.row self.old.image) to self.old.cycle self.new.cycle }
+        ensures goes { EndsWithin self.old.image 262144 → GoesOn (run_of self.old.row self.old.image) to self.old.cycle self.new.cycle self.old.worked self.new.worked }
     {
         let next = self.cycle + 1;
         match self.inner.make_cycle(&mut self.fetcher, &self.row, next) {
@@ -117,7 +116,13 @@ impl<'a, A: Allocator> Machine<'a, A> {
                 Progress::Running
             }
             Made::Still => {
-                self.cycle = pass_idle(&mut self.inner.finishes, &self.inner.pools, next, to);
+                self.cycle = pass_still(
+                    &mut self.inner.finishes,
+                    &self.inner.pools,
+                    &mut self.inner.worked,
+                    next,
+                    to,
+                );
                 Progress::Running
             }
             over => {

@@ -1,6 +1,6 @@
-use Rattle.std.proofs.Common.{◌∙◌, arith, refl, sym}
+use Rattle.std.proofs.Common.{◌∙◌, arith, sym}
 use Rattle.std.proofs.lemmas.Bool.{and_parts}
-use Rattle.tomex_cycle.proofs.KnownEnds.{all_due, are_ending, leaves_known, none_ready, none_picked, nothing_ends, nothing_found, nothing_sent, with_results}
+use Rattle.tomex_cycle.proofs.KnownEnds.{all_due, are_ending, leaves_known, none_ready, with_results}
 use Rattle.tomex_cycle.proofs.ends.settle.Goals as goal
 
 pub returns-clause-ending : goal.returns-clause-ending

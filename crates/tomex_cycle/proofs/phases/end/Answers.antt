@@ -1,4 +1,4 @@
-use Rattle.std.proofs.Common.{refl, sym}
+use Rattle.std.proofs.Common.{refl}
 use Rattle.tomex_cycle.specs.Ends.{sent_below}
 use Rattle.tomex_cycle.specs.Starts.{AreLow}
 use Rattle.tomex_cycle.proofs.Happens.{due_happens, end_happens, not_zero}

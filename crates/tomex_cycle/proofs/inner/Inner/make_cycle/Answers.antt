@@ -27,19 +27,18 @@ returns-clause-cycle g c =
     let count : count_after c.in-Ok.made c.args.self.now.count ≡ c.count_issue.new.count = counted_in_word c.in-Ok.made c.args.self.now.count c.count_issue.new.count (omega (arith, l, few)) c.count_issue.ensures.count in
     let issued : counted_by c.args.self.now.count c.issue.result ≡ Ok c.count_issue.new.count = ap (counted_by c.args.self.now.count) c.in-Ok.is ∙ ap (λ (k : ℕ). Ok k) count in
     let made = cycle_made c.args.fetcher.now c.args.row.now n t c.args.next c.args.self.now.count s kind _ _ _ _ _ _ _ _ _ on c.end-ended.ensures.ends ends e good loaded in
-    let two = cycle_answer c.args.fetcher.now c.args.row.now n c.args.next c.count_issue.new.count s kind _ _ _ _ _ _ _ _ made ends good loaded issued (rw c.busy-busy.ensures.set at c.busy-busy.ensures.busy) c.is_over.ensures c.after.ensures.progress in
-    (
+    let two = cycle_answer c.args.fetcher.now c.args.row.now n c.args.next c.count_issue.new.count s kind _ _ _ _ _ _ _ _ made ends good loaded issued (rw c.busy-busy.ensures.set at c.busy-busy.ensures.busy) c.is_over.ensures c.after.ensures.progress in (
       two.0,
       two.1,
       (λ moving. cycle_happens c.args.fetcher.now c.args.row.now n t c.args.next c.args.self.now.count c.count_issue.new.count s kind _ _ _ _ _ _ _ _ _ _ _ _ _ _ c.start-starts.ensures.starts c.start-starts.ensures.any c.address-addressed.ensures.any c.end-ended.ensures.any on issued ends e good loaded old
-      (what_moved c.start-starts.result.any c.address-addressed.result c.in-Ok.made c.end-ended.result c.args.self.now.count c.count_issue.new.count count (rw (c.count_issue.ensures.moved, c.note.ensures) at c.is_still-still.ensures.moving (c.after.ensures.moving moving)))),
+          (what_moved c.start-starts.result.any c.address-addressed.result c.in-Ok.made c.end-ended.result c.args.self.now.count c.count_issue.new.count count (rw (c.count_issue.ensures.moved, c.note.ensures) at c.is_still-still.ensures.moving (c.after.ensures.moving moving)))),
       (λ still.
-      let quiet = rw (c.count_issue.ensures.moved, c.note.ensures) at c.is_still-still.ensures.still (c.after.ensures.still still) in
-      let none = none_moved c.address-addressed.result c.in-Ok.made quiet.0 in
-      let same : c.count_issue.new.count ≡ c.args.self.now.count = c.count_issue.ensures.count ∙ rw none.1 refl in
-      cycle_calm c.args.fetcher.now c.args.row.now n t c.args.next c.args.self.now.count c.count_issue.new.count s kind c.start-starts.result.fault c.start-starts.result.any _ _ _ _ _ _ _ _ _ c.end-ended.new.finishes c.start-starts.ensures.starts c.start-starts.ensures.none ends e good loaded old two.0 same
-      (c.end-ended.ensures.none quiet.1 ∙ (c.issue.ensures.none (c.in-Ok.is ∙ ap (λ (b : Bool). Ok b) none.1) ∙ c.address-addressed.ensures.none none.0))
-      quiet.2 c.end-ended.ensures.known (c.end-ended.ensures.quiet quiet.1)),
+          let quiet = rw (c.count_issue.ensures.moved, c.note.ensures) at c.is_still-still.ensures.still (c.after.ensures.still still) in
+          let none = none_moved c.address-addressed.result c.in-Ok.made quiet.0 in
+          let same : c.count_issue.new.count ≡ c.args.self.now.count = c.count_issue.ensures.count ∙ rw none.1 refl in
+          cycle_calm c.args.fetcher.now c.args.row.now n t c.args.next c.args.self.now.count c.count_issue.new.count s kind c.start-starts.result.fault c.start-starts.result.any _ _ _ _ _ _ _ _ _ c.end-ended.new.finishes c.start-starts.ensures.starts c.start-starts.ensures.none ends e good loaded old two.0 same
+          (c.end-ended.ensures.none quiet.1 ∙ (c.issue.ensures.none (c.in-Ok.is ∙ ap (λ (b : Bool). Ok b) none.1) ∙ c.address-addressed.ensures.none none.0))
+          quiet.2 c.end-ended.ensures.known (c.end-ended.ensures.quiet quiet.1)),
     )
 
 pub end-ended-requires : goal.end-ended-requires

@@ -1,6 +1,6 @@
 use Rattle.std.proofs.Common.{◌≡◌, ◌<◌, arith, refl, ap, sym, max, ◌∙◌}
 use Rattle.tomex_cycle.specs.Seen.{seen}
-use Rattle.tomex_cycle.proofs.Counts.{paid_counts, paid_first, paid_next}
+use Rattle.tomex_cycle.proofs.Counts.{paid_counts, paid_first, paid_on}
 use Rattle.tomex_cycle.proofs.Ticks.{over_seen}
 use Rattle.tomex_cycle.proofs.machine.Machine.advance.Goals as goal
 
@@ -28,7 +28,7 @@ loop-self-preserved g c =
       running = sym c.go_on.ensures.answer ∙ c.in-Running-go_on.is;
       none = λ h. absurd (omega (arith, h, c.loop-self.invariant.low));
       ends = rw (c.loop-self.invariant.image, c.loop-self.invariant.row) at c.go_on.ensures.ends;
-      paid = λ e. rw c.go_on.ensures.worked (paid_next _ c.args.to c.args.self.now.cycle c.loop-self.self.cycle _ _ _ ahead (c.loop-self.invariant.paid e) ((rw (c.loop-self.invariant.image, c.loop-self.invariant.row) at c.go_on.ensures.passes) e));
+      paid = λ e. paid_on _ c.args.to c.args.self.now.cycle c.loop-self.self.cycle _ _ _ _ ahead (c.loop-self.invariant.paid e) ((rw (c.loop-self.invariant.image, c.loop-self.invariant.row) at c.go_on.ensures.goes) e);
     }
 
 pub returns-in_default-go_on-clause-ends : goal.returns-in_default-go_on-clause-ends
@@ -39,4 +39,4 @@ pub returns-in_default-go_on-clause-counts : goal.returns-in_default-go_on-claus
 returns-in_default-go_on-clause-counts g c = λ e.
     let at : c.self-in-loop-self.inside.cycle ≡ c.loop-self.self.cycle = ap (λ x. x.cycle) c.self-in-loop-self.view_is in
     let ahead : c.loop-self.self.cycle < c.args.to = omega (arith, c.loop-self-test.true) in
-    rw c.go_on.ensures.worked (paid_counts _ c.args.to c.args.self.now.cycle c.go_on.new.self.cycle _ _ (paid_next _ c.args.to c.args.self.now.cycle c.loop-self.self.cycle _ _ _ ahead (c.loop-self.invariant.paid e) ((rw (c.loop-self.invariant.image, c.loop-self.invariant.row) at c.go_on.ensures.passes) e)))
+    paid_counts _ c.args.to c.args.self.now.cycle c.go_on.new.self.cycle _ _ (paid_on _ c.args.to c.args.self.now.cycle c.loop-self.self.cycle _ _ _ _ ahead (c.loop-self.invariant.paid e) ((rw (c.loop-self.invariant.image, c.loop-self.invariant.row) at c.go_on.ensures.goes) e))

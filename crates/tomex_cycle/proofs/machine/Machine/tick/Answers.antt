@@ -13,4 +13,4 @@ returns-in_default-clause-counts g c = λ ends. none_counts _ _ _
 pub returns-clause-counts : goal.returns-clause-counts
 returns-clause-counts g c = λ ends.
     let at : c.self.inside.cycle ≡ c.args.self.now.cycle = ap (λ x. x.cycle) c.self.view_is in
-    one_counts _ (c.self.inside.cycle + 1) c.args.self.now.cycle _ _ _ (omega arith) c.go_on.ensures.worked (c.go_on.ensures.passes ends)
+    one_counts _ (c.self.inside.cycle + 1) c.args.self.now.cycle _ _ _ (omega arith) (c.go_on.ensures.goes ends)

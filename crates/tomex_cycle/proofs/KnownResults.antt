@@ -1,0 +1,70 @@
+-- Where nothing but results finishes in a cycle, they are ready after it, and that is all that changes.
+use Rattle.std.proofs.Common.{ℕ, ◌+◌, ◌<◌, ◌≤◌, ◌≡◌, ◌∙◌, Bool, true, false, arith, refl, ap, sym, inl, inr, List, Option, None, length, slice_index_or}
+use Rattle.std.specs.Prelude.{nat_lt, ◌&&◌, not}
+use Rattle.std.proofs.lemmas.Bool.{and_parts, both_ways, cases_Bool, le-leb, lt-ltb, ltb-true, ltb-false}
+use Rattle.std.proofs.lemmas.List.{get_or_past}
+use Rattle.tomex_rvdec.specs.declared.pool.UnitId.TheVariants as units
+use Rattle.tomex_bus.specs.Sets.{has}
+use Rattle.tomex_bus.specs.Wheel.{AreDue}
+use Rattle.tomex_bus.proofs.Bits.{none_in}
+use Rattle.tomex_tags.specs.Places.{is_served}
+use Rattle.tomex_tags.specs.Pools.{AreBusy, Pools}
+use Rattle.tomex_tags.specs.Standing.{IsSetOf, writes}
+use Rattle.tomex_tags.specs.declared.station.Station.{Station}
+use Rattle.tomex_cycle.specs.Ends.{AreDone, finishes}
+use Rattle.tomex_cycle.specs.Finishes.{AreKnown, AreResults, HaveTurned}
+use Rattle.tomex_cycle.specs.declared.finishes.Finishes.{Finishes}
+use Rattle.tomex_cycle.proofs.EndsNone.{none_over}
+use Rattle.tomex_cycle.proofs.Known.{all_ahead}
+use Rattle.tomex_cycle.proofs.KnownEnds.{all_due, branch_places, leaves_known, none_picked, nothing_ends}
+
+-- of what is due none is outside the results
+pub are_results : (slots : List (Option Station)) (next first writing served results others : ℕ) (f : Finishes) → AreKnown slots next f → AreDue f.wheel first → IsSetOf writes slots writing → ((x : ℕ) → x < 128 → has served x ≡ is_served units.Bru x)
+    → ((x : ℕ) → x < 128 → has results x ≡ (has writing x && not (has served x))) → ((x : ℕ) → x < 128 → has others x ≡ (has first x && not (has results x))) → others ≡ 0 → AreResults slots next
+are_results slots next first writing served results others f known due of branches those but none x l e =
+    let now : next + 0 ≡ next = omega arith in
+    let here : has first x ≡ true = due x ∙ (all_ahead slots next 0 x f known l ∙ (ap (λ (v : ℕ). finishes v (slice_index_or slots x None)) now ∙ e)) in
+    let inside : has results x ≡ true = member (has first x) (has results x) here (sym (but x (omega arith)) ∙ rw none (none_in x)) in
+    let two = and_parts (has writing x) (not (has served x)) (sym (those x (omega arith)) ∙ inside) in (
+      sym (of x (omega arith)) ∙ two.0,
+      elim (cases_Bool (nat_lt x 80)) [
+        | inl k ↦ ltb-true x 80 k
+        | inr k ↦
+            let high : 80 ≤ x = ltb-false x 80 k in
+            let branch : has served x ≡ true = branches x (omega arith) ∙ (branch_places x (omega arith) ∙ rw (le-leb 80 x high, lt-ltb x 96 l) refl) in
+            let z : false ≡ true = rw branch at two.1 in
+            absurd (cc)
+      ],
+    )
+  where
+    member : (a b : Bool) → a ≡ true → (a && not b) ≡ false → b ≡ true
+    member true true e f = refl
+    member true false e f = sym f
+    member false b e f = absurd (both_ways false refl e)
+
+-- all that is due writes a register
+due_writes : (slots : List (Option Station)) (next due x : ℕ) → length slots ≡ 96 → AreDone slots next due → AreResults slots next → x < 128 → has due x ≡ (has due x && writes (slice_index_or slots x None))
+due_writes slots next due x count done results l = elim (cases_Bool (has due x)) [
+  | inr e ↦ rw e refl
+  | inl e ↦ elim (cases_Bool (nat_lt x 96)) [
+    | inl k ↦ rw (e, (results x (ltb-true x 96 k) (sym (done x l) ∙ e)).0) refl
+    | inr k ↦
+        let high : 96 ≤ x = ltb-false x 96 k in
+        let past : slice_index_or slots x None ≡ None = get_or_past slots x None (omega arith) in
+        absurd (both_ways (finishes next (slice_index_or slots x None)) (rw past refl) (sym (done x l) ∙ e))
+  ]
+]
+
+-- they wait for a bus from here on
+pub known_results : (st : Pools) (next due : ℕ) (f g h : Finishes) → AreBusy st.slots st.busy st.ages → AreKnown st.slots next f → HaveTurned f g due → AreResults st.slots next → f.ready ≡ 0 → h.wheel ≡ g.wheel → h.ready ≡ due → AreKnown st.slots (next + 1) h
+known_results st next due f g h filled known turned results none wheel ready =
+    none_over st.slots next 0 h known.places
+    (leaves_known st 0 next due due 0 0 0 f g h filled known turned
+    (λ x l. due_writes st.slots next due x known.places (all_due st.slots next due f g known turned) results l)
+    (none_picked f.ready st.ages 0 none) (λ x l. rw (none_in x) (silent (has due x))) (nothing_ends 0 refl) wheel
+    (λ x l. rw (ready, turned.ready, none, none_in x) refl))
+    refl
+  where
+    silent : (b : Bool) → false ≡ (b && not b)
+    silent true = refl
+    silent false = refl
