@@ -170,7 +170,7 @@ impl<'a, A: Allocator> Machine<'a, A> {
         self.cycle
     }
 
-    /// How many cycles were made: the others were skipped, since nothing happens in them.
+    /// How many cycles were made, or passed though results finish in them. In all others nothing happens.
     pub fn worked(&self) -> u64
         ensures { result ≡ self.now.worked }
     {
