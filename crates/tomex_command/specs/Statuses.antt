@@ -3,7 +3,7 @@ use Rattle.std.specs.Prelude.{ℕ}
 use Rattle.tomex_sweep.specs.declared.outcome.SweepError.TheVariants as sweeps
 use Rattle.tomex_report.specs.declared.answer_error.AnswerError.{AnswerError}
 use Rattle.tomex_report.specs.declared.answer_error.AnswerError.TheVariants as answers
-use Rattle.tomex_document.specs.declared.error.StudyError.TheVariants as studies
+use Rattle.tomex_values.specs.declared.error.StudyError.TheVariants as studies
 use Rattle.tomex_command.specs.declared.run.RunRefusal.TheVariants as refusals
 use Rattle.tomex_command.specs.declared.failure.Failure.{Failure}
 use Rattle.tomex_command.specs.declared.failure.Failure.TheVariants.{BadWindow, Run, Study, NoSuchRow, NoSuchProgram, CyclePastEnd, CannotRead, CannotWrite, Memory, Worker}

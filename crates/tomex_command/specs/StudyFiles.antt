@@ -3,8 +3,8 @@ use Rattle.std.specs.Prelude.{◌≡◌, ◌≢◌, ◌⊎◌, ℕ, List, Ok, Er
 use Rattle.tomex_sweep.specs.Study.{DesignSpace}
 use Rattle.tomex_document.specs.Document.{file_names_of}
 use Rattle.tomex_report.specs.Study.{IsStudyOf, IsStudyRefusal}
-use Rattle.tomex_document.specs.declared.error.StudyError.{StudyError}
-use Rattle.tomex_document.specs.declared.error.StudyError.TheVariants as studies
+use Rattle.tomex_values.specs.declared.error.StudyError.{StudyError}
+use Rattle.tomex_values.specs.declared.error.StudyError.TheVariants as studies
 use Rattle.tomex_command.specs.declared.failure.Failure.{Failure}
 use Rattle.tomex_command.specs.declared.failure.Failure.TheVariants.{CannotRead, Study, Memory}
 use Rattle.tomex_command.specs.Reading.{IsUnread, AreRead, IsFirstMissing}

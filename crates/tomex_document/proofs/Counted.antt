@@ -1,17 +1,17 @@
 -- A document has as many programs as tables, and so 1 to 8.
 use Rattle.std.proofs.Common.{◌≡◌, ◌==◌, ◌+◌, ◌≤◌, ◌++◌, ◌∙◌, ℕ, true, false, nat_le, List, [], ◌∷◌, length, Ok, Option, Some, None, refl, subst, arith, length-append}
 use Rattle.toml.specs.Data.{Data, Items, no_items, item, Members, as_table, as_array}
-use Rattle.tomex_document.specs.declared.error.StudyError.TheVariants.{MissingKey, Range, TooMany}
-use Rattle.tomex_document.specs.declared.place.Key.TheVariants as key
-use Rattle.tomex_document.specs.declared.place.Place.TheVariants as place
-use Rattle.tomex_document.specs.Table.{value_at, known_keys, table_at}
-use Rattle.tomex_document.specs.Lists.{items_count, tables_from}
+use Rattle.tomex_values.specs.declared.error.StudyError.TheVariants.{MissingKey, Range, TooMany}
+use Rattle.tomex_values.specs.declared.place.Key.TheVariants as key
+use Rattle.tomex_values.specs.declared.place.Place.TheVariants as place
+use Rattle.tomex_values.specs.Table.{value_at, known_keys, table_at}
+use Rattle.tomex_values.specs.Lists.{items_count, tables_from}
 use Rattle.tomex_document.specs.Program.{ProgramEntry, program_from, programs_of, program_tables_or, program_tables}
 use Rattle.tomex_document.specs.Prices.{prices_of}
 use Rattle.tomex_document.specs.Axes.{axes_of}
 use Rattle.tomex_config.specs.Grid.{is_too_large}
 use Rattle.tomex_document.specs.Document.{Document, members_of, outline_of, document_of}
-use Rattle.tomex_document.proofs.Outcomes.{fault_is_no_value, same_value, first_value, passed, not_met}
+use Rattle.tomex_values.proofs.Outcomes.{fault_is_no_value, same_value, first_value, passed, not_met}
 use Rattle.tomex_document.proofs.Options.{tables_from_some}
 
 length-programs_of : (number : ℕ) (earlier : List ProgramEntry) (values : Items) (programs : List ProgramEntry) → programs_of number earlier values ≡ Ok programs → length programs ≡ length earlier + items_count values

@@ -6,19 +6,19 @@ use Rattle.toml.specs.Data.{Members}
 use Rattle.tomex_rvdec.specs.declared.pool.UnitId.TheVariants as units
 use Rattle.tomex_config.specs.Row.{is_between, is_option}
 use Rattle.tomex_config.specs.Grid.{Lists, has_zero, stations_in_range, options_in_range, has_empty, in_range, is_too_large}
-use Rattle.tomex_document.specs.declared.error.StudyError.TheVariants.{TooMany}
-use Rattle.tomex_document.specs.declared.place.Key.TheVariants as key
-use Rattle.tomex_document.specs.declared.place.Place.TheVariants as place
-use Rattle.tomex_document.specs.Table.{known_keys, table_at}
-use Rattle.tomex_document.specs.Lists.{counts_at, tables_at}
+use Rattle.tomex_values.specs.declared.error.StudyError.TheVariants.{TooMany}
+use Rattle.tomex_values.specs.declared.place.Key.TheVariants as key
+use Rattle.tomex_values.specs.declared.place.Place.TheVariants as place
+use Rattle.tomex_values.specs.Table.{known_keys, table_at}
+use Rattle.tomex_values.specs.Lists.{counts_at, tables_at}
 use Rattle.tomex_document.specs.Units.{UnitTables, unit_tables, options_of}
 use Rattle.tomex_document.specs.Axes.{Counts, axis_counts, axes_of}
 use Rattle.tomex_document.specs.Program.{program_tables, programs_of}
 use Rattle.tomex_document.specs.Prices.{prices_of}
 use Rattle.tomex_document.specs.Document.{Document, members_of, outline_of, document_of}
 use Rattle.tomex_document.specs.Grid.{HasGrid}
-use Rattle.tomex_document.proofs.Outcomes.{same_value, first_value, not_met}
-use Rattle.tomex_document.proofs.Within.{IsAxis, counts_at_are}
+use Rattle.tomex_values.proofs.Outcomes.{same_value, first_value, not_met}
+use Rattle.tomex_values.proofs.Within.{IsAxis, counts_at_are}
 use Rattle.tomex_document.proofs.Options.{HasTables, tables_at_have, options_of_are}
 
 record AreCounts (counts : Counts) : Type 0 where

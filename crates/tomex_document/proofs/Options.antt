@@ -7,18 +7,18 @@ use Rattle.tomex_rvdec.specs.declared.pool.UnitId.{UnitId}
 use Rattle.tomex_rvdec.specs.declared.pool.UnitId.TheVariants as units
 use Rattle.tomex_config.specs.Row.{is_between, is_option, most_units, plain_option}
 use Rattle.tomex_config.specs.declared.row.UnitOption.{UnitOption}
-use Rattle.tomex_document.specs.declared.error.StudyError.TheVariants.{Kind, Range}
-use Rattle.tomex_document.specs.declared.place.Key.{Key}
-use Rattle.tomex_document.specs.declared.place.Key.TheVariants as key
-use Rattle.tomex_document.specs.declared.place.Place.{Place}
-use Rattle.tomex_document.specs.declared.place.Place.TheVariants as place
-use Rattle.tomex_document.specs.Place.{key_of_unit}
-use Rattle.tomex_document.specs.Table.{value_at, known_keys}
-use Rattle.tomex_document.specs.Numbers.{between, number_at}
-use Rattle.tomex_document.specs.Lists.{items_count, all_items, is_table, tables_from, tables_or, tables_at}
+use Rattle.tomex_values.specs.declared.error.StudyError.TheVariants.{Kind, Range}
+use Rattle.tomex_values.specs.declared.place.Key.{Key}
+use Rattle.tomex_values.specs.declared.place.Key.TheVariants as key
+use Rattle.tomex_values.specs.declared.place.Place.{Place}
+use Rattle.tomex_values.specs.declared.place.Place.TheVariants as place
+use Rattle.tomex_values.specs.Place.{key_of_unit}
+use Rattle.tomex_values.specs.Table.{value_at, known_keys}
+use Rattle.tomex_values.specs.Numbers.{between, number_at}
+use Rattle.tomex_values.specs.Lists.{items_count, all_items, is_table, tables_from, tables_or, tables_at}
 use Rattle.tomex_document.specs.Units.{option_of, option_from, options_from, options_of}
-use Rattle.tomex_document.proofs.Outcomes.{fault_is_no_value, same_value, first_value, not_met}
-use Rattle.tomex_document.proofs.Within.{number_at_within, is_between_from, IsAxis, not_zero}
+use Rattle.tomex_values.proofs.Outcomes.{fault_is_no_value, same_value, first_value, not_met}
+use Rattle.tomex_values.proofs.Within.{number_at_within, is_between_from, IsAxis, not_zero}
 
 all_three : (a b c : Bool) → a ≡ true → b ≡ true → c ≡ true → (a && b && c) ≡ true
 all_three a b c first second third = rw (first, second, third) refl

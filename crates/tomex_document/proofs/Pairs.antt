@@ -3,9 +3,9 @@ use Rattle.std.proofs.Common.{◌≡◌, ◌<◌, ◌≤◌, List, [], ◌∷◌
 use Rattle.toml.specs.View.{items_view}
 use Rattle.toml.specs.declared.value.Value.{Value}
 use Rattle.tomex_image.specs.Window.{Span}
-use Rattle.tomex_document.specs.declared.place.Key.TheVariants as key
-use Rattle.tomex_document.specs.declared.place.Place.{Place}
-use Rattle.tomex_document.specs.declared.error.StudyError.TheVariants.{Range}
+use Rattle.tomex_values.specs.declared.place.Key.TheVariants as key
+use Rattle.tomex_values.specs.declared.place.Place.{Place}
+use Rattle.tomex_values.specs.declared.error.StudyError.TheVariants.{Range}
 use Rattle.tomex_document.specs.Watch.{range_from}
 
 pub pair_short : (place : Place) (window : Span) (vs : List Value) → length vs < 2

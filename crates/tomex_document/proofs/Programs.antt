@@ -3,8 +3,8 @@ use Rattle.std.proofs.Common.{◌≡◌, ◌<◌, ℕ, zero, suc, List, [], ◌�
 use Rattle.toml.specs.Data.{Members, as_table}
 use Rattle.toml.specs.View.{view, items_view}
 use Rattle.toml.specs.declared.value.Value.{Value}
-use Rattle.tomex_document.specs.declared.error.StudyError.{StudyError}
-use Rattle.tomex_document.specs.declared.place.Place.TheVariants as place
+use Rattle.tomex_values.specs.declared.error.StudyError.{StudyError}
+use Rattle.tomex_values.specs.declared.place.Place.TheVariants as place
 use Rattle.tomex_document.specs.Program.{ProgramEntry, program_of, programs_of}
 
 -- a fault of the next program is the fault of them all

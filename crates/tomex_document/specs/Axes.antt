@@ -3,11 +3,11 @@ use Rattle.std.specs.Prelude.{ℕ, List, [], ◌∷◌, Ok}
 use Rattle.toml.specs.Data.{Members}
 use Rattle.tomex_rvdec.specs.declared.pool.UnitId.TheVariants as units
 use Rattle.tomex_config.specs.Grid.{Lists}
-use Rattle.tomex_document.specs.declared.place.Key.TheVariants as key
-use Rattle.tomex_document.specs.declared.place.Place.TheVariants as place
-use Rattle.tomex_document.specs.Readings.{Reading, ◌>>=◌}
-use Rattle.tomex_document.specs.Table.{known_keys}
-use Rattle.tomex_document.specs.Lists.{counts_at}
+use Rattle.tomex_values.specs.declared.place.Key.TheVariants as key
+use Rattle.tomex_values.specs.declared.place.Place.TheVariants as place
+use Rattle.tomex_values.specs.Readings.{Reading, ◌>>=◌}
+use Rattle.tomex_values.specs.Table.{known_keys}
+use Rattle.tomex_values.specs.Lists.{counts_at}
 use Rattle.tomex_document.specs.Units.{unit_tables, options_of}
 
 -- the counts of stations and buses

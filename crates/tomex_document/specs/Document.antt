@@ -5,11 +5,11 @@ use Rattle.toml.specs.Data.{Members}
 use Rattle.toml.specs.Parse.{parse_document}
 use Rattle.tomex_config.specs.Cost.{PriceList}
 use Rattle.tomex_config.specs.Grid.{Lists, is_too_large}
-use Rattle.tomex_document.specs.declared.place.Key.TheVariants as key
-use Rattle.tomex_document.specs.declared.place.Place.TheVariants as place
-use Rattle.tomex_document.specs.declared.error.StudyError.TheVariants.{Syntax, TooMany}
-use Rattle.tomex_document.specs.Readings.{Reading, ◌>>=◌}
-use Rattle.tomex_document.specs.Table.{known_keys, table_at}
+use Rattle.tomex_values.specs.declared.place.Key.TheVariants as key
+use Rattle.tomex_values.specs.declared.place.Place.TheVariants as place
+use Rattle.tomex_values.specs.declared.error.StudyError.TheVariants.{Syntax, TooMany}
+use Rattle.tomex_values.specs.Readings.{Reading, ◌>>=◌}
+use Rattle.tomex_values.specs.Table.{known_keys, table_at}
 use Rattle.tomex_document.specs.Program.{ProgramEntry, program_tables, programs_of}
 use Rattle.tomex_document.specs.Prices.{prices_of}
 use Rattle.tomex_document.specs.Axes.{axes_of}

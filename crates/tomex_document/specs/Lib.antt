@@ -1,8 +1,3 @@
-pub mod Place
-pub mod Readings
-pub mod Table
-pub mod Numbers
-pub mod Lists
 pub mod Watch
 pub mod Program
 pub mod Prices

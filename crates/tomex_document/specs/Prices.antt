@@ -2,12 +2,12 @@
 use Rattle.std.specs.Prelude.{ℕ, [], ◌∷◌, Ok}
 use Rattle.toml.specs.Data.{Members}
 use Rattle.tomex_config.specs.Cost.{PriceList}
-use Rattle.tomex_document.specs.declared.place.Key.{Key}
-use Rattle.tomex_document.specs.declared.place.Key.TheVariants as key
-use Rattle.tomex_document.specs.declared.place.Place.TheVariants as place
-use Rattle.tomex_document.specs.Readings.{Reading, ◌>>=◌}
-use Rattle.tomex_document.specs.Table.{known_keys}
-use Rattle.tomex_document.specs.Numbers.{between, number_at}
+use Rattle.tomex_values.specs.declared.place.Key.{Key}
+use Rattle.tomex_values.specs.declared.place.Key.TheVariants as key
+use Rattle.tomex_values.specs.declared.place.Place.TheVariants as place
+use Rattle.tomex_values.specs.Readings.{Reading, ◌>>=◌}
+use Rattle.tomex_values.specs.Table.{known_keys}
+use Rattle.tomex_values.specs.Numbers.{between, number_at}
 
 -- the price at a key, 0 to 1,000,000
 abbrev pub price_at : Key → Members → Reading ℕ

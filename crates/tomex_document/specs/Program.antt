@@ -4,16 +4,16 @@ use Rattle.std.specs.List.{list_any, list_all}
 use Rattle.std.specs.Str.{bytes_eq}
 use Rattle.toml.specs.Data.{Data, Items, no_items, item, Members, as_str, as_table, as_array}
 use Rattle.tomex_image.specs.Window.{Span, IsWindow}
-use Rattle.tomex_document.specs.declared.place.Key.{Key}
-use Rattle.tomex_document.specs.declared.place.Key.TheVariants as key
-use Rattle.tomex_document.specs.declared.place.Place.{Place}
-use Rattle.tomex_document.specs.declared.place.Place.TheVariants as place
+use Rattle.tomex_values.specs.declared.place.Key.{Key}
+use Rattle.tomex_values.specs.declared.place.Key.TheVariants as key
+use Rattle.tomex_values.specs.declared.place.Place.{Place}
+use Rattle.tomex_values.specs.declared.place.Place.TheVariants as place
 use Rattle.tomex_sweep.specs.declared.watch.WatchRange.{WatchRange}
-use Rattle.tomex_document.specs.declared.error.StudyError.TheVariants.{MissingKey, Kind, Range}
-use Rattle.tomex_document.specs.Readings.{Reading, ◌>>=◌}
-use Rattle.tomex_document.specs.Table.{value_at, known_keys}
-use Rattle.tomex_document.specs.Numbers.{between, words_between, number_at}
-use Rattle.tomex_document.specs.Lists.{items_count, tables_from}
+use Rattle.tomex_values.specs.declared.error.StudyError.TheVariants.{MissingKey, Kind, Range}
+use Rattle.tomex_values.specs.Readings.{Reading, ◌>>=◌}
+use Rattle.tomex_values.specs.Table.{value_at, known_keys}
+use Rattle.tomex_values.specs.Numbers.{between, words_between, number_at}
+use Rattle.tomex_values.specs.Lists.{items_count, tables_from}
 use Rattle.tomex_sweep.specs.Watch.{IsWatch}
 use Rattle.tomex_document.specs.Watch.{watch_at}
 

@@ -4,15 +4,15 @@ use Rattle.toml.specs.Data.{Items, no_items, item, Members, as_table}
 use Rattle.tomex_rvdec.specs.declared.pool.UnitId.{UnitId}
 use Rattle.tomex_config.specs.declared.row.UnitOption.{UnitOption}
 use Rattle.tomex_config.specs.Row.{most_units, plain_option}
-use Rattle.tomex_document.specs.declared.place.Key.TheVariants as key
-use Rattle.tomex_document.specs.declared.place.Place.{Place}
-use Rattle.tomex_document.specs.declared.place.Place.TheVariants as place
-use Rattle.tomex_document.specs.declared.error.StudyError.TheVariants.{Kind}
-use Rattle.tomex_document.specs.Place.{key_of_unit}
-use Rattle.tomex_document.specs.Readings.{Reading, ◌>>=◌}
-use Rattle.tomex_document.specs.Table.{known_keys}
-use Rattle.tomex_document.specs.Numbers.{between, number_at}
-use Rattle.tomex_document.specs.Lists.{tables_at}
+use Rattle.tomex_values.specs.declared.place.Key.TheVariants as key
+use Rattle.tomex_values.specs.declared.place.Place.{Place}
+use Rattle.tomex_values.specs.declared.place.Place.TheVariants as place
+use Rattle.tomex_values.specs.declared.error.StudyError.TheVariants.{Kind}
+use Rattle.tomex_values.specs.Place.{key_of_unit}
+use Rattle.tomex_values.specs.Readings.{Reading, ◌>>=◌}
+use Rattle.tomex_values.specs.Table.{known_keys}
+use Rattle.tomex_values.specs.Numbers.{between, number_at}
+use Rattle.tomex_values.specs.Lists.{tables_at}
 
 -- the tables of each kind, where they are there
 pub record UnitTables : Type 0 where

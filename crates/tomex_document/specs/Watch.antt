@@ -2,15 +2,15 @@
 use Rattle.std.specs.Prelude.{◌+◌, ◌-◌, Bool, false, nat_le, List, [], length, Option, Some, None, Ok, Err, if◌then◌else◌}
 use Rattle.toml.specs.Data.{Data, Items, no_items, item, Members, as_array}
 use Rattle.tomex_image.specs.Window.{Span}
-use Rattle.tomex_document.specs.declared.place.Key.TheVariants as key
-use Rattle.tomex_document.specs.declared.place.Place.{Place}
+use Rattle.tomex_values.specs.declared.place.Key.TheVariants as key
+use Rattle.tomex_values.specs.declared.place.Place.{Place}
 use Rattle.tomex_sweep.specs.Watch.{watched_bytes}
 use Rattle.tomex_sweep.specs.declared.watch.WatchRange.{WatchRange}
-use Rattle.tomex_document.specs.declared.error.StudyError.TheVariants.{Kind, Range}
-use Rattle.tomex_document.specs.Readings.{Reading, ◌>>=◌}
-use Rattle.tomex_document.specs.Table.{value_at}
-use Rattle.tomex_document.specs.Numbers.{between, number_of}
-use Rattle.tomex_document.specs.Lists.{items_count, all_items, is_integer, each}
+use Rattle.tomex_values.specs.declared.error.StudyError.TheVariants.{Kind, Range}
+use Rattle.tomex_values.specs.Readings.{Reading, ◌>>=◌}
+use Rattle.tomex_values.specs.Table.{value_at}
+use Rattle.tomex_values.specs.Numbers.{between, number_of}
+use Rattle.tomex_values.specs.Lists.{items_count, all_items, is_integer, each}
 
 abbrev pub is_integers_from : Option Items → Bool
 is_integers_from None = false

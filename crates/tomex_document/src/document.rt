@@ -2,22 +2,17 @@
 
 ghost use Rattle.std.specs.Prelude.{◌≡◌};
 ghost use Rattle.toml.specs.View.{table_view};
-ghost use Rattle.tomex_document.specs.Readings.{Gives};
+ghost use Rattle.tomex_values.specs.Readings.{Gives};
 ghost use Rattle.tomex_document.specs.Document.{members_of, outline_of, document_of};
 
 mod axes;
 mod entry;
 mod laws;
-mod lists;
-mod numbers;
 mod prices;
 mod programs;
-mod table;
 mod units;
 mod watch;
 
-use crate::error::StudyError;
-use crate::place::{Key, Place};
 use axes::axes_of;
 pub use entry::Entry;
 pub use laws::documents_have_a_grid;
@@ -25,8 +20,8 @@ use prices::prices_of;
 use programs::{program_tables, programs_of};
 use std::alloc::{Allocator, Global};
 use std::marker::Model;
-use table::{known_keys, table_at};
 use tomex_config::{Axes, Prices};
+use tomex_values::{Key, Place, StudyError, known_keys, table_at};
 use toml::Table;
 
 /// A study before its programs' files are read.

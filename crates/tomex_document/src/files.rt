@@ -1,12 +1,12 @@
 //! The files that a study names.
 
 ghost use Rattle.std.specs.Prelude.{◌≡◌, map, string_bytes, IfOk};
-ghost use Rattle.tomex_document.specs.Readings.{Gives};
+ghost use Rattle.tomex_values.specs.Readings.{Gives};
 ghost use Rattle.tomex_document.specs.Document.{files_of, file_names_of};
 
 use crate::document::{Entry, document_of};
-use crate::error::StudyError;
 use std::alloc::{AllocError, Allocator, Global};
+use tomex_values::StudyError;
 
 fn files_of<A: Allocator>(
     alloc: A,

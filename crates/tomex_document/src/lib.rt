@@ -3,11 +3,8 @@
 #![tactic(auto)]
 
 mod document;
-mod error;
 mod files;
-mod place;
 
 pub use document::{Entry, Outline, document_of, documents_have_a_grid};
-pub use error::StudyError;
 pub use files::file_names;
-pub use place::{Key, Place};
+pub use tomex_values::{Key, Place, StudyError};

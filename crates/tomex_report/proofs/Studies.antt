@@ -9,8 +9,8 @@ use Rattle.tomex_sweep.specs.Program.{IsUnfit, Workload, refusal_of}
 use Rattle.tomex_sweep.specs.declared.program.ProgramError.{ProgramError}
 use Rattle.tomex_document.specs.Program.{ProgramEntry}
 use Rattle.tomex_report.specs.Study.{AreProgramsOf, FailsToEnd, IsFileRefusal, IsFirstRefusal, IsProgramOf, IsStudyRefusal}
-use Rattle.tomex_document.specs.declared.error.StudyError.{StudyError}
-use Rattle.tomex_document.specs.declared.error.StudyError.TheVariants.{Syntax, UnknownKey, MissingKey, Kind, Range, TooMany, Files, Image, Fault, TooLong, Memory}
+use Rattle.tomex_values.specs.declared.error.StudyError.{StudyError}
+use Rattle.tomex_values.specs.declared.error.StudyError.TheVariants.{Syntax, UnknownKey, MissingKey, Kind, Range, TooMany, Files, Image, Fault, TooLong, Memory}
 use Rattle.tomex_document.specs.Document.{Document, document_of}
 use Rattle.tomex_document.proofs.Counted.{document_has_programs}
 

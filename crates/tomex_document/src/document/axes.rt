@@ -3,17 +3,14 @@
 ghost use Rattle.std.specs.Prelude.{◌≡◌};
 ghost use Rattle.toml.specs.View.{table_view};
 ghost use Rattle.tomex_config.specs.Grid.{lists_of};
-ghost use Rattle.tomex_document.specs.Readings.{Gives};
+ghost use Rattle.tomex_values.specs.Readings.{Gives};
 ghost use Rattle.tomex_document.specs.Axes.{axis_counts, axes_of};
 
-use super::lists::counts_at;
-use super::table::known_keys;
 use super::units::{options_of, unit_tables};
-use crate::error::StudyError;
-use crate::place::{Key, Place};
 use std::alloc::Allocator;
 use tomex_config::Axes;
 use tomex_rvdec::UnitId;
+use tomex_values::{Key, Place, StudyError, counts_at, known_keys};
 use toml::Table;
 
 /// The counts of stations and buses.

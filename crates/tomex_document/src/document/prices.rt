@@ -3,14 +3,11 @@
 ghost use Rattle.std.specs.Prelude.{◌≡◌, true, IfOk};
 ghost use Rattle.toml.specs.View.{table_view};
 ghost use Rattle.tomex_config.specs.Cost.{is_price};
-ghost use Rattle.tomex_document.specs.Readings.{Reads};
+ghost use Rattle.tomex_values.specs.Readings.{Reads};
 ghost use Rattle.tomex_document.specs.Prices.{price_at, prices_of};
 
-use super::numbers::{Limits, number_at};
-use super::table::known_keys;
-use crate::error::StudyError;
-use crate::place::{Key, Place};
 use tomex_config::Prices;
+use tomex_values::{Key, Limits, Place, StudyError, known_keys, number_at};
 use toml::Table;
 
 fn price_at(table: &Table, key: Key) -> Result<u32, StudyError>

@@ -4,18 +4,16 @@ ghost use Rattle.std.specs.Prelude.{◌≡◌, ◌≢◌, ◌+◌, ◌≤◌, []
 ghost use Rattle.std.specs.List.{list_all, list_any};
 ghost use Rattle.std.specs.Str.{bytes_eq};
 ghost use Rattle.toml.specs.View.{table_view, items_view};
-ghost use Rattle.tomex_document.specs.Readings.{Gives, Reads};
+ghost use Rattle.tomex_values.specs.Readings.{Gives, Reads};
 ghost use Rattle.tomex_document.specs.Program.{is_name, is_name_byte, is_taken, size_most, text_at, name_at, file_at, window_at, program_of, programs_of, program_tables};
 
 use super::entry::Entry;
-use super::lists::{items_count, tables_from};
-use super::numbers::{Limits, number_at};
-use super::table::{known_keys, value_at};
 use super::watch::watch_at;
-use crate::error::StudyError;
-use crate::place::{Key, Place};
 use std::alloc::Allocator;
 use tomex_image::Window;
+use tomex_values::{
+    Key, Limits, Place, StudyError, items_count, known_keys, number_at, tables_from, value_at,
+};
 use toml::{Table, Value};
 
 fn is_name_byte(byte: u8) -> bool

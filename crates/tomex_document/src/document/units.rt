@@ -3,17 +3,13 @@
 ghost use Rattle.std.specs.Prelude.{◌≡◌, option_map};
 ghost use Rattle.toml.specs.View.{table_view, items_view};
 ghost use Rattle.tomex_config.specs.Row.{most_units};
-ghost use Rattle.tomex_document.specs.Readings.{Gives, Reads};
+ghost use Rattle.tomex_values.specs.Readings.{Gives, Reads};
 ghost use Rattle.tomex_document.specs.Units.{unit_tables, option_of, options_from, options_of};
 
-use super::lists::tables_at;
-use super::numbers::{Limits, number_at};
-use super::table::known_keys;
-use crate::error::StudyError;
-use crate::place::{Key, Place};
 use std::alloc::Allocator;
 use tomex_config::UnitOption;
 use tomex_rvdec::UnitId;
+use tomex_values::{Key, Limits, Place, StudyError, known_keys, number_at, tables_at};
 use toml::{Table, Value};
 
 /// The tables of each kind, where they are there.

@@ -5,19 +5,17 @@ ghost use Rattle.std.specs.List.{list_all};
 ghost use Rattle.toml.specs.Data.{as_array};
 ghost use Rattle.toml.specs.View.{view, table_view, items_view};
 ghost use Rattle.tomex_image.specs.Window.{IsWindow};
-ghost use Rattle.tomex_document.specs.Readings.{Gives};
-ghost use Rattle.tomex_document.specs.Lists.{all_items, each};
+ghost use Rattle.tomex_values.specs.Readings.{Gives};
+ghost use Rattle.tomex_values.specs.Lists.{all_items, each};
 ghost use Rattle.tomex_sweep.specs.Watch.{IsWatch, is_watchable, watched_bytes};
 ghost use Rattle.tomex_document.specs.Watch.{is_integers, range_from, range_of, few_bytes, ranges_of, watch_from, watch_at};
 
-use super::lists::{are_integers, items_count};
-use super::numbers::{Limits, number_of};
-use super::table::value_at;
-use crate::error::StudyError;
-use crate::place::{Key, Place};
 use std::alloc::Allocator;
 use tomex_image::Window;
 use tomex_sweep::WatchRange;
+use tomex_values::{
+    Key, Limits, Place, StudyError, are_integers, items_count, number_of, value_at,
+};
 use toml::{Table, Value};
 
 fn is_integers(value: &Value) -> bool

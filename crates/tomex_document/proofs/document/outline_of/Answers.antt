@@ -2,7 +2,7 @@
 use Rattle.std.proofs.Common.{sym}
 use Rattle.std.proofs.lemmas.Result.{err_from_is_err_and}
 use Rattle.tomex_document.specs.Document.{outline_of}
-use Rattle.tomex_document.proofs.Outcomes.{goes_on, stops}
+use Rattle.tomex_values.proofs.Outcomes.{goes_on, stops}
 use Rattle.tomex_document.proofs.document.outline_of.Goals as goal
 
 pub returns-in_err-tables : goal.returns-in_err-tables

@@ -2,7 +2,7 @@ use Rattle.std.proofs.Common.{rules}
 -- The counts are read first, then the options kind by kind, up to the first fault.
 use Rattle.std.proofs.lemmas.Result.{err_from_is_err_and}
 use Rattle.tomex_document.specs.Axes.{axes_of}
-use Rattle.tomex_document.proofs.Outcomes.{goes_on, stops}
+use Rattle.tomex_values.proofs.Outcomes.{goes_on, stops}
 use Rattle.tomex_document.proofs.document.axes.axes_of.Goals as goal
 
 pub returns-in_err-alu_units : goal.returns-in_err-alu_units

@@ -1,7 +1,7 @@
 -- The options so far, and then those of the values to come.
 use Rattle.std.proofs.Common.{◌≡◌, ◌+◌, drop}
 use Rattle.toml.specs.View.{items_view}
-use Rattle.tomex_document.specs.Readings.{with_front}
+use Rattle.tomex_values.specs.Readings.{with_front}
 use Rattle.tomex_document.specs.Units.{options_from}
 use Rattle.tomex_document.proofs.document.units.options_from.Given as goal
 

@@ -1,6 +1,6 @@
 -- A test of the values is one of the items.
 use Rattle.tomex_document.specs.Watch.{is_integers}
-use Rattle.tomex_document.proofs.Items.{list_all_items}
+use Rattle.tomex_values.proofs.Items.{list_all_items}
 use Rattle.tomex_document.proofs.document.watch.are_lists.Goals as goal
 
 pub returns : goal.returns

@@ -4,7 +4,7 @@ use Rattle.std.proofs.lemmas.List.Elements.{All-push}
 use Rattle.std.proofs.lemmas.Result.{err_from_is_err_and}
 use Rattle.tomex_sweep.specs.Watch.{is_watchable}
 use Rattle.tomex_document.specs.Watch.{range_of}
-use Rattle.tomex_document.proofs.Items.{each_end, each_fault, each_next}
+use Rattle.tomex_values.proofs.Items.{each_end, each_fault, each_next}
 use Rattle.tomex_document.proofs.document.watch.each_range.Goals as goal
 
 pub returns-in_err-range_of-clause-read : goal.returns-in_err-range_of-clause-read

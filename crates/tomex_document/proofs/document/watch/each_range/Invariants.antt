@@ -1,8 +1,8 @@
 -- The ranges so far, all inside the window, and then those of the values to come.
 use Rattle.std.proofs.Common.{◌≡◌, ◌≤◌, true, drop, length, All}
 use Rattle.toml.specs.View.{items_view}
-use Rattle.tomex_document.specs.Readings.{with_front}
-use Rattle.tomex_document.specs.Lists.{each}
+use Rattle.tomex_values.specs.Readings.{with_front}
+use Rattle.tomex_values.specs.Lists.{each}
 use Rattle.tomex_sweep.specs.Watch.{is_watchable}
 use Rattle.tomex_document.specs.Watch.{range_of}
 use Rattle.tomex_document.proofs.document.watch.each_range.Given as goal

@@ -1,7 +1,0 @@
--- A test of the values is one of the items.
-use Rattle.tomex_document.specs.Lists.{is_table}
-use Rattle.tomex_document.proofs.Items.{list_all_items}
-use Rattle.tomex_document.proofs.document.lists.are_tables.Goals as goal
-
-pub returns : goal.returns
-returns c = rw c.each_is_table.ensures (list_all_items is_table c.args.values.now)

@@ -1,6 +1,0 @@
-use Rattle.std.proofs.Common.{rules}
-use Rattle.tomex_document.proofs.document.table.known_keys.Goals as goal
-
-pub returns-then-has_other_key : goal.returns-then-has_other_key
-unfolding Rattle.tomex_document.specs.Table.known_keys
-returns-then-has_other_key c = search rules fits 100

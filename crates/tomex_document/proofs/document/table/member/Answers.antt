@@ -1,6 +1,0 @@
--- The map of a table gives the member at a key.
-use Rattle.toml.proofs.Views.{table_get}
-use Rattle.tomex_document.proofs.document.table.member.Goals as goal
-
-pub returns : goal.returns
-returns c = table_get c.get.result c.args.key.now c.args.table.now.entries c.get.ensures.value

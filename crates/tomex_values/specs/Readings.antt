@@ -1,0 +1,28 @@
+-- Readings of a document: each gives a value, or the first fault that it meets.
+use Rattle.std.specs.Prelude.{◌≡◌, ◌≢◌, List, ◌++◌, Result, Ok, Err}
+use Rattle.tomex_values.specs.declared.error.StudyError.{StudyError}
+use Rattle.tomex_values.specs.declared.error.StudyError.TheVariants.{Memory}
+
+-- a value of this type, or a fault of the study
+abbrev pub Reading : Type 0 → Type 0
+Reading X = Result X StudyError
+
+-- one reading, and then the one that goes on with its value
+infixl 10 ◌>>=◌
+abbrev pub ◌>>=◌ : {X Y : Type 0} → Reading X → (X → Reading Y) → Reading Y
+(Ok x) >>= next = next x
+(Err fault) >>= next = Err fault
+
+-- what was returned, seen as the definitions see it, is the reading
+abbrev pub Reads : {X Y : Type 0} → (X → Y) → Reading X → Reading Y → Type 0
+Reads view (Ok x) reading = reading ≡ Ok (view x)
+Reads view (Err fault) reading = reading ≡ Err fault
+
+-- the same, or memory was refused
+abbrev pub Gives : {X Y : Type 0} → (X → Y) → Reading X → Reading Y → Type 0
+Gives view (Ok x) reading = reading ≡ Ok (view x)
+Gives view (Err error) reading = error ≢ Memory → reading ≡ Err error
+
+-- these values, and then those of a reading
+abbrev pub with_front : {X : Type 0} → List X → Reading (List X) → Reading (List X)
+with_front front reading = reading >>= (λ xs. Ok (front ++ xs))

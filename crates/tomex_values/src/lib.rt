@@ -1,0 +1,15 @@
+//! Values of a TOML document: what stands under a key, as a table, a number or a list, and the refusals,
+//! which tell place and key.
+#![tactic(auto)]
+
+mod error;
+mod lists;
+mod numbers;
+mod place;
+mod table;
+
+pub use error::StudyError;
+pub use lists::{are_integers, counts_at, items_count, tables_at, tables_from};
+pub use numbers::{Limits, number_at, number_of};
+pub use place::{Key, Place};
+pub use table::{known_keys, table_at, value_at};
