@@ -25,7 +25,7 @@ use tomex_values::{Key, Place, StudyError, known_keys, table_at};
 use toml::Table;
 
 /// A study before its programs' files are read.
-#[derive(Debug, Drop)]
+#[derive(Drop)]
 pub struct Outline<A: Allocator = Global> {
     pub programs: Vec<Entry<A>, A>,
     pub prices: Prices,

@@ -14,7 +14,7 @@ use tomex_values::{Key, Place, StudyError, counts_at, known_keys};
 use toml::Table;
 
 /// The counts of stations and buses.
-#[derive(Debug, Drop)]
+#[derive(Drop)]
 struct Counts<A: Allocator> {
     alu: Vec<u8, A>,
     mul: Vec<u8, A>,

@@ -12,7 +12,7 @@ use tomex_sweep::WatchRange;
 /// A program before its file is read. Its place has passed all tests: the name has 1 to 32 of the
 /// lawful characters, the file is named, the limit is 1 to 262,144 steps, and the watched ranges
 /// are in the window.
-#[derive(Debug, Drop)]
+#[derive(Drop)]
 pub struct Entry<A: Allocator = Global> {
     name: String<A>,
     file: String<A>,
