@@ -1,11 +1,11 @@
 -- Where nothing but results finishes in a cycle, they are ready after it, and that is all that changes.
-use Rattle.std.proofs.Common.{ℕ, ◌+◌, ◌<◌, ◌≤◌, ◌≡◌, ◌∙◌, Bool, true, false, arith, refl, ap, sym, inl, inr, List, Option, None, length, slice_index_or}
-use Rattle.std.specs.Prelude.{nat_lt, ◌&&◌, not}
-use Rattle.std.proofs.lemmas.Bool.{and_parts, both_ways, cases_Bool, le-leb, lt-ltb, ltb-true, ltb-false}
+use Rattle.std.proofs.Common.{ℕ, ◌+◌, ◌<◌, ◌≤◌, ◌^◌, ◌≡◌, ◌∙◌, Bool, true, false, arith, refl, ap, sym, inl, inr, List, Option, None, length, slice_index_or}
+use Rattle.std.specs.Prelude.{nat_le, nat_lt, ◌≢◌, ◌&&◌, not}
+use Rattle.std.proofs.lemmas.Bool.{and_parts, both_ways, cases_Bool, le-leb, leb-true, lt-ltb, ltb-true, ltb-false}
 use Rattle.std.proofs.lemmas.List.{get_or_past}
 use Rattle.tomex_rvdec.specs.declared.pool.UnitId.TheVariants as units
 use Rattle.tomex_bus.specs.Sets.{has}
-use Rattle.tomex_bus.specs.Wheel.{AreDue}
+use Rattle.tomex_bus.specs.Wheel.{AreDue, is_due}
 use Rattle.tomex_bus.proofs.Bits.{none_in}
 use Rattle.tomex_tags.specs.Places.{is_served}
 use Rattle.tomex_tags.specs.Pools.{AreBusy, Pools}
@@ -14,6 +14,7 @@ use Rattle.tomex_tags.specs.declared.station.Station.{Station}
 use Rattle.tomex_cycle.specs.Ends.{AreDone, finishes}
 use Rattle.tomex_cycle.specs.Finishes.{AreKnown, AreResults, HaveTurned}
 use Rattle.tomex_cycle.specs.declared.finishes.Finishes.{Finishes}
+use Rattle.tomex_cycle.proofs.Happens.{member_of}
 use Rattle.tomex_cycle.proofs.EndsNone.{none_over}
 use Rattle.tomex_cycle.proofs.Known.{all_ahead}
 use Rattle.tomex_cycle.proofs.KnownEnds.{all_due, branch_places, leaves_known, none_picked, nothing_ends}
@@ -41,6 +42,28 @@ are_results slots next first writing served results others f known due of branch
     member true true e f = refl
     member true false e f = sym f
     member false b e f = absurd (both_ways false refl e)
+
+-- of what is due one is outside the results
+pub others_finish : (slots : List (Option Station)) (next first writing served results others : ℕ) (f : Finishes) → AreKnown slots next f → AreDue f.wheel first → IsSetOf writes slots writing → ((x : ℕ) → x < 128 → has served x ≡ is_served units.Bru x)
+    → ((x : ℕ) → x < 128 → has results x ≡ (has writing x && not (has served x))) → ((x : ℕ) → x < 128 → has others x ≡ (has first x && not (has results x))) → others < 2 ^ 128 → others ≢ 0 → AreResults slots next → ⊥
+others_finish slots next first writing served results others f known due of branches those but small some are =
+    let (x, l, e) = member_of others small some in
+    let two = and_parts (has first x) (not (has results x)) (sym (but x l) ∙ e) in
+    let ahead : is_due f.wheel 0 x ≡ true = sym (due x) ∙ two.0 in
+    let low : x < 96 = known.low 0 x ahead in
+    let now : next + 0 ≡ next = omega arith in
+    let over : finishes next (slice_index_or slots x None) ≡ true = ap (λ (v : ℕ). finishes v (slice_index_or slots x None)) (sym now) ∙ (sym (all_ahead slots next 0 x f known low) ∙ ahead) in
+    let (sends, near) = are x low over in
+    let branch : has served x ≡ false = branches x l ∙ (branch_places x l ∙ rw (not_from x near) refl) in
+    let result : has results x ≡ true = those x l ∙ rw (branch, of x l ∙ sends) refl in
+    let z : false ≡ true = rw result at two.1 in
+    cc
+  where
+    not_from : (x : ℕ) → x < 80 → nat_le 80 x ≡ false
+    not_from x near = elim (cases_Bool (nat_le 80 x)) [
+      | inr k ↦ k
+      | inl k ↦ let far : 80 ≤ x = leb-true 80 x k in absurd (omega arith)
+    ]
 
 -- all that is due writes a register
 due_writes : (slots : List (Option Station)) (next due x : ℕ) → length slots ≡ 96 → AreDone slots next due → AreResults slots next → x < 128 → has due x ≡ (has due x && writes (slice_index_or slots x None))

@@ -110,6 +110,7 @@ fn pass_idle(finishes: &mut Finishes, pools: &Pools, cycle: u64, to: u64) -> u64
 fn take_results(finishes: &mut Finishes, pools: &Pools) -> bool
     requires { finishes.old.ready ≡ 0 }
     ensures none { result ≡ false → finishes.new ≡ finishes.old }
+    ensures others { result ≡ false → (next : ℕ) → AreKnown pools.now.slots next finishes.old → AreResults pools.now.slots next → ⊥ }
     ensures results { result ≡ true → (next : ℕ) → AreKnown pools.now.slots next finishes.old → AreResults pools.now.slots next × AreKnown pools.now.slots (next + 1) finishes.new }
 {
     let results = difference(pools.writing(), served_by(UnitId::Bru));

@@ -1,17 +1,15 @@
 -- A document has as many programs as tables, and so 1 to 8.
 use Rattle.std.proofs.Common.{◌≡◌, ◌==◌, ◌+◌, ◌≤◌, ◌++◌, ◌∙◌, ℕ, true, false, nat_le, List, [], ◌∷◌, length, Ok, Option, Some, None, refl, subst, arith, length-append}
 use Rattle.toml.specs.Data.{Data, Items, no_items, item, Members, as_table, as_array}
-use Rattle.tomex_values.specs.declared.error.StudyError.TheVariants.{MissingKey, Range, TooMany}
+use Rattle.tomex_values.specs.declared.error.StudyError.TheVariants.{MissingKey, Range}
 use Rattle.tomex_values.specs.declared.place.Key.TheVariants as key
 use Rattle.tomex_values.specs.declared.place.Place.TheVariants as place
-use Rattle.tomex_values.specs.Table.{value_at, known_keys, table_at}
+use Rattle.tomex_values.specs.Table.{value_at}
 use Rattle.tomex_values.specs.Lists.{items_count, tables_from}
 use Rattle.tomex_document.specs.Program.{ProgramEntry, program_from, programs_of, program_tables_or, program_tables}
-use Rattle.tomex_document.specs.Prices.{prices_of}
-use Rattle.tomex_document.specs.Axes.{axes_of}
-use Rattle.tomex_config.specs.Grid.{is_too_large}
 use Rattle.tomex_document.specs.Document.{Document, members_of, outline_of, document_of}
-use Rattle.tomex_values.proofs.Outcomes.{fault_is_no_value, same_value, first_value, passed, not_met}
+use Rattle.tomex_values.proofs.Outcomes.{fault_is_no_value, same_value, first_value, passed}
+use Rattle.tomex_document.proofs.Outlines.{outline_parts}
 use Rattle.tomex_document.proofs.Options.{tables_from_some}
 
 length-programs_of : (number : ℕ) (earlier : List ProgramEntry) (values : Items) (programs : List ProgramEntry) → programs_of number earlier values ≡ Ok programs → length programs ≡ length earlier + items_count values
@@ -40,21 +38,10 @@ counted : (count n : ℕ) → (count == 0) ≡ false → nat_le count 8 ≡ true
 counted count n some few same = (grind arith, grind arith)
 
 outline_has_programs : (top : Members) (document : Document) → outline_of top ≡ Ok document → (1 ≤ length document.programs) × (length document.programs ≤ 8)
-unfolding outline_of
 outline_has_programs top document given =
-    let (known, (known_is, given_1)) = first_value (known_keys place.Top (key.Program ∷ key.Prices ∷ key.Axes ∷ key.Unit ∷ []) top) _ document given in
-    let (tables, (tables_is, given_2)) = first_value (program_tables top) _ document given_1 in
-    let (prices, (prices_is, given_3)) = first_value (table_at place.Top key.Prices top) _ document given_2 in
-    let (members, (members_is, given_4)) = first_value (table_at place.Top key.Axes top) _ document given_3 in
-    let (unit, (unit_is, given_5)) = first_value (table_at place.Top key.Unit top) _ document given_4 in
-    let (programs, (programs_is, given_6)) = first_value (programs_of 1 [] tables) _ document given_5 in
-    let (list, (list_is, given_7)) = first_value (prices_of prices) _ document given_6 in
-    let (axes, (axes_is, given_8)) = first_value (axes_of members unit) _ document given_7 in
-    let found : Document = record { programs = programs; prices = list; axes = axes } in
-    let (few, same) = not_met (is_too_large axes) found document TooMany given_8 in
-    let (some_tables, few_tables) = program_tables_are top tables tables_is in
-    let has = counted (items_count tables) (length programs) some_tables few_tables (length-programs_of 1 [] tables programs programs_is) in
-    subst (λ (d : Document). (1 ≤ length d.programs) × (length d.programs ≤ 8)) same has
+    let parts = outline_parts top document given in
+    let (some, few) = program_tables_are top parts.tables parts.tables_are in
+    counted (items_count parts.tables) (length document.programs) some few (length-programs_of 1 [] parts.tables document.programs parts.programs_are)
 
 pub document_has_programs : (bytes : List ℕ) (document : Document) → document_of bytes ≡ Ok document → (1 ≤ length document.programs) × (length document.programs ≤ 8)
 unfolding document_of

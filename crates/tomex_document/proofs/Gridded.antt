@@ -6,19 +6,17 @@ use Rattle.toml.specs.Data.{Members}
 use Rattle.tomex_rvdec.specs.declared.pool.UnitId.TheVariants as units
 use Rattle.tomex_config.specs.Row.{is_between, is_option}
 use Rattle.tomex_config.specs.Grid.{Lists, has_zero, stations_in_range, options_in_range, has_empty, in_range, is_too_large}
-use Rattle.tomex_values.specs.declared.error.StudyError.TheVariants.{TooMany}
 use Rattle.tomex_values.specs.declared.place.Key.TheVariants as key
 use Rattle.tomex_values.specs.declared.place.Place.TheVariants as place
-use Rattle.tomex_values.specs.Table.{known_keys, table_at}
+use Rattle.tomex_values.specs.Table.{known_keys}
 use Rattle.tomex_values.specs.Lists.{counts_at, tables_at}
 use Rattle.tomex_document.specs.Units.{UnitTables, unit_tables, options_of}
 use Rattle.tomex_document.specs.Axes.{Counts, axis_counts, axes_of}
-use Rattle.tomex_document.specs.Program.{program_tables, programs_of}
-use Rattle.tomex_document.specs.Prices.{prices_of}
 use Rattle.tomex_document.specs.Document.{Document, members_of, outline_of, document_of}
 use Rattle.tomex_document.specs.Grid.{HasGrid}
-use Rattle.tomex_values.proofs.Outcomes.{same_value, first_value, not_met}
+use Rattle.tomex_values.proofs.Outcomes.{same_value, first_value}
 use Rattle.tomex_values.proofs.Within.{IsAxis, counts_at_are}
+use Rattle.tomex_document.proofs.Outlines.{outline_parts}
 use Rattle.tomex_document.proofs.Options.{HasTables, tables_at_have, options_of_are}
 
 record AreCounts (counts : Counts) : Type 0 where
@@ -144,21 +142,10 @@ axes_of_are members unit axes given =
     subst (λ (ls : Lists). AreAxes ls) (same_value found axes (Ok found) refl given_7) lawful
 
 outline_has_grid : (top : Members) (document : Document) → outline_of top ≡ Ok document → HasGrid document.axes
-unfolding outline_of
 outline_has_grid top document given =
-    let (known, (known_is, given_1)) = first_value (known_keys place.Top (key.Program ∷ key.Prices ∷ key.Axes ∷ key.Unit ∷ []) top) _ document given in
-    let (tables, (tables_is, given_2)) = first_value (program_tables top) _ document given_1 in
-    let (prices, (prices_is, given_3)) = first_value (table_at place.Top key.Prices top) _ document given_2 in
-    let (members, (members_is, given_4)) = first_value (table_at place.Top key.Axes top) _ document given_3 in
-    let (unit, (unit_is, given_5)) = first_value (table_at place.Top key.Unit top) _ document given_4 in
-    let (programs, (programs_is, given_6)) = first_value (programs_of 1 [] tables) _ document given_5 in
-    let (list, (list_is, given_7)) = first_value (prices_of prices) _ document given_6 in
-    let (axes, (axes_is, given_8)) = first_value (axes_of members unit) _ document given_7 in
-    let found : Document = record { programs = programs; prices = list; axes = axes } in
-    let (few, same) = not_met (is_too_large axes) found document TooMany given_8 in
-    let are = axes_of_are members unit axes axes_is in
-    let has : HasGrid axes = record { some = are.some; within = are.within; few = few } in
-    subst (λ (d : Document). HasGrid d.axes) same has
+    let parts = outline_parts top document given in
+    let are = axes_of_are parts.members parts.unit document.axes parts.axes_are in
+    record { some = are.some; within = are.within; few = parts.few }
 
 pub document_has_grid : (bytes : List ℕ) (document : Document) → document_of bytes ≡ Ok document → HasGrid document.axes
 unfolding document_of

@@ -1,5 +1,6 @@
 pub mod Pairs
 pub mod Programs
+mod Outlines
 pub mod Options
 pub mod Gridded
 pub mod Counted

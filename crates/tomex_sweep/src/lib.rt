@@ -32,5 +32,5 @@ pub use running_all::{run_all, run_all_under};
 pub use stacks::{Stacks, UsualStacks};
 pub use study::Study;
 pub use tomex_board::Mark;
-pub use watch::{WatchRange, can_watch};
+pub use watch::{WatchRange, can_watch, watched_bytes};
 pub use working::work;

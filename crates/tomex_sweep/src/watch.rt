@@ -24,8 +24,8 @@ impl WatchRange {
     }
 }
 
-/// The bytes of all ranges, one after another.
-fn watched_bytes(ranges: &[WatchRange]) -> u64
+/// How many bytes all ranges have together.
+pub fn watched_bytes(ranges: &[WatchRange]) -> u64
     requires { length ranges.now ≤ 8 }
     ensures { result ≡ watched_bytes ranges.now }
 {

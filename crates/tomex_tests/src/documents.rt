@@ -33,10 +33,18 @@ fn is_told<R: Abort + AllocGlobal>(rt: &R, study: &str, wanted: &str) -> Result<
 
 #[test]
 fn names_of_files(rt: HostRuntime) -> Result<(), Fail> {
-    for (study, file) in [(STUDY_M, "mul.bin"), (STUDY_L, "loop.bin")] {
+    let two = "[[program]]\nname = \"a\"\nfile = \"z.bin\"\n\
+        [[program]]\nname = \"b\"\nfile = \"y.bin\"\n";
+    for (study, files) in [
+        (STUDY_M, ["mul.bin"].as_slice()),
+        (STUDY_L, ["loop.bin"].as_slice()),
+        (two, ["z.bin", "y.bin"].as_slice()),
+    ] {
         let names = file_names(rt.alloc(), rt.alloc(), study.as_bytes())?;
-        assert!(rt; names.len() == 1);
-        assert!(rt; names[0].as_str() == file);
+        assert!(rt; names.len() == files.len());
+        for (name, file) in names.iter().zip(files) {
+            assert!(rt; name.as_str() == *file);
+        }
     }
     Ok(())
 }

@@ -12,7 +12,7 @@ ghost use Rattle.tomex_document.specs.Watch.{is_integers, range_from, range_of, 
 
 use std::alloc::Allocator;
 use tomex_image::Window;
-use tomex_sweep::WatchRange;
+use tomex_sweep::{WatchRange, watched_bytes};
 use tomex_values::{
     Key, Limits, Place, StudyError, are_integers, items_count, number_of, value_at,
 };
@@ -78,18 +78,6 @@ fn each_range<A: Allocator>(
         ranges.push(range_of(value, place, window)?)?;
     }
     Ok(ranges)
-}
-
-/// The bytes of all ranges, one after another.
-fn watched_bytes(ranges: &[WatchRange]) -> u64
-    requires { length ranges.now ≤ 8 }
-    ensures { result ≡ watched_bytes ranges.now }
-{
-    let mut bytes = 0;
-    for range in ranges {
-        bytes += u64::from(range.length);
-    }
-    bytes
 }
 
 fn few_bytes<A: Allocator>(
