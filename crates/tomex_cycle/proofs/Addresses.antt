@@ -200,7 +200,7 @@ given_by i u t d older (Some tag) f there late e m =
     let at : cycle_of d.at.address ≡ u → ⊥ = eqb-false _ _ (sym g) in
     with_a i u t d older (a_none u d (omega arith) ∙ sym (a_none t d late))
 
-pub field_parts : (t : ℕ) (d : Done) (older : List Done) → is_memory d.step ≡ true → field_of t older (j_of d.step) ≡ field_from d.step.vj (producer t older d.step.instr.rs1)
+field_parts : (t : ℕ) (d : Done) (older : List Done) → is_memory d.step ≡ true → field_of t older (j_of d.step) ≡ field_from d.step.vj (producer t older d.step.instr.rs1)
 field_parts t d older m = rw (memory_j d.step m) refl
 
 given : (i : Loaded) (u t : ℕ) (d : Done) (older : List Done) → is_there (field_of t older (j_of d.step)) ≡ (cycle_of d.at.address == u) → t < cycle_of d.at.address → u ≡ t + 1 → is_memory d.step ≡ true

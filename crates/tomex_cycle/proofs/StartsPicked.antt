@@ -15,11 +15,11 @@ use Rattle.tomex_timing.specs.declared.tables.Tag.{Tag}
 use Rattle.tomex_timing.specs.declared.times.Done.{Done}
 use Rattle.tomex_timing.specs.History.{cycle_of, is_memory, is_of, last_address, source_end}
 use Rattle.tomex_timing.specs.Recurrence.{AreTimed, IsTimed, IsLeast, are_conflicts_finished, can_address, can_start, conflicts, has_unit, shares_byte}
-use Rattle.tomex_timing.specs.Tables.{field_of, field_from, producer, tag_at, tag_of}
+use Rattle.tomex_timing.specs.Tables.{field_of, field_from, tag_at, tag_of}
 use Rattle.tomex_cycle.specs.Run.{AreIssuedBy}
 use Rattle.tomex_cycle.specs.Starts.{wanted, kind_if, is_among, kind_of, IsStarting, AreReady}
 use Rattle.tomex_cycle.specs.Views.{Clocks, ShowsStations, clocks, holds_place, order_of, place_of, station_at, station_of}
-use Rattle.tomex_cycle.proofs.Addresses.{address_is, address_rises, field_parts, order_here, number_is_some}
+use Rattle.tomex_cycle.proofs.Addresses.{address_rises, order_here, number_is_some}
 use Rattle.tomex_cycle.proofs.Totals.{issued_more}
 use Rattle.tomex_cycle.proofs.Places.{place_low, order-append}
 use Rattle.tomex_cycle.proofs.Fields.{there_test, tag_there, timed_part, issued_part}
@@ -96,16 +96,6 @@ pub there_value : (v : ℕ) (p : Option Tag) → is_there (field_from v p) ≡ t
 there_value v None e = refl
 there_value v (Some tag) e = absurd (cc)
 
--- the base of an address that is computed is there
-base_there : (row : Row) (t : ℕ) (d : Done) (older : List Done) → AreTimed row (d ∷ older) → AreIssuedBy t (d ∷ older) → is_memory d.step ≡ true → cycle_of d.at.address ≤ t → value_in (field_of t older (j_of d.step)) ≡ d.step.vj
-base_there row t d older timed issued m l =
-    let least = address_is row d older timed.0 m in
-    let two = and_parts (nat_lt d.at.issue (cycle_of d.at.address) && nat_lt (source_end older (j_of d.step)) (cycle_of d.at.address)) (nat_lt (last_address older) (cycle_of d.at.address)) least.0 in
-    let source : source_end older (j_of d.step) < cycle_of d.at.address = ltb-true _ _ (and_parts (nat_lt d.at.issue (cycle_of d.at.address)) (nat_lt (source_end older (j_of d.step)) (cycle_of d.at.address)) two.0).1 in
-    let f : field_of t older (j_of d.step) ≡ field_from d.step.vj (producer t older d.step.instr.rs1) = field_parts t d older m in
-    let there : is_there (field_of t older (j_of d.step)) ≡ true = there_test row t older (j_of d.step) timed.1 issued.1 ∙ lt-ltb (source_end older (j_of d.step)) (t + 1) (omega arith) in
-    rw f (there_value d.step.vj (producer t older d.step.instr.rs1) (rw f at there))
-
 none_of : {A : Type 0} (o : Option A) → is_some o ≡ false → o ≡ None
 none_of None e = refl
 none_of (Some x) e = absurd (cc)
@@ -113,15 +103,11 @@ none_of (Some x) e = absurd (cc)
 no_bytes : (x : Step) → is_memory x ≡ false → bytes_of x ≡ None
 no_bytes x e = none_of (bytes_of x) (bytes_of_memory x ∙ e)
 
--- the bytes of a step depend on its instruction and its base
-bytes_same : (x y : Step) → x.instr ≡ y.instr → x.vj ≡ y.vj → bytes_of x ≡ bytes_of y
-bytes_same x y e f = rw (e, f) refl
-
 -- an older access shows its bytes once its address is computed
 bytes_are : (i : Loaded) (row : Row) (t : ℕ) (d : Done) (older : List Done) → AreTimed row (d ∷ older) → AreIssuedBy t (d ∷ older) → (is_memory d.step ≡ true → cycle_of d.at.address ≤ t) → bytes_in (station_of i (clocks t t t) d older) ≡ bytes_of d.step
 bytes_are i row t d older timed issued l = elim (cases_Bool (is_memory d.step)) [
   | inr m ↦ rw m (sym (no_bytes d.step m))
-  | inl m ↦ rw (m, le-leb (cycle_of d.at.address) t (l m)) (bytes_same (step_in (station_of i (clocks t t t) d older)) d.step refl (base_there row t d older timed issued m (l m)))
+  | inl m ↦ rw (m, le-leb (cycle_of d.at.address) t (l m)) refl
 ]
 
 share_none : (o : Option ByteRange) → shares_byte o None ≡ false

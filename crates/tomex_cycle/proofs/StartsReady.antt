@@ -2,8 +2,8 @@
 use Rattle.std.proofs.Common.{ℕ, ◌<◌, ◌≡◌, ◌∙◌, Bool, true, false, refl, List, [], ◌∷◌, ◌++◌, Option, Some, None, ap, sym, inl, inr, slice_index, slice_index_or}
 use Rattle.std.specs.Prelude.{◌==◌, ◌≢◌, ◌&&◌, ◌||◌, not, is_none, is_some}
 use Rattle.std.proofs.lemmas.Bool.{cases_Bool, both_ways, and_parts, eqb-true, eqb-false}
-use Rattle.tomex_rvexec.specs.Steps.{bytes_of, is_in, is_number}
-use Rattle.tomex_rvexec.proofs.FlowFields.{bytes_of_memory}
+use Rattle.tomex_rvexec.specs.Steps.{bytes_at, is_in, is_number}
+use Rattle.tomex_rvexec.proofs.FlowFields.{bytes_of_op}
 use Rattle.tomex_bus.specs.Sets.{has, IsWith, IsWithout}
 use Rattle.tomex_bus.specs.Picks.{IsByAge, IsPicked}
 use Rattle.tomex_config.specs.Row.{Row, option_of}
@@ -20,7 +20,7 @@ use Rattle.tomex_bus.proofs.Picking.{none_picked, single_picked}
 use Rattle.tomex_membuf.specs.Order.{is_clear}
 use Rattle.tomex_membuf.proofs.ByAge.{no_access}
 use Rattle.tomex_tags.proofs.Filing.{is_standing}
-use Rattle.tomex_tags.specs.Contents.{bytes_from, is_memory_op, is_ready, is_waiting, step_in}
+use Rattle.tomex_tags.specs.Contents.{bytes_from, is_memory_op, is_ready, is_waiting}
 use Rattle.tomex_tags.specs.Pools.{AreBusy, Pools}
 use Rattle.tomex_tags.specs.Standing.{IsSetOf, has_address, waits, waits_for}
 use Rattle.tomex_tags.specs.declared.station.Station.{Station}
@@ -155,9 +155,9 @@ none_some : {A : Type 0} (o : Option A) → is_some o ≡ false → o ≡ None
 none_some None e = refl
 none_some (Some a) e = let z : true ≡ false = e in absurd (cc)
 
-no_bytes : (s : Station) (a : Option ℕ) → is_memory_op s.instr.op ≡ false → bytes_from a (step_in s) ≡ None
+no_bytes : (s : Station) (a : Option ℕ) → is_memory_op s.instr.op ≡ false → bytes_from s.instr.op a ≡ None
 no_bytes s None e = refl
-no_bytes s (Some a) e = none_some (bytes_of (step_in s)) (bytes_of_memory (step_in s) ∙ e)
+no_bytes s (Some a) e = none_some (bytes_at s.instr.op a) (bytes_of_op s.instr.op a ∙ e)
 
 clear_of : (slots : List (Option Station)) (older : List ℕ) (next : ℕ) (unit : UnitId) (s : Station) → unit ≢ units.Mem → waits_for unit (Some s) ≡ true → is_clear slots older s next ≡ true
 clear_of slots older next unit s apart w =

@@ -1,12 +1,14 @@
 //! Which operations start in a cycle, and what they do.
 
-ghost use Rattle.std.specs.Prelude.{ℕ, ◌≡◌, ◌≢◌, ◌<◌, ◌≤◌, ◌+◌, ◌-◌, ◌^◌, IfSome, IsSome, None, Some, slice_index_or, slice_set, length, true, ◌||◌};
+ghost use Rattle.std.specs.Prelude.{ℕ, ◌≡◌, ◌≢◌, ◌<◌, ◌≤◌, ◌+◌, ◌-◌, ◌/◌, ◌^◌, IfSome, IsSome, None, Some, slice_index_or, slice_set, length, true, ◌||◌};
 ghost use Rattle.tomex_bus.specs.Sets.{has};
 ghost use Rattle.tomex_tags.specs.Contents.{started, step_in};
+ghost use Rattle.tomex_tags.specs.Places.{pool_at};
 ghost use Rattle.tomex_tags.specs.Pools.{AreBusy};
 ghost use Rattle.tomex_tags.specs.Standing.{IsSetOf, waits_for};
-ghost use Rattle.tomex_rvdec.specs.Operands.{unit_of};
+ghost use Rattle.tomex_rvdec.specs.Operands.{pool_of, unit_of, unit_of_pool};
 ghost use Rattle.tomex_rvexec.specs.Access.{HasStored};
+ghost use Rattle.tomex_rvexec.specs.Flow.{byte_in, result_of};
 ghost use Rattle.tomex_cycle.specs.Finishes.{AreKnown};
 ghost use Rattle.tomex_cycle.specs.Starts.{AllCanBegin, AllInside, AreLow, AreReadyFor, CanBegin, HaveBegun, HaveStored, IsStarting, IsWanted, begun};
 
@@ -16,7 +18,7 @@ use tomex_bus::pick;
 use tomex_bus::sets::{both, is_single, lowest, union, with, without_lowest};
 use tomex_config::Config;
 use tomex_membuf::{is_alone, may_access, read, write as write_bytes};
-use tomex_rvdec::UnitId;
+use tomex_rvdec::{PoolId, UnitId};
 use tomex_rvexec::{Fault, FaultKind, Memory};
 use tomex_tags::{Pools, Station, unit};
 
@@ -117,22 +119,50 @@ pub fn starting(pools: &Pools, row: &Config, next: u64) -> u128
     )
 }
 
-/// The cycles that the operation of a station takes, and its result; `None` where its access lies
-/// outside memory.
+/// The result of the operation of the station in a place; `None` where its access lies outside memory.
+///
+/// A place tells its pool by comparisons alone: a processor foresees each of them better than one jump to
+/// six targets.
+#[inline(always)]
+fn value_at<A: Allocator>(place: usize, station: &Station, memory: &Memory<A>) -> Option<u32>
+    requires low { place < 96 }
+    requires pool { pool_of station.now.instr.op ≡ Some (pool_at (place / 16)) }
+    ensures value { IfSome result (λ v. v ≡ result_of (step_in station.now) (byte_in memory.now)) }
+    ensures inside { CanBegin memory.now station.now → IsSome result }
+{
+    if place < 16 {
+        read(PoolId::Alu, station, memory)
+    } else if place >= 80 {
+        read(PoolId::Bru, station, memory)
+    } else if place >= 64 {
+        read(PoolId::Store, station, memory)
+    } else if place >= 48 {
+        read(PoolId::Load, station, memory)
+    } else if place < 32 {
+        read(PoolId::Mul, station, memory)
+    } else {
+        read(PoolId::Div, station, memory)
+    }
+}
+
+/// The cycles that the operation of the station in a place takes, and its result; `None` where its access
+/// lies outside memory.
 #[inline(always)]
 fn outcome<A: Allocator>(
+    place: usize,
     station: &Station,
-    unit: UnitId,
     memory: &Memory<A>,
     row: &Config,
 ) -> Option<(u8, u32)>
-    requires { unit_of station.now.instr.op ≡ Some unit }
+    requires low { place < 96 }
+    requires own { unit_of station.now.instr.op ≡ Some (unit_of_pool (pool_at (place / 16))) }
+    requires pool { pool_of station.now.instr.op ≡ Some (pool_at (place / 16)) }
     ensures value { (next : ℕ) → IfSome result (λ o. started (next + o.0 - 1) o.1 station.now ≡ begun row.now next memory.now station.now) }
     ensures range { IfSome result (λ o. (1 ≤ o.0) × (o.0 ≤ 64)) }
     ensures inside { CanBegin memory.now station.now → IsSome result }
 {
-    let value = read(station, memory)?;
-    Some((row.latency(unit), value))
+    let value = value_at(place, station, memory)?;
+    Some((row.latency(unit(place)), value))
 }
 
 /// Starts the operation of a place, where it hasn't started; a fault where its access lies outside memory.
@@ -157,7 +187,7 @@ fn begin_at<A: Allocator>(
     if station.finish.is_some() {
         return None;
     }
-    match outcome(&station, unit(place), memory, row) {
+    match outcome(place, &station, memory, row) {
         Some((latency, value)) => {
             pools.start(place, next + u64::from(latency) - 1, value);
             finishes.start(place, latency);

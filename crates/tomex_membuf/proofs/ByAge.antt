@@ -8,8 +8,8 @@ use Rattle.tomex_timing.specs.Recurrence.{shares_byte}
 use Rattle.tomex_bus.specs.Sets.{has, is_in, IsWithout}
 use Rattle.tomex_bus.specs.Picks.{IsByAge, Rises}
 use Rattle.tomex_tags.specs.declared.station.Station.{Station}
-use Rattle.tomex_rvexec.specs.Steps.{bytes_of, is_store}
-use Rattle.tomex_rvexec.proofs.FlowFields.{bytes_of_memory}
+use Rattle.tomex_rvexec.specs.Steps.{bytes_at, is_store}
+use Rattle.tomex_rvexec.proofs.FlowFields.{bytes_of_op}
 use Rattle.tomex_tags.specs.Contents.{bytes_from, bytes_in, is_memory_op, lacks_address, step_in}
 use Rattle.tomex_tags.specs.Standing.{IsSetOf, has_address, holds_store}
 use Rattle.tomex_membuf.specs.Addresses.{first_waiting, next_address, where_base_is_there, has_base}
@@ -174,10 +174,10 @@ lets_no_address : (o : Option Station) (s : Station) (next : ℕ) → has_addres
 lets_no_address None s next e = refl
 lets_no_address (Some other) s next e = rw (no_bytes (is_memory_op other.instr.op) other.address refl e) refl
   where
-    no_bytes : (memory : Bool) (a : Option ℕ) → is_memory_op other.instr.op ≡ memory → (memory && is_some a) ≡ false → bytes_from a (step_in other) ≡ None
+    no_bytes : (memory : Bool) (a : Option ℕ) → is_memory_op other.instr.op ≡ memory → (memory && is_some a) ≡ false → bytes_from other.instr.op a ≡ None
     no_bytes memory None m f = refl
     no_bytes true (Some a) m f = absurd (cc)
-    no_bytes false (Some a) m f = no_option (bytes_of (step_in other)) (bytes_of_memory (step_in other) ∙ m)
+    no_bytes false (Some a) m f = no_option (bytes_at other.instr.op a) (bytes_of_op other.instr.op a ∙ m)
 
 -- a load waits for no load
 lets_no_store : (o : Option Station) (s : Station) (next : ℕ) → holds_store o ≡ false → is_store (step_in s) ≡ false → lets o s next ≡ true

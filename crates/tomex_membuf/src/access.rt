@@ -1,23 +1,26 @@
 //! Accesses to memory: their byte range alone.
 
-ghost use Rattle.std.specs.Prelude.{◌≡◌, IfSome, IsSome};
+ghost use Rattle.std.specs.Prelude.{◌≡◌, IfSome, IsSome, Some};
+ghost use Rattle.tomex_rvdec.specs.Operands.{pool_of};
 ghost use Rattle.tomex_rvexec.specs.Access.{HasStored, IsInside};
 ghost use Rattle.tomex_rvexec.specs.Flow.{byte_in, result_of};
 ghost use Rattle.tomex_tags.specs.Contents.{step_in};
 
 use std::alloc::Allocator;
-use tomex_rvexec::{Memory, result, store};
+use tomex_rvdec::PoolId;
+use tomex_rvexec::{Memory, result_in, store};
 use tomex_tags::Station;
 
-/// The result of a station's operation, which for a load is read from its bytes; `None` where a byte
-/// of its access lies outside memory.
+/// The result of the operation of a station of this pool, which for a load is read from its bytes; `None`
+/// where a byte of its access lies outside memory.
 #[inline(always)]
-pub fn read<A: Allocator>(station: &Station, memory: &Memory<A>) -> Option<u32>
+pub fn read<A: Allocator>(pool: PoolId, station: &Station, memory: &Memory<A>) -> Option<u32>
+    requires { pool_of station.now.instr.op ≡ Some pool }
     ensures value { IfSome result (λ v. v ≡ result_of (step_in station.now) (byte_in memory.now)) }
     ensures inside { IsInside memory.now (step_in station.now) → IsSome result }
     ensures outside { IfSome result (λ v. IsInside memory.now (step_in station.now)) }
 {
-    result(&station.step(), memory)
+    result_in(pool, &station.step(), memory)
 }
 
 /// Writes the bytes of a station's store, and nothing where it holds none.

@@ -10,7 +10,7 @@ use Rattle.tomex_rvdec.specs.Meaning.{form_of}
 use Rattle.tomex_rvdec.specs.Operands.{dest_at, pool_of, unit_at}
 use Rattle.tomex_rvexec.specs.declared.step.Step.{Step}
 use Rattle.tomex_rvexec.specs.declared.step.ByteRange.{ByteRange}
-use Rattle.tomex_rvexec.specs.Steps.{access_size, address_of, bytes_of, is_in, is_store, step_dest, step_pool, step_unit}
+use Rattle.tomex_rvexec.specs.Steps.{access_size, address_of, bytes_at, bytes_of, is_in, is_store, step_dest, step_pool, step_unit}
 
 unit_of_pool : (pool : Option PoolId) → is_some (unit_at pool) ≡ is_some pool
 unit_of_pool None = refl
@@ -19,7 +19,7 @@ unit_of_pool (Some pool) = refl
 pub unit_with_pool : (x : Step) → is_some (step_unit x) ≡ is_some (step_pool x)
 unit_with_pool x = unit_of_pool (step_pool x)
 
-bytes_of_op : (op : Op) (from : ℕ) → is_some {T = ByteRange} (if nat_eq (access_size op) 0 then None else Some (record { from = from; to = from + access_size op })) ≡ (is_in pools.Load (pool_of op) || is_in pools.Store (pool_of op))
+pub bytes_of_op : (op : Op) (from : ℕ) → is_some (bytes_at op from) ≡ (is_in pools.Load (pool_of op) || is_in pools.Store (pool_of op))
 bytes_of_op Lb from = refl
 bytes_of_op Lh from = refl
 bytes_of_op Lw from = refl

@@ -28,12 +28,16 @@ access_size _ = 0
 abbrev pub address_of : Step → ℕ
 address_of x = sum x.vj x.instr.imm
 
--- the bytes that a load or store touches, in whole numbers: addresses don't wrap
-abbrev pub bytes_of : Step → Option ByteRange
-bytes_of x =
-    if nat_eq (access_size x.instr.op) 0
+-- the bytes that an operation touches at an address, in whole numbers: addresses don't wrap
+abbrev pub bytes_at : Op → ℕ → Option ByteRange
+bytes_at op address =
+    if nat_eq (access_size op) 0
     then None
-    else Some (record { from = address_of x; to = address_of x + access_size x.instr.op })
+    else Some (record { from = address; to = address + access_size op })
+
+-- the bytes that a load or store touches
+abbrev pub bytes_of : Step → Option ByteRange
+bytes_of x = bytes_at x.instr.op (address_of x)
 
 abbrev pub operand : ℕ → ℕ → Operand
 operand value register = record { register = register; value = value }

@@ -26,7 +26,7 @@ pub use cpu::Cpu;
 pub use end::{End, RunError};
 pub use fetcher::{Fetcher, instruction_at};
 pub use memory::Memory;
-pub use operation::{next_pc, result, store};
+pub use operation::{next_pc, result, result_in, store};
 pub use outcome::{EndKind, Fault, FaultKind, Stepped};
 pub use running::run;
 pub use step::{ByteRange, Operand, Step};

@@ -66,11 +66,25 @@ pub fn result<A: Allocator>(step: &Step, memory: &Memory<A>) -> Option<u32>
     ensures inside { IsInside memory.now step.now → IsSome result }
     ensures outside { IfSome result (λ v. IsInside memory.now step.now) }
 {
-    let op = step.instr.op();
-    // Asked by pool first: which pool comes next is easier for a processor to foresee than which operation.
     match step.pool() {
-        Some(PoolId::Load) => loaded(op, step.vj.wrapping_add(step.instr.imm()), memory),
-        Some(PoolId::Store) => {
+        Some(pool) => result_in(pool, step, memory),
+        None => Some(0),
+    }
+}
+
+/// The result of a step whose operation runs in this pool, for callers that know which: its own dispatch is
+/// over the operations of one pool alone.
+#[inline(always)]
+pub fn result_in<A: Allocator>(pool: PoolId, step: &Step, memory: &Memory<A>) -> Option<u32>
+    requires { pool_of step.now.instr.op ≡ Some pool }
+    ensures value { IfSome result (λ v. v ≡ result_of step.now (byte_in memory.now)) }
+    ensures inside { IsInside memory.now step.now → IsSome result }
+    ensures outside { IfSome result (λ v. IsInside memory.now step.now) }
+{
+    let op = step.instr.op();
+    match pool {
+        PoolId::Load => loaded(op, step.vj.wrapping_add(step.instr.imm()), memory),
+        PoolId::Store => {
             let size = match op {
                 Op::Sb => 1,
                 Op::Sh => 2,
@@ -79,13 +93,12 @@ pub fn result<A: Allocator>(step: &Step, memory: &Memory<A>) -> Option<u32>
             let _place = memory.place(step.vj.wrapping_add(step.instr.imm()), size)?;
             Some(0)
         }
-        Some(PoolId::Bru) => match op {
+        PoolId::Bru => match op {
             Op::Jalr => Some(step.pc.wrapping_add(4)),
             _ => Some(0),
         },
-        Some(PoolId::Alu) => Some(computed(step)),
-        Some(PoolId::Mul) | Some(PoolId::Div) => Some(muldiv(op, step.vj, step.vk)),
-        None => Some(0),
+        PoolId::Alu => Some(computed(step)),
+        PoolId::Mul | PoolId::Div => Some(muldiv(op, step.vj, step.vk)),
     }
 }
 

@@ -1,5 +1,8 @@
 //! One step of a run, and what it says of itself.
 
+ghost use Rattle.std.specs.Prelude.{◌≡◌, ◌≤◌};
+ghost use Rattle.tomex_rvexec.specs.Steps.{access_size, bytes_at};
+
 use tomex_rvdec::{Instr, Op, PoolId, UnitId};
 
 /// A source register that an instruction reads, with the value that it holds then.
@@ -14,6 +17,36 @@ pub struct Operand {
 pub struct ByteRange {
     pub from: u64,
     pub to: u64,
+}
+
+/// How many bytes an operation reads or writes, 0 where it touches no memory.
+fn access_size(op: Op) -> u64
+    ensures value { result ≡ access_size op }
+    ensures word { result ≤ 4 }
+{
+    match op {
+        Op::Lb | Op::Lbu | Op::Sb => 1,
+        Op::Lh | Op::Lhu | Op::Sh => 2,
+        Op::Lw | Op::Sw => 4,
+        _ => 0,
+    }
+}
+
+impl ByteRange {
+    /// The bytes that a load or store touches at its address; None for every other operation.
+    pub fn at(op: Op, address: u32) -> Option<ByteRange>
+        ensures { result ≡ bytes_at op address }
+    {
+        let size = access_size(op);
+        if size == 0 {
+            return None;
+        }
+        let from = u64::from(address);
+        Some(ByteRange {
+            from,
+            to: from + size,
+        })
+    }
 }
 
 /// One step: an instruction at an address, and the values of its source registers.
@@ -34,8 +67,8 @@ pub struct Step {
 }
 
 impl Step {
-    ghost use Rattle.std.specs.Prelude.{◌≡◌, ◌<◌, ◌≤◌, ◌≢◌, IfSome};
-    ghost use Rattle.tomex_rvexec.specs.Steps.{step_pool, step_unit, step_dest, j_of, k_of, bytes_of, is_branch, is_store, access_size};
+    ghost use Rattle.std.specs.Prelude.{◌≡◌, ◌<◌, ◌≢◌, IfSome};
+    ghost use Rattle.tomex_rvexec.specs.Steps.{step_pool, step_unit, step_dest, j_of, k_of, bytes_of, is_branch, is_store};
 
     /// The pool whose station the step takes, if any.
     pub fn pool(&self) -> Option<PoolId>
@@ -92,28 +125,8 @@ impl Step {
     pub fn bytes(&self) -> Option<ByteRange>
         ensures { result ≡ bytes_of self.now }
     {
-        let size = self.access_size();
-        if size == 0 {
-            return None;
-        }
-        let from = u64::from(self.vj.wrapping_add(self.instr.imm()));
-        Some(ByteRange {
-            from,
-            to: from + size,
-        })
-    }
-
-    /// How many bytes the step reads or writes, 0 where it touches no memory.
-    fn access_size(&self) -> u64
-        ensures value { result ≡ access_size self.now.instr.op }
-        ensures word { result ≤ 4 }
-    {
-        match self.instr.op() {
-            Op::Lb | Op::Lbu | Op::Sb => 1,
-            Op::Lh | Op::Lhu | Op::Sh => 2,
-            Op::Lw | Op::Sw => 4,
-            _ => 0,
-        }
+        let address = self.vj.wrapping_add(self.instr.imm());
+        ByteRange::at(self.instr.op(), address)
     }
 
     /// Whether what follows the step depends on it: a conditional branch or JALR.

@@ -3,7 +3,7 @@ use Rattle.std.proofs.Common.{ℕ, ◌/◌, ◌<◌, ◌≤◌, ◌≡◌, ◌�
 use Rattle.std.specs.Prelude.{IfSome, ◌==◌, ◌||◌, ◌⊎◌, is_some}
 use Rattle.std.proofs.lemmas.Bool.{both_ways, cases_Bool, eqb-true, eqb-false}
 use Rattle.std.proofs.lemmas.List.{get_or-set_same, get_or-set_other, length-set}
-use Rattle.tomex_rvdec.specs.Operands.{unit_at, unit_of, unit_of_pool}
+use Rattle.tomex_rvdec.specs.Operands.{pool_of, unit_at, unit_of, unit_of_pool}
 use Rattle.tomex_bus.specs.Sets.{has, IsWith}
 use Rattle.tomex_timing.specs.declared.tables.Field.{Field}
 use Rattle.tomex_timing.specs.declared.tables.Field.TheVariants.{Value, Waits, Unread}
@@ -44,6 +44,10 @@ own_here slots x s l own at = rw at at (own x l)
 pub unit_here : (slots : List (Option Station)) (x : ℕ) (o : Option Station) → x < 96 → AreOwn slots → o ≡ slice_index_or slots x None → IfSome o (λ s. unit_of s.instr.op ≡ Some (unit_of_pool (pool_at (x / 16))))
 unit_here slots x None l so at = tt
 unit_here slots x (Some s) l so at = ap unit_at (own_here slots x s l so (sym at))
+
+pub pool_here : (slots : List (Option Station)) (x : ℕ) (o : Option Station) → x < 96 → AreOwn slots → o ≡ slice_index_or slots x None → IfSome o (λ s. pool_of s.instr.op ≡ Some (pool_at (x / 16)))
+pool_here slots x None l so at = tt
+pool_here slots x (Some s) l so at = own_here slots x s l so (sym at)
 
 -- what is taken out waits for nothing
 pub none_listens : (x : ℕ) (sets : List ℕ) → Listens x None sets sets

@@ -6,7 +6,7 @@ use Rattle.tomex_rvdec.specs.declared.op.Op.{Op}
 use Rattle.tomex_rvdec.specs.declared.pool.PoolId.TheVariants as pools
 use Rattle.tomex_rvexec.specs.declared.step.ByteRange.{ByteRange}
 use Rattle.tomex_rvexec.specs.declared.step.Step.{Step}
-use Rattle.tomex_rvexec.specs.Steps.{bytes_of, is_in}
+use Rattle.tomex_rvexec.specs.Steps.{bytes_at, is_in}
 use Rattle.tomex_rvexec.specs.Words.{sum}
 use Rattle.tomex_timing.specs.declared.tables.Busy.{Busy}
 use Rattle.tomex_timing.specs.declared.tables.Field.{Field}
@@ -27,13 +27,13 @@ is_ready s = is_there s.j && is_there s.k
 abbrev pub step_in : Station → Step
 step_in s = record { instr = s.instr; pc = s.pc; vj = value_in s.j; vk = value_in s.k }
 
-abbrev pub bytes_from : Option ℕ → Step → Option ByteRange
-bytes_from None x = None
-bytes_from (Some a) x = bytes_of x
+abbrev pub bytes_from : Op → Option ℕ → Option ByteRange
+bytes_from op None = None
+bytes_from op (Some a) = bytes_at op a
 
 -- the bytes of an access whose address is known
 abbrev pub bytes_in : Station → Option ByteRange
-bytes_in s = bytes_from s.address (step_in s)
+bytes_in s = bytes_from s.instr.op s.address
 
 -- a load or store whose address isn't computed yet
 abbrev pub lacks_address : Option Station → Bool

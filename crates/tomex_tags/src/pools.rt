@@ -76,6 +76,7 @@ impl Pools {
     pub fn at(&self, place: usize) -> Option<Station>
         ensures value { result ≡ slice_index_or self.now.slots place None }
         ensures own { IfSome result (λ s. unit_of s.instr.op ≡ Some (unit_of_pool (pool_at (place / 16)))) }
+        ensures pool { IfSome result (λ s. pool_of s.instr.op ≡ Some (pool_at (place / 16))) }
         ensures low { IsSome result → place < 96 }
     {
         if place < 96 {

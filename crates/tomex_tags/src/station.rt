@@ -113,7 +113,7 @@ impl Station {
         ensures { result ≡ bytes_in self.now }
     {
         match self.address {
-            Some(_) => self.step().bytes(),
+            Some(address) => ByteRange::at(self.instr.op(), address),
             None => None,
         }
     }
