@@ -10,10 +10,14 @@ abbrev pub is_before : Option ℕ → ℕ → Bool
 is_before None next = false
 is_before (Some finish) next = nat_lt finish next
 
+-- two accesses share a byte, one of them being a store
+abbrev pub clash : Station → Station → Bool
+clash other s = shares_byte (bytes_in other) (bytes_in s) && (is_store (step_in other) || is_store (step_in s))
+
 -- a station needn't wait for an older one
 abbrev pub lets : Option Station → Station → ℕ → Bool
 lets None s next = true
-lets (Some other) s next = not (shares_byte (bytes_in other) (bytes_in s) && (is_store (step_in other) || is_store (step_in s))) || is_before other.finish next
+lets (Some other) s next = not (clash other s) || is_before other.finish next
 
 -- nor for any of those in these places
 abbrev pub is_clear : List (Option Station) → List ℕ → Station → ℕ → Bool

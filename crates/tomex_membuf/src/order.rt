@@ -5,7 +5,7 @@ ghost use Rattle.tomex_bus.specs.Picks.{IsByAge};
 ghost use Rattle.tomex_bus.specs.Sets.{has};
 ghost use Rattle.tomex_timing.specs.Recurrence.{shares_byte};
 ghost use Rattle.tomex_tags.specs.Standing.{has_address};
-ghost use Rattle.tomex_membuf.specs.Order.{is_before, is_clear, lets};
+ghost use Rattle.tomex_membuf.specs.Order.{clash, is_before, is_clear, lets};
 
 use tomex_bus::sets::{both, is_single, lowest, without, without_lowest};
 use tomex_rvexec::ByteRange;
@@ -34,17 +34,28 @@ fn is_before(finish: Option<u64>, next: u64) -> bool
     }
 }
 
+/// Whether two accesses share a byte, one of them being a store.
+#[inline(always)]
+fn clash(other: &Station, station: &Station) -> bool
+    ensures { result ≡ clash other.now station.now }
+{
+    match (other.address, station.address) {
+        // None is of more than four bytes: how many they are is asked only of two that are near.
+        (Some(a), Some(b)) if a.abs_diff(b) < 4 => {
+            shares_byte(other.bytes(), station.bytes())
+                && (other.step().is_store() || station.step().is_store())
+        }
+        _ => false,
+    }
+}
+
 /// Whether a station needn't wait for an older one.
 #[inline(always)]
 fn lets(other: Option<Station>, station: &Station, next: u64) -> bool
     ensures { result ≡ lets other station.now next }
 {
     match other {
-        Some(other) => {
-            let conflict = shares_byte(other.bytes(), station.bytes())
-                && (other.step().is_store() || station.step().is_store());
-            !conflict || is_before(other.finish, next)
-        }
+        Some(other) => { !clash(&other, station) || is_before(other.finish, next) }
         None => true,
     }
 }
