@@ -121,8 +121,8 @@ pub fn starting(pools: &Pools, row: &Config, next: u64) -> u128
 
 /// The result of the operation of the station in a place; `None` where its access lies outside memory.
 ///
-/// A place tells its pool by comparisons alone: a processor foresees each of them better than one jump to
-/// six targets.
+/// Each pool has 16 places, in the order of the pools. Which one it is is told by comparisons, the most
+/// frequent first: a processor foresees each of them better than one jump to six targets.
 #[inline(always)]
 fn value_at<A: Allocator>(place: usize, station: &Station, memory: &Memory<A>) -> Option<u32>
     requires low { place < 96 }
