@@ -80,11 +80,3 @@ paid_counts h to from now before after paid = record {
     | inr owed ↦ owed.0
   ];
 }
-
--- of one cycle, and those that are passed after it
-pub one_counts : (h : List Done) (to from now before after : ℕ) → from < to → GoesOn h to from now before after → IsCounted h from now before after
-one_counts h to from now before after ahead goes = paid_counts h to from now before after (paid_on h to from from now before before after ahead (paid_first h to from before) goes)
-
--- where nothing is made
-pub none_counts : (h : List Done) (at worked : ℕ) → IsCounted h at at worked worked
-none_counts h at worked = record { least = omega arith; most = omega arith }

@@ -7,14 +7,13 @@ use Rattle.tomex_config.specs.Row.{Row, IsRow, option_of}
 use Rattle.tomex_rvdec.specs.declared.pool.UnitId.{UnitId}
 use Rattle.tomex_rvdec.specs.declared.pool.UnitId.TheVariants as units
 use Rattle.tomex_rvdec.specs.Parts.{place_of_unit}
-use Rattle.tomex_rvexec.specs.declared.step.ByteRange.{ByteRange}
 use Rattle.tomex_rvexec.specs.declared.step.Step.{Step}
 use Rattle.tomex_rvexec.specs.Steps.{address_of, bytes_of, is_number, is_store, j_of, k_of, step_pool, step_unit}
 use Rattle.tomex_rvexec.proofs.FlowFields.{bytes_of_memory, unit_with_pool}
 use Rattle.tomex_timing.specs.declared.tables.Tag.{Tag}
 use Rattle.tomex_timing.specs.declared.times.Done.{Done}
 use Rattle.tomex_timing.specs.History.{cycle_of, is_memory, is_of, last_address, source_end}
-use Rattle.tomex_timing.specs.Recurrence.{AreTimed, IsTimed, IsLeast, are_conflicts_finished, can_address, can_start, conflicts, has_unit, shares_byte}
+use Rattle.tomex_timing.specs.Recurrence.{AreTimed, IsTimed, IsLeast, are_conflicts_finished, can_address, can_start, conflicts, has_unit}
 use Rattle.tomex_timing.specs.Tables.{field_of, field_from, tag_at, tag_of}
 use Rattle.tomex_cycle.specs.Run.{AreIssuedBy}
 use Rattle.tomex_cycle.specs.Starts.{wanted, kind_if, is_among, kind_of, IsStarting, AreReady}
@@ -25,6 +24,7 @@ use Rattle.tomex_cycle.proofs.Places.{place_low, order-append}
 use Rattle.tomex_cycle.proofs.Fields.{there_test, tag_there, timed_part, issued_part}
 use Rattle.tomex_cycle.proofs.Places.{low, station_here, is_vacant, vacant, least_test}
 use Rattle.tomex_cycle.proofs.Totals.{reach}
+use Rattle.tomex_membuf.proofs.ByAge.{no_access, no_option, share_none}
 use Rattle.tomex_membuf.specs.Order.{is_before, is_clear, lets}
 use Rattle.tomex_tags.specs.Contents.{bytes_in, is_waiting, step_in}
 use Rattle.tomex_tags.specs.Operands.{is_there, value_in}
@@ -96,12 +96,8 @@ pub there_value : (v : ℕ) (p : Option Tag) → is_there (field_from v p) ≡ t
 there_value v None e = refl
 there_value v (Some tag) e = absurd (cc)
 
-none_of : {A : Type 0} (o : Option A) → is_some o ≡ false → o ≡ None
-none_of None e = refl
-none_of (Some x) e = absurd (cc)
-
 no_bytes : (x : Step) → is_memory x ≡ false → bytes_of x ≡ None
-no_bytes x e = none_of (bytes_of x) (bytes_of_memory x ∙ e)
+no_bytes x e = no_option (bytes_of x) (bytes_of_memory x ∙ e)
 
 -- an older access shows its bytes once its address is computed
 bytes_are : (i : Loaded) (row : Row) (t : ℕ) (d : Done) (older : List Done) → AreTimed row (d ∷ older) → AreIssuedBy t (d ∷ older) → (is_memory d.step ≡ true → cycle_of d.at.address ≤ t) → bytes_in (station_of i (clocks t t t) d older) ≡ bytes_of d.step
@@ -110,25 +106,13 @@ bytes_are i row t d older timed issued l = elim (cases_Bool (is_memory d.step)) 
   | inl m ↦ rw (m, le-leb (cycle_of d.at.address) t (l m)) refl
 ]
 
-share_none : (o : Option ByteRange) → shares_byte o None ≡ false
-share_none None = refl
-share_none (Some b) = refl
-
 before_is : (start finish t u : ℕ) → u ≡ t + 1 → start ≤ finish → is_before (if nat_le start t then Some finish else None) u ≡ nat_lt finish u
 before_is start finish t u e l = elim (cases_Bool (nat_le start t)) [
   | inl k ↦ rw k refl
   | inr k ↦ let m : t < start = leb-false _ _ k in rw (k, le-ltb finish u (omega arith)) refl
 ]
 
-lets_none : (o : Option Station) (s : Station) (next : ℕ) → bytes_in s ≡ None → lets o s next ≡ true
-lets_none None s next e = refl
-lets_none (Some other) s next e = rw (e, share_none (bytes_in other)) refl
-
 -- no access: nothing to wait for
-clear_none : (slots : List (Option Station)) (xs : List ℕ) (s : Station) (next : ℕ) → bytes_in s ≡ None → is_clear slots xs s next ≡ true
-clear_none slots [] s next e = refl
-clear_none slots (x ∷ xs) s next e = rw (lets_none (slice_index_or slots x None) s next e) (clear_none slots xs s next e)
-
 conflicts_none : (h : List Done) (x : Step) (u : ℕ) → bytes_of x ≡ None → are_conflicts_finished h x u ≡ true
 conflicts_none [] x u e = refl
 conflicts_none (d ∷ older) x u e =
@@ -252,7 +236,7 @@ clear_here i row t u st h newer d older good timed issued shown e f l =
     elim (cases_Bool (is_memory d.step)) [
       | inr m ↦
           let none : bytes_of d.step ≡ None = no_bytes d.step m in
-          clear_none st.slots (order_of t older) (station_of i (clocks t t t) d older) u (bytes ∙ none) ∙ sym (conflicts_none older d.step u none)
+          no_access st.slots (order_of t older) (station_of i (clocks t t t) d older) u (bytes ∙ none) ∙ sym (conflicts_none older d.step u none)
       | inl m ↦
           let k : last_address older < cycle_of d.at.address = address_rises row d older part.0 m in
           clear_is i row t u st h (newer ++ (d ∷ [])) older (station_of i (clocks t t t) d older) d.step good timed issued shown (e ∙ sym (append_assoc newer (d ∷ []) older)) f (omega arith) bytes refl
@@ -366,7 +350,7 @@ no_pool_unit : (row : Row) (d : Done) (older : List Done) → IsTimed row older 
 no_pool_unit row d older timed e =
     let none : tag_of d ≡ None = place_none (tag_of d) e in
     let pool : step_pool d.step ≡ None = pool_none (step_pool d.step) (λ p f. none_with (step_pool d.step) d.at.station p (λ p n. IsLeast (is_free p older d.at.issue) n) f none timed.station) in
-    none_of (step_unit d.step) (unit_with_pool d.step ∙ ap is_some pool)
+    no_option (step_unit d.step) (unit_with_pool d.step ∙ ap is_some pool)
 
 -- one step of a kind is served by the recurrence
 one_serves : (i : Loaded) (row : Row) (t u : ℕ) (st : Pools) (sets : List ℕ) (unit : UnitId) (h newer : List Done) (d : Done) (older : List Done) → IsRow row → AreTimed row h → AreIssuedBy t h → ShowsStations i (clocks t t t) h st → IsByAge st.busy st.ages (order_of t h) → AreReady st u sets → u ≡ t + 1 → h ≡ newer ++ (d ∷ older)

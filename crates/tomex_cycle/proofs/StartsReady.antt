@@ -18,7 +18,7 @@ use Rattle.tomex_bus.proofs.Bits.{none_in}
 use Rattle.tomex_bus.proofs.Members.{inside_left, none_rest}
 use Rattle.tomex_bus.proofs.Picking.{none_picked, single_picked}
 use Rattle.tomex_membuf.specs.Order.{is_clear}
-use Rattle.tomex_membuf.proofs.ByAge.{no_access}
+use Rattle.tomex_membuf.proofs.ByAge.{no_access, no_option}
 use Rattle.tomex_tags.proofs.Filing.{is_standing}
 use Rattle.tomex_tags.specs.Contents.{bytes_from, is_memory_op, is_ready, is_waiting}
 use Rattle.tomex_tags.specs.Pools.{AreBusy, Pools}
@@ -151,13 +151,9 @@ other_unit unit (Some v) apart e = elim (cases_Bool (place_of_unit v == place_of
   | inl f ↦ absurd (apart (unit_same unit units.Mem (sym (eqb-true (place_of_unit v) (place_of_unit unit) e) ∙ eqb-true (place_of_unit v) (place_of_unit units.Mem) f)))
 ]
 
-none_some : {A : Type 0} (o : Option A) → is_some o ≡ false → o ≡ None
-none_some None e = refl
-none_some (Some a) e = let z : true ≡ false = e in absurd (cc)
-
 no_bytes : (s : Station) (a : Option ℕ) → is_memory_op s.instr.op ≡ false → bytes_from s.instr.op a ≡ None
 no_bytes s None e = refl
-no_bytes s (Some a) e = none_some (bytes_at s.instr.op a) (bytes_of_op s.instr.op a ∙ e)
+no_bytes s (Some a) e = no_option (bytes_at s.instr.op a) (bytes_of_op s.instr.op a ∙ e)
 
 clear_of : (slots : List (Option Station)) (older : List ℕ) (next : ℕ) (unit : UnitId) (s : Station) → unit ≢ units.Mem → waits_for unit (Some s) ≡ true → is_clear slots older s next ≡ true
 clear_of slots older next unit s apart w =

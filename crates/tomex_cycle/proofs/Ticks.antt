@@ -51,17 +51,6 @@ seen_is i row cycle last count st rg ft m sound ends =
     let high : cycle ≤ greatest_end (run_to row i (ends.0 + 1)) = after.high in
     same_seen i row cycle (min cycle (total row i)) last (if nat_lt cycle (total row i) then Running else Ended) (omega arith) (rw e after.answer)
 
--- and one that has ended as it is after more
-pub seen_more : (i : Loaded) (row : Row) (cycle to : ℕ) (last : Progress) (count : ℕ) (st : Pools) (rg : RegStatus) (ft : Fetch) (m : Bytes) → IsSound i row cycle last count st rg ft m → EndsWithin i 262144 → (last ≡ Running → ⊥) → cycle ≤ to
-    → ◌≡◌ {A = Seen} (record { image = i; row = row; cycle = cycle; last = last }) (seen_after i row to)
-seen_more i row cycle to last count st rg ft m sound ends over l =
-    let after : IsAfter i row ends.0 cycle last count st rg ft m = sound.after ends.0 ends.1 ends.2 ends.3 ends.4 in
-    let e : total row i ≡ greatest_end (run_to row i (ends.0 + 1)) = total_is row i ends.0 ends.1 ends.2 ends.4 ends.3 in
-    let high : cycle ≤ greatest_end (run_to row i (ends.0 + 1)) = after.high in
-    let low : greatest_end (run_to row i (ends.0 + 1)) ≤ cycle = other_high cycle _ last after.answer over in
-    let f : last ≡ Ended = rw (le-ltb cycle (greatest_end (run_to row i (ends.0 + 1))) low) at after.answer in
-    same_seen i row cycle (min to (total row i)) last (if nat_lt to (total row i) then Running else Ended) (omega arith) (rw (le-ltb to (total row i) (omega arith)) f)
-
 -- a cycle keeps what holds
 pub sound_next : (i : Loaded) (row : Row) (cycle : ℕ) (last now : Progress) (count more : ℕ) (st st2 : Pools) (rg rg2 : RegStatus) (ft ft2 : Fetch) (m m2 : Bytes) → IsSound i row cycle last count st rg ft m → last ≡ Running → cycle < 2 ^ 40
     → ((n : ℕ) (s : State) (kind : EndKind) (t : ℕ) → RunEnds i n s kind → n < 262144 → cycle + 1 ≡ t + 1 → IsRow row → IsLoaded i.window i.memory i.entry → IsSnapshot i row n t count st rg ft m
@@ -78,21 +67,7 @@ sound_next i row cycle last now count more st st2 rg rg2 ft ft2 m m2 sound run l
       record { high = omega arith; answer = next.1; snapshot = next.0 };
 }
 
--- the same, of a value that is seen before
-pub tick_seen : (i : Loaded) (row : Row) (cycle : ℕ) (last now : Progress) (seen : Seen) (count : ℕ) (st : Pools) (rg : RegStatus) (ft : Fetch) (m : Bytes)
-    → ◌≡◌ {A = Seen} (record { image = i; row = row; cycle = cycle; last = last }) seen → IsSound i row (cycle + 1) now count st rg ft m → EndsWithin seen.image 262144
-    → ◌≡◌ {A = Seen} (record { image = i; row = row; cycle = cycle + 1; last = now }) (seen_after seen.image seen.row (seen.cycle + 1))
-tick_seen i row cycle last now seen count st rg ft m e sound =
-    let P : Seen → Type 0 = λ x. EndsWithin x.image 262144 → ◌≡◌ {A = Seen} (record { image = i; row = row; cycle = cycle + 1; last = now }) (seen_after x.image x.row (x.cycle + 1)) in
-    subst P e (λ ends. seen_is i row (cycle + 1) now count st rg ft m sound ends)
-
-pub kept_seen : (i : Loaded) (row : Row) (cycle more : ℕ) (last : Progress) (seen : Seen) (count : ℕ) (st : Pools) (rg : RegStatus) (ft : Fetch) (m : Bytes)
-    → ◌≡◌ {A = Seen} (record { image = i; row = row; cycle = cycle; last = last }) seen → IsSound i row cycle last count st rg ft m → (last ≡ Running → ⊥) → EndsWithin seen.image 262144
-    → seen ≡ seen_after seen.image seen.row (seen.cycle + more)
-kept_seen i row cycle more last seen count st rg ft m e sound over =
-    let P : Seen → Type 0 = λ x. EndsWithin x.image 262144 → x ≡ seen_after x.image x.row (x.cycle + more) in
-    subst P e (λ ends. seen_more i row cycle (cycle + more) last count st rg ft m sound ends over (omega arith))
-
+-- the same, of a value that is seen
 pub now_seen : (i : Loaded) (row : Row) (cycle : ℕ) (last : Progress) (seen : Seen) (count : ℕ) (st : Pools) (rg : RegStatus) (ft : Fetch) (m : Bytes)
     → ◌≡◌ {A = Seen} (record { image = i; row = row; cycle = cycle; last = last }) seen → IsSound i row cycle last count st rg ft m → EndsWithin seen.image 262144
     → seen ≡ seen_after seen.image seen.row seen.cycle

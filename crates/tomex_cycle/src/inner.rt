@@ -1,6 +1,6 @@
 //! What a cycle changes, and the one call that makes a cycle.
 
-ghost use Rattle.std.specs.Prelude.{ℕ, List, ◌≡◌, ◌≤◌, ◌<◌, ◌+◌, ◌%◌, ◌^◌, IfOk, OnOk, OnErr, nat_lt, true, false, ◌||◌, ◌⊎◌, if◌then◌else◌};
+ghost use Rattle.std.specs.Prelude.{ℕ, List, ◌≡◌, ◌≤◌, ◌<◌, ◌+◌, ◌^◌, IfOk, OnOk, OnErr, nat_lt, if◌then◌else◌};
 ghost use Rattle.tomex_image.specs.Image.{IsLoaded};
 ghost use Rattle.tomex_config.specs.Row.{IsRow};
 ghost use Rattle.tomex_rvexec.specs.declared.outcome.EndKind.{EndKind};
@@ -19,10 +19,10 @@ ghost use Rattle.tomex_cycle.specs.Calm.{AllCalm};
 ghost use Rattle.tomex_cycle.specs.Events.{events_in};
 ghost use Rattle.tomex_cycle.specs.Made.{progress_of};
 ghost use Rattle.tomex_cycle.specs.declared.progress.Progress.{Progress};
-ghost use Rattle.tomex_cycle.specs.Starts.{NoneWaits};
 
 use crate::fetch::Fetch;
 use crate::finishes::Finishes;
+use crate::happened::{Happened, count_issue, is_still};
 use crate::phases;
 use crate::progress::Made;
 use crate::shown::Tables;
@@ -31,38 +31,6 @@ use tomex_config::Config;
 use tomex_image::Image;
 use tomex_rvexec::{End, Fetcher, Memory};
 use tomex_tags::{Pools, RegStatus};
-
-/// Notes that the cycle has changed something, where it has.
-#[inline(always)]
-fn note(moved: &mut bool, changes: bool)
-    ensures { moved.new ≡ (moved.old || changes) }
-{
-    if changes {
-        *moved = true;
-    }
-}
-
-/// Counts an instruction that has issued in the cycle, if one has, and notes it.
-#[inline(always)]
-fn count_issue(count: &mut u32, moved: &mut bool, made: bool)
-    ensures count { count.new ≡ (if made then (count.old + 1) % 2 ^ 32 else count.old) }
-    ensures moved { moved.new ≡ (moved.old || made) }
-{
-    if made {
-        *count = count.wrapping_add(1);
-        *moved = true;
-    }
-}
-
-/// Whether nothing happens after a cycle before the next finish: it has computed no address, issued nothing and
-/// ended nothing, and where it has started operations none waits for a unit.
-#[inline(always)]
-fn is_still(moved: bool, ended: bool, began: bool, pools: &Pools) -> bool
-    ensures still { result ≡ true → (moved ≡ false) × (ended ≡ false) × ((began ≡ false) ⊎ NoneWaits pools.now.slots) }
-    ensures moving { result ≡ false → (moved ≡ true) ⊎ ((ended ≡ true) ⊎ (began ≡ true)) }
-{
-    !moved && !ended && !(began && pools.waiting() != 0)
-}
 
 /// Stations, registers and memory.
 #[derive(Drop)]
@@ -76,12 +44,10 @@ pub struct Inner<A: Allocator = Global> {
     count: u32,
     /// How many cycles were made, or passed though results finish in them.
     pub(crate) worked: u64,
-    /// Whether the cycle that is being made has started any operation.
-    began: bool,
-    /// Whether it has computed an address or issued an instruction.
+    /// What has happened in the cycle that is being made.
     ///
     /// A field, and no local: what happens writes it, and a cycle doesn't carry a flag of each phase to its end.
-    moved: bool,
+    happened: Happened,
 }
 
 impl<A: Allocator> Inner<A> {
@@ -107,7 +73,6 @@ impl<A: Allocator> Inner<A> {
         ensures same { fetcher.new ≡ fetcher.old }
     {
         self.worked += 1;
-        self.moved = false;
         let starts = phases::start(
             &mut self.pools,
             &mut self.memory,
@@ -118,9 +83,10 @@ impl<A: Allocator> Inner<A> {
         if let Some(fault) = starts.fault {
             return Made::Faulted(fault);
         }
-        self.began = starts.any;
+        self.happened = Happened::Nothing;
+        self.happened.note(Happened::Starts, starts.any);
         let addressed = phases::address(&mut self.pools, next);
-        note(&mut self.moved, addressed);
+        self.happened.note(Happened::More, addressed);
         match phases::issue(
             &mut self.pools,
             &mut self.registers,
@@ -130,7 +96,7 @@ impl<A: Allocator> Inner<A> {
             row,
             next,
         ) {
-            Ok(made) => count_issue(&mut self.count, &mut self.moved, made),
+            Ok(made) => count_issue(&mut self.count, &mut self.happened, made),
             Err(fault) => return Made::Faulted(fault),
         }
         let ended = phases::end(
@@ -143,7 +109,7 @@ impl<A: Allocator> Inner<A> {
         );
         // Read for what the type of the stations keeps.
         let _busy = self.pools.busy();
-        let still = is_still(self.moved, ended, self.began, &self.pools);
+        let still = is_still(self.happened, ended, &self.pools);
         Made::after(self.is_over(), still)
     }
 
@@ -172,8 +138,7 @@ impl<A: Allocator> Inner<A> {
             finishes: Finishes::new(),
             count: 0,
             worked: 0,
-            began: false,
-            moved: false,
+            happened: Happened::Nothing,
         };
         inner.restart(image)?;
         Ok(inner)
@@ -200,13 +165,6 @@ impl<A: Allocator> Inner<A> {
         self.count = 0;
         self.worked = 0;
         Ok(())
-    }
-
-    /// How many cycles were made.
-    pub fn worked(&self) -> u64
-        ensures { result ≡ self.now.worked }
-    {
-        self.worked
     }
 
     /// The tables after a cycle.

@@ -9,6 +9,7 @@
 mod ends;
 mod fetch;
 mod finishes;
+mod happened;
 mod inner;
 mod issue;
 mod machine;

@@ -20,11 +20,12 @@ use tomex_rvexec::{End, Fetcher};
 /// A Tomasulo machine that runs an image.
 #[derive(Drop)]
 pub struct Machine<'a, A: Allocator = Global> {
+    /// First, so that what every cycle reads lies a short way from the machine's address.
+    inner: Inner<A>,
     fetcher: Fetcher<'a, A>,
     row: Config,
     cycle: u64,
     last: Progress,
-    inner: Inner<A>,
 }
 
 impl<'a, A: Allocator> Model for Machine<'a, A> {
@@ -88,12 +89,7 @@ impl<'a, A: Allocator> Machine<'a, A> {
         ensures ends { EndsWithin self.old.image 262144 → seen self.new ≡ seen_after self.old.image self.old.row (self.old.cycle + 1) }
         ensures counts { EndsWithin self.old.image 262144 → IsCounted (run_of self.old.row self.old.image) self.old.cycle self.new.cycle self.old.worked self.new.worked }
     {
-        match self.last {
-            Progress::Running => {}
-            last => return last,
-        }
-        let next = self.cycle + 1;
-        self.go_on(next)
+        self.advance(self.cycle + 1)
     }
 
     /// Makes one cycle, and passes those after it in which no station changes, but goes no further than `to`.
@@ -133,6 +129,33 @@ impl<'a, A: Allocator> Machine<'a, A> {
         }
     }
 
+    /// Makes cycles, and passes those in which nothing happens, until the cycle is `to` or the machine ends or faults.
+    ///
+    /// The one place where cycles are made: so the compiler puts what a cycle does into this loop, and what each
+    /// caller does is no part of it. It answers nothing, since an answer's place would be kept through the loop.
+    #[inline(never)]
+    fn run_to(&mut self, to: u64)
+        requires running { self.old.last ≡ Progress.Running }
+        requires low { to ≤ 2 ^ 40 }
+        ensures image { self.new.image ≡ self.old.image }
+        ensures row { self.new.row ≡ self.old.row }
+        ensures runs { self.new.last ≡ Progress.Running → self.new.cycle ≡ max self.old.cycle to }
+        ensures least { self.old.cycle ≤ self.new.cycle }
+        ensures most { self.new.cycle ≤ max self.old.cycle to }
+        ensures none { to ≤ self.old.cycle → self.new ≡ self.old }
+        ensures ends { EndsWithin self.old.image 262144 → seen self.new ≡ seen_after self.old.image self.old.row (max self.old.cycle to) }
+        ensures counts { EndsWithin self.old.image 262144 → IsCounted (run_of self.old.row self.old.image) self.old.cycle self.new.cycle self.old.worked self.new.worked }
+    {
+        // Read for what the machine's type keeps.
+        let _start = self.cycle();
+        while self.cycle < to {
+            match self.go_on(to) {
+                Progress::Running => {}
+                _ => return,
+            }
+        }
+    }
+
     /// Does what as many ticks do as bring the cycle to `to`, fewer where the machine ends or faults.
     pub fn advance(&mut self, to: u64) -> Progress
         requires { to ≤ 2 ^ 40 }
@@ -147,19 +170,10 @@ impl<'a, A: Allocator> Machine<'a, A> {
         ensures ends { EndsWithin self.old.image 262144 → seen self.new ≡ seen_after self.old.image self.old.row (max self.old.cycle to) }
         ensures counts { EndsWithin self.old.image 262144 → IsCounted (run_of self.old.row self.old.image) self.old.cycle self.new.cycle self.old.worked self.new.worked }
     {
-        // Read for what the machine's type keeps.
-        let _start = self.cycle();
-        match self.last {
-            Progress::Running => {}
-            over => return over,
+        if let Progress::Running = self.last {
+            self.run_to(to);
         }
-        while self.cycle < to {
-            match self.go_on(to) {
-                Progress::Running => {}
-                over => return over,
-            }
-        }
-        Progress::Running
+        self.last
     }
 
     /// The cycle that was made last.
@@ -174,7 +188,7 @@ impl<'a, A: Allocator> Machine<'a, A> {
     pub fn worked(&self) -> u64
         ensures { result ≡ self.now.worked }
     {
-        self.inner.worked()
+        self.inner.worked
     }
 
     /// Whether the program has ended, and so has each of its instructions.

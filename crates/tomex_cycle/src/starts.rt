@@ -7,7 +7,7 @@ ghost use Rattle.tomex_tags.specs.Places.{pool_at};
 ghost use Rattle.tomex_tags.specs.Pools.{AreBusy};
 ghost use Rattle.tomex_tags.specs.Standing.{IsSetOf, waits_for};
 ghost use Rattle.tomex_rvdec.specs.Operands.{pool_of, unit_of, unit_of_pool};
-ghost use Rattle.tomex_rvexec.specs.Access.{HasStored};
+ghost use Rattle.tomex_rvexec.specs.Access.{HasStored, IsInside};
 ghost use Rattle.tomex_rvexec.specs.Flow.{byte_in, result_of};
 ghost use Rattle.tomex_cycle.specs.Finishes.{AreKnown};
 ghost use Rattle.tomex_cycle.specs.Starts.{AllCanBegin, AllInside, AreLow, AreReadyFor, CanBegin, HaveBegun, HaveStored, IsStarting, IsWanted, begun};
@@ -121,13 +121,14 @@ pub fn starting(pools: &Pools, row: &Config, next: u64) -> u128
 
 /// The result of the operation of the station in a place; `None` where its access lies outside memory.
 ///
-/// Each pool has 16 places, in the order of the pools. Which one it is is told by comparisons, the most
-/// frequent first: a processor foresees each of them better than one jump to six targets.
+/// Each pool has 16 places, in the order of the pools. Which one it is is told by comparisons, that of the most
+/// frequent pool first: a processor foresees each of them better than one jump to six targets.
 #[inline(always)]
 fn value_at<A: Allocator>(place: usize, station: &Station, memory: &Memory<A>) -> Option<u32>
     requires low { place < 96 }
     requires pool { pool_of station.now.instr.op ≡ Some (pool_at (place / 16)) }
     ensures value { IfSome result (λ v. v ≡ result_of (step_in station.now) (byte_in memory.now)) }
+    ensures outside { IfSome result (λ v. IsInside memory.now (step_in station.now)) }
     ensures inside { CanBegin memory.now station.now → IsSome result }
 {
     if place < 16 {
@@ -159,6 +160,7 @@ fn outcome<A: Allocator>(
     requires pool { pool_of station.now.instr.op ≡ Some (pool_at (place / 16)) }
     ensures value { (next : ℕ) → IfSome result (λ o. started (next + o.0 - 1) o.1 station.now ≡ begun row.now next memory.now station.now) }
     ensures range { IfSome result (λ o. (1 ≤ o.0) × (o.0 ≤ 64)) }
+    ensures outside { IfSome result (λ o. IsInside memory.now (step_in station.now)) }
     ensures inside { CanBegin memory.now station.now → IsSome result }
 {
     let value = value_at(place, station, memory)?;
@@ -178,6 +180,7 @@ fn begin_at<A: Allocator>(
     requires known { AreKnown pools.old.slots next finishes.old }
     ensures slots { (s : Station) → slice_index_or pools.old.slots place None ≡ Some s → CanBegin memory.now s → pools.new.slots ≡ slice_set pools.old.slots place (Some (begun row.now next memory.now s)) }
     ensures good { (s : Station) → slice_index_or pools.old.slots place None ≡ Some s → CanBegin memory.now s → result ≡ None }
+    ensures fault { (s : Station) → slice_index_or pools.old.slots place None ≡ Some s → s.finish ≡ None → (IsInside memory.now (step_in s) → ⊥) → result ≡ Some (record { kind = FaultKind.Access; pc = s.pc }) }
     ensures ages { pools.new.ages ≡ pools.old.ages }
     ensures known { result ≡ None → AreKnown pools.new.slots next finishes.new }
 {

@@ -68,7 +68,7 @@ not_clear slots (x ∷ xs) s next y h e = elim (cases_Bool (x == y)) [
   ]
 ]
 
-share_none : (o : Option ByteRange) → shares_byte o None ≡ false
+pub share_none : (o : Option ByteRange) → shares_byte o None ≡ false
 share_none None = refl
 share_none (Some b) = refl
 
@@ -165,7 +165,7 @@ pub no_access : (slots : List (Option Station)) (xs : List ℕ) (s : Station) (n
 no_access slots [] s next e = refl
 no_access slots (x ∷ xs) s next e = rw (lets_none (slice_index_or slots x None) s next e) (no_access slots xs s next e)
 
-no_option : {A : Type 0} (o : Option A) → is_some o ≡ false → o ≡ None
+pub no_option : {A : Type 0} (o : Option A) → is_some o ≡ false → o ≡ None
 no_option None e = refl
 no_option (Some a) e = let z : true ≡ false = e in absurd (cc)
 

@@ -1,11 +1,11 @@
 -- The phases make a cycle, and what is left when it is made says whether the run is over.
 use Rattle.tomex_cycle.proofs.Cycles.{starts_good, issue_made, cycle_made, cycle_answer, some_none, err_ok}
-use Rattle.std.proofs.Common.{ℕ, ◌+◌, ◌≤◌, ◌≡◌, ◌∙◌, Bool, ap, arith, refl, Ok}
+use Rattle.std.proofs.Common.{ℕ, ◌+◌, ◌≤◌, ◌≡◌, ◌∙◌, Bool, ap, arith, inl, inr, refl, Ok}
 use Rattle.tomex_cycle.specs.Issue.{count_after, counted_by}
 use Rattle.tomex_cycle.proofs.Calmness.{cycle_calm}
 use Rattle.tomex_cycle.proofs.Happens.{cycle_happens}
 use Rattle.tomex_cycle.proofs.IssuesPhase.{counted_in_word}
-use Rattle.tomex_cycle.proofs.Moved.{none_moved, what_moved}
+use Rattle.tomex_cycle.proofs.Moved.{none_moved, none_started, what_moved}
 use Rattle.tomex_cycle.proofs.inner.Inner.make_cycle.Goals as goal
 
 pub returns-in-Some-clause-cycle : goal.returns-in-Some-clause-cycle
@@ -31,14 +31,14 @@ returns-clause-cycle g c =
       two.0,
       two.1,
       (λ moving. cycle_happens c.args.fetcher.now c.args.row.now n t c.args.next c.args.self.now.count c.count_issue.new.count s kind _ _ _ _ _ _ _ _ _ _ _ _ _ _ c.start-starts.ensures.starts c.start-starts.ensures.any c.address-addressed.ensures.any c.end-ended.ensures.any on issued ends e good loaded old
-          (what_moved c.start-starts.result.any c.address-addressed.result c.in-Ok.made c.end-ended.result c.args.self.now.count c.count_issue.new.count count (rw (c.count_issue.ensures.moved, c.note.ensures) at c.is_still-still.ensures.moving (c.after.ensures.moving moving)))),
+          (what_moved c.start-starts.result.any c.address-addressed.result c.in-Ok.made c.end-ended.result c.args.self.now.count c.count_issue.new.count count (rw (c.count_issue.ensures.happened, c.note-2.ensures, c.note.ensures) at c.is_still-still.ensures.moving (c.after.ensures.moving moving)))),
       (λ still.
-          let quiet = rw (c.count_issue.ensures.moved, c.note.ensures) at c.is_still-still.ensures.still (c.after.ensures.still still) in
-          let none = none_moved c.address-addressed.result c.in-Ok.made quiet.0 in
+          let quiet = rw (c.count_issue.ensures.happened, c.note-2.ensures, c.note.ensures) at c.is_still-still.ensures.still (c.after.ensures.still still) in
+          let none = none_moved c.start-starts.result.any c.address-addressed.result c.in-Ok.made quiet.0 in
           let same : c.count_issue.new.count ≡ c.args.self.now.count = c.count_issue.ensures.count ∙ rw none.1 refl in
           cycle_calm c.args.fetcher.now c.args.row.now n t c.args.next c.args.self.now.count c.count_issue.new.count s kind c.start-starts.result.fault c.start-starts.result.any _ _ _ _ _ _ _ _ _ c.end-ended.new.finishes c.start-starts.ensures.starts c.start-starts.ensures.none ends e good loaded old two.0 same
           (c.end-ended.ensures.none quiet.1 ∙ (c.issue.ensures.none (c.in-Ok.is ∙ ap (λ (b : Bool). Ok b) none.1) ∙ c.address-addressed.ensures.none none.0))
-          quiet.2 c.end-ended.ensures.known (c.end-ended.ensures.quiet quiet.1)),
+          (elim quiet.2 [ inl e ↦ inl (none_started c.start-starts.result.any c.address-addressed.result c.in-Ok.made e) | inr e ↦ inr e ]) c.end-ended.ensures.known (c.end-ended.ensures.quiet quiet.1)),
     )
 
 pub end-ended-requires : goal.end-ended-requires

@@ -1,42 +1,11 @@
-use Rattle.std.proofs.Common.{◌≡◌, ◌<◌, arith, refl, ap, sym, max, ◌∙◌}
+use Rattle.std.proofs.Common.{◌∙◌, ap, arith, max}
 use Rattle.tomex_cycle.specs.Seen.{seen}
-use Rattle.tomex_cycle.proofs.Counts.{paid_counts, paid_first, paid_on}
-use Rattle.tomex_cycle.proofs.Ticks.{over_seen}
+use Rattle.tomex_cycle.proofs.Ticks.{now_seen, over_seen}
+use Rattle.tomex_cycle.proofs.machine.Machine.advance.Goals.{in-Running, in_default}
 use Rattle.tomex_cycle.proofs.machine.Machine.advance.Goals as goal
 
-pub loop-self-init : goal.loop-self-init
-loop-self-init g c = record {
-  image = refl;
-  row = refl;
-  low = omega arith;
-  high = omega arith;
-  running = sym (ap (λ x. x.last) c.self.view_is) ∙ c.in-Running.is;
-  none = λ h. refl;
-  ends = c.cycle-start.ensures.ends;
-  paid = λ ends. paid_first _ _ _ _;
-}
-
-pub loop-self-preserved : goal.loop-self-preserved
-loop-self-preserved g c =
-    let at : c.self-in-loop-self.inside.cycle ≡ c.loop-self.self.cycle = ap (λ x. x.cycle) c.self-in-loop-self.view_is in
-    let ahead : c.loop-self.self.cycle < c.args.to = omega (arith, c.loop-self-test.true) in
-    record {
-      image = c.go_on.ensures.image ∙ c.loop-self.invariant.image;
-      row = c.go_on.ensures.row ∙ c.loop-self.invariant.row;
-      low = omega (arith, c.go_on.ensures.least, c.loop-self.invariant.low);
-      high = omega (arith, c.go_on.ensures.most);
-      running = sym c.go_on.ensures.answer ∙ c.in-Running-go_on.is;
-      none = λ h. absurd (omega (arith, h, c.loop-self.invariant.low));
-      ends = rw (c.loop-self.invariant.image, c.loop-self.invariant.row) at c.go_on.ensures.ends;
-      paid = λ e. paid_on _ c.args.to c.args.self.now.cycle c.loop-self.self.cycle _ _ _ _ ahead (c.loop-self.invariant.paid e) ((rw (c.loop-self.invariant.image, c.loop-self.invariant.row) at c.go_on.ensures.goes) e);
-    }
-
-pub returns-in_default-go_on-clause-ends : goal.returns-in_default-go_on-clause-ends
-returns-in_default-go_on-clause-ends g c = λ e.
-    over_seen c.args.self.now.image c.args.self.now.row c.go_on.new.self.cycle (max c.args.self.now.cycle c.args.to) (seen c.go_on.new.self) ((rw (c.loop-self.invariant.image, c.loop-self.invariant.row) at c.go_on.ensures.ends) e) (λ runs. c.in_default-go_on.not-Running (c.go_on.ensures.answer ∙ runs)) (omega (arith, c.go_on.ensures.most))
-
-pub returns-in_default-go_on-clause-counts : goal.returns-in_default-go_on-clause-counts
-returns-in_default-go_on-clause-counts g c = λ e.
-    let at : c.self-in-loop-self.inside.cycle ≡ c.loop-self.self.cycle = ap (λ x. x.cycle) c.self-in-loop-self.view_is in
-    let ahead : c.loop-self.self.cycle < c.args.to = omega (arith, c.loop-self-test.true) in
-    paid_counts _ c.args.to c.args.self.now.cycle c.go_on.new.self.cycle _ _ (paid_on _ c.args.to c.args.self.now.cycle c.loop-self.self.cycle _ _ _ _ ahead (c.loop-self.invariant.paid e) ((rw (c.loop-self.invariant.image, c.loop-self.invariant.row) at c.go_on.ensures.goes) e))
+pub returns-clause-ends : goal.returns-clause-ends
+returns-clause-ends g c = λ e. elim c.match-self.branch [
+  | in-Running w ↦ rw w.self-is (w.run_to.ensures.ends e)
+  | in_default w ↦ rw w.self-is (over_seen c.args.self.now.image c.args.self.now.row c.args.self.now.cycle (max c.args.self.now.cycle c.args.to) (seen c.args.self.now) (now_seen _ _ _ _ _ _ _ _ _ _ (ap seen c.self.view_is) c.self.invariant.0 e) (λ runs. w.in_default.not-Running (ap (λ x. x.last) c.self.view_is ∙ runs)) (omega arith))
+]

@@ -4,7 +4,7 @@ use Rattle.tomex_cycle.specs.Seen.{seen, seen_after}
 use Rattle.tomex_cycle.specs.declared.progress.Progress.TheVariants.{Running}
 use Rattle.tomex_cycle.specs.Run.{run_of}
 use Rattle.tomex_cycle.proofs.Counts.{IsPaid}
-use Rattle.tomex_cycle.proofs.machine.Machine.advance.Given as goal
+use Rattle.tomex_cycle.proofs.machine.Machine.run_to.Given as goal
 
 abbrev pub invariant-loop-self : goal.invariant-loop-self
 invariant-loop-self g l = record {
