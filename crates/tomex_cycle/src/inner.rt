@@ -1,6 +1,6 @@
-//! What a cycle changes, and the one call that makes a cycle.
+//! What a cycle changes, and the one call that changes it: it makes a cycle and counts it.
 
-ghost use Rattle.std.specs.Prelude.{ℕ, List, ◌≡◌, ◌≤◌, ◌<◌, ◌+◌, ◌^◌, IfOk, OnOk, OnErr, nat_lt, if◌then◌else◌};
+ghost use Rattle.std.specs.Prelude.{ℕ, List, None, ◌≡◌, ◌≤◌, ◌<◌, ◌+◌, ◌^◌, IfOk, OnOk, OnErr, nat_lt, replicate, if◌then◌else◌};
 ghost use Rattle.tomex_image.specs.Image.{IsLoaded};
 ghost use Rattle.tomex_config.specs.Row.{IsRow};
 ghost use Rattle.tomex_rvexec.specs.declared.outcome.EndKind.{EndKind};
@@ -32,18 +32,26 @@ use tomex_image::Image;
 use tomex_rvexec::{End, Fetcher, Memory};
 use tomex_tags::{Pools, RegStatus};
 
-/// Stations, registers and memory.
+/// How a cycle is made.
+#[derive(Clone, Copy)]
+pub(crate) enum Cycle {
+    /// By its phases.
+    OfPhases,
+    /// Nothing happens in it but finishes of results, which wait for a common data bus from then on.
+    OfResults,
+}
+
+/// Stations, registers and memory, and how many cycles were made of them.
 #[derive(Drop)]
 pub struct Inner<A: Allocator = Global> {
-    pub(crate) pools: Pools,
+    pools: Pools,
     registers: RegStatus,
     memory: Memory<A>,
     fetch: Fetch,
-    pub(crate) finishes: Finishes,
     /// How many instructions have issued.
     count: u32,
-    /// How many cycles were made, or passed though results finish in them.
-    pub(crate) worked: u64,
+    /// How many cycles were made.
+    worked: u64,
     /// What has happened in the cycle that is being made.
     ///
     /// A field, and no local: what happens writes it, and a cycle doesn't carry a flag of each phase to its end.
@@ -51,39 +59,42 @@ pub struct Inner<A: Allocator = Global> {
 }
 
 impl<A: Allocator> Inner<A> {
-    /// Makes one cycle.
-    pub fn make_cycle<B: Allocator>(
+    /// Makes one cycle, and counts it.
+    ///
+    /// Inlined, so that each of its two calls has only what its kind of cycle needs.
+    #[inline(always)]
+    pub(crate) fn make_cycle<B: Allocator>(
         &mut self,
+        how: Cycle,
+        finishes: &mut Finishes,
         fetcher: &mut Fetcher<'_, B>,
         row: &Config,
         next: u64,
     ) -> Made
         requires next { next < 2 ^ 41 }
         requires few { self.old.worked < 2 ^ 41 }
-        requires known { AreKnown self.old.pools.slots next self.old.finishes }
+        requires known { how ≡ Cycle.OfPhases → AreKnown self.old.pools.slots next finishes.old }
         ensures worked { self.new.worked ≡ self.old.worked + 1 }
-        ensures cycle { (n : ℕ) (s : State) (kind : EndKind) (t : ℕ) → RunEnds fetcher.old n s kind → n < 262144 → next ≡ t + 1 → IsRow row.now → IsLoaded fetcher.old.window fetcher.old.memory fetcher.old.entry
+        ensures cycle { how ≡ Cycle.OfPhases → (n : ℕ) (s : State) (kind : EndKind) (t : ℕ) → RunEnds fetcher.old n s kind → n < 262144 → next ≡ t + 1 → IsRow row.now → IsLoaded fetcher.old.window fetcher.old.memory fetcher.old.entry
             → IsSnapshot fetcher.old row.now n t self.old.count self.old.pools self.old.registers self.old.fetch self.old.memory
             → IsSnapshot fetcher.old row.now n next self.new.count self.new.pools self.new.registers self.new.fetch self.new.memory
             × (progress_of result ≡ (if nat_lt next (greatest_end (run_to row.now fetcher.old (n + 1))) then Progress.Running else Progress.Ended))
             × (result ≡ Made.Moving → 0 < events_in next (run_to row.now fetcher.old (n + 1)))
             × (result ≡ Made.Still → AllCalm next (run_to row.now fetcher.old self.new.count)) }
-        ensures known { progress_of result ≡ Progress.Running → AreKnown self.new.pools.slots (next + 1) self.new.finishes }
-        ensures quiet { result ≡ Made.Still → self.new.finishes.ready ≡ 0 }
+        ensures known { how ≡ Cycle.OfPhases → progress_of result ≡ Progress.Running → AreKnown self.new.pools.slots (next + 1) finishes.new }
+        ensures quiet { how ≡ Cycle.OfPhases → result ≡ Made.Still → finishes.new.ready ≡ 0 }
+        ensures results { how ≡ Cycle.OfResults → (finishes.new ≡ finishes.old) × (self.new ≡ record { pools = self.old.pools; registers = self.old.registers; memory = self.old.memory; fetch = self.old.fetch; count = self.old.count; worked = self.old.worked + 1; happened = self.old.happened }) }
         ensures same { fetcher.new ≡ fetcher.old }
     {
         self.worked += 1;
-        let starts = phases::start(
-            &mut self.pools,
-            &mut self.memory,
-            &mut self.finishes,
-            row,
-            next,
-        );
+        if let Cycle::OfResults = how {
+            return Made::Moving;
+        }
+        self.happened = Happened::Nothing;
+        let starts = phases::start(&mut self.pools, &mut self.memory, finishes, row, next);
         if let Some(fault) = starts.fault {
             return Made::Faulted(fault);
         }
-        self.happened = Happened::Nothing;
         self.happened.note(Happened::Starts, starts.any);
         let addressed = phases::address(&mut self.pools, next);
         self.happened.note(Happened::More, addressed);
@@ -103,7 +114,7 @@ impl<A: Allocator> Inner<A> {
             &mut self.pools,
             &mut self.registers,
             &mut self.fetch,
-            &mut self.finishes,
+            finishes,
             row,
             next,
         );
@@ -128,14 +139,13 @@ impl<A: Allocator> Inner<A> {
         ensures start { IfOk result (λ c. (row : _) (n : ℕ) → IsSnapshot image.now row n 0 c.count c.pools c.registers c.fetch c.memory) }
         ensures none { IfOk result (λ c. c.count ≡ 0) }
         ensures unworked { IfOk result (λ c. c.worked ≡ 0) }
-        ensures known { IfOk result (λ c. AreKnown c.pools.slots 1 c.finishes) }
+        ensures empty { IfOk result (λ c. c.pools.slots ≡ replicate 96 None) }
     {
         let mut inner = Inner {
             pools: Pools::new(),
             registers: RegStatus::new(0),
             memory: Memory::new(0, Vec::new(alloc)),
             fetch: Fetch::Waits,
-            finishes: Finishes::new(),
             count: 0,
             worked: 0,
             happened: Happened::Nothing,
@@ -149,7 +159,7 @@ impl<A: Allocator> Inner<A> {
         ensures start { OnOk result ((row : _) (n : ℕ) → IsSnapshot image.now row n 0 self.new.count self.new.pools self.new.registers self.new.fetch self.new.memory) }
         ensures none { OnOk result (self.new.count ≡ 0) }
         ensures unworked { OnOk result (self.new.worked ≡ 0) }
-        ensures known { OnOk result (AreKnown self.new.pools.slots 1 self.new.finishes) }
+        ensures empty { OnOk result (self.new.pools.slots ≡ replicate 96 None) }
         ensures err { OnErr result (self.new ≡ self.old) }
     {
         let window = image.window();
@@ -161,10 +171,24 @@ impl<A: Allocator> Inner<A> {
         self.pools = Pools::new();
         self.registers = RegStatus::new(stack);
         self.fetch = Fetch::At(image.entry());
-        self.finishes = Finishes::new();
         self.count = 0;
         self.worked = 0;
         Ok(())
+    }
+
+    /// How many cycles were made.
+    pub fn worked(&self) -> u64
+        ensures { result ≡ self.now.worked }
+    {
+        self.worked
+    }
+
+    /// The stations.
+    #[inline(always)]
+    pub fn pools(&self) -> &Pools
+        ensures { result.now ≡ self.now.pools }
+    {
+        &self.pools
     }
 
     /// The tables after a cycle.

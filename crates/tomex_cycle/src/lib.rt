@@ -13,6 +13,7 @@ mod happened;
 mod inner;
 mod issue;
 mod machine;
+mod passing;
 mod phases;
 mod progress;
 mod shown;

@@ -7,8 +7,9 @@ ghost use Rattle.tomex_cycle.specs.Run.{run_of};
 ghost use Rattle.tomex_cycle.specs.Seen.{seen, seen_after, is_end};
 ghost use Rattle.tomex_cycle.specs.Events.{GoesOn, IsCounted};
 
-use crate::finishes::pass_still;
-use crate::inner::Inner;
+use crate::finishes::Finishes;
+use crate::inner::{Cycle, Inner};
+use crate::passing::pass_still;
 use crate::progress::{Made, Progress};
 use crate::shown::Tables;
 use std::alloc::{AllocError, Allocator, Global};
@@ -22,6 +23,7 @@ use tomex_rvexec::{End, Fetcher};
 pub struct Machine<'a, A: Allocator = Global> {
     /// First, so that what every cycle reads lies a short way from the machine's address.
     inner: Inner<A>,
+    finishes: Finishes,
     fetcher: Fetcher<'a, A>,
     row: Config,
     cycle: u64,
@@ -37,7 +39,7 @@ impl<'a, A: Allocator> Model for Machine<'a, A> {
 
     ghost view = { λ m. record { image = m.fetcher; row = m.row; cycle = m.cycle; last = m.last; worked = m.inner.worked } };
 
-    ghost invariant = { λ m. IsSound m.fetcher m.row m.cycle m.last m.inner.count m.inner.pools m.inner.registers m.inner.fetch m.inner.memory × (m.inner.worked ≤ m.cycle) × IsTurning m.last m.inner.pools.slots (m.cycle + 1) m.inner.finishes };
+    ghost invariant = { λ m. IsSound m.fetcher m.row m.cycle m.last m.inner.count m.inner.pools m.inner.registers m.inner.fetch m.inner.memory × (m.inner.worked ≤ m.cycle) × IsTurning m.last m.inner.pools.slots (m.cycle + 1) m.finishes };
 }
 
 impl<'a, A: Allocator> Machine<'a, A> {
@@ -54,6 +56,7 @@ impl<'a, A: Allocator> Machine<'a, A> {
             row: *row,
             cycle: 0,
             last: Progress::Running,
+            finishes: Finishes::new(),
             inner: Inner::new(alloc, image)?,
         })
     }
@@ -69,6 +72,7 @@ impl<'a, A: Allocator> Machine<'a, A> {
         let _buses = row.buses();
         let _entry = image.entry();
         self.inner.restart(image)?;
+        self.finishes = Finishes::new();
         self.fetcher = Fetcher::new(image);
         self.row = *row;
         self.cycle = 0;
@@ -106,16 +110,23 @@ impl<'a, A: Allocator> Machine<'a, A> {
         ensures goes { EndsWithin self.old.image 262144 → GoesOn (run_of self.old.row self.old.image) to self.old.cycle self.new.cycle self.old.worked self.new.worked }
     {
         let next = self.cycle + 1;
-        match self.inner.make_cycle(&mut self.fetcher, &self.row, next) {
+        match self.inner.make_cycle(
+            Cycle::OfPhases,
+            &mut self.finishes,
+            &mut self.fetcher,
+            &self.row,
+            next,
+        ) {
             Made::Moving => {
                 self.cycle = next;
                 Progress::Running
             }
             Made::Still => {
                 self.cycle = pass_still(
-                    &mut self.inner.finishes,
-                    &self.inner.pools,
-                    &mut self.inner.worked,
+                    &mut self.inner,
+                    &mut self.finishes,
+                    &mut self.fetcher,
+                    &self.row,
                     next,
                     to,
                 );
@@ -188,7 +199,7 @@ impl<'a, A: Allocator> Machine<'a, A> {
     pub fn worked(&self) -> u64
         ensures { result ≡ self.now.worked }
     {
-        self.inner.worked
+        self.inner.worked()
     }
 
     /// Whether the program has ended, and so has each of its instructions.

@@ -193,7 +193,7 @@ fn begin_at<A: Allocator>(
     match outcome(place, &station, memory, row) {
         Some((latency, value)) => {
             pools.start(place, next + u64::from(latency) - 1, value);
-            finishes.start(place, latency);
+            finishes.wheel.put(u32::from(latency) - 1, place);
             None
         }
         None => Some(Fault {

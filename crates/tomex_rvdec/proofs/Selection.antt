@@ -1,5 +1,5 @@
 -- The fixed bits of an operation select no other one: a row for each operation.
-use Rattle.std.proofs.Common.{◌≡◌, ℕ, Some, IsTrue, refl, arith, nat_eq}
+use Rattle.std.proofs.Common.{◌≡◌, ℕ, Some, IsTrue, refl, arith, Bool, true, nat_eq, ◌&&◌}
 use Rattle.tomex_rvdec.specs.declared.op.Op.{Op}
 use Rattle.tomex_rvdec.specs.declared.op.Op.TheVariants.{Lui, Auipc, Jal, Jalr, Beq, Bne, Blt, Bge, Bltu, Bgeu, Lb, Lh, Lw, Lbu, Lhu, Sb, Sh, Sw, Addi, Slti, Sltiu, Xori, Ori, Andi, Slli, Srli, Srai, Add, Sub, Sll, Slt, Sltu, Xor, Srl, Sra, Or, And, Mul, Mulh, Mulhsu, Mulhu, Div, Divu, Rem, Remu, Fence, Ecall, Ebreak}
 use Rattle.tomex_rvdec.specs.Fields.{opcode, funct3, funct7}

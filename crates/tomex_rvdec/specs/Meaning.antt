@@ -1,7 +1,7 @@
 -- The table of the instruction words: which word means which instruction
 -- (the manual's chapter "RV32/64G Instruction Set Listings", the tables of RV32I and RV32M).
 -- A row for each operation gives its fixed bits; a row for each form says where operands stand.
-use Rattle.std.specs.Prelude.{◌≡◌, ℕ, ◌^◌, ◌<◌, Option, nat_eq, Bool, true, false, IsTrue, ◌&&◌, List, [], ◌∷◌, find, option_map}
+use Rattle.std.specs.Prelude.{◌≡◌, ℕ, ◌+◌, ◌*◌, ◌^◌, ◌<◌, Option, Some, None, nat_eq, Bool, true, false, IsTrue, ◌&&◌, List, [], ◌∷◌, find, option_map}
 use Rattle.tomex_rvdec.specs.declared.op.Op.{Op}
 use Rattle.tomex_rvdec.specs.declared.op.Op.TheVariants.{Lui, Auipc, Jal, Jalr, Beq, Bne, Blt, Bge, Bltu, Bgeu, Lb, Lh, Lw, Lbu, Lhu, Sb, Sh, Sw, Addi, Slti, Sltiu, Xori, Ori, Andi, Slli, Srli, Srai, Add, Sub, Sll, Slt, Sltu, Xor, Srl, Sra, Or, And, Mul, Mulh, Mulhsu, Mulhu, Div, Divu, Rem, Remu, Fence, Ecall, Ebreak}
 use Rattle.tomex_rvdec.specs.declared.op.Form.{Form}

@@ -10,18 +10,18 @@ use Rattle.tomex_cycle.proofs.inner.Inner.make_cycle.Goals as goal
 
 pub returns-in-Some-clause-cycle : goal.returns-in-Some-clause-cycle
 returns-in-Some-clause-cycle g c =
-    λ n s kind t ends l e good loaded old.
+    λ how n s kind t ends l e good loaded old.
     absurd (some_none c.start-starts.result.fault c.in-Some.fault c.in-Some.is (starts_good c.args.fetcher.now c.args.row.now n t c.args.next c.args.self.now.count s kind c.start-starts.result.fault _ _ _ _ _ _ c.start-starts.ensures.starts ends e good loaded old))
 
 pub returns-in-Err-clause-cycle : goal.returns-in-Err-clause-cycle
 returns-in-Err-clause-cycle g c =
-    λ n s kind t ends l e good loaded old.
+    λ how n s kind t ends l e good loaded old.
     let on = issue_made c.args.fetcher.now c.args.row.now n t c.args.next c.args.self.now.count s kind _ _ _ _ _ _ _ _ _ _ _ _ c.start-starts.ensures.starts c.address-addressed.ensures.addresses c.issue.ensures.issues ends l e good loaded old in
     absurd (err_ok (counted_by c.args.self.now.count c.issue.result) on.count c.in-Err.fault on.issued (ap (counted_by c.args.self.now.count) c.in-Err.is))
 
 pub returns-clause-cycle : goal.returns-clause-cycle
 returns-clause-cycle g c =
-    λ n s kind t ends l e good loaded old.
+    λ how n s kind t ends l e good loaded old.
     let on = issue_made c.args.fetcher.now c.args.row.now n t c.args.next c.args.self.now.count s kind _ _ _ _ _ _ _ _ _ _ _ _ c.start-starts.ensures.starts c.address-addressed.ensures.addresses c.issue.ensures.issues ends l e good loaded old in
     let few : c.args.self.now.count ≤ n + 1 = old.issue.few in
     let count : count_after c.in-Ok.made c.args.self.now.count ≡ c.count_issue.new.count = counted_in_word c.in-Ok.made c.args.self.now.count c.count_issue.new.count (omega (arith, l, few)) c.count_issue.ensures.count in
@@ -42,7 +42,7 @@ returns-clause-cycle g c =
     )
 
 pub end-ended-requires : goal.end-ended-requires
-end-ended-requires g c = record { known = c.issue.ensures.known c.start-starts.new.finishes (c.address-addressed.ensures.known c.start-starts.new.finishes (c.start-starts.ensures.known c.in_default.is)) }
+end-ended-requires g c = record { known = c.issue.ensures.known c.start-starts.new.finishes (c.address-addressed.ensures.known c.start-starts.new.finishes (c.start-starts.ensures.known c.in_default-fault.is)) }
 
 pub returns-clause-quiet : goal.returns-clause-quiet
-returns-clause-quiet g c = λ still. c.end-ended.ensures.quiet (c.is_still-still.ensures.still (c.after.ensures.still still)).1
+returns-clause-quiet g c = λ how still. c.end-ended.ensures.quiet (c.is_still-still.ensures.still (c.after.ensures.still still)).1

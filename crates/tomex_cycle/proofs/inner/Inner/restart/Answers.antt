@@ -1,6 +1,5 @@
 use Rattle.std.proofs.Common.{ap, rules, ℕ}
 use Rattle.tomex_cycle.specs.declared.fetch.Fetch.TheVariants.{At}
-use Rattle.tomex_cycle.proofs.Known.{known_first}
 use Rattle.tomex_cycle.proofs.Outer.{start_shown}
 use Rattle.tomex_cycle.proofs.inner.Inner.restart.Goals as goal
 
@@ -11,6 +10,3 @@ returns-clause-start g c = λ row n. start_shown c.args.image.now row n _ _ _ _ 
     (search rules)
     (search rules)
     c.entry.ensures.loaded.filled
-
-pub returns-clause-known : goal.returns-clause-known
-returns-clause-known g c = known_first c.new-self.result.slots c.new-self-3.result c.new-self.ensures.slots c.new-self-3.ensures.wheel c.new-self-3.ensures.ready
