@@ -1,7 +1,7 @@
 -- The picked operations start one after the other, each over the same memory.
 use Rattle.std.proofs.Common.{length, slice_index_or, slice_set, ℕ, ◌+◌, ◌<◌, ◌≡◌, ◌∙◌, Bool, true, false, arith, refl, Option, Some, None, ap, sym, inl, inr, ◌≤◌}
-use Rattle.std.specs.Prelude.{nat_lt, ◌&&◌, ◌==◌, is_some}
-use Rattle.std.proofs.lemmas.Bool.{cases_Bool, lt-ltb, le-ltb, and_right, eqb-true, eqb-false, cases_order}
+use Rattle.std.specs.Prelude.{nat_lt, ◌&&◌, ◌==◌, ◌≢◌, is_some}
+use Rattle.std.proofs.lemmas.Bool.{both_ways, cases_Bool, lt-ltb, le-ltb, and_right, eqb-true, eqb-false, cases_order}
 use Rattle.std.proofs.lemmas.List.{get_or-set_same, get_or-set_other, length-set}
 use Rattle.tomex_config.specs.Row.{Row}
 use Rattle.tomex_rvexec.specs.Memory.{Bytes}
@@ -68,9 +68,11 @@ pub some_not : {A : Type 0} (o : Option A) → true ≡ is_some o → o ≡ None
 some_not None e f = cc
 some_not (Some x) e f = cc
 
-pub none_by : {A : Type 0} (o : Option A) → is_some o ≡ false → o ≡ None
-none_by None e = refl
-none_by (Some x) e = let z : true ≡ false = e in absurd (cc)
+-- what is left of a set is in it, and isn't what was taken out
+pub left_in : (rest place left x : ℕ) → IsWithout rest place left → x < 128 → has left x ≡ true → (x ≢ place) × (has rest x ≡ true)
+left_in rest place left x without l h =
+    let apart : x ≢ place = λ same. both_ways (has left place) without.same (ap (has left) (sym same) ∙ h) in
+    (apart, sym (without.others x l apart) ∙ h)
 
 -- The loop over the picked places, the least first.
 

@@ -83,7 +83,7 @@ impl<A: Allocator> Inner<A> {
             × (result ≡ Made.Still → AllCalm next (run_to row.now fetcher.old self.new.count)) }
         ensures known { how ≡ Cycle.OfPhases → progress_of result ≡ Progress.Running → AreKnown self.new.pools.slots (next + 1) finishes.new }
         ensures quiet { how ≡ Cycle.OfPhases → result ≡ Made.Still → finishes.new.ready ≡ 0 }
-        ensures results { how ≡ Cycle.OfResults → (finishes.new ≡ finishes.old) × (self.new ≡ record { pools = self.old.pools; registers = self.old.registers; memory = self.old.memory; fetch = self.old.fetch; count = self.old.count; worked = self.old.worked + 1; happened = self.old.happened }) }
+        ensures results { how ≡ Cycle.OfResults → (result ≡ Made.Moving) × (finishes.new ≡ finishes.old) × (self.new ≡ record { pools = self.old.pools; registers = self.old.registers; memory = self.old.memory; fetch = self.old.fetch; count = self.old.count; worked = self.old.worked + 1; happened = self.old.happened }) }
         ensures same { fetcher.new ≡ fetcher.old }
     {
         self.worked += 1;

@@ -195,7 +195,7 @@ impl<'a, A: Allocator> Machine<'a, A> {
         self.cycle
     }
 
-    /// How many cycles were made, or passed though results finish in them. In all others nothing happens.
+    /// How many cycles were made. In those that were passed nothing happens.
     pub fn worked(&self) -> u64
         ensures { result ≡ self.now.worked }
     {

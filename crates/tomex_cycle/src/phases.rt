@@ -1,9 +1,12 @@
 //! The phases of a cycle. Each reads only what no earlier one of the cycle has changed.
 
-ghost use Rattle.std.specs.Prelude.{◌≡◌, ◌<◌, ◌+◌, ◌^◌, None, Ok, false, true};
+ghost use Rattle.std.specs.Prelude.{ℕ, ◌≡◌, ◌<◌, ◌+◌, ◌^◌, IfSome, None, Ok, Some, false, slice_index_or, true};
 ghost use Rattle.tomex_cycle.specs.Finishes.{AreKnown};
 ghost use Rattle.tomex_cycle.specs.Issue.{counted_by};
 ghost use Rattle.tomex_cycle.specs.Phases.{AddressHappens, EndsHappen, MakesStarts, MakesAddress, MakesIssue, MakesEnds, StartsHappen};
+ghost use Rattle.tomex_cycle.specs.Starts.{CanBegin};
+ghost use Rattle.tomex_rvexec.specs.declared.outcome.FaultKind.{FaultKind};
+ghost use Rattle.tomex_tags.specs.declared.station.Station.{Station};
 
 use crate::fetch::Fetch;
 use crate::finishes::Finishes;
@@ -37,6 +40,7 @@ pub fn start<A: Allocator>(
     ensures starts { MakesStarts row.now next pools.old memory.old result.fault pools.new memory.new }
     ensures none { result.any ≡ false → pools.new.slots ≡ pools.old.slots }
     ensures any { result.any ≡ true → StartsHappen row.now next pools.old }
+    ensures fault { IfSome result.fault (λ f. (x : ℕ) × (s : Station) × (slice_index_or pools.old.slots x None ≡ Some s) × (CanBegin memory.old s → ⊥) × (f ≡ record { kind = FaultKind.Access; pc = s.pc })) }
     ensures known { result.fault ≡ None → AreKnown pools.new.slots next finishes.new }
 {
     let starting = starts::starting(pools, row, next);

@@ -180,6 +180,8 @@ fn begin_at<A: Allocator>(
     requires known { AreKnown pools.old.slots next finishes.old }
     ensures slots { (s : Station) → slice_index_or pools.old.slots place None ≡ Some s → CanBegin memory.now s → pools.new.slots ≡ slice_set pools.old.slots place (Some (begun row.now next memory.now s)) }
     ensures good { (s : Station) → slice_index_or pools.old.slots place None ≡ Some s → CanBegin memory.now s → result ≡ None }
+    ensures only { IfSome result (λ f. (s : Station) × (slice_index_or pools.old.slots place None ≡ Some s) × (CanBegin memory.now s → ⊥) × (f ≡ record { kind = FaultKind.Access; pc = s.pc })) }
+    ensures others { (x : ℕ) → x ≢ place → slice_index_or pools.new.slots x None ≡ slice_index_or pools.old.slots x None }
     ensures fault { (s : Station) → slice_index_or pools.old.slots place None ≡ Some s → s.finish ≡ None → (IsInside memory.now (step_in s) → ⊥) → result ≡ Some (record { kind = FaultKind.Access; pc = s.pc }) }
     ensures ages { pools.new.ages ≡ pools.old.ages }
     ensures known { result ≡ None → AreKnown pools.new.slots next finishes.new }
@@ -216,6 +218,7 @@ pub fn begin<A: Allocator>(
     requires known { AreKnown pools.old.slots next finishes.old }
     ensures begins { length pools.old.slots ≡ 96 → AreLow picked → AllCanBegin memory.now picked pools.old.slots → HaveBegun row.now next memory.now picked 96 pools.old pools.new }
     ensures good { length pools.old.slots ≡ 96 → AreLow picked → AllCanBegin memory.now picked pools.old.slots → result ≡ None }
+    ensures fault { IfSome result (λ f. (x : ℕ) × (has picked x ≡ true) × (s : Station) × (slice_index_or pools.old.slots x None ≡ Some s) × (CanBegin memory.now s → ⊥) × (f ≡ record { kind = FaultKind.Access; pc = s.pc })) }
     ensures known { result ≡ None → AreKnown pools.new.slots next finishes.new }
 {
     let mut rest = picked;

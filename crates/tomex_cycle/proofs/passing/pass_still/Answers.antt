@@ -11,4 +11,4 @@ returns-then-take_results-clause-passed g c = record {
 }
 
 pub returns-then-take_results-clause-known : goal.returns-then-take_results-clause-known
-returns-then-take_results-clause-known g c = rw (c.make_cycle.ensures.results refl).0 (rw c.pools-pools.ensures at (c.take_results.ensures.results c.if-take_results.true (c.pass_idle-idle.result + 1) c.pass_idle-idle.ensures.known).1)
+returns-then-take_results-clause-known g c = rw (c.make_cycle.ensures.results refl).1 (rw c.pools-pools.ensures at (c.take_results.ensures.results c.if-take_results.true (c.pass_idle-idle.result + 1) c.pass_idle-idle.ensures.known).1)

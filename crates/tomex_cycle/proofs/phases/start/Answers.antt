@@ -1,3 +1,4 @@
+use Rattle.std.proofs.lemmas.Option.{IfSome_then}
 use Rattle.tomex_cycle.proofs.Happens.{start_happens}
 use Rattle.tomex_cycle.proofs.StartsDone.{start_made}
 use Rattle.tomex_cycle.proofs.StartsNone.{start_none}
@@ -11,3 +12,6 @@ returns-clause-starts g c = start_made c.args.row.now c.args.next c.args.pools.n
 
 pub returns-clause-any : goal.returns-clause-any
 returns-clause-any g c = λ some i h t e past issued shown. start_happens i c.args.row.now t c.args.next c.args.pools.now h c.starting-starting.result past issued shown c.starting-starting.ensures.busy c.starting-starting.ensures.starting e c.starting-starting.type_inv c.if-starting-eq0.false
+
+pub returns-clause-fault : goal.returns-clause-fault
+returns-clause-fault g c = IfSome_then c.begin-fault.result c.begin-fault.ensures.fault (λ f is. (is.0, is.2, is.3, is.4, is.5))
