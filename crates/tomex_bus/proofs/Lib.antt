@@ -2,6 +2,7 @@ pub mod Powers
 pub mod Bits
 pub mod Members
 pub mod Split
+pub mod Counting
 pub mod Picking
 pub mod Turning
 mod Rows

@@ -1,83 +1,34 @@
--- A listing by age begins with the oldest.
-use Rattle.std.proofs.Common.{ℕ, zero, suc, ◌+◌, Bool, true, false, ◌≡◌, ◌≤◌, ◌<◌, ◌∙◌, arith, inl, inr, ap, refl, sym, List, [], ◌∷◌, take, drop, slice_index}
-use Rattle.std.specs.Prelude.{◌==◌, ◌≢◌, ◌||◌}
-use Rattle.std.proofs.lemmas.Bool.{cases_Bool, both_ways, eq-eqb, eqb-true, eqb-false, or_right}
+-- Turns of the search for the oldest, and what is picked of a listing by age.
+use Rattle.std.proofs.Common.{ℕ, zero, suc, ◌+◌, Bool, true, false, ◌≡◌, ◌≤◌, ◌<◌, ◌∙◌, arith, inl, inr, ap, refl, sym, List, [], ◌∷◌, take, slice_index, length}
+use Rattle.std.specs.Prelude.{◌==◌, ◌≢◌, min, count_by}
+use Rattle.std.proofs.lemmas.Bool.{cases_Bool, both_ways, eqb-true, eqb-false}
+use Rattle.std.proofs.lemmas.List.Sums.{sum_by-cons}
 use Rattle.tomex_bus.proofs.Bits.{none_in}
-use Rattle.std.proofs.Math.Numerals.{suc-eq-add-one}
-use Rattle.tomex_bus.specs.Sets.{has, is_in, IsWith, IsWithout}
-use Rattle.tomex_bus.specs.Picks.{IsByAge, IsPicked}
+use Rattle.tomex_bus.proofs.Counting.{count_all, count_listed, count_single, in_head, in_tail, none_counted, size_none, size_with, size_without, some_counted}
+use Rattle.tomex_bus.specs.Sets.{has, is_in, size_of, IsWith, IsWithout}
+use Rattle.tomex_bus.specs.Picks.{IsByAge, IsPicked, Rises}
 
-head_in : (x : ℕ) (xs : List ℕ) → is_in (x ∷ xs) x ≡ true
-head_in x xs = rw (eq-eqb x x refl) refl
-
--- the oldest member is the first of a listing
-pub record IsHead (b : ℕ) (xs : List ℕ) : Type 0 where
-  pub behind : List ℕ
-  pub split : xs ≡ b ∷ behind
-
-pub first_is : (set b : ℕ) (ages xs : List ℕ) → IsByAge set ages xs → b < 128 → has set b ≡ true → ((i : ℕ) → i < 128 → has set i ≡ true → slice_index ages b ≤ slice_index ages i) → IsHead b xs
-first_is set b ages [] by small member least = absurd (both_ways (has set b) (by.members b small) member)
-first_is set b ages (x ∷ xs) by small member least = elim (cases_Bool (x == b)) [
-  | inl e ↦ record { behind = xs; split = ap (λ (y : ℕ). y ∷ xs) (eqb-true x b e) }
-  | inr e ↦
-      let inside : is_in xs b ≡ true = rw e at (sym (by.members b small) ∙ member) in
-      let younger : slice_index ages x < slice_index ages b = by.rises.0 b inside in
-      let low : x < 128 = by.low x (head_in x xs) in
-      let older : slice_index ages b ≤ slice_index ages x = least x low (by.members x low ∙ head_in x xs) in
-      absurd (omega arith)
-]
-
--- without its first, a listing lists what is left
-pub rest_by : (set b new : ℕ) (ages xs : List ℕ) → IsByAge set ages (b ∷ xs) → IsWithout set b new → IsByAge new ages xs
-rest_by set b new ages xs by without = record {
-  members = λ x l. elim (cases_Bool (b == x)) [
-    | inl e ↦
-        let same : b ≡ x = eqb-true b x e in
-        elim (cases_Bool (is_in xs b)) [
-          | inl h ↦ let less : slice_index ages b < slice_index ages b = by.rises.0 b h in absurd (omega arith)
-          | inr h ↦ rw (← same) (without.same ∙ sym h)
-        ]
-    | inr e ↦ without.others x l (λ z. eqb-false b x e (sym z)) ∙ (by.members x l ∙ rw e refl)
-  ];
-  low = λ x h. by.low x (rw h (or_right (b == x) true refl));
-  rises = by.rises.1;
-}
-
-drop_next : (xs ys : List ℕ) (n b : ℕ) → drop n xs ≡ b ∷ ys → drop (suc n) xs ≡ ys
-drop_next [] ys zero b e = absurd (cc)
-drop_next [] ys (suc n) b e = absurd (cc)
-drop_next (x ∷ xs) ys zero b e = cc
-drop_next (x ∷ xs) ys (suc n) b e = drop_next xs ys n b e
-
-or_assoc : (a b c : Bool) → (a || (b || c)) ≡ ((a || b) || c)
-or_assoc true b c = refl
-or_assoc false b c = refl
-
-or_none : (a : Bool) → (a || false) ≡ a
-or_none true = refl
-or_none false = refl
-
-take_next : (xs ys : List ℕ) (n b x : ℕ) → drop n xs ≡ b ∷ ys → is_in (take (suc n) xs) x ≡ (is_in (take n xs) x || (b == x))
-take_next [] ys zero b x e = absurd (cc)
-take_next [] ys (suc n) b x e = absurd (cc)
-take_next (y ∷ xs) ys zero b x e = let same : y ≡ b = cc in rw same (or_none (b == x))
-take_next (y ∷ xs) ys (suc n) b x e = ap (λ p. (y == x) || p) (take_next xs ys n b x e) ∙ or_assoc (y == x) (is_in (take n xs) x) (b == x)
-
-take_whole : (xs : List ℕ) (k n : ℕ) → drop k xs ≡ [] → k ≤ n → take n xs ≡ take k xs
-take_whole [] zero zero e l = refl
-take_whole [] zero (suc n) e l = refl
-take_whole [] (suc k) zero e l = refl
-take_whole [] (suc k) (suc n) e l = refl
-take_whole (x ∷ xs) zero n e l = absurd (cc)
-take_whole (x ∷ xs) (suc k) zero e l = absurd (omega arith)
-take_whole (x ∷ xs) (suc k) (suc n) e l = ap (λ ys. x ∷ ys) (take_whole xs k n e (omega arith))
-
--- so many turns are made
+-- so many turns are made: what is left of the ready ones is younger than what is picked
 pub record AreMade (ready : ℕ) (ages : List ℕ) (turn rest picked : ℕ) : Type 0 where
   pub rest_in : (x : ℕ) → x < 128 → has rest x ≡ true → has ready x ≡ true
   pub picked_in : (x : ℕ) → x < 128 → has picked x ≡ true → has ready x ≡ true
-  pub left : (xs : List ℕ) → IsByAge ready ages xs → IsByAge rest ages (drop turn xs)
-  pub taken : (xs : List ℕ) → IsByAge ready ages xs → (x : ℕ) → x < 128 → has picked x ≡ is_in (take turn xs) x
+  pub apart : (x : ℕ) → x < 128 → has rest x ≡ true → has picked x ≡ false
+  pub left : (x : ℕ) → x < 128 → has ready x ≡ true → has picked x ≡ false → has rest x ≡ true
+  pub oldest : (x y : ℕ) → x < 128 → y < 128 → has picked x ≡ true → has rest y ≡ true → slice_index ages x ≤ slice_index ages y
+  pub taken : size_of picked ≡ turn
+  pub all : size_of picked + size_of rest ≡ size_of ready
+
+pub none_made : (ready : ℕ) (ages : List ℕ) → AreMade ready ages 0 ready 0
+none_made ready ages =
+    let none : size_of 0 ≡ 0 = size_none 0 refl in record {
+      rest_in = λ x l e. e;
+      picked_in = λ x l e. absurd (both_ways (has 0 x) (none_in x) e);
+      apart = λ x l e. none_in x;
+      left = λ x l e f. e;
+      oldest = λ x y l m e f. absurd (both_ways (has 0 x) (none_in x) e);
+      taken = none;
+      all = omega arith;
+    }
 
 same_without : (rest b new x : ℕ) → x < 128 → IsWithout rest b new → has new x ≡ true → has rest x ≡ true
 same_without rest b new x l without e = elim (cases_Bool (b == x)) [
@@ -85,73 +36,139 @@ same_without rest b new x l without e = elim (cases_Bool (b == x)) [
   | inr k ↦ sym (without.others x l (λ z. eqb-false b x k (sym z))) ∙ e
 ]
 
-with_is : (picked b new x : ℕ) → IsWith picked b new → has new x ≡ (has picked x || (b == x))
-with_is picked b new x more = elim (cases_Bool (b == x)) [
-  | inl k ↦ let f : b ≡ x = eqb-true b x k in rw (k, ← f) (more.same ∙ sym (or_right (has picked b) true refl))
-  | inr k ↦ more.others x (λ z. eqb-false b x k (sym z)) ∙ sym (rw k (or_none (has picked x)))
-]
+pub one_more : (ready : ℕ) (ages : List ℕ) (turn rest picked b left with : ℕ) → AreMade ready ages turn rest picked → b < 128 → has rest b ≡ true
+    → ((i : ℕ) → i < 128 → has rest i ≡ true → slice_index ages b ≤ slice_index ages i) → IsWithout rest b left → IsWith picked b with
+    → AreMade ready ages (turn + 1) left with
+one_more ready ages turn rest picked b left with made small member least without more =
+    let off : has picked b ≡ false = made.apart b small member in
+    let picked_more : size_of with ≡ size_of picked + 1 = size_with picked b with small off more in
+    let rest_less : size_of rest ≡ size_of left + 1 = size_without rest b left small member without in
+    let taken : size_of picked ≡ turn = made.taken in
+    let all : size_of picked + size_of rest ≡ size_of ready = made.all in
+    record {
+      rest_in = λ x l e. made.rest_in x l (same_without rest b left x l without e);
+      picked_in = λ x l e. elim (cases_Bool (b == x)) [
+        | inl k ↦ ap (has ready) (sym (eqb-true b x k)) ∙ made.rest_in b small member
+        | inr k ↦ made.picked_in x l (before x k e)
+      ];
+      apart = λ x l e. elim (cases_Bool (b == x)) [
+        | inl k ↦ absurd (both_ways (has left b) without.same (ap (has left) (eqb-true b x k) ∙ e))
+        | inr k ↦ more.others x (λ z. eqb-false b x k (sym z)) ∙ made.apart x l (same_without rest b left x l without e)
+      ];
+      left = λ x l e f. elim (cases_Bool (b == x)) [
+        | inl k ↦ absurd (both_ways (has with b) (ap (has with) (eqb-true b x k) ∙ f) more.same)
+        | inr k ↦
+            let other : x ≢ b = λ z. eqb-false b x k (sym z) in
+            without.others x l other ∙ made.left x l e (sym (more.others x other) ∙ f)
+      ];
+      oldest = λ x y l m e f. elim (cases_Bool (b == x)) [
+        | inl k ↦ rw (← eqb-true b x k) (least y m (same_without rest b left y m without f))
+        | inr k ↦ made.oldest x y l m (before x k e) (same_without rest b left y m without f)
+      ];
+      taken = omega arith;
+      all = omega arith;
+    }
+  where
+    before : (x : ℕ) → (b == x) ≡ false → has with x ≡ true → has picked x ≡ true
+    before x k e = sym (more.others x (λ z. eqb-false b x k (sym z))) ∙ e
 
-pub one_more : (ready : ℕ) (ages : List ℕ) (turn rest picked b left with : ℕ) → AreMade ready ages turn rest picked → b < 128 → has rest b ≡ true → ((i : ℕ) → i < 128 → has rest i ≡ true → slice_index ages b ≤ slice_index ages i)
-    → IsWithout rest b left → IsWith picked b with → AreMade ready ages (turn + 1) left with
-one_more ready ages turn rest picked b left with made small member least without more = record {
-  rest_in = λ x l e. made.rest_in x l (same_without rest b left x l without e);
-  picked_in = λ x l e. elim (cases_Bool (b == x)) [
-    | inl k ↦ let f : b ≡ x = eqb-true b x k in rw (← f) (made.rest_in b small member)
-    | inr k ↦ made.picked_in x l (sym (more.others x (λ z. eqb-false b x k (sym z))) ∙ e)
-  ];
-  left = λ xs by.
-      let before = made.left xs by in
-      let head = first_is rest b ages (drop turn xs) before small member least in
-      let next : drop (turn + 1) xs ≡ head.behind = ap (λ (n : ℕ). drop n xs) (sym (suc-eq-add-one turn)) ∙ drop_next xs head.behind turn b head.split in
-      rw next (rest_by rest b left ages head.behind (rw head.split at before) without);
-  taken = λ xs by x l.
-      let before = made.left xs by in
-      let head = first_is rest b ages (drop turn xs) before small member least in
-      with_is picked b with x more ∙ (ap (λ p. p || (b == x)) (made.taken xs by x l) ∙ (sym (take_next xs head.behind turn b x head.split) ∙ ap (λ (n : ℕ). is_in (take n xs) x) (suc-eq-add-one turn)));
+-- all turns are made, or none is left
+pub picked_by : (ready : ℕ) (ages : List ℕ) (turn n rest picked : ℕ) → AreMade ready ages turn rest picked → size_of picked ≡ min n (size_of ready) → IsPicked ready ages n picked
+picked_by ready ages turn n rest picked made count = record {
+  inside = made.picked_in;
+  oldest = λ x y l m e f g. made.oldest x y l m e (made.left y m f g);
+  count = count;
 }
 
-none_left : (xs : List ℕ) (ages : List ℕ) → IsByAge 0 ages xs → xs ≡ []
-none_left [] ages by = refl
-none_left (x ∷ xs) ages by = absurd (both_ways (is_in (x ∷ xs) x) (sym (by.members x (by.low x (head_in x xs))) ∙ none_in x) (head_in x xs))
+pub all_taken : (ready : ℕ) (ages : List ℕ) (turn n rest picked : ℕ) → AreMade ready ages turn rest picked → rest ≡ 0 → turn ≤ n → IsPicked ready ages n picked
+all_taken ready ages turn n rest picked made empty l =
+    let none : size_of rest ≡ 0 = size_none rest empty in
+    let taken : size_of picked ≡ turn = made.taken in
+    let all : size_of picked + size_of rest ≡ size_of ready = made.all in
+    picked_by ready ages turn n rest picked made (omega arith)
 
-pub all_taken : (ready : ℕ) (ages : List ℕ) (turn n rest picked : ℕ) → AreMade ready ages turn rest picked → rest ≡ 0 → turn ≤ n → (xs : List ℕ) → IsByAge ready ages xs → (x : ℕ) → x < 128 → has picked x ≡ is_in (take n xs) x
-all_taken ready ages turn n rest picked made none l xs by x small =
-    let before : IsByAge 0 ages (drop turn xs) = rw none at (made.left xs by) in
-    made.taken xs by x small ∙ ap (λ ys. is_in ys x) (sym (take_whole xs turn n (none_left (drop turn xs) ages before) l))
-
-none_taken : (n : ℕ) → take {A = ℕ} n [] ≡ []
-none_taken zero = refl
-none_taken (suc n) = refl
+pub n_taken : (ready : ℕ) (ages : List ℕ) (n rest picked : ℕ) → AreMade ready ages n rest picked → IsPicked ready ages n picked
+n_taken ready ages n rest picked made =
+    let taken : size_of picked ≡ n = made.taken in
+    let all : size_of picked + size_of rest ≡ size_of ready = made.all in
+    picked_by ready ages n n rest picked made (omega arith)
 
 -- of none there are none
-pub none_picked : (n : ℕ) (ages : List ℕ) → IsPicked 0 ages n 0
-none_picked n ages = record {
-  inside = λ x l e. e;
-  oldest = λ xs by x l. none_in x ∙ sym (ap (λ (ys : List ℕ). is_in (take n ys) x) (none_left xs ages by) ∙ ap (λ (ys : List ℕ). is_in ys x) (none_taken n));
-}
+pub none_picked : (set n : ℕ) (ages : List ℕ) → set ≡ 0 → IsPicked set ages n 0
+none_picked set n ages e =
+    let none : size_of 0 ≡ 0 = size_none 0 refl in
+    let empty : size_of set ≡ 0 = size_none set e in record {
+      inside = λ x l h. absurd (both_ways (has 0 x) (none_in x) h);
+      oldest = λ x y l m h k left. absurd (both_ways (has 0 x) (none_in x) h);
+      count = omega arith;
+    }
 
 -- of one member the oldest is that one
 pub single_picked : (set n : ℕ) (ages : List ℕ) → 0 < n → ((a b : ℕ) → a < 128 → b < 128 → has set a ≡ true → has set b ≡ true → a ≡ b) → IsPicked set ages n set
-single_picked set n ages some single = record {
-  inside = λ x l e. e;
-  oldest = λ xs by x l. by.members x l ∙ sym (ap (λ (ys : List ℕ). is_in ys x) (whole n xs some by));
-}
-  where
-    whole : (n : ℕ) (xs : List ℕ) → 0 < n → IsByAge set ages xs → take n xs ≡ xs
-    whole zero xs some by = absurd (omega arith)
-    whole (suc n) [] some by = refl
-    whole (suc n) (x ∷ []) some by = rw (none_taken n) refl
-    whole (suc n) (x ∷ (y ∷ ys)) some by =
-        let first : is_in (x ∷ (y ∷ ys)) x ≡ true = head_in x (y ∷ ys) in
-        let second : is_in (x ∷ (y ∷ ys)) y ≡ true = rw (head_in y ys) (or_right (x == y) true refl) in
-        let lx : x < 128 = by.low x first in
-        let ly : y < 128 = by.low y second in
-        let same : x ≡ y = single x y lx ly (by.members x lx ∙ first) (by.members y ly ∙ second) in
-        let older : slice_index ages x < slice_index ages y = by.rises.0 y (head_in y ys) in
-        let k : slice_index ages y < slice_index ages y = rw same at older in
-        absurd (omega arith)
+single_picked set n ages some single =
+    let few : size_of set ≤ 1 = count_single (has set) 128 single in record {
+      inside = λ x l e. e;
+      oldest = λ x y l m e f left. absurd (both_ways (has set y) left f);
+      count = omega arith;
+    }
 
 -- of a set that isn't empty some are taken by the time that none is left
 pub taken_some : (ready turn rest picked : ℕ) → (turn ≡ 0 → rest ≡ ready) → (0 < turn → picked ≢ 0) → rest ≡ 0 → ready ≢ 0 → picked ≢ 0
 taken_some ready zero rest picked first some none apart = absurd (apart (sym (first refl) ∙ none))
 taken_some ready (suc turn) rest picked first some none apart = some (omega arith)
+
+-- Of a listing by age the first n are picked.
+
+take_inside : (n x : ℕ) (xs : List ℕ) → is_in (take n xs) x ≡ true → is_in xs x ≡ true
+take_inside zero x xs e = absurd (cc)
+take_inside (suc n) x [] e = absurd (cc)
+take_inside (suc n) x (y ∷ ys) e = elim (cases_Bool (y == x)) [
+  | inl k ↦ rw k refl
+  | inr k ↦ in_tail y x ys (take_inside n x ys (rw k at e))
+]
+
+first_taken : (p : ℕ → Bool) (ages : List ℕ) (n : ℕ) (xs : List ℕ) → Rises ages xs
+    → ((x y : ℕ) → is_in xs x ≡ true → is_in xs y ≡ true → p x ≡ true → p y ≡ false → slice_index ages x ≤ slice_index ages y)
+    → count_by p xs ≡ min n (length xs) → (x : ℕ) → is_in xs x ≡ true → p x ≡ is_in (take n xs) x
+first_taken p ages n [] rises oldest count x h = absurd (cc)
+first_taken p ages zero (y ∷ ys) rises oldest count x h = none_counted p (y ∷ ys) x (count ∙ omega arith) h
+first_taken p ages (suc n) (y ∷ ys) rises oldest count x h = elim (cases_Bool (p y)) [
+  | inl on ↦
+      let more : count_by p (y ∷ ys) ≡ 1 + count_by p ys = rw (sum_by-cons, on) refl in
+      let rest : count_by p ys ≡ min n (length ys) = omega arith in
+      elim (cases_Bool (y == x)) [
+        | inl k ↦ ap p (sym (eqb-true y x k)) ∙ (on ∙ sym (rw k refl))
+        | inr k ↦
+            first_taken p ages n ys rises.1 (λ a b i j. oldest a b (in_tail y a ys i) (in_tail y b ys j)) rest x (rw k at h)
+            ∙ sym (rw k refl)
+      ]
+  | inr off ↦
+      let same : count_by p (y ∷ ys) ≡ count_by p ys = rw (sum_by-cons, off) (omega arith) in
+      let some = some_counted p ys (omega arith) in
+      let older : slice_index ages some.0 ≤ slice_index ages y = oldest some.0 y (in_tail y some.0 ys some.1) (in_head y ys) some.2 off in
+      let younger : slice_index ages y < slice_index ages some.0 = rises.0 some.0 some.1 in
+      absurd (omega arith)
+]
+
+pub first_picked : (set n picked : ℕ) (ages xs : List ℕ) → IsPicked set ages n picked → IsByAge set ages xs → (x : ℕ) → x < 128 → has picked x ≡ is_in (take n xs) x
+first_picked set n picked ages xs pick by x l =
+    let size : size_of set ≡ length xs = count_listed (has set) ages xs by.rises by.low (λ y m e. sym (by.members y m) ∙ e)
+    ∙ count_all (has set) xs (λ y h. by.members y (by.low y h) ∙ h) in
+    let some : size_of picked ≡ count_by (has picked) xs = count_listed (has picked) ages xs by.rises by.low (λ y m e. sym (by.members y m) ∙ pick.inside y m e) in
+    let count : size_of picked ≡ min n (size_of set) = pick.count in
+    elim (cases_Bool (is_in xs x)) [
+      | inl h ↦
+          first_taken (has picked) ages n xs by.rises
+          (λ a b i j e f. pick.oldest a b (by.low a i) (by.low b j) e (by.members b (by.low b j) ∙ j) f)
+          (sym some ∙ (count ∙ ap (min n) size)) x h
+      | inr h ↦ outside h
+    ]
+  where
+    outside : is_in xs x ≡ false → has picked x ≡ is_in (take n xs) x
+    outside h = elim (cases_Bool (has picked x)) [
+      | inl e ↦ absurd (both_ways (is_in xs x) h (sym (by.members x l) ∙ pick.inside x l e))
+      | inr e ↦ e ∙ sym (elim (cases_Bool (is_in (take n xs) x)) [
+        | inl k ↦ absurd (both_ways (is_in xs x) h (take_inside n x xs k))
+        | inr k ↦ k
+      ])
+    ]

@@ -1,6 +1,6 @@
 -- Which of those that are ready are served: the oldest.
-use Rattle.std.specs.Prelude.{ℕ, true, ◌≡◌, ◌<◌, List, [], ◌∷◌, ⊤, take, slice_index}
-use Rattle.tomex_bus.specs.Sets.{has, is_in}
+use Rattle.std.specs.Prelude.{ℕ, true, false, ◌≡◌, ◌<◌, ◌≤◌, min, List, [], ◌∷◌, ⊤, slice_index}
+use Rattle.tomex_bus.specs.Sets.{has, is_in, size_of}
 
 -- one is older than each of a list: its age, the number of its issue, is less
 abbrev pub IsOlder : List ℕ → ℕ → List ℕ → Type 0
@@ -17,7 +17,9 @@ pub record IsByAge (set : ℕ) (ages xs : List ℕ) : Type 0 where
   pub low : (x : ℕ) → is_in xs x ≡ true → x < 128
   pub rises : Rises ages xs
 
--- The n oldest of a set, all of it where there are no more: of its members, from the oldest on, the first n.
+-- The n oldest of a set, all of it where there are no more: no member that is left issued before one that is picked.
 pub record IsPicked (set : ℕ) (ages : List ℕ) (n picked : ℕ) : Type 0 where
   pub inside : (x : ℕ) → x < 128 → has picked x ≡ true → has set x ≡ true
-  pub oldest : (xs : List ℕ) → IsByAge set ages xs → (x : ℕ) → x < 128 → has picked x ≡ is_in (take n xs) x
+  pub oldest : (x y : ℕ) → x < 128 → y < 128 → has picked x ≡ true → has set y ≡ true → has picked y ≡ false
+      → slice_index ages x ≤ slice_index ages y
+  pub count : size_of picked ≡ min n (size_of set)

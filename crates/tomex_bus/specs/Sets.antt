@@ -1,5 +1,5 @@
 -- Sets of numbers below 128, a bit each.
-use Rattle.std.specs.Prelude.{ℕ, Bool, true, false, ◌≡◌, ◌≢◌, ◌<◌, ◌==◌, List, [], ◌∷◌, ◌||◌}
+use Rattle.std.specs.Prelude.{ℕ, zero, suc, ◌+◌, Bool, true, false, ◌≡◌, ◌≢◌, ◌<◌, ◌==◌, if◌then◌else◌, List, [], ◌∷◌, ◌||◌}
 use Rattle.std.specs.Int.{bit_at}
 
 abbrev pub has : ℕ → ℕ → Bool
@@ -18,6 +18,15 @@ pub record IsWithout (set number new : ℕ) : Type 0 where
 -- no two numbers are in the set
 abbrev pub IsSingle : ℕ → Type 0
 IsSingle set = (a b : ℕ) → a < 128 → b < 128 → has set a ≡ true → has set b ≡ true → a ≡ b
+
+-- how many numbers below n pass a test
+unfoldable pub count_below : (ℕ → Bool) → ℕ → ℕ
+count_below test zero = 0
+count_below test (suc n) = (if test n then 1 else 0) + count_below test n
+
+-- how many members a set has
+abbrev pub size_of : ℕ → ℕ
+size_of set = count_below (has set) 128
 
 -- a number stands in a list
 abbrev pub is_in : List ℕ → ℕ → Bool

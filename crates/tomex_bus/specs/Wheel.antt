@@ -1,50 +1,50 @@
--- A wheel of the cycles ahead. It is seen as its pairs: how far ahead a number is due, and the number.
-use Rattle.std.specs.Prelude.{ℕ, Bool, true, false, ◌≡◌, ◌<◌, ◌+◌, ◌%◌, ◌==◌, nat_lt, ◌&&◌, ◌||◌, List, Option, Some, None, slice_index, length}
+-- A wheel of the cycles ahead is seen as its pairs: how far ahead a number is due, and the number. They are held by how
+-- far ahead: for each of the 64 cycles ahead the set of the numbers that are due in it.
+use Rattle.std.specs.Prelude.{ℕ, Bool, true, false, ◌≡◌, ◌<◌, ◌+◌, ◌==◌, nat_lt, ◌&&◌, ◌||◌, List, ◌++◌, take, drop, Option, Some, None, slice_index, length}
 use Rattle.tomex_bus.specs.Sets.{has}
 
--- a ring of 64 sets, the one of ahead 0 in the place `head`
-pub record Ring : Type 0 where
-  pub sets : List ℕ
-  pub head : ℕ
-
--- whether a pair stands in it: so far ahead the number is due
-abbrev pub is_due : Ring → ℕ → ℕ → Bool
-is_due w ahead number = nat_lt ahead 64 && has (slice_index w.sets ((w.head + ahead) % 64)) number
+-- whether a pair is one of them: the number is due that many cycles ahead
+abbrev pub is_due : List ℕ → ℕ → ℕ → Bool
+is_due pairs ahead number = nat_lt ahead 64 && has (slice_index pairs ahead) number
 
 -- no pair
-abbrev pub IsEmpty : Ring → Type 0
-IsEmpty w = (ahead number : ℕ) → is_due w ahead number ≡ false
+abbrev pub IsEmpty : List ℕ → Type 0
+IsEmpty pairs = (ahead number : ℕ) → is_due pairs ahead number ≡ false
 
 -- no pair of the number
-abbrev pub Lacks : Ring → ℕ → Type 0
-Lacks w number = (ahead : ℕ) → is_due w ahead number ≡ false
+abbrev pub Lacks : List ℕ → ℕ → Type 0
+Lacks pairs number = (ahead : ℕ) → is_due pairs ahead number ≡ false
 
 -- one pair more
-abbrev pub HasPut : ℕ → ℕ → Ring → Ring → Type 0
+abbrev pub HasPut : ℕ → ℕ → List ℕ → List ℕ → Type 0
 HasPut ahead number old new = (a x : ℕ) → is_due new a x ≡ (is_due old a x || ((a == ahead) && (x == number)))
 
 -- nothing is due sooner
-abbrev pub IsClearTo : Ring → ℕ → Type 0
-IsClearTo w ahead = (a x : ℕ) → a < ahead → is_due w a x ≡ false
+abbrev pub IsClearTo : List ℕ → ℕ → Type 0
+IsClearTo pairs ahead = (a x : ℕ) → a < ahead → is_due pairs a x ≡ false
 
 -- the least ahead, none where there is no pair
-abbrev pub IsNext : Ring → Option ℕ → Type 0
-IsNext w None = IsEmpty w
-IsNext w (Some ahead) = ((number : ℕ) × (is_due w ahead number ≡ true)) × IsClearTo w ahead
+abbrev pub IsNext : List ℕ → Option ℕ → Type 0
+IsNext pairs None = IsEmpty pairs
+IsNext pairs (Some ahead) = ((number : ℕ) × (is_due pairs ahead number ≡ true)) × IsClearTo pairs ahead
 
 -- so many cycles are taken off each ahead
-abbrev pub HasPassed : ℕ → Ring → Ring → Type 0
+abbrev pub HasPassed : ℕ → List ℕ → List ℕ → Type 0
 HasPassed cycles old new = (a x : ℕ) → is_due new a x ≡ is_due old (a + cycles) x
 
 -- the numbers of ahead 0
-abbrev pub AreDue : Ring → ℕ → Type 0
-AreDue w due = (x : ℕ) → has due x ≡ is_due w 0 x
+abbrev pub AreDue : List ℕ → ℕ → Type 0
+AreDue pairs due = (x : ℕ) → has due x ≡ is_due pairs 0 x
 
 -- they are taken out, and no others
-abbrev pub HasGiven : Ring → Ring → Type 0
+abbrev pub HasGiven : List ℕ → List ℕ → Type 0
 HasGiven old new = (a x : ℕ) → is_due new a x ≡ (nat_lt 0 a && is_due old a x)
 
--- a ring, and in which places its sets have members
+-- a ring of sets, turned so that the one in the place `head` comes first
+unfoldable pub turned : List ℕ → ℕ → List ℕ
+turned sets head = drop head sets ++ take head sets
+
+-- a ring of 64 sets, and in which places its sets have members
 pub record IsRing (sets : List ℕ) (filled head : ℕ) : Type 0 where
   pub count : length sets ≡ 64
   pub inside : head < 64

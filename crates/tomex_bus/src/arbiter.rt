@@ -49,9 +49,8 @@ fn pick_by_age(ready: u128, ages: &[u32; 128], n: u8) -> u128
 
 /// The n oldest of the ready ones, all of them where there are no more than n.
 ///
-/// Ages are by number: the count of instructions that issued before, so no two that are ready have
-/// one age. It serves units, memory ports and common data buses.
-#[inline(always)]
+/// Ages are by number: the count of instructions that issued before. Of members of one age, of which a machine has
+/// none, any may be served. It serves units, memory ports and common data buses.
 #[inline(always)]
 pub fn pick(ready: u128, ages: &[u32; 128], n: u8) -> u128
     ensures picked { IsPicked ready ages.now n result }

@@ -21,11 +21,12 @@ pub struct Wheel {
 }
 
 impl Model for Wheel {
-    ghost use Rattle.tomex_bus.specs.Wheel.{IsRing, Ring};
+    ghost use Rattle.std.specs.Prelude.{ℕ, List};
+    ghost use Rattle.tomex_bus.specs.Wheel.{IsRing, turned};
 
-    ghost Value = { Ring };
+    ghost Value = { List ℕ };
 
-    ghost view = { λ w. record { sets = w.sets; head = w.head } };
+    ghost view = { λ w. turned w.sets w.head };
 
     ghost invariant = { λ w. IsRing w.sets w.filled w.head };
 }

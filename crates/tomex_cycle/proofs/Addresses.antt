@@ -26,7 +26,8 @@ use Rattle.tomex_timing.specs.Tables.{field_of, field_from, producer}
 use Rattle.tomex_cycle.proofs.Fields.{there_test, tag_there, timed_part, issued_part}
 use Rattle.tomex_cycle.proofs.Places.{place_low, low, station_here, is_vacant, vacant, least_test}
 use Rattle.tomex_cycle.proofs.Totals.{reach, place_there, issued_more}
-use Rattle.tomex_membuf.specs.Addresses.{first_waiting, has_base, next_address, where_base_is_there, is_value}
+use Rattle.tomex_membuf.specs.Addresses.{has_base, is_value}
+use Rattle.tomex_cycle.proofs.ByAge.{first_waiting, next_address, where_base_is_there}
 use Rattle.tomex_tags.specs.Contents.{address_from, is_memory_op, lacks_address, with_address}
 use Rattle.tomex_tags.specs.Operands.{is_there}
 use Rattle.tomex_tags.specs.Places.{place_at, place_of_tag}

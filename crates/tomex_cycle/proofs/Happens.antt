@@ -28,7 +28,7 @@ use Rattle.tomex_cycle.proofs.Shifting.{run_split}
 use Rattle.tomex_cycle.proofs.Orders.{order_is}
 use Rattle.tomex_cycle.proofs.Addresses.{waiting_is}
 use Rattle.tomex_bus.specs.Picks.{IsByAge}
-use Rattle.tomex_membuf.specs.Addresses.{first_waiting, next_address, where_base_is_there}
+use Rattle.tomex_cycle.proofs.ByAge.{first_waiting, next_address, where_base_is_there}
 use Rattle.tomex_cycle.specs.declared.fetch.Fetch.{Fetch}
 use Rattle.tomex_rvexec.specs.Memory.{Bytes}
 use Rattle.tomex_rvexec.specs.declared.outcome.Fault.{Fault}

@@ -1,14 +1,15 @@
 -- What is known of the finishes ahead once a cycle has ended: what was due is over or waits for a bus.
-use Rattle.std.proofs.Common.{ℕ, zero, suc, ◌+◌, ◌^◌, ◌<◌, ◌≤◌, ◌≡◌, ◌∙◌, Bool, true, false, arith, refl, ap, sym, inl, inr, List, [], ◌∷◌, Option, Some, None, length, slice_index_or, option_map}
-use Rattle.std.specs.Prelude.{nat_le, nat_lt, ◌==◌, ◌≢◌, ◌&&◌, ◌||◌, ◌⊎◌, not, is_some, take}
-use Rattle.std.proofs.lemmas.Bool.{and_parts, and_right, both_ways, cases_Bool, eq-eqb, eqb-true, eqb-false, le-leb, le-ltb, leb-true, lt-leb, lt-ltb, ltb-true, ltb-false, ne_eqb}
+use Rattle.std.proofs.Common.{ℕ, ◌+◌, ◌^◌, ◌<◌, ◌≤◌, ◌≡◌, ◌∙◌, Bool, true, false, arith, refl, ap, sym, inl, inr, List, Option, Some, None, length, slice_index_or, option_map}
+use Rattle.std.specs.Prelude.{nat_le, nat_lt, ◌==◌, ◌≢◌, ◌&&◌, ◌||◌, ◌⊎◌, not, is_some}
+use Rattle.std.proofs.lemmas.Bool.{and_parts, and_right, both_ways, cases_Bool, eqb-true, eqb-false, le-leb, le-ltb, leb-true, lt-leb, lt-ltb, ltb-true, ltb-false, ne_eqb}
 use Rattle.std.proofs.lemmas.List.{get_or_past}
 use Rattle.tomex_rvdec.specs.Operands.{dest_of}
 use Rattle.tomex_rvdec.specs.declared.pool.UnitId.TheVariants as units
 use Rattle.tomex_rvexec.specs.Steps.{is_number}
-use Rattle.tomex_bus.specs.Picks.{IsByAge, IsPicked}
-use Rattle.tomex_bus.specs.Sets.{has, is_in}
-use Rattle.tomex_bus.specs.Wheel.{Ring, is_due}
+use Rattle.tomex_bus.specs.Picks.{IsPicked}
+use Rattle.tomex_bus.proofs.Picking.{none_picked}
+use Rattle.tomex_bus.specs.Sets.{has}
+use Rattle.tomex_bus.specs.Wheel.{is_due}
 use Rattle.tomex_bus.proofs.Bits.{agreed, member_some, none_in}
 use Rattle.tomex_tags.proofs.Filing.{of_busy}
 use Rattle.tomex_tags.specs.Contents.{hears}
@@ -165,7 +166,7 @@ pub leaves_known : (st : Pools) (buses next due found sending silent ending : �
     → ((x : ℕ) → x < 128 → has silent x ≡ (has due x && not (has found x))) → ((x : ℕ) → has ending x ≡ (has sending x || has silent x))
     → h.wheel ≡ g.wheel → ((x : ℕ) → x < 128 → has h.ready x ≡ (has g.ready x && not (has sending x) || has found x)) → LeavesKnown st.slots next ending h
 leaves_known st buses next due found sending silent ending f g h filled known turned with_result picked but either wheel ready new sent count after =
-    let on : (a x : ℕ) → is_due h.wheel a x ≡ is_due f.wheel (a + 1) x = λ a x. ap (λ (w : Ring). is_due w a x) wheel ∙ turned.wheel a x in
+    let on : (a x : ℕ) → is_due h.wheel a x ≡ is_due f.wheel (a + 1) x = λ a x. ap (λ (w : List ℕ). is_due w a x) wheel ∙ turned.wheel a x in
     let done : AreDone st.slots next due = all_due st.slots next due f g known turned in
     let inside : (x : ℕ) → x < 128 → has sending x ≡ true → can_send next (slice_index_or st.slots x None) ≡ true = λ x l e. sym (known.ready x l) ∙ picked.inside x l e in
     let ends : (x : ℕ) → x < 128 → has ending x ≡ (has sending x || (finishes next (slice_index_or st.slots x None) && not (finishes next (slice_index_or st.slots x None) && writes (slice_index_or st.slots x None)))) = λ x l.
@@ -243,20 +244,6 @@ one_branch slots next due branches served x done serves both l e =
 pub nothing_found : (test : ℕ → Bool) (due : ℕ) → due ≡ 0 → (x : ℕ) → x < 128 → has 0 x ≡ (has due x && test x)
 nothing_found test due over x l = rw (over, none_in x) refl
 
--- of none that is ready none is picked
-pub none_picked : (ready : ℕ) (ages : List ℕ) (n : ℕ) → ready ≡ 0 → IsPicked ready ages n 0
-none_picked ready ages n none = record {
-  inside = λ x l e. absurd (both_ways (has 0 x) (none_in x) e);
-  oldest = λ xs by x l. none_in x ∙ none_of xs by n x;
-}
-  where
-    none_of : (xs : List ℕ) → IsByAge ready ages xs → (m x : ℕ) → false ≡ is_in (take m xs) x
-    none_of [] by zero x = refl
-    none_of [] by (suc m) x = refl
-    none_of (y ∷ ys) by m x =
-        let first : is_in (y ∷ ys) y ≡ true = rw (eq-eqb y y refl) refl in
-        absurd (both_ways (has ready y) (rw none (none_in y)) (by.members y (by.low y first) ∙ first))
-
 -- and where nothing is sent either, nothing ends
 pub nothing_ends : (sending : ℕ) → sending ≡ 0 → (x : ℕ) → has 0 x ≡ (has sending x || has 0 x)
 nothing_ends sending none x = rw (none, none_in x) refl
@@ -271,8 +258,8 @@ nothing_sent sending g none x l = rw (none, none_in x) (stays (has g.ready x))
 
 -- where nothing finishes and no result waits, nothing ends
 pub ending_none : (st : Pools) (buses next due : ℕ) (f g : Finishes) → AreBusy st.slots st.busy st.ages → AreKnown st.slots next f → HaveTurned f g due → due ≡ 0 → g.ready ≡ 0 → AreEnding st buses next 0
-ending_none st buses next due f g filled known turned e none = are_ending st buses next due 0 0 0 0 f g filled known turned (nothing_found _ due e) (none_picked f.ready st.ages buses (sym turned.ready ∙ none)) (nothing_found _ due e) (nothing_ends 0 refl)
+ending_none st buses next due f g filled known turned e none = are_ending st buses next due 0 0 0 0 f g filled known turned (nothing_found _ due e) (none_picked f.ready buses st.ages (sym turned.ready ∙ none)) (nothing_found _ due e) (nothing_ends 0 refl)
 
 -- and what is known stays right
 pub leaves_none : (st : Pools) (buses next due : ℕ) (f g : Finishes) → AreBusy st.slots st.busy st.ages → AreKnown st.slots next f → HaveTurned f g due → due ≡ 0 → g.ready ≡ 0 → LeavesKnown st.slots next 0 g
-leaves_none st buses next due f g filled known turned e none = leaves_known st buses next due 0 0 0 0 f g g filled known turned (nothing_found _ due e) (none_picked f.ready st.ages buses (sym turned.ready ∙ none)) (nothing_found _ due e) (nothing_ends 0 refl) refl (nothing_sent 0 g refl)
+leaves_none st buses next due f g filled known turned e none = leaves_known st buses next due 0 0 0 0 f g g filled known turned (nothing_found _ due e) (none_picked f.ready buses st.ages (sym turned.ready ∙ none)) (nothing_found _ due e) (nothing_ends 0 refl) refl (nothing_sent 0 g refl)

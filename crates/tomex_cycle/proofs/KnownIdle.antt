@@ -5,7 +5,7 @@ use Rattle.std.proofs.lemmas.Bool.{both_ways, cases_Bool, eq-eqb, eqb-true, eqb-
 use Rattle.std.proofs.lemmas.List.{get_or_past}
 use Rattle.tomex_rvdec.specs.Operands.{dest_of}
 use Rattle.tomex_rvexec.specs.Steps.{is_number}
-use Rattle.tomex_bus.specs.Wheel.{HasPassed, IsClearTo, IsNext, Ring, is_due}
+use Rattle.tomex_bus.specs.Wheel.{HasPassed, IsClearTo, IsNext, is_due}
 use Rattle.tomex_bus.proofs.Bits.{none_in}
 use Rattle.tomex_tags.specs.declared.station.Station.{Station}
 use Rattle.tomex_cycle.specs.Ends.{can_send, finishes, is_done_before}
@@ -73,7 +73,7 @@ known_later slots cycle k f g known none clear passed ready =
       gone = λ x l. stay_later cycle (cycle + k + 1) (slice_index_or slots x None) (omega arith) (known.gone x l) (λ v from to. free x v l from (omega arith));
     }
 
-pub clear_idle : (next : Option ℕ) (w : Ring) (most n : ℕ) → IsNext w next → IsIdle next most n → IsClearTo w n
+pub clear_idle : (next : Option ℕ) (w : List ℕ) (most n : ℕ) → IsNext w next → IsIdle next most n → IsClearTo w n
 clear_idle None w most n empty idle a x l = empty a x
 clear_idle (Some ahead) w most n is idle a x l = let few : n ≤ ahead = idle.0 in is.1 a x (omega arith)
 

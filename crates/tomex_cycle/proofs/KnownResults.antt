@@ -17,7 +17,8 @@ use Rattle.tomex_cycle.specs.declared.finishes.Finishes.{Finishes}
 use Rattle.tomex_cycle.proofs.Happens.{member_of}
 use Rattle.tomex_cycle.proofs.EndsNone.{none_over}
 use Rattle.tomex_cycle.proofs.Known.{all_ahead}
-use Rattle.tomex_cycle.proofs.KnownEnds.{all_due, branch_places, leaves_known, none_picked, nothing_ends}
+use Rattle.tomex_cycle.proofs.KnownEnds.{all_due, branch_places, leaves_known, nothing_ends}
+use Rattle.tomex_bus.proofs.Picking.{none_picked}
 
 -- of what is due none is outside the results
 pub are_results : (slots : List (Option Station)) (next first writing served results others : ℕ) (f : Finishes) → AreKnown slots next f → AreDue f.wheel first → IsSetOf writes slots writing → ((x : ℕ) → x < 128 → has served x ≡ is_served units.Bru x)
@@ -84,7 +85,7 @@ known_results st next due f g h filled known turned results none wheel ready =
     none_over st.slots next 0 h known.places
     (leaves_known st 0 next due due 0 0 0 f g h filled known turned
     (λ x l. due_writes st.slots next due x known.places (all_due st.slots next due f g known turned) results l)
-    (none_picked f.ready st.ages 0 none) (λ x l. rw (none_in x) (silent (has due x))) (nothing_ends 0 refl) wheel
+    (none_picked f.ready 0 st.ages none) (λ x l. rw (none_in x) (silent (has due x))) (nothing_ends 0 refl) wheel
     (λ x l. rw (ready, turned.ready, none, none_in x) refl))
     refl
   where

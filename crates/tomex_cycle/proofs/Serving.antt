@@ -8,6 +8,7 @@ use Rattle.std.proofs.lemmas.List.Sums.{sum_by-cons}
 use Rattle.tomex_timing.specs.declared.times.Done.{Done}
 use Rattle.tomex_bus.specs.Sets.{has, is_in}
 use Rattle.tomex_bus.specs.Picks.{IsByAge, IsPicked, Rises}
+use Rattle.tomex_bus.proofs.Picking.{first_picked}
 use Rattle.tomex_cycle.specs.Views.{holds_place, order_of, place_of}
 use Rattle.tomex_cycle.proofs.Orders.{in-append}
 
@@ -171,4 +172,4 @@ some_by_age busy set ages xs by inside = record {
 pub picked_goes : (t n busy set picked : ℕ) (ages : List ℕ) (goes : Done → Bool) (h : List Done) → IsByAge busy ages (order_of t h) → ((x : ℕ) → x < 128 → has set x ≡ true → has busy x ≡ true) → IsPicked set ages n picked → AreServed t n set goes h → AreAlone t goes h
     → (x : ℕ) → x < 128 → has picked x ≡ goes_at t goes h x
 picked_goes t n busy set picked ages goes h by inside pick each alone x l =
-    pick.oldest (filter (has set) (order_of t h)) (some_by_age busy set ages (order_of t h) by inside) x l ∙ (served t n set goes h each alone).taken x
+    first_picked set n picked ages (filter (has set) (order_of t h)) pick (some_by_age busy set ages (order_of t h) by inside) x l ∙ (served t n set goes h each alone).taken x

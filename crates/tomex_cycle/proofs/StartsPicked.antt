@@ -16,7 +16,7 @@ use Rattle.tomex_timing.specs.History.{cycle_of, is_memory, is_of, last_address,
 use Rattle.tomex_timing.specs.Recurrence.{AreTimed, IsTimed, IsLeast, are_conflicts_finished, can_address, can_start, conflicts, has_unit}
 use Rattle.tomex_timing.specs.Tables.{field_of, field_from, tag_at, tag_of}
 use Rattle.tomex_cycle.specs.Run.{AreIssuedBy}
-use Rattle.tomex_cycle.specs.Starts.{wanted, kind_if, is_among, kind_of, IsStarting, AreReady}
+use Rattle.tomex_cycle.specs.Starts.{wanted, kind_if, is_among, kind_of, IsStarting, AreReady, is_clear}
 use Rattle.tomex_cycle.specs.Views.{Clocks, ShowsStations, clocks, holds_place, order_of, place_of, station_at, station_of}
 use Rattle.tomex_cycle.proofs.Addresses.{address_rises, order_here, number_is_some}
 use Rattle.tomex_cycle.proofs.Totals.{issued_more}
@@ -24,8 +24,9 @@ use Rattle.tomex_cycle.proofs.Places.{place_low, order-append}
 use Rattle.tomex_cycle.proofs.Fields.{there_test, tag_there, timed_part, issued_part}
 use Rattle.tomex_cycle.proofs.Places.{low, station_here, is_vacant, vacant, least_test}
 use Rattle.tomex_cycle.proofs.Totals.{reach}
-use Rattle.tomex_membuf.proofs.ByAge.{no_access, no_option, share_none}
-use Rattle.tomex_membuf.specs.Order.{is_before, is_clear, lets}
+use Rattle.tomex_membuf.proofs.Older.{no_option, share_none}
+use Rattle.tomex_cycle.proofs.ByAge.{no_access}
+use Rattle.tomex_membuf.specs.Order.{is_before, lets}
 use Rattle.tomex_tags.specs.Contents.{bytes_in, is_waiting, step_in}
 use Rattle.tomex_tags.specs.Operands.{is_there, value_in}
 use Rattle.tomex_tags.specs.Places.{place_at, place_of_tag}

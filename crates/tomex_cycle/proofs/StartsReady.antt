@@ -17,14 +17,14 @@ use Rattle.tomex_timing.specs.History.{is_of}
 use Rattle.tomex_bus.proofs.Bits.{none_in}
 use Rattle.tomex_bus.proofs.Members.{inside_left, none_rest}
 use Rattle.tomex_bus.proofs.Picking.{none_picked, single_picked}
-use Rattle.tomex_membuf.specs.Order.{is_clear}
-use Rattle.tomex_membuf.proofs.ByAge.{no_access, no_option}
+use Rattle.tomex_membuf.proofs.Older.{no_option}
+use Rattle.tomex_cycle.proofs.ByAge.{no_access}
 use Rattle.tomex_tags.proofs.Filing.{is_standing}
 use Rattle.tomex_tags.specs.Contents.{bytes_from, is_memory_op, is_ready, is_waiting}
 use Rattle.tomex_tags.specs.Pools.{AreBusy, Pools}
 use Rattle.tomex_tags.specs.Standing.{IsSetOf, has_address, waits, waits_for}
 use Rattle.tomex_tags.specs.declared.station.Station.{Station}
-use Rattle.tomex_cycle.specs.Starts.{AreReady, AreReadyFor, IsStarting, IsWanted, kind_if, kind_of, wanted}
+use Rattle.tomex_cycle.specs.Starts.{AreReady, AreReadyFor, IsStarting, IsWanted, is_clear, kind_if, kind_of, wanted}
 use Rattle.tomex_cycle.proofs.StartsPicked.{unit_same}
 
 no_kind : (w c : Bool) (u : Option UnitId) (unit : UnitId) → (w && is_of unit u) ≡ false → is_number (kind_if (w && c) (kind_of u)) (place_of_unit unit) ≡ false
@@ -228,7 +228,7 @@ none_starts row st next waiting filled of empty =
     are_starting row st next 0 0 0 0 0 0 0 0 0 0 0
     (ready_for st next 0 units.Alu filled (none_for units.Alu) (λ e. absurd (cc))) (ready_for st next 0 units.Mul filled (none_for units.Mul) (λ e. absurd (cc))) (ready_for st next 0 units.Div filled (none_for units.Div) (λ e. absurd (cc)))
     (all_cleared st next 0 0 0 filled (none_for units.Mem) (first_cleared st next 0 (none_for units.Mem)) refl) (ready_for st next 0 units.Bru filled (none_for units.Bru) (λ e. absurd (cc)))
-    (none_picked _ st.ages) (none_picked _ st.ages) (none_picked _ st.ages) (none_picked _ st.ages) (none_picked _ st.ages) (λ x. rw (none_in x) refl)
+    (none_picked 0 _ st.ages refl) (none_picked 0 _ st.ages refl) (none_picked 0 _ st.ages refl) (none_picked 0 _ st.ages refl) (none_picked 0 _ st.ages refl) (λ x. rw (none_in x) refl)
   where
     none_too : (unit : UnitId) (o : Option Station) → waits o ≡ false → waits_for unit o ≡ false
     none_too unit None e = refl

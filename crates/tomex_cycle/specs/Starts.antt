@@ -14,7 +14,7 @@ use Rattle.tomex_tags.specs.Contents.{is_waiting, step_in}
 use Rattle.tomex_tags.specs.Pools.{Pools}
 use Rattle.tomex_tags.specs.Standing.{waits}
 use Rattle.tomex_tags.specs.declared.station.Station.{Station}
-use Rattle.tomex_membuf.specs.Order.{is_clear}
+use Rattle.tomex_membuf.specs.Order.{lets}
 
 -- no operation waits for nothing but a unit and older accesses
 abbrev pub NoneWaits : List (Option Station) → Type 0
@@ -27,6 +27,11 @@ kind_of (Some unit) = Some (place_of_unit unit)
 abbrev pub kind_if : Bool → Option ℕ → Option ℕ
 kind_if true kind = kind
 kind_if false kind = None
+
+-- a station needn't wait for any of those in these places
+abbrev pub is_clear : List (Option Station) → List ℕ → Station → ℕ → Bool
+is_clear slots [] s next = true
+is_clear slots (x ∷ xs) s next = lets (slice_index_or slots x None) s next && is_clear slots xs s next
 
 -- the kind of unit that is wanted for what stands in a place, behind these older ones, if its operation can start
 abbrev pub wanted : List (Option Station) → List ℕ → ℕ → Option Station → Option ℕ

@@ -27,6 +27,7 @@ use tomex_tags::{Pools, Station, unit};
 fn is_clear(pools: &Pools, place: usize, next: u64) -> bool
     requires below { place < 128 }
     requires waits { waits_for UnitId.Mem (slice_index_or pools.now.slots place None) ≡ true }
+    requires busy { AreBusy pools.now.slots pools.now.busy pools.now.ages }
     ensures { IsWanted pools.now next UnitId.Mem place result }
 {
     may_access(pools, place, next)

@@ -1,2 +1,2 @@
-pub mod ByAge
+pub mod Older
 pub mod Stores

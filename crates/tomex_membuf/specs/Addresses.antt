@@ -1,14 +1,9 @@
--- Which load or store computes its address: the oldest without one, where its base is there.
-use Rattle.std.specs.Prelude.{ℕ, Bool, true, false, if◌then◌else◌, List, [], ◌∷◌, Option, Some, None, slice_index_or}
+-- Which load or store computes its address: the oldest without one, if its base is there.
+use Rattle.std.specs.Prelude.{ℕ, ◌≡◌, ◌<◌, ◌≤◌, Bool, true, false, ◌⊎◌, List, Option, Some, None, slice_index, slice_index_or}
 use Rattle.tomex_tags.specs.declared.station.Station.{Station}
 use Rattle.tomex_tags.specs.Contents.{lacks_address}
 use Rattle.tomex_timing.specs.declared.tables.Field.{Field}
 use Rattle.tomex_timing.specs.declared.tables.Field.TheVariants.{Value, Waits, Unread}
-
--- of the stations in these places, the first that lacks its address
-abbrev pub first_waiting : List (Option Station) → List ℕ → Option ℕ
-first_waiting slots [] = None
-first_waiting slots (x ∷ xs) = if lacks_address (slice_index_or slots x None) then Some x else first_waiting slots xs
 
 abbrev pub is_value : Field → Bool
 is_value (Value v) = true
@@ -19,10 +14,18 @@ abbrev pub has_base : Option Station → Bool
 has_base None = false
 has_base (Some s) = is_value s.j
 
-abbrev pub where_base_is_there : List (Option Station) → Option ℕ → Option ℕ
-where_base_is_there slots None = None
-where_base_is_there slots (Some x) = if has_base (slice_index_or slots x None) then Some x else None
+-- no station lacks its address
+abbrev pub NoneLacks : List (Option Station) → Type 0
+NoneLacks slots = (x : ℕ) → x < 128 → lacks_address (slice_index_or slots x None) ≡ false
 
--- over the busy places, the oldest first
-abbrev pub next_address : List (Option Station) → List ℕ → Option ℕ
-next_address slots order = where_base_is_there slots (first_waiting slots order)
+-- the station in a place lacks its address, and none that does issued before it
+pub record IsOldestLacking (slots : List (Option Station)) (ages : List ℕ) (x : ℕ) : Type 0 where
+  pub low : x < 128
+  pub lacks : lacks_address (slice_index_or slots x None) ≡ true
+  pub oldest : (y : ℕ) → y < 128 → lacks_address (slice_index_or slots y None) ≡ true → slice_index ages x ≤ slice_index ages y
+
+-- its place, if its base is there; none if no station lacks its address, or the oldest that does waits for its base
+abbrev pub IsNextAddress : List (Option Station) → List ℕ → Option ℕ → Type 0
+IsNextAddress slots ages None =
+    NoneLacks slots ⊎ ((x : ℕ) × IsOldestLacking slots ages x × (has_base (slice_index_or slots x None) ≡ false))
+IsNextAddress slots ages (Some x) = IsOldestLacking slots ages x × (has_base (slice_index_or slots x None) ≡ true)

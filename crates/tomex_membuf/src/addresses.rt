@@ -1,9 +1,8 @@
 //! Addresses are computed in program order.
 
-ghost use Rattle.std.specs.Prelude.{ℕ, List, ◌≡◌, None, Some, slice_index_or, IfSome, IsSome};
-ghost use Rattle.tomex_bus.specs.Picks.{IsByAge};
+ghost use Rattle.std.specs.Prelude.{◌≡◌, None, slice_index_or, IfSome, IsSome};
 ghost use Rattle.tomex_tags.specs.Pools.{AreBusy};
-ghost use Rattle.tomex_membuf.specs.Addresses.{has_base, next_address};
+ghost use Rattle.tomex_membuf.specs.Addresses.{has_base, IsNextAddress};
 
 use tomex_bus::oldest;
 use tomex_tags::{Field, Pools, Station};
@@ -18,9 +17,9 @@ fn has_base(station: Option<Station>) -> bool
     }
 }
 
-/// The place of the oldest load or store without an address, where its base is there.
+/// The place of the oldest load or store without an address, if its base is there.
 pub fn address_next(pools: &Pools) -> Option<usize>
-    ensures next { (order : List ℕ) → IsByAge pools.now.busy pools.now.ages order → result ≡ next_address pools.now.slots order }
+    ensures next { IsNextAddress pools.now.slots pools.now.ages result }
     ensures busy { AreBusy pools.now.slots pools.now.busy pools.now.ages }
     ensures there { IfSome result (λ x. IsSome (slice_index_or pools.now.slots x None)) }
 {

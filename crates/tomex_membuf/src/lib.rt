@@ -4,10 +4,10 @@
 //! with it where one of the two is a store; nothing is forwarded from a store to a load.
 #![tactic(auto)]
 
-mod access;
+mod accesses;
 mod addresses;
 mod order;
 
-pub use access::{read, write};
+pub use accesses::{access, read, write};
 pub use addresses::address_next;
 pub use order::{is_alone, may_access};

@@ -1,11 +1,9 @@
 //! Accesses that share a byte are made in program order.
 
-ghost use Rattle.std.specs.Prelude.{ℕ, List, None, Some, true, false, ◌≡◌, ◌<◌, ◌++◌, ◌∷◌, ◌&&◌, not, nat_lt, slice_index, slice_index_or};
-ghost use Rattle.tomex_bus.specs.Picks.{IsByAge};
+ghost use Rattle.std.specs.Prelude.{ℕ, None, Some, true, false, ◌≡◌, ◌<◌, ◌&&◌, not, nat_lt, slice_index, slice_index_or};
 ghost use Rattle.tomex_bus.specs.Sets.{has};
 ghost use Rattle.tomex_timing.specs.Recurrence.{shares_byte};
-ghost use Rattle.tomex_tags.specs.Standing.{has_address};
-ghost use Rattle.tomex_membuf.specs.Order.{clash, is_before, is_clear, lets};
+ghost use Rattle.tomex_membuf.specs.Order.{clash, is_before, IsAlone, IsClear, lets};
 
 use tomex_bus::sets::{both, is_single, lowest, without, without_lowest};
 use tomex_rvexec::ByteRange;
@@ -74,8 +72,7 @@ fn is_blocked_by(pools: &Pools, other: usize, station: &Station, age: u32, next:
 #[inline(always)]
 fn rivals(pools: &Pools, place: usize) -> u128
     requires { place < 128 }
-    ensures inside { (x : ℕ) → x < 128 → has result x ≡ true → has pools.now.busy x ≡ true }
-    ensures others { (s : Station) (next x : ℕ) → slice_index_or pools.now.slots place None ≡ Some s → x < 128 → slice_index pools.now.ages x < slice_index pools.now.ages place → has result x ≡ false → lets (slice_index_or pools.now.slots x None) s next ≡ true }
+    ensures { (s : Station) (next x : ℕ) → slice_index_or pools.now.slots place None ≡ Some s → x < 128 → slice_index pools.now.ages x < slice_index pools.now.ages place → has result x ≡ false → lets (slice_index_or pools.now.slots x None) s next ≡ true }
 {
     let addressed = pools.addressed();
     // Read for what the type of the stations keeps: no store stands below the store buffers.
@@ -90,9 +87,9 @@ fn rivals(pools: &Pools, place: usize) -> u128
 /// Whether a station, which stands in a place, needn't wait for any of its rivals.
 fn passes(pools: &Pools, place: usize, rivals: u128, station: &Station, next: u64) -> bool
     requires low { place < 128 }
-    requires inside { (x : ℕ) → x < 128 → has rivals x ≡ true → has pools.now.busy x ≡ true }
     requires others { (x : ℕ) → x < 128 → slice_index pools.now.ages x < slice_index pools.now.ages place → has rivals x ≡ false → lets (slice_index_or pools.now.slots x None) station.now next ≡ true }
-    ensures { (older younger : List ℕ) → IsByAge pools.now.busy pools.now.ages (older ++ (place ∷ younger)) → result ≡ is_clear pools.now.slots older station.now next }
+    ensures clear { result ≡ true → IsClear pools.now.slots pools.now.ages place station.now next }
+    ensures blocked { result ≡ false → IsClear pools.now.slots pools.now.ages place station.now next → ⊥ }
 {
     let age = pools.ages()[place];
     let mut rest = rivals;
@@ -106,13 +103,13 @@ fn passes(pools: &Pools, place: usize, rivals: u128, station: &Station, next: u6
     true
 }
 
-/// Whether no older load or store that isn't finished before the cycle shares a byte with the one in
-/// a place, one of the two being a store. What accesses no memory waits for none, and nor does a free
-/// place.
+/// Whether no load or store that issued before the one in a place, and isn't finished before the cycle, shares a byte
+/// with it, one of the two being a store. What accesses no memory waits for none, and nor does a free place.
 #[inline(always)]
 pub fn may_access(pools: &Pools, place: usize, next: u64) -> bool
     requires { place < 128 }
-    ensures access { (s : Station) (older younger : List ℕ) → slice_index_or pools.now.slots place None ≡ Some s → IsByAge pools.now.busy pools.now.ages (older ++ (place ∷ younger)) → result ≡ is_clear pools.now.slots older s next }
+    ensures clear { (s : Station) → slice_index_or pools.now.slots place None ≡ Some s → result ≡ true → IsClear pools.now.slots pools.now.ages place s next }
+    ensures blocked { (s : Station) → slice_index_or pools.now.slots place None ≡ Some s → result ≡ false → IsClear pools.now.slots pools.now.ages place s next → ⊥ }
     ensures free { slice_index_or pools.now.slots place None ≡ None → result ≡ true }
 {
     let rivals = rivals(pools, place);
@@ -129,8 +126,8 @@ pub fn may_access(pools: &Pools, place: usize, next: u64) -> bool
 /// Whether at most one load or store has its address: then no access is in the way of another.
 #[inline(always)]
 pub fn is_alone(pools: &Pools) -> bool
-    ensures alone { result ≡ true → (place next : ℕ) (s : Station) (older younger : List ℕ) → place < 128 → slice_index_or pools.now.slots place None ≡ Some s → has_address (Some s) ≡ true → IsByAge pools.now.busy pools.now.ages (older ++ (place ∷ younger)) → is_clear pools.now.slots older s next ≡ true }
-    ensures several { result ≡ false → ((a b : ℕ) → a < 128 → b < 128 → has_address (slice_index_or pools.now.slots a None) ≡ true → has_address (slice_index_or pools.now.slots b None) ≡ true → a ≡ b) → ⊥ }
+    ensures alone { result ≡ true → IsAlone pools.now.slots }
+    ensures several { result ≡ false → IsAlone pools.now.slots → ⊥ }
 {
     is_single(pools.addressed())
 }

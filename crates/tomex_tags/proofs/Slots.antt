@@ -5,7 +5,7 @@ use Rattle.std.proofs.lemmas.Bool.{cases_Bool, cases_order, eqb-true, eqb-false}
 use Rattle.std.proofs.lemmas.List.{get_or_append_left, get_or-append_right, length-set, get_or-set_same, get_or-set_other, set-append_left, set-append_right}
 use Rattle.std.proofs.lemmas.List.Concat.{flat_map-cons}
 use Rattle.std.proofs.lemmas.Nat.Bits.{bit_at-zero}
-use Rattle.std.proofs.lemmas.List.{get_or-replicate, get_or_past}
+use Rattle.std.proofs.lemmas.List.{get_or-replicate, get_or_past, set-get_or}
 use Rattle.tomex_bus.specs.Sets.{has, IsWith, IsWithout}
 use Rattle.tomex_tags.specs.declared.standing.Standing.{Standing}
 use Rattle.tomex_tags.specs.declared.station.Station.{Station}
@@ -16,6 +16,10 @@ use Rattle.tomex_tags.proofs.Listening.{Listens, listening_set, none_awaits, own
 
 abbrev Pool : Type 0
 Pool = List (Option Station)
+
+-- what changes a free place changes nothing
+pub set_none : (f : Station → Station) (slots : Pool) (place : ℕ) → slice_index_or slots place None ≡ None → slots ≡ slice_set slots place (option_map f (slice_index_or slots place None))
+set_none f slots place e = sym (ap (λ (o : Option Station). slice_set slots place (option_map f o)) e ∙ (ap (λ (o : Option Station). slice_set slots place o) (sym e) ∙ set-get_or slots place None))
 
 slots_cons : (s : Pool) (ss : List Pool) → slots_of (s ∷ ss) ≡ s ++ slots_of ss
 slots_cons s ss = flat_map-cons (λ (x : Pool). x) s ss

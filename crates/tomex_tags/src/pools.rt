@@ -162,10 +162,10 @@ impl Pools {
         both(self.waiting(), served_by(unit))
     }
 
-    /// Computes the address of the station in a place, where its base is there.
+    /// Computes the address of the station in a place, if its base is there. Of a free place it changes nothing.
     #[inline(always)]
     pub fn compute_address(&mut self, place: usize)
-        ensures slots { IsSome (slice_index_or self.old.slots place None) → self.new.slots ≡ slice_set self.old.slots place (option_map with_address (slice_index_or self.old.slots place None)) }
+        ensures slots { self.new.slots ≡ slice_set self.old.slots place (option_map with_address (slice_index_or self.old.slots place None)) }
         ensures busy { self.new.busy ≡ self.old.busy }
         ensures ages { self.new.ages ≡ self.old.ages }
     {

@@ -1,4 +1,5 @@
 use Rattle.tomex_rvdec.specs.declared.pool.UnitId.TheVariants as units
+use Rattle.tomex_cycle.proofs.ByAge.{alone_clear}
 use Rattle.tomex_cycle.proofs.StartsReady.{all_cleared, all_of, all_waiting, first_cleared, found_waiting}
 use Rattle.tomex_cycle.proofs.starts.accessible.Goals as goal
 
@@ -11,7 +12,8 @@ returns-then-waiting-eq0-clause-wait c = found_waiting c.args.pools.now c.args.n
 
 -- none is in another's way
 pub returns-then-is_alone-clause-ready : goal.returns-then-is_alone-clause-ready
-returns-then-is_alone-clause-ready c = all_waiting c.args.pools.now c.args.next c.waiting_for-waiting.result c.waiting_for-waiting.ensures.busy c.waiting_for-waiting.ensures.set (c.is_alone.ensures.alone c.if-is_alone.true)
+returns-then-is_alone-clause-ready c = all_waiting c.args.pools.now c.args.next c.waiting_for-waiting.result c.waiting_for-waiting.ensures.busy c.waiting_for-waiting.ensures.set
+    (λ place next s older younger l here access by. alone_clear c.args.pools.now.slots c.args.pools.now.busy c.args.pools.now.ages older younger place next s (c.is_alone.ensures.alone c.if-is_alone.true) l here access by)
 
 pub returns-then-is_alone-clause-wait : goal.returns-then-is_alone-clause-wait
 returns-then-is_alone-clause-wait c = all_of units.Mem c.args.pools.now.slots c.waiting_for-waiting.result c.waiting_for-waiting.ensures.set

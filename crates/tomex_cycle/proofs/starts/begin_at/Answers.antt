@@ -1,7 +1,7 @@
 use Rattle.std.proofs.Common.{◌+◌, ◌-◌, ◌∙◌, refl, sym}
 use Rattle.tomex_tags.specs.Contents.{started}
 use Rattle.tomex_cycle.proofs.Known.{inside_of, known_started}
-use Rattle.tomex_membuf.proofs.ByAge.{no_option}
+use Rattle.tomex_membuf.proofs.Older.{no_option}
 use Rattle.tomex_cycle.proofs.starts.begin_at.Goals as goal
 
 pub returns-in-Some-outcome-clause-known : goal.returns-in-Some-outcome-clause-known

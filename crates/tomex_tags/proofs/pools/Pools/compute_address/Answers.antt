@@ -2,7 +2,7 @@ use Rattle.std.proofs.Common.{◌∙◌, Some, ap, arith, refl, sym}
 use Rattle.std.specs.Prelude.{is_some}
 use Rattle.tomex_tags.specs.Contents.{with_address}
 use Rattle.tomex_tags.proofs.Listening.{address_own, address_same, own_here, same_listens}
-use Rattle.tomex_tags.proofs.Slots.{at_place, filled_by, set_place, said_same}
+use Rattle.tomex_tags.proofs.Slots.{at_place, filled_by, set_none, set_place, said_same}
 use Rattle.tomex_tags.proofs.Filing.{address_filed}
 use Rattle.tomex_tags.proofs.pools.Pools.compute_address.Goals as goal
 
@@ -17,7 +17,10 @@ invariant_of-self c =
     (same_listens _ c.args.place c.in-Some.station (with_address c.in-Some.station) c.self.inside.listeners.sets low c.self.invariant.listening at (address_same c.in-Some.station)))
 
 pub returns-in-Some-clause-slots : goal.returns-in-Some-clause-slots
-returns-in-Some-clause-slots c = λ some.
+returns-in-Some-clause-slots c =
     let at = rw (← c.self.view_is) at (sym c.at.ensures.value ∙ c.in-Some.is) in
     let low = c.at.ensures.low (rw c.in-Some.is refl) in
     rw (c.address.ensures, at_place c.self.inside.pools c.args.place c.index-self-place.result c.self.invariant.six low ∙ at, ← c.self.view_is, at) (set_place c.self.inside.pools c.args.place c.index-self-place.result (Some (with_address c.in-Some.station)) c.self.invariant.six low)
+
+pub returns-in_default-clause-slots : goal.returns-in_default-clause-slots
+returns-in_default-clause-slots c = set_none with_address c.args.self.now.slots c.args.place (sym c.at.ensures.value ∙ c.in_default.is)
