@@ -1,22 +1,42 @@
 -- Lanes as contracts see them.
-use Rattle.std.specs.Prelude.{ℕ, zero, suc, ◌<◌, ◌≤◌, List, [], ◌∷◌, ◌++◌, All, Contains}
+use Rattle.std.specs.Prelude.{ℕ, zero, suc, ◌+◌, ◌-◌, ◌%◌, ◌<◌, ◌≤◌, ◌⊎◌, List, [], ◌∷◌, ◌++◌, All, Contains}
 use Rattle.std.specs.List.{flat_map}
 use Rattle.tomex_lanes.specs.Rows.{rows_of}
 
--- a worker's number, how many rows there are over all workers, and the list of its own
+-- a worker's number, how many rows there are over all workers, the list of its own, and the lists of the workers that it
+-- steals from, the first one first
 pub record Dealt : Type 0 where
   pub worker : ℕ
   pub count : ℕ
   pub rows : List ℕ
+  pub others : List (List ℕ)
 
 -- the numbers of rows of which there are so many
 abbrev pub AreBelow : ℕ → List ℕ → Type 0
 AreBelow count rows = All (λ row. row < count) rows
 
--- the first n of so many workers' lanes
+-- a row of the worker's own list, or of that of a worker that it steals from
+abbrev pub IsListed : Dealt → ℕ → Type 0
+IsListed l row = Contains l.rows row ⊎ ((rows : List ℕ) × Contains l.others rows × Contains rows row)
+
+-- the lists of the n workers after one, and round
+abbrev pub others_of : ℕ → ℕ → ℕ → ℕ → List (List ℕ)
+others_of workers worker count zero = []
+others_of workers worker count (suc n) = others_of workers worker count n ++ rows_of workers ((worker + suc n) % workers) count ∷ []
+
+-- a worker's lane, with the lists of the n workers after it
+abbrev pub lane_of : ℕ → ℕ → ℕ → ℕ → Dealt
+lane_of workers worker count n =
+    record { worker = worker; count = count; rows = rows_of workers worker count; others = others_of workers worker count n }
+
+-- a lane with one list more to steal from
+abbrev pub with_other : Dealt → List ℕ → Dealt
+with_other l rows = record l { others = l.others ++ rows ∷ [] }
+
+-- the first n of so many workers' lanes, each with the lists of all others
 abbrev pub dealt : ℕ → ℕ → ℕ → List Dealt
 dealt workers count zero = []
-dealt workers count (suc n) = dealt workers count n ++ record { worker = n; count = count; rows = rows_of workers n count } ∷ []
+dealt workers count (suc n) = dealt workers count n ++ lane_of workers n count (workers - 1) ∷ []
 
 -- each row is on the list of a worker
 abbrev pub EachRowIsDealt : Type 0

@@ -1,8 +1,8 @@
 //! What a worker takes its rows from.
 
-ghost use Rattle.std.specs.Prelude.{◌≡◌, ◌<◌, IfOk, IfSome, All};
+ghost use Rattle.std.specs.Prelude.{◌≡◌, ◌<◌, IfOk, IfSome, OnOk};
 ghost use Rattle.tomex_lanes.specs.Rows.{rows_of};
-ghost use Rattle.tomex_lanes.specs.Lanes.{AreBelow};
+ghost use Rattle.tomex_lanes.specs.Lanes.{AreBelow, IsListed, lane_of, with_other};
 
 use crate::deque::{RowDeque, Victim};
 use std::alloc::{AllocError, Allocator};
@@ -26,7 +26,7 @@ impl<A: Allocator> Model for Lane<A> {
 
     ghost Value = { Dealt };
 
-    ghost view = { λ l. record { worker = l.worker; count = l.count; rows = l.rows.items } };
+    ghost view = { λ l. record { worker = l.worker; count = l.count; rows = l.rows.items; others = l.others.items } };
 
     ghost invariant = { λ l.
         (l.own ≡ l.rows.items)
@@ -64,7 +64,7 @@ impl<A: Allocator> Lane<A> {
     where
         A: Clone + Drop,
         requires { 0 < workers }
-        ensures { IfOk result (λ l. l ≡ record { worker = worker; count = count; rows = rows_of workers worker count }) }
+        ensures { IfOk result (λ l. l ≡ lane_of workers worker count 0) }
     {
         let own = RowDeque::filled(alloc.clone()?, worker, workers, count)?;
         let others = Vec::new(alloc.clone()?);
@@ -81,6 +81,7 @@ impl<A: Allocator> Lane<A> {
     /// What another worker steals from this one by.
     pub(crate) fn victim(&mut self) -> Result<Victim<A>, AllocError>
         ensures same { self.new ≡ self.old }
+        ensures list { IfOk result (λ v. v ≡ self.old.rows) }
         ensures below { IfOk result (λ v. AreBelow self.old.count v) }
     {
         self.own.victim()
@@ -89,7 +90,7 @@ impl<A: Allocator> Lane<A> {
     /// Adds a worker to steal from, after the others.
     pub(crate) fn add_victim(&mut self, victim: Victim<A>) -> Result<(), AllocError>
         requires { AreBelow self.old.count victim }
-        ensures { self.new ≡ self.old }
+        ensures { OnOk result (self.new ≡ with_other self.old victim) }
     {
         self.others.push(victim)?;
         Ok(())
@@ -129,6 +130,7 @@ impl<A: Allocator> Lane<A> {
     pub fn take(&mut self) -> Option<usize>
         ensures same { self.new ≡ self.old }
         ensures row { IfSome result (λ row. row < self.old.count) }
+        ensures list { IfSome result (λ row. IsListed self.old row) }
     {
         if let Some(row) = self.own.take() {
             return Some(row);

@@ -1,7 +1,7 @@
 //! How rows are dealt.
 
-ghost use Rattle.std.specs.Prelude.{◌≡◌, ◌<◌, ◌≤◌, length, IfOk, All};
-ghost use Rattle.tomex_lanes.specs.Lanes.{dealt};
+ghost use Rattle.std.specs.Prelude.{◌≡◌, ◌<◌, ◌≤◌, length, slice_get, slice_set, IfOk, OnOk, Some, All};
+ghost use Rattle.tomex_lanes.specs.Lanes.{Dealt, dealt, with_other};
 
 use crate::lane::Lane;
 use std::alloc::{AllocError, Allocator};
@@ -15,7 +15,7 @@ fn connect<A: Allocator>(
 ) -> Result<(), AllocError>
     requires places { (to < length lanes.old.items) × (from < length lanes.old.items) }
     requires count { All (λ l. l.count ≡ count) lanes.old.items }
-    ensures { lanes.new.items ≡ lanes.old.items }
+    ensures { (thief victim : Dealt) → slice_get lanes.old.items to ≡ Some thief → slice_get lanes.old.items from ≡ Some victim → OnOk result (lanes.new.items ≡ slice_set lanes.old.items to (with_other thief victim.rows)) }
 {
     let victim = lanes[from].victim()?;
     lanes[to].add_victim(victim)
