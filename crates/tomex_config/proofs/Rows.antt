@@ -25,6 +25,7 @@ single =
       mem_units = free;
       bru_units = free;
       buses = one;
+      width = one;
     }
 
 one_row : rows_of single ≡ plain ∷ []
@@ -45,9 +46,15 @@ value_twice : rows_of (record single { mul = 1 ∷ 1 ∷ [] }) ≡ plain ∷ pla
 unfolding rows_of
 value_twice = refl
 
+-- the width varies faster than the buses
+width_fastest : map {B = ℕ × ℕ} (λ row. (row.buses, row.width)) (rows_of (record single { buses = 1 ∷ 3 ∷ []; width = 4 ∷ 2 ∷ [] }))
+    ≡ (1, 4) ∷ (1, 2) ∷ (3, 4) ∷ (3, 2) ∷ []
+unfolding rows_of
+width_fastest = refl
+
 -- a station of the alu pool at 10, of the mul pool at 100, and a bus at 7
 abbrev prices : PriceList
-prices = record { stations = 10 ∷ 100 ∷ 0 ∷ 0 ∷ 0 ∷ 0 ∷ []; bus = 7 }
+prices = record { stations = 10 ∷ 100 ∷ 0 ∷ 0 ∷ 0 ∷ 0 ∷ []; bus = 7; width = 0 }
 
 abbrev priced_rows : Lists
 priced_rows = record single { alu = 2 ∷ 1 ∷ []; buses = 2 ∷ []; mul_units = record plain_option { price = 50 } ∷ [] }
@@ -56,13 +63,18 @@ costs : map (λ row. cost_of row prices) (rows_of priced_rows) ≡ 184 ∷ 174 �
 unfolding rows_of
 costs = refl
 
--- the greatest cost: 6 pools of 16, 5 options and 8 buses, all at 1,000,000
+-- with the price of the width at 1000, a width of 1 and one of 4
+width_costs : map (λ row. cost_of row (record prices { width = 1000 })) (rows_of (record priced_rows { alu = 1 ∷ []; width = 1 ∷ 4 ∷ [] })) ≡ 1174 ∷ 4174 ∷ []
+unfolding rows_of
+width_costs = refl
+
+-- the greatest cost: 6 pools of 16, 5 options, 8 buses and a width of 4, all at 1,000,000
 abbrev dearest : Row
 dearest =
     let option = record plain_option { price = 1000000 } in
-    record { stations = replicate 6 16; units = option ∷ option ∷ option ∷ option ∷ option ∷ []; buses = 8 }
+    record { stations = replicate 6 16; units = option ∷ option ∷ option ∷ option ∷ option ∷ []; buses = 8; width = 4 }
 
-greatest_cost : cost_of dearest (record { stations = replicate 6 1000000; bus = 1000000 }) ≡ 109000000
+greatest_cost : cost_of dearest (record { stations = replicate 6 1000000; bus = 1000000; width = 1000000 }) ≡ 113000000
 greatest_cost = refl
 
 -- an empty axis is told before a value that is out of range
@@ -85,6 +97,10 @@ too_many = refl
 two_branch_units : grid_of (record single { bru_units = record plain_option { units = 2 } ∷ [] }) ≡ Err OutOfRange
 unfolding grid_of has_empty in_range
 two_branch_units = refl
+
+five_wide : grid_of (record single { width = 5 ∷ [] }) ≡ Err OutOfRange
+unfolding grid_of has_empty in_range
+five_wide = refl
 
 -- 16 * 16 * 16 * 4 rows aren't too many
 most_rows : is_above_limit (lengths (record single { alu = sixteen; mul = sixteen; div = sixteen; buses = replicate 4 1 })) ≡ false

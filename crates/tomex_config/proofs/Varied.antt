@@ -7,9 +7,9 @@ use Rattle.std.proofs.lemmas.List.{append-nil}
 use Rattle.tomex_rvdec.specs.declared.pool.PoolId.TheVariants as pools
 use Rattle.tomex_rvdec.specs.declared.pool.UnitId.TheVariants as units
 use Rattle.tomex_config.specs.declared.row.UnitOption.{UnitOption}
-use Rattle.tomex_config.specs.Row.{Row, plain, with_stations, with_option, with_buses}
+use Rattle.tomex_config.specs.Row.{Row, plain, with_stations, with_option, with_buses, with_width}
 use Rattle.tomex_config.specs.Grid.{Lists, rows_of}
-use Rattle.tomex_config.specs.Vary.{vary, option_rows}
+use Rattle.tomex_config.specs.Vary.{vary, bus_rows}
 
 -- the part that an axis replaces, and its values
 pub data Axis : Type 0 where
@@ -62,11 +62,12 @@ all_axes axes =
     ∷ options (with_option units.Mem) axes.mem_units
     ∷ options (with_option units.Bru) axes.bru_units
     ∷ counts with_buses axes.buses
+    ∷ counts with_width axes.width
     ∷ []
 
 flat_map-one : (follows : Row → List Row) (row : Row) → flat_map follows (row ∷ []) ≡ follows row
 flat_map-one follows row = append-nil (follows row)
 
-pub varied_rows : (axes : Lists) → vary with_buses axes.buses (option_rows axes) ≡ rows_of axes
+pub varied_rows : (axes : Lists) → vary with_width axes.width (bus_rows axes) ≡ rows_of axes
 unfolding rows_of
 varied_rows axes = chained-chosen (all_axes axes) (plain ∷ []) ∙ flat_map-one (chosen (all_axes axes)) plain

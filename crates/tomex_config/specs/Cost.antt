@@ -7,10 +7,12 @@ use Rattle.tomex_rvdec.specs.declared.pool.UnitId.{UnitId}
 use Rattle.tomex_rvdec.specs.declared.pool.UnitId.TheVariants as units
 use Rattle.tomex_config.specs.Row.{Row, stations_of, option_of}
 
--- the price of a station of each pool, in their order, and that of a bus
+-- the price of a station of each pool, in their order, that of a bus, and that of each instruction that
+-- may issue in a cycle
 pub record PriceList : Type 0 where
   pub stations : List ℕ
   pub bus : ℕ
+  pub width : ℕ
 
 abbrev pub is_price : ℕ → Bool
 is_price n = nat_le n 1000000
@@ -19,6 +21,7 @@ pub record IsPriceList (prices : PriceList) : Type 0 where
   pub pools : length prices.stations ≡ 6
   pub stations : All (λ n. is_price n ≡ true) prices.stations
   pub bus : is_price prices.bus ≡ true
+  pub width : is_price prices.width ≡ true
 
 abbrev pub price_of : PriceList → PoolId → ℕ
 price_of prices pool = slice_index prices.stations (place_of_pool pool)
@@ -35,7 +38,8 @@ stations_cost row prices = sum_by (λ pool. stations_of row pool * price_of pric
 abbrev pub options_cost : Row → ℕ
 options_cost row = sum_by (λ unit. (option_of row unit).price) all_units
 
--- each pool's stations times its price, the prices of the chosen options, and the buses times the
--- price of a bus
+-- each pool's stations times its price, the prices of the chosen options, the buses times the
+-- price of a bus, and the width times its price
 abbrev pub cost_of : Row → PriceList → ℕ
-cost_of row prices = stations_cost row prices + options_cost row + row.buses * prices.bus
+cost_of row prices =
+    stations_cost row prices + options_cost row + row.buses * prices.bus + row.width * prices.width

@@ -21,6 +21,7 @@ pub record Lists : Type 0 where
   pub mem_units : List UnitOption
   pub bru_units : List UnitOption
   pub buses : List ℕ
+  pub width : List ℕ
 
 abbrev pub lists_of : {A : Type 0} → Axes A → Lists
 lists_of axes = record {
@@ -36,6 +37,7 @@ lists_of axes = record {
   mem_units = axes.mem_units.items;
   bru_units = axes.bru_units.items;
   buses = axes.buses.items;
+  width = axes.width.items;
 }
 
 -- what follows for each value, one value after another
@@ -58,17 +60,19 @@ rows_of axes = do
   mem_units ← axes.mem_units
   bru_units ← axes.bru_units
   buses ← axes.buses
+  width ← axes.width
   record {
     stations = alu ∷ mul ∷ div ∷ load ∷ store ∷ bru ∷ [];
     units = alu_units ∷ mul_units ∷ div_units ∷ mem_units ∷ bru_units ∷ [];
     buses = buses;
+    width = width;
   } ∷ []
 
 abbrev pub lengths : Lists → List ℕ
 lengths axes =
     length axes.alu ∷ length axes.mul ∷ length axes.div ∷ length axes.load ∷ length axes.store ∷ length axes.bru
     ∷ length axes.alu_units ∷ length axes.mul_units ∷ length axes.div_units ∷ length axes.mem_units ∷ length axes.bru_units
-    ∷ length axes.buses ∷ []
+    ∷ length axes.buses ∷ length axes.width ∷ []
 
 abbrev pub has_zero : List ℕ → Bool
 has_zero lengths = list_any (λ n. n == 0) lengths
@@ -87,8 +91,11 @@ options_in_range axes =
     list_all (is_option 8) axes.alu_units && list_all (is_option 8) axes.mul_units && list_all (is_option 8) axes.div_units
     && list_all (is_option 8) axes.mem_units && list_all (is_option 1) axes.bru_units
 
+abbrev pub rest_in_range : Lists → Bool
+rest_in_range axes = list_all (is_between 1 8) axes.buses && list_all (is_between 1 4) axes.width
+
 unfoldable pub in_range : Lists → Bool
-in_range axes = stations_in_range axes && (options_in_range axes && list_all (is_between 1 8) axes.buses)
+in_range axes = stations_in_range axes && (options_in_range axes && rest_in_range axes)
 
 abbrev pub product : List ℕ → ℕ
 product [] = 1

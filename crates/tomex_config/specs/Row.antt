@@ -7,11 +7,13 @@ use Rattle.tomex_rvdec.specs.declared.pool.UnitId.TheVariants.{Bru}
 use Rattle.tomex_config.specs.declared.row.UnitOption.{UnitOption}
 
 -- the reservation stations of each pool and the chosen option for each kind of unit, both in
--- their order, and the common data buses
+-- their order, the common data buses, and the issue width: how many instructions issue in a cycle
+-- at most
 pub record Row : Type 0 where
   pub stations : List ℕ
   pub units : List UnitOption
   pub buses : ℕ
+  pub width : ℕ
 
 abbrev pub is_between : ℕ → ℕ → ℕ → Bool
 is_between low high n = nat_le low n && nat_le n high
@@ -43,6 +45,7 @@ pub record IsRow (row : Row) : Type 0 where
   pub units : All (λ o. is_option 8 o ≡ true) row.units
   pub branch_unit : (option_of row Bru).units ≡ 1
   pub buses : is_between 1 8 row.buses ≡ true
+  pub width : is_between 1 4 row.width ≡ true
 
 -- one of each part
 abbrev pub plain : Row
@@ -50,6 +53,7 @@ plain = record {
   stations = 1 ∷ 1 ∷ 1 ∷ 1 ∷ 1 ∷ 1 ∷ [];
   units = plain_option ∷ plain_option ∷ plain_option ∷ plain_option ∷ plain_option ∷ [];
   buses = 1;
+  width = 1;
 }
 
 -- the row with another part
@@ -61,3 +65,6 @@ with_option unit row option = record row { units = slice_set row.units (place_of
 
 abbrev pub with_buses : Row → ℕ → Row
 with_buses row n = record row { buses = n }
+
+abbrev pub with_width : Row → ℕ → Row
+with_width row n = record row { width = n }

@@ -3,7 +3,7 @@ use Rattle.std.specs.Prelude.{List, [], ◌∷◌, map}
 use Rattle.std.specs.List.{flat_map}
 use Rattle.tomex_rvdec.specs.declared.pool.PoolId.TheVariants as pools
 use Rattle.tomex_rvdec.specs.declared.pool.UnitId.TheVariants as units
-use Rattle.tomex_config.specs.Row.{Row, plain, with_stations, with_option}
+use Rattle.tomex_config.specs.Row.{Row, plain, with_stations, with_option, with_buses}
 use Rattle.tomex_config.specs.Grid.{Lists}
 
 -- each row so far, once with each of the values
@@ -26,3 +26,6 @@ option_rows axes =
     (vary (with_option units.Div) axes.div_units
     (vary (with_option units.Mul) axes.mul_units
     (vary (with_option units.Alu) axes.alu_units (station_rows axes)))))
+
+abbrev pub bus_rows : Lists → List Row
+bus_rows axes = vary with_buses axes.buses (option_rows axes)

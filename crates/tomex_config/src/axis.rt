@@ -3,14 +3,14 @@
 ghost use Rattle.std.specs.Prelude.{◌≡◌, ◌==◌, nat_lt, false};
 ghost use Rattle.std.specs.List.{list_all};
 ghost use Rattle.tomex_config.specs.Row.{is_between, is_option};
-ghost use Rattle.tomex_config.specs.Grid.{lists_of, lengths, has_zero, product, has_empty, stations_in_range, options_in_range, in_range, is_above_limit, is_too_large};
+ghost use Rattle.tomex_config.specs.Grid.{lists_of, lengths, has_zero, product, has_empty, stations_in_range, options_in_range, rest_in_range, in_range, is_above_limit, is_too_large};
 
 use crate::row::{UnitOption, is_option};
 use std::alloc::{Allocator, Global};
 
 /// A list of values for each part of a row: the stations of the six pools, the options for the
-/// five kinds of unit, and the buses. The values may be out of the limits, and a value may stand
-/// twice.
+/// five kinds of unit, the buses, and the issue width. The values may be out of the limits, and a
+/// value may stand twice.
 #[derive(Debug, Drop)]
 pub struct Axes<A: Allocator = Global> {
     pub alu: Vec<u8, A>,
@@ -25,6 +25,7 @@ pub struct Axes<A: Allocator = Global> {
     pub mem_units: Vec<UnitOption, A>,
     pub bru_units: Vec<UnitOption, A>,
     pub buses: Vec<u8, A>,
+    pub width: Vec<u8, A>,
 }
 
 /// The most rows that a grid has.
@@ -81,7 +82,7 @@ fn are_options(options: &[UnitOption], most: u8) -> bool
 }
 
 impl<A: Allocator> Axes<A> {
-    fn lengths(&self) -> [usize; 12]
+    fn lengths(&self) -> [usize; 13]
         ensures { result ≡ lengths (lists_of self.now) }
     {
         [
@@ -97,6 +98,7 @@ impl<A: Allocator> Axes<A> {
             self.mem_units.len(),
             self.bru_units.len(),
             self.buses.len(),
+            self.width.len(),
         ]
     }
 
@@ -121,6 +123,12 @@ impl<A: Allocator> Axes<A> {
             && are_options(&self.bru_units, 1)
     }
 
+    fn are_rest_in_range(&self) -> bool
+        ensures { result ≡ rest_in_range (lists_of self.now) }
+    {
+        are_counts(&self.buses, 8) && are_counts(&self.width, 4)
+    }
+
     /// Whether an axis has no value.
     #[tactic(auto, unfolding(crate::specs::Grid::has_empty))]
     pub fn has_empty(&self) -> bool
@@ -134,7 +142,7 @@ impl<A: Allocator> Axes<A> {
     pub fn is_in_range(&self) -> bool
         ensures { result ≡ in_range (lists_of self.now) }
     {
-        self.are_stations_in_range() && self.are_options_in_range() && are_counts(&self.buses, 8)
+        self.are_stations_in_range() && self.are_options_in_range() && self.are_rest_in_range()
     }
 
     /// Whether there are more than 16,384 rows. It takes no memory, and may be asked of any axes.

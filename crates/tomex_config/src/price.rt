@@ -9,12 +9,13 @@ use crate::row::Config;
 use std::marker::Model;
 use tomex_rvdec::{PoolId, UnitId};
 
-/// The price of one reservation station of each pool, and of one common data bus: 0 to 1,000,000
-/// each.
+/// The price of one reservation station of each pool, of one common data bus, and of each
+/// instruction that may issue in a cycle: 0 to 1,000,000 each.
 #[derive(Clone, Copy, Debug, PartialEq, Eq)]
 pub struct Prices {
     stations: [u32; 6],
     bus: u32,
+    width: u32,
 }
 
 impl Model for Prices {
@@ -22,22 +23,27 @@ impl Model for Prices {
 
     ghost Value = { PriceList };
 
-    ghost view = { λ p. record { stations = p.stations; bus = p.bus } };
+    ghost view = { λ p. record { stations = p.stations; bus = p.bus; width = p.width } };
 
-    ghost inverse = { λ p. record { stations = p.stations; bus = p.bus } };
+    ghost inverse = { λ p. record { stations = p.stations; bus = p.bus; width = p.width } };
 
-    ghost invariant = { λ p. IsPriceList (record { stations = p.stations; bus = p.bus }) };
+    ghost invariant = { λ p. IsPriceList (record { stations = p.stations; bus = p.bus; width = p.width }) };
 }
 
 impl Prices {
     /// These prices, the stations' in the order of `PoolId::ALL`.
     #[tactic(auto, using(crate::proofs::Ranges::each_passes))]
-    pub fn new(stations: [u32; 6], bus: u32) -> Prices
+    pub fn new(stations: [u32; 6], bus: u32, width: u32) -> Prices
         requires stations { list_all is_price stations ≡ true }
         requires bus { is_price bus ≡ true }
-        ensures { result ≡ record { stations = stations; bus = bus } }
+        requires width { is_price width ≡ true }
+        ensures { result ≡ record { stations = stations; bus = bus; width = width } }
     {
-        Prices { stations, bus }
+        Prices {
+            stations,
+            bus,
+            width,
+        }
     }
 
     /// The price of a station of a pool.
@@ -54,6 +60,14 @@ impl Prices {
         ensures range { result ≤ 1000000 }
     {
         self.bus
+    }
+
+    /// The price of the width, for each instruction that may issue in a cycle.
+    pub fn width(&self) -> u32
+        ensures price { result ≡ self.now.width }
+        ensures range { result ≤ 1000000 }
+    {
+        self.width
     }
 }
 
@@ -97,11 +111,13 @@ fn options_cost(row: &Config) -> u64
     total
 }
 
-/// What a row costs: its stations and its buses at these prices, and its options at their own.
+/// What a row costs: its stations, its buses and its width at these prices, and its options at their
+/// own.
 pub fn cost(row: &Config, prices: &Prices) -> u64
     ensures cost { result ≡ cost_of row.now prices.now }
-    ensures bound { result ≤ 109000000 }
+    ensures bound { result ≤ 113000000 }
 {
     let buses = u64::from(row.buses()) * u64::from(prices.bus());
-    stations_cost(row, prices) + options_cost(row) + buses
+    let width = u64::from(row.width()) * u64::from(prices.width());
+    stations_cost(row, prices) + options_cost(row) + buses + width
 }

@@ -2,9 +2,9 @@
 
 ghost use Rattle.std.specs.Prelude.{◌≡◌, ◌≤◌, length, IfOk, true};
 ghost use Rattle.std.specs.List.{list_all};
-ghost use Rattle.tomex_config.specs.Row.{is_between, is_option, most_units, with_stations, with_option, with_buses};
-ghost use Rattle.tomex_config.specs.Grid.{lists_of, stations_in_range, options_in_range, in_range, rows_of, grid_of, Gives};
-ghost use Rattle.tomex_config.specs.Vary.{vary, station_rows, option_rows};
+ghost use Rattle.tomex_config.specs.Row.{is_between, is_option, most_units, with_stations, with_option, with_buses, with_width};
+ghost use Rattle.tomex_config.specs.Grid.{lists_of, stations_in_range, options_in_range, rest_in_range, in_range, rows_of, grid_of, Gives};
+ghost use Rattle.tomex_config.specs.Vary.{vary, station_rows, option_rows, bus_rows};
 
 use crate::axis::Axes;
 use crate::row::{Config, UnitOption};
@@ -85,6 +85,25 @@ fn vary_buses<A: Allocator>(
     Ok(varied)
 }
 
+/// Each row, once with each width.
+#[tactic(auto, using(crate::proofs::Ranges::each_passes))]
+fn vary_width<A: Allocator>(
+    alloc: A,
+    rows: &[Config],
+    widths: &[u8],
+) -> Result<Vec<Config, A>, AllocError>
+    requires { list_all (is_between 1 4) widths.now ≡ true }
+    ensures { IfOk result (λ v. v.items ≡ vary with_width widths.now rows.now) }
+{
+    let mut varied = Vec::new(alloc);
+    for row in rows {
+        for width in widths {
+            varied.push(row.with_width(*width))?;
+        }
+    }
+    Ok(varied)
+}
+
 /// A row for each choice of stations.
 fn station_rows<A: Allocator + Clone>(
     alloc: A,
@@ -116,14 +135,25 @@ fn option_rows<A: Allocator + Clone>(alloc: A, axes: &Axes<A>) -> Result<Vec<Con
     vary_option(alloc, &rows, UnitId::Bru, &axes.bru_units)
 }
 
+/// A row for each choice of stations, options and buses.
+fn bus_rows<A: Allocator + Clone>(alloc: A, axes: &Axes<A>) -> Result<Vec<Config, A>, AllocError>
+    requires stations { stations_in_range (lists_of axes.now) ≡ true }
+    requires options { options_in_range (lists_of axes.now) ≡ true }
+    requires rest { rest_in_range (lists_of axes.now) ≡ true }
+    ensures { IfOk result (λ v. v.items ≡ bus_rows (lists_of axes.now)) }
+{
+    let rows = option_rows(alloc.clone()?, axes)?;
+    vary_buses(alloc, &rows, &axes.buses)
+}
+
 /// A row for each choice of all parts.
 #[tactic(auto, unfolding(crate::specs::Grid::in_range))]
 fn rows_of<A: Allocator + Clone>(alloc: A, axes: &Axes<A>) -> Result<Vec<Config, A>, AllocError>
     requires { in_range (lists_of axes.now) ≡ true }
     ensures { IfOk result (λ v. v.items ≡ rows_of (lists_of axes.now)) }
 {
-    let rows = option_rows(alloc.clone()?, axes)?;
-    vary_buses(alloc, &rows, &axes.buses)
+    let rows = bus_rows(alloc.clone()?, axes)?;
+    vary_width(alloc, &rows, &axes.width)
 }
 
 /// The rows of the axes: each choice of a value from each list is a row, and the last axis varies

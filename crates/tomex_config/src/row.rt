@@ -2,7 +2,7 @@
 
 ghost use Rattle.std.specs.Prelude.{◌≡◌, ◌≤◌, ◌↔◌, true, IsSome, IfSome};
 ghost use Rattle.std.specs.List.{list_all};
-ghost use Rattle.tomex_config.specs.Row.{IsRow, is_between, is_option, most_units, plain, stations_of, option_of, with_stations, with_option, with_buses};
+ghost use Rattle.tomex_config.specs.Row.{IsRow, is_between, is_option, most_units, plain, stations_of, option_of, with_stations, with_option, with_buses, with_width};
 
 use std::marker::Model;
 use tomex_rvdec::{PoolId, UnitId};
@@ -17,12 +17,14 @@ pub struct UnitOption {
 }
 
 /// A configuration within the limits: 1 to 16 reservation stations in each pool, 1 to 8 units of
-/// each kind but a single branch unit, latencies of 1 to 64 cycles, and 1 to 8 common data buses.
+/// each kind but a single branch unit, latencies of 1 to 64 cycles, 1 to 8 common data buses, and an
+/// issue width of 1 to 4.
 #[derive(Clone, Copy, Debug, PartialEq, Eq)]
 pub struct Config {
     stations: [u8; 6],
     units: [UnitOption; 5],
     buses: u8,
+    width: u8,
 }
 
 impl Model for Config {
@@ -30,11 +32,11 @@ impl Model for Config {
 
     ghost Value = { Row };
 
-    ghost view = { λ c. record { stations = c.stations; units = c.units; buses = c.buses } };
+    ghost view = { λ c. record { stations = c.stations; units = c.units; buses = c.buses; width = c.width } };
 
-    ghost inverse = { λ r. record { stations = r.stations; units = r.units; buses = r.buses } };
+    ghost inverse = { λ r. record { stations = r.stations; units = r.units; buses = r.buses; width = r.width } };
 
-    ghost invariant = { λ c. IsRow (record { stations = c.stations; units = c.units; buses = c.buses }) };
+    ghost invariant = { λ c. IsRow (record { stations = c.stations; units = c.units; buses = c.buses; width = c.width }) };
 }
 
 /// Whether an option is within the limits, of which `most` is that of its units.
@@ -51,24 +53,26 @@ pub(crate) fn is_option(option: UnitOption, most: u8) -> bool
 impl Config {
     /// The row of these parts, in the order of `PoolId::ALL` and `UnitId::ALL`. `None` where one
     /// of them is out of the limits.
-    pub fn new(stations: [u8; 6], units: [UnitOption; 5], buses: u8) -> Option<Config>
-        ensures lawful { IsSome result ↔ IsRow (record { stations = stations; units = units; buses = buses }) }
-        ensures parts { IfSome result (λ c. c ≡ record { stations = stations; units = units; buses = buses }) }
+    pub fn new(stations: [u8; 6], units: [UnitOption; 5], buses: u8, width: u8) -> Option<Config>
+        ensures lawful { IsSome result ↔ IsRow (record { stations = stations; units = units; buses = buses; width = width }) }
+        ensures parts { IfSome result (λ c. c ≡ record { stations = stations; units = units; buses = buses; width = width }) }
     {
         let are_stations = stations.iter().all(|count| 1 <= *count && *count <= 16);
         let are_units = units.iter().all(|option| is_option(*option, 8));
-        if are_stations && are_units && units[4].units == 1 && 1 <= buses && buses <= 8 {
+        let are_rest = 1 <= buses && buses <= 8 && 1 <= width && width <= 4;
+        if are_stations && are_units && units[4].units == 1 && are_rest {
             Some(Config {
                 stations,
                 units,
                 buses,
+                width,
             })
         } else {
             None
         }
     }
 
-    /// One station a pool, one unit of latency 1 and price 0 a kind, and one bus.
+    /// One station a pool, one unit of latency 1 and price 0 a kind, one bus, and a width of 1.
     pub(crate) fn plain() -> Config
         ensures { result ≡ plain }
     {
@@ -81,6 +85,7 @@ impl Config {
             stations: [1; 6],
             units: [unit; 5],
             buses: 1,
+            width: 1,
         }
     }
 
@@ -113,6 +118,14 @@ impl Config {
             buses: count,
             ..*self
         }
+    }
+
+    /// The row with another width.
+    pub(crate) fn with_width(&self, width: u8) -> Config
+        requires { is_between 1 4 width ≡ true }
+        ensures { result ≡ with_width self.now width }
+    {
+        Config { width, ..*self }
     }
 
     /// The reservation stations of a pool.
@@ -158,5 +171,14 @@ impl Config {
         ensures lawful { IsRow self.now }
     {
         self.buses
+    }
+
+    /// How many instructions issue in a cycle at most.
+    pub fn width(&self) -> u8
+        ensures count { result ≡ self.now.width }
+        ensures range { (1 ≤ result) × (result ≤ 4) }
+        ensures lawful { IsRow self.now }
+    {
+        self.width
     }
 }

@@ -1,23 +1,26 @@
--- With a width of one the issue of one instruction is the phase.
-use Rattle.std.proofs.Common.{ℕ, ◌+◌, ◌%◌, ◌<◌, ◌≤◌, ◌≡◌, ◌∙◌, Bool, true, false, arith, refl, List, [], ◌∷◌, ap, sym, inl, inr}
-use Rattle.std.specs.Prelude.{nat_lt, Result, if◌then◌else◌}
-use Rattle.std.proofs.lemmas.Bool.{cases_Bool, ltb-true, ltb-false, lt-ltb, le-ltb, le-leb, both_ways}
-use Rattle.tomex_image.specs.Image.{Loaded}
+-- The issues of a cycle: the first, and those that the width leaves after it.
+use Rattle.std.proofs.Common.{ℕ, suc, ◌+◌, ◌%◌, ◌<◌, ◌≤◌, ◌≡◌, ◌∙◌, Bool, true, false, arith, refl, List, [], ◌∷◌, ap, inl, inr, subst}
+use Rattle.std.specs.Prelude.{nat_lt, ◌&&◌, Result, Ok, Err, if◌then◌else◌}
+use Rattle.std.proofs.lemmas.Bool.{cases_Bool, ltb-true, ltb-false, lt-ltb, le-ltb, le-leb, both_ways, eq-eqb}
+use Rattle.std.proofs.lemmas.List.Sums.{sum_by-cons}
+use Rattle.tomex_image.specs.Image.{IsLoaded, Loaded}
 use Rattle.tomex_config.specs.Row.{Row, IsRow}
 use Rattle.tomex_rvexec.specs.declared.outcome.EndKind.{EndKind}
 use Rattle.tomex_rvexec.specs.declared.outcome.Fault.{Fault}
 use Rattle.tomex_rvexec.specs.declared.step.Step.{Step}
 use Rattle.tomex_rvexec.specs.Machine.{State}
 use Rattle.tomex_rvexec.specs.Run.{RunEnds}
+use Rattle.tomex_rvexec.specs.Steps.{step_pool}
 use Rattle.tomex_timing.specs.declared.times.Done.{Done}
 use Rattle.tomex_timing.specs.History.{last_issue}
-use Rattle.tomex_timing.specs.Recurrence.{AreTimed, can_issue, has_slot, width_of}
+use Rattle.tomex_timing.specs.Recurrence.{AreTimed, are_branches_finished, can_issue, has_slot}
 use Rattle.tomex_timing.specs.Search.{times_of}
+use Rattle.tomex_timing.specs.Station.{has_station}
 use Rattle.tomex_timing.proofs.Limits.{width_low}
 use Rattle.tomex_timing.proofs.Search.{times_are}
-use Rattle.tomex_timing.proofs.Width.{issues_alone, none_later}
+use Rattle.tomex_timing.proofs.Width.{none_later}
 use Rattle.tomex_cycle.specs.declared.fetch.Fetch.{Fetch}
-use Rattle.tomex_cycle.specs.Issue.{IsIssuing, IssuesNext, count_after, counted_by}
+use Rattle.tomex_cycle.specs.Issue.{HaveIssued, IsIssuing, IssuesMore, IssuesNext, IssuesOn, count_after, counted_by, issued_in}
 use Rattle.tomex_cycle.specs.Phases.{IsIssuedTo, IsYetToIssue, MakesIssue}
 use Rattle.tomex_cycle.specs.Run.{AreIssuedBy, run_to}
 use Rattle.tomex_cycle.specs.Views.{clocks}
@@ -31,15 +34,24 @@ last_by : (t : ℕ) (h : List Done) → AreIssuedBy t h → last_issue h ≤ t
 last_by t [] issued = omega arith
 last_by t (d ∷ older) issued = issued.0
 
--- none has issued in the cycle yet, so the width leaves one
-pub slot_first : (row : Row) (t u : ℕ) (h : List Done) → AreTimed row h → AreIssuedBy t h → u ≡ t + 1 → has_slot row h u ≡ true
-slot_first row t u h timed issued e =
-    let l : last_issue h ≤ t = last_by t h issued in
-    rw (le-leb (last_issue h) u (omega arith), none_later row h u timed (omega arith), lt-ltb 0 (width_of row) (width_low row)) refl
+-- none has issued in the cycle yet
+none_first : (row : Row) (t u : ℕ) (h : List Done) → AreTimed row h → AreIssuedBy t h → u ≡ t + 1 → issued_in u h ≡ 0
+none_first row t u h timed issued e = let l : last_issue h ≤ t = last_by t h issued in none_later row h u timed (omega arith)
 
-pub width_one : (row : Row) → width_of row ≡ 1
-unfolding width_of
-width_one row = refl
+-- as long as fewer than the width have issued in it, one more may
+slot_there : (row : Row) (u : ℕ) (h : List Done) → AreIssuedBy u h → issued_in u h < row.width → has_slot row h u ≡ true
+slot_there row u h issued l = rw (le-leb (last_issue h) u (last_by u h issued), lt-ltb (issued_in u h) row.width l) refl
+
+-- and then none
+slot_gone : (row : Row) (u : ℕ) (h : List Done) → AreIssuedBy u h → row.width ≤ issued_in u h → has_slot row h u ≡ false
+slot_gone row u h issued l = rw (le-leb (last_issue h) u (last_by u h issued), le-ltb (issued_in u h) row.width l) refl
+
+without_slot : (row : Row) (u : ℕ) (h : List Done) (y : Step) → has_slot row h u ≡ false → can_issue row h y u ≡ false
+without_slot row u h y gone = rw gone (never (nat_lt 0 u) (are_branches_finished h u) (has_station row h (step_pool y) u))
+  where
+    never : (a b c : Bool) → (((a && false) && b) && c) ≡ false
+    never true b c = refl
+    never false b c = refl
 
 -- the step that issues after t does so in the next cycle, if it has issued by then
 issues_then : (row : Row) (h : List Done) (x : Step) (t u : ℕ) → IsRow row → AreTimed row h → ((s : ℕ) → s ≤ t → can_issue row h x s ≡ false) → (times_of row h x).issue ≤ u → u ≡ t + 1 → (times_of row h x).issue ≡ u
@@ -50,45 +62,169 @@ issues_then row h x t u good timed never by e = elim (cases_Bool (nat_lt t (time
       absurd (both_ways _ (never (times_of row h x).issue k) (times_are row h x good timed).issue.0)
 ]
 
--- no second one issues
-alone : (row : Row) (d : Done) (h : List Done) (y : Step) (u : ℕ) → AreTimed row (d ∷ h) → d.at.issue ≡ u → can_issue row (d ∷ h) y u ≡ false
-alone row d h y u timed at = issues_alone row (d ∷ h) y u (width_one row) timed ∙ rw (le-ltb d.at.issue u (omega arith)) refl
+count_first : (u : ℕ) (d : Done) (h : List Done) → d.at.issue ≡ u → issued_in u (d ∷ h) ≡ suc (issued_in u h)
+count_first u d h e = rw (sum_by-cons, eq-eqb d.at.issue u e) (omega arith)
 
-none_more : (i : Loaded) (row : Row) (n count t u : ℕ) (s : State) (kind : EndKind) → RunEnds i n s kind → IsRow row → u ≡ t + 1 → (count ≤ n → IsYetToIssue i row count t) → AreIssuedBy u (run_to row i (count + 1)) → count + 1 ≤ n → (y : Step) → can_issue row (run_to row i (count + 1)) y u ≡ false
-none_more i row n count t u s kind ends good e before issued less y =
+-- one more has issued in it
+one_more : (i : Loaded) (row : Row) (n count t u : ℕ) (s : State) (kind : EndKind) → RunEnds i n s kind → IsRow row → u ≡ t + 1 → (count ≤ n → IsYetToIssue i row count t) → AreIssuedBy u (run_to row i (count + 1)) → count + 1 ≤ n + 1 → issued_in u (run_to row i (count + 1)) ≡ suc (issued_in u (run_to row i count))
+one_more i row n count t u s kind ends good e before issued few =
     let x = step_is i n count s kind ends (omega arith) in
     let run : run_to row i (count + 1) ≡ next_done row (run_to row i count) x.0 ∷ run_to row i count = run_next row i count x.0 x.1 in
     let by : AreIssuedBy u (next_done row (run_to row i count) x.0 ∷ run_to row i count) = rw run at issued in
     let at : (times_of row (run_to row i count) x.0).issue ≡ u = issues_then row (run_to row i count) x.0 t u good (run_timed row i count good) (before (omega arith) x.0 x.1) by.0 e in
-    rw run (alone row (next_done row (run_to row i count) x.0) (run_to row i count) y u (rw run at (run_timed row i (count + 1) good)) at)
+    rw run (count_first u (next_done row (run_to row i count) x.0) (run_to row i count) at)
 
--- what the phase leaves
-after_one : (i : Loaded) (row : Row) (n count t u : ℕ) (s : State) (kind : EndKind) (made : Bool) (st : Pools) (rg : RegStatus) (ft : Fetch) → RunEnds i n s kind → IsRow row → u ≡ t + 1 → (count ≤ n → IsYetToIssue i row count t)
-    → IsIssuing i row n t u (count_after made count) st rg ft → (made ≡ false → count ≤ n → IsYetToIssue i row count u) → IsIssuedTo i row n u (clocks u u t) (count_after made count) st rg ft
-after_one i row n count t u s kind false st rg ft ends good e before on yet = record { few = on.few; slots = on.slots; status = on.status; from = on.from; issued = on.issued; next = yet refl }
-after_one i row n count t u s kind true st rg ft ends good e before on yet = record {
-  few = on.few;
-  slots = on.slots;
-  status = on.status;
-  from = on.from;
-  issued = on.issued;
-  next = λ less. yet_more i row (count + 1) t u (on.next less) (λ y is. none_more i row n count t u s kind ends good e before on.issued less y) e;
-}
+ok_made : {A E : Type 0} (r : Result A E) (x y : A) → r ≡ Ok x → r ≡ Ok y → x ≡ y
+ok_made r x y e f = cc
 
-before_one : (i : Loaded) (row : Row) (n count t u : ℕ) (st : Pools) (rg : RegStatus) (ft : Fetch) → u ≡ t + 1 → IsIssuedTo i row n t (clocks u u t) count st rg ft → IsIssuing i row n t u count st rg ft
-before_one i row n count t u st rg ft e old = record { few = old.few; slots = old.slots; status = old.status; from = old.from; issued = issued_more t u (run_to row i count) (omega arith) old.issued; next = old.next }
+ok_or_err : {A E : Type 0} (r : Result A E) (x : A) (y : E) → r ≡ Ok x → r ≡ Err y → ⊥
+ok_or_err r x y e f = cc
 
-count_up : (made : Bool) (count : ℕ) → count ≤ count_after made count
-count_up false count = omega arith
-count_up true count = omega arith
+yes_no : true ≡ false → ⊥
+yes_no e = cc
 
-pub phase_is : (i : Loaded) (row : Row) (u count : ℕ) (st new : Pools) (rg status : RegStatus) (ft from : Fetch) (result : Result Bool Fault)
-    → IssuesNext i row count st rg ft result new status from → MakesIssue i row u count st rg ft (counted_by count result) new status from
-phase_is i row u count st new rg status ft from result issues n s kind t ends l e good loaded old =
-    let on = issues n t u s kind ends l e good loaded (slot_first row t u (run_to row i count) (run_timed row i count good) old.issued e) (before_one i row n count t u st rg ft e old) in
-    (count_after on.0 count, ap (counted_by count) on.1, count_up on.0 count, after_one i row n count t u s kind on.0 new status from ends good e old.next on.2 on.3)
+-- The issue of one more: it is made, or it can't be, in the cycle.
+
+pub record IsTried (i : Loaded) (row : Row) (n t u count made : ℕ) (more : Bool) (st : Pools) (rg : RegStatus) (ft : Fetch) : Type 0 where
+  pub on : IsIssuing i row n t u (count_after more (count + made)) st rg ft
+  pub yet : more ≡ false → count + made ≤ n → IsYetToIssue i row (count + made) u
+
+tried : (i : Loaded) (row : Row) (n t u count made word : ℕ) (s : State) (kind : EndKind) (st new : Pools) (rg status : RegStatus) (ft from : Fetch) (result : Result Bool Fault) (more : Bool)
+    → IsIssuing i row n t u (count + made) st rg ft → issued_in u (run_to row i (count + made)) < row.width → word ≡ count + made → IssuesNext i row word st rg ft result new status from → result ≡ Ok more
+    → RunEnds i n s kind → n < 262144 → u ≡ t + 1 → IsRow row → IsLoaded i.window i.memory i.entry → IsTried i row n t u count made more new status from
+tried i row n t u count made word s kind st new rg status ft from result more now left e issues is ends l at good loaded =
+    let next : IssuesNext i row (count + made) st rg ft result new status from = subst (λ (k : ℕ). IssuesNext i row k st rg ft result new status from) e issues in
+    let d = next n t u s kind ends l at good loaded (slot_there row u (run_to row i (count + made)) now.issued left) now in
+    let m : d.0 ≡ more = ok_made result d.0 more d.1 is in
+    record {
+      on = subst (λ (b : Bool). IsIssuing i row n t u (count_after b (count + made)) new status from) m d.2;
+      yet = λ none. d.3 (m ∙ none);
+    }
+
+issued_again : (i : Loaded) (row : Row) (n t u count made : ℕ) (s : State) (kind : EndKind) (st new : Pools) (rg status : RegStatus) (ft from : Fetch) → HaveIssued i row n t u count made st rg ft → IsTried i row n t u count made true new status from
+    → RunEnds i n s kind → u ≡ t + 1 → IsRow row → HaveIssued i row n t u count (made + 1) new status from
+issued_again i row n t u count made s kind st new rg status ft from have more ends e good =
+    let few : count + made + 1 ≤ n + 1 = more.on.few in
+    let counted : issued_in u (run_to row i (count + made + 1)) ≡ suc (issued_in u (run_to row i (count + made))) = one_more i row n (count + made) t u s kind ends good e have.now.next more.on.issued few in
+    let before : issued_in u (run_to row i (count + made)) ≡ made = have.same in
+    let same : issued_in u (run_to row i (count + made + 1)) ≡ made + 1 = omega arith in
+    let at : count + made + 1 ≡ count + (made + 1) = omega arith in
+    record {
+      now = subst (λ (k : ℕ). IsIssuing i row n t u k new status from) at more.on;
+      same = subst (λ (k : ℕ). issued_in u (run_to row i k) ≡ made + 1) at same;
+    }
+
+-- The turns of the loop.
+
+pub on_first : (i : Loaded) (row : Row) (count : ℕ) (st : Pools) (rg : RegStatus) (ft : Fetch) → IssuesOn i row count st rg ft 1 st rg ft
+on_first i row count st rg ft n t u s kind ends l e good loaded have = have
+
+pub on_more : (i : Loaded) (row : Row) (count made word : ℕ) (st0 st new : Pools) (rg0 rg status : RegStatus) (ft0 ft from : Fetch) (result : Result Bool Fault) → IssuesOn i row count st0 rg0 ft0 made st rg ft → made < row.width → word ≡ (count + made) % 4294967296
+    → IssuesNext i row word st rg ft result new status from → result ≡ Ok true → IssuesOn i row count st0 rg0 ft0 (made + 1) new status from
+on_more i row count made word st0 st new rg0 rg status ft0 ft from result on less e issues is n t u s kind ends l at good loaded first =
+    let have = on n t u s kind ends l at good loaded first in
+    let before : issued_in u (run_to row i (count + made)) ≡ made = have.same in
+    let few : count + made ≤ n + 1 = have.now.few in
+    let same : word ≡ count + made = omega (arith, e) in
+    let more = tried i row n t u count made word s kind st new rg status ft from result true have.now (omega arith) same issues is ends l at good loaded in
+    issued_again i row n t u count made s kind st new rg status ft from have more ends at good
+
+pub on_wait : (i : Loaded) (row : Row) (count made word : ℕ) (st0 st new : Pools) (rg0 rg status : RegStatus) (ft0 ft from : Fetch) (result : Result Bool Fault) → IssuesOn i row count st0 rg0 ft0 made st rg ft → made < row.width → word ≡ (count + made) % 4294967296
+    → IssuesNext i row word st rg ft result new status from → result ≡ Ok false → IssuesMore i row count st0 rg0 ft0 (Ok made) new status from
+on_wait i row count made word st0 st new rg0 rg status ft0 ft from result on less e issues is n t u s kind ends l at good loaded first =
+    let have = on n t u s kind ends l at good loaded first in
+    let before : issued_in u (run_to row i (count + made)) ≡ made = have.same in
+    let few : count + made ≤ n + 1 = have.now.few in
+    let same : word ≡ count + made = omega (arith, e) in
+    let more = tried i row n t u count made word s kind st new rg status ft from result false have.now (omega arith) same issues is ends l at good loaded in
+    (made, refl, record { now = more.on; same = have.same }, more.yet refl)
+
+pub on_fault : (i : Loaded) (row : Row) (count made word : ℕ) (st0 st new : Pools) (rg0 rg status : RegStatus) (ft0 ft from : Fetch) (result : Result Bool Fault) (fault : Fault) (last : Result ℕ Fault) → IssuesOn i row count st0 rg0 ft0 made st rg ft → made < row.width → word ≡ (count + made) % 4294967296
+    → IssuesNext i row word st rg ft result new status from → result ≡ Err fault → IssuesMore i row count st0 rg0 ft0 last new status from
+on_fault i row count made word st0 st new rg0 rg status ft0 ft from result fault last on less e issues is n t u s kind ends l at good loaded first =
+    let have = on n t u s kind ends l at good loaded first in
+    let before : issued_in u (run_to row i (count + made)) ≡ made = have.same in
+    let few : count + made ≤ n + 1 = have.now.few in
+    let same : word ≡ count + made = omega (arith, e) in
+    let next : IssuesNext i row (count + made) st rg ft result new status from = subst (λ (k : ℕ). IssuesNext i row k st rg ft result new status from) same issues in
+    let d = next n t u s kind ends l at good loaded (slot_there row u (run_to row i (count + made)) have.now.issued (omega arith)) have.now in
+    absurd (ok_or_err result d.0 fault d.1 is)
+
+-- the width leaves no more
+full : (i : Loaded) (row : Row) (n t u count made : ℕ) (st : Pools) (rg : RegStatus) (ft : Fetch) → HaveIssued i row n t u count made st rg ft → row.width ≤ made → u ≡ t + 1 → count + made ≤ n → IsYetToIssue i row (count + made) u
+full i row n t u count made st rg ft have most e less =
+    let before : issued_in u (run_to row i (count + made)) ≡ made = have.same in
+    yet_more i row (count + made) t u (have.now.next less) (λ y is. without_slot row u (run_to row i (count + made)) y (slot_gone row u (run_to row i (count + made)) have.now.issued (omega arith))) e
+
+pub on_full : (i : Loaded) (row : Row) (count made : ℕ) (st0 st : Pools) (rg0 rg : RegStatus) (ft0 ft : Fetch) → IssuesOn i row count st0 rg0 ft0 made st rg ft → row.width ≤ made → IssuesMore i row count st0 rg0 ft0 (Ok made) st rg ft
+on_full i row count made st0 st rg0 rg ft0 ft on most n t u s kind ends l e good loaded first =
+    let have = on n t u s kind ends l e good loaded first in
+    (made, refl, have, full i row n t u count made st rg ft have most e)
+
+-- The phase.
+
+before_one : (i : Loaded) (row : Row) (n count t u : ℕ) (st : Pools) (rg : RegStatus) (ft : Fetch) → IsRow row → u ≡ t + 1 → IsIssuedTo i row n t (clocks u u t) count st rg ft → HaveIssued i row n t u count 0 st rg ft
+before_one i row n count t u st rg ft good e old =
+    let at : count ≡ count + 0 = omega arith in
+    let none : issued_in u (run_to row i count) ≡ 0 = none_first row t u (run_to row i count) (run_timed row i count good) old.issued e in
+    record {
+      now = subst (λ (k : ℕ). IsIssuing i row n t u k st rg ft) at (record { few = old.few; slots = old.slots; status = old.status; from = old.from; issued = issued_more t u (run_to row i count) (omega arith) old.issued; next = old.next });
+      same = subst (λ (k : ℕ). issued_in u (run_to row i k) ≡ 0) at none;
+    }
+
+first_tried : (i : Loaded) (row : Row) (n t u count : ℕ) (s : State) (kind : EndKind) (st new : Pools) (rg status : RegStatus) (ft from : Fetch) (result : Result Bool Fault) (more : Bool)
+    → HaveIssued i row n t u count 0 st rg ft → IssuesNext i row count st rg ft result new status from → result ≡ Ok more
+    → RunEnds i n s kind → n < 262144 → u ≡ t + 1 → IsRow row → IsLoaded i.window i.memory i.entry → IsTried i row n t u count 0 more new status from
+first_tried i row n t u count s kind st new rg status ft from result more have issues is ends l e good loaded =
+    let none : issued_in u (run_to row i (count + 0)) ≡ 0 = have.same in
+    let some : 0 < row.width = width_low row good in
+    tried i row n t u count 0 count s kind st new rg status ft from result more have.now (omega arith) (omega arith) issues is ends l e good loaded
+
+issued_to : (i : Loaded) (row : Row) (n t u count made : ℕ) (st : Pools) (rg : RegStatus) (ft : Fetch) → HaveIssued i row n t u count made st rg ft → (count + made ≤ n → IsYetToIssue i row (count + made) u) → IsIssuedTo i row n u (clocks u u t) (count + made) st rg ft
+issued_to i row n t u count made st rg ft have yet = record { few = have.now.few; slots = have.now.slots; status = have.now.status; from = have.now.from; issued = have.now.issued; next = yet }
+
+-- none issues
+pub phase_none : (i : Loaded) (row : Row) (u count : ℕ) (st new : Pools) (rg status : RegStatus) (ft from : Fetch) (result : Result Bool Fault)
+    → IssuesNext i row count st rg ft result new status from → result ≡ Ok false → MakesIssue i row u count st rg ft (counted_by count (Ok 0)) new status from
+phase_none i row u count st new rg status ft from result issues is n s kind t ends l e good loaded old =
+    let have = before_one i row n count t u st rg ft good e old in
+    let first = first_tried i row n t u count s kind st new rg status ft from result false have issues is ends l e good loaded in
+    (count + 0, refl, omega arith, issued_to i row n t u count 0 new status from (record { now = first.on; same = have.same }) (first.yet refl))
+
+-- one does, and the width is one
+pub phase_one : (i : Loaded) (row : Row) (u count : ℕ) (st new : Pools) (rg status : RegStatus) (ft from : Fetch) (result : Result Bool Fault)
+    → IssuesNext i row count st rg ft result new status from → result ≡ Ok true → row.width ≡ 1 → MakesIssue i row u count st rg ft (counted_by count (Ok 1)) new status from
+phase_one i row u count st new rg status ft from result issues is one n s kind t ends l e good loaded old =
+    let have = before_one i row n count t u st rg ft good e old in
+    let first = first_tried i row n t u count s kind st new rg status ft from result true have issues is ends l e good loaded in
+    let made : HaveIssued i row n t u count 1 new status from = issued_again i row n t u count 0 s kind st new rg status ft from have first ends e good in
+    (count + 1, refl, omega arith, issued_to i row n t u count 1 new status from made (full i row n t u count 1 new status from made (omega arith) e))
+
+-- one does, and more after it
+pub phase_more : (i : Loaded) (row : Row) (u count : ℕ) (st mid new : Pools) (rg between status : RegStatus) (ft next from : Fetch) (result : Result Bool Fault) (last : Result ℕ Fault)
+    → IssuesNext i row count st rg ft result mid between next → result ≡ Ok true → IssuesMore i row count mid between next last new status from → MakesIssue i row u count st rg ft (counted_by count last) new status from
+phase_more i row u count st mid new rg between status ft next from result last issues is more n s kind t ends l e good loaded old =
+    let have = before_one i row n count t u st rg ft good e old in
+    let first = first_tried i row n t u count s kind st mid rg between ft next result true have issues is ends l e good loaded in
+    let made : HaveIssued i row n t u count 1 mid between next = issued_again i row n t u count 0 s kind st mid rg between ft next have first ends e good in
+    let d = more n t u s kind ends l e good loaded made in
+    (count + d.0, ap (counted_by count) d.1, omega arith, issued_to i row n t u count d.0 new status from d.2 d.3)
+
+-- and none faults
+pub phase_fault : (i : Loaded) (row : Row) (u count : ℕ) (st new : Pools) (rg status : RegStatus) (ft from : Fetch) (result : Result Bool Fault) (fault : Fault) (last : Result ℕ Fault)
+    → IssuesNext i row count st rg ft result new status from → result ≡ Err fault → MakesIssue i row u count st rg ft last new status from
+phase_fault i row u count st new rg status ft from result fault last issues is n s kind t ends l e good loaded old =
+    let have = before_one i row n count t u st rg ft good e old in
+    let none : issued_in u (run_to row i (count + 0)) ≡ 0 = have.same in
+    let some : 0 < row.width = width_low row good in
+    let at : count ≡ count + 0 = omega arith in
+    let next : IssuesNext i row (count + 0) st rg ft result new status from = subst (λ (k : ℕ). IssuesNext i row k st rg ft result new status from) at issues in
+    let d = next n t u s kind ends l e good loaded (slot_there row u (run_to row i (count + 0)) have.now.issued (omega arith)) have.now in
+    absurd (ok_or_err result d.0 fault d.1 is)
 
 -- no machine counts as far as its numbers go
-pub counted_in_word : (made : Bool) (count c : ℕ) → count < 4294967295 → c ≡ (if made then (count + 1) % 4294967296 else count) → count_after made count ≡ c
-counted_in_word false count c l e = sym e
-counted_in_word true count c l e = omega (arith, e)
+pub counted_in_word : (made count c : ℕ) → count + made < 4294967296 → c ≡ (if nat_lt 0 made then (count + made) % 4294967296 else count) → count + made ≡ c
+counted_in_word made count c l e = elim (cases_Bool (nat_lt 0 made)) [
+  | inl some ↦ let counted : c ≡ (count + made) % 4294967296 = rw some at e in omega (arith, counted)
+  | inr none ↦ let same : c ≡ count = rw none at e in let few : made ≤ 0 = ltb-false 0 made none in omega (arith, same, few)
+]

@@ -1,7 +1,6 @@
 -- What is noted of a cycle as its phases change something.
-use Rattle.std.proofs.Common.{ℕ, Bool, true, false, ◌≡◌, arith, refl, inl, inr}
+use Rattle.std.proofs.Common.{ℕ, Bool, true, false, ◌≡◌, refl, inl, inr}
 use Rattle.std.specs.Prelude.{◌≢◌, ◌⊎◌, if◌then◌else◌}
-use Rattle.tomex_cycle.specs.Issue.{count_after}
 use Rattle.tomex_cycle.specs.declared.happened.Happened.{Happened}
 use Rattle.tomex_cycle.specs.declared.happened.Happened.TheVariants.{Nothing, Starts, More}
 
@@ -10,9 +9,9 @@ abbrev pub noted : (any addressed made : Bool) → Happened
 noted any addressed made = if made then More else (if addressed then More else (if any then Starts else Nothing))
 
 -- where something is noted, ends or starts, something has changed
-pub what_moved : (any addressed made ended : Bool) (before now : ℕ) → count_after made before ≡ now → (noted any addressed made ≡ More) ⊎ ((ended ≡ true) ⊎ (noted any addressed made ≡ Starts)) → (any ≡ true) ⊎ ((addressed ≡ true) ⊎ ((now ≢ before) ⊎ (ended ≡ true)))
+pub what_moved : (any addressed made ended : Bool) (before now : ℕ) → (made ≡ true → now ≢ before) → (noted any addressed made ≡ More) ⊎ ((ended ≡ true) ⊎ (noted any addressed made ≡ Starts)) → (any ≡ true) ⊎ ((addressed ≡ true) ⊎ ((now ≢ before) ⊎ (ended ≡ true)))
 what_moved any addressed made ended before now counted (inr (inl e)) = inr (inr (inr e))
-what_moved any addressed true ended before now counted (inl e) = inr (inr (inl (λ same. absurd (omega (arith, counted, same)))))
+what_moved any addressed true ended before now counted (inl e) = inr (inr (inl (counted refl)))
 what_moved any true false ended before now counted (inl e) = inr (inl refl)
 what_moved true false false ended before now counted (inl e) = inl refl
 what_moved false false false ended before now counted (inl e) = let z : Nothing ≡ More = e in absurd (cc)

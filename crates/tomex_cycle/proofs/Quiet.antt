@@ -15,13 +15,11 @@ use Rattle.tomex_timing.specs.declared.times.Done.{Done}
 use Rattle.tomex_timing.specs.declared.times.Times.{Times}
 use Rattle.tomex_timing.specs.History.{is_of, is_memory, cycle_of, writer_end, source_end, last_issue, last_address}
 use Rattle.tomex_timing.specs.Station.{is_held, has_station}
-use Rattle.tomex_timing.specs.Recurrence.{AreTimed, IsLeast, can_issue, can_address, can_start, can_end, has_unit, has_bus, has_operands, are_branches_finished, conflicts, are_conflicts_finished}
-use Rattle.tomex_timing.specs.Laws.{can_issue_alone}
-use Rattle.tomex_timing.proofs.Limits.{units_low, buses_low}
+use Rattle.tomex_timing.specs.Recurrence.{AreTimed, IsLeast, can_issue, can_address, can_start, can_end, has_slot, has_unit, has_bus, has_operands, are_branches_finished, conflicts, are_conflicts_finished}
+use Rattle.tomex_timing.proofs.Limits.{units_low, buses_low, width_low}
 use Rattle.tomex_timing.proofs.Settled.{count_none}
-use Rattle.tomex_timing.proofs.Width.{issues_alone}
+use Rattle.tomex_timing.proofs.Width.{none_later}
 use Rattle.tomex_cycle.specs.Calm.{AllCalm, IsCalm}
-use Rattle.tomex_cycle.proofs.IssuesPhase.{width_one}
 use Rattle.tomex_cycle.proofs.Totals.{reach}
 
 -- nothing of the step falls in the cycle but perhaps its start
@@ -78,6 +76,10 @@ less a v e apart = let k : a < v + 1 = ltb-true a (v + 1) e in lt-ltb a v (omega
 last_issue_still : (v : ℕ) (h : List Done) → 0 < v → AllAtRest v h → last_issue h ≢ v
 last_issue_still v [] l still e = omega arith
 last_issue_still v (d ∷ h) l still e = still.0.issue e
+
+pub last_issue_calm : (u : ℕ) (h : List Done) → AllCalm u h → last_issue h ≢ u + 1
+last_issue_calm u [] calm e = omega arith
+last_issue_calm u (d ∷ h) calm e = calm.0.apart e
 
 last_address_still : (v : ℕ) (h : List Done) → 0 < v → AllAtRest v h → last_address h ≢ v
 last_address_still v [] l still e = omega arith
@@ -142,13 +144,27 @@ bus_still row v h good still =
 
 -- What passes a test of the next cycle passes it in a cycle in which nothing happens.
 
-pub issue_still : (row : Row) (v : ℕ) (h : List Done) (s : Step) → 0 < v → AreTimed row h → AllAtRest v h → can_issue row h s (v + 1) ≡ true → can_issue row h s v ≡ true
-issue_still row v h s l timed still e =
-    let alone : can_issue_alone row h s (v + 1) ≡ true = sym (issues_alone row h s (v + 1) (width_one row) timed) ∙ e in
-    let a = and_parts (nat_lt (last_issue h) (v + 1) && are_branches_finished h (v + 1)) (has_station row h (step_pool s) (v + 1)) alone in
-    let b = and_parts (nat_lt (last_issue h) (v + 1)) (are_branches_finished h (v + 1)) a.0 in
-    issues_alone row h s v (width_one row) timed
-    ∙ and_from _ _ (and_from _ _ (less (last_issue h) v b.0 (last_issue_still v h l still)) (branches_still v h still b.1)) (station_still row v h (step_pool s) still a.1)
+-- where none has issued in either of the two, all slots of this one are left
+slot_still : (row : Row) (v : ℕ) (h : List Done) → 0 < v → IsRow row → AreTimed row h → AllAtRest v h → last_issue h ≢ v + 1 → has_slot row h (v + 1) ≡ true → has_slot row h v ≡ true
+slot_still row v h l good timed still apart e =
+    let by : last_issue h ≤ v + 1 = leb-true (last_issue h) (v + 1) (and_parts _ _ e).0 in
+    let here : last_issue h ≢ v = last_issue_still v h l still in
+    let earlier : last_issue h < v = before (last_issue h) v by here apart in
+    and_from _ _ (le-leb (last_issue h) v (omega arith)) (rw (none_later row h v timed earlier) (lt-ltb 0 row.width (width_low row good)))
+  where
+    before : (a v : ℕ) → a ≤ v + 1 → a ≢ v → a ≢ v + 1 → a < v
+    before a v by here apart = elim (cases_order a v) [
+      | inl e ↦ absurd (here e)
+      | inr (inl k) ↦ k
+      | inr (inr k) ↦ absurd (apart (omega arith))
+    ]
+
+pub issue_still : (row : Row) (v : ℕ) (h : List Done) (s : Step) → 0 < v → IsRow row → AreTimed row h → AllAtRest v h → last_issue h ≢ v + 1 → can_issue row h s (v + 1) ≡ true → can_issue row h s v ≡ true
+issue_still row v h s l good timed still apart e =
+    let a = and_parts (nat_lt 0 (v + 1) && has_slot row h (v + 1) && are_branches_finished h (v + 1)) (has_station row h (step_pool s) (v + 1)) e in
+    let b = and_parts (nat_lt 0 (v + 1) && has_slot row h (v + 1)) (are_branches_finished h (v + 1)) a.0 in
+    let c = and_parts (nat_lt 0 (v + 1)) (has_slot row h (v + 1)) b.0 in
+    and_from _ _ (and_from _ _ (and_from _ _ (lt-ltb 0 v l) (slot_still row v h l good timed still apart c.1)) (branches_still v h still b.1)) (station_still row v h (step_pool s) still a.1)
 
 address_still : (v : ℕ) (h : List Done) (s : Step) (issue : ℕ) → 0 < v → AllAtRest v h → issue ≢ v → can_address h s issue (v + 1) ≡ true → can_address h s issue v ≡ true
 address_still v h s issue l still apart e =
@@ -225,7 +241,8 @@ still_next row u v (d ∷ h) good timed l m still free =
     let before : AllStill v h = (still v m (omega arith)).1 in
     let rest : AllAtRest v h = still_rests v h before in
     let low : 0 < v = omega arith in
-    let issue : d.at.issue ≢ v + 1 = not_least (can_issue row h d.step) d.at.issue v (issue_still row v h d.step low timed.1 rest) timed.0.issue in
+    let apart : last_issue h ≢ v + 1 = last_issue_still (v + 1) h (omega arith) (still_rests (v + 1) h older) in
+    let issue : d.at.issue ≢ v + 1 = not_least (can_issue row h d.step) d.at.issue v (issue_still row v h d.step low good timed.1 rest apart) timed.0.issue in
     let address : cycle_of d.at.address ≢ v + 1 = address_by v h d.step d.at (is_memory d.step) low rest now.issue timed.0.address in
     let start : d.at.start ≢ v + 1 = start_by row v h d.step d.at (step_unit d.step) low good before now.issue now.address issue timed.0.start in
     let order : d.at.start ≤ d.at.finish = (reach row d h good timed).order in
@@ -253,9 +270,10 @@ pub still_calm : (row : Row) (u : ℕ) (h : List Done) → IsRow row → AreTime
 still_calm row u [] good timed l still = tt
 still_calm row u (d ∷ h) good timed l still =
     let now : IsStill u d = still.0 in
-    let issue : d.at.issue ≢ u + 1 = not_least (can_issue row h d.step) d.at.issue u (issue_still row u h d.step l timed.1 (still_rests u h still.1)) timed.0.issue in (
-      record { issue = now.issue; address = now.address; finish = now.finish; end = now.end; later = start_by row u h d.step d.at (step_unit d.step) l good still.1 now.issue now.address issue timed.0.start },
-      still_calm row u h good timed.1 l still.1,
+    let older : AllCalm u h = still_calm row u h good timed.1 l still.1 in
+    let issue : d.at.issue ≢ u + 1 = not_least (can_issue row h d.step) d.at.issue u (issue_still row u h d.step l good timed.1 (still_rests u h still.1) (last_issue_calm u h older)) timed.0.issue in (
+      record { issue = now.issue; address = now.address; finish = now.finish; end = now.end; apart = issue; later = start_by row u h d.step d.at (step_unit d.step) l good still.1 now.issue now.address issue timed.0.start },
+      older,
     )
 
 -- what finishes in the next one had started by this one
@@ -271,7 +289,7 @@ calm_next P row u [] sends good timed l calm due = tt
 calm_next P row u (d ∷ h) sends good timed l calm due =
     let now : IsCalm u d = calm.0 in
     let rest : AllAtRest u h = calm_rests u h calm.1 in
-    let issue : d.at.issue ≢ u + 1 = not_least (can_issue row h d.step) d.at.issue u (issue_still row u h d.step l timed.1 rest) timed.0.issue in
+    let issue : d.at.issue ≢ u + 1 = now.apart in
     let address : cycle_of d.at.address ≢ u + 1 = address_by u h d.step d.at (is_memory d.step) l rest now.issue timed.0.address in
     let order : d.at.start ≤ d.at.finish = (reach row d h good timed).order in
     let finish : d.at.finish ≡ u + 1 → P d = calm_finish (P d) u d.at.start d.at.finish now.later order due.0 in

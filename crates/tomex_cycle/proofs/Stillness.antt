@@ -21,7 +21,7 @@ use Rattle.tomex_cycle.proofs.Cycles.{can_start_later}
 use Rattle.tomex_cycle.proofs.EndsFetch.{place_high}
 use Rattle.tomex_cycle.proofs.Fields.{timed_part, issued_part}
 use Rattle.tomex_cycle.proofs.Places.{is_vacant, station_here, vacant, vacant_none}
-use Rattle.tomex_cycle.proofs.Quiet.{AllDue, AllFree, AllStill, HasResult, IsStill, calm_rests, issue_still, not_least}
+use Rattle.tomex_cycle.proofs.Quiet.{AllDue, AllFree, AllStill, HasResult, IsStill, calm_rests, issue_still, last_issue_calm, not_least}
 use Rattle.tomex_cycle.proofs.Runs.{AreLater}
 use Rattle.tomex_cycle.proofs.StartsPicked.{held_at, ready_is, seen}
 use Rattle.tomex_cycle.proofs.Totals.{issued_more, reach}
@@ -140,7 +140,8 @@ over_calm : (row : Row) (t u : ℕ) (d : Done) (older : List Done) → IsRow row
 over_calm row t u d older good timed over e =
     let still : IsStill u d = over_still row t u d older good timed over e in
     let start : d.at.start ≤ d.at.end = (reach row d older good timed).start in
-    record { issue = still.issue; address = still.address; finish = still.finish; end = still.end; later = λ z. omega arith }
+    let issue : d.at.issue ≤ d.at.end = (reach row d older good timed).issue in
+    record { issue = still.issue; address = still.address; finish = still.finish; end = still.end; apart = λ z. omega arith; later = λ z. omega arith }
 
 -- a busy step, where all but starts leave its station as it was, and none waits
 busy_calm : (i : Loaded) (row : Row) (t u : ℕ) (mid new : Pools) (h newer : List Done) (d : Done) (older : List Done) → IsRow row → AreTimed row h → AreIssuedBy t h → u ≡ t + 1 → ShowsStations i (clocks u t t) h mid → ShowsStations i (clocks u u u) h new → new.slots ≡ mid.slots
@@ -167,7 +168,7 @@ busy_calm i row t u mid new h newer d older good timed issued e before after sam
           let i0 : d.at.issue ≤ t = (issued_part t newer (d ∷ older) (rw split at issued)).0 in
           let past : AreIssuedBy u (d ∷ older) = issued_part u newer (d ∷ older) (rw split at more) in
           let k : u < d.at.end = ltb-true u d.at.end l in
-          record { issue = λ z. omega arith; address = address; finish = λ z. not_done u u d.at.start d.at.finish (omega arith) none z; end = λ z. omega arith; later = λ z. both_ways _ rests (waits_before i row u d older part past z) }
+          record { issue = λ z. omega arith; address = address; finish = λ z. not_done u u d.at.start d.at.finish (omega arith) none z; end = λ z. omega arith; apart = λ z. omega arith; later = λ z. both_ways _ rests (waits_before i row u d older part past z) }
     ]
 
 pub issued_calm : (i : Loaded) (row : Row) (t u : ℕ) (mid new : Pools) (h newer part : List Done) → IsRow row → AreTimed row h → AreIssuedBy t h → u ≡ t + 1 → ShowsStations i (clocks u t t) h mid → ShowsStations i (clocks u u u) h new → new.slots ≡ mid.slots
@@ -204,12 +205,12 @@ later_calm row u [] h good timed later low calm = calm
 later_calm row u (d ∷ newer) h good timed later low calm =
     let older : AllCalm u (newer ++ h) = later_calm row u newer h good timed.1 later.1 low calm in
     let l : u < d.at.issue = later.0 in
-    let apart : d.at.issue ≢ u + 1 = not_least (can_issue row (newer ++ h) d.step) d.at.issue u (issue_still row u (newer ++ h) d.step low timed.1 (calm_rests u (newer ++ h) older)) timed.0.issue in
+    let apart : d.at.issue ≢ u + 1 = not_least (can_issue row (newer ++ h) d.step) d.at.issue u (issue_still row u (newer ++ h) d.step low good timed.1 (calm_rests u (newer ++ h) older) (last_issue_calm u (newer ++ h) older)) timed.0.issue in
     let s : d.at.issue ≤ d.at.start = start_after row d (newer ++ h) (step_unit d.step) timed.0.start in
     let r = reach row d (newer ++ h) good timed in
     let order : d.at.start ≤ d.at.finish = r.order in
     let end : d.at.finish ≤ d.at.end = r.finish in (
-      record { issue = λ z. omega arith; address = λ z. address_after row d (newer ++ h) u timed.0 l z low; finish = λ z. omega arith; end = λ z. omega arith; later = start_apart row d (newer ++ h) u (step_unit d.step) timed.0.start l apart },
+      record { issue = λ z. omega arith; address = λ z. address_after row d (newer ++ h) u timed.0 l z low; finish = λ z. omega arith; end = λ z. omega arith; apart = apart; later = start_apart row d (newer ++ h) u (step_unit d.step) timed.0.start l apart },
       older,
     )
 

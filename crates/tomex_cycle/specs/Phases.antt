@@ -50,7 +50,7 @@ abbrev pub MakesAddress : ℕ → Pools → Pools → Type 0
 MakesAddress next stations new = (i : Loaded) (row : Row) (h : List Done) (t : ℕ) → next ≡ t + 1 → IsHistory i row h → AreIssuedBy t h
     → ShowsStations i (clocks next t t) h stations → ShowsStations i (clocks next next t) h new
 
--- the issue of the run's next step, if it is its cycle
+-- the issues of the run's next steps whose cycle it is
 abbrev pub MakesIssue : Loaded → Row → ℕ → ℕ → Pools → RegStatus → Fetch → Result ℕ Fault → Pools → RegStatus → Fetch → Type 0
 MakesIssue i row next count stations registers fetch result new status from = (n : ℕ) (s : State) (kind : EndKind) (t : ℕ) → RunEnds i n s kind → n < 262144 → next ≡ t + 1 → IsRow row → IsLoaded i.window i.memory i.entry
     → IsIssuedTo i row n t (clocks next next t) count stations registers fetch

@@ -22,7 +22,7 @@ ghost use Rattle.tomex_cycle.specs.declared.progress.Progress.{Progress};
 
 use crate::fetch::Fetch;
 use crate::finishes::Finishes;
-use crate::happened::{Happened, count_issue, is_still};
+use crate::happened::{Happened, count_issues, is_still};
 use crate::phases;
 use crate::progress::Made;
 use crate::shown::Tables;
@@ -107,7 +107,7 @@ impl<A: Allocator> Inner<A> {
             row,
             next,
         ) {
-            Ok(made) => count_issue(&mut self.count, &mut self.happened, made),
+            Ok(made) => count_issues(&mut self.count, &mut self.happened, made),
             Err(fault) => return Made::Faulted(fault),
         }
         let ended = phases::end(

@@ -1,9 +1,9 @@
-//! The issue of one instruction.
+//! The issue of one instruction, and of more in the same cycle.
 
-ghost use Rattle.std.specs.Prelude.{ℕ, ◌≡◌, Ok, false};
+ghost use Rattle.std.specs.Prelude.{ℕ, ◌≡◌, ◌<◌, IfOk, Ok, false};
 ghost use Rattle.tomex_cycle.specs.declared.finishes.Finishes.{Finishes};
 ghost use Rattle.tomex_cycle.specs.Finishes.{AreKnown};
-ghost use Rattle.tomex_cycle.specs.Issue.{IssuesNext};
+ghost use Rattle.tomex_cycle.specs.Issue.{IssuesMore, IssuesNext};
 
 use crate::fetch::Fetch;
 use std::alloc::Allocator;
@@ -47,4 +47,41 @@ pub fn issue_next<A: Allocator>(
     issue(pools, registers, Tag { pool, number }, instr, pc, count);
     *fetch = Fetch::after(instr, pc);
     Ok(true)
+}
+
+/// Issues more instructions in a cycle in which one has issued, as many as the row's width leaves, up to
+/// the first that can't; answers how many have issued in the cycle then. So many had issued before it.
+///
+/// A function of its own, which is not put into its caller: on a row of width 1 none is called.
+#[inline(never)]
+pub fn issue_more<A: Allocator>(
+    pools: &mut Pools,
+    registers: &mut RegStatus,
+    fetch: &mut Fetch,
+    count: u32,
+    fetcher: &mut Fetcher<'_, A>,
+    row: &Config,
+) -> Result<u32, Fault>
+    ensures issues { IssuesMore fetcher.old row.now count pools.old registers.old fetch.old result pools.new registers.new fetch.new }
+    ensures some { IfOk result (λ made. 0 < made) }
+    ensures known { (f : Finishes) (next : ℕ) → AreKnown pools.old.slots next f → AreKnown pools.new.slots next f }
+    ensures same { fetcher.new ≡ fetcher.old }
+{
+    let width = u32::from(row.width());
+    let mut made = 1;
+    'issues: while made < width {
+        let more = issue_next(
+            pools,
+            registers,
+            fetch,
+            count.wrapping_add(made),
+            fetcher,
+            row,
+        )?;
+        if !more {
+            return Ok(made);
+        }
+        made += 1;
+    }
+    Ok(made)
 }

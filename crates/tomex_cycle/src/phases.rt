@@ -10,7 +10,7 @@ ghost use Rattle.tomex_tags.specs.declared.station.Station.{Station};
 
 use crate::fetch::Fetch;
 use crate::finishes::Finishes;
-use crate::issue::issue_next;
+use crate::issue::{issue_more, issue_next};
 use crate::{ends, starts};
 use std::alloc::Allocator;
 use tomex_config::Config;
@@ -71,7 +71,8 @@ pub fn address(pools: &mut Pools, next: u64) -> bool
     }
 }
 
-/// Issues the next instruction, where nothing is in its way, and answers whether it did; so many have issued before.
+/// Issues the next instructions, as many as the row's width says, up to the first that something is in the way of;
+/// answers how many. So many have issued before.
 pub fn issue<A: Allocator>(
     pools: &mut Pools,
     registers: &mut RegStatus,
@@ -80,13 +81,20 @@ pub fn issue<A: Allocator>(
     fetcher: &mut Fetcher<'_, A>,
     row: &Config,
     next: u64,
-) -> Result<bool, Fault>
+) -> Result<u32, Fault>
     ensures issues { MakesIssue fetcher.old row.now next count pools.old registers.old fetch.old (counted_by count result) pools.new registers.new fetch.new }
-    ensures none { result ≡ Ok false → pools.new.slots ≡ pools.old.slots }
+    ensures none { result ≡ Ok 0 → pools.new.slots ≡ pools.old.slots }
     ensures known { (f : Finishes) → AreKnown pools.old.slots next f → AreKnown pools.new.slots next f }
     ensures same { fetcher.new ≡ fetcher.old }
 {
-    issue_next(pools, registers, fetch, count, fetcher, row)
+    if !issue_next(pools, registers, fetch, count, fetcher, row)? {
+        return Ok(0);
+    }
+    // Most rows are of width 1, and their cycles are not to pay for the others.
+    if row.width() == 1 {
+        return Ok(1);
+    }
+    issue_more(pools, registers, fetch, count, fetcher, row)
 }
 
 /// Sends results over the buses, frees stations, and follows branches; answers whether anything ends or finishes.

@@ -8,7 +8,6 @@ use Rattle.tomex_rvdec.specs.declared.pool.PoolId.TheVariants as pools
 use Rattle.tomex_rvdec.specs.declared.pool.UnitId.{UnitId}
 use Rattle.tomex_rvdec.specs.declared.pool.UnitId.TheVariants as units
 use Rattle.tomex_config.specs.Row.{Row, IsRow, is_between, is_option, stations_of, option_of, plain_option}
-use Rattle.tomex_timing.specs.Recurrence.{width_of}
 
 pool_in : (pool : PoolId) → place_of_pool pool < 6
 pool_in pools.Alu = omega arith
@@ -64,7 +63,5 @@ latency_high row unit good = (between 1 64 (option_of row unit).latency (latency
 pub buses_low : (row : Row) → IsRow row → 0 < row.buses
 buses_low row good = let two = between 1 8 row.buses good.buses in omega (arith, two.0)
 
--- all that proofs know of the width, but for those of a width of one
-pub width_low : (row : Row) → 0 < width_of row
-unfolding width_of
-width_low row = omega arith
+pub width_low : (row : Row) → IsRow row → 0 < row.width
+width_low row good = let two = between 1 4 row.width good.width in omega (arith, two.0)

@@ -13,7 +13,7 @@ use Rattle.tomex_config.specs.Row.{Row, IsRow, stations_of, option_of}
 use Rattle.tomex_timing.specs.declared.times.Done.{Done}
 use Rattle.tomex_timing.specs.History.{is_of, is_memory, cycle_of, writer_end, source_end, last_issue, last_address}
 use Rattle.tomex_timing.specs.Station.{is_held, has_station}
-use Rattle.tomex_timing.specs.Recurrence.{width_of, can_issue, can_address, can_start, can_end, has_slot, has_unit, are_branches_finished, conflicts, are_conflicts_finished}
+use Rattle.tomex_timing.specs.Recurrence.{can_issue, can_address, can_start, can_end, has_slot, has_unit, are_branches_finished, conflicts, are_conflicts_finished}
 use Rattle.tomex_timing.proofs.Limits.{stations_low, units_low, buses_low, width_low}
 
 -- no time of the step lies past the cycle
@@ -58,11 +58,11 @@ pub all_pass : {X : Type 0} (p : X → Bool) (P : X → Type 0) → ((x : X) →
 all_pass p P always [] h = refl
 all_pass p P always (x ∷ xs) h = rw (always x h.0) (all_pass p P always xs h.1)
 
-has_slot_after : (row : Row) (older : List Done) (g t : ℕ) → AllBy g older → g < t → has_slot row older t ≡ true
-has_slot_after row older g t h l =
+has_slot_after : (row : Row) (older : List Done) (g t : ℕ) → IsRow row → AllBy g older → g < t → has_slot row older t ≡ true
+has_slot_after row older g t good h l =
     let by : last_issue older ≤ g = last_issue_by g older h in
     and_from _ _ (le-leb (last_issue older) t (omega arith))
-    (rw (count_none (λ (d : Done). d.at.issue == t) (IsDoneBy g) (λ d by. ne_eqb d.at.issue t (λ (e : d.at.issue ≡ t). absurd (omega (arith, by.issue)))) older h) (lt-ltb 0 (width_of row) (width_low row)))
+    (rw (count_none (λ (d : Done). d.at.issue == t) (IsDoneBy g) (λ d by. ne_eqb d.at.issue t (λ (e : d.at.issue ≡ t). absurd (omega (arith, by.issue)))) older h) (lt-ltb 0 row.width (width_low row good)))
 
 branches_after : (older : List Done) (g t : ℕ) → AllBy g older → g < t → are_branches_finished older t ≡ true
 branches_after older g t h l =
@@ -76,7 +76,7 @@ has_station_after row older (Some pool) g t good h l =
 
 pub can_issue_after : (row : Row) (older : List Done) (s : Step) (g : ℕ) → IsRow row → AllBy g older → can_issue row older s (g + 1) ≡ true
 can_issue_after row older s g good h =
-    and_from _ _ (and_from _ _ (and_from _ _ (lt-ltb 0 (g + 1) (omega arith)) (has_slot_after row older g (g + 1) h (omega arith))) (branches_after older g (g + 1) h (omega arith))) (has_station_after row older (step_pool s) g (g + 1) good h (omega arith))
+    and_from _ _ (and_from _ _ (and_from _ _ (lt-ltb 0 (g + 1) (omega arith)) (has_slot_after row older g (g + 1) good h (omega arith))) (branches_after older g (g + 1) h (omega arith))) (has_station_after row older (step_pool s) g (g + 1) good h (omega arith))
 
 pub can_address_after : (older : List Done) (s : Step) (issue g : ℕ) → AllBy g older → issue ≤ g + 1 → can_address older s issue (g + 2) ≡ true
 can_address_after older s issue g h i =

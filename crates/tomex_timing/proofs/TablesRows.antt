@@ -5,9 +5,8 @@ use Rattle.tomex_rvdec.specs.declared.op.Op.TheVariants.{Addi, Mul, Sw, Lb, Jalr
 use Rattle.tomex_rvdec.specs.declared.pool.PoolId.{PoolId}
 use Rattle.tomex_rvdec.specs.declared.pool.PoolId.TheVariants as pools
 use Rattle.tomex_rvdec.specs.declared.pool.UnitId.TheVariants as units
-use Rattle.tomex_config.specs.Row.{plain}
+use Rattle.tomex_config.specs.Row.{plain, with_width}
 use Rattle.tomex_timing.specs.declared.times.Done.{Done}
-use Rattle.tomex_timing.specs.Recurrence.{width_of}
 use Rattle.tomex_timing.specs.Search.{history, times_of}
 use Rattle.tomex_timing.specs.declared.tables.Busy.{Busy}
 use Rattle.tomex_timing.specs.declared.tables.Field.TheVariants.{Value, Waits, Unread}
@@ -33,15 +32,15 @@ product_after_3 : tables_of 3 product_run ≡ record {
       ∷ [];
   registers = slice_set (slice_set no_writers 2 (Some (tag pools.Alu 1))) 3 (Some (tag pools.Mul 0));
 }
-unfolding times_of width_of
+unfolding times_of
 product_after_3 = refl
 
 product_before : tables_of 0 product_run ≡ record { cycle = 0; busy = []; registers = no_writers }
-unfolding times_of width_of
+unfolding times_of
 product_before = refl
 
 product_after_8 : tables_of 8 product_run ≡ record { cycle = 8; busy = []; registers = no_writers }
-unfolding times_of width_of
+unfolding times_of
 product_after_8 = refl
 
 abbrev overwritten_run : List Done
@@ -56,12 +55,12 @@ overwritten_after_3 : tables_of 3 overwritten_run ≡ record {
   busy = record { tag = tag pools.Alu 0; instr = instr Addi 5 0 0 1; j = Value 0; k = Unread; a = None } ∷ overwritten_product ∷ [];
   registers = slice_set no_writers 5 (Some (tag pools.Alu 0));
 }
-unfolding times_of width_of
+unfolding times_of
 overwritten_after_3 = refl
 
 -- and once it has ended the register waits for nothing, though the older one is busy
 overwritten_after_4 : tables_of 4 overwritten_run ≡ record { cycle = 4; busy = overwritten_product ∷ []; registers = no_writers }
-unfolding times_of width_of
+unfolding times_of
 overwritten_after_4 = refl
 
 accesses_after_5 : tables_of 5 (history (with_latency units.Mem two_alu_stations 2) (stored_and_loaded 1)) ≡ record {
@@ -71,7 +70,7 @@ accesses_after_5 : tables_of 5 (history (with_latency units.Mem two_alu_stations
       ∷ [];
   registers = slice_set no_writers 2 (Some (tag pools.Load 0));
 }
-unfolding times_of width_of
+unfolding times_of
 accesses_after_5 = refl
 
 -- before its address cycle the load shows its offset
@@ -82,7 +81,7 @@ accesses_after_4 : tables_of 4 (history (with_latency units.Mem two_alu_stations
       ∷ [];
   registers = slice_set no_writers 2 (Some (tag pools.Load 0));
 }
-unfolding times_of width_of
+unfolding times_of
 accesses_after_4 = refl
 
 jump_after_3 : tables_of 3 (history (with_latency units.Mul two_alu_stations 3) jump_to_product) ≡ record {
@@ -92,5 +91,17 @@ jump_after_3 : tables_of 3 (history (with_latency units.Mul two_alu_stations 3) 
       ∷ [];
   registers = slice_set no_writers 6 (Some (tag pools.Mul 0));
 }
-unfolding times_of width_of
+unfolding times_of
 jump_after_3 = refl
+
+-- what issues in its producers' cycle waits for their stations
+product_width_four_after_1 : tables_of 1 (history (with_width (with_latency units.Mul two_alu_stations 3) 4) product) ≡ record {
+  cycle = 1;
+  busy = record { tag = tag pools.Alu 0; instr = instr Addi 1 0 0 5; j = Value 0; k = Unread; a = None }
+      ∷ record { tag = tag pools.Alu 1; instr = instr Addi 2 0 0 7; j = Value 0; k = Unread; a = None }
+      ∷ record { tag = tag pools.Mul 0; instr = instr Mul 3 1 2 0; j = Waits (tag pools.Alu 0); k = Waits (tag pools.Alu 1); a = None }
+      ∷ [];
+  registers = slice_set (slice_set (slice_set no_writers 1 (Some (tag pools.Alu 0))) 2 (Some (tag pools.Alu 1))) 3 (Some (tag pools.Mul 0));
+}
+unfolding times_of
+product_width_four_after_1 = refl

@@ -1,4 +1,5 @@
--- With a width of one an issue is later than the one before, and that is all that the width asks.
+-- Issues by the width: in order, and no more of them in a cycle. With a width of one an issue is later
+-- than the one before, and that is all that the width asks.
 use Rattle.std.proofs.Common.{ℕ, ◌<◌, ◌≤◌, ◌≡◌, ◌∙◌, Bool, true, false, arith, refl, List, [], ◌∷◌, ap, inl, inr, sym}
 use Rattle.std.specs.Prelude.{nat_lt, nat_le, ◌==◌, ◌&&◌, count_by}
 use Rattle.std.proofs.lemmas.Bool.{cases_Bool, cases_order, lt-ltb, le-ltb, le-leb, lt-leb, leb-true, ltb-true, eq-eqb, ne_eqb, and_parts}
@@ -10,10 +11,28 @@ use Rattle.tomex_timing.specs.declared.times.Done.{Done}
 use Rattle.tomex_timing.specs.History.{last_issue}
 use Rattle.tomex_timing.specs.Station.{has_station}
 use Rattle.tomex_timing.specs.Recurrence.{AreTimed, can_issue, are_branches_finished}
-use Rattle.tomex_timing.specs.Laws.{IssuesAlone, IssuesRise}
+use Rattle.tomex_timing.specs.Laws.{IssuesAlone, IssuesFitTheWidth, IssuesRise, IssuesStandInOrder}
 
 pub issue_from : (row : Row) (older : List Done) (s : Step) (t : ℕ) → can_issue row older s t ≡ true → last_issue older ≤ t
 issue_from row older s t h = leb-true (last_issue older) t (and_parts _ _ (and_parts _ _ (and_parts _ _ (and_parts _ _ h).0).0).1).0
+
+pub issues_in_order : IssuesStandInOrder
+issues_in_order row d older timed = issue_from row older d.step d.at.issue timed.0.issue.0
+
+slot_left : (row : Row) (older : List Done) (s : Step) (t : ℕ) → can_issue row older s t ≡ true → count_by (λ d. d.at.issue == t) older < row.width
+slot_left row older s t h = ltb-true (count_by (λ d. d.at.issue == t) older) row.width (and_parts _ _ (and_parts _ _ (and_parts _ _ (and_parts _ _ h).0).0).1).1
+
+pub issues_fit : IssuesFitTheWidth
+issues_fit row [] t timed = omega arith
+issues_fit row (d ∷ h) t timed =
+    let rest : count_by (λ d. d.at.issue == t) h ≤ row.width = issues_fit row h t timed.1 in
+    elim (cases_order d.at.issue t) [
+      | inl e ↦
+          let left : count_by (λ d. d.at.issue == t) h < row.width = slot_left row h d.step t (ap (can_issue row h d.step) (sym e) ∙ timed.0.issue.0) in
+          rw (sum_by-cons, eq-eqb d.at.issue t e) (omega arith)
+      | inr (inl l) ↦ rw (sum_by-cons, ne_eqb d.at.issue t (λ (e : d.at.issue ≡ t). absurd (omega arith))) (omega arith)
+      | inr (inr l) ↦ rw (sum_by-cons, ne_eqb d.at.issue t (λ (e : d.at.issue ≡ t). absurd (omega arith))) (omega arith)
+    ]
 
 -- what issued by some cycle doesn't issue later
 pub none_later : (row : Row) (h : List Done) (t : ℕ) → AreTimed row h → last_issue h < t → count_by (λ d. d.at.issue == t) h ≡ 0

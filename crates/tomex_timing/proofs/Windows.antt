@@ -21,7 +21,7 @@ use Rattle.tomex_timing.specs.declared.window.Live.{Live}
 use Rattle.tomex_timing.specs.declared.window.Latest.{Latest}
 use Rattle.tomex_timing.specs.History.{is_of, is_memory, cycle_of, writer_end, source_end, last_issue, last_address, greatest_end}
 use Rattle.tomex_timing.specs.Station.{has_station, is_free}
-use Rattle.tomex_timing.specs.Recurrence.{IsLeast, IsTimed, AreTimed, can_issue, can_address, can_start, can_end, width_of, has_slot, are_branches_finished}
+use Rattle.tomex_timing.specs.Recurrence.{IsLeast, IsTimed, AreTimed, can_issue, can_address, can_start, can_end, has_slot, are_branches_finished}
 use Rattle.tomex_timing.specs.Window.{facts_of, live_of, recent, is_held_by, has_station_among, is_free_among, branch_finish, is_finished_conflict, starts_in, may_start, sends_in, has_bus_among, IsFirst, end_among, IsNext, IsKept, written_by, addressed_by, latest_after}
 use Rattle.tomex_timing.specs.Laws.{InReach}
 use Rattle.tomex_timing.proofs.Bound.{in_reach, timed_by}
@@ -108,15 +108,15 @@ after_split a t = elim (cases_Bool (nat_lt a t)) [
 ]
 
 -- the room for an issue is in the cycle of the last issue, where fewer than the width have it, and in each later one
-slot_split : (row : Row) (h : List Done) (t : ℕ) → AreTimed row h
-    → nat_le (cond (nat_lt (count_by (λ d. d.at.issue == last_issue h) h) (width_of row)) (last_issue h) (last_issue h + 1)) t ≡ has_slot row h t
-slot_split row h t timed = elim (cases_order (last_issue h) t) [
-  | inl e ↦ elim (cases_Bool (nat_lt (count_by (λ d. d.at.issue == last_issue h) h) (width_of row))) [
+slot_split : (row : Row) (h : List Done) (t : ℕ) → IsRow row → AreTimed row h
+    → nat_le (cond (nat_lt (count_by (λ d. d.at.issue == last_issue h) h) row.width) (last_issue h) (last_issue h + 1)) t ≡ has_slot row h t
+slot_split row h t good timed = elim (cases_order (last_issue h) t) [
+  | inl e ↦ elim (cases_Bool (nat_lt (count_by (λ d. d.at.issue == last_issue h) h) row.width)) [
     | inl f ↦ rw (f, ← e, f, le-leb (last_issue h) (last_issue h) (omega arith)) refl
     | inr f ↦ rw (f, ← e, f, lt-leb (last_issue h + 1) (last_issue h) (omega arith), le-leb (last_issue h) (last_issue h) (omega arith)) refl
   ]
-  | inr (inl l) ↦ rw (none_later row h t timed l, lt-ltb 0 (width_of row) (width_low row), le-leb (last_issue h) t (omega arith)) (either (nat_lt (count_by (λ d. d.at.issue == last_issue h) h) (width_of row)) l)
-  | inr (inr l) ↦ rw (lt-leb (last_issue h) t l) (neither (nat_lt (count_by (λ d. d.at.issue == last_issue h) h) (width_of row)) l)
+  | inr (inl l) ↦ rw (none_later row h t timed l, lt-ltb 0 row.width (width_low row good), le-leb (last_issue h) t (omega arith)) (either (nat_lt (count_by (λ d. d.at.issue == last_issue h) h) row.width) l)
+  | inr (inr l) ↦ rw (lt-leb (last_issue h) t l) (neither (nat_lt (count_by (λ d. d.at.issue == last_issue h) h) row.width) l)
 ]
   where
     either : (b : Bool) → last_issue h < t → nat_le (cond b (last_issue h) (last_issue h + 1)) t ≡ true
@@ -150,10 +150,10 @@ reorder true false c d = refl
 reorder false true c d = refl
 reorder false false c d = refl
 
-pub issue_agree : (row : Row) (h : List Done) (s : Step) (t : ℕ) → AreTimed row h → AreClosed h
-    → (nat_le (max (cond (nat_lt (count_by (λ d. d.at.issue == last_issue h) h) (width_of row)) (last_issue h) (last_issue h + 1)) (branch_finish h + 1)) t && has_station_among row (recent (last_issue h) h) (step_pool s) t) ≡ can_issue row h s t
-issue_agree row h s t timed close =
-    rw (max_split (cond (nat_lt (count_by (λ d. d.at.issue == last_issue h) h) (width_of row)) (last_issue h) (last_issue h + 1)) (branch_finish h + 1) t, slot_split row h t timed, branch_split h t)
+pub issue_agree : (row : Row) (h : List Done) (s : Step) (t : ℕ) → IsRow row → AreTimed row h → AreClosed h
+    → (nat_le (max (cond (nat_lt (count_by (λ d. d.at.issue == last_issue h) h) row.width) (last_issue h) (last_issue h + 1)) (branch_finish h + 1)) t && has_station_among row (recent (last_issue h) h) (step_pool s) t) ≡ can_issue row h s t
+issue_agree row h s t good timed close =
+    rw (max_split (cond (nat_lt (count_by (λ d. d.at.issue == last_issue h) h) row.width) (last_issue h) (last_issue h + 1)) (branch_finish h + 1) t, slot_split row h t good timed, branch_split h t)
     (elim (cases_Bool (nat_le (last_issue h) t)) [
       | inl e ↦ rw (station_agree row h (step_pool s) (last_issue h) t close (leb-true (last_issue h) t e)) (reorder (has_slot row h t) (nat_lt 0 t) (are_branches_finished h t) (has_station row h (step_pool s) t))
       | inr e ↦ elim (cases_Bool (nat_lt 0 t)) [ inl f ↦ rw (e, f) refl | inr f ↦ rw (e, f) refl ]
@@ -251,8 +251,8 @@ next_is row h s at live latest good small_j small_k timed close kept next =
     let w : live ≡ recent (last_issue h) h = kept.window in
     let j : end_among latest.ends (j_of s) ≡ source_end h (j_of s) = source_agree h latest.ends (j_of s) kept.ends small_j in
     let k : end_among latest.ends (k_of s) ≡ source_end h (k_of s) = source_agree h latest.ends (k_of s) kept.ends small_k in
-    let ni : IsFirst (max (cond (nat_lt (count_by (λ d. d.at.issue == last_issue h) h) (width_of row)) (last_issue h) (last_issue h + 1)) (branch_finish h + 1)) (has_station_among row (recent (last_issue h) h) (step_pool s)) at.issue = rw (c, w, kept.issued, kept.branch) at next.issue in
-    let issue : IsLeast (can_issue row h s) at.issue = least_agree (λ t. nat_le (max (cond (nat_lt (count_by (λ d. d.at.issue == last_issue h) h) (width_of row)) (last_issue h) (last_issue h + 1)) (branch_finish h + 1)) t && has_station_among row (recent (last_issue h) h) (step_pool s) t) (can_issue row h s) at.issue (λ t. issue_agree row h s t timed close) ni in
+    let ni : IsFirst (max (cond (nat_lt (count_by (λ d. d.at.issue == last_issue h) h) row.width) (last_issue h) (last_issue h + 1)) (branch_finish h + 1)) (has_station_among row (recent (last_issue h) h) (step_pool s)) at.issue = rw (c, w, kept.issued, kept.branch) at next.issue in
+    let issue : IsLeast (can_issue row h s) at.issue = least_agree (λ t. nat_le (max (cond (nat_lt (count_by (λ d. d.at.issue == last_issue h) h) row.width) (last_issue h) (last_issue h + 1)) (branch_finish h + 1)) t && has_station_among row (recent (last_issue h) h) (step_pool s) t) (can_issue row h s) at.issue (λ t. issue_agree row h s t good timed close) ni in
     let l : last_issue h ≤ at.issue = issue_from row h s at.issue issue.0 in
     let na : at.address ≡ cond (is_memory s) (Some (max (max at.issue (source_end h (j_of s))) (last_address h) + 1)) None = rw (j, kept.address) at next.address in
     let from : ℕ = max (max at.issue (cycle_of at.address)) (max (source_end h (j_of s)) (source_end h (k_of s))) + 1 in

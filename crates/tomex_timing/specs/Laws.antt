@@ -1,5 +1,5 @@
 -- Laws of the recurrence.
-use Rattle.std.specs.Prelude.{ℕ, ◌+◌, ◌*◌, ◌<◌, ◌≤◌, ◌≡◌, nat_lt, Bool, true, ◌&&◌, ◌||◌, List, ◌∷◌, ◌++◌, Some, is_some, length, map}
+use Rattle.std.specs.Prelude.{ℕ, ◌+◌, ◌*◌, ◌<◌, ◌≤◌, ◌≡◌, ◌==◌, nat_lt, Bool, true, ◌&&◌, ◌||◌, List, ◌∷◌, ◌++◌, Some, is_some, length, map, count_by}
 use Rattle.tomex_rvdec.specs.declared.pool.PoolId.{PoolId}
 use Rattle.tomex_rvexec.specs.Flow.{covers}
 use Rattle.tomex_rvexec.specs.Steps.{is_store, step_dest, step_pool, step_unit}
@@ -10,7 +10,7 @@ use Rattle.tomex_timing.specs.declared.times.Done.{Done}
 use Rattle.tomex_timing.specs.declared.times.Times.{Times}
 use Rattle.tomex_timing.specs.History.{cycle_of, is_memory, last_address, last_issue, greatest_end}
 use Rattle.tomex_timing.specs.Station.{has_station, is_free}
-use Rattle.tomex_timing.specs.Recurrence.{IsTimed, AreTimed, width_of, can_issue, are_branches_finished, are_conflicts_finished, conflicts}
+use Rattle.tomex_timing.specs.Recurrence.{IsTimed, AreTimed, can_issue, are_branches_finished, are_conflicts_finished, conflicts}
 use Rattle.tomex_timing.specs.Search.{history, timed_of, times_in, total_of}
 use Rattle.tomex_timing.specs.Tables.{tag_of}
 
@@ -55,13 +55,23 @@ can_issue_alone row older s t =
 
 -- where one instruction issues in a cycle, that is the test for issue
 abbrev pub IssuesAlone : Type 0
-IssuesAlone = (row : Row) (older : List Done) (s : Step) (t : ℕ) → width_of row ≡ 1
+IssuesAlone = (row : Row) (older : List Done) (s : Step) (t : ℕ) → row.width ≡ 1
     → AreTimed row older → can_issue row older s t ≡ can_issue_alone row older s t
 
 -- and each issue is later than the one before
 abbrev pub IssuesRise : Type 0
-IssuesRise = (row : Row) (d : Done) (older : List Done) → width_of row ≡ 1
+IssuesRise = (row : Row) (d : Done) (older : List Done) → row.width ≡ 1
     → AreTimed row (d ∷ older) → last_issue older < d.at.issue
+
+-- whatever the width, no issue comes before the one before
+abbrev pub IssuesStandInOrder : Type 0
+IssuesStandInOrder = (row : Row) (d : Done) (older : List Done)
+    → AreTimed row (d ∷ older) → last_issue older ≤ d.at.issue
+
+-- and in no cycle more than the width of them
+abbrev pub IssuesFitTheWidth : Type 0
+IssuesFitTheWidth = (row : Row) (h : List Done) (t : ℕ)
+    → AreTimed row h → count_by (λ d. d.at.issue == t) h ≤ row.width
 
 -- where g is the greatest end before a step, no time of it comes before its issue or after its end, and
 -- it ends at most 67 cycles past g

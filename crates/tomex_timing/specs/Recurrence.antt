@@ -20,20 +20,17 @@ use Rattle.tomex_timing.specs.Station.{has_station, is_free}
 abbrev pub IsLeast : (ℕ → Bool) → ℕ → Type 0
 IsLeast p t = IsTrue (p t) × ((s : ℕ) → s < t → p s ≡ false)
 
--- how many instructions issue in a cycle; rows have one width so far
-unfoldable pub width_of : Row → ℕ
-width_of row = 1
-
--- in program order, at most the width of them in a cycle
+-- no earlier than the one before, and fewer than the width of the older ones issue in the cycle
 abbrev pub has_slot : Row → List Done → ℕ → Bool
-has_slot row older t = nat_le (last_issue older) t && nat_lt (count_by (λ d. d.at.issue == t) older) (width_of row)
+has_slot row older t = nat_le (last_issue older) t && nat_lt (count_by (λ d. d.at.issue == t) older) row.width
 
 -- each older branch, a conditional one or JALR, has finished
 abbrev pub are_branches_finished : List Done → ℕ → Bool
 are_branches_finished older t = list_all (λ d. not (is_branch d.step) || nat_lt d.at.finish t) older
 
 -- Issue. Hennessy and Patterson: in program order, where a reservation station is left.
--- This project: nothing is speculated, so later than the finish of each older branch.
+-- This project: as many in a cycle as the row's width says; nothing is speculated, so later than the
+-- finish of each older branch.
 abbrev pub can_issue : Row → List Done → Step → ℕ → Bool
 can_issue row older s t =
     nat_lt 0 t && has_slot row older t && are_branches_finished older t && has_station row older (step_pool s) t

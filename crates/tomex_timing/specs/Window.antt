@@ -16,7 +16,7 @@ use Rattle.tomex_timing.specs.declared.window.Facts.{Facts}
 use Rattle.tomex_timing.specs.declared.window.Live.{Live}
 use Rattle.tomex_timing.specs.declared.window.Latest.{Latest}
 use Rattle.tomex_timing.specs.History.{is_of, cycle_of, last_issue, last_address, writer_end, greatest_end}
-use Rattle.tomex_timing.specs.Recurrence.{IsLeast, shares_byte, width_of}
+use Rattle.tomex_timing.specs.Recurrence.{IsLeast, shares_byte}
 
 abbrev pub facts_of : Step → Facts
 facts_of s = record {
@@ -61,7 +61,7 @@ is_free_among pool live t n = list_all (λ l. not (is_held_by pool t l && is_num
 -- the first cycle that is in program order, with room for an issue, and later than each branch's finish
 abbrev pub issue_from : Row → Latest → ℕ
 issue_from row latest =
-    max (if nat_lt latest.issued (width_of row) then latest.issue else latest.issue + 1) (latest.branch + 1)
+    max (if nat_lt latest.issued row.width then latest.issue else latest.issue + 1) (latest.branch + 1)
 
 -- start
 

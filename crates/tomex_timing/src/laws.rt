@@ -1,6 +1,6 @@
 //! Laws of the recurrence. These functions do nothing: their contracts are the laws.
 
-ghost use Rattle.tomex_timing.specs.Laws.{TimesExist, TimesAreUnique, SearchIsTimed, TimedIsSearch, TotalIsBounded, TotalIsGreatestEnd, YoungerChangeNothing, IssuesAlone, IssuesRise, TimesAreInReach, StartsComeLater, ResultsComeLater, AddressesRise, NumbersAreLow, StationsAreApart, StationsAreThere, AccessesConflict, ConflictsAreFinished};
+ghost use Rattle.tomex_timing.specs.Laws.{TimesExist, TimesAreUnique, SearchIsTimed, TimedIsSearch, TotalIsBounded, TotalIsGreatestEnd, YoungerChangeNothing, IssuesAlone, IssuesRise, IssuesStandInOrder, IssuesFitTheWidth, TimesAreInReach, StartsComeLater, ResultsComeLater, AddressesRise, NumbersAreLow, StationsAreApart, StationsAreThere, AccessesConflict, ConflictsAreFinished};
 
 /// Each step of a run has times, and only one set of them.
 pub fn each_step_has_one_set_of_times()
@@ -34,6 +34,12 @@ pub fn younger_steps_change_nothing()
 pub fn issues_alone_at_width_one()
     ensures test { IssuesAlone }
     ensures rise { IssuesRise }
+{}
+
+/// Instructions issue in program order, and in no cycle more of them than the issue width.
+pub fn issues_fit_the_width()
+    ensures order { IssuesStandInOrder }
+    ensures few { IssuesFitTheWidth }
 {}
 
 /// What uses a unit issues before it starts, starts no later than it finishes, and finishes no later

@@ -18,8 +18,8 @@ mod window;
 
 pub use laws::{
     accesses_of_one_byte_wait, each_step_has_one_set_of_times, issues_alone_at_width_one,
-    search_is_the_recurrence, stations_hold_one_step, times_stand_in_order, total_is_bounded,
-    total_is_the_greatest_end, younger_steps_change_nothing,
+    issues_fit_the_width, search_is_the_recurrence, stations_hold_one_step, times_stand_in_order,
+    total_is_bounded, total_is_the_greatest_end, younger_steps_change_nothing,
 };
 pub use tables::{Busy, Field, Tag};
 pub use times::{Done, Times};

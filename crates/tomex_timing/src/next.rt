@@ -6,7 +6,7 @@ ghost use Rattle.std.specs.Option.{ForSome};
 ghost use Rattle.tomex_rvexec.specs.Steps.{step_pool, j_of, k_of};
 ghost use Rattle.tomex_config.specs.Row.{IsRow};
 ghost use Rattle.tomex_timing.specs.History.{cycle_of};
-ghost use Rattle.tomex_timing.specs.Recurrence.{IsLeast, width_of};
+ghost use Rattle.tomex_timing.specs.Recurrence.{IsLeast};
 ghost use Rattle.tomex_timing.specs.Window.{IsBy, IsSettled, IsNext, IsFirst, facts_of, issue_from, may_start, has_station_among, has_bus_among, is_free_among, end_among, ready_from, address_among};
 
 use crate::counting::{is_memory, past_conflicts};
@@ -28,16 +28,6 @@ fn end_of(latest: &Latest, operand: Option<Operand>) -> u64
     }
 }
 
-/// How many instructions issue in a cycle at most.
-#[tactic(auto, unfolding(crate::specs::Recurrence::width_of))]
-fn width(row: &Config) -> u64
-    ensures { result ≡ width_of row.now }
-{
-    // Rows have one width so far.
-    let _row = row;
-    1
-}
-
 /// The first cycle that is in program order, with room for an issue, and later than each branch's
 /// finish.
 fn issue_from(row: &Config, latest: &Latest) -> u64
@@ -47,7 +37,7 @@ fn issue_from(row: &Config, latest: &Latest) -> u64
     ensures from { result ≡ issue_from row.now latest.now }
     ensures by { result ≤ latest.now.end + 1 }
 {
-    let from = if latest.issued < width(row) {
+    let from = if latest.issued < u64::from(row.width()) {
         latest.issue
     } else {
         latest.issue + 1

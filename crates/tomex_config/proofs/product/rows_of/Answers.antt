@@ -1,6 +1,6 @@
 -- The rows that the last axis ends are the product of all axes.
 use Rattle.std.proofs.Common.{◌≡◌, sym}
-use Rattle.tomex_config.specs.Row.{with_buses}
+use Rattle.tomex_config.specs.Row.{with_width}
 use Rattle.tomex_config.specs.Grid.{lists_of, rows_of}
 use Rattle.tomex_config.specs.Vary.{vary}
 use Rattle.tomex_config.proofs.Varied.{varied_rows}
@@ -8,6 +8,6 @@ use Rattle.tomex_config.proofs.product.rows_of.Goals as goal
 
 pub returns : goal.returns
 returns g c =
-    let product : vary with_buses c.deref-2.result.now c.deref.result.now ≡ rows_of (lists_of c.args.axes.now) =
+    let product : vary with_width c.deref-2.result.now c.deref.result.now ≡ rows_of (lists_of c.args.axes.now) =
     rw (c.deref.ensures.value, c.deref-2.ensures.value, c.in_ok-rows.ensures) (varied_rows (lists_of c.args.axes.now)) in
-    rw (sym product) c.vary_buses.ensures
+    rw (sym product) c.vary_width.ensures

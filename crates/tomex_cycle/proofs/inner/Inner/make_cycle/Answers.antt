@@ -1,7 +1,8 @@
 -- The phases make a cycle, and what is left when it is made says whether the run is over.
-use Rattle.tomex_cycle.proofs.Cycles.{starts_good, issue_made, cycle_made, cycle_answer, some_none, err_ok}
-use Rattle.std.proofs.Common.{ℕ, ◌+◌, ◌≤◌, ◌≡◌, ◌∙◌, Bool, ap, arith, inl, inr, refl, Ok}
-use Rattle.tomex_cycle.specs.Issue.{count_after, counted_by}
+use Rattle.tomex_cycle.proofs.Cycles.{starts_good, issue_made, cycle_made, cycle_answer, some_none, err_ok, ok_same}
+use Rattle.std.proofs.Common.{ℕ, ◌+◌, ◌≤◌, ◌<◌, ◌≡◌, ◌∙◌, ap, arith, inl, inr, Ok, nat_lt}
+use Rattle.std.proofs.lemmas.Bool.{ltb-true, ltb-false}
+use Rattle.tomex_cycle.specs.Issue.{counted_by}
 use Rattle.tomex_cycle.proofs.Calmness.{cycle_calm}
 use Rattle.tomex_cycle.proofs.Happens.{cycle_happens}
 use Rattle.tomex_cycle.proofs.IssuesPhase.{counted_in_word}
@@ -23,22 +24,25 @@ pub returns-clause-cycle : goal.returns-clause-cycle
 returns-clause-cycle g c =
     λ how n s kind t ends l e good loaded old.
     let on = issue_made c.args.fetcher.now c.args.row.now n t c.args.next c.args.self.now.count s kind _ _ _ _ _ _ _ _ _ _ _ _ c.start-starts.ensures.starts c.address-addressed.ensures.addresses c.issue.ensures.issues ends l e good loaded old in
-    let few : c.args.self.now.count ≤ n + 1 = old.issue.few in
-    let count : count_after c.in-Ok.made c.args.self.now.count ≡ c.count_issue.new.count = counted_in_word c.in-Ok.made c.args.self.now.count c.count_issue.new.count (omega (arith, l, few)) c.count_issue.ensures.count in
-    let issued : counted_by c.args.self.now.count c.issue.result ≡ Ok c.count_issue.new.count = ap (counted_by c.args.self.now.count) c.in-Ok.is ∙ ap (λ (k : ℕ). Ok k) count in
+    let few : on.count ≤ n + 1 = on.after.few in
+    let same : on.count ≡ c.args.self.now.count + c.in-Ok.made = ok_same (counted_by c.args.self.now.count c.issue.result) on.count (c.args.self.now.count + c.in-Ok.made) on.issued (ap (counted_by c.args.self.now.count) c.in-Ok.is) in
+    let count : c.args.self.now.count + c.in-Ok.made ≡ c.count_issues.new.count = counted_in_word c.in-Ok.made c.args.self.now.count c.count_issues.new.count (omega (arith, l, few, same)) c.count_issues.ensures.count in
+    let issued : counted_by c.args.self.now.count c.issue.result ≡ Ok c.count_issues.new.count = ap (counted_by c.args.self.now.count) c.in-Ok.is ∙ ap (λ (k : ℕ). Ok k) count in
     let made = cycle_made c.args.fetcher.now c.args.row.now n t c.args.next c.args.self.now.count s kind _ _ _ _ _ _ _ _ _ on c.end-ended.ensures.ends ends e good loaded in
-    let two = cycle_answer c.args.fetcher.now c.args.row.now n c.args.next c.count_issue.new.count s kind _ _ _ _ _ _ _ _ made ends good loaded issued (rw c.busy-busy.ensures.set at c.busy-busy.ensures.busy) c.is_over.ensures c.after.ensures.progress in (
+    let two = cycle_answer c.args.fetcher.now c.args.row.now n c.args.next c.count_issues.new.count s kind _ _ _ _ _ _ _ _ made ends good loaded issued (rw c.busy-busy.ensures.set at c.busy-busy.ensures.busy) c.is_over.ensures c.after.ensures.progress in (
       two.0,
       two.1,
-      (λ moving. cycle_happens c.args.fetcher.now c.args.row.now n t c.args.next c.args.self.now.count c.count_issue.new.count s kind _ _ _ _ _ _ _ _ _ _ _ _ _ _ c.start-starts.ensures.starts c.start-starts.ensures.any c.address-addressed.ensures.any c.end-ended.ensures.any on issued ends e good loaded old
-          (what_moved c.start-starts.result.any c.address-addressed.result c.in-Ok.made c.end-ended.result c.args.self.now.count c.count_issue.new.count count (rw (c.count_issue.ensures.happened, c.note-2.ensures, c.note.ensures) at c.is_still-still.ensures.moving (c.after.ensures.moving moving)))),
+      (λ moving. cycle_happens c.args.fetcher.now c.args.row.now n t c.args.next c.args.self.now.count c.count_issues.new.count s kind _ _ _ _ _ _ _ _ _ _ _ _ _ _ c.start-starts.ensures.starts c.start-starts.ensures.any c.address-addressed.ensures.any c.end-ended.ensures.any on issued ends e good loaded old
+          (what_moved c.start-starts.result.any c.address-addressed.result (nat_lt 0 c.in-Ok.made) c.end-ended.result c.args.self.now.count c.count_issues.new.count (λ some more. let some_made : 0 < c.in-Ok.made = ltb-true 0 c.in-Ok.made some in absurd (omega (arith, count, some_made, more))) (rw (c.count_issues.ensures.happened, c.note-2.ensures, c.note.ensures) at c.is_still-still.ensures.moving (c.after.ensures.moving moving)))),
       (λ still.
-          let quiet = rw (c.count_issue.ensures.happened, c.note-2.ensures, c.note.ensures) at c.is_still-still.ensures.still (c.after.ensures.still still) in
-          let none = none_moved c.start-starts.result.any c.address-addressed.result c.in-Ok.made quiet.0 in
-          let same : c.count_issue.new.count ≡ c.args.self.now.count = c.count_issue.ensures.count ∙ rw none.1 refl in
-          cycle_calm c.args.fetcher.now c.args.row.now n t c.args.next c.args.self.now.count c.count_issue.new.count s kind c.start-starts.result.fault c.start-starts.result.any _ _ _ _ _ _ _ _ _ c.end-ended.new.finishes c.start-starts.ensures.starts c.start-starts.ensures.none ends e good loaded old two.0 same
-          (c.end-ended.ensures.none quiet.1 ∙ (c.issue.ensures.none (c.in-Ok.is ∙ ap (λ (b : Bool). Ok b) none.1) ∙ c.address-addressed.ensures.none none.0))
-          (elim quiet.2 [ inl e ↦ inl (none_started c.start-starts.result.any c.address-addressed.result c.in-Ok.made e) | inr e ↦ inr e ]) c.end-ended.ensures.known (c.end-ended.ensures.quiet quiet.1)),
+          let quiet = rw (c.count_issues.ensures.happened, c.note-2.ensures, c.note.ensures) at c.is_still-still.ensures.still (c.after.ensures.still still) in
+          let none = none_moved c.start-starts.result.any c.address-addressed.result (nat_lt 0 c.in-Ok.made) quiet.0 in
+          let none_made : c.in-Ok.made ≤ 0 = ltb-false 0 c.in-Ok.made none.1 in
+          let zero_made : c.in-Ok.made ≡ 0 = omega (arith, none_made) in
+          let stays : c.count_issues.new.count ≡ c.args.self.now.count = omega (arith, count, zero_made) in
+          cycle_calm c.args.fetcher.now c.args.row.now n t c.args.next c.args.self.now.count c.count_issues.new.count s kind c.start-starts.result.fault c.start-starts.result.any _ _ _ _ _ _ _ _ _ c.end-ended.new.finishes c.start-starts.ensures.starts c.start-starts.ensures.none ends e good loaded old two.0 stays
+          (c.end-ended.ensures.none quiet.1 ∙ (c.issue.ensures.none (c.in-Ok.is ∙ ap (λ (k : ℕ). Ok k) zero_made) ∙ c.address-addressed.ensures.none none.0))
+          (elim quiet.2 [ inl e ↦ inl (none_started c.start-starts.result.any c.address-addressed.result (nat_lt 0 c.in-Ok.made) e) | inr e ↦ inr e ]) c.end-ended.ensures.known (c.end-ended.ensures.quiet quiet.1)),
     )
 
 pub end-ended-requires : goal.end-ended-requires
