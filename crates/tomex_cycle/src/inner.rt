@@ -1,6 +1,6 @@
 //! What a cycle changes, and the one call that changes it: it makes a cycle and counts it.
 
-ghost use Rattle.std.specs.Prelude.{ℕ, List, None, ◌≡◌, ◌≤◌, ◌<◌, ◌+◌, ◌^◌, IfOk, OnOk, OnErr, nat_lt, replicate, if◌then◌else◌};
+ghost use Rattle.std.specs.Prelude.{ℕ, List, None, ◌≡◌, ◌≤◌, ◌<◌, ◌+◌, ◌^◌, IfErr, IfOk, nat_lt, replicate, if◌then◌else◌};
 ghost use Rattle.tomex_image.specs.Image.{IsLoaded};
 ghost use Rattle.tomex_config.specs.Row.{IsRow};
 ghost use Rattle.tomex_rvexec.specs.declared.outcome.EndKind.{EndKind};
@@ -134,6 +134,28 @@ impl<A: Allocator> Inner<A> {
         }
     }
 
+    /// Before the first cycle of an image, over a memory that holds its bytes.
+    fn begun<B: Allocator>(memory: Memory<A>, image: &Image<B>) -> Self
+        requires { memory ≡ record { base = image.now.window.base; bytes = image.now.memory } }
+        ensures start { (row : _) (n : ℕ) → IsSnapshot image.now row n 0 result.count result.pools result.registers result.fetch result.memory }
+        ensures none { result.count ≡ 0 }
+        ensures unworked { result.worked ≡ 0 }
+        ensures empty { result.pools.slots ≡ replicate 96 None }
+    {
+        let window = image.window();
+        let end = u64::from(window.base()) + u64::from(window.size());
+        let stack = (end / 16 * 16 % (1 << 32)) as u32;
+        Inner {
+            pools: Pools::new(),
+            registers: RegStatus::new(stack),
+            memory,
+            fetch: Fetch::At(image.entry()),
+            count: 0,
+            worked: 0,
+            happened: Happened::Nothing,
+        }
+    }
+
     /// Before the first cycle.
     pub fn new<B: Allocator>(alloc: A, image: &Image<B>) -> Result<Self, AllocError>
         ensures start { IfOk result (λ c. (row : _) (n : ℕ) → IsSnapshot image.now row n 0 c.count c.pools c.registers c.fetch c.memory) }
@@ -141,39 +163,41 @@ impl<A: Allocator> Inner<A> {
         ensures unworked { IfOk result (λ c. c.worked ≡ 0) }
         ensures empty { IfOk result (λ c. c.pools.slots ≡ replicate 96 None) }
     {
-        let mut inner = Inner {
-            pools: Pools::new(),
-            registers: RegStatus::new(0),
-            memory: Memory::new(0, Vec::new(alloc)),
-            fetch: Fetch::Waits,
-            count: 0,
-            worked: 0,
-            happened: Happened::Nothing,
-        };
-        inner.restart(image)?;
-        Ok(inner)
+        let mut memory = Memory::new(0, Vec::new(alloc));
+        memory.reload(image.window().base(), image.memory())?;
+        Ok(Inner::begun(memory, image))
     }
 
-    /// Before the first cycle of this image, in the memory that was taken before where that is enough.
-    pub fn restart<B: Allocator>(&mut self, image: &Image<B>) -> Result<(), AllocError>
-        ensures start { OnOk result ((row : _) (n : ℕ) → IsSnapshot image.now row n 0 self.new.count self.new.pools self.new.registers self.new.fetch self.new.memory) }
-        ensures none { OnOk result (self.new.count ≡ 0) }
-        ensures unworked { OnOk result (self.new.worked ≡ 0) }
-        ensures empty { OnOk result (self.new.pools.slots ≡ replicate 96 None) }
-        ensures err { OnErr result (self.new ≡ self.old) }
+    /// A new inner state before the first cycle of this image, made in the memory of the old one if that is enough.
+    /// If more is refused, the old one comes back as it was.
+    pub fn restart<B: Allocator>(self, image: &Image<B>) -> Result<Self, Self>
+        ensures start { IfOk result (λ c. (row : _) (n : ℕ) → IsSnapshot image.now row n 0 c.count c.pools c.registers c.fetch c.memory) }
+        ensures none { IfOk result (λ c. c.count ≡ 0) }
+        ensures unworked { IfOk result (λ c. c.worked ≡ 0) }
+        ensures empty { IfOk result (λ c. c.pools.slots ≡ replicate 96 None) }
+        ensures err { IfErr result (λ c. c ≡ self) }
     {
-        let window = image.window();
-        let base = window.base();
-        // The one step that may be refused comes first, while all is as it was.
-        self.memory.reload(base, image.memory())?;
-        let end = u64::from(base) + u64::from(window.size());
-        let stack = (end / 16 * 16 % (1 << 32)) as u32;
-        self.pools = Pools::new();
-        self.registers = RegStatus::new(stack);
-        self.fetch = Fetch::At(image.entry());
-        self.count = 0;
-        self.worked = 0;
-        Ok(())
+        let Inner {
+            pools,
+            registers,
+            mut memory,
+            fetch,
+            count,
+            worked,
+            happened,
+        } = self;
+        if memory.reload(image.window().base(), image.memory()).is_ok() {
+            return Ok(Inner::begun(memory, image));
+        }
+        Err(Inner {
+            pools,
+            registers,
+            memory,
+            fetch,
+            count,
+            worked,
+            happened,
+        })
     }
 
     /// How many cycles were made.

@@ -1,6 +1,6 @@
 //! The machine.
 
-ghost use Rattle.std.specs.Prelude.{◌≡◌, ◌≢◌, ◌<◌, ◌≤◌, ◌+◌, ◌^◌, max, IfOk, OnOk, OnErr, true};
+ghost use Rattle.std.specs.Prelude.{◌≡◌, ◌≢◌, ◌<◌, ◌≤◌, ◌+◌, ◌^◌, max, IfErr, IfOk, true};
 ghost use Rattle.tomex_rvexec.specs.Run.{EndsWithin, IsEnd};
 ghost use Rattle.tomex_timing.specs.Tables.{tables_of};
 ghost use Rattle.tomex_cycle.specs.Run.{run_of};
@@ -17,6 +17,9 @@ use std::marker::Model;
 use tomex_config::Config;
 use tomex_image::Image;
 use tomex_rvexec::{End, Fetcher};
+
+/// The cycle of a machine that has made none.
+const BEFORE_THE_FIRST: u64 = 0;
 
 /// A Tomasulo machine that runs an image.
 #[derive(Drop)]
@@ -54,30 +57,49 @@ impl<'a, A: Allocator> Machine<'a, A> {
         Ok(Machine {
             fetcher: Fetcher::new(image),
             row: *row,
-            cycle: 0,
+            cycle: BEFORE_THE_FIRST,
             last: Progress::Running,
             finishes: Finishes::new(),
             inner: Inner::new(alloc, image)?,
         })
     }
 
-    /// The machine of this image and this row, before the first cycle, in the memory that it has where
-    /// that is enough. Where more is refused it stays as it is.
-    pub fn restart(&mut self, image: &'a Image<A>, row: &Config) -> Result<(), AllocError>
-        ensures start { OnOk result (seen self.new ≡ record { image = image.now; row = row.now; cycle = 0; last = Progress.Running }) }
-        ensures worked { OnOk result (self.new.worked ≡ 0) }
-        ensures err { OnErr result (self.new ≡ self.old) }
+    /// A machine of this image and this row, before the first cycle, made in the memory of this one if that is enough.
+    /// If more is refused, this one comes back as it was.
+    pub fn restart(self, image: &'a Image<A>, row: &Config) -> Result<Self, Self>
+        ensures start { IfOk result (λ m. seen m ≡ record { image = image.now; row = row.now; cycle = 0; last = Progress.Running }) }
+        ensures worked { IfOk result (λ m. m.worked ≡ 0) }
+        ensures err { IfErr result (λ m. m ≡ self.entry) }
     {
         // Read for what the types of the row and the image keep.
         let _buses = row.buses();
         let _entry = image.entry();
-        self.inner.restart(image)?;
-        self.finishes = Finishes::new();
-        self.fetcher = Fetcher::new(image);
-        self.row = *row;
-        self.cycle = 0;
-        self.last = Progress::Running;
-        Ok(())
+        let Machine {
+            inner,
+            finishes,
+            fetcher,
+            row: old_row,
+            cycle,
+            last,
+        } = self;
+        match inner.restart(image) {
+            Ok(inner) => Ok(Machine {
+                inner,
+                finishes: Finishes::new(),
+                fetcher: Fetcher::new(image),
+                row: *row,
+                cycle: BEFORE_THE_FIRST,
+                last: Progress::Running,
+            }),
+            Err(inner) => Err(Machine {
+                inner,
+                finishes,
+                fetcher,
+                row: old_row,
+                cycle,
+                last,
+            }),
+        }
     }
 
     /// Makes one cycle. Once the program has ended or faulted it changes nothing.
