@@ -1,5 +1,5 @@
 -- What a worker does with a row that it has in hand.
-use Rattle.std.proofs.Common.{◌≡◌, ℕ, ◌+◌, ◌-◌, ◌<◌, List, [], ◌∷◌, Some, slice_get, length, get_or, cond, ap, refl, sym, ◌∙◌, subst, inl, All, take, arith, eq-eqb}
+use Rattle.std.proofs.Common.{◌≡◌, ℕ, ◌+◌, ◌-◌, ◌<◌, ◌≤◌, List, [], ◌∷◌, Some, slice_get, length, get_or, cond, ap, refl, sym, ◌∙◌, subst, inl, All, take, arith, eq-eqb}
 use Rattle.std.proofs.lemmas.List.{length-map}
 use Rattle.std.proofs.lemmas.List.Elements.{All-more, All-weaker}
 use Rattle.tomex_board.specs.Known.{Known}
@@ -10,7 +10,7 @@ use Rattle.tomex_config.specs.Row.{Row}
 use Rattle.tomex_sweep.specs.Study.{DesignSpace, IsStudy}
 use Rattle.tomex_sweep.specs.Cycles.{cycles_on, cycles_of}
 use Rattle.tomex_sweep.specs.Plans.{IsPlanOf}
-use Rattle.tomex_sweep.specs.Stops.{Going, stop_at}
+use Rattle.tomex_sweep.specs.Stops.{Going, IsNearer, stop_at}
 use Rattle.tomex_sweep.specs.declared.stop.Stop.{Stop}
 use Rattle.tomex_sweep.specs.declared.stop.Stop.TheVariants.{Look, Over}
 use Rattle.tomex_sweep.proofs.Verdicts.{cycles_at, look_near, over_is}
@@ -24,16 +24,16 @@ pub record IsRunning (s : DesignSpace) (row : ℕ) (first now : Known) (run : Go
   pub programs : run.programs ≡ s.programs
   pub its_row : slice_get s.rows row ≡ Some run.row
 
--- a look brings the run nearer to the row's cycles, which are more
-pub look_on : (s : DesignSpace) (row : ℕ) (first now : Known) (run : Going) (p : Stop) (new seen : ℕ) → IsRunning s row first now run → p ≡ stop_at (cycles_on run.programs run.row) (run.reached + 1024) → p ≡ Look seen
-    → (p ≡ Look (run.reached + 1024) → new ≡ run.reached + 1024) → (get_or (cycles_of s) row 0 - new < get_or (cycles_of s) row 0 - run.reached) × (seen < get_or (cycles_of s) row 0)
-look_on s row first now run p new seen is stop looks up =
+-- a look brings the run nearer to the row's cycles, of which no more have come
+pub look_on : (s : DesignSpace) (row : ℕ) (first now : Known) (run new : Going) (p : Stop) (seen : ℕ) → IsRunning s row first now run → p ≡ Look seen → IsNearer run new p
+    → (get_or (cycles_of s) row 0 - new.reached < get_or (cycles_of s) row 0 - run.reached) × (seen ≤ get_or (cycles_of s) row 0)
+look_on s row first now run new p seen is looks up =
     let e : get_or (cycles_of s) row 0 ≡ cycles_on s.programs run.row = cycles_at s row run.row is.its_row in
-    let near = look_near run.programs s.programs run.row run.row p run.reached new seen is.programs refl stop looks up in
-    subst (λ n. (n - new < n - run.reached) × (seen < n)) (sym e) near
+    let near = look_near run new s.programs run.row p seen is.programs refl looks up in
+    subst (λ n. (n - new.reached < n - run.reached) × (seen ≤ n)) (sym e) near
 
 -- a run that is over has the row's cycles
-pub over_on : (s : DesignSpace) (row : ℕ) (first now : Known) (run : Going) (p : Stop) (y : ℕ) → IsRunning s row first now run → p ≡ stop_at (cycles_on run.programs run.row) (run.reached + 1024) → p ≡ Over y → y ≡ get_or (cycles_of s) row 0
+pub over_on : (s : DesignSpace) (row : ℕ) (first now : Known) (run : Going) (p : Stop) (y : ℕ) → IsRunning s row first now run → p ≡ stop_at run.programs run.row (run.reached + 1024) → p ≡ Over y → y ≡ get_or (cycles_of s) row 0
 over_on s row first now run p y is stop over = over_is run.programs s.programs run.row run.row p run.reached y is.programs refl stop over ∙ sym (cycles_at s row run.row is.its_row)
 
 pub has_it : (hand : List ℕ) (row : ℕ) → hand ≡ row ∷ [] → Has hand row

@@ -14,6 +14,7 @@ use Rattle.tomex_board.specs.declared.mark.Mark.{Mark}
 use Rattle.tomex_lanes.specs.Lanes.{Dealt, dealt}
 use Rattle.tomex_lanes.specs.Parts.{Equipped, Returned, AreSeated, AreWhole}
 use Rattle.tomex_lanes.proofs.Dealing.{dealt-counts, each_is_dealt, length-dealt}
+use Rattle.tomex_sweep.specs.Program.{IsProgram}
 use Rattle.tomex_sweep.specs.Study.{DesignSpace, IsStudy}
 use Rattle.tomex_sweep.specs.Cycles.{cycles_on, cycles_of}
 use Rattle.tomex_sweep.specs.Plans.{IsPlanOf}
@@ -21,19 +22,19 @@ use Rattle.tomex_sweep.specs.Crews.{CanStart, CanRun, Owed, owed_by, given_by}
 use Rattle.tomex_sweep.proofs.Totals.{cycles_bound}
 use Rattle.tomex_sweep.proofs.Verdicts.{as_long}
 
-low_cycles : (s : DesignSpace) → IsStudy s → All IsRow s.rows → All (λ c. c < 2 ^ 38) (cycles_of s)
+low_cycles : (s : DesignSpace) → IsStudy s → All IsRow s.rows → All IsProgram s.programs → All (λ c. c < 2 ^ 38) (cycles_of s)
 unfolding cycles_of
-low_cycles s is rows =
+low_cycles s is rows programs =
     All-map (λ c. c < 2 ^ 38) (cycles_on s.programs) s.rows
-    (All-weaker IsRow (λ r. cycles_on s.programs r < 2 ^ 38) (λ r lawful. let most = cycles_bound s.programs r lawful is.few_programs in omega arith) s.rows rows)
+    (All-weaker IsRow (λ r. cycles_on s.programs r < 2 ^ 38) (λ r lawful. let most = cycles_bound s.programs r lawful programs is.few_programs in omega arith) s.rows rows)
 
 -- a board can be made for a study
-pub board_plan : (s : DesignSpace) (costs cycles : List ℕ) → IsStudy s → All IsRow s.rows → IsPlanOf s costs cycles → IsPlan costs cycles
-board_plan s costs cycles is rows plan =
+pub board_plan : (s : DesignSpace) (costs cycles : List ℕ) → IsStudy s → All IsRow s.rows → All IsProgram s.programs → IsPlanOf s costs cycles → IsPlan costs cycles
+board_plan s costs cycles is rows programs plan =
     let long : length s.costs ≡ length s.rows = ap length is.costs ∙ length-map _ _ in
     let some = is.some_rows in
     let few = is.few_rows in
-    let own : IsPlan s.costs (cycles_of s) = (omega arith, omega arith, sym (as_long s is), low_cycles s is rows) in
+    let own : IsPlan s.costs (cycles_of s) = (omega arith, omega arith, sym (as_long s is), low_cycles s is rows programs) in
     subst (λ ys. IsPlan costs ys) plan.its_cycles (subst (λ cs. IsPlan cs (cycles_of s)) plan.its_costs own)
 
 all_can : (board : TableId) (count : ℕ) (workers : List Equipped) → All (λ s. s.board ≡ board) (map (λ (w : Equipped). w.seat) workers) → All (λ s. s.view.hand ≡ []) (map (λ (w : Equipped). w.seat) workers) → All (λ l. l.count ≡ count) (map (λ (w : Equipped). w.lane) workers)

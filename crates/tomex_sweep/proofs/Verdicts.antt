@@ -6,12 +6,12 @@ use Rattle.std.proofs.lemmas.List.Elements.{All-push}
 use Rattle.tomex_config.specs.Row.{Row}
 use Rattle.tomex_sweep.specs.Study.{DesignSpace, IsStudy}
 use Rattle.tomex_sweep.specs.Program.{Workload}
-use Rattle.tomex_sweep.specs.Cycles.{cycles_on, cycles_of}
+use Rattle.tomex_sweep.specs.Cycles.{cycles_on, cycles_of, plain_on, weighed}
 use Rattle.tomex_sweep.specs.Front.{front_of, front_of_study}
 use Rattle.tomex_sweep.specs.Marks.{AreJudged, finished_from}
 use Rattle.tomex_board.specs.Marks.{AreLawful}
 use Rattle.tomex_lanes.specs.Parts.{is_closed}
-use Rattle.tomex_sweep.specs.Stops.{stop_at}
+use Rattle.tomex_sweep.specs.Stops.{Going, IsNearer, stop_at}
 use Rattle.tomex_sweep.specs.declared.front_row.FrontRow.{FrontRow}
 use Rattle.tomex_board.specs.declared.mark.Mark.{Mark}
 use Rattle.tomex_board.specs.declared.mark.Mark.TheVariants.{Open, Taken, Finished, Dropped}
@@ -19,21 +19,16 @@ use Rattle.tomex_sweep.specs.declared.stop.Stop.{Stop}
 use Rattle.tomex_sweep.specs.declared.stop.Stop.TheVariants.{Look, Over}
 use Rattle.tomex_sweep.proofs.Judged.{same_front}
 
-stop_over : (cycles n : ℕ) → cycles ≤ n → stop_at cycles n ≡ Over cycles
-stop_over cycles n l = ap (λ (t : Bool). cond t (Look n) (Over cycles)) (le-ltb n cycles l)
+stop_over : (ps : List Workload) (row : Row) (n : ℕ) → plain_on ps row ≤ n → stop_at ps row n ≡ Over (cycles_on ps row)
+stop_over ps row n l = ap (λ (t : Bool). cond t (Look (weighed ps row n)) (Over (cycles_on ps row))) (le-ltb n (plain_on ps row) l)
 
-stop_look : (cycles n : ℕ) → n < cycles → stop_at cycles n ≡ Look n
-stop_look cycles n l = ap (λ (t : Bool). cond t (Look n) (Over cycles)) (lt-ltb n cycles l)
+stop_look : (ps : List Workload) (row : Row) (n : ℕ) → n < plain_on ps row → stop_at ps row n ≡ Look (weighed ps row n)
+stop_look ps row n l = ap (λ (t : Bool). cond t (Look (weighed ps row n)) (Over (cycles_on ps row))) (lt-ltb n (plain_on ps row) l)
 
--- what a look says
-pub look_of : (cycles n r : ℕ) → Look r ≡ stop_at cycles n → (r ≡ n) × (n < cycles)
-look_of cycles n r e =
-    ⊎_elim (λ (l : n < cycles). let f : Look r ≡ Look n = e ∙ stop_look cycles n l in ((cc), l)) (λ (l : cycles ≤ n). absurd (let f : Look r ≡ Over cycles = e ∙ stop_over cycles n l in cc)) (cases_lt n cycles)
-
--- and what an end says
-pub over_of : (cycles n r : ℕ) → Over r ≡ stop_at cycles n → r ≡ cycles
-over_of cycles n r e =
-    ⊎_elim (λ (l : n < cycles). absurd (let f : Over r ≡ Look n = e ∙ stop_look cycles n l in cc)) (λ (l : cycles ≤ n). let f : Over r ≡ Over cycles = e ∙ stop_over cycles n l in cc) (cases_lt n cycles)
+-- what an end says
+pub over_of : (ps : List Workload) (row : Row) (n r : ℕ) → Over r ≡ stop_at ps row n → r ≡ cycles_on ps row
+over_of ps row n r e =
+    ⊎_elim (λ (l : n < plain_on ps row). absurd (let f : Over r ≡ Look (weighed ps row n) = e ∙ stop_look ps row n l in cc)) (λ (l : plain_on ps row ≤ n). let f : Over r ≡ Over (cycles_on ps row) = e ∙ stop_over ps row n l in cc) (cases_lt n (plain_on ps row))
 
 -- all rows finished
 
@@ -83,19 +78,16 @@ cycles_map s = refl
 same_cycles : (ps qs : List Workload) (r s : Row) → ps ≡ qs → r ≡ s → cycles_on ps r ≡ cycles_on qs s
 same_cycles ps qs r s e f = ap (λ (x : List Workload). cycles_on x r) e ∙ ap (λ (x : Row). cycles_on qs x) f
 
--- a look of the run brings it nearer to its cycles, which are more
-pub look_near : (ps qs : List Workload) (r s : Row) (p : Stop) (was new seen : ℕ) → ps ≡ qs → r ≡ s → p ≡ stop_at (cycles_on ps r) (was + 1024) → p ≡ Look seen → (p ≡ Look (was + 1024) → new ≡ was + 1024)
-    → (cycles_on qs s - new < cycles_on qs s - was) × (seen < cycles_on qs s)
-look_near ps qs r s p was new seen e f stop is up =
-    let c : cycles_on ps r ≡ cycles_on qs s = same_cycles ps qs r s e f in
-    let w = look_of (cycles_on ps r) (was + 1024) seen (sym is ∙ stop) in
-    let at : seen ≡ was + 1024 = w.0 in
-    let below : was + 1024 < cycles_on ps r = w.1 in
-    let now : new ≡ was + 1024 = up (is ∙ ap (λ (n : ℕ). Look n) at) in
-    (omega arith, omega arith)
+-- a look of the run brings it nearer to its cycles, of which no more have come
+pub look_near : (old new : Going) (ps : List Workload) (row : Row) (p : Stop) (seen : ℕ) → old.programs ≡ ps → old.row ≡ row → p ≡ Look seen → IsNearer old new p
+    → (cycles_on ps row - new.reached < cycles_on ps row - old.reached) × (seen ≤ cycles_on ps row)
+look_near old new ps row p seen e f is up =
+    let c : cycles_on old.programs old.row ≡ cycles_on ps row = same_cycles old.programs ps old.row row e f in
+    let (more, less, within) = up seen is in
+    (omega (arith, c, more, less), omega (arith, c, within))
 
-pub over_is : (ps qs : List Workload) (r s : Row) (p : Stop) (was y : ℕ) → ps ≡ qs → r ≡ s → p ≡ stop_at (cycles_on ps r) (was + 1024) → p ≡ Over y → y ≡ cycles_on qs s
-over_is ps qs r s p was y e f stop is = over_of (cycles_on ps r) (was + 1024) y (sym is ∙ stop) ∙ same_cycles ps qs r s e f
+pub over_is : (ps qs : List Workload) (r s : Row) (p : Stop) (was y : ℕ) → ps ≡ qs → r ≡ s → p ≡ stop_at ps r (was + 1024) → p ≡ Over y → y ≡ cycles_on qs s
+over_is ps qs r s p was y e f stop is = over_of ps r (was + 1024) y (sym is ∙ stop) ∙ same_cycles ps qs r s e f
 
 pub all_finished : (s : DesignSpace) (rows : List Row) (ms : List Mark) → rows ≡ s.rows → ms ≡ map Finished (map (cycles_on s.programs) rows) → ms ≡ map Finished (cycles_of s)
 all_finished s rows ms e is = is ∙ (ap (λ (rs : List Row). map Finished (map (cycles_on s.programs) rs)) e ∙ ap (λ (ys : List ℕ). map Finished ys) (cycles_map s))

@@ -10,19 +10,23 @@ use Rattle.tomex_sweep.specs.declared.program.ProgramError.{ProgramError}
 use Rattle.tomex_sweep.specs.declared.program.ProgramError.TheVariants.{Fault, TooLong, Memory}
 
 -- what a study has of a program: the bytes of its name, its image, the most steps that it may make,
--- and the ranges of its memory that a report shows
+-- the ranges of its memory that a report shows, and how often its cycles count
 pub record Workload : Type 0 where
   pub name : List ℕ
   pub image : Loaded
   pub limit : ℕ
   pub watch : List WatchRange
+  pub weight : ℕ
 
--- its run ends within its limit, which is 1 to 262,144 steps, and its ranges are in its window
+-- its run ends within its limit, which is 1 to 262,144 steps, its ranges are in its window, and its
+-- weight is 1 to 1,000
 pub record IsProgram (p : Workload) : Type 0 where
   pub some_steps : 1 ≤ p.limit
   pub few_steps : p.limit ≤ 262144
   pub ends : EndsWithin p.image p.limit
   pub watch : IsWatch p.image.window p.watch
+  pub some_weight : 1 ≤ p.weight
+  pub most_weight : p.weight ≤ 1000
 
 -- what the run was refused for
 abbrev pub refusal_of : ProgramError → RunError

@@ -1,5 +1,5 @@
 -- A study: its programs, its rows, and what each row costs.
-use Rattle.std.specs.Prelude.{◌≡◌, ℕ, ◌≤◌, List, length, map, Option}
+use Rattle.std.specs.Prelude.{◌≡◌, ℕ, ◌≤◌, Bool, List, length, map, Option}
 use Rattle.std.specs.List.{find}
 use Rattle.std.specs.Str.{bytes_eq}
 use Rattle.tomex_config.specs.Row.{Row}
@@ -11,6 +11,8 @@ pub record DesignSpace : Type 0 where
   pub rows : List Row
   pub costs : List ℕ
   pub prices : PriceList
+  -- reports show widths and weights
+  pub wide : Bool
 
 -- what each row costs at these prices
 abbrev pub costs_of : PriceList → List Row → List ℕ

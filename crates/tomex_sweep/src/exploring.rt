@@ -9,7 +9,7 @@ ghost use Rattle.tomex_sweep.specs.Plans.{IsPlanOf};
 use crate::fronts::front;
 use crate::gate::Gate;
 use crate::gathering::gather;
-use crate::laws::each_row_is_lawful;
+use crate::laws::{each_program_ends, each_row_is_lawful};
 use crate::outcome::{Outcome, SweepError};
 use crate::stacks::{Stacks, UsualStacks};
 use crate::started::run_workers;
@@ -43,8 +43,9 @@ fn explore_as<
     ensures front { IfOk result (λ o. o.front.items ≡ front_of_study study.now) }
     ensures gathered { IfOk result (λ o. o.gathered ≡ 0) }
 {
-    // A law: the board wants cycles that fit its words, which those of lawful rows do.
+    // Laws: the board wants cycles that fit its words, which those of lawful rows and programs do.
     each_row_is_lawful(study.rows());
+    each_program_ends(study.programs());
     let costs = study.costs();
     gate.begins(costs.len());
     let lanes = deal(alloc.clone()?, workers, costs.len())?;

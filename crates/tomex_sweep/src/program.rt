@@ -13,13 +13,15 @@ use tomex_image::Image;
 use tomex_rvexec::{Fault, RunError, run};
 
 /// A program, which ends within its limit of 1 to 262,144 steps, by a run in order of its image.
-/// At most 8 ranges of its memory are watched, each inside it, together of at most 4,096 bytes.
+/// At most 8 ranges of its memory are watched, each inside it, together of at most 4,096 bytes. Its
+/// cycles count 1 to 1,000 times.
 #[derive(Debug, Drop)]
 pub struct Program<A: Allocator = Global> {
     name: String<A>,
     image: Image<A>,
     limit: u32,
     watch: Vec<WatchRange, A>,
+    weight: u32,
 }
 
 impl<A: Allocator> Model for Program<A> {
@@ -29,10 +31,10 @@ impl<A: Allocator> Model for Program<A> {
     ghost Value = { Workload };
 
     ghost view = { λ p.
-        record { name = string_bytes p.name; image = p.image; limit = p.limit; watch = p.watch.items } };
+        record { name = string_bytes p.name; image = p.image; limit = p.limit; watch = p.watch.items; weight = p.weight } };
 
     ghost invariant = { λ p.
-        IsProgram (record { name = string_bytes p.name; image = p.image; limit = p.limit; watch = p.watch.items }) };
+        IsProgram (record { name = string_bytes p.name; image = p.image; limit = p.limit; watch = p.watch.items; weight = p.weight }) };
 }
 
 /// Why an image is no program of a study.
@@ -70,12 +72,15 @@ impl<A: Allocator> Program<A> {
         image: Image<A>,
         limit: u32,
         watch: Vec<WatchRange, A>,
+        weight: u32,
     ) -> Result<Program<A>, ProgramError>
         requires some_steps { 1 ≤ limit }
         requires few_steps { limit ≤ 262144 }
         requires watch { IsWatch image.window watch.items }
+        requires some_weight { 1 ≤ weight }
+        requires most_weight { weight ≤ 1000 }
         ensures parts { IfOk result
-            (λ p. p ≡ record { name = string_bytes name; image = image; limit = limit; watch = watch.items }) }
+            (λ p. p ≡ record { name = string_bytes name; image = image; limit = limit; watch = watch.items; weight = weight }) }
         ensures program { IfOk result (λ p. IsProgram p) }
         ensures unfit { IfErr result (λ e. IsUnfit image limit e) }
     {
@@ -85,6 +90,7 @@ impl<A: Allocator> Program<A> {
             image,
             limit,
             watch,
+            weight,
         })
     }
 
@@ -118,5 +124,14 @@ impl<A: Allocator> Program<A> {
         ensures program { IsProgram self.now }
     {
         self.watch.as_slice()
+    }
+
+    /// How often its cycles count.
+    pub fn weight(&self) -> u32
+        ensures value { result ≡ self.now.weight }
+        ensures range { (1 ≤ result) × (result ≤ 1000) }
+        ensures program { IsProgram self.now }
+    {
+        self.weight
     }
 }

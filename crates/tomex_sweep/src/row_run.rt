@@ -2,8 +2,7 @@
 
 ghost use Rattle.std.specs.Prelude.{◌≡◌, ◌+◌, ◌≤◌, length, IfOk, OnOk, All};
 ghost use Rattle.tomex_sweep.specs.Program.{IsProgram};
-ghost use Rattle.tomex_sweep.specs.Cycles.{cycles_on};
-ghost use Rattle.tomex_sweep.specs.Stops.{stop_at};
+ghost use Rattle.tomex_sweep.specs.Stops.{IsNearer, stop_at};
 
 use crate::program::Program;
 use crate::stop::Stop;
@@ -24,7 +23,9 @@ pub(crate) struct RowRun<'s, A: Allocator> {
     place: usize,
     /// The sum of their totals.
     done: u64,
-    /// The count at the last look, 0 before the first.
+    /// The same by their weights.
+    counted: u64,
+    /// The cycles made at the last look, 0 before the first.
     reached: u64,
     /// The machine of the program at hand.
     machine: Machine<'s, A>,
@@ -38,7 +39,7 @@ impl<'s, A: Allocator> Model for RowRun<'s, A> {
 
     ghost view = { λ r. record { programs = r.programs.now; row = r.row.now; reached = r.reached } };
 
-    ghost invariant = { λ r. IsGoing r.programs.now r.row.now r.reached r.place r.done (seen r.machine) };
+    ghost invariant = { λ r. IsGoing r.programs.now r.row.now r.reached r.place r.done r.counted (seen r.machine) };
 }
 
 impl<'s, A: Allocator> RowRun<'s, A> {
@@ -61,6 +62,7 @@ impl<'s, A: Allocator> RowRun<'s, A> {
             row,
             place: 0,
             done: 0,
+            counted: 0,
             reached: 0,
             machine,
         })
@@ -85,36 +87,42 @@ impl<'s, A: Allocator> RowRun<'s, A> {
         self.row = row;
         self.place = 0;
         self.done = 0;
+        self.counted = 0;
         self.reached = 0;
         Ok(())
     }
 
-    /// Goes on to the next multiple of 1,024 cycles, where the run isn't over before or at it, or
-    /// to the end of the run. A run that is over stays so.
+    /// Goes on to the next multiple of 1,024 cycles that it makes, where it isn't over before or at it,
+    /// or to its end. A run that is over stays so. What it answers are cycles by the programs' weights.
     pub(crate) fn go_on(&mut self) -> Result<Stop, AllocError>
         ensures parts { (self.new.programs ≡ self.old.programs) × (self.new.row ≡ self.old.row) }
-        ensures stop { IfOk result (λ p. p ≡ stop_at (cycles_on self.old.programs self.old.row) (self.old.reached + 1024)) }
-        ensures look { IfOk result (λ p. p ≡ Stop.Look (self.old.reached + 1024) → self.new.reached ≡ self.old.reached + 1024) }
+        ensures stop { IfOk result (λ p. p ≡ stop_at self.old.programs self.old.row (self.old.reached + 1024)) }
+        ensures look { IfOk result (λ p. IsNearer self.old self.new p) }
     {
         let next = self.reached + STRIDE;
         while self.place < self.programs.len() {
+            let programs = self.programs;
+            let weight = u64::from(programs[self.place].weight());
             self.machine.advance(next - self.done);
+            let made = self.machine.cycle();
+            let counted = self.counted + weight * made;
             if !self.machine.ended() {
                 self.reached = next;
-                return Ok(Stop::Look(next));
+                return Ok(Stop::Look(counted));
             }
             let place = self.place + 1;
-            let done = self.done + self.machine.cycle();
-            let programs = self.programs;
+            let done = self.done + made;
             let Some(program) = programs.get(place) else {
                 self.place = place;
                 self.done = done;
-                return Ok(Stop::Over(done));
+                self.counted = counted;
+                return Ok(Stop::Over(counted));
             };
             self.machine.restart(program.image(), self.row)?;
             self.place = place;
             self.done = done;
+            self.counted = counted;
         }
-        Ok(Stop::Over(self.done))
+        Ok(Stop::Over(self.counted))
     }
 }

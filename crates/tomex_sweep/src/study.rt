@@ -9,14 +9,15 @@ use std::alloc::{AllocError, Allocator, Global};
 use std::marker::Model;
 use tomex_config::{Config, Prices, cost};
 
-/// A study: 1 to 8 programs, 1 to 16,384 rows in any order, the cost of each row, and the prices
-/// that the costs are made of. Rows are numbered from 0.
+/// A study: 1 to 8 programs, 1 to 16,384 rows in any order, the cost of each row, the prices that the
+/// costs are made of, and whether reports show widths and weights. Rows are numbered from 0.
 #[derive(Debug, Drop)]
 pub struct Study<A: Allocator = Global> {
     programs: Vec<Program<A>, A>,
     rows: Vec<Config, A>,
     costs: Vec<u64, A>,
     prices: Prices,
+    wide: bool,
 }
 
 impl<A: Allocator> Model for Study<A> {
@@ -25,10 +26,10 @@ impl<A: Allocator> Model for Study<A> {
     ghost Value = { DesignSpace };
 
     ghost view = { λ s.
-        record { programs = s.programs.items; rows = s.rows.items; costs = s.costs.items; prices = s.prices } };
+        record { programs = s.programs.items; rows = s.rows.items; costs = s.costs.items; prices = s.prices; wide = s.wide } };
 
     ghost invariant = { λ s.
-        IsStudy (record { programs = s.programs.items; rows = s.rows.items; costs = s.costs.items; prices = s.prices }) };
+        IsStudy (record { programs = s.programs.items; rows = s.rows.items; costs = s.costs.items; prices = s.prices; wide = s.wide }) };
 }
 
 impl<A: Allocator> Study<A> {
@@ -38,6 +39,7 @@ impl<A: Allocator> Study<A> {
         programs: Vec<Program<A>, A>,
         rows: Vec<Config, A>,
         prices: Prices,
+        wide: bool,
     ) -> Result<Study<A>, AllocError>
         requires some_programs { 1 ≤ length programs.items }
         requires few_programs { length programs.items ≤ 8 }
@@ -49,6 +51,7 @@ impl<A: Allocator> Study<A> {
               rows = rows.items;
               costs = costs_of prices rows.items;
               prices = prices;
+              wide = wide;
             }) }
         ensures study { IfOk result (λ s. IsStudy s) }
     {
@@ -58,6 +61,7 @@ impl<A: Allocator> Study<A> {
             rows,
             costs,
             prices,
+            wide,
         })
     }
 
@@ -85,12 +89,20 @@ impl<A: Allocator> Study<A> {
         self.costs.as_slice()
     }
 
-    /// The prices of stations and buses.
+    /// The prices of stations, buses and widths.
     pub fn prices(&self) -> Prices
         ensures value { result ≡ self.now.prices }
         ensures study { IsStudy self.now }
     {
         self.prices
+    }
+
+    /// Whether reports show the widths of rows and the weights of programs.
+    pub fn wide(&self) -> bool
+        ensures value { result ≡ self.now.wide }
+        ensures study { IsStudy self.now }
+    {
+        self.wide
     }
 
     /// The first program of that name.

@@ -47,7 +47,7 @@ abbrev pub counts_or : Place → Key → ℕ → Option Data → Reading (List �
 counts_or place key most None = Ok (1 ∷ [])
 counts_or place key most (Some value) = counts_from place key most (as_array value)
 
--- the numbers of stations or buses at a key, from 1 to most; where the key isn't there, one of them
+-- the numbers of stations or buses, or the widths, at a key, from 1 to most; where the key isn't there, a single 1
 unfoldable pub counts_at : Place → Key → ℕ → Members → Reading (List ℕ)
 counts_at place key most members = counts_or place key most (value_at key members)
 

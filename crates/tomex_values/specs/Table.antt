@@ -1,5 +1,5 @@
 -- A table of the document: its members, and whether the study knows their keys.
-use Rattle.std.specs.Prelude.{ℕ, Bool, false, not, ◌||◌, List, Option, Some, None, Ok, Err, if◌then◌else◌}
+use Rattle.std.specs.Prelude.{ℕ, Bool, false, not, ◌||◌, List, Option, Some, None, Ok, Err, if◌then◌else◌, is_some}
 use Rattle.std.specs.List.{list_any}
 use Rattle.std.specs.Str.{bytes_eq}
 use Rattle.toml.specs.Data.{Data, Members, no_members, member, get_member, as_table}
@@ -12,6 +12,10 @@ use Rattle.tomex_values.specs.Readings.{Reading}
 -- the value at a key
 abbrev pub value_at : Key → Members → Option Data
 value_at key members = get_member (key_text key) members
+
+-- there is a value at the key
+abbrev pub has_key : Key → Members → Bool
+has_key key members = is_some (value_at key members)
 
 -- the name is one of these keys
 abbrev pub is_one_of : List Key → List ℕ → Bool

@@ -98,8 +98,8 @@ fn counts_from<A: Allocator>(
     some_counts(alloc, values, place, key, most)
 }
 
-/// The numbers of stations or buses at a key, from 1 to `most`; where the key isn't there, one of
-/// them.
+/// The numbers of stations or buses, or the widths, at a key, from 1 to `most`; where the key isn't
+/// there, a single 1.
 #[tactic(auto, unfolding(crate::specs::Lists::counts_at))]
 pub fn counts_at<A: Allocator>(
     alloc: A,

@@ -1,5 +1,5 @@
 -- A run that is over has the row's cycles; one that is given up has fewer than it has made.
-use Rattle.std.proofs.Common.{◌≡◌, ◌<◌, get_or, ap, ◌∙◌, refl, subst, sym, Some, slice_get, length, List, ℕ, arith}
+use Rattle.std.proofs.Common.{◌≡◌, ◌<◌, ◌≤◌, get_or, ap, ◌∙◌, refl, subst, sym, Some, slice_get, length, List, ℕ, arith}
 use Rattle.std.proofs.lemmas.Option.{slice_get_read}
 use Rattle.tomex_board.specs.declared.view.View.{View}
 use Rattle.tomex_board.proofs.Closes.{grows_on}
@@ -28,8 +28,8 @@ returns-in-Over-clause-grown g c = grows_on _ _ _ c.loop-cycles.invariant.grown 
 
 pub give_up-requires-clause-reached : goal.give_up-requires-clause-reached
 give_up-requires-clause-reached g c =
-    let w = look_on _ _ _ _ _ _ c.go_on.new.self.reached _ c.loop-cycles.invariant c.in_ok-cycles.ensures.stop c.in-Look.is c.in_ok-cycles.ensures.look in
-    let below : c.in-Look.reached < get_or (cycles_of c.args.study.now) c.args.row 0 = w.1 in
+    let w = look_on _ _ _ _ _ c.go_on.new.self _ _ c.loop-cycles.invariant c.in-Look.is c.in_ok-cycles.ensures.look in
+    let below : c.in-Look.reached ≤ get_or (cycles_of c.args.study.now) c.args.row 0 = w.1 in
     let same : get_or (cycles_of c.args.study.now) c.args.row 0 ≡ get_or g.J.Plan.cycles c.args.row 0 = ap (λ (cs : List ℕ). get_or cs c.args.row 0) c.requires.plan.its_cycles in
     omega arith
 
@@ -43,13 +43,13 @@ pub returns-then-bound-reached-clause-grown : goal.returns-then-bound-reached-cl
 returns-then-bound-reached-clause-grown g c = grows_on _ _ _ c.loop-cycles.invariant.grown (grows_on _ _ _ c.look.ensures.grown c.give_up.ensures.grown)
 
 pub loop-cycles-smaller-else-bound-reached : goal.loop-cycles-smaller-else-bound-reached
-loop-cycles-smaller-else-bound-reached g c = (look_on _ _ _ _ _ _ c.go_on.new.self.reached _ c.loop-cycles.invariant c.in_ok-cycles.ensures.stop c.in-Look.is c.in_ok-cycles.ensures.look).0
+loop-cycles-smaller-else-bound-reached g c = (look_on _ _ _ _ _ c.go_on.new.self _ _ c.loop-cycles.invariant c.in-Look.is c.in_ok-cycles.ensures.look).0
 
 pub loop-cycles-preserved-else-bound-reached : goal.loop-cycles-preserved-else-bound-reached
 loop-cycles-preserved-else-bound-reached g c = next_running _ _ _ _ _ _ _ c.loop-cycles.invariant c.look.ensures.board c.look.ensures.hand c.look.ensures.share c.look.ensures.grown c.go_on.ensures.parts.0 c.go_on.ensures.parts.1
 
 pub loop-cycles-smaller : goal.loop-cycles-smaller
-loop-cycles-smaller g c = (look_on _ _ _ _ _ _ c.go_on.new.self.reached _ c.loop-cycles.invariant c.in_ok-cycles.ensures.stop c.in-Look.is c.in_ok-cycles.ensures.look).0
+loop-cycles-smaller g c = (look_on _ _ _ _ _ c.go_on.new.self _ _ c.loop-cycles.invariant c.in-Look.is c.in_ok-cycles.ensures.look).0
 
 pub loop-cycles-preserved : goal.loop-cycles-preserved
 loop-cycles-preserved g c = next_running _ _ _ _ _ _ _ c.loop-cycles.invariant c.look.ensures.board c.look.ensures.hand c.look.ensures.share c.look.ensures.grown c.go_on.ensures.parts.0 c.go_on.ensures.parts.1
