@@ -10,6 +10,7 @@ mod gathering;
 mod laws;
 mod outcome;
 mod program;
+mod reused;
 mod row_run;
 mod running_all;
 mod runs;

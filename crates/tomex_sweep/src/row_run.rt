@@ -5,6 +5,7 @@ ghost use Rattle.tomex_sweep.specs.Program.{IsProgram};
 ghost use Rattle.tomex_sweep.specs.Stops.{IsNearer, stop_at};
 
 use crate::program::Program;
+use crate::reused::Reused;
 use crate::stop::Stop;
 use std::alloc::{AllocError, Allocator};
 use std::marker::Model;
@@ -28,7 +29,7 @@ pub(crate) struct RowRun<'s, A: Allocator> {
     /// The cycles made at the last look, 0 before the first.
     reached: u64,
     /// The machine of the program at hand.
-    machine: Machine<'s, A>,
+    machine: Reused<'s, A>,
 }
 
 impl<'s, A: Allocator> Model for RowRun<'s, A> {
@@ -64,7 +65,7 @@ impl<'s, A: Allocator> RowRun<'s, A> {
             done: 0,
             counted: 0,
             reached: 0,
-            machine,
+            machine: Reused::new(machine),
         })
     }
 
