@@ -9,7 +9,7 @@ use Rattle.tomex_values.specs.Table.{known_keys, table_at}
 use Rattle.tomex_document.specs.Program.{program_tables, programs_of}
 use Rattle.tomex_document.specs.Prices.{prices_of}
 use Rattle.tomex_document.specs.Axes.{axes_of}
-use Rattle.tomex_document.specs.Document.{Document, outline_of}
+use Rattle.tomex_document.specs.Document.{Document, is_wide, outline_of}
 use Rattle.tomex_values.proofs.Outcomes.{first_value, not_met}
 
 -- its programs and its axes, and the tables that they are read from
@@ -33,7 +33,7 @@ outline_parts top document given =
     let (programs, (programs_is, given_6)) = first_value (programs_of 1 [] tables) _ document given_5 in
     let (list, (list_is, given_7)) = first_value (prices_of prices) _ document given_6 in
     let (axes, (axes_is, given_8)) = first_value (axes_of members unit) _ document given_7 in
-    let found : Document = record { programs = programs; prices = list; axes = axes } in
+    let found : Document = record { programs = programs; prices = list; axes = axes; wide = is_wide programs prices members } in
     let (few, same) = not_met (is_too_large axes) found document TooMany given_8 in
     let parts : OutlineParts top found = record {
       tables = tables;

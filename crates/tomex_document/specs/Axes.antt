@@ -1,4 +1,4 @@
--- The axes of the grid of configurations: counts of stations and buses, and options of units.
+-- The axes of the grid of configurations: counts of stations and buses, widths, and options of units.
 use Rattle.std.specs.Prelude.{ℕ, List, [], ◌∷◌, Ok}
 use Rattle.toml.specs.Data.{Members}
 use Rattle.tomex_rvdec.specs.declared.pool.UnitId.TheVariants as units
@@ -10,7 +10,7 @@ use Rattle.tomex_values.specs.Table.{known_keys}
 use Rattle.tomex_values.specs.Lists.{counts_at}
 use Rattle.tomex_document.specs.Units.{unit_tables, options_of}
 
--- the counts of stations and buses
+-- the counts of stations and buses, and the widths
 pub record Counts : Type 0 where
   pub alu : List ℕ
   pub mul : List ℕ
@@ -19,11 +19,12 @@ pub record Counts : Type 0 where
   pub store : List ℕ
   pub bru : List ℕ
   pub buses : List ℕ
+  pub width : List ℕ
 
 -- the place of the axes
 unfoldable pub axis_counts : Members → Reading Counts
 axis_counts members = do
-  _ ← known_keys place.Axes (key.Alu ∷ key.Mul ∷ key.Div ∷ key.Load ∷ key.Store ∷ key.Bru ∷ key.Buses ∷ []) members
+  _ ← known_keys place.Axes (key.Alu ∷ key.Mul ∷ key.Div ∷ key.Load ∷ key.Store ∷ key.Bru ∷ key.Buses ∷ key.Width ∷ []) members
   alu ← counts_at place.Axes key.Alu 16 members
   mul ← counts_at place.Axes key.Mul 16 members
   div ← counts_at place.Axes key.Div 16 members
@@ -31,7 +32,8 @@ axis_counts members = do
   store ← counts_at place.Axes key.Store 16 members
   bru ← counts_at place.Axes key.Bru 16 members
   buses ← counts_at place.Axes key.Buses 8 members
-  Ok (record { alu = alu; mul = mul; div = div; load = load; store = store; bru = bru; buses = buses })
+  width ← counts_at place.Axes key.Width 4 members
+  Ok (record { alu = alu; mul = mul; div = div; load = load; store = store; bru = bru; buses = buses; width = width })
 
 -- the places of the axes and of the unit, and then the options of each kind
 unfoldable pub axes_of : Members → Members → Reading Lists
@@ -56,4 +58,5 @@ axes_of axes unit = do
     mem_units = mem_units;
     bru_units = bru_units;
     buses = counts.buses;
+    width = counts.width;
   })

@@ -1,5 +1,6 @@
 -- The document of a study: what its bytes stand for, or the first test that they fail.
-use Rattle.std.specs.Prelude.{ℕ, List, [], ◌∷◌, map, Option, Some, None, Ok, Err, if◌then◌else◌}
+use Rattle.std.specs.Prelude.{ℕ, Bool, ◌||◌, List, [], ◌∷◌, map, Option, Some, None, Ok, Err, if◌then◌else◌}
+use Rattle.std.specs.List.{list_any}
 use Rattle.std.specs.Str.{is_utf8}
 use Rattle.toml.specs.Data.{Members}
 use Rattle.toml.specs.Parse.{parse_document}
@@ -9,7 +10,7 @@ use Rattle.tomex_values.specs.declared.place.Key.TheVariants as key
 use Rattle.tomex_values.specs.declared.place.Place.TheVariants as place
 use Rattle.tomex_values.specs.declared.error.StudyError.TheVariants.{Syntax, TooMany}
 use Rattle.tomex_values.specs.Readings.{Reading, ◌>>=◌}
-use Rattle.tomex_values.specs.Table.{known_keys, table_at}
+use Rattle.tomex_values.specs.Table.{has_key, known_keys, table_at}
 use Rattle.tomex_document.specs.Program.{ProgramEntry, program_tables, programs_of}
 use Rattle.tomex_document.specs.Prices.{prices_of}
 use Rattle.tomex_document.specs.Axes.{axes_of}
@@ -19,6 +20,8 @@ pub record Document : Type 0 where
   pub programs : List ProgramEntry
   pub prices : PriceList
   pub axes : Lists
+  -- reports show widths and weights
+  pub wide : Bool
 
 -- the members of the top, or bytes that TOML refuses
 abbrev pub members_or : Option Members → Reading Members
@@ -29,18 +32,24 @@ members_or (Some members) = Ok members
 unfoldable pub members_of : List ℕ → Reading Members
 members_of bytes = if is_utf8 bytes then members_or (parse_document bytes) else Err Syntax
 
+-- the weight of a program, the price of the width or an axis of widths is said
+abbrev pub is_wide : List ProgramEntry → Members → Members → Bool
+is_wide programs prices axes = list_any (λ entry. entry.weighed) programs || (has_key key.Width prices || has_key key.Width axes)
+
 -- the keys at the top, and then place by place
 unfoldable pub outline_of : Members → Reading Document
 outline_of top = do
   _ ← known_keys place.Top (key.Program ∷ key.Prices ∷ key.Axes ∷ key.Unit ∷ []) top
   tables ← program_tables top
-  prices ← table_at place.Top key.Prices top
-  axes ← table_at place.Top key.Axes top
+  price_table ← table_at place.Top key.Prices top
+  axis_table ← table_at place.Top key.Axes top
   unit ← table_at place.Top key.Unit top
   programs ← programs_of 1 [] tables
-  prices ← prices_of prices
-  axes ← axes_of axes unit
-  if is_too_large axes then Err TooMany else Ok (record { programs = programs; prices = prices; axes = axes })
+  prices ← prices_of price_table
+  axes ← axes_of axis_table unit
+  if is_too_large axes
+      then Err TooMany
+      else Ok (record { programs = programs; prices = prices; axes = axes; wide = is_wide programs price_table axis_table })
 
 -- what the bytes stand for
 unfoldable pub document_of : List ℕ → Reading Document

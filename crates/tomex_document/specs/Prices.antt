@@ -1,4 +1,4 @@
--- The prices of stations and buses.
+-- The prices of stations, buses and widths.
 use Rattle.std.specs.Prelude.{ℕ, [], ◌∷◌, Ok}
 use Rattle.toml.specs.Data.{Members}
 use Rattle.tomex_config.specs.Cost.{PriceList}
@@ -16,7 +16,7 @@ price_at key members = number_at place.Prices key (between 0 1000000) 0 members
 -- the place of the prices
 unfoldable pub prices_of : Members → Reading PriceList
 prices_of members = do
-  _ ← known_keys place.Prices (key.Alu ∷ key.Mul ∷ key.Div ∷ key.Load ∷ key.Store ∷ key.Bru ∷ key.Bus ∷ []) members
+  _ ← known_keys place.Prices (key.Alu ∷ key.Mul ∷ key.Div ∷ key.Load ∷ key.Store ∷ key.Bru ∷ key.Bus ∷ key.Width ∷ []) members
   alu ← price_at key.Alu members
   mul ← price_at key.Mul members
   div ← price_at key.Div members
@@ -24,4 +24,5 @@ prices_of members = do
   store ← price_at key.Store members
   bru ← price_at key.Bru members
   bus ← price_at key.Bus members
-  Ok (record { stations = alu ∷ mul ∷ div ∷ load ∷ store ∷ bru ∷ []; bus = bus })
+  width ← price_at key.Width members
+  Ok (record { stations = alu ∷ mul ∷ div ∷ load ∷ store ∷ bru ∷ []; bus = bus; width = width })

@@ -11,7 +11,7 @@ use Rattle.tomex_values.specs.declared.place.Place.TheVariants as place
 use Rattle.tomex_sweep.specs.declared.watch.WatchRange.{WatchRange}
 use Rattle.tomex_values.specs.declared.error.StudyError.TheVariants.{MissingKey, Kind, Range}
 use Rattle.tomex_values.specs.Readings.{Reading, ◌>>=◌}
-use Rattle.tomex_values.specs.Table.{value_at, known_keys}
+use Rattle.tomex_values.specs.Table.{value_at, has_key, known_keys}
 use Rattle.tomex_values.specs.Numbers.{between, words_between, number_at}
 use Rattle.tomex_values.specs.Lists.{items_count, tables_from}
 use Rattle.tomex_sweep.specs.Watch.{IsWatch}
@@ -24,6 +24,9 @@ pub record ProgramEntry : Type 0 where
   pub window : Span
   pub limit : ℕ
   pub watch : List WatchRange
+  pub weight : ℕ
+  -- the study says the weight
+  pub weighed : Bool
 
 -- a to z, 0 to 9, _ and -
 abbrev pub is_name_byte : ℕ → Bool
@@ -41,6 +44,8 @@ pub record IsProgramEntry (entry : ProgramEntry) : Type 0 where
   pub least_limit : 1 ≤ entry.limit
   pub most_limit : entry.limit ≤ 262144
   pub watch : IsWatch entry.window entry.watch
+  pub least_weight : 1 ≤ entry.weight
+  pub most_weight : entry.weight ≤ 1000
 
 -- an earlier program has the name
 abbrev pub is_taken : List ProgramEntry → List ℕ → Bool
@@ -86,13 +91,14 @@ window_at place members = do
 -- a program in its place, after the earlier ones
 unfoldable pub program_of : Place → List ProgramEntry → Members → Reading ProgramEntry
 program_of place earlier members = do
-  _ ← known_keys place (key.Name ∷ key.File ∷ key.Base ∷ key.Size ∷ key.Limit ∷ key.Watch ∷ []) members
+  _ ← known_keys place (key.Name ∷ key.File ∷ key.Base ∷ key.Size ∷ key.Limit ∷ key.Watch ∷ key.Weight ∷ []) members
   name ← name_at place earlier members
   file ← file_at place members
   window ← window_at place members
   limit ← number_at place key.Limit (between 1 262144) 262144 members
   watch ← watch_at place window members
-  Ok (record { name = name; file = file; window = window; limit = limit; watch = watch })
+  weight ← number_at place key.Weight (between 1 1000) 1 members
+  Ok (record { name = name; file = file; window = window; limit = limit; watch = watch; weight = weight; weighed = has_key key.Weight members })
 
 -- a program, or a value that is no table
 abbrev pub program_from : ℕ → List ProgramEntry → Option Members → Reading ProgramEntry

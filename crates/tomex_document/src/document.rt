@@ -1,9 +1,10 @@
 //! The document of a study: what its bytes stand for.
 
 ghost use Rattle.std.specs.Prelude.{◌≡◌};
+ghost use Rattle.std.specs.List.{list_any};
 ghost use Rattle.toml.specs.View.{table_view};
 ghost use Rattle.tomex_values.specs.Readings.{Gives};
-ghost use Rattle.tomex_document.specs.Document.{members_of, outline_of, document_of};
+ghost use Rattle.tomex_document.specs.Document.{is_wide, members_of, outline_of, document_of};
 
 mod axes;
 mod entry;
@@ -21,7 +22,7 @@ use programs::{program_tables, programs_of};
 use std::alloc::{Allocator, Global};
 use std::marker::Model;
 use tomex_config::{Axes, Prices};
-use tomex_values::{Key, Place, StudyError, known_keys, table_at};
+use tomex_values::{Key, Place, StudyError, has_key, known_keys, table_at};
 use toml::Table;
 
 /// A study before its programs' files are read.
@@ -30,6 +31,7 @@ pub struct Outline<A: Allocator = Global> {
     pub programs: Vec<Entry<A>, A>,
     pub prices: Prices,
     pub axes: Axes<A>,
+    pub wide: bool,
 }
 
 impl<A: Allocator> Model for Outline<A> {
@@ -38,7 +40,7 @@ impl<A: Allocator> Model for Outline<A> {
 
     ghost Value = { Document };
 
-    ghost view = { λ o. record { programs = o.programs.items; prices = o.prices; axes = lists_of o.axes } };
+    ghost view = { λ o. record { programs = o.programs.items; prices = o.prices; axes = lists_of o.axes; wide = o.wide } };
 }
 
 /// The document that TOML gives for the bytes.
@@ -58,6 +60,20 @@ fn members_of(heap: Global, study: &[u8]) -> Result<Table, StudyError>
     }
 }
 
+/// Whether the weight of a program is said.
+fn is_weighed<A: Allocator>(programs: &[Entry<A>]) -> bool
+    ensures { result ≡ list_any (λ entry. entry.weighed) programs.now }
+{
+    programs.iter().any(|entry| entry.weighed())
+}
+
+/// Whether the document says the weight of a program, the price of the width, or widths.
+fn is_wide<A: Allocator>(programs: &[Entry<A>], prices: &Table, axes: &Table) -> bool
+    ensures { result ≡ is_wide programs.now (table_view prices.now) (table_view axes.now) }
+{
+    is_weighed(programs) || has_key(prices, Key::Width) || has_key(axes, Key::Width)
+}
+
 #[tactic(auto, unfolding(crate::specs::Document::outline_of))]
 fn outline_of<A: Allocator + Clone>(
     alloc: A,
@@ -70,12 +86,13 @@ fn outline_of<A: Allocator + Clone>(
     known_keys(top, Place::Top, keys.as_slice())?;
     let tables = program_tables(top)?;
     let empty = Table::new(heap);
-    let prices = table_at(top, Place::Top, Key::Prices, &empty)?;
-    let axes = table_at(top, Place::Top, Key::Axes, &empty)?;
+    let price_table = table_at(top, Place::Top, Key::Prices, &empty)?;
+    let axis_table = table_at(top, Place::Top, Key::Axes, &empty)?;
     let unit = table_at(top, Place::Top, Key::Unit, &empty)?;
     let programs = programs_of(alloc.clone()?, tables)?;
-    let prices = prices_of(prices)?;
-    let axes = axes_of(alloc, axes, unit)?;
+    let prices = prices_of(price_table)?;
+    let axes = axes_of(alloc, axis_table, unit)?;
+    let wide = is_wide(programs.as_slice(), price_table, axis_table);
     if axes.is_too_large() {
         Err(StudyError::TooMany)
     } else {
@@ -83,6 +100,7 @@ fn outline_of<A: Allocator + Clone>(
             programs,
             prices,
             axes,
+            wide,
         })
     }
 }

@@ -34,6 +34,12 @@ fn holds(ok: bool, what: &'static str) -> Result<(), Fail> {
 
 /// A row of one unit a kind but for the alu units, of latency 1 but for mul and mem.
 fn row_of(stations: [u8; 6], alu: u8, mul: u8, mem: u8, buses: u8) -> Result<Config, Fail> {
+    wide_row(stations, [alu, mul, mem, buses], 1)
+}
+
+/// The same with an issue width.
+fn wide_row(stations: [u8; 6], parts: [u8; 4], width: u8) -> Result<Config, Fail> {
+    let [alu, mul, mem, buses] = parts;
     let units = [
         unit(alu, 1),
         unit(1, mul),
@@ -41,7 +47,7 @@ fn row_of(stations: [u8; 6], alu: u8, mul: u8, mem: u8, buses: u8) -> Result<Con
         unit(1, mem),
         unit(1, 1),
     ];
-    Ok(Config::new(stations, units, buses).ok_or("no row")?)
+    Ok(Config::new(stations, units, buses, width).ok_or("no row")?)
 }
 
 fn tick<A: Allocator>(machine: &mut Machine<A>) -> Progress {
@@ -174,6 +180,25 @@ fn worked_runs(rt: HostRuntime) -> Result<(), Fail> {
         (WAITED_FOR.as_slice(), [1; 6], [1, 64, 1, 1], 68, 8, 4, 0),
     ] {
         let row = row_of(stations, alu, mul, mem, buses)?;
+        comes_to(&rt, words, &row, total, pc, register, value)?;
+    }
+    Ok(())
+}
+
+/// A product issues beside its producers, and nothing beside a JALR after it.
+#[test]
+fn wide_runs(rt: HostRuntime) -> Result<(), Fail> {
+    // stations, alu units, latencies of mul and mem, buses, width; total, last pc, a register's value
+    for (words, stations, parts, width, total, pc, register, value) in [
+        (PRODUCT.as_slice(), TWO_ALU, [2, 3, 1, 2], 1, 8, 12, 3, 0x23),
+        (PRODUCT.as_slice(), TWO_ALU, [2, 3, 1, 2], 2, 7, 12, 3, 0x23),
+        (PRODUCT.as_slice(), TWO_ALU, [2, 3, 1, 2], 4, 7, 12, 3, 0x23),
+        (PRODUCT.as_slice(), [1; 6], [1, 3, 1, 1], 2, 10, 12, 3, 0x23),
+        (INDIRECT.as_slice(), TWO_ALU, [1, 3, 1, 1], 4, 9, 16, 6, 16),
+        (NOTHING.as_slice(), [1; 6], [1, 1, 1, 1], 2, 2, 4, 0, 0),
+        (EBREAK.as_slice(), [1; 6], [1, 1, 1, 1], 4, 1, 0, 2, 65536),
+    ] {
+        let row = wide_row(stations, parts, width)?;
         comes_to(&rt, words, &row, total, pc, register, value)?;
     }
     Ok(())
@@ -334,6 +359,26 @@ fn worked_tables(rt: HostRuntime) -> Result<(), Fail> {
         show(&tables, case.stations, case.status)?;
     }
     Ok(())
+}
+
+/// What issues beside its producers takes their tags.
+#[test]
+fn tables_of_a_wide_cycle(rt: HostRuntime) -> Result<(), Fail> {
+    use Field::{Unread, Value, Waits};
+    let alu = [tag(PoolId::Alu, 0), tag(PoolId::Alu, 1)];
+    let mul = tag(PoolId::Mul, 0);
+    let row = wide_row(TWO_ALU, [2, 3, 1, 2], 4)?;
+    let tables = tables_after(&rt, &PRODUCT, &row, 1)?;
+    let stations = [
+        (alu[0], PRODUCT[0], Value(0), Unread, None),
+        (alu[1], PRODUCT[1], Value(0), Unread, None),
+        (mul, PRODUCT[2], Waits(alu[0]), Waits(alu[1]), None),
+    ];
+    show(
+        &tables,
+        stations.as_slice(),
+        &[(1, alu[0]), (2, alu[1]), (3, mul)],
+    )
 }
 
 /// A machine that knows a run before it makes it can't have this one: `jal x0,0` has no end.

@@ -11,7 +11,7 @@ mod reports;
 mod studies;
 mod tables;
 
-use studies::{AT_TOP, IN_PROGRAMS, LAWFUL, ORDERED, STUDY_L, STUDY_M, WATCHED};
+use studies::{AT_TOP, IN_PROGRAMS, LAWFUL, ORDERED, STUDY_L, STUDY_M, WATCHED, WIDE};
 
 /// A program, for studies of which something else is wrong.
 const PROGRAM: &str = "[[program]]\nname = \"a\"\nfile = \"a.bin\"\n";
@@ -70,6 +70,14 @@ fn refused_at_top(rt: HostRuntime) -> Result<(), Fail> {
 #[test]
 fn refused_in_programs(rt: HostRuntime) -> Result<(), Fail> {
     for (study, wanted) in &IN_PROGRAMS {
+        is_told(&rt, study, *wanted)?;
+    }
+    Ok(())
+}
+
+#[test]
+fn refused_widths_and_weights(rt: HostRuntime) -> Result<(), Fail> {
+    for (study, wanted) in &WIDE {
         is_told(&rt, study, *wanted)?;
     }
     Ok(())

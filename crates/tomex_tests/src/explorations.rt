@@ -41,6 +41,45 @@ macro_rules! with_header {
     };
 }
 
+/// The header of a report that shows widths and weights.
+macro_rules! with_wide_header {
+    ($records:expr) => {
+        concat!(
+            "row,cost,cycles,alu,mul,div,load,store,bru,alu_units,alu_latency,mul_units,mul_latency,\
+             div_units,div_latency,mem_units,mem_latency,bru_units,bru_latency,buses,width,program,weight,\
+             steps,program_cycles,end,regs,watch\n",
+            $records
+        )
+    };
+}
+
+/// The two rows of a program that counts three times.
+const WEIGHED: &str =
+    "[[program]]\nname = \"mul\"\nfile = \"mul.bin\"\nweight = 3\n[prices]\nalu = 10\n\
+    [axes]\nalu = [2, 1]\n[[unit.mul]]\nlatency = 3\n";
+
+const WEIGHED_REPORT: &str = with_wide_header!(
+    "1,10,30,1,1,1,1,1,1,1,1,1,3,1,1,1,1,1,1,1,1,mul,3,4,10,ebreak,x1=00000005 x2=00000007 x3=00000023,-\n\
+     0,20,24,2,1,1,1,1,1,1,1,1,3,1,1,1,1,1,1,1,1,mul,3,4,8,ebreak,x1=00000005 x2=00000007 x3=00000023,-\n"
+);
+
+/// The new keys, each alone, say what is so without them.
+const WEIGHT_ONE: &str =
+    "[[program]]\nname = \"mul\"\nfile = \"mul.bin\"\nweight = 1\n[prices]\nalu = 10\n\
+    [axes]\nalu = [2, 1]\n[[unit.mul]]\nlatency = 3\n";
+
+const NO_PRICE: &str =
+    "[[program]]\nname = \"mul\"\nfile = \"mul.bin\"\n[prices]\nalu = 10\nwidth = 0\n\
+    [axes]\nalu = [2, 1]\n[[unit.mul]]\nlatency = 3\n";
+
+const ONE_WIDTH: &str = "[[program]]\nname = \"mul\"\nfile = \"mul.bin\"\n[prices]\nalu = 10\n\
+    [axes]\nalu = [2, 1]\nwidth = [1]\n[[unit.mul]]\nlatency = 3\n";
+
+const DEFAULT_REPORT: &str = with_wide_header!(
+    "1,10,10,1,1,1,1,1,1,1,1,1,3,1,1,1,1,1,1,1,1,mul,1,4,10,ebreak,x1=00000005 x2=00000007 x3=00000023,-\n\
+     0,20,8,2,1,1,1,1,1,1,1,1,3,1,1,1,1,1,1,1,1,mul,1,4,8,ebreak,x1=00000005 x2=00000007 x3=00000023,-\n"
+);
+
 pub const PRICED_REPORT: &str = with_header!(
     "1,10,10,1,1,1,1,1,1,1,1,1,3,1,1,1,1,1,1,1,mul,4,10,ebreak,x1=00000005 x2=00000007 x3=00000023,-\n\
      0,20,8,2,1,1,1,1,1,1,1,1,3,1,1,1,1,1,1,1,mul,4,8,ebreak,x1=00000005 x2=00000007 x3=00000023,-\n"
@@ -105,6 +144,10 @@ fn worked_reports(rt: HostRuntime) -> Result<(), Fail> {
         (PRICED, PRICED_REPORT),
         (DROPPED, DROPPED_REPORT),
         (TWO, REPORT_OF_TWO),
+        (WEIGHED, WEIGHED_REPORT),
+        (WEIGHT_ONE, DEFAULT_REPORT),
+        (NO_PRICE, DEFAULT_REPORT),
+        (ONE_WIDTH, DEFAULT_REPORT),
     ] {
         for line in [
             "tomex all study",

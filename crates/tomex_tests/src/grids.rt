@@ -26,6 +26,7 @@ fn single(alloc: Global) -> Result<Axes, AllocError> {
         mem_units: vec![in alloc; PLAIN]?,
         bru_units: vec![in alloc; PLAIN]?,
         buses: vec![in alloc; 1]?,
+        width: vec![in alloc; 1]?,
     })
 }
 
@@ -36,7 +37,7 @@ fn sixteen(alloc: Global) -> Result<Vec<u8>, AllocError> {
 
 /// A plain row but for these parts.
 fn row(alu: u8, mul: u8, div: u8, buses: u8) -> Option<Config> {
-    Config::new([alu, mul, div, 1, 1, 1], [PLAIN; 5], buses)
+    Config::new([alu, mul, div, 1, 1, 1], [PLAIN; 5], buses, 1)
 }
 
 #[test]
@@ -92,10 +93,42 @@ fn costs_of_two_rows(rt: HostRuntime) -> Result<(), Fail> {
     axes.alu = vec![in rt.alloc(); 2, 1]?;
     axes.mul_units = vec![in rt.alloc(); UnitOption { price: 50, ..PLAIN }]?;
     axes.buses = vec![in rt.alloc(); 2]?;
-    let prices = Prices::new([10, 100, 0, 0, 0, 0], 7);
+    let prices = Prices::new([10, 100, 0, 0, 0, 0], 7, 0);
     let rows = grid(rt.alloc(), &axes)?;
     assert!(rt; rows.len() == 2);
     for (row, want) in rows.iter().zip([184, 174]) {
+        assert!(rt; cost(row, &prices) == want);
+    }
+    Ok(())
+}
+
+#[test]
+fn widths_vary_the_fastest(rt: HostRuntime) -> Result<(), Fail> {
+    let mut axes = single(rt.alloc())?;
+    axes.buses = vec![in rt.alloc(); 1, 3]?;
+    axes.width = vec![in rt.alloc(); 4, 2]?;
+    let rows = grid(rt.alloc(), &axes)?;
+    assert!(rt; rows.len() == 4);
+    for (row, want) in rows.iter().zip([(1, 4), (1, 2), (3, 4), (3, 2)]) {
+        assert!(rt; (row.buses(), row.width()) == want);
+    }
+    axes.width.push(5)?;
+    assert!(rt; grid(rt.alloc(), &axes).err() == Some(GridError::OutOfRange));
+    axes.width = Vec::new(rt.alloc());
+    assert!(rt; grid(rt.alloc(), &axes).err() == Some(GridError::EmptyAxis));
+    Ok(())
+}
+
+#[test]
+fn widths_cost_their_price(rt: HostRuntime) -> Result<(), Fail> {
+    let mut axes = single(rt.alloc())?;
+    axes.mul_units = vec![in rt.alloc(); UnitOption { price: 50, ..PLAIN }]?;
+    axes.buses = vec![in rt.alloc(); 2]?;
+    axes.width = vec![in rt.alloc(); 1, 4]?;
+    let prices = Prices::new([10, 100, 0, 0, 0, 0], 7, 1000);
+    let rows = grid(rt.alloc(), &axes)?;
+    assert!(rt; rows.len() == 2);
+    for (row, want) in rows.iter().zip([1174, 4174]) {
         assert!(rt; cost(row, &prices) == want);
     }
     Ok(())

@@ -25,7 +25,7 @@ fn program_of(
     if limit < 1 || limit > 262_144 || !can_watch(image.window(), &watch) {
         return Err("out of range")?;
     }
-    Ok(Program::new(alloc, name, image, limit, watch))
+    Ok(Program::new(alloc, name, image, limit, watch, 1))
 }
 
 /// `addi x1,x0,5; addi x2,x0,7; mul x3,x1,x2; ebreak`
@@ -76,13 +76,13 @@ fn costs_of_two_rows(rt: HostRuntime) -> Result<(), Fail> {
         plain,
         plain,
     ];
-    let two = Config::new([2, 1, 1, 1, 1, 1], units, 2).ok_or("no row")?;
-    let one = Config::new([1, 1, 1, 1, 1, 1], units, 2).ok_or("no row")?;
-    let prices = Prices::new([10, 100, 0, 0, 0, 0], 7);
+    let two = Config::new([2, 1, 1, 1, 1, 1], units, 2, 1).ok_or("no row")?;
+    let one = Config::new([1, 1, 1, 1, 1, 1], units, 2, 1).ok_or("no row")?;
+    let prices = Prices::new([10, 100, 0, 0, 0, 0], 7, 0);
     let product = program_of(rt.alloc(), PRODUCT.as_slice(), 4)??;
     let programs = vec![in rt.alloc(); product]?;
     let rows = vec![in rt.alloc(); two, one]?;
-    let study = Study::new(rt.alloc(), programs, rows, prices)?;
+    let study = Study::new(rt.alloc(), programs, rows, prices, false)?;
     assert!(rt; study.costs() == [184, 174].as_slice());
     assert!(rt; study.prices() == prices);
     assert!(rt; study.rows().len() == 2);

@@ -49,7 +49,7 @@ fn row_of(stations: u8, latency: u8) -> Result<Config, Fail> {
         price: 0,
     };
     let units = [plain, mul, plain, plain, plain];
-    Ok(Config::new([stations, 1, 1, 1, 1, 1], units, 1).ok_or("no row")?)
+    Ok(Config::new([stations, 1, 1, 1, 1, 1], units, 1, 1).ok_or("no row")?)
 }
 
 /// Whether two machines show the same after each of the next cycles, up to their ends.

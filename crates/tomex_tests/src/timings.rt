@@ -31,7 +31,7 @@ fn a_loop_takes_its_cycles(rt: HostRuntime) -> Result<(), Fail> {
     assert!(rt; steps.len() == 1000);
     for (latency, cycles) in [(1, 2000), (10, 6500)] {
         let units = [unit(latency), unit(1), unit(1), unit(1), unit(1)];
-        let row = Config::new([1; 6], units, 1).ok_or("no row")?;
+        let row = Config::new([1; 6], units, 1, 1).ok_or("no row")?;
         let timed = times(rt.alloc(), steps.as_slice(), &row)?;
         assert!(rt; timed.len() == 1000);
         assert!(rt; total(timed.as_slice()) == cycles);
@@ -64,7 +64,7 @@ fn loads_of_one_byte_do_not_wait_for_each_other(rt: HostRuntime) -> Result<(), F
         (1, load_times([8, 9, 10, 11, 12], 0), 12),
     ] {
         let units = [unit(1), unit(1), unit(1), unit(2), unit(1)];
-        let row = Config::new([1, 1, 1, stations, 1, 1], units, 1).ok_or("no row")?;
+        let row = Config::new([1, 1, 1, stations, 1, 1], units, 1, 1).ok_or("no row")?;
         let timed = times(rt.alloc(), steps.as_slice(), &row)?;
         assert!(rt; timed.len() == 4);
         assert!(rt; timed[1] == first);
@@ -76,9 +76,38 @@ fn loads_of_one_byte_do_not_wait_for_each_other(rt: HostRuntime) -> Result<(), F
 
 #[test]
 fn no_steps_take_no_cycles(rt: HostRuntime) -> Result<(), Fail> {
-    let row = Config::new([1; 6], [unit(1); 5], 1).ok_or("no row")?;
+    let row = Config::new([1; 6], [unit(1); 5], 1, 1).ok_or("no row")?;
     let steps: Vec<Step> = Vec::new(rt.alloc());
     let timed = times(rt.alloc(), steps.as_slice(), &row)?;
     assert!(rt; total(timed.as_slice()) == 0);
+    Ok(())
+}
+
+/// `addi x1,x0,5; addi x2,x0,7; mul x3,x1,x2; ebreak`
+const PRODUCT: [u32; 4] = [0x00500093, 0x00700113, 0x022081b3, 0x00100073];
+
+/// `addi x5,x0,4; mul x6,x5,x5; jalr x0,0(x6); ebreak; ebreak`
+const INDIRECT: [u32; 5] = [0x00400293, 0x02528333, 0x00030067, 0x00100073, 0x00100073];
+
+#[test]
+fn as_many_issue_as_the_width_says(rt: HostRuntime) -> Result<(), Fail> {
+    // alu stations, alu units, buses, width; issues, ends
+    for (words, alu, units, buses, width, issues, ends) in [
+        (PRODUCT.as_slice(), 2, 2, 2, 1, [1, 2, 3, 4], [3, 4, 8, 4]),
+        (PRODUCT.as_slice(), 2, 2, 2, 2, [1, 1, 2, 2], [3, 3, 7, 2]),
+        (PRODUCT.as_slice(), 2, 2, 2, 4, [1, 1, 1, 1], [3, 3, 7, 1]),
+        (PRODUCT.as_slice(), 1, 1, 1, 2, [1, 4, 4, 5], [3, 6, 10, 5]),
+        (INDIRECT.as_slice(), 2, 1, 1, 4, [1, 1, 1, 9], [3, 7, 8, 9]),
+    ] {
+        let alus = UnitOption { units, ..unit(1) };
+        let kinds = [alus, unit(3), unit(1), unit(1), unit(1)];
+        let row = Config::new([alu, 1, 1, 1, 1, 1], kinds, buses, width).ok_or("no row")?;
+        let steps = trace_of(&rt, words)?;
+        let timed = times(rt.alloc(), steps.as_slice(), &row)?;
+        assert!(rt; timed.len() == 4);
+        for (at, want) in timed.iter().zip(issues.iter().zip(ends)) {
+            assert!(rt; (at.issue, at.end) == (*want.0, want.1));
+        }
+    }
     Ok(())
 }

@@ -12,4 +12,4 @@ pub use error::StudyError;
 pub use lists::{are_integers, counts_at, items_count, tables_at, tables_from};
 pub use numbers::{Limits, number_at, number_of};
 pub use place::{Key, Place};
-pub use table::{known_keys, table_at, value_at};
+pub use table::{has_key, known_keys, table_at, value_at};

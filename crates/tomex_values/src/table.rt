@@ -6,7 +6,7 @@ ghost use Rattle.std.specs.BTreeMap as map;
 ghost use Rattle.toml.specs.Data.{get_member, no_members};
 ghost use Rattle.toml.specs.View.{view, table_view};
 ghost use Rattle.tomex_values.specs.Readings.{Reads};
-ghost use Rattle.tomex_values.specs.Table.{value_at, is_one_of, has_other_key, known_keys, table_at};
+ghost use Rattle.tomex_values.specs.Table.{has_key, value_at, is_one_of, has_other_key, known_keys, table_at};
 
 use crate::error::StudyError;
 use crate::place::{Key, Place};
@@ -23,6 +23,13 @@ pub fn value_at<'a>(table: &'a Table, key: Key) -> Option<&'a Value>
     ensures { option_map (λ v. view v.now) result ≡ value_at key (table_view table.now) }
 {
     member(table, key.text())
+}
+
+/// Whether there is a value at a key.
+pub fn has_key(table: &Table, key: Key) -> bool
+    ensures { result ≡ has_key key (table_view table.now) }
+{
+    value_at(table, key).is_some()
 }
 
 fn is_one_of(keys: &[Key], name: &str) -> bool

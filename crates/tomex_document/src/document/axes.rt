@@ -13,7 +13,7 @@ use tomex_rvdec::UnitId;
 use tomex_values::{Key, Place, StudyError, counts_at, known_keys};
 use toml::Table;
 
-/// The counts of stations and buses.
+/// The counts of stations and buses, and the widths.
 #[derive(Drop)]
 struct Counts<A: Allocator> {
     alu: Vec<u8, A>,
@@ -23,12 +23,13 @@ struct Counts<A: Allocator> {
     store: Vec<u8, A>,
     bru: Vec<u8, A>,
     buses: Vec<u8, A>,
+    width: Vec<u8, A>,
 }
 
 /// The place of the axes.
 #[tactic(auto, unfolding(crate::specs::Axes::axis_counts))]
 fn axis_counts<A: Allocator + Clone>(alloc: A, table: &Table) -> Result<Counts<A>, StudyError>
-    ensures { Gives (λ c. record { alu = c.alu.items; mul = c.mul.items; div = c.div.items; load = c.load.items; store = c.store.items; bru = c.bru.items; buses = c.buses.items }) result (axis_counts (table_view table.now)) }
+    ensures { Gives (λ c. record { alu = c.alu.items; mul = c.mul.items; div = c.div.items; load = c.load.items; store = c.store.items; bru = c.bru.items; buses = c.buses.items; width = c.width.items }) result (axis_counts (table_view table.now)) }
 {
     let keys = [
         Key::Alu,
@@ -38,6 +39,7 @@ fn axis_counts<A: Allocator + Clone>(alloc: A, table: &Table) -> Result<Counts<A
         Key::Store,
         Key::Bru,
         Key::Buses,
+        Key::Width,
     ];
     known_keys(table, Place::Axes, keys.as_slice())?;
     let alu = counts_at(alloc.clone()?, table, Place::Axes, Key::Alu, 16)?;
@@ -46,7 +48,8 @@ fn axis_counts<A: Allocator + Clone>(alloc: A, table: &Table) -> Result<Counts<A
     let load = counts_at(alloc.clone()?, table, Place::Axes, Key::Load, 16)?;
     let store = counts_at(alloc.clone()?, table, Place::Axes, Key::Store, 16)?;
     let bru = counts_at(alloc.clone()?, table, Place::Axes, Key::Bru, 16)?;
-    let buses = counts_at(alloc, table, Place::Axes, Key::Buses, 8)?;
+    let buses = counts_at(alloc.clone()?, table, Place::Axes, Key::Buses, 8)?;
+    let width = counts_at(alloc, table, Place::Axes, Key::Width, 4)?;
     Ok(Counts {
         alu,
         mul,
@@ -55,6 +58,7 @@ fn axis_counts<A: Allocator + Clone>(alloc: A, table: &Table) -> Result<Counts<A
         store,
         bru,
         buses,
+        width,
     })
 }
 
@@ -87,5 +91,6 @@ pub fn axes_of<A: Allocator + Clone>(
         mem_units,
         bru_units,
         buses: counts.buses,
+        width: counts.width,
     })
 }

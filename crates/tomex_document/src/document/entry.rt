@@ -10,8 +10,8 @@ use tomex_image::Window;
 use tomex_sweep::WatchRange;
 
 /// A program before its file is read. Its place has passed all tests: the name has 1 to 32 of the
-/// lawful characters, the file is named, the limit is 1 to 262,144 steps, and the watched ranges
-/// are in the window.
+/// lawful characters, the file is named, the limit is 1 to 262,144 steps, the watched ranges are in
+/// the window, and the weight is 1 to 1,000.
 #[derive(Drop)]
 pub struct Entry<A: Allocator = Global> {
     name: String<A>,
@@ -19,6 +19,8 @@ pub struct Entry<A: Allocator = Global> {
     window: Window,
     limit: u32,
     watch: Vec<WatchRange, A>,
+    weight: u32,
+    weighed: bool,
 }
 
 impl<A: Allocator> Model for Entry<A> {
@@ -27,9 +29,9 @@ impl<A: Allocator> Model for Entry<A> {
 
     ghost Value = { ProgramEntry };
 
-    ghost view = { λ e. record { name = string_bytes e.name; file = string_bytes e.file; window = e.window; limit = e.limit; watch = e.watch.items } };
+    ghost view = { λ e. record { name = string_bytes e.name; file = string_bytes e.file; window = e.window; limit = e.limit; watch = e.watch.items; weight = e.weight; weighed = e.weighed } };
 
-    ghost invariant = { λ e. IsProgramEntry (record { name = string_bytes e.name; file = string_bytes e.file; window = e.window; limit = e.limit; watch = e.watch.items }) };
+    ghost invariant = { λ e. IsProgramEntry (record { name = string_bytes e.name; file = string_bytes e.file; window = e.window; limit = e.limit; watch = e.watch.items; weight = e.weight; weighed = e.weighed }) };
 }
 
 impl<A: Allocator> Entry<A> {
@@ -40,13 +42,17 @@ impl<A: Allocator> Entry<A> {
         window: Window,
         limit: u32,
         watch: Vec<WatchRange, A>,
+        weight: u32,
+        weighed: bool,
     ) -> Entry<A>
         requires name { is_name (string_bytes name) ≡ true }
         requires file { string_bytes file ≢ [] }
         requires some_steps { 1 ≤ limit }
         requires few_steps { limit ≤ 262144 }
         requires watch { IsWatch window watch.items }
-        ensures { result ≡ record { name = string_bytes name; file = string_bytes file; window = window; limit = limit; watch = watch.items } }
+        requires least_weight { 1 ≤ weight }
+        requires most_weight { weight ≤ 1000 }
+        ensures { result ≡ record { name = string_bytes name; file = string_bytes file; window = window; limit = limit; watch = watch.items; weight = weight; weighed = weighed } }
     {
         // Read for what the window's type keeps, which the proof needs.
         let _size = window.size();
@@ -56,6 +62,8 @@ impl<A: Allocator> Entry<A> {
             window,
             limit,
             watch,
+            weight,
+            weighed,
         }
     }
 
@@ -89,6 +97,21 @@ impl<A: Allocator> Entry<A> {
         ensures lawful { IsProgramEntry self.now }
     {
         self.watch.as_slice()
+    }
+
+    /// How often the program's cycles count.
+    pub fn weight(&self) -> u32
+        ensures value { result ≡ self.now.weight }
+        ensures lawful { IsProgramEntry self.now }
+    {
+        self.weight
+    }
+
+    /// Whether the study says so.
+    pub fn weighed(&self) -> bool
+        ensures value { result ≡ self.now.weighed }
+    {
+        self.weighed
     }
 
     /// The name of the program's file.

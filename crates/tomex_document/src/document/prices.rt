@@ -1,4 +1,4 @@
-//! The prices of stations and buses.
+//! The prices of stations, buses and widths.
 
 ghost use Rattle.std.specs.Prelude.{◌≡◌, true, IfOk};
 ghost use Rattle.toml.specs.View.{table_view};
@@ -30,6 +30,7 @@ pub fn prices_of(table: &Table) -> Result<Prices, StudyError>
         Key::Store,
         Key::Bru,
         Key::Bus,
+        Key::Width,
     ];
     known_keys(table, Place::Prices, keys.as_slice())?;
     let alu = price_at(table, Key::Alu)?;
@@ -39,5 +40,6 @@ pub fn prices_of(table: &Table) -> Result<Prices, StudyError>
     let store = price_at(table, Key::Store)?;
     let bru = price_at(table, Key::Bru)?;
     let bus = price_at(table, Key::Bus)?;
-    Ok(Prices::new([alu, mul, div, load, store, bru], bus))
+    let width = price_at(table, Key::Width)?;
+    Ok(Prices::new([alu, mul, div, load, store, bru], bus, width))
 }

@@ -12,7 +12,8 @@ use super::watch::watch_at;
 use std::alloc::Allocator;
 use tomex_image::Window;
 use tomex_values::{
-    Key, Limits, Place, StudyError, items_count, known_keys, number_at, tables_from, value_at,
+    Key, Limits, Place, StudyError, has_key, items_count, known_keys, number_at, tables_from,
+    value_at,
 };
 use toml::{Table, Value};
 
@@ -133,6 +134,7 @@ fn program_of<A: Allocator + Clone>(
         Key::Size,
         Key::Limit,
         Key::Watch,
+        Key::Weight,
     ];
     known_keys(table, place, keys.as_slice())?;
     let name = name_at(alloc.clone()?, table, place, earlier)?;
@@ -146,7 +148,9 @@ fn program_of<A: Allocator + Clone>(
         262_144,
     )?;
     let watch = watch_at(alloc, table, place, window)?;
-    Ok(Entry::new(name, file, window, limit, watch))
+    let weight = number_at(table, place, Key::Weight, Limits::between(1, 1000), 1)?;
+    let weighed = has_key(table, Key::Weight);
+    Ok(Entry::new(name, file, window, limit, watch, weight, weighed))
 }
 
 /// The programs of these tables, of which there are at most 8.

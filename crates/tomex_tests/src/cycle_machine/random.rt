@@ -246,18 +246,52 @@ fn random_programs_agree(rt: HostRuntime) -> Result<(), Fail> {
     ];
     let wide = [unit(3, 1), unit(2, 5), unit(2, 20), unit(2, 4), unit(1, 2)];
     let rows = [
-        Config::new([1; 6], slow, 1).ok_or("no row")?,
-        Config::new([2, 1, 1, 2, 1, 1], wide, 1).ok_or("no row")?,
-        Config::new([6, 3, 2, 5, 4, 2], slow, 2).ok_or("no row")?,
-        Config::new([16; 6], wide, 1).ok_or("no row")?,
-        Config::new([16; 6], slow, 8).ok_or("no row")?,
-        Config::new([4, 2, 1, 3, 2, 2], long, 1).ok_or("no row")?,
+        Config::new([1; 6], slow, 1, 1).ok_or("no row")?,
+        Config::new([2, 1, 1, 2, 1, 1], wide, 1, 1).ok_or("no row")?,
+        Config::new([6, 3, 2, 5, 4, 2], slow, 2, 1).ok_or("no row")?,
+        Config::new([16; 6], wide, 1, 1).ok_or("no row")?,
+        Config::new([16; 6], slow, 8, 1).ok_or("no row")?,
+        Config::new([4, 2, 1, 3, 2, 2], long, 1, 1).ok_or("no row")?,
+        Config::new([1; 6], slow, 1, 4).ok_or("no row")?,
+        Config::new([2, 1, 1, 2, 1, 1], wide, 1, 2).ok_or("no row")?,
+        Config::new([6, 3, 2, 5, 4, 2], long, 2, 3).ok_or("no row")?,
+        Config::new([16; 6], wide, 8, 4).ok_or("no row")?,
     ];
     let mut random = Random { state: 2463534242 };
     for _ in 0..12 {
         let words = random.program();
         for row in rows.iter() {
             compare(&rt, words.as_slice(), row, &mut random)?;
+        }
+    }
+    Ok(())
+}
+
+/// Four instructions that may issue in one cycle, with another one in the place of each in turn.
+#[test]
+fn each_slot_of_a_wide_cycle(rt: HostRuntime) -> Result<(), Fail> {
+    let plain = [unit(1, 1), unit(1, 2), unit(1, 3), unit(1, 2), unit(1, 1)];
+    let rows = [
+        Config::new([1; 6], plain, 1, 4).ok_or("no row")?,
+        Config::new([4; 6], plain, 1, 2).ok_or("no row")?,
+        Config::new([4; 6], plain, 2, 4).ok_or("no row")?,
+    ];
+    // addi x10,x0,1; addi x10,x10,2: two writers of one register; mul x11,x10,x10; addi x12,x11,3; ebreak
+    let words = [
+        0x00100513, 0x00250513, 0x02a505b3, 0x00358613, 0x00150513, 0x00100073,
+    ];
+    let mut random = Random { state: 88172645 };
+    for slot in 0..4 {
+        // jalr x5 to the next one; addi x0,x10,1; fence; ecall; jal x0 to the next one; bne x0,x0,8; sw x10,256(x0)
+        let jalr = 0x000002e7 | (4 * slot as u32 + 4) << 20;
+        for word in [
+            jalr, 0x00150013, 0x0ff0000f, 0x00000073, 0x0040006f, 0x00001463, 0x10a02023,
+        ] {
+            let mut changed = words;
+            changed[slot] = word;
+            for row in rows.iter() {
+                compare(&rt, changed.as_slice(), row, &mut random)?;
+            }
         }
     }
     Ok(())

@@ -9,7 +9,7 @@ pub const STUDY_L: &str =
     "[[program]]\nname = \"loop\"\nfile = \"loop.bin\"\n[[unit.alu]]\nlatency = 1\nprice = 5\n[[unit.alu]]\nlatency = 10\nprice = 9\n";
 
 /// Studies at the ends of the limits, which are read.
-pub static LAWFUL: [&str; 19] = [
+pub static LAWFUL: [&str; 23] = [
     "[[program]]\nname = \"0\"\nfile = \"a\"\n[[program]]\nname = \"1\"\nfile = \"a\"\n[[program]]\nname = \"2\"\nfile = \"a\"\n[[program]]\nname = \"3\"\nfile = \"a\"\n[[program]]\nname = \"4\"\nfile = \"a\"\n[[program]]\nname = \"5\"\nfile = \"a\"\n[[program]]\nname = \"6\"\nfile = \"a\"\n[[program]]\nname = \"7\"\nfile = \"a\"\n",
     "prices = {}\n[[program]]\nname = \"a\"\nfile = \"a.bin\"\n",
     "axes = {}\n[[program]]\nname = \"a\"\nfile = \"a.bin\"\n",
@@ -29,6 +29,10 @@ pub static LAWFUL: [&str; 19] = [
     "[axes]\nalu = [16]\nmul = [16]\ndiv = [16]\nload = [16]\nstore = [16]\nbru = [16]\nbuses = [8]\n[[program]]\nname = \"a\"\nfile = \"a.bin\"\n",
     "[unit]\nalu = [{units = 8, latency = 64, price = 1000000}]\nmul = [{units = 8, latency = 64, price = 1000000}]\ndiv = [{units = 8, latency = 64, price = 1000000}]\nmem = [{units = 8, latency = 64, price = 1000000}]\nbru = [{units = 1, latency = 64, price = 1000000}]\n[[program]]\nname = \"a\"\nfile = \"a.bin\"\n",
     "[axes]\nalu = [1, 1, 1, 1, 1, 1, 1, 1, 1, 1, 1, 1, 1, 1, 1, 1]\nmul = [1, 1, 1, 1, 1, 1, 1, 1, 1, 1, 1, 1, 1, 1, 1, 1]\ndiv = [1, 1, 1, 1, 1, 1, 1, 1, 1, 1, 1, 1, 1, 1, 1, 1]\nbuses = [1, 1, 1, 1]\n[[program]]\nname = \"a\"\nfile = \"a.bin\"\n",
+    "[[program]]\nname = \"a\"\nfile = \"a.bin\"\nweight = 1\n",
+    "[[program]]\nname = \"a\"\nfile = \"a.bin\"\nweight = 1000\n",
+    "[prices]\nwidth = 1000000\n[[program]]\nname = \"a\"\nfile = \"a.bin\"\n",
+    "[axes]\nwidth = [1, 2, 3, 4]\n[[program]]\nname = \"a\"\nfile = \"a.bin\"\n",
 ];
 
 /// Studies that fail a test of their top, and the text of the refusal.
@@ -234,6 +238,74 @@ pub static ORDERED: [(&str, &str); 13] = [
     (
         "[axes]\nalu = [1, 1, 1, 1, 1, 1, 1, 1, 1, 1, 1, 1, 1, 1, 1, 1]\nmul = [1, 1, 1, 1, 1, 1, 1, 1, 1, 1, 1, 1, 1, 1, 1, 1]\ndiv = [1, 1, 1, 1, 1, 1, 1, 1, 1, 1, 1, 1, 1, 1, 1, 1]\nbuses = [1, 1, 1, 1, 1]\n[[program]]\nname = \"a\"\nfile = \"a.bin\"\n",
         "study: too many configurations",
+    ),
+];
+
+/// Studies with a wrong width or weight, and the text of the first refusal.
+pub static WIDE: [(&str, &str); 16] = [
+    (
+        "[[program]]\nname = \"a\"\nfile = \"a.bin\"\nweight = 1001\n",
+        "study: program 1: weight out of range",
+    ),
+    (
+        "[[program]]\nname = \"a\"\nfile = \"a.bin\"\nweight = 0\n",
+        "study: program 1: weight out of range",
+    ),
+    (
+        "[[program]]\nname = \"a\"\nfile = \"a.bin\"\nweight = \"a\"\n",
+        "study: program 1: weight of wrong kind",
+    ),
+    (
+        "[[program]]\nname = \"a\"\nfile = \"a.bin\"\nwatch = 3\nweight = 0\n",
+        "study: program 1: watch of wrong kind",
+    ),
+    (
+        "[axes]\nwidth = [5]\n[[program]]\nname = \"a\"\nfile = \"a.bin\"\n",
+        "study: axes: width out of range",
+    ),
+    (
+        "[axes]\nwidth = [0]\n[[program]]\nname = \"a\"\nfile = \"a.bin\"\n",
+        "study: axes: width out of range",
+    ),
+    (
+        "[axes]\nwidth = []\n[[program]]\nname = \"a\"\nfile = \"a.bin\"\n",
+        "study: axes: width out of range",
+    ),
+    (
+        "[axes]\nwidth = 3\n[[program]]\nname = \"a\"\nfile = \"a.bin\"\n",
+        "study: axes: width of wrong kind",
+    ),
+    (
+        "[axes]\nwidth = [5]\nbuses = [9]\n[[program]]\nname = \"a\"\nfile = \"a.bin\"\n",
+        "study: axes: buses out of range",
+    ),
+    (
+        "[axes]\nwidth = [5]\n[[unit.alu]]\nx = 1\n[[program]]\nname = \"a\"\nfile = \"a.bin\"\n",
+        "study: axes: width out of range",
+    ),
+    (
+        "[prices]\nwidth = 1000001\n[[program]]\nname = \"a\"\nfile = \"a.bin\"\n",
+        "study: prices: width out of range",
+    ),
+    (
+        "[prices]\nwidth = [1]\n[[program]]\nname = \"a\"\nfile = \"a.bin\"\n",
+        "study: prices: width of wrong kind",
+    ),
+    (
+        "[prices]\nwidth = -1\nbus = -1\n[[program]]\nname = \"a\"\nfile = \"a.bin\"\n",
+        "study: prices: bus out of range",
+    ),
+    (
+        "[prices]\nweight = 1\n[[program]]\nname = \"a\"\nfile = \"a.bin\"\n",
+        "study: prices: unknown key",
+    ),
+    (
+        "[unit]\nwidth = [1]\n[[program]]\nname = \"a\"\nfile = \"a.bin\"\n",
+        "study: unit: unknown key",
+    ),
+    (
+        "[axes]\nwidth = [5]\n[[program]]\nname = \"a\"\nfile = \"a.bin\"\n[[program]]\nname = \"b\"\nfile = \"a.bin\"\nweight = 1001\n",
+        "study: program 2: weight out of range",
     ),
 ];
 

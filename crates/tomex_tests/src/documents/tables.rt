@@ -33,7 +33,7 @@ fn row_of(alu_stations: u8, mul_latency: u8, mem_latency: u8) -> Result<Config, 
         unit(mem_latency),
         unit(1),
     ];
-    Ok(Config::new([alu_stations, 1, 1, 1, 1, 1], units, 1).ok_or("no row")?)
+    Ok(Config::new([alu_stations, 1, 1, 1, 1, 1], units, 1, 1).ok_or("no row")?)
 }
 
 /// The text of the tables of a program at address 0 after a cycle.

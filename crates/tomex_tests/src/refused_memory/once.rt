@@ -36,7 +36,7 @@ fn program_of(other: Global, words: &[u32], size: u32) -> Result<Program<Heap>, 
     let image = load(ample(other)?, bytes.as_slice(), window)?;
     let name = String::from_str(ample(other)?, "program")?;
     let watch = Vec::new(ample(other)?);
-    Ok(Program::new(ample(other)?, name, image, 10_000, watch)?)
+    Ok(Program::new(ample(other)?, name, image, 10_000, watch, 1)?)
 }
 
 /// The study of both programs, in windows of so many bytes, on rows of 1, 2, 3 and so on alu stations, each of
@@ -52,14 +52,14 @@ fn study_of(other: Global, sizes: [u32; 2], rows: u8) -> Result<Study<Heap>, Fai
     programs.push(program_of(other, COUNTED.as_slice(), sizes[1])?)?;
     let mut configs = Vec::new(ample(other)?);
     for stations in 1..=rows {
-        let row = Config::new([stations, 1, 1, 1, 1, 1], [plain; 5], 1);
+        let row = Config::new([stations, 1, 1, 1, 1, 1], [plain; 5], 1, 1);
         configs.push(row.ok_or("no row")?)?;
     }
     if configs.is_empty() || configs.len() > 16_384 || programs.len() != 2 {
         return Err("no rows")?;
     }
-    let prices = Prices::new([1, 0, 0, 0, 0, 0], 0);
-    Ok(Study::new(ample(other)?, programs, configs, prices)?)
+    let prices = Prices::new([1, 0, 0, 0, 0, 0], 0, 0);
+    Ok(Study::new(ample(other)?, programs, configs, prices, false)?)
 }
 
 /// The cycles of each row, by the recurrence over the in-order run.

@@ -126,6 +126,7 @@ fn axes_in(heap: &Heap) -> Result<Axes<Heap>, AllocError> {
         mem_units: vec![in heap.clone()?; PLAIN]?,
         bru_units: vec![in heap.clone()?; PLAIN]?,
         buses: vec![in heap.clone()?; 1, 3]?,
+        width: vec![in heap.clone()?; 1]?,
     })
 }
 
@@ -148,14 +149,14 @@ impl Attempt for Parts {
         let name = String::from_str(other.clone()?, "mul")?;
         let image = product_in(other.clone()?)?;
         let watch = Vec::new(other.clone()?);
-        let program = match Program::new(heap.clone()?, name, image, 4, watch) {
+        let program = match Program::new(heap.clone()?, name, image, 4, watch, 1) {
             Ok(program) => program,
             Err(ProgramError::Memory) => return Ok(Try::Refused),
             Err(_) => return Ok(Try::Wrong),
         };
         let programs = vec![in other.clone()?; program]?;
         let rows = vec![in other; self.row]?;
-        match Study::new(heap, programs, rows, Prices::new([1; 6], 1)) {
+        match Study::new(heap, programs, rows, Prices::new([1; 6], 1, 0), false) {
             Ok(study) => Ok(Try::right_if(study.costs() == [7].as_slice())),
             Err(AllocError) => Ok(Try::Refused),
         }
@@ -187,7 +188,7 @@ fn of_their_parts(rt: HostRuntime) -> Result<(), Fail> {
     let other = rt.alloc();
     let axes = axes_in(&ample(other)?)?;
     assert!(rt; matches!(refusals(other, &Grid { axes: &axes })?, Some(granted) if granted > 2));
-    let row = Config::new([1; 6], [PLAIN; 5], 1).ok_or("no row")?;
+    let row = Config::new([1; 6], [PLAIN; 5], 1, 1).ok_or("no row")?;
     // The bytes that the run changes, and a cost.
     assert!(rt; refusals(other, &Parts { other, row })? == Some(2));
     assert!(rt; matches!(refusals(other, &Times { other, row })?, Some(granted) if granted > 1));

@@ -68,7 +68,7 @@ fn machines_and_tables(rt: HostRuntime) -> Result<(), Fail> {
         price: 0,
     };
     let units = [unit(1), unit(3), unit(1), unit(1), unit(1)];
-    let row = Config::new([2, 1, 1, 1, 1, 1], units, 1).ok_or("no row")?;
+    let row = Config::new([2, 1, 1, 1, 1, 1], units, 1, 1).ok_or("no row")?;
     let machine = NewMachine {
         other,
         image: &image,

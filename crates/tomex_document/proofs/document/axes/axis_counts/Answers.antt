@@ -46,3 +46,10 @@ returns-in_err-buses g c =
     let p = err_from_is_err_and c.from_residual-in_err-buses.result c.from_residual-in_err-buses.ensures.1 in
     let known = sym (rw c.as_slice.ensures at c.in_ok-known_keys.ensures) in
     rw (p.1, p.2) (λ other. goes_on _ _ _ _ known (goes_on _ _ _ _ c.in_ok-alu.ensures (goes_on _ _ _ _ c.in_ok-mul.ensures (goes_on _ _ _ _ c.in_ok-div.ensures (goes_on _ _ _ _ c.in_ok-load.ensures (goes_on _ _ _ _ c.in_ok-store.ensures (goes_on _ _ _ _ c.in_ok-bru.ensures (stops _ _ _ (c.in_err-buses.ensures other)))))))))
+
+pub returns-in_err-width : goal.returns-in_err-width
+unfolding axis_counts
+returns-in_err-width g c =
+    let p = err_from_is_err_and c.from_residual-in_err-width.result c.from_residual-in_err-width.ensures.1 in
+    let known = sym (rw c.as_slice.ensures at c.in_ok-known_keys.ensures) in
+    rw (p.1, p.2) (λ other. goes_on _ _ _ _ known (goes_on _ _ _ _ c.in_ok-alu.ensures (goes_on _ _ _ _ c.in_ok-mul.ensures (goes_on _ _ _ _ c.in_ok-div.ensures (goes_on _ _ _ _ c.in_ok-load.ensures (goes_on _ _ _ _ c.in_ok-store.ensures (goes_on _ _ _ _ c.in_ok-bru.ensures (goes_on _ _ _ _ c.in_ok-buses.ensures (stops _ _ _ (c.in_err-width.ensures other))))))))))

@@ -1,5 +1,5 @@
--- What is told of a place: the fault of the first of its keys that has one.
-use Rattle.std.proofs.Common.{sym}
+-- What is told of a place: the fault of the first of its keys that has one, or what they say.
+use Rattle.std.proofs.Common.{sym, refl}
 use Rattle.std.proofs.lemmas.Result.{err_from_is_err_and}
 use Rattle.tomex_document.specs.Program.{program_of}
 use Rattle.tomex_values.proofs.Outcomes.{goes_on, stops}
@@ -32,3 +32,17 @@ returns-in_err-watch g c =
     let p = err_from_is_err_and c.from_residual-in_err-watch.result c.from_residual-in_err-watch.ensures.1 in
     let known = sym (rw c.as_slice.ensures at c.in_ok-known_keys.ensures) in
     rw (p.1, p.2) (λ other. goes_on _ _ _ _ known (goes_on _ _ _ _ c.in_ok-name.ensures.read (goes_on _ _ _ _ c.in_ok-file.ensures.read (goes_on _ _ _ _ c.in_ok-window.ensures (goes_on _ _ _ _ (sym (rw c.between.ensures at c.in_ok-limit.ensures.read)) (stops _ _ _ (c.in_err-watch.ensures.read other)))))))
+
+pub returns-in_err-weight : goal.returns-in_err-weight
+unfolding program_of
+returns-in_err-weight g c =
+    let p = err_from_is_err_and c.from_residual-in_err-weight.result c.from_residual-in_err-weight.ensures.1 in
+    let known = sym (rw c.as_slice.ensures at c.in_ok-known_keys.ensures) in
+    rw (p.1, p.2) (λ other. goes_on _ _ _ _ known (goes_on _ _ _ _ c.in_ok-name.ensures.read (goes_on _ _ _ _ c.in_ok-file.ensures.read (goes_on _ _ _ _ c.in_ok-window.ensures (goes_on _ _ _ _ (sym (rw c.between.ensures at c.in_ok-limit.ensures.read)) (goes_on _ _ _ _ c.in_ok-watch.ensures.read (stops _ _ _ (sym (rw c.between-2.ensures at c.in_err-weight.ensures.read)))))))))
+
+pub returns : goal.returns
+unfolding program_of
+returns g c =
+    let known = sym (rw c.as_slice.ensures at c.in_ok-known_keys.ensures) in
+    goes_on _ _ _ _ known (goes_on _ _ _ _ c.in_ok-name.ensures.read (goes_on _ _ _ _ c.in_ok-file.ensures.read (goes_on _ _ _ _ c.in_ok-window.ensures (goes_on _ _ _ _ (sym (rw c.between.ensures at c.in_ok-limit.ensures.read)) (goes_on _ _ _ _ c.in_ok-watch.ensures.read
+    (goes_on _ _ _ _ (sym (rw c.between-2.ensures at c.in_ok-weight.ensures.read)) (rw (c.new.ensures, c.has_key-weighed.ensures) refl)))))))
