@@ -7,9 +7,9 @@
 # top of a copy of the repository. What follows a command is what it prints, on standard output and
 # standard error: a line `..` stands for any lines, and `..` in a line for any part of it. A command
 # with no lines behind it has to succeed, and may print anything. `console slow` is run only with
-# --slow, and in the repository itself: it proves and builds. No other block is run. The examples in the
-# help texts are run too, in the folder examples. What needs a program that isn't installed is skipped,
-# and reported.
+# --slow, and in the repository itself: it proves and builds. A `toml` block is a study, of which `tomex
+# all` makes a report. No other block is run. The examples in the help texts are run too, in the folder
+# examples. What needs a program that isn't installed is skipped, and reported.
 #
 # TOMEX names the program, by default crates/tomex/out/tomex, which `rt run` leaves there.
 set -eu
@@ -48,7 +48,7 @@ def blocks(page):
         if kind is None:
             kind, start = bare[3:].strip(), number
             continue
-        if kind == "console" or kind == "console slow" and slow:
+        if kind in ("console", "toml") or kind == "console slow" and slow:
             margin = len(line) - len(bare)
             yield start, kind, [inner[margin:] for inner in lines[start : number - 1]]
         kind = None
@@ -82,7 +82,7 @@ def matches(wanted, printed):
 def missing(command):
     """A program of the command that isn't installed."""
     bare = re.sub(r"'[^']*'|\"[^\"]*\"", "", command.replace("\\\n", " "))
-    for name in re.findall(r"(?:^|[|;&(]\s*)([a-z][\w.-]+)", bare):
+    for name in re.findall(r"(?:^|[|;&(]\s*)([a-z/][\w./-]+)", bare):
         if name not in ("cd", "for", "do", "done") and shutil.which(name) is None:
             return name
 
@@ -98,6 +98,10 @@ def run(commands, folder):
 
 for page in pages:
     for start, kind, lines in blocks(page):
+        if kind == "toml":
+            with open("examples/page.toml", "w") as study:
+                study.write("\n".join(lines) + "\n")
+            lines = ["$ cd examples && tomex all page.toml"]
         commands = steps(lines)
         lacks = [name for name in (missing(command) for command, _ in commands) if name]
         if lacks:
