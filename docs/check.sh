@@ -117,7 +117,8 @@ for page in pages:
             shown = "" if right else f"\n$ {command}\n{printed[:2000]}[status {status}]"
             report("passed" if right else "failed", f"{page}:{start}", shown)
 
-for command in ("", "run", "times", "tables", "all", "explore"):
+listed = run(["tomex --help"], copy)[0][0].split("Commands:")[1].split("Options:")[0]
+for command in [""] + [name for name in re.findall(r"^  (\w+)", listed, re.M) if name != "help"]:
     text = run([f"tomex {command} --help"], copy)[0][0]
     examples = re.findall(r"^  (tomex .*)$", text, re.M)
     printed = ""
