@@ -4,7 +4,7 @@
 #   docs/check.sh [--slow] [PAGE..]
 #
 # A block that is fenced as `console` is run: each line behind `$ ` in one shell, which begins at the
-# top of a copy of the repository. What follows a command is what it prints, on standard output and
+# top of a copy of the repository, with the examples as they are there. What follows a command is what it prints, on standard output and
 # standard error: a line `..` stands for any lines, and `..` in a line for any part of it. A command
 # with no lines behind it has to succeed, and may print anything. `console slow` is run only with
 # --slow, and in the repository itself: it proves and builds. A `toml` block is a study, of which `tomex
@@ -87,6 +87,12 @@ def missing(command):
             return name
 
 
+def fresh_examples():
+    """Drops what an earlier block made: each begins with the examples as they are in the repository."""
+    shutil.rmtree("examples")
+    shutil.copytree(os.path.join(os.environ["TOP"], "examples"), "examples")
+
+
 def run(commands, folder):
     """Runs the commands in one shell; gives what each printed, and its status."""
     mark = "--8<--"
@@ -98,6 +104,7 @@ def run(commands, folder):
 
 for page in pages:
     for start, kind, lines in blocks(page):
+        fresh_examples()
         if kind == "toml":
             with open("examples/page.toml", "w") as study:
                 study.write("\n".join(lines) + "\n")
@@ -117,6 +124,7 @@ for page in pages:
             shown = "" if right else f"\n$ {command}\n{printed[:2000]}[status {status}]"
             report("passed" if right else "failed", f"{page}:{start}", shown)
 
+fresh_examples()
 listed = run(["tomex --help"], copy)[0][0].split("Commands:")[1].split("Options:")[0]
 for command in [""] + [name for name in re.findall(r"^  (\w+)", listed, re.M) if name != "help"]:
     text = run([f"tomex {command} --help"], copy)[0][0]
