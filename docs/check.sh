@@ -4,12 +4,12 @@
 #   docs/check.sh [--slow] [PAGE..]
 #
 # A block that is fenced as `console` is run: each line behind `$ ` in one shell, which begins at the
-# top of a copy of the repository, with the examples as they are there. What follows a command is what it prints, on standard output and
-# standard error: a line `..` stands for any lines, and `..` in a line for any part of it. A command
-# with no lines behind it has to succeed, and may print anything. `console slow` is run only with
-# --slow, and in the repository itself: it proves and builds. A `toml` block is a study, of which `tomex
-# all` makes a report. No other block is run. The examples in the help texts are run too, in the folder
-# examples. What needs a program that isn't installed is skipped, and reported.
+# top of a copy of the repository, with the examples as they are there. What follows a command is what
+# it prints, on standard output and standard error: a line `..` stands for any lines, and `..` in a line
+# for any part of it. A command with no lines behind it has to succeed, and may print anything. `console
+# slow` is run only with --slow, and in the repository itself: it proves and builds. A `toml` block is a
+# study, of which `tomex all` makes a report. No other block is run. The examples in the help texts are
+# run too, in the folder examples. What needs a program that isn't installed is skipped, and reported.
 #
 # TOMEX names the program, by default crates/tomex/out/tomex, which `rt run` leaves there.
 set -eu
