@@ -74,8 +74,8 @@ const ABOUT: &str = "Runs RV32IM programs, and explores Tomasulo processors that
 const LONG_ABOUT: &str = "Runs RV32IM programs in order, and explores Tomasulo processors without
 speculation that run them.
 
-Each command makes the whole of its result before it writes any of it to the
-standard output. What is wrong is said on the standard error.";
+A command writes nothing to standard output before its whole result is there.
+Errors are reported on standard error.";
 
 const AFTER_LONG_HELP: &str = "Exit status:
   0  the result was written, or help
@@ -83,14 +83,15 @@ const AFTER_LONG_HELP: &str = "Exit status:
   2  the command line was refused
   3  memory, a thread, a file or a device was refused
 
-Examples:
+Examples, in the folder `examples`:
   tomex run mul.bin --size 4096
   tomex times study.toml 4 mul
   tomex tables study.toml 4 mul 3
-  tomex explore study.toml --workers 4
+  tomex all study.toml
+  tomex explore explore.toml --workers 4
 
 Numbers on the command line are decimal; in a study's TOML they may be
-hexadecimal too, as 0x10000.";
+hexadecimal too, as in 0x10000.";
 
 /// The program, before it has commands.
 fn without_commands<'a>(alloc: Global) -> Command<'a>

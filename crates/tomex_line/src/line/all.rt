@@ -23,21 +23,28 @@ const ABOUT: &str = "Runs every configuration of a study to its end and prints t
 
 const LONG_ABOUT: &str =
     "Runs every program of a study on every configuration to its end, and prints
-the front: the configurations that no other one dominates, that is, than which
-no other one costs no more and takes no more cycles, with less of one of the
-two.
+the front: the configurations that no other one dominates. One configuration
+dominates another if it costs no more, takes no more cycles, and is better in
+one of the two.
 
 STUDY is a TOML document that names programs, prices, axes and unit options;
-its files are read from the current folder.
+its files are read from the current folder. docs/STUDIES.md lists the keys of a
+study.
 
-The report is CSV, the same as that of `explore`, which gives up configurations
-early that can't be in the front, and so is faster.";
+The report is CSV, to the byte that of `explore`, which gives up configurations
+early if they can't be on the front, and so is mostly faster.";
 
-const AFTER_LONG_HELP: &str = "Example:
+const AFTER_LONG_HELP: &str = "Exit status:
+  0  the report was written
+  1  the study or a program of it was refused
+  2  the command line was refused
+  3  memory, a file or a device was refused
+
+Example, in the folder `examples`:
   tomex all explore.toml
 
-prints a header, and for each configuration of the front a line for each
-program, as
+prints a header, and for each configuration on the front a line for each
+program, such as
   4,101,54153,1,1,1,1,1,1,1,1,1,8,1,1,1,2,1,1,1,matrix,6625,22408,ebreak,..";
 
 const STUDY_HELP: &str = "The file of the study";

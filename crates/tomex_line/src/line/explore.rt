@@ -32,28 +32,36 @@ const ABOUT: &str = "Explores the configurations of a study and prints the front
 
 const LONG_ABOUT: &str =
     "Runs the programs of a study on its configurations, and prints the front: the
-configurations that no other one dominates, that is, than which no other one
-costs no more and takes no more cycles, with less of one of the two.
+configurations that no other one dominates. One configuration dominates another
+if it costs no more, takes no more cycles, and is better in one of the two.
 
-Every 1,024 cycles of a run it is seen whether a finished configuration that
-costs no more has taken fewer; then this one is given up. The report is to the byte that of `all`, which
-runs every configuration to its end.
+Every 1,024 cycles of a run tomex looks whether a finished configuration that
+costs no more has taken fewer cycles; if so, it gives this one up. The report
+is, to the byte, that of `all`, which runs every configuration to its end. The
+number of workers doesn't change it.
 
 STUDY is a TOML document that names programs, prices, axes and unit options;
-its files are read from the current folder.
+its files are read from the current folder. docs/STUDIES.md lists the keys of a
+study.
 
-The report is CSV: a header, and for each configuration of the front, by cost
+The report is CSV: a header, and for each configuration on the front, by cost
 and then number, a record for each program: the configuration's number, cost,
 cycles and parts, then the program's name, steps and cycles, how it ended, its
-registers that aren't zero, and the bytes of memory that it watches. `-` stands
-where there is none.";
+registers that aren't zero, and the bytes of memory that the study watches. `-`
+means that there are none.";
 
-const AFTER_LONG_HELP: &str = "Examples:
+const AFTER_LONG_HELP: &str = "Exit status:
+  0  the report was written
+  1  the study or a program of it was refused
+  2  the command line was refused
+  3  memory, a thread, a file or a device was refused
+
+Examples, in the folder `examples`:
   tomex explore explore.toml
   tomex explore explore.toml --workers 4
 
-print a header, and for each configuration of the front a line for each
-program, as
+print a header, and for each configuration on the front a line for each
+program, such as
   4,101,54153,1,1,1,1,1,1,1,1,1,8,1,1,1,2,1,1,1,matrix,6625,22408,ebreak,..";
 
 const STUDY_HELP: &str = "The file of the study";

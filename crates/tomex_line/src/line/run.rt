@@ -54,9 +54,9 @@ where the program ended and after how many instructions.
 IMAGE is a flat file of RV32IM code and data, as `objcopy -O binary` writes it,
 or a 32-bit ELF executable that is linked statically for RISC-V. A flat file is
 loaded at the base address and starts there; an ELF file says itself where its
-segments stand, which must be inside memory, and where it starts. The rest of
-memory is zero, and so are the registers but x2: it holds the end of memory,
-rounded down to a multiple of 16. docs/PROGRAMS.md tells how to make programs
+segments lie, which must be inside memory, and where it starts. The rest of
+memory is zero, and so are all registers but x2: it holds the end of memory,
+rounded down to a multiple of 16. docs/PROGRAMS.md shows how to make programs
 from C.
 
 Numbers are decimal.";
@@ -67,11 +67,13 @@ const AFTER_LONG_HELP: &str = "Exit status:
   2  the command line was refused
   3  memory, a file or a device was refused
 
-Examples:
+Examples, in the folder `examples`:
   tomex run primes.elf --base 65536 --size 262144
   tomex run mul.bin --base 0 --size 65536 --limit 100
 
-prints x0=00000000 to x31=00000000, a line each, and then
+print x0 to x31, a line each, as
+  x2=00000007
+and then how the program ended, as
   ebreak at 0000000c after 4";
 
 const IMAGE_HELP: &str = "The file of the image";

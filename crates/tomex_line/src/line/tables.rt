@@ -44,20 +44,20 @@ for, and the registers that wait for a station.
 STUDY is a TOML document that names programs, prices, axes and unit options;
 its files are read from the current folder. CONFIG is the number of a
 configuration, from 0: the product of the axes, the last axis fastest. PROGRAM
-is the name of a program of the study; one that begins with `-` stands behind
-`--`. CYCLE is 0, before the first instruction issues, up to the run's total,
-which `tomex times` prints last. docs/STUDIES.md lists the keys of a study, and
-docs/MACHINE.md tells what the tables mean.
+is the name of a program of the study; a name that begins with `-` must follow
+`--`. CYCLE goes from 0, before the first instruction issues, to the run's
+total, which `tomex times` prints last. docs/STUDIES.md lists the keys of a
+study, and docs/MACHINE.md says what the tables mean.
 
-CONFIG and CYCLE are decimal, as all numbers of the command line; in the
-study's TOML they may be hexadecimal too, as 0x10000.
+CONFIG and CYCLE are decimal, like all numbers on the command line; in the
+study's TOML they may be hexadecimal too, as in 0x10000.
 
 The first line is the cycle. Then comes a line for each busy station, pool by
 pool: its name, its instruction, and for the operands j and k the value V or
-the station Q that it waits for. A is the address of a load or store, before
-its address cycle the offset. V and A are hexadecimal, and `-` stands for what
-isn't there. Last comes a line for each register that waits, with Qi, the
-station of its youngest writer.";
+the station Q that it waits for. A is the address of a load or store, and
+before its address cycle the offset. V and A are hexadecimal, and `-` means
+that there is none. Last comes a line for each register that waits, with Qi,
+the station of its youngest writer.";
 
 const AFTER_LONG_HELP: &str = "Exit status:
   0  the tables were written
@@ -66,7 +66,7 @@ const AFTER_LONG_HELP: &str = "Exit status:
   2  the command line was refused
   3  memory, a file or a device was refused
 
-Example, with examples/study.toml:
+Example, in the folder `examples`:
   tomex tables study.toml 4 mul 3
 
 prints

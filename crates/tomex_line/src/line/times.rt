@@ -33,16 +33,16 @@ study's configurations, and its reservation station.
 STUDY is a TOML document that names programs, prices, axes and unit options;
 its files are read from the current folder. CONFIG is the number of a
 configuration, from 0: the product of the axes, the last axis fastest. PROGRAM
-is the name of a program of the study; one that begins with `-` stands behind
-`--`. docs/STUDIES.md lists the keys of a study, and docs/MACHINE.md tells what
+is the name of a program of the study; a name that begins with `-` must follow
+`--`. docs/STUDIES.md lists the keys of a study, and docs/MACHINE.md says what
 the cycles mean.
 
-CONFIG is decimal, as all numbers of the command line; in the study's TOML they
-may be hexadecimal too, as 0x10000.
+CONFIG is decimal, like all numbers on the command line; in the study's TOML
+they may be hexadecimal too, as in 0x10000.
 
 The report is CSV: a header, a record for each instruction in program order,
-and a record of the total. Steps and cycles are counted from 1; `-` stands
-where there is no address cycle or station.";
+and a record of the total. Steps and cycles are counted from 1; `-` means that
+there is no address cycle or station.";
 
 const AFTER_LONG_HELP: &str = "Exit status:
   0  the report was written
@@ -50,12 +50,12 @@ const AFTER_LONG_HELP: &str = "Exit status:
   2  the command line was refused
   3  memory, a file or a device was refused
 
-Example, with examples/study.toml:
+Example, in the folder `examples`:
   tomex times study.toml 4 mul
 
-prints a line for each instruction, as
+prints a line for each instruction, such as
   3,00000008,\"mul x3,x1,x2\",3,-,5,7,8,mul0
-and last the total, as
+and last the total:
   total,-,-,-,-,-,-,8,-";
 
 const STUDY_HELP: &str = "The file of the study";

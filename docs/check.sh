@@ -1,0 +1,145 @@
+#!/usr/bin/env bash
+# Runs the commands of all pages, and compares what they print with what the pages say.
+#
+#   docs/check.sh [--slow] [PAGE..]
+#
+# A block that is fenced as `console` is run: each line behind `$ ` in one shell, which begins at the
+# top of a copy of the repository, with the examples as they are there. What follows a command is what
+# it prints, on standard output and standard error: a line `..` stands for any lines, and `..` in a line
+# for any part of it. A command with no lines behind it has to succeed, and may print anything. `console
+# slow` is run only with --slow, and in the repository itself: it proves and builds. A `toml` block is a
+# study, of which `tomex all` makes a report. No other block is run. The examples in the help texts are
+# run too, in the folder examples. What needs a program that isn't installed is skipped, and reported.
+#
+# TOMEX names the program, by default crates/tomex/out/tomex, which `rt run` leaves there.
+set -eu
+cd "$(dirname "$0")/.."
+top=$PWD
+TOMEX=${TOMEX:-$top/crates/tomex/out/tomex}
+[ -x "$TOMEX" ] || { echo "no program at $TOMEX: build it by (cd crates/tomex && rt run)"; exit 1; }
+work=$(mktemp -d)
+trap 'rm -rf "$work"' EXIT
+mkdir "$work/bin" "$work/top"
+ln -s "$(realpath "$TOMEX")" "$work/bin/tomex"
+git ls-files -co --exclude-standard | tar -c -T - | tar -x -C "$work/top"
+PATH="$work/bin:$PATH" TOP=$top python3 - "$work/top" "$@" <<'PYTHON'
+import glob, os, re, shutil, subprocess, sys
+
+copy, words = sys.argv[1], sys.argv[2:]
+slow = "--slow" in words
+os.chdir(copy)
+pages = [w for w in words if w != "--slow"] or ["README.md"] + sorted(glob.glob("docs/*.md"))
+counts = {"passed": 0, "failed": 0, "skipped": 0}
+
+
+def report(outcome, place, detail=""):
+    counts[outcome] += 1
+    if outcome != "passed":
+        print(f"{outcome}: {place}{detail}")
+
+
+def blocks(page):
+    """The blocks of a page that are to be run: their first line's number, and their lines."""
+    lines, kind, start = open(page).read().split("\n"), None, 0
+    for number, line in enumerate(lines, 1):
+        bare = line.lstrip()
+        if not bare.startswith("```"):
+            continue
+        if kind is None:
+            kind, start = bare[3:].strip(), number
+            continue
+        if kind in ("console", "toml") or kind == "console slow" and slow:
+            margin = len(line) - len(bare)
+            yield start, kind, [inner[margin:] for inner in lines[start : number - 1]]
+        kind = None
+
+
+def steps(lines):
+    """The commands of a block, each with the lines that it is to print."""
+    found = []
+    for line in lines:
+        if line.startswith("$ "):
+            found.append(([line[2:]], []))
+        elif found and found[-1][0][-1].endswith("\\") and not found[-1][1]:
+            found[-1][0].append(line)
+        elif found:
+            found[-1][1].append(line)
+    return [("\n".join(command), wanted) for command, wanted in found]
+
+
+def matches(wanted, printed):
+    """The lines are these but for blanks at their ends; `..` stands for any lines, or any part of one."""
+    printed = re.sub(r" +$", "", printed, flags=re.M)
+    pattern = ""
+    for line in wanted:
+        if line == "..":
+            pattern += r"(?:[^\n]*\n)*?"
+        else:
+            pattern += r"[^\n]*".join(map(re.escape, line.rstrip().split(".."))) + r"\n"
+    return re.fullmatch(pattern, printed) is not None
+
+
+def missing(command):
+    """A program of the command that isn't installed."""
+    bare = re.sub(r"'[^']*'|\"[^\"]*\"", "", command.replace("\\\n", " "))
+    for name in re.findall(r"(?:^|[|;&(]\s*)([a-z/][\w./-]+)", bare):
+        if name not in ("cd", "for", "do", "done") and shutil.which(name) is None:
+            return name
+
+
+def fresh_examples():
+    """Drops what an earlier block made: each begins with the examples as they are in the repository."""
+    shutil.rmtree("examples")
+    shutil.copytree(os.path.join(os.environ["TOP"], "examples"), "examples")
+
+
+def run(commands, folder):
+    """Runs the commands in one shell; gives what each printed, and its status."""
+    mark = "--8<--"
+    script = "".join(f"{command}\necho '{mark}' $?\n" for command in commands)
+    done = subprocess.run(["bash", "-c", script], cwd=folder, stdout=subprocess.PIPE,
+                          stderr=subprocess.STDOUT, text=True)
+    return re.findall(rf"(.*?){mark} (\d+)\n", done.stdout, re.S)
+
+
+for page in pages:
+    for start, kind, lines in blocks(page):
+        fresh_examples()
+        if kind == "toml":
+            with open("examples/page.toml", "w") as study:
+                study.write("\n".join(lines) + "\n")
+            lines = ["$ cd examples && tomex all page.toml"]
+        commands = steps(lines)
+        lacks = [name for name in (missing(command) for command, _ in commands) if name]
+        if lacks:
+            report("skipped", f"{page}:{start}", f": no {lacks[0]}")
+            continue
+        folder = os.environ["TOP"] if kind == "console slow" else copy
+        answers = run([command for command, _ in commands], folder)
+        for (command, wanted), (printed, status) in zip(commands, answers):
+            if "No module named" in printed:
+                report("skipped", f"{page}:{start}", f": {printed.splitlines()[-1]}")
+                continue
+            right = matches(wanted, printed) if wanted else status == "0"
+            shown = "" if right else f"\n$ {command}\n{printed[:2000]}[status {status}]"
+            report("passed" if right else "failed", f"{page}:{start}", shown)
+
+fresh_examples()
+listed = run(["tomex --help"], copy)[0][0].split("Commands:")[1].split("Options:")[0]
+for command in [""] + [name for name in re.findall(r"^  (\w+)", listed, re.M) if name != "help"]:
+    text = run([f"tomex {command} --help"], copy)[0][0]
+    examples = re.findall(r"^  (tomex .*)$", text, re.M)
+    printed = ""
+    for example in examples:
+        answer, status = run([example], os.path.join(copy, "examples"))[0]
+        printed += answer
+        report("passed" if status == "0" else "failed", f"help {command}: {example}")
+    after = text.split("Example")[-1]
+    for line in re.findall(r"^  (.+)$", after, re.M):
+        if not line.startswith("tomex "):
+            begins = line[:-2] if line.endswith("..") else line + "\n"
+            report("passed" if "\n" + begins in "\n" + printed else "failed", f"help {command}: {line}")
+
+print(", ".join(f"{count} {outcome}" for outcome, count in counts.items()))
+sys.exit(1 if counts["failed"] else 0)
+PYTHON
