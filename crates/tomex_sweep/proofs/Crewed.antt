@@ -5,7 +5,7 @@ use Rattle.std.proofs.lemmas.List.{length-map}
 use Rattle.std.proofs.lemmas.List.Folds.{flat_map-map}
 use Rattle.std.proofs.lemmas.List.Elements.{All-nil, All-cons, All-head, All-tail, All-map, All-weaker}
 use Rattle.atomic_table.specs.Seated.{TableId}
-use Rattle.tomex_config.specs.Row.{Row, IsRow}
+use Rattle.tomex_config.specs.Row.{IsRow}
 use Rattle.tomex_board.specs.Plans.{IsPlan}
 use Rattle.tomex_board.specs.Known.{Known}
 use Rattle.tomex_board.specs.Marks.{AreLawful}
@@ -13,7 +13,7 @@ use Rattle.tomex_board.specs.Views.{IsWhole}
 use Rattle.tomex_board.specs.declared.mark.Mark.{Mark}
 use Rattle.tomex_lanes.specs.Lanes.{Dealt, dealt}
 use Rattle.tomex_lanes.specs.Parts.{Equipped, Returned, AreSeated, AreWhole}
-use Rattle.tomex_lanes.proofs.Dealing.{dealt-counts, each_is_dealt, length-dealt}
+use Rattle.tomex_lanes.proofs.Dealing.{dealt-counts, each_is_dealt}
 use Rattle.tomex_sweep.specs.Program.{IsProgram}
 use Rattle.tomex_sweep.specs.Study.{DesignSpace, IsStudy}
 use Rattle.tomex_sweep.specs.Cycles.{cycles_on, cycles_of}

@@ -1,20 +1,18 @@
 -- What looks and ends of a run say, and the front of judged rows.
-use Rattle.std.proofs.Common.{◌≡◌, ℕ, zero, suc, ◌+◌, ◌-◌, ◌<◌, ◌≤◌, ◌⊎◌, ⊎_elim, inl, inr, arith, ap, sym, refl, subst, ◌∙◌, List, [], ◌∷◌, ◌++◌, length, map, Bool, true, cond, get_or, Some, None, slice_get, All}
+use Rattle.std.proofs.Common.{◌≡◌, ℕ, zero, suc, ◌+◌, ◌-◌, ◌<◌, ◌≤◌, ⊎_elim, arith, ap, sym, refl, subst, ◌∙◌, List, [], ◌∷◌, length, map, Bool, true, cond, get_or, Some, None, slice_get}
 use Rattle.std.proofs.lemmas.Bool.{cases_lt, lt-ltb, le-ltb}
 use Rattle.std.proofs.lemmas.List.{length-map}
-use Rattle.std.proofs.lemmas.List.Elements.{All-push}
 use Rattle.tomex_config.specs.Row.{Row}
 use Rattle.tomex_sweep.specs.Study.{DesignSpace, IsStudy}
 use Rattle.tomex_sweep.specs.Program.{Workload}
 use Rattle.tomex_sweep.specs.Cycles.{cycles_on, cycles_of, plain_on, weighed}
 use Rattle.tomex_sweep.specs.Front.{front_of, front_of_study}
 use Rattle.tomex_sweep.specs.Marks.{AreJudged, finished_from}
-use Rattle.tomex_board.specs.Marks.{AreLawful}
 use Rattle.tomex_lanes.specs.Parts.{is_closed}
 use Rattle.tomex_sweep.specs.Stops.{Going, IsNearer, stop_at}
 use Rattle.tomex_sweep.specs.declared.front_row.FrontRow.{FrontRow}
 use Rattle.tomex_board.specs.declared.mark.Mark.{Mark}
-use Rattle.tomex_board.specs.declared.mark.Mark.TheVariants.{Open, Taken, Finished, Dropped}
+use Rattle.tomex_board.specs.declared.mark.Mark.TheVariants.{Finished, Dropped}
 use Rattle.tomex_sweep.specs.declared.stop.Stop.{Stop}
 use Rattle.tomex_sweep.specs.declared.stop.Stop.TheVariants.{Look, Over}
 use Rattle.tomex_sweep.proofs.Judged.{same_front}

@@ -1,10 +1,10 @@
 -- Marks of rows: when they are lawful, and what the finished ones are.
-use Rattle.std.specs.Prelude.{◌≡◌, ℕ, suc, ◌<◌, ◌≤◌, Bool, true, false, List, [], ◌∷◌, ◌++◌, Some, length, slice_get, slice_index, All, sum_by, if◌then◌else◌}
+use Rattle.std.specs.Prelude.{◌≡◌, ℕ, suc, Bool, true, false, List, [], ◌∷◌, ◌++◌, length, All, sum_by, if◌then◌else◌}
 use Rattle.tomex_board.specs.Marks.{AreLawful}
 use Rattle.tomex_lanes.specs.Parts.{is_closed}
 use Rattle.tomex_sweep.specs.declared.front_row.FrontRow.{FrontRow}
 use Rattle.tomex_board.specs.declared.mark.Mark.{Mark}
-use Rattle.tomex_board.specs.declared.mark.Mark.TheVariants.{Finished, Dropped}
+use Rattle.tomex_board.specs.declared.mark.Mark.TheVariants.{Finished}
 
 abbrev pub is_finished : Mark → Bool
 is_finished (Finished y) = true

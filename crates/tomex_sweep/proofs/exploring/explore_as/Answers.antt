@@ -1,5 +1,5 @@
 -- A board can be made for the study; the workers have all rows and all numbers, and so have their parts: nothing is left to gather.
-use Rattle.std.proofs.Common.{◌≡◌, ◌≤◌, length, ap, sym, ◌∙◌, subst, All, arith}
+use Rattle.std.proofs.Common.{◌≡◌, ◌≤◌, length, ap, ◌∙◌, subst, All, arith}
 use Rattle.tomex_config.specs.Row.{IsRow}
 use Rattle.tomex_sweep.specs.Program.{IsProgram}
 use Rattle.tomex_lanes.proofs.Dealing.{length-dealt}
