@@ -1,5 +1,5 @@
 -- The front report: a record for each program of each front row.
-use Rattle.std.specs.Prelude.{ℕ, suc, ◌==◌, List, [], ◌∷◌, ◌++◌, codes, map, take, drop, if◌then◌else◌, slice_index_or}
+use Rattle.std.specs.Prelude.{ℕ, suc, ◌==◌, Bool, true, false, List, [], ◌∷◌, ◌++◌, codes, map, take, drop, if◌then◌else◌, slice_index_or}
 use Rattle.std.specs.List.{flat_map}
 use Rattle.std.specs.Fmt.{decimal}
 use Rattle.tomex_rvdec.specs.declared.pool.UnitId.{UnitId}
@@ -18,6 +18,11 @@ use Rattle.tomex_report.specs.Csv.{record_text}
 use Rattle.tomex_report.specs.declared.ends.ProgramEnd.{ProgramEnd}
 use Rattle.tomex_report.specs.Ends.{bytes_at, count_of, last_state}
 
+-- what stands only in reports that show widths and weights
+abbrev pub if_wide : Bool → List ℕ → List (List ℕ)
+if_wide true text = text ∷ []
+if_wide false text = []
+
 -- the columns of a row's number, cost, cycles and stations
 abbrev pub station_columns : List (List ℕ)
 station_columns = codes "row" ∷ codes "cost" ∷ codes "cycles" ∷ codes "alu" ∷ codes "mul" ∷ codes "div" ∷ codes "load" ∷ codes "store" ∷ codes "bru" ∷ []
@@ -29,12 +34,13 @@ unit_columns =
     ∷ codes "mem_units" ∷ codes "mem_latency" ∷ codes "bru_units" ∷ codes "bru_latency" ∷ []
 
 -- the columns of a row
-abbrev pub row_columns : List (List ℕ)
-row_columns = station_columns ++ (unit_columns ++ codes "buses" ∷ [])
+abbrev pub row_columns : Bool → List (List ℕ)
+row_columns wide = station_columns ++ (unit_columns ++ (codes "buses" ∷ if_wide wide (codes "width")))
 
 -- the columns of a program
-abbrev pub program_columns : List (List ℕ)
-program_columns = codes "program" ∷ codes "steps" ∷ codes "program_cycles" ∷ codes "end" ∷ codes "regs" ∷ codes "watch" ∷ []
+abbrev pub program_columns : Bool → List (List ℕ)
+program_columns wide =
+    codes "program" ∷ (if_wide wide (codes "weight") ++ (codes "steps" ∷ codes "program_cycles" ∷ codes "end" ∷ codes "regs" ∷ codes "watch" ∷ []))
 
 -- a unit option's number of units and latency
 abbrev pub unit_fields : Row → UnitId → List (List ℕ)
@@ -45,10 +51,10 @@ unfoldable pub station_fields : Row → List (List ℕ)
 station_fields row = map (λ pool. decimal (stations_of row pool)) all_pools
 
 -- a row's number, cost and cycles, and its parts
-unfoldable pub row_fields : FrontRow → Row → List (List ℕ)
-row_fields r row =
+unfoldable pub row_fields : Bool → FrontRow → Row → List (List ℕ)
+row_fields wide r row =
     (decimal r.row ∷ decimal r.cost ∷ decimal r.cycles ∷ [])
-    ++ (station_fields row ++ (flat_map (unit_fields row) all_units ++ (decimal row.buses ∷ [])))
+    ++ (station_fields row ++ (flat_map (unit_fields row) all_units ++ (decimal row.buses ∷ if_wide wide (decimal row.width))))
 
 -- texts joined by one space, or `-` where there is none
 abbrev pub joined : List (List ℕ) → List ℕ
@@ -80,20 +86,20 @@ end_fields ranges e =
     decimal e.steps ∷ decimal e.total ∷ name_of_end e.kind ∷ joined (nonzero_from 0 e.regs) ∷ joined (watch_texts ranges e.watched.items) ∷ []
 
 -- what a program comes to on a row
-unfoldable pub program_fields : Row → Workload → List (List ℕ)
-program_fields row p =
+unfoldable pub program_fields : Bool → Row → Workload → List (List ℕ)
+program_fields wide row p =
     let s = last_state p.image in
-    p.name ∷ decimal (count_of p.image) ∷ decimal (total row p.image) ∷ end_text (step_of s)
-    ∷ joined (nonzero_from 0 s.regs) ∷ joined (map (watch_text p.image.window.base s.memory) p.watch) ∷ []
+    p.name ∷ (if_wide wide (decimal p.weight) ++ (decimal (count_of p.image) ∷ decimal (total row p.image) ∷ end_text (step_of s)
+    ∷ joined (nonzero_from 0 s.regs) ∷ joined (map (watch_text p.image.window.base s.memory) p.watch) ∷ []))
 
 -- a program's record on a front row
-abbrev pub program_record : FrontRow → Row → Workload → List ℕ
-program_record r row p = record_text (row_fields r row ++ program_fields row p)
+abbrev pub program_record : Bool → FrontRow → Row → Workload → List ℕ
+program_record wide r row p = record_text (row_fields wide r row ++ program_fields wide row p)
 
 -- a front row's records, one for each program of the study
 abbrev pub records_of : DesignSpace → FrontRow → List ℕ
-records_of s r = let row = slice_index_or s.rows r.row plain in flat_map (program_record r row) s.programs
+records_of s r = let row = slice_index_or s.rows r.row plain in flat_map (program_record s.wide r row) s.programs
 
 -- the report of a study: the header, and then the front's records in order
 unfoldable pub report_of : DesignSpace → List ℕ
-report_of s = record_text (row_columns ++ program_columns) ++ flat_map (records_of s) (front_of_study s)
+report_of s = record_text (row_columns s.wide ++ program_columns s.wide) ++ flat_map (records_of s) (front_of_study s)

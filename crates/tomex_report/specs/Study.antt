@@ -22,6 +22,7 @@ pub record IsProgramOf (entry : ProgramEntry) (file : List ℕ) (program : Workl
   pub limit : program.limit ≡ entry.limit
   pub ends : EndsWithin program.image entry.limit
   pub watch : program.watch ≡ entry.watch
+  pub weight : program.weight ≡ entry.weight
 
 -- each file is what its entry asks for, in order
 abbrev pub AreProgramsOf : List ProgramEntry → List (List ℕ) → List Workload → Type 0
@@ -37,6 +38,7 @@ pub record IsStudyOf (bytes : List ℕ) (files : List (List ℕ)) (study : Desig
   pub rows : grid_of document.axes ≡ Ok study.rows
   pub prices : study.prices ≡ document.prices
   pub costs : study.costs ≡ costs_of study.prices study.rows
+  pub wide : study.wide ≡ document.wide
 
 -- the file is an image of the entry's window, whose run is refused so
 abbrev pub FailsToEnd : ProgramEntry → List ℕ → RunError → Type 0

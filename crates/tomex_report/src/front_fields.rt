@@ -6,7 +6,8 @@ ghost use Rattle.csv.specs.Records.{fields_of, partial_of};
 ghost use Rattle.tomex_config.specs.Cost.{all_units};
 ghost use Rattle.tomex_sweep.specs.Watch.{watched_bytes};
 ghost use Rattle.tomex_report.specs.Ends.{IsProgramEnd};
-ghost use Rattle.tomex_report.specs.FrontReport.{end_fields, program_fields, row_fields, station_fields, unit_fields};
+ghost use Rattle.tomex_report.specs.FrontReport.{end_fields, if_wide, program_fields, row_fields, station_fields, unit_fields};
+ghost use Rattle.std.specs.Fmt.{decimal};
 
 use crate::csv_text::push_decimal;
 use crate::end_texts::{registers_text, watch_text};
@@ -48,15 +49,33 @@ fn push_units(fields: &mut ByteRecord, scratch: &mut String, row: &Config) -> Re
     Ok(())
 }
 
+/// Adds a number to a record of a report that shows widths and weights.
+fn push_if_wide(
+    fields: &mut ByteRecord,
+    scratch: &mut String,
+    wide: bool,
+    number: u64,
+) -> Result<(), AllocError>
+    requires { partial_of fields.old ≡ [] }
+    ensures fields { OnOk result (fields_of fields.new ≡ fields_of fields.old ++ if_wide wide (decimal number)) }
+    ensures whole { OnOk result (partial_of fields.new ≡ []) }
+{
+    if wide {
+        push_decimal(fields, scratch, number)?;
+    }
+    Ok(())
+}
+
 /// Adds a front row's number, cost and cycles, and its parts.
 fn push_row(
     fields: &mut ByteRecord,
     scratch: &mut String,
+    wide: bool,
     front: FrontRow,
     row: &Config,
 ) -> Result<(), AllocError>
     requires { partial_of fields.old ≡ [] }
-    ensures fields { OnOk result (fields_of fields.new ≡ fields_of fields.old ++ row_fields front row.now) }
+    ensures fields { OnOk result (fields_of fields.new ≡ fields_of fields.old ++ row_fields wide front row.now) }
     ensures whole { OnOk result (partial_of fields.new ≡ []) }
 {
     push_decimal(fields, scratch, front.row as u64)?;
@@ -65,6 +84,7 @@ fn push_row(
     push_stations(fields, scratch, row)?;
     push_units(fields, scratch, row)?;
     push_decimal(fields, scratch, u64::from(row.buses()))?;
+    push_if_wide(fields, scratch, wide, u64::from(row.width()))?;
     Ok(())
 }
 
@@ -97,19 +117,21 @@ pub fn fill_record<A: Allocator>(
     fields: &mut ByteRecord,
     scratch: &mut String,
     heap: Global,
+    wide: bool,
     front: FrontRow,
     row: &Config,
     program: &Program<A>,
     end: &ProgramEnd<A>,
 ) -> Result<(), AllocError>
     requires { IsProgramEnd row.now program.now end.now }
-    ensures { OnOk result (fields_of fields.new ≡ row_fields front row.now ++ program_fields row.now program.now) }
+    ensures { OnOk result (fields_of fields.new ≡ row_fields wide front row.now ++ program_fields wide row.now program.now) }
 {
     // Read for what the image's type keeps, which the proof needs.
     let _window = program.image().window();
     fields.clear();
-    push_row(fields, scratch, front, row)?;
+    push_row(fields, scratch, wide, front, row)?;
     fields.push_field(program.name().as_bytes())?;
+    push_if_wide(fields, scratch, wide, u64::from(program.weight()))?;
     push_end(fields, scratch, heap, program.watch(), end)?;
     Ok(())
 }

@@ -2,7 +2,7 @@
 
 ghost use Rattle.std.specs.Prelude.{◌≡◌, ◌++◌, [], IfOk, OnOk, map};
 ghost use Rattle.csv.specs.Records.{fields_of, partial_of};
-ghost use Rattle.tomex_report.specs.FrontReport.{program_columns, row_columns};
+ghost use Rattle.tomex_report.specs.FrontReport.{if_wide, program_columns, row_columns};
 
 use csv::ByteRecord;
 use std::alloc::{AllocError, Global};
@@ -10,7 +10,8 @@ use std::alloc::{AllocError, Global};
 /// Adds these names to a record.
 fn push_names(fields: &mut ByteRecord, names: &[&str]) -> Result<(), AllocError>
     requires { partial_of fields.old ≡ [] }
-    ensures { OnOk result (fields_of fields.new ≡ fields_of fields.old ++ map (λ name. name.now) names.now) }
+    ensures fields { OnOk result (fields_of fields.new ≡ fields_of fields.old ++ map (λ name. name.now) names.now) }
+    ensures whole { OnOk result (partial_of fields.new ≡ []) }
 {
     for name in names {
         fields.push_field(name.as_bytes())?;
@@ -18,12 +19,24 @@ fn push_names(fields: &mut ByteRecord, names: &[&str]) -> Result<(), AllocError>
     Ok(())
 }
 
+/// Adds a name to a record of a report that shows widths and weights.
+fn push_if_wide(fields: &mut ByteRecord, wide: bool, name: &str) -> Result<(), AllocError>
+    requires { partial_of fields.old ≡ [] }
+    ensures fields { OnOk result (fields_of fields.new ≡ fields_of fields.old ++ if_wide wide name.now) }
+    ensures whole { OnOk result (partial_of fields.new ≡ []) }
+{
+    if wide {
+        fields.push_field(name.as_bytes())?;
+    }
+    Ok(())
+}
+
 /// The names of the columns.
-pub fn columns(heap: Global) -> Result<ByteRecord, AllocError>
-    ensures { IfOk result (λ made. fields_of made ≡ row_columns ++ program_columns) }
+pub fn columns(heap: Global, wide: bool) -> Result<ByteRecord, AllocError>
+    ensures { IfOk result (λ made. fields_of made ≡ row_columns wide ++ program_columns wide) }
 {
     let mut record = ByteRecord::new(heap);
-    let names = [
+    let row = [
         "row",
         "cost",
         "cycles",
@@ -44,13 +57,12 @@ pub fn columns(heap: Global) -> Result<ByteRecord, AllocError>
         "bru_units",
         "bru_latency",
         "buses",
-        "program",
-        "steps",
-        "program_cycles",
-        "end",
-        "regs",
-        "watch",
     ];
-    push_names(&mut record, names.as_slice())?;
+    push_names(&mut record, row.as_slice())?;
+    push_if_wide(&mut record, wide, "width")?;
+    push_names(&mut record, ["program"].as_slice())?;
+    push_if_wide(&mut record, wide, "weight")?;
+    let end = ["steps", "program_cycles", "end", "regs", "watch"];
+    push_names(&mut record, end.as_slice())?;
     Ok(record)
 }

@@ -22,6 +22,7 @@ use tomex_sweep::{FrontRow, Program, Study};
 fn put_programs<A: Allocator>(
     writer: &mut Writer<Vec<u8, A>>,
     heap: Global,
+    wide: bool,
     front: FrontRow,
     row: &Config,
     programs: &[Program<A>],
@@ -30,7 +31,7 @@ fn put_programs<A: Allocator>(
     requires ready { IsReady writer.old }
     requires ends { AllZip (IsProgramEnd row.now) programs.now ends.now }
     ensures ready { OnOk result (IsReady writer.new) }
-    ensures text { OnOk result (written (λ v. v.items) writer.new ≡ written (λ v. v.items) writer.old ++ flat_map (program_record front row.now) programs.now) }
+    ensures text { OnOk result (written (λ v. v.items) writer.new ≡ written (λ v. v.items) writer.old ++ flat_map (program_record wide front row.now) programs.now) }
 {
     let mut record = ByteRecord::new(heap);
     let mut scratch = String::new(heap);
@@ -39,6 +40,7 @@ fn put_programs<A: Allocator>(
             &mut record,
             &mut scratch,
             heap,
+            wide,
             front,
             row,
             program,
@@ -66,6 +68,7 @@ fn put_row<A: Allocator>(
     put_programs(
         writer,
         heap,
+        study.wide(),
         front,
         row,
         study.programs(),
@@ -110,7 +113,7 @@ pub fn front_report<A: Allocator + Clone>(
     ensures { IfOk result (λ text. text.items ≡ report_of study.now) }
 {
     let mut writer = Writer::from_writer(Vec::new(alloc));
-    put_record(&mut writer, &columns(heap)?)?;
+    put_record(&mut writer, &columns(heap, study.wide())?)?;
     put_rows(&mut writer, heap, study, front, ends)?;
     match writer.into_inner() {
         Ok(text) => Ok(text),

@@ -30,7 +30,7 @@ fn program_of<A: Allocator + Clone>(
     let name = String::from_str(alloc.clone()?, entry.name())?;
     let mut watch = Vec::new(alloc.clone()?);
     watch.extend_from_slice(entry.watch())?;
-    match Program::new(alloc, name, image, limit, watch) {
+    match Program::new(alloc, name, image, limit, watch, entry.weight()) {
         Ok(program) => Ok(program),
         Err(ProgramError::Fault(fault)) => Err(StudyError::Fault(told, fault)),
         Err(ProgramError::TooLong) => Err(StudyError::TooLong(told)),
@@ -86,5 +86,5 @@ pub fn read_study<A: Allocator + Clone>(
     let Ok(rows) = grid(alloc.clone()?, &outline.axes) else {
         return Err(StudyError::Memory);
     };
-    Ok(Study::new(alloc, programs, rows, outline.prices)?)
+    Ok(Study::new(alloc, programs, rows, outline.prices, outline.wide)?)
 }

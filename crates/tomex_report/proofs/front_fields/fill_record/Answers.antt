@@ -12,6 +12,6 @@ push_end-requires-clause-watched g c =
 pub returns : goal.returns
 returns g c =
     let loaded = rw c.image.ensures.value at c.window-window.ensures.loaded in
-    record_is c.args.row.now c.args.program.now c.args.end.now c.args.front _ _ _ _ _ _ _ c.name.ensures.program loaded c.requires
+    record_is c.args.wide c.args.row.now c.args.program.now c.args.end.now c.args.front _ _ _ _ _ _ _ _ _ c.name.ensures.program loaded c.requires
     c.clear.ensures.fields c.in_ok-push_row.ensures.fields c.in_ok-push_field.ensures.fields c.in_ok-push_row.ensures.whole (c.as_bytes.ensures.value ∙ c.name.ensures.value)
-    c.in_ok-push_end.ensures.fields c.watch.ensures.value
+    c.in_ok-push_if_wide.ensures.fields (c.from.ensures ∙ c.weight.ensures.value) c.in_ok-push_end.ensures.fields c.watch.ensures.value

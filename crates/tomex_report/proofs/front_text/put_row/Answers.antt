@@ -12,4 +12,4 @@ put_programs-requires-clause-ends g c =
 pub returns-clause-text : goal.returns-clause-text
 returns-clause-text g c =
     let same = same_row c.args.study.now.rows _ _ c.requires.ends.row _ c.requires.ends.row_is c.rows.ensures.value c.index-rows-front.is in
-    c.in_ok-put_programs.ensures.text ∙ ap (λ (t : List ℕ). written (λ v. v.items) c.args.writer.now ++ t) (records_are c.args.study.now c.args.front c.requires.ends.row _ _ c.requires.ends.row_is same c.programs.ensures.value)
+    (rw c.wide.ensures.value at c.in_ok-put_programs.ensures.text) ∙ ap (λ (t : List ℕ). written (λ v. v.items) c.args.writer.now ++ t) (records_are c.args.study.now c.args.front c.requires.ends.row _ _ c.requires.ends.row_is same c.programs.ensures.value)
