@@ -1,0 +1,184 @@
+//! Marks of the worked studies.
+
+use std::alloc::Global;
+use std::sync::Wait;
+use std::test::Fail;
+use std::thread::Threads;
+use tomex_config::{Config, Prices, UnitOption};
+use tomex_samples::image_of;
+use tomex_sweep::{FrontRow, Gate, Mark, OpenGate, Outcome, Program, Study, explore, run_all};
+
+mod many;
+mod refused;
+
+/// `addi x1,x0,499; addi x1,x1,-1; bne x1,x0,-4; ebreak`
+const LOOP: [u32; 4] = [0x1f300093, 0xfff08093, 0xfe009ee3, 0x00100073];
+
+/// `addi x1,x0,5; addi x2,x0,7; mul x3,x1,x2; ebreak`
+const PRODUCT: [u32; 4] = [0x00500093, 0x00700113, 0x022081b3, 0x00100073];
+
+/// One unit of this latency, at this price.
+fn unit(latency: u8, price: u32) -> UnitOption {
+    UnitOption {
+        units: 1,
+        latency,
+        price,
+    }
+}
+
+/// A row of one station a pool, with an alu unit and a multiplier of these latencies.
+fn row_of(alu: UnitOption, mul: UnitOption) -> Result<Config, Fail> {
+    let units = [alu, mul, unit(1, 0), unit(1, 0), unit(1, 0)];
+    Ok(Config::new([1; 6], units, 1, 1).ok_or("no row")?)
+}
+
+/// A program of this weight.
+fn program_of(alloc: Global, name: &str, words: &[u32], weight: u32) -> Result<Program, Fail> {
+    if weight == 0 || 1_000 < weight {
+        return Err("no weight")?;
+    }
+    let image = image_of(alloc, 0, 4096, words)?;
+    let name = String::from_str(alloc, name)?;
+    Ok(Program::new(alloc, name, image, 262_144, Vec::new(alloc), weight)?)
+}
+
+/// The study of these programs on these rows, which cost what their units do.
+fn study_on(alloc: Global, programs: Vec<Program>, rows: Vec<Config>) -> Result<Study, Fail> {
+    let counts = [programs.len(), rows.len()];
+    if counts[0] == 0 || counts[0] > 8 || counts[1] == 0 || counts[1] > 16_384 {
+        return Err("too few or too many")?;
+    }
+    let prices = Prices::new([0; 6], 0, 0);
+    Ok(Study::new(alloc, programs, rows, prices, false)?)
+}
+
+/// The study of the loop, of this weight, on rows that differ in the latency and the price of their alu unit.
+fn weighed_study(alloc: Global, options: &[(u8, u32)], weight: u32) -> Result<Study, Fail> {
+    let mut rows = Vec::new(alloc);
+    for (latency, price) in options {
+        rows.push(row_of(unit(*latency, *price), unit(1, 0))?)?;
+    }
+    let programs = vec![in alloc; program_of(alloc, "loop", LOOP.as_slice(), weight)?]?;
+    study_on(alloc, programs, rows)
+}
+
+/// The same, where the loop counts once.
+fn study_of(alloc: Global, options: &[(u8, u32)]) -> Result<Study, Fail> {
+    weighed_study(alloc, options, 1)
+}
+
+/// The exploration of a study by so many workers.
+fn explored<R: AllocGlobal + Threads + Wait + Sync, G: Gate + Sync>(
+    rt: &R,
+    study: &Study,
+    workers: usize,
+    gate: &G,
+) -> Result<Outcome, Fail> {
+    if workers < 1 || workers > 32 {
+        return Err("no such number of workers")?;
+    }
+    Ok(explore(rt, rt.alloc(), study, workers, gate)?)
+}
+
+/// The marks of each row when it is run to its end.
+fn whole(alloc: Global, study: &Study) -> Result<Outcome, Fail> {
+    Ok(run_all(alloc, study)?)
+}
+
+#[test]
+fn slow_row_is_dropped(rt: HostRuntime) -> Result<(), Fail> {
+    let study = study_of(rt.alloc(), [(1, 5), (10, 9)].as_slice())?;
+    let front = [FrontRow {
+        row: 0,
+        cost: 5,
+        cycles: 2000,
+    }];
+    for (outcome, second) in [
+        (explored(&rt, &study, 1, &OpenGate)?, Mark::Dropped(0)),
+        (whole(rt.alloc(), &study)?, Mark::Finished(6500)),
+    ] {
+        let marks = [Mark::Finished(2000), second];
+        assert!(rt; outcome.marks.as_slice() == marks.as_slice());
+        assert!(rt; outcome.front.as_slice() == front.as_slice());
+        assert!(rt; outcome.gathered == 0);
+    }
+    Ok(())
+}
+
+/// A worker looks at each multiple of 1,024 cycles. At 2,048 these rows have still to run, and 2,000 cycles are
+/// fewer; at the next look they are over.
+#[test]
+fn rows_are_dropped_at_the_first_look_that_may(rt: HostRuntime) -> Result<(), Fail> {
+    let study = study_of(rt.alloc(), [(1, 5), (2, 9), (3, 9)].as_slice())?;
+    let marks = [
+        Mark::Finished(2000),
+        Mark::Finished(2500),
+        Mark::Finished(3000),
+    ];
+    assert!(rt; whole(rt.alloc(), &study)?.marks.as_slice() == marks.as_slice());
+    let marks = [Mark::Finished(2000), Mark::Dropped(0), Mark::Dropped(0)];
+    assert!(rt; explored(&rt, &study, 1, &OpenGate)?.marks.as_slice() == marks.as_slice());
+    Ok(())
+}
+
+#[test]
+fn equal_rows_are_finished(rt: HostRuntime) -> Result<(), Fail> {
+    let study = study_of(rt.alloc(), [(1, 5), (1, 5), (1, 9)].as_slice())?;
+    let marks = [Mark::Finished(2000); 3];
+    for workers in [1, 2, 3, 32] {
+        let outcome = explored(&rt, &study, workers, &OpenGate)?;
+        assert!(rt; outcome.marks.as_slice() == marks.as_slice());
+        assert!(rt; outcome.gathered == 0);
+        assert!(rt; outcome.front.iter().map(|row| row.row).eq([0, 1]));
+    }
+    Ok(())
+}
+
+/// The slow row makes 2,500 cycles. At 2,048 of them it counts 4,096, which is more than the fast row's 4,000.
+#[test]
+fn a_look_is_told_by_the_weight(rt: HostRuntime) -> Result<(), Fail> {
+    let study = weighed_study(rt.alloc(), [(1, 5), (2, 9)].as_slice(), 2)?;
+    let marks = [Mark::Finished(4000), Mark::Dropped(0)];
+    assert!(rt; explored(&rt, &study, 1, &OpenGate)?.marks.as_slice() == marks.as_slice());
+    let marks = [Mark::Finished(4000), Mark::Finished(5000)];
+    assert!(rt; whole(rt.alloc(), &study)?.marks.as_slice() == marks.as_slice());
+    Ok(())
+}
+
+/// A row with a fast alu unit takes 2,000 cycles for the loop and 71 for the product, and one with a fast
+/// multiplier 6,500 and 26. Which is the better one is the weight's affair.
+#[test]
+fn weights_choose_the_front(rt: HostRuntime) -> Result<(), Fail> {
+    let alloc = rt.alloc();
+    for (weight, cycles, front) in [
+        (1, [2071, 6526], [0].as_slice()),
+        (99, [9029, 9074], [0].as_slice()),
+        (100, [9100, 9100], [0, 1].as_slice()),
+        (101, [9171, 9126], [1].as_slice()),
+        (1000, [73000, 32500], [1].as_slice()),
+    ] {
+        let rows = vec![in alloc;
+            row_of(unit(1, 5), unit(64, 0))?,
+            row_of(unit(10, 5), unit(1, 0))?,
+        ]?;
+        let programs = vec![in alloc;
+            program_of(alloc, "loop", LOOP.as_slice(), 1)?,
+            program_of(alloc, "product", PRODUCT.as_slice(), weight)?,
+        ]?;
+        let study = study_on(alloc, programs, rows)?;
+        let marks = [Mark::Finished(cycles[0]), Mark::Finished(cycles[1])];
+        assert!(rt; whole(alloc, &study)?.marks.as_slice() == marks.as_slice());
+        let outcome = explored(&rt, &study, 2, &OpenGate)?;
+        assert!(rt;
+            outcome
+                .front
+                .iter()
+                .map(|row| row.row)
+                .eq(front.iter().copied())
+        );
+        for row in &outcome.front {
+            assert!(rt; Some(row.cycles) == cycles.get(row.row).copied());
+        }
+    }
+    Ok(())
+}
