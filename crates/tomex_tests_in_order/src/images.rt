@@ -38,20 +38,24 @@ fn of_segments(alloc: Global, count: u8) -> Result<Vec<u8>, AllocError> {
     Ok(bytes)
 }
 
+/// The product sixteen times, at every 32nd byte, and zeros up to 4096 bytes.
+fn of_products(alloc: Global) -> Result<Vec<u8>, AllocError> {
+    let mut bytes = Vec::new(alloc);
+    for number in 0..16usize {
+        bytes.resize(32 * number, 0)?;
+        bytes.extend_from_slice(&ELF.as_slice()[84..])?;
+    }
+    bytes.resize(4096, 0)?;
+    Ok(bytes)
+}
+
 #[test]
 fn sixteen_segments_and_one_more(rt: HostRuntime) -> Result<(), Fail> {
     let window = Window::new(65536, 4096).ok_or("no window")?;
     let most = of_segments(rt.alloc(), 16)?;
     assert!(rt; most.len() == 580);
     let image = load(rt.alloc(), most.as_slice(), window)?;
-    let (product, rest) = (&ELF.as_slice()[84..], [0; 16]);
-    let mut segments = image.memory().chunks(32);
-    for _ in 0..16 {
-        let segment = segments.next().ok_or("a segment too few")?;
-        assert!(rt; segment.starts_with(product));
-        assert!(rt; segment.ends_with(rest.as_slice()));
-    }
-    assert!(rt; segments.all(|segment| segment.iter().all(|byte| *byte == 0)));
+    assert!(rt; image.memory() == of_products(rt.alloc())?.as_slice());
     let more = of_segments(rt.alloc(), 17)?;
     let refused = load(rt.alloc(), more.as_slice(), window);
     assert!(rt; refused.err() == Some(ImageError::TooManySegments));

@@ -1,4 +1,4 @@
-use Rattle.std.proofs.Common.{rules, arith}
+use Rattle.std.proofs.Common.{rules}
 use Rattle.tomex_tests_board.proofs.BoardPlans.{ones_plan}
 use Rattle.tomex_tests_board.proofs.boards.threads.each_row_is_claimed_once.Goals as goal
 
