@@ -1,0 +1,11 @@
+//! What tests of several crates share: programs, studies and what comes of them, images, and calls whose
+//! memory is refused.
+#![tactic(auto)]
+
+mod images;
+pub mod programs;
+pub mod studies;
+mod tries;
+
+pub use images::image_of;
+pub use tries::{Attempt, Heap, Try, ample, heap_of, refusals};

@@ -1,0 +1,74 @@
+//! Each growth of a call refused in turn: the call says so, and with memory it gives the right answer.
+
+use std::alloc::{AllocError, Global};
+use tomex_refuse::{Budget, Refusing};
+
+/// The memory of a try.
+pub type Heap = Refusing<Global>;
+
+/// Memory of so many blocks.
+pub fn heap_of(other: Global, granted: u64) -> Result<Heap, AllocError> {
+    Ok(Refusing::new(other, Budget::new(other, granted)?))
+}
+
+/// Memory that is never refused, of the kind of a try's.
+pub fn ample(other: Global) -> Result<Heap, AllocError> {
+    heap_of(other, u64::MAX)
+}
+
+/// How one try of a call came out.
+#[derive(Clone, Copy, Debug, PartialEq, Eq)]
+pub enum Try {
+    /// The right answer.
+    Answered,
+    /// Memory was refused, and the call said so.
+    Refused,
+    /// Anything else, which must not be.
+    Wrong,
+}
+
+impl Try {
+    /// An answer, which is the right one or not.
+    pub fn right_if(is_right: bool) -> Try {
+        if is_right { Try::Answered } else { Try::Wrong }
+    }
+}
+
+/// A call that takes memory.
+pub trait Attempt {
+    /// Makes the call in that memory.
+    fn attempt(&self, heap: Heap) -> Result<Try, AllocError>;
+}
+
+/// How many tries are refused before the first that is answered, each with one more block than
+/// the one before. None where a try came out wrong.
+pub fn refusals<C: Attempt>(alloc: Global, call: &C) -> Result<Option<u64>, AllocError> {
+    for granted in 0..1000u64 {
+        match call.attempt(heap_of(alloc, granted)?)? {
+            Try::Answered => return Ok(Some(granted)),
+            Try::Refused => {}
+            Try::Wrong => return Ok(None),
+        }
+    }
+    Ok(None)
+}
+
+/// The same of a call that takes the runtime, which no `Attempt` holds.
+#[macro_export]
+macro_rules! refusals_of {
+    ($alloc:expr, $heap:ident => $attempt:expr) => {{
+        let mut answered = None;
+        for granted in 0..1000u64 {
+            let $heap = $crate::heap_of($alloc, granted)?;
+            match $attempt {
+                $crate::Try::Answered => {
+                    answered = Some(granted);
+                    break;
+                }
+                $crate::Try::Refused => {}
+                $crate::Try::Wrong => break,
+            }
+        }
+        answered
+    }};
+}

@@ -1,0 +1,349 @@
+//! Whole runs of the program over files in memory: what they print, and their statuses.
+use crate::in_memory::{Narrow, Shelf};
+use std::alloc::{AllocError, Allocator, Global};
+use std::process::Abort;
+use std::sync::Wait;
+use std::test::Fail;
+use std::thread::Threads;
+use tomex_command::command;
+use tomex_samples::programs::PRODUCT;
+use tomex_streams::{Meter, NoMeter};
+
+/// What a run of the program left behind.
+#[derive(Drop)]
+pub struct Outcome {
+    pub status: u8,
+    pub out: Vec<u8>,
+    pub err: Vec<u8>,
+}
+
+/// Runs the program on these words over these files, and a standard output that takes so many bytes.
+pub fn outcome_of<
+    R: AllocGlobal + Threads + Wait + Sync,
+    A: Allocator + Clone + Send + Sync + Drop,
+    M: Meter + Sync,
+>(
+    rt: &R,
+    heap: A,
+    files: &[(&str, &[u8])],
+    words: &[&str],
+    meter: &M,
+    room: usize,
+) -> Result<Outcome, AllocError> {
+    let mut line = Vec::new(rt.alloc());
+    for word in words {
+        line.push(String::from_str(rt.alloc(), word)?)?;
+    }
+    let mut out = Narrow::new(rt.alloc(), room, 1000);
+    let mut err = Narrow::new(rt.alloc(), 10_000, 1000);
+    let status = command(
+        rt,
+        heap,
+        rt.alloc(),
+        line.as_slice(),
+        &Shelf { files },
+        meter,
+        &mut out,
+        &mut err,
+    );
+    Ok(Outcome {
+        status,
+        out: out.bytes,
+        err: err.bytes,
+    })
+}
+
+/// Runs the program on these words, over the one file `image` or none.
+fn run_into<R: AllocGlobal + Threads + Wait + Sync>(
+    rt: &R,
+    image: Option<&[u8]>,
+    words: &[&str],
+    room: usize,
+) -> Result<Outcome, AllocError> {
+    match image {
+        Some(bytes) => outcome_of(
+            rt,
+            rt.alloc(),
+            [("image", bytes)].as_slice(),
+            words,
+            &NoMeter,
+            room,
+        ),
+        None => outcome_of(rt, rt.alloc(), [].as_slice(), words, &NoMeter, room),
+    }
+}
+
+/// The words come to this status, output and telling, where the output takes so many bytes.
+pub fn comes_to_within<R: Abort + AllocGlobal + Threads + Wait + Sync>(
+    rt: &R,
+    files: &[(&str, &[u8])],
+    words: &[&str],
+    room: usize,
+    wanted: (u8, &str, &str),
+) -> Result<(), Fail> {
+    let outcome = outcome_of(rt, rt.alloc(), files, words, &NoMeter, room)?;
+    let (status, out, err) = wanted;
+    assert!(rt; outcome.out.as_slice() == out.as_bytes());
+    assert!(rt; outcome.err.as_slice() == err.as_bytes());
+    assert!(rt; outcome.status == status);
+    Ok(())
+}
+
+/// The words come to this status, output and telling.
+pub fn comes_to<R: Abort + AllocGlobal + Threads + Wait + Sync>(
+    rt: &R,
+    files: &[(&str, &[u8])],
+    words: &[&str],
+    wanted: (u8, &str, &str),
+) -> Result<(), Fail> {
+    comes_to_within(rt, files, words, 10_000, wanted)
+}
+
+/// The text of a run that ends: the registers that aren't zero, and the last line.
+pub fn text_of(alloc: Global, registers: &[(usize, u32)], last: &str) -> Result<String, Fail> {
+    let mut text = String::new(alloc);
+    for register in 0..32usize {
+        let mut value = 0;
+        for (number, held) in registers {
+            if *number == register {
+                value = *held;
+            }
+        }
+        text.push_str(format!(in alloc; "x{register}={value:08x}\n")?.as_str())?;
+    }
+    text.push_str(last)?;
+    text.push_str("\n")?;
+    Ok(text)
+}
+
+/// The image ends so: these registers aren't zero, and this is the last line.
+pub fn ends<R: Abort + AllocGlobal + Threads + Wait + Sync>(
+    rt: &R,
+    image: &[u8],
+    options: &[&str],
+    registers: &[(usize, u32)],
+    last: &str,
+) -> Result<(), Fail> {
+    let mut words = Vec::new(rt.alloc());
+    words.extend_from_slice(["tomex", "run", "image"].as_slice())?;
+    words.extend_from_slice(options)?;
+    let outcome = run_into(rt, Some(image), words.as_slice(), 10_000)?;
+    let text = text_of(rt.alloc(), registers, last)?;
+    assert!(rt; outcome.out.as_slice() == text.as_bytes());
+    assert!(rt; outcome.err.as_slice() == b"".as_slice());
+    assert!(rt; outcome.status == 0);
+    Ok(())
+}
+
+/// The line is refused so: this is all that is told, and this is the status.
+pub fn fails<R: Abort + AllocGlobal + Threads + Wait + Sync>(
+    rt: &R,
+    image: Option<&[u8]>,
+    options: &[&str],
+    told: &str,
+    status: u8,
+) -> Result<(), Fail> {
+    let mut words = Vec::new(rt.alloc());
+    words.extend_from_slice(["tomex", "run", "image"].as_slice())?;
+    words.extend_from_slice(options)?;
+    let outcome = run_into(rt, image, words.as_slice(), 10_000)?;
+    assert!(rt; outcome.out.as_slice() == b"".as_slice());
+    assert!(rt; outcome.err.as_slice() == told.as_bytes());
+    assert!(rt; outcome.status == status);
+    Ok(())
+}
+
+/// The window that ends at the top of the address space.
+const TOP: [&str; 4] = ["--base", "4294963200", "--size", "4096"];
+
+/// The registers at the end of the product.
+pub const PRODUCT_END: [(usize, u32); 3] = [(1, 5), (2, 7), (3, 0x23)];
+
+/// Images with the options of their runs, the registers that aren't zero at the end, and the last line.
+static ENDING: [(&[u8], &[&str], &[(usize, u32)], &str); 8] = [
+    (PRODUCT, &[], &PRODUCT_END, "ebreak at 0000000c after 4"),
+    (
+        PRODUCT,
+        &["--limit", "4"],
+        &PRODUCT_END,
+        "ebreak at 0000000c after 4",
+    ),
+    // lui x5,74565
+    (
+        b"\xb7\x52\x34\x12\x73\x00\x10\x00",
+        &[],
+        &[(2, 0x10000), (5, 0x12345000)],
+        "ebreak at 00000004 after 2",
+    ),
+    (
+        b"\x73\x00\x00\x00",
+        &[],
+        &[(2, 0x10000)],
+        "ecall at 00000000 after 1",
+    ),
+    // addi x8,x0,256; addi x1,x0,768; sw x1,0(x8); lb x2,1(x8)
+    (
+        b"\x13\x04\x00\x10\x93\x00\x00\x30\x23\x20\x14\x00\x03\x01\x14\x00\x73\x00\x10\x00",
+        &[],
+        &[(1, 768), (2, 3), (8, 256)],
+        "ebreak at 00000010 after 5",
+    ),
+    // sw x0,8(x0); addi x1,x0,1; addi x3,x0,9: the word at 8 is written, and runs as it was loaded.
+    (
+        b"\x23\x24\x00\x00\x93\x00\x10\x00\x93\x01\x90\x00\x73\x00\x10\x00",
+        &[],
+        &[(1, 1), (2, 0x10000), (3, 9)],
+        "ebreak at 0000000c after 4",
+    ),
+    // lw x1,-4(x0) at the top of the address space
+    (
+        b"\x83\x20\xc0\xff\x73\x00\x10\x00",
+        &TOP,
+        &[],
+        "ebreak at fffff004 after 2",
+    ),
+    // A branch that isn't taken, to no multiple of four.
+    (
+        b"\x63\x11\x00\x00\x73\x00\x10\x00",
+        &[],
+        &[(2, 0x10000)],
+        "ebreak at 00000004 after 2",
+    ),
+];
+
+#[test]
+fn flat_images_end(rt: HostRuntime) -> Result<(), Fail> {
+    for (image, options, registers, last) in &ENDING {
+        ends(&rt, image, options, registers, last)?;
+    }
+    Ok(())
+}
+
+/// Images, or none, with the options of their runs, what is told of them, and the status.
+static REFUSED: [(Option<&[u8]>, &[&str], &str, u8); 12] = [
+    // lw x1,-2(x0) at the top of the address space has bytes past it, which don't wrap.
+    (
+        Some(b"\x83\x20\xe0\xff\x73\x00\x10\x00"),
+        &TOP,
+        "tomex: fault: access at fffff000\n",
+        1,
+    ),
+    // A branch that is taken, to no multiple of four.
+    (
+        Some(b"\x63\x01\x00\x00"),
+        &[],
+        "tomex: fault: misaligned target at 00000000\n",
+        1,
+    ),
+    (Some(PRODUCT), &["--limit", "3"], "tomex: too long\n", 1),
+    // A jump to itself.
+    (
+        Some(b"\x6f\x00\x00\x00"),
+        &["--limit", "262144"],
+        "tomex: too long\n",
+        1,
+    ),
+    (Some(PRODUCT), &["--base", "2"], "tomex: bad window\n", 1),
+    (Some(PRODUCT), &["--size", "6"], "tomex: bad window\n", 1),
+    (None, &["--base", "4294967292"], "tomex: bad window\n", 1),
+    (
+        Some(PRODUCT),
+        &["--size", "12"],
+        "tomex: image: too large\n",
+        1,
+    ),
+    (Some(b""), &[], "tomex: image: empty\n", 1),
+    (
+        Some(b"\x00\x00\x00\x00"),
+        &[],
+        "tomex: fault: illegal at 00000000\n",
+        1,
+    ),
+    (
+        Some(b"\x7f\x45\x4c"),
+        &[],
+        "tomex: fault: illegal at 00000000\n",
+        1,
+    ),
+    (None, &[], "tomex: cannot read image\n", 3),
+];
+
+#[test]
+fn images_are_refused(rt: HostRuntime) -> Result<(), Fail> {
+    for (image, options, told, status) in &REFUSED {
+        fails(&rt, *image, options, told, *status)?;
+    }
+    Ok(())
+}
+
+/// Lines that the parser refuses.
+static MISTAKEN: [&[&str]; 12] = [
+    &["tomex"],
+    &["tomex", "jump"],
+    &["tomex", "run"],
+    &["tomex", "run", "image", "--limit", "0"],
+    &["tomex", "run", "image", "--limit", "262145"],
+    &["tomex", "run", "image", "--size", "x"],
+    &["tomex", "run", "image", "--base", "0", "--base", "0"],
+    &["tomex", "explore", "study", "--workers", "0"],
+    &["tomex", "explore", "study", "--workers", "33"],
+    &["tomex", "explore"],
+    &["tomex", "all"],
+    &["tomex", "all", "study", "--workers", "1"],
+];
+
+#[test]
+fn lines_that_the_parser_refuses(rt: HostRuntime) -> Result<(), Fail> {
+    for words in &MISTAKEN {
+        let outcome = run_into(&rt, None, words, 10_000)?;
+        assert!(rt; outcome.status == 2 && outcome.out.is_empty() && !outcome.err.is_empty());
+    }
+    Ok(())
+}
+
+#[test]
+fn lines_that_ask_for_help(rt: HostRuntime) -> Result<(), Fail> {
+    for words in [
+        ["tomex", "--help"].as_slice(),
+        ["tomex", "run", "-h"].as_slice(),
+    ] {
+        let outcome = run_into(&rt, None, words, 10_000)?;
+        assert!(rt; outcome.status == 0 && !outcome.out.is_empty() && outcome.err.is_empty());
+    }
+    Ok(())
+}
+
+#[test]
+fn names_are_shown_on_one_line(rt: HostRuntime) -> Result<(), Fail> {
+    for (name, shown) in [
+        ("a b\\\"é", "a b\\\"é"),
+        ("a\n\r\t\0b", "a\\n\\r\\t\\0b"),
+        ("\x1b[2J\x7f", "\\u{1b}[2J\\u{7f}"),
+        ("\u{85}\u{9f}\u{a0}", "\\u{85}\\u{9f}\u{a0}"),
+    ] {
+        let told = format!(in rt.alloc(); "tomex: cannot read {shown}\n")?;
+        let words = ["tomex", "run", name];
+        comes_to(&rt, [].as_slice(), words.as_slice(), (3, "", told.as_str()))?;
+        // So does Rust show the characters that have to be escaped.
+        for letter in name.chars() {
+            if letter.is_control() {
+                let mut escaped = String::new(rt.alloc());
+                for part in letter.escape_debug() {
+                    escaped.push(part)?;
+                }
+                assert!(rt; shown.contains(escaped.as_str()), "{escaped}");
+            }
+        }
+    }
+    Ok(())
+}
+
+#[test]
+fn a_full_device(rt: HostRuntime) -> Result<(), Fail> {
+    let words = ["tomex", "run", "image"];
+    let outcome = run_into(&rt, Some(PRODUCT.as_slice()), words.as_slice(), 10)?;
+    assert!(rt; outcome.status == 3);
+    assert!(rt; outcome.out.as_slice() == b"x0=0000000".as_slice());
+    assert!(rt; outcome.err.as_slice() == b"tomex: cannot write\n".as_slice());
+    Ok(())
+}

@@ -1,0 +1,116 @@
+//! A sink and files in memory, for tests of what the program reads and writes, and a write that stops on its way.
+ghost use Rattle.std.specs.Prelude.{◌≡◌, Some, find, option_copied};
+ghost use Rattle.std.specs.Str.{bytes_eq};
+ghost use Rattle.tomex_streams.specs.Files.{told_of};
+
+use std::alloc::{AllocError, Allocator, Global};
+use std::test::Fail;
+use tomex_streams::{Files, PutFault, ReadFault, Sink, WriteFault, write_all_of};
+
+/// A sink in memory: it takes at most `step` bytes a put and `room` in all, and then fails, or takes
+/// nothing where `is_silent`.
+#[derive(Drop)]
+pub struct Narrow {
+    pub bytes: Vec<u8>,
+    pub room: usize,
+    pub step: usize,
+    pub is_silent: bool,
+    pub faults: u64,
+}
+
+impl Narrow {
+    pub fn new(alloc: Global, room: usize, step: usize) -> Narrow {
+        Narrow {
+            bytes: Vec::new(alloc),
+            room,
+            step,
+            is_silent: false,
+            faults: 0,
+        }
+    }
+}
+
+impl Sink for Narrow {
+    ghost taken = { λ sink. Some sink.bytes.items };
+
+    ghost faults = { λ sink. sink.faults };
+
+    fn put(&mut self, piece: &[u8]) -> Result<usize, PutFault> {
+        let count = piece.len().min(self.room).min(self.step);
+        let is_fault = count == 0 && !piece.is_empty();
+        if is_fault {
+            self.faults = self.faults.saturating_add(1);
+            return if self.is_silent { Ok(0) } else { Err(PutFault) };
+        }
+        if self.bytes.extend_from_slice(&piece[..count]).is_err() {
+            self.faults = self.faults.saturating_add(1);
+            return Err(PutFault);
+        }
+        self.room -= count;
+        Ok(count)
+    }
+}
+
+/// Files in memory, by their names. There are no others.
+#[derive(Clone, Copy)]
+pub struct Shelf<'a> {
+    pub files: &'a [(&'a str, &'a [u8])],
+}
+
+impl<'a> Shelf<'a> {
+    /// The name and the bytes of that file.
+    fn entry(&self, name: &str) -> Option<&(&'a str, &'a [u8])>
+        ensures { option_copied result ≡ find (λ f. bytes_eq f.0.now name.now) self.now.files.now }
+    {
+        self.files.iter().find(|entry| entry.0 == name)
+    }
+}
+
+impl<'a> Files for Shelf<'a> {
+    ghost file = { λ shelf name. told_of (find (λ f. bytes_eq f.0.now name) shelf.files.now) };
+
+    fn read<A: Allocator>(&self, alloc: A, name: &str) -> Result<Vec<u8, A>, ReadFault> {
+        match self.entry(name) {
+            Some(entry) => {
+                let mut copy = Vec::new(alloc);
+                match copy.extend_from_slice(entry.1) {
+                    Ok(()) => Ok(copy),
+                    Err(_) => Err(ReadFault::Memory),
+                }
+            }
+            None => Err(ReadFault::NoFile),
+        }
+    }
+}
+
+const TEXT: &[u8; 13] = b"0123456789abc";
+
+#[test]
+fn a_write_stops_where_the_sink_does(rt: HostRuntime) -> Result<(), Fail> {
+    let text = TEXT.as_slice();
+    for room in 0..13usize {
+        for step in [1, 4, 100] {
+            let mut sink = Narrow::new(rt.alloc(), room, step);
+            assert!(rt; write_all_of(&mut sink, text) == Err(WriteFault { written: room }));
+            assert!(rt; sink.bytes.as_slice() == &text[..room]);
+            assert!(rt; sink.faults == 1);
+        }
+    }
+    let mut sink = Narrow::new(rt.alloc(), 13, 1);
+    assert!(rt; write_all_of(&mut sink, text) == Ok(()));
+    assert!(rt; sink.bytes.as_slice() == text);
+    assert!(rt; sink.faults == 0);
+    let mut sink = Narrow::new(rt.alloc(), 0, 1);
+    sink.is_silent = true;
+    assert!(rt; write_all_of(&mut sink, text) == Err(WriteFault { written: 0 }));
+    Ok(())
+}
+
+/// The words of a line, apart at each space.
+pub fn words(alloc: Global, line: &str) -> Result<Vec<String>, AllocError> {
+    let mut words = Vec::new(alloc);
+    for word in line.split(' ') {
+        words.push(String::from_str(alloc, word)?)?;
+    }
+    Ok(words)
+}

@@ -1,0 +1,23 @@
+//! Tests of the program but for its words, files and streams: whole runs over files in memory.
+#![tactic(auto)]
+
+#[cfg(test)]
+mod commands;
+#[cfg(test)]
+mod compiled;
+#[cfg(test)]
+mod elf_images;
+#[cfg(test)]
+mod explorations;
+#[cfg(test)]
+mod in_memory;
+#[cfg(test)]
+mod lines;
+#[cfg(test)]
+mod refused_memory;
+#[cfg(test)]
+mod system;
+#[cfg(test)]
+mod tables;
+#[cfg(test)]
+mod times;

@@ -1,0 +1,129 @@
+//! The text of a run, and whole runs of the program, whose command line takes other memory, with memory refused.
+
+use crate::commands::{PRODUCT_END, outcome_of, text_of};
+use std::alloc::AllocError;
+use std::sync::Wait;
+use std::test::Fail;
+use std::thread::Threads;
+use tomex_command::{RunRefusal, run_text};
+use tomex_image::Window;
+use tomex_samples::programs::{ELF, LOOP, PRODUCT};
+use tomex_samples::studies::{
+    DROPPED, DROPPED_REPORT, PRODUCT_AFTER_3, PRODUCT_STUDY, PRODUCT_TIMES,
+};
+use tomex_samples::{Attempt, Heap, Try, refusals, refusals_of};
+use tomex_streams::NoMeter;
+
+/// Makes the text of the run.
+struct Text;
+
+impl Attempt for Text {
+    fn attempt(&self, heap: Heap) -> Result<Try, AllocError> {
+        let Some(window) = Window::new(65536, 4096) else {
+            return Ok(Try::Wrong);
+        };
+        match run_text(heap, ELF.as_slice(), window, 4) {
+            Ok(text) if text.ends_with(b"ebreak at 0001000c after 4\n".as_slice()) => Ok(
+                Try::Answered,
+            ),
+            Err(RunRefusal::Memory) => Ok(Try::Refused),
+            _ => Ok(Try::Wrong),
+        }
+    }
+}
+
+#[test]
+fn of_the_text_of_a_run(rt: HostRuntime) -> Result<(), Fail> {
+    // A text grows several times, how often is the library's affair.
+    assert!(rt; matches!(refusals(rt.alloc(), &Text)?, Some(granted) if granted > 2));
+    Ok(())
+}
+
+/// Runs the program on a command line over files in memory, which is to print this.
+fn command_in<R: AllocGlobal + Threads + Wait + Sync>(
+    rt: &R,
+    heap: Heap,
+    words: &[&str],
+    files: &[(&str, &[u8])],
+    output: &str,
+) -> Result<Try, AllocError> {
+    let outcome = outcome_of(rt, heap, files, words, &NoMeter, 10_000)?;
+    let told = outcome.err.as_slice() == b"tomex: out of memory\n".as_slice();
+    match outcome.status {
+        0 => Ok(Try::right_if(outcome.out.as_slice() == output.as_bytes())),
+        3 if told && outcome.out.is_empty() => Ok(Try::Refused),
+        _ => Ok(Try::Wrong),
+    }
+}
+
+/// How many blocks the program has to be granted before it answers, by no try wrong.
+fn granted<R: AllocGlobal + Threads + Wait + Sync>(
+    rt: &R,
+    words: &[&str],
+    files: &[(&str, &[u8])],
+    output: &str,
+) -> Result<Option<u64>, AllocError> {
+    Ok(refusals_of!(rt.alloc(), heap => command_in(rt, heap, words, files, output)?))
+}
+
+#[test]
+fn of_each_command(rt: HostRuntime) -> Result<(), Fail> {
+    let ended = text_of(
+        rt.alloc(),
+        PRODUCT_END.as_slice(),
+        "ebreak at 0001000c after 4",
+    )?;
+    let image = [("image", ELF.as_slice())];
+    let product = [
+        ("study", PRODUCT_STUDY.as_bytes()),
+        ("mul.bin", PRODUCT.as_slice()),
+    ];
+    let dropped = [("study", DROPPED.as_bytes()), ("loop.bin", LOOP.as_slice())];
+    let (image, product, dropped) = (image.as_slice(), product.as_slice(), dropped.as_slice());
+    for (words, files, output, least) in [
+        // The file's bytes, the window's, those that the run changes, and the text.
+        (
+            ["tomex", "run", "image", "--base", "65536"].as_slice(),
+            image,
+            ended.as_str(),
+            4,
+        ),
+        // The study's bytes and its file's, names, the program, rows, costs, steps, times and the text.
+        (
+            ["tomex", "times", "study", "1", "mul"].as_slice(),
+            product,
+            PRODUCT_TIMES,
+            11,
+        ),
+        // All that but steps and times; the machine's memory and the text.
+        (
+            ["tomex", "tables", "study", "0", "mul", "3"].as_slice(),
+            product,
+            PRODUCT_AFTER_3,
+            11,
+        ),
+        // All that but steps and times; marks, machines, the front and its ends.
+        (
+            ["tomex", "all", "study"].as_slice(),
+            dropped,
+            DROPPED_REPORT,
+            16,
+        ),
+        (
+            ["tomex", "explore", "study"].as_slice(),
+            dropped,
+            DROPPED_REPORT,
+            16,
+        ),
+        (
+            ["tomex", "explore", "study", "--workers", "2"].as_slice(),
+            dropped,
+            DROPPED_REPORT,
+            16,
+        ),
+    ] {
+        let granted = granted(&rt, words, files, output)?;
+        assert!(rt; matches!(granted, Some(granted) if granted >= least));
+    }
+    Ok(())
+}

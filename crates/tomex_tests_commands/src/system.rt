@@ -1,0 +1,90 @@
+//! What no contract says of the system's files and of its standard error.
+
+use std::fs::File;
+use std::io;
+use std::io::{IsTerminal, Read};
+use std::sync::atomic::{AtomicU64, Ordering};
+use std::test::Fail;
+use std::time::{Clock, Duration};
+use tomex_samples::heap_of;
+use tomex_streams::{Files, HostFiles, Meter, ReadFault, TerminalMeter, bytes_within};
+
+const TEXT: &[u8; 13] = b"0123456789abc";
+
+#[test]
+fn files_of_the_system_are_read(rt: HostRuntime) -> Result<(), Fail> {
+    let files = HostFiles::new(&rt);
+    assert!(rt; files.read(rt.alloc(), "no such file").err() == Some(ReadFault::NoFile));
+    assert!(rt; files.read(rt.alloc(), "/").err() == Some(ReadFault::NoFile));
+    assert!(rt; files.read(rt.alloc(), "/dev/null")?.as_slice() == b"".as_slice());
+    // A device without an end is refused once it has given more than a file may have.
+    let zeros = File::open(&rt, "/dev/zero")?;
+    assert!(rt; bytes_within(rt.alloc(), zeros, 10).err() == Some(ReadFault::NoFile));
+    assert!(rt; bytes_within(rt.alloc(), TEXT.as_slice(), 13)?.as_slice() == TEXT.as_slice());
+    assert!(rt; bytes_within(rt.alloc(), TEXT.as_slice(), 12).err() == Some(ReadFault::NoFile));
+    let refused = heap_of(rt.alloc(), 0)?;
+    assert!(rt; files.read(refused, "/proc/self/cmdline").err() == Some(ReadFault::Memory));
+    Ok(())
+}
+
+/// The most bytes of a file that is read.
+const MOST: u32 = 268_435_456;
+
+#[test]
+fn long_files_are_read(rt: HostRuntime) -> Result<(), Fail> {
+    // The program that runs this test, which is longer than most studies.
+    let name = "/proc/self/exe";
+    let read = HostFiles::new(&rt).read(rt.alloc(), name)?;
+    let mut wanted = Vec::new(rt.alloc());
+    File::open(&rt, name)?.read_to_end(&mut wanted)?;
+    assert!(rt; read.len() > 100_000);
+    assert!(rt; read.as_slice() == wanted.as_slice());
+    let zeros = File::open(&rt, "/dev/zero")?.take(u64::from(MOST));
+    assert!(rt; bytes_within(rt.alloc(), zeros, MOST)?.len() == MOST as usize);
+    Ok(())
+}
+
+/// A clock that goes on by a second at each look.
+#[derive(Drop)]
+struct Leaping {
+    seconds: AtomicU64,
+}
+
+impl Clock for Leaping {
+    fn monotonic(&self) -> io::Result<Duration> {
+        Ok(Duration::from_secs(self.seconds.fetch_add(1, Ordering::SeqCst)))
+    }
+
+    fn since_1970(&self) -> io::Result<Duration> {
+        self.monotonic()
+    }
+}
+
+/// The line of the system's that counts the bytes which this process has written so far, an empty one where the
+/// system doesn't count them.
+fn written<R: AllocGlobal + std::rt::Files>(rt: &R) -> Result<String, Fail> {
+    let counts = match HostFiles::new(rt).read(rt.alloc(), "/proc/self/io") {
+        Ok(bytes) => String::from_utf8(bytes).map_err(|_| "no text")?,
+        Err(_) => String::new(rt.alloc()),
+    };
+    let count = counts.lines().find(|line| line.starts_with("wchar: "));
+    Ok(String::from_str(rt.alloc(), count.unwrap_or(""))?)
+}
+
+/// Tests run with a pipe for standard error, to which the meter writes nothing.
+#[test]
+fn a_pipe_gets_no_line(rt: HostRuntime) -> Result<(), Fail> {
+    if rt.stderr().is_terminal() {
+        return Ok(());
+    }
+    let clock = Leaping {
+        seconds: AtomicU64::new(0),
+    };
+    let meter = TerminalMeter::new(&clock, rt.stderr());
+    let before = written(&rt)?;
+    meter.show(1, 2);
+    meter.clear();
+    let after = written(&rt)?;
+    assert!(rt; before.as_str() == after.as_str());
+    Ok(())
+}

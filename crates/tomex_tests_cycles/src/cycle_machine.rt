@@ -1,0 +1,368 @@
+//! Runs of the machine, beside worked examples, the in-order run and the recurrence.
+
+use std::alloc::Allocator;
+use std::test::Fail;
+use tomex_config::{Config, UnitOption};
+use tomex_cycle::{Busy, Field, Machine, Progress, Tables, Tag};
+use tomex_image::Image;
+use tomex_rvdec::{PoolId, decode};
+use tomex_rvexec::End;
+use tomex_samples::image_of;
+
+mod faults;
+mod random;
+
+fn unit(units: u8, latency: u8) -> UnitOption {
+    UnitOption {
+        units,
+        latency,
+        price: 0,
+    }
+}
+
+/// The image of a program at address 0.
+fn image_at_0(rt: &HostRuntime, words: &[u32]) -> Result<Image, Fail> {
+    image_of(rt.alloc(), 0, 65536, words)
+}
+
+fn holds(ok: bool, what: &'static str) -> Result<(), Fail> {
+    if ok { Ok(()) } else { Err(what.into()) }
+}
+
+/// A row of one unit a kind but for the alu units, of latency 1 but for mul and mem.
+fn row_of(stations: [u8; 6], alu: u8, mul: u8, mem: u8, buses: u8) -> Result<Config, Fail> {
+    let units = [
+        unit(alu, 1),
+        unit(1, mul),
+        unit(1, 1),
+        unit(1, mem),
+        unit(1, 1),
+    ];
+    Ok(Config::new(stations, units, buses).ok_or("no row")?)
+}
+
+fn tick<A: Allocator>(machine: &mut Machine<A>) -> Progress {
+    if machine.cycle() < 1000000000 {
+        machine.tick()
+    } else {
+        Progress::Running
+    }
+}
+
+fn cycle_of<A: Allocator>(machine: &Machine<A>) -> u64 {
+    machine.cycle()
+}
+
+/// Whether the next tick answers that the run goes on, and brings the machine to this cycle.
+fn runs_on<A: Allocator>(machine: &mut Machine<A>, cycle: u32) -> bool {
+    matches!(tick(machine), Progress::Running) && cycle_of(machine) == u64::from(cycle)
+}
+
+/// Whether the next tick answers that the run ended, and leaves the machine at this cycle.
+fn ends_at<A: Allocator>(machine: &mut Machine<A>, cycle: u32) -> bool {
+    matches!(tick(machine), Progress::Ended) && cycle_of(machine) == u64::from(cycle)
+}
+
+/// Makes cycle after cycle up to `total`, which is the first whose tick answers that the run ended.
+fn run_to<A: Allocator>(machine: &mut Machine<A>, total: u32) -> Result<(), Fail> {
+    for cycle in 1..total {
+        holds(runs_on(machine, cycle), "not running, or at another cycle")?;
+    }
+    let first = ends_at(machine, total);
+    holds(first && ends_at(machine, total), "not ended at the total")
+}
+
+fn has_ended<A: Allocator>(machine: &Machine<A>) -> bool {
+    machine.ended()
+}
+
+fn end_of<A: Allocator>(machine: Machine<A>) -> Result<End<A>, Fail> {
+    if machine.ended() {
+        Ok(machine.finish())
+    } else {
+        Err("not ended".into())
+    }
+}
+
+/// `addi x1,x0,5; addi x2,x0,7; mul x3,x1,x2; ebreak`
+const PRODUCT: [u32; 4] = [0x00500093, 0x00700113, 0x022081b3, 0x00100073];
+
+/// `mul x3,x0,x0; addi x4,x0,1; ebreak`
+const ONE_BUS: [u32; 3] = [0x020001b3, 0x00100213, 0x00100073];
+
+/// `mul x3,x0,x0; addi x4,x3,0; addi x5,x3,0; ebreak`
+const ONE_UNIT: [u32; 4] = [0x020001b3, 0x00018213, 0x00018293, 0x00100073];
+
+/// `mul x5,x1,x2; addi x5,x0,1; ebreak`
+const WRITTEN_TWICE: [u32; 3] = [0x022082b3, 0x00100293, 0x00100073];
+
+/// `addi x8,x0,256; addi x1,x0,768; sw x1,0(x8); lb x2,1(x8); ebreak`
+const STORED: [u32; 5] = [0x10000413, 0x30000093, 0x00142023, 0x00140103, 0x00100073];
+
+/// The same with `lb x2,4(x8)`.
+const ASIDE: [u32; 5] = [0x10000413, 0x30000093, 0x00142023, 0x00440103, 0x00100073];
+
+/// `addi x5,x0,4; mul x6,x5,x5; jalr x0,0(x6); ebreak; ebreak`
+const INDIRECT: [u32; 5] = [0x00400293, 0x02528333, 0x00030067, 0x00100073, 0x00100073];
+
+/// The same with `jal x0,8`.
+const DIRECT: [u32; 5] = [0x00400293, 0x02528333, 0x0080006f, 0x00100073, 0x00100073];
+
+/// `addi x8,x0,256; lb x1,0(x8); lb x2,0(x8); ebreak`
+const TWO_LOADS: [u32; 4] = [0x10000413, 0x00040083, 0x00040103, 0x00100073];
+
+/// `addi x0,x0,0; ebreak`
+const NOTHING: [u32; 2] = [0x00000013, 0x00100073];
+
+/// `addi x1,x0,499; addi x1,x1,-1; bne x1,x0,-4; ebreak`
+const LOOP: [u32; 4] = [0x1f300093, 0xfff08093, 0xfe009ee3, 0x00100073];
+
+/// `ebreak`
+const EBREAK: [u32; 1] = [0x00100073];
+
+/// `mul x3,x0,x0; addi x4,x3,0; ebreak`
+const WAITED_FOR: [u32; 3] = [0x020001b3, 0x00018213, 0x00100073];
+
+/// One station a pool, but for two of alu.
+const TWO_ALU: [u8; 6] = [2, 1, 1, 1, 1, 1];
+
+/// Ticks and one leap come to the total, and the run to this pc and register.
+fn comes_to(
+    rt: &HostRuntime,
+    words: &[u32],
+    row: &Config,
+    total: u32,
+    pc: u32,
+    register: usize,
+    value: u32,
+) -> Result<(), Fail> {
+    let image = image_at_0(rt, words)?;
+    let mut leaping = Machine::new(rt.alloc(), &image, row)?;
+    let answer = leaping.advance(u64::from(total) + 9);
+    holds(matches!(answer, Progress::Ended), "a leap doesn't end")?;
+    holds(
+        leaping.cycle() == u64::from(total),
+        "a leap to another cycle",
+    )?;
+    let mut machine = Machine::new(rt.alloc(), &image, row)?;
+    run_to(&mut machine, total)?;
+    let end = end_of(machine)?;
+    holds(end.pc == pc, "another pc")?;
+    holds(
+        end.regs.get(register).copied() == Some(value),
+        "another value",
+    )
+}
+
+#[test]
+fn worked_runs(rt: HostRuntime) -> Result<(), Fail> {
+    // stations, alu units, latencies of mul and mem, buses; total, last pc, a register's value
+    for (words, stations, [alu, mul, mem, buses], total, pc, register, value) in [
+        (PRODUCT.as_slice(), TWO_ALU, [1, 3, 1, 1], 8, 12, 3, 0x23),
+        (PRODUCT.as_slice(), [1; 6], [1, 3, 1, 1], 10, 12, 3, 0x23),
+        (ONE_BUS.as_slice(), [1; 6], [1, 2, 1, 1], 5, 8, 4, 1),
+        (ONE_BUS.as_slice(), [1; 6], [1, 2, 1, 2], 4, 8, 4, 1),
+        (ONE_UNIT.as_slice(), TWO_ALU, [1, 3, 1, 2], 8, 12, 5, 0),
+        (ONE_UNIT.as_slice(), TWO_ALU, [2, 3, 1, 2], 7, 12, 5, 0),
+        (WRITTEN_TWICE.as_slice(), [1; 6], [1, 10, 1, 1], 12, 8, 5, 1),
+        (STORED.as_slice(), TWO_ALU, [1, 1, 2, 1], 9, 16, 2, 3),
+        (ASIDE.as_slice(), TWO_ALU, [1, 1, 2, 1], 8, 16, 2, 0),
+        (INDIRECT.as_slice(), TWO_ALU, [1, 3, 1, 1], 9, 16, 6, 16),
+        (DIRECT.as_slice(), TWO_ALU, [1, 3, 1, 1], 7, 16, 6, 16),
+        (
+            TWO_LOADS.as_slice(),
+            [1, 1, 1, 2, 1, 1],
+            [1, 1, 2, 1],
+            8,
+            12,
+            8,
+            256,
+        ),
+        (TWO_LOADS.as_slice(), [1; 6], [1, 1, 2, 1], 12, 12, 8, 256),
+        (NOTHING.as_slice(), [1; 6], [1, 1, 1, 1], 2, 4, 0, 0),
+        (EBREAK.as_slice(), [1; 6], [1, 1, 1, 1], 1, 0, 2, 65536),
+        (LOOP.as_slice(), [1; 6], [1, 1, 1, 1], 2000, 12, 1, 0),
+        (WAITED_FOR.as_slice(), [1; 6], [1, 64, 1, 1], 68, 8, 4, 0),
+    ] {
+        let row = row_of(stations, alu, mul, mem, buses)?;
+        comes_to(&rt, words, &row, total, pc, register, value)?;
+    }
+    Ok(())
+}
+
+/// Of the 68 cycles of a run with a long multiplication few are made.
+#[test]
+fn a_long_wait_is_skipped(rt: HostRuntime) -> Result<(), Fail> {
+    let image = image_at_0(&rt, WAITED_FOR.as_slice())?;
+    let row = row_of([1; 6], 1, 64, 1, 1)?;
+    let mut machine = Machine::new(rt.alloc(), &image, &row)?;
+    assert_eq!(rt; machine.worked(), 0);
+    assert!(rt; matches!(machine.advance(1000), Progress::Ended));
+    assert_eq!(rt; machine.cycle(), 68);
+    holds(
+        7 <= machine.worked() && machine.worked() <= 25,
+        "too few or too many cycles were made",
+    )
+}
+
+fn tag(pool: PoolId, number: u8) -> Tag {
+    Tag { pool, number }
+}
+
+/// The tables show these stations, in this order, and these registers with a Qi.
+fn show(
+    tables: &Tables,
+    stations: &[(Tag, u32, Field, Field, Option<u32>)],
+    status: &[(usize, Tag)],
+) -> Result<(), Fail> {
+    let mut wanted = stations.iter();
+    for busy in tables.busy().iter().flatten() {
+        let (tag, word, j, k, a) = *wanted.next().ok_or("a station too many")?;
+        let instr = decode(word).ok_or("no instruction")?;
+        holds(
+            *busy
+                == Busy {
+                    tag,
+                    instr,
+                    j,
+                    k,
+                    a,
+                },
+            "another station",
+        )?;
+    }
+    holds(wanted.next().is_none(), "a station too few")?;
+    let mut qi = [None; 32];
+    for (register, tag) in status {
+        if let Some(place) = qi.get_mut(*register) {
+            *place = Some(*tag);
+        }
+    }
+    holds(*tables.registers() == qi, "another register status")
+}
+
+/// The tables of a program after a cycle.
+fn tables_after(rt: &HostRuntime, words: &[u32], row: &Config, cycle: u32) -> Result<Tables, Fail> {
+    let image = image_at_0(rt, words)?;
+    let mut machine = Machine::new(rt.alloc(), &image, row)?;
+    for _ in 0..cycle {
+        tick(&mut machine);
+    }
+    let tables = machine.tables();
+    holds(
+        tables.cycle() == u64::from(cycle),
+        "tables of another cycle",
+    )?;
+    Ok(tables)
+}
+
+/// What the tables of a program show after a cycle.
+#[derive(Clone, Copy)]
+struct Shown<'a> {
+    words: &'a [u32],
+    pools: [u8; 6],
+    mul: u8,
+    mem: u8,
+    cycle: u32,
+    stations: &'a [(Tag, u32, Field, Field, Option<u32>)],
+    status: &'a [(usize, Tag)],
+}
+
+#[test]
+fn worked_tables(rt: HostRuntime) -> Result<(), Fail> {
+    use Field::{Unread, Value, Waits};
+    let alu = [tag(PoolId::Alu, 0), tag(PoolId::Alu, 1)];
+    let mul = tag(PoolId::Mul, 0);
+    let (load, store) = (tag(PoolId::Load, 0), tag(PoolId::Store, 0));
+    let slow = (mul, WRITTEN_TWICE[0], Value(0), Value(65536), None);
+    for case in [
+        Shown {
+            words: &PRODUCT,
+            pools: TWO_ALU,
+            mul: 3,
+            mem: 1,
+            cycle: 3,
+            stations: &[
+                (alu[1], PRODUCT[1], Value(0), Unread, None),
+                (mul, PRODUCT[2], Value(5), Waits(alu[1]), None),
+            ],
+            status: &[(2, alu[1]), (3, mul)],
+        },
+        Shown {
+            words: &PRODUCT,
+            pools: TWO_ALU,
+            mul: 3,
+            mem: 1,
+            cycle: 8,
+            stations: &[],
+            status: &[],
+        },
+        Shown {
+            words: &WRITTEN_TWICE,
+            pools: [1; 6],
+            mul: 10,
+            mem: 1,
+            cycle: 3,
+            stations: &[(alu[0], WRITTEN_TWICE[1], Value(0), Unread, None), slow],
+            status: &[(5, alu[0])],
+        },
+        Shown {
+            words: &WRITTEN_TWICE,
+            pools: [1; 6],
+            mul: 10,
+            mem: 1,
+            cycle: 4,
+            stations: &[slow],
+            status: &[],
+        },
+        Shown {
+            words: &STORED,
+            pools: TWO_ALU,
+            mul: 1,
+            mem: 2,
+            cycle: 5,
+            stations: &[
+                (load, STORED[3], Value(256), Unread, Some(257)),
+                (store, STORED[2], Value(256), Value(768), Some(256)),
+            ],
+            status: &[(2, load)],
+        },
+        Shown {
+            words: &INDIRECT,
+            pools: TWO_ALU,
+            mul: 3,
+            mem: 1,
+            cycle: 3,
+            stations: &[
+                (mul, INDIRECT[1], Value(4), Value(4), None),
+                (tag(PoolId::Bru, 0), INDIRECT[2], Waits(mul), Unread, None),
+            ],
+            status: &[(6, mul)],
+        },
+    ] {
+        let row = row_of(case.pools, 1, case.mul, case.mem, 1)?;
+        let tables = tables_after(&rt, case.words, &row, case.cycle)?;
+        show(&tables, case.stations, case.status)?;
+    }
+    Ok(())
+}
+
+/// A machine that knows a run before it makes it can't have this one: `jal x0,0` has no end.
+#[test]
+fn a_jump_to_itself_runs_on(rt: HostRuntime) -> Result<(), Fail> {
+    let image = image_at_0(&rt, [0x0000006f].as_slice())?;
+    let mut machine = Machine::new(rt.alloc(), &image, &row_of([1; 6], 1, 1, 1, 1)?)?;
+    for _ in 0..1000001 {
+        assert!(rt; matches!(tick(&mut machine), Progress::Running));
+    }
+    let tables = machine.tables();
+    assert_eq!(rt; tables.cycle(), 1000001);
+    let jump = (
+        tag(PoolId::Alu, 0),
+        0x0000006f,
+        Field::Unread,
+        Field::Unread,
+        None,
+    );
+    show(&tables, &[jump], &[])
+}

@@ -1,0 +1,51 @@
+//! Machines of programs that fault.
+
+use super::{cycle_of, holds, image_at_0, row_of, tick};
+use std::alloc::Allocator;
+use std::test::Fail;
+use tomex_cycle::{Machine, Progress};
+use tomex_rvexec::{Fault, FaultKind, RunError, run};
+
+/// Programs, each with the kind and the place of its fault.
+static FAULTY: [(&[u32], FaultKind, u32); 3] = [
+    // addi x1,x0,5, and a word that is no instruction
+    (&[0x00500093, 0], FaultKind::Illegal, 4),
+    // lui x1,16; jalr x0,0(x1)
+    (&[0x000100b7, 0x00008067], FaultKind::Fetch, 65536),
+    // lw x1,-4(x0)
+    (&[0xffc02083, 0x00100073], FaultKind::Access, 0),
+];
+
+/// Whether the next tick answers this fault.
+fn faults<A: Allocator>(machine: &mut Machine<A>, wanted: Fault) -> bool {
+    matches!(tick(machine), Progress::Faulted(fault) if fault == wanted)
+}
+
+/// The machine goes on up to this fault, and then stays where it is.
+fn comes_to<A: Allocator>(machine: &mut Machine<A>, wanted: Fault) -> Result<(), Fail> {
+    for _ in 0..10 {
+        if faults(machine, wanted) {
+            let cycle = cycle_of(machine);
+            holds(faults(machine, wanted), "another answer after a fault")?;
+            return holds(cycle_of(machine) == cycle, "another cycle after a fault");
+        }
+    }
+    Err("no such fault".into())
+}
+
+/// The machine answers the fault of the in-order run.
+#[test]
+fn of_each_kind(rt: HostRuntime) -> Result<(), Fail> {
+    let row = row_of([1; 6], 1, 1, 1, 1)?;
+    for (words, kind, pc) in &FAULTY {
+        let image = image_at_0(&rt, words)?;
+        let wanted = Fault {
+            kind: *kind,
+            pc: *pc,
+        };
+        let ran = run(rt.alloc(), &image, 10);
+        assert!(rt; matches!(ran, Err(RunError::Fault(fault)) if fault == wanted));
+        comes_to(&mut Machine::new(rt.alloc(), &image, &row)?, wanted)?;
+    }
+    Ok(())
+}

@@ -1,0 +1,16 @@
+//! Tests of instructions, images and the in-order machine. They say what no contract does, compare with results
+//! that were made by other means, and refuse each growth of each call in turn.
+#![tactic(auto)]
+
+#[cfg(test)]
+mod arithmetic;
+#[cfg(test)]
+mod broken_images;
+#[cfg(test)]
+mod images;
+#[cfg(test)]
+mod instructions;
+#[cfg(test)]
+mod machines;
+#[cfg(test)]
+mod refused_memory;

@@ -1,0 +1,216 @@
+//! The in-order machine on small programs, and its steps on a memory alone.
+
+use std::test::Fail;
+use tomex_image::{Window, load};
+use tomex_rvdec::decode;
+use tomex_rvexec::{
+    ByteRange, Cpu, EndKind, Fault, FaultKind, Fetcher, Memory, RunError, Step, Stepped,
+    instruction_at, next_pc, result, run, store, trace,
+};
+use tomex_samples::image_of;
+
+/// `addi x1,x0,5; addi x2,x0,7; mul x3,x1,x2; ebreak`
+const PRODUCT: [u32; 4] = [0x00500093, 0x00700113, 0x022081b3, 0x00100073];
+
+#[test]
+fn steps_to_the_end_and_stays_there(rt: HostRuntime) -> Result<(), Fail> {
+    let image = image_of(rt.alloc(), 0, 4096, PRODUCT.as_slice())?;
+    let mut cpu = Cpu::new(rt.alloc(), &image)?;
+    let ended = Stepped::Ended(EndKind::Ebreak);
+    for wanted in [Stepped::Next, Stepped::Next, Stepped::Next, ended, ended] {
+        assert!(rt; cpu.step() == Ok(wanted));
+    }
+    assert!(rt; cpu.pc() == 12);
+    Ok(())
+}
+
+/// A jump over the word 80c0ff80 at 4, and each load of it and of parts of it: `lb x1,4(x0);
+/// lb x2,6(x0); lbu x3,4(x0); lh x4,5(x0); lhu x5,5(x0); lh x6,6(x0); lw x7,4(x0); ebreak`
+const LOADS: [u32; 10] = [
+    0x0080006f, 0x80c0ff80, 0x00400083, 0x00600103, 0x00404183, 0x00501203, 0x00505283, 0x00601303,
+    0x00402383, 0x00100073,
+];
+
+/// What those loads leave in x1 to x7.
+const LOADED: [u32; 7] = [
+    0xffff_ff80,
+    0xffff_ffc0,
+    0x0000_0080,
+    0xffff_c0ff,
+    0x0000_c0ff,
+    0xffff_80c0,
+    0x80c0_ff80,
+];
+
+#[test]
+fn runs_within_the_limit(rt: HostRuntime) -> Result<(), Fail> {
+    for (words, steps, wanted) in [
+        (PRODUCT.as_slice(), 4, [5, 7, 35].as_slice()),
+        (LOADS.as_slice(), 9, LOADED.as_slice()),
+    ] {
+        let image = image_of(rt.alloc(), 0, 4096, words)?;
+        let end = run(rt.alloc(), &image, steps).map_err(|_| "no end")?;
+        assert!(rt; &end.regs.as_slice()[1..=wanted.len()] == wanted);
+        assert!(rt; end.steps == steps);
+        assert!(rt; matches!(run(rt.alloc(), &image, steps - 1), Err(RunError::TooLong)));
+    }
+    Ok(())
+}
+
+/// `addi x1,x1,1; jal x0,4092`
+const NEAR: [u32; 2] = [0x00108093, 0x7fd0006f];
+
+/// At 4096: `addi x4,x4,2; addi x3,x0,6; beq x4,x3,8; jal x0,-4108; ebreak`
+const FAR: [u32; 5] = [0x00220213, 0x00600193, 0x00320463, 0xff5fe06f, 0x00100073];
+
+#[test]
+fn instructions_that_share_a_line_of_the_cache(rt: HostRuntime) -> Result<(), Fail> {
+    let mut bytes = Vec::new(rt.alloc());
+    for word in NEAR {
+        bytes.extend_from_slice(&word.to_le_bytes())?;
+    }
+    bytes.resize(4096, 0)?;
+    for word in FAR {
+        bytes.extend_from_slice(&word.to_le_bytes())?;
+    }
+    let window = Window::new(0, 8192).ok_or("no window")?;
+    let image = load(rt.alloc(), bytes.as_slice(), window)?;
+    // Three rounds, in which each half's first two instructions put out the other's.
+    let end = run(rt.alloc(), &image, 18).map_err(|_| "no end")?;
+    assert!(rt; end.regs[1] == 3);
+    assert!(rt; end.regs[4] == 6);
+    assert!(rt; end.pc == 4112);
+    assert!(rt; end.steps == 18);
+    Ok(())
+}
+
+#[test]
+fn accesses_across_the_edges(rt: HostRuntime) -> Result<(), Fail> {
+    for (word, is_inside) in [
+        // lw x1,-2(x0) and lw x0,-2(x0) have bytes past the top, which don't wrap to 0.
+        (0xffe02083, false),
+        (0xffe02003, false),
+        // lw x1,-4(x0), lh x1,-2(x0) and lb x1,-1(x0) end at the top.
+        (0xffc02083, true),
+        (0xffe01083, true),
+        (0xfff00083, true),
+        // lh x1,-1(x0) and sh x0,-1(x0) don't; nor does sb x0,0(x0), which is far below the window.
+        (0xfff01083, false),
+        (0xfe001fa3, false),
+        (0x00000023, false),
+    ] {
+        let image = image_of(rt.alloc(), 0xffff_f000, 4096, [word, 0x00100073].as_slice())?;
+        let ran = run(rt.alloc(), &image, 2);
+        let outside = Fault {
+            kind: FaultKind::Access,
+            pc: 0xffff_f000,
+        };
+        if is_inside {
+            assert!(rt; ran.is_ok(), "{word:08x}");
+        } else {
+            assert!(rt;
+                matches!(ran, Err(RunError::Fault(fault)) if fault == outside),
+                "{word:08x}"
+            );
+        }
+    }
+    Ok(())
+}
+
+/// `addi x8,x0,256; addi x1,x0,768; sw x1,0(x8); lb x2,1(x8); ebreak`
+const STORE_THEN_LOAD: [u32; 5] = [0x10000413, 0x30000093, 0x00142023, 0x00140103, 0x00100073];
+
+#[test]
+fn traces_accesses(rt: HostRuntime) -> Result<(), Fail> {
+    let image = image_of(rt.alloc(), 0, 4096, STORE_THEN_LOAD.as_slice())?;
+    let steps = trace(rt.alloc(), &image, 5).map_err(|_| "no trace")?;
+    let stored = ByteRange {
+        from: 0x100,
+        to: 0x104,
+    };
+    let loaded = ByteRange {
+        from: 0x101,
+        to: 0x102,
+    };
+    assert!(rt; steps.len() == 5);
+    for (place, bytes, dest) in [
+        (1, None, Some(1)),
+        (2, Some(stored), None),
+        (3, Some(loaded), Some(2)),
+        (4, None, None),
+    ] {
+        assert!(rt; steps[place].bytes() == bytes);
+        assert!(rt; steps[place].dest() == dest);
+    }
+    assert!(rt; matches!(trace(rt.alloc(), &image, 4), Err(RunError::TooLong)));
+    Ok(())
+}
+
+/// The step of a word at 8, with these values of its sources.
+fn step_of(word: u32, vj: u32, vk: u32) -> Result<Step, Fail> {
+    Ok(Step {
+        instr: decode(word).ok_or("no instruction")?,
+        pc: 8,
+        vj,
+        vk,
+    })
+}
+
+#[test]
+fn steps_on_a_memory_alone(rt: HostRuntime) -> Result<(), Fail> {
+    let mut bytes = Vec::new(rt.alloc());
+    bytes.resize(16, 0)?;
+    let mut memory = Memory::new(0x100, bytes);
+    // sh x2,2(x1): within, and with its second byte past the end, where it writes none.
+    for base in [0x100, 0x10d] {
+        store(&step_of(0x0020_9123, base, 0x1234_80ff)?, &mut memory);
+    }
+    for (word, vj, wanted) in [
+        // lw x3,0(x1)
+        (0x0000_a183, 0x100, Some(0x80ff_0000)),
+        (0x0000_a183, 0x10c, Some(0)),
+        (0x0000_a183, 0x10d, None),
+        // jalr x1,1(x2)
+        (0x0011_00e7, 0x201, Some(12)),
+    ] {
+        assert!(rt; result(&step_of(word, vj, 0)?, &memory) == wanted);
+    }
+    for (word, vj, vk, wanted) in [
+        (0x0011_00e7, 0x201, 0, 0x202),
+        // beq x1,x2,-8
+        (0xfe20_8ce3, 5, 5, 0),
+        (0xfe20_8ce3, 5, 6, 12),
+    ] {
+        assert!(rt; next_pc(&step_of(word, vj, vk)?) == wanted);
+    }
+    Ok(())
+}
+
+#[test]
+fn fetches_an_instruction_twice(rt: HostRuntime) -> Result<(), Fail> {
+    let image = image_of(rt.alloc(), 0, 4096, PRODUCT.as_slice())?;
+    let mut fetcher = Fetcher::new(&image);
+    let product = decode(0x0220_81b3).ok_or(FaultKind::Illegal);
+    for _ in 0..2 {
+        assert!(rt; fetcher.fetch(8) == product);
+        assert!(rt; fetcher.fetch(16) == Err(FaultKind::Illegal));
+        assert!(rt; fetcher.fetch(4096) == Err(FaultKind::Fetch));
+    }
+    assert!(rt; instruction_at(&image, 8) == product);
+    Ok(())
+}
+
+#[test]
+fn faults_say_what_and_where(rt: HostRuntime) -> Result<(), Fail> {
+    let kinds = [
+        (FaultKind::Fetch, "fetch at 0000000c"),
+        (FaultKind::Illegal, "illegal at 0000000c"),
+        (FaultKind::MisalignedTarget, "misaligned target at 0000000c"),
+        (FaultKind::Access, "access at 0000000c"),
+    ];
+    for (kind, text) in kinds {
+        let shown = format!(in rt.alloc(); "{}", Fault { kind, pc: 12 })?;
+        assert!(rt; shown.as_str() == text);
+    }
+    Ok(())
+}

@@ -1,0 +1,111 @@
+//! Images, machines, runs and traces, with memory refused.
+
+use std::alloc::AllocError;
+use std::test::Fail;
+use tomex_image::{Image, ImageError, Window, load};
+use tomex_rvexec::{Cpu, EndKind, RunError, Stepped, run, trace};
+use tomex_samples::programs::ELF;
+use tomex_samples::{Attempt, Heap, Try, refusals};
+
+/// The image of these bytes in a window of 4096 from a base, or how its loading came out.
+fn image_of(heap: Heap, bytes: &[u8], base: u32) -> Result<Image<Heap>, Try> {
+    match Window::new(base, 4096) {
+        Some(window) => match load(heap, bytes, window) {
+            Ok(image) => Ok(image),
+            Err(ImageError::Memory) => Err(Try::Refused),
+            Err(_) => Err(Try::Wrong),
+        },
+        None => Err(Try::Wrong),
+    }
+}
+
+/// The product's image.
+fn image_in(heap: Heap) -> Result<Image<Heap>, Try> {
+    image_of(heap, ELF.as_slice(), 65536)
+}
+
+/// Loads the image.
+struct Load;
+
+impl Attempt for Load {
+    fn attempt(&self, heap: Heap) -> Result<Try, AllocError> {
+        match image_in(heap) {
+            Ok(image) => Ok(Try::right_if(image.entry() == 65536 && image.memory().len() == 4096)),
+            Err(outcome) => Ok(outcome),
+        }
+    }
+}
+
+/// `addi x1,x0,-2; sw x1,64(x0); sh x1,66(x0); sb x1,67(x0); ebreak`
+const STORES: [u8; 20] = [
+    0x93, 0x00, 0xe0, 0xff, 0x23, 0x20, 0x10, 0x04, 0x23, 0x11, 0x10, 0x04, 0xa3, 0x01, 0x10, 0x04,
+    0x73, 0x00, 0x10, 0x00,
+];
+
+/// Makes a machine of a program that stores, and steps it to its end.
+struct Step;
+
+impl Attempt for Step {
+    fn attempt(&self, heap: Heap) -> Result<Try, AllocError> {
+        let image = match image_of(heap.clone()?, STORES.as_slice(), 0) {
+            Ok(image) => image,
+            Err(outcome) => return Ok(outcome),
+        };
+        let mut cpu = match Cpu::new(heap, &image) {
+            Ok(cpu) => cpu,
+            Err(_) => return Ok(Try::Refused),
+        };
+        for _ in 0..4 {
+            if cpu.step() != Ok(Stepped::Next) {
+                return Ok(Try::Wrong);
+            }
+        }
+        Ok(Try::right_if(cpu.step() == Ok(Stepped::Ended(EndKind::Ebreak))))
+    }
+}
+
+/// Loads the image and runs it.
+struct Run;
+
+impl Attempt for Run {
+    fn attempt(&self, heap: Heap) -> Result<Try, AllocError> {
+        let image = match image_in(heap.clone()?) {
+            Ok(image) => image,
+            Err(outcome) => return Ok(outcome),
+        };
+        match run(heap, &image, 4) {
+            Ok(end) => Ok(Try::right_if(end.regs[3] == 35)),
+            Err(RunError::Memory) => Ok(Try::Refused),
+            Err(_) => Ok(Try::Wrong),
+        }
+    }
+}
+
+/// Loads the image and traces its run.
+struct Trace;
+
+impl Attempt for Trace {
+    fn attempt(&self, heap: Heap) -> Result<Try, AllocError> {
+        let image = match image_in(heap.clone()?) {
+            Ok(image) => image,
+            Err(outcome) => return Ok(outcome),
+        };
+        match trace(heap, &image, 4) {
+            Ok(steps) if steps.len() == 4 => Ok(Try::Answered),
+            Err(RunError::Memory) => Ok(Try::Refused),
+            _ => Ok(Try::Wrong),
+        }
+    }
+}
+
+#[test]
+fn images_and_runs(rt: HostRuntime) -> Result<(), Fail> {
+    // The window's bytes.
+    assert!(rt; refusals(rt.alloc(), &Load)? == Some(1));
+    // And those that the run changes; a store takes none.
+    assert!(rt; refusals(rt.alloc(), &Step)? == Some(2));
+    assert!(rt; refusals(rt.alloc(), &Run)? == Some(2));
+    // And the list of four steps.
+    assert!(rt; refusals(rt.alloc(), &Trace)? == Some(3));
+    Ok(())
+}

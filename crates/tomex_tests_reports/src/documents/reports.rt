@@ -1,0 +1,70 @@
+//! Reports of whole studies: the worked examples, by one worker or several, and with no dropping.
+
+use super::studies::{STUDY_L, STUDY_M};
+use crate::answers::report_of;
+use std::test::Fail;
+use tomex_sweep::OpenGate;
+
+/// `addi x1,x0,5; addi x2,x0,7; mul x3,x1,x2; ebreak`
+const MUL: [u32; 4] = [0x00500093, 0x00700113, 0x022081b3, 0x00100073];
+
+/// `addi x1,x0,499; addi x1,x1,-1; bne x1,x0,-4; ebreak`, 1,000 steps
+const LOOP: [u32; 4] = [0x1f300093, 0xfff08093, 0xfe009ee3, 0x00100073];
+
+const HEADER: &str =
+    "row,cost,cycles,alu,mul,div,load,store,bru,alu_units,alu_latency,mul_units,mul_latency,div_units,div_latency,mem_units,mem_latency,bru_units,bru_latency,buses,program,steps,program_cycles,end,regs,watch\n";
+
+/// A study of two programs on one row, which watches the loop's first word.
+const STUDY_OF_TWO: &str =
+    "[[program]]\nname = \"mul\"\nfile = \"mul.bin\"\n[[program]]\nname = \"loop\"\nfile = \"loop.bin\"\nwatch = [[0, 4]]\n";
+
+/// The study of two options for the alu units, with the first of them twice and the second as fast.
+const STUDY_OF_EQUALS: &str =
+    "[[program]]\nname = \"loop\"\nfile = \"loop.bin\"\n[[unit.alu]]\nlatency = 1\nprice = 5\n[[unit.alu]]\nlatency = 1\nprice = 5\n[[unit.alu]]\nlatency = 1\nprice = 9\n";
+
+/// Each study with its files' words and the records of its report.
+static REPORTS: [(&str, &[[u32; 4]], &str); 4] = [
+    (
+        STUDY_M,
+        &[MUL],
+        "1,10,10,1,1,1,1,1,1,1,1,1,3,1,1,1,1,1,1,1,mul,4,10,ebreak,x1=00000005 x2=00000007 x3=00000023,-\n0,20,8,2,1,1,1,1,1,1,1,1,3,1,1,1,1,1,1,1,mul,4,8,ebreak,x1=00000005 x2=00000007 x3=00000023,-\n",
+    ),
+    (
+        STUDY_L,
+        &[LOOP],
+        "0,5,2000,1,1,1,1,1,1,1,1,1,1,1,1,1,1,1,1,1,loop,1000,2000,ebreak,x2=00010000,-\n",
+    ),
+    (
+        STUDY_OF_EQUALS,
+        &[LOOP],
+        "0,5,2000,1,1,1,1,1,1,1,1,1,1,1,1,1,1,1,1,1,loop,1000,2000,ebreak,x2=00010000,-\n1,5,2000,1,1,1,1,1,1,1,1,1,1,1,1,1,1,1,1,1,loop,1000,2000,ebreak,x2=00010000,-\n",
+    ),
+    (
+        STUDY_OF_TWO,
+        &[MUL, LOOP],
+        "0,0,2008,1,1,1,1,1,1,1,1,1,1,1,1,1,1,1,1,1,mul,4,8,ebreak,x1=00000005 x2=00000007 x3=00000023,-\n0,0,2008,1,1,1,1,1,1,1,1,1,1,1,1,1,1,1,1,1,loop,1000,2000,ebreak,x2=00010000,00000000:9300301f\n",
+    ),
+];
+
+#[test]
+fn worked_reports(rt: HostRuntime) -> Result<(), Fail> {
+    let heap = rt.alloc();
+    for (study, programs, records) in &REPORTS {
+        let mut files = Vec::new(heap);
+        for words in *programs {
+            let mut file = Vec::new(heap);
+            for word in words {
+                file.extend_from_slice(&word.to_le_bytes())?;
+            }
+            files.push(file)?;
+        }
+        let wanted = format!(in heap; "{HEADER}{records}")?;
+        for workers in [None, Some(1), Some(2), Some(32)] {
+            let text = report_of(&rt, heap, heap, study, &files, workers, &OpenGate).map_err(
+                |_| "no report",
+            )?;
+            assert!(rt; text.as_slice() == wanted.as_bytes());
+        }
+    }
+    Ok(())
+}

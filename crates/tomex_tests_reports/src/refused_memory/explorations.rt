@@ -1,0 +1,131 @@
+//! Runs of all rows, explorations, replays, front reports and answers.
+
+use crate::answers::{explored, loop_in, report_of};
+use std::alloc::{AllocError, Global};
+use std::sync::Wait;
+use std::test::Fail;
+use std::thread::Threads;
+use tomex_report::{AnswerError, StudyError, front_report, read_study, replay};
+use tomex_samples::studies::{DROPPED, DROPPED_REPORT};
+use tomex_samples::{Attempt, Heap, Try, ample, refusals, refusals_of};
+use tomex_sweep::{Mark, OpenGate, Outcome, Study, SweepError, explore, run_all};
+
+/// The study of a fast row and a slow one that costs more, in ample memory.
+fn study_in(other: Global) -> Result<Study<Heap>, AllocError> {
+    let files = loop_in(ample(other)?, other)?;
+    let heap = ample(other)?;
+    read_study(heap, other, DROPPED.as_bytes(), files.as_slice()).map_err(|_| AllocError)
+}
+
+/// How an exploration came out whose second row is to have one of these marks.
+fn tried(outcome: Result<Outcome<Heap>, SweepError>, seconds: &[Mark]) -> Try {
+    match outcome {
+        Ok(outcome) => Try::right_if(
+            outcome.marks.len() == 2
+                && outcome.marks[0] == Mark::Finished(2000)
+                && seconds.iter().any(|second| *second == outcome.marks[1])
+                && outcome.front.len() == 1
+                && outcome.gathered == 0,
+        ),
+        Err(SweepError::Memory) => Try::Refused,
+        Err(SweepError::Worker) => Try::Wrong,
+    }
+}
+
+/// Runs all rows to their ends.
+#[derive(Clone, Copy)]
+struct RunAll<'a> {
+    study: &'a Study<Heap>,
+}
+
+impl<'a> Attempt for RunAll<'a> {
+    fn attempt(&self, heap: Heap) -> Result<Try, AllocError> {
+        let seconds = [Mark::Finished(6500)];
+        Ok(tried(run_all(heap, self.study), seconds.as_slice()))
+    }
+}
+
+/// Runs the rows of the front again in the one memory, and makes the report of them in the other.
+fn report_in<R: Threads + Wait + Sync>(
+    rt: &R,
+    replaying: Heap,
+    writing: Heap,
+    other: Global,
+    study: &Study<Heap>,
+) -> Result<Try, AllocError> {
+    // Read for what the study's type keeps, which the proof needs.
+    let _rows = study.rows();
+    let Ok(outcome) = explore(rt, ample(other)?, study, 1, &OpenGate) else {
+        return Ok(Try::Wrong);
+    };
+    let front = outcome.front.as_slice();
+    let Ok(ends) = replay(rt, replaying, study, front) else {
+        return Ok(Try::Refused);
+    };
+    match front_report(writing, other, study, front, ends.as_slice()) {
+        Ok(text) => Ok(Try::right_if(text.as_slice() == DROPPED_REPORT.as_bytes())),
+        Err(AllocError) => Ok(Try::Refused),
+    }
+}
+
+/// How an answer came out.
+fn answered(text: Result<Vec<u8, Heap>, AnswerError>) -> Try {
+    match text {
+        Ok(text) => Try::right_if(text.as_slice() == DROPPED_REPORT.as_bytes()),
+        Err(AnswerError::Study(StudyError::Memory)) => Try::Refused,
+        Err(AnswerError::Sweep(SweepError::Memory)) => Try::Refused,
+        Err(_) => Try::Wrong,
+    }
+}
+
+#[test]
+fn of_runs_of_rows(rt: HostRuntime) -> Result<(), Fail> {
+    let other = rt.alloc();
+    let study = study_in(other)?;
+    let judged = [Mark::Dropped(0), Mark::Finished(6500)];
+    // Marks, the memory of a machine, finished rows and the front; then also lanes, the board and parts.
+    let all = RunAll { study: &study };
+    assert!(rt; refusals(other, &all)? == Some(4));
+    for workers in [1, 2] {
+        let some = refusals_of!(other, heap => {
+            tried(explored(&rt, heap, &study, workers, &OpenGate), judged.as_slice())
+        });
+        assert!(rt; matches!(some, Some(granted) if granted > 4));
+    }
+    let replayed = refusals_of!(other, heap => report_in(&rt, heap, ample(other)?, other, &study)?);
+    assert!(rt; matches!(replayed, Some(granted) if granted > 2));
+    // The text alone.
+    let written = refusals_of!(other, heap => report_in(&rt, ample(other)?, heap, other, &study)?);
+    assert!(rt; matches!(written, Some(granted) if granted > 0));
+    Ok(())
+}
+
+/// Makes the report of the study that the document and its file stand for, by so many workers, or,
+/// with None, by the call that runs each row to its end.
+fn answer_in<R: Threads + Wait + Sync>(
+    rt: &R,
+    heap: Heap,
+    other: Global,
+    workers: Option<usize>,
+) -> Result<Try, AllocError> {
+    let files = loop_in(ample(other)?, other)?;
+    Ok(answered(report_of(
+        rt,
+        heap,
+        other,
+        DROPPED,
+        files.as_slice(),
+        workers,
+        &OpenGate,
+    )))
+}
+
+#[test]
+fn of_answers(rt: HostRuntime) -> Result<(), Fail> {
+    let other = rt.alloc();
+    for workers in [None, Some(1), Some(2)] {
+        let granted = refusals_of!(other, heap => answer_in(&rt, heap, other, workers)?);
+        assert!(rt; matches!(granted, Some(granted) if granted > 12));
+    }
+    Ok(())
+}

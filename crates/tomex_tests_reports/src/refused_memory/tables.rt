@@ -1,0 +1,81 @@
+//! The cycle machine, and the text of its tables.
+
+use std::alloc::{AllocError, Global};
+use std::test::Fail;
+use tomex_config::{Config, UnitOption};
+use tomex_cycle::Machine;
+use tomex_image::{Image, Window, load};
+use tomex_report::tables_text;
+use tomex_samples::programs::PRODUCT;
+use tomex_samples::studies::PRODUCT_AFTER_3;
+use tomex_samples::{Attempt, Heap, Try, ample, refusals};
+
+/// The machine of a program on a row, made in one memory, and the text of its tables after 3 cycles,
+/// made in the other.
+fn text_after_3(machines: Heap, texts: Heap, image: &Image<Heap>, row: &Config) -> Try {
+    let Ok(mut machine) = Machine::new(machines, image, row) else {
+        return Try::Refused;
+    };
+    machine.advance(3);
+    match tables_text(texts, &machine.tables()) {
+        Ok(text) => Try::right_if(text.as_slice() == PRODUCT_AFTER_3.as_bytes()),
+        Err(AllocError) => Try::Refused,
+    }
+}
+
+/// Makes a machine.
+#[derive(Clone, Copy)]
+struct NewMachine<'a> {
+    other: Global,
+    image: &'a Image<Heap>,
+    row: &'a Config,
+}
+
+impl<'a> Attempt for NewMachine<'a> {
+    fn attempt(&self, heap: Heap) -> Result<Try, AllocError> {
+        Ok(text_after_3(heap, ample(self.other)?, self.image, self.row))
+    }
+}
+
+/// Makes the text of a machine's tables.
+#[derive(Clone, Copy)]
+struct TablesText<'a> {
+    other: Global,
+    image: &'a Image<Heap>,
+    row: &'a Config,
+}
+
+impl<'a> Attempt for TablesText<'a> {
+    fn attempt(&self, heap: Heap) -> Result<Try, AllocError> {
+        Ok(text_after_3(ample(self.other)?, heap, self.image, self.row))
+    }
+}
+
+#[test]
+fn machines_and_tables(rt: HostRuntime) -> Result<(), Fail> {
+    let other = rt.alloc();
+    let window = Window::new(0, 4096).ok_or("no window")?;
+    let image = load(ample(other)?, PRODUCT.as_slice(), window)?;
+    let unit = |latency: u8| UnitOption {
+        units: 1,
+        latency,
+        price: 0,
+    };
+    let units = [unit(1), unit(3), unit(1), unit(1), unit(1)];
+    let row = Config::new([2, 1, 1, 1, 1, 1], units, 1).ok_or("no row")?;
+    let machine = NewMachine {
+        other,
+        image: &image,
+        row: &row,
+    };
+    // The bytes that the run changes; cycles and tables take none.
+    assert!(rt; refusals(other, &machine)? == Some(1));
+    let text = TablesText {
+        other,
+        image: &image,
+        row: &row,
+    };
+    // A text grows several times, how often is the library's affair.
+    assert!(rt; matches!(refusals(other, &text)?, Some(granted) if granted > 0));
+    Ok(())
+}

@@ -1,0 +1,121 @@
+//! A worker's machine takes its memory once: how many blocks a study takes doesn't depend on its rows.
+
+use std::alloc::Global;
+use std::sync::Wait;
+use std::test::Fail;
+use std::thread::Threads;
+use tomex_config::{Config, Prices, UnitOption};
+use tomex_image::{Window, load};
+use tomex_rvexec::trace;
+use tomex_samples::{Heap, Try, ample, refusals_of};
+use tomex_sweep::{Mark, OpenGate, Outcome, Program, Study, SweepError, explore, run_all};
+use tomex_timing::evaluate::{times, total};
+
+/// A loop that reads its count behind the program, and leaves another one there: `addi x3,x0,9;
+/// lw x1,24(x0); sw x3,24(x0); addi x1,x1,-1; bne x1,x0,-4; ebreak`, and 200.
+const COUNTED: [u32; 7] = [
+    0x00900193, 0x01802083, 0x00302c23, 0xfff08093, 0xfe009ee3, 0x00100073, 200,
+];
+
+/// `addi x3,x0,24; mul x4,x3,x3; sw x4,0(x3); ebreak`, which overwrites that count.
+const OVERWRITTEN: [u32; 4] = [0x01800193, 0x02318233, 0x0041a023, 0x00100073];
+
+/// The program of these words at 0, in a window of so many bytes.
+fn program_of(other: Global, words: &[u32], size: u32) -> Result<Program<Heap>, Fail> {
+    let mut bytes = Vec::new(other);
+    for word in words {
+        bytes.extend_from_slice(&word.to_le_bytes())?;
+    }
+    let window = Window::new(0, size).ok_or("no window")?;
+    let image = load(ample(other)?, bytes.as_slice(), window)?;
+    let name = String::from_str(ample(other)?, "program")?;
+    let watch = Vec::new(ample(other)?);
+    Ok(Program::new(ample(other)?, name, image, 10_000, watch)?)
+}
+
+/// The study of both programs, in windows of so many bytes, on rows of 1, 2, 3 and so on alu stations, each of
+/// which costs more than the one before.
+fn study_of(other: Global, sizes: [u32; 2], rows: u8) -> Result<Study<Heap>, Fail> {
+    let plain = UnitOption {
+        units: 1,
+        latency: 1,
+        price: 0,
+    };
+    let mut programs = Vec::new(ample(other)?);
+    programs.push(program_of(other, OVERWRITTEN.as_slice(), sizes[0])?)?;
+    programs.push(program_of(other, COUNTED.as_slice(), sizes[1])?)?;
+    let mut configs = Vec::new(ample(other)?);
+    for stations in 1..=rows {
+        let row = Config::new([stations, 1, 1, 1, 1, 1], [plain; 5], 1);
+        configs.push(row.ok_or("no row")?)?;
+    }
+    if configs.is_empty() || configs.len() > 16_384 || programs.len() != 2 {
+        return Err("no rows")?;
+    }
+    let prices = Prices::new([1, 0, 0, 0, 0, 0], 0);
+    Ok(Study::new(ample(other)?, programs, configs, prices)?)
+}
+
+/// The cycles of each row, by the recurrence over the in-order run.
+fn cycles_in(other: Global, study: &Study<Heap>) -> Result<Vec<u64>, Fail> {
+    let mut cycles = Vec::new(other);
+    for row in study.rows() {
+        let mut sum = 0u64;
+        for program in study.programs() {
+            let steps = trace(ample(other)?, program.image(), 10_000).map_err(|_| "no trace")?;
+            if steps.len() > 10_000 {
+                return Err("a long trace")?;
+            }
+            let timed = times(other, steps.as_slice(), row)?;
+            sum = sum.wrapping_add(total(timed.as_slice()));
+        }
+        cycles.push(sum)?;
+    }
+    Ok(cycles)
+}
+
+/// How an exploration came out whose rows are all to be finished, with these cycles.
+fn tried(outcome: Result<Outcome<Heap>, SweepError>, cycles: &[u64]) -> Try {
+    match outcome {
+        Ok(outcome) => {
+            let wanted = cycles.iter().map(|cycles| Mark::Finished(*cycles));
+            Try::right_if(
+                outcome.marks.len() == cycles.len() && outcome.marks.iter().copied().eq(wanted),
+            )
+        }
+        Err(SweepError::Memory) => Try::Refused,
+        Err(SweepError::Worker) => Try::Wrong,
+    }
+}
+
+/// How many blocks are taken by the call that runs each row to its end, and by an exploration with one
+/// worker. None where one comes out wrong.
+fn blocks_of<R: Threads + Wait + Sync>(
+    rt: &R,
+    other: Global,
+    sizes: [u32; 2],
+    rows: u8,
+) -> Result<[Option<u64>; 2], Fail> {
+    let study = study_of(other, sizes, rows)?;
+    let cycles = cycles_in(other, &study)?;
+    let all = refusals_of!(other, heap => tried(run_all(heap, &study), cycles.as_slice()));
+    let some = refusals_of!(other, heap => {
+        tried(explore(rt, heap, &study, 1, &OpenGate), cycles.as_slice())
+    });
+    Ok([all, some])
+}
+
+/// What is kept of rows grows by doubling, and takes as many blocks for 9 rows as for 12.
+#[test]
+fn as_many_blocks_for_more_rows(rt: HostRuntime) -> Result<(), Fail> {
+    let other = rt.alloc();
+    // Marks, the machine, finished rows (three blocks) and the front; one more where the second window is larger.
+    for (sizes, blocks) in [([4096, 4096], 6), ([8192, 4096], 6), ([4096, 8192], 7)] {
+        let few = blocks_of(&rt, other, sizes, 9)?;
+        let many = blocks_of(&rt, other, sizes, 12)?;
+        assert_eq!(rt; few[0], Some(blocks));
+        assert!(rt; few[1].is_some());
+        assert_eq!(rt; few, many);
+    }
+    Ok(())
+}

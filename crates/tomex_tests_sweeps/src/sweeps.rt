@@ -1,0 +1,109 @@
+//! Marks of the worked studies.
+
+use std::alloc::Global;
+use std::sync::Wait;
+use std::test::Fail;
+use std::thread::Threads;
+use tomex_config::{Config, Prices, UnitOption};
+use tomex_samples::image_of;
+use tomex_sweep::{FrontRow, Gate, Mark, OpenGate, Outcome, Program, Study, explore, run_all};
+
+mod many;
+mod refused;
+
+/// `addi x1,x0,499; addi x1,x1,-1; bne x1,x0,-4; ebreak`
+const LOOP: [u32; 4] = [0x1f300093, 0xfff08093, 0xfe009ee3, 0x00100073];
+
+/// The study of the loop on rows that differ in the latency and the price of their alu unit.
+fn study_of(alloc: Global, options: &[(u8, u32)]) -> Result<Study, Fail> {
+    let plain = UnitOption {
+        units: 1,
+        latency: 1,
+        price: 0,
+    };
+    let mut rows = Vec::new(alloc);
+    for (latency, price) in options {
+        let alu = UnitOption {
+            units: 1,
+            latency: *latency,
+            price: *price,
+        };
+        let row = Config::new([1, 1, 1, 1, 1, 1], [alu, plain, plain, plain, plain], 1);
+        rows.push(row.ok_or("no row")?)?;
+    }
+    if rows.is_empty() || rows.len() > 16_384 {
+        return Err("no rows")?;
+    }
+    let image = image_of(alloc, 0, 4096, LOOP.as_slice())?;
+    let name = String::from_str(alloc, "loop")?;
+    let program = Program::new(alloc, name, image, 262_144, Vec::new(alloc))?;
+    let programs = vec![in alloc; program]?;
+    Ok(Study::new(alloc, programs, rows, Prices::new([0; 6], 0))?)
+}
+
+/// The exploration of a study by so many workers.
+fn explored<R: AllocGlobal + Threads + Wait + Sync, G: Gate + Sync>(
+    rt: &R,
+    study: &Study,
+    workers: usize,
+    gate: &G,
+) -> Result<Outcome, Fail> {
+    if workers < 1 || workers > 32 {
+        return Err("no such number of workers")?;
+    }
+    Ok(explore(rt, rt.alloc(), study, workers, gate)?)
+}
+
+/// The marks of each row when it is run to its end.
+fn whole(alloc: Global, study: &Study) -> Result<Outcome, Fail> {
+    Ok(run_all(alloc, study)?)
+}
+
+#[test]
+fn slow_row_is_dropped(rt: HostRuntime) -> Result<(), Fail> {
+    let study = study_of(rt.alloc(), [(1, 5), (10, 9)].as_slice())?;
+    let front = [FrontRow {
+        row: 0,
+        cost: 5,
+        cycles: 2000,
+    }];
+    for (outcome, second) in [
+        (explored(&rt, &study, 1, &OpenGate)?, Mark::Dropped(0)),
+        (whole(rt.alloc(), &study)?, Mark::Finished(6500)),
+    ] {
+        let marks = [Mark::Finished(2000), second];
+        assert!(rt; outcome.marks.as_slice() == marks.as_slice());
+        assert!(rt; outcome.front.as_slice() == front.as_slice());
+        assert!(rt; outcome.gathered == 0);
+    }
+    Ok(())
+}
+
+/// A worker looks at each multiple of 1,024 cycles. At 2,048 these rows have still to run, and 2,000 cycles are
+/// fewer; at the next look they are over.
+#[test]
+fn rows_are_dropped_at_the_first_look_that_may(rt: HostRuntime) -> Result<(), Fail> {
+    let study = study_of(rt.alloc(), [(1, 5), (2, 9), (3, 9)].as_slice())?;
+    let marks = [
+        Mark::Finished(2000),
+        Mark::Finished(2500),
+        Mark::Finished(3000),
+    ];
+    assert!(rt; whole(rt.alloc(), &study)?.marks.as_slice() == marks.as_slice());
+    let marks = [Mark::Finished(2000), Mark::Dropped(0), Mark::Dropped(0)];
+    assert!(rt; explored(&rt, &study, 1, &OpenGate)?.marks.as_slice() == marks.as_slice());
+    Ok(())
+}
+
+#[test]
+fn equal_rows_are_finished(rt: HostRuntime) -> Result<(), Fail> {
+    let study = study_of(rt.alloc(), [(1, 5), (1, 5), (1, 9)].as_slice())?;
+    let marks = [Mark::Finished(2000); 3];
+    for workers in [1, 2, 3, 32] {
+        let outcome = explored(&rt, &study, workers, &OpenGate)?;
+        assert!(rt; outcome.marks.as_slice() == marks.as_slice());
+        assert!(rt; outcome.gathered == 0);
+        assert!(rt; outcome.front.iter().map(|row| row.row).eq([0, 1]));
+    }
+    Ok(())
+}

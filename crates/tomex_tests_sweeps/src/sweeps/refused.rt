@@ -1,0 +1,33 @@
+//! A thread that is refused.
+
+use super::study_of;
+use core::thread::Stack;
+use std::test::Fail;
+use tomex_sweep::{OpenGate, Stacks, SweepError, explore_on};
+
+/// No thread gets the stack that this worker asks for.
+#[derive(Drop)]
+struct Absurd {
+    worker: usize,
+}
+
+impl Stacks for Absurd {
+    fn stack_of(&self, worker: usize) -> Stack {
+        if worker == self.worker {
+            Stack::new().stack_size(usize::MAX)
+        } else {
+            Stack::new()
+        }
+    }
+}
+
+#[test]
+fn a_refused_thread_is_told(rt: HostRuntime) -> Result<(), Fail> {
+    let study = study_of(rt.alloc(), [(1, 5), (10, 9), (1, 9)].as_slice())?;
+    for (worker, workers) in [(0, 1), (0, 3), (1, 2), (2, 3)] {
+        let stacks = Absurd { worker };
+        let outcome = explore_on(&rt, rt.alloc(), &study, workers, &OpenGate, &stacks);
+        assert!(rt; matches!(outcome, Err(SweepError::Worker)));
+    }
+    Ok(())
+}
