@@ -1,12 +1,11 @@
-//! Tests of documents, studies and reports: they say what no contract does, compare with worked reports, hold
-//! workers, and refuse each growth of each call in turn.
+//! Tests of reports: worked ones, the texts of tables, and explorations whose workers are held.
 #![tactic(auto)]
 
 #[cfg(test)]
 mod answers;
 #[cfg(test)]
-mod documents;
-#[cfg(test)]
 mod explorations;
 #[cfg(test)]
-mod refused_memory;
+mod reports;
+#[cfg(test)]
+mod tables;

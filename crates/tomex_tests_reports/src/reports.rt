@@ -1,9 +1,13 @@
 //! Reports of whole studies: the worked examples, by one worker or several, and with no dropping.
 
-use super::studies::{STUDY_L, STUDY_M};
 use crate::answers::report_of;
 use std::test::Fail;
+use tomex_samples::studies::DROPPED;
 use tomex_sweep::OpenGate;
+
+/// A study of one program, two numbers of alu stations and a mul unit of latency 3.
+const PRICED: &str = "[[program]]\nname = \"mul\"\nfile = \"mul.bin\"\n[prices]\nalu = 10\n\
+    [axes]\nalu = [2, 1]\n[[unit.mul]]\nlatency = 3\n";
 
 /// `addi x1,x0,5; addi x2,x0,7; mul x3,x1,x2; ebreak`
 const MUL: [u32; 4] = [0x00500093, 0x00700113, 0x022081b3, 0x00100073];
@@ -25,12 +29,12 @@ const STUDY_OF_EQUALS: &str =
 /// Each study with its files' words and the records of its report.
 static REPORTS: [(&str, &[[u32; 4]], &str); 4] = [
     (
-        STUDY_M,
+        PRICED,
         &[MUL],
         "1,10,10,1,1,1,1,1,1,1,1,1,3,1,1,1,1,1,1,1,mul,4,10,ebreak,x1=00000005 x2=00000007 x3=00000023,-\n0,20,8,2,1,1,1,1,1,1,1,1,3,1,1,1,1,1,1,1,mul,4,8,ebreak,x1=00000005 x2=00000007 x3=00000023,-\n",
     ),
     (
-        STUDY_L,
+        DROPPED,
         &[LOOP],
         "0,5,2000,1,1,1,1,1,1,1,1,1,1,1,1,1,1,1,1,1,loop,1000,2000,ebreak,x2=00010000,-\n",
     ),

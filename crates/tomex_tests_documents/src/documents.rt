@@ -7,9 +7,7 @@ use tomex_report::{StudyError, file_names};
 use tomex_rvexec::{Fault, FaultKind};
 
 mod reading;
-mod reports;
 mod studies;
-mod tables;
 
 use studies::{AT_TOP, IN_PROGRAMS, LAWFUL, ORDERED, STUDY_L, STUDY_M, WATCHED, WIDE};
 

@@ -1,13 +1,13 @@
 //! A worker that is refused memory with a row in hand.
 
-use crate::answers::{explored, loop_in};
 use std::sync::atomic::{AtomicU64, Ordering};
 use std::test::Fail;
 use std::thread;
 use tomex_report::read_study;
+use tomex_samples::programs::LOOP;
 use tomex_samples::studies::DROPPED;
 use tomex_samples::{Heap, ample, heap_of};
-use tomex_sweep::{Gate, OpenGate, SweepError};
+use tomex_sweep::{Gate, OpenGate, SweepError, explore};
 
 /// As worker 1 begins with a row, it spends all memory that is left; worker 0 is held until then.
 #[derive(Drop)]
@@ -37,16 +37,16 @@ impl Gate for Spending {
 fn memory_is_refused_with_a_row_in_hand(rt: HostRuntime) -> Result<(), Fail> {
     let other = rt.alloc();
     let heap = heap_of(other, 2_000)?;
-    let files = loop_in(heap.clone()?, other)?;
+    let files = vec![in other; LOOP.as_slice().to_vec(heap.clone()?)?]?;
     let study = read_study(heap.clone()?, other, DROPPED.as_bytes(), files.as_slice())?;
     let gate = Spending {
         heap: heap.clone()?,
         spent: AtomicU64::new(0),
     };
-    let refused = explored(&rt, heap, &study, 2, &gate);
+    let refused = explore(&rt, heap, &study, 2, &gate);
     assert!(rt; refused.err() == Some(SweepError::Memory));
     let ample = ample(other)?;
-    let outcome = explored(&rt, ample, &study, 2, &OpenGate)?;
+    let outcome = explore(&rt, ample, &study, 2, &OpenGate)?;
     assert!(rt; outcome.front.iter().map(|row| row.row).eq([0]));
     assert!(rt; outcome.gathered == 0);
     Ok(())

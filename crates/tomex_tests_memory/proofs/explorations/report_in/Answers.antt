@@ -2,7 +2,7 @@
 use Rattle.std.proofs.Common.{rules}
 use Rattle.std.proofs.Crossing.{frees}
 use Rattle.tomex_sweep.proofs.StudyFronts.{study_rows}
-use Rattle.tomex_tests_reports.proofs.refused_memory.explorations.report_in.Goals as goal
+use Rattle.tomex_tests_memory.proofs.explorations.report_in.Goals as goal
 
 pub explore-requires-frees-A-Allocator : goal.explore-requires-frees-A-Allocator
 explore-requires-frees-A-Allocator g c κs within = record { frees = λ a τ p. frees.frees a.inner τ p }

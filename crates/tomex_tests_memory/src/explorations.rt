@@ -1,18 +1,23 @@
 //! Runs of all rows, explorations, replays, front reports and answers.
 
-use crate::answers::{explored, loop_in, report_of};
 use std::alloc::{AllocError, Global};
 use std::sync::Wait;
 use std::test::Fail;
 use std::thread::Threads;
-use tomex_report::{AnswerError, StudyError, front_report, read_study, replay};
+use tomex_report::{AnswerError, StudyError, answer, answer_all, front_report, read_study, replay};
+use tomex_samples::programs::LOOP;
 use tomex_samples::studies::{DROPPED, DROPPED_REPORT};
 use tomex_samples::{Attempt, Heap, Try, ample, refusals, refusals_of};
 use tomex_sweep::{Mark, OpenGate, Outcome, Study, SweepError, explore, run_all};
 
+/// The files of the study.
+fn files_in(other: Global) -> Result<Vec<Vec<u8, Heap>>, AllocError> {
+    Ok(vec![in other; LOOP.as_slice().to_vec(ample(other)?)?]?)
+}
+
 /// The study of a fast row and a slow one that costs more, in ample memory.
 fn study_in(other: Global) -> Result<Study<Heap>, AllocError> {
-    let files = loop_in(ample(other)?, other)?;
+    let files = files_in(other)?;
     let heap = ample(other)?;
     read_study(heap, other, DROPPED.as_bytes(), files.as_slice()).map_err(|_| AllocError)
 }
@@ -43,6 +48,18 @@ impl<'a> Attempt for RunAll<'a> {
         let seconds = [Mark::Finished(6500)];
         Ok(tried(run_all(heap, self.study), seconds.as_slice()))
     }
+}
+
+/// Explores the study by so many workers, of 1 to 32. The second row may be dropped.
+fn explored_in<R: Threads + Wait + Sync>(
+    rt: &R,
+    heap: Heap,
+    study: &Study<Heap>,
+    workers: usize,
+) -> Try {
+    let seconds = [Mark::Dropped(0), Mark::Finished(6500)];
+    let outcome = explore(rt, heap, study, workers.max(1).min(32), &OpenGate);
+    tried(outcome, seconds.as_slice())
 }
 
 /// Runs the rows of the front again in the one memory, and makes the report of them in the other.
@@ -82,14 +99,11 @@ fn answered(text: Result<Vec<u8, Heap>, AnswerError>) -> Try {
 fn of_runs_of_rows(rt: HostRuntime) -> Result<(), Fail> {
     let other = rt.alloc();
     let study = study_in(other)?;
-    let judged = [Mark::Dropped(0), Mark::Finished(6500)];
     // Marks, the memory of a machine, finished rows and the front; then also lanes, the board and parts.
     let all = RunAll { study: &study };
     assert!(rt; refusals(other, &all)? == Some(4));
     for workers in [1, 2] {
-        let some = refusals_of!(other, heap => {
-            tried(explored(&rt, heap, &study, workers, &OpenGate), judged.as_slice())
-        });
+        let some = refusals_of!(other, heap => explored_in(&rt, heap, &study, workers));
         assert!(rt; matches!(some, Some(granted) if granted > 4));
     }
     let replayed = refusals_of!(other, heap => report_in(&rt, heap, ample(other)?, other, &study)?);
@@ -108,16 +122,16 @@ fn answer_in<R: Threads + Wait + Sync>(
     other: Global,
     workers: Option<usize>,
 ) -> Result<Try, AllocError> {
-    let files = loop_in(ample(other)?, other)?;
-    Ok(answered(report_of(
-        rt,
-        heap,
-        other,
-        DROPPED,
-        files.as_slice(),
-        workers,
-        &OpenGate,
-    )))
+    let files = files_in(other)?;
+    let study = DROPPED.as_bytes();
+    let text = match workers {
+        Some(workers) => {
+            let workers = workers.max(1).min(32);
+            answer(rt, heap, other, study, files.as_slice(), workers, &OpenGate)
+        }
+        None => answer_all(rt, heap, other, study, files.as_slice()),
+    };
+    Ok(answered(text))
 }
 
 #[test]

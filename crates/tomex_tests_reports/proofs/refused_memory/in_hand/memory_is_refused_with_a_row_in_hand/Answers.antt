@@ -1,9 +1,0 @@
--- The allocator frees what its inner one does.
-use Rattle.std.proofs.Crossing.{frees}
-use Rattle.tomex_tests_reports.proofs.refused_memory.in_hand.memory_is_refused_with_a_row_in_hand.Goals as goal
-
-pub explored-refused-requires-frees-A-Allocator : goal.explored-refused-requires-frees-A-Allocator
-explored-refused-requires-frees-A-Allocator g c κs = record { frees = λ a τ p. frees.frees a.inner τ p }
-
-pub explored-requires-frees-A-Allocator : goal.explored-requires-frees-A-Allocator
-explored-requires-frees-A-Allocator g c κs = record { frees = λ a τ p. frees.frees a.inner τ p }
