@@ -12,6 +12,9 @@ use tomex_rvexec::{Fault, Fetcher};
 use tomex_tags::{Pools, RegStatus, Tag, issue};
 
 /// Issues the next instruction, where no branch and no want of a station is in its way, and answers whether it did.
+///
+/// Inlined, so that the first issue of a cycle stays in the loop that makes the cycles.
+#[inline(always)]
 pub fn issue_next<A: Allocator>(
     pools: &mut Pools,
     registers: &mut RegStatus,

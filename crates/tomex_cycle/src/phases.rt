@@ -73,6 +73,7 @@ pub fn address(pools: &mut Pools, next: u64) -> bool
 
 /// Issues the next instructions, as many as the row's width says, up to the first that something is in the way of;
 /// answers how many. So many have issued before.
+#[inline(always)]
 pub fn issue<A: Allocator>(
     pools: &mut Pools,
     registers: &mut RegStatus,
