@@ -121,6 +121,7 @@ fn as_many_issue_as_the_width_says(rt: HostRuntime) -> Result<(), Fail> {
         let kinds = [alus, unit(3), unit(1), unit(1), unit(1)];
         let row = Config::new([alu, 1, 1, 1, 1, 1], kinds, buses, width).ok_or("no row")?;
         let steps = trace_of(&rt, words)?;
+        assert!(rt; steps.len() == 4);
         let timed = times(rt.alloc(), steps.as_slice(), &row)?;
         assert!(rt; timed.len() == 4);
         for (at, want) in timed.iter().zip(issues.iter().zip(ends)) {
