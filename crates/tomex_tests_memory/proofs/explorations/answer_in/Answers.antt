@@ -2,8 +2,8 @@
 use Rattle.std.proofs.Crossing.{frees}
 use Rattle.tomex_tests_memory.proofs.explorations.answer_in.Goals as goal
 
-pub answer-requires-frees-A-Allocator : goal.answer-requires-frees-A-Allocator
-answer-requires-frees-A-Allocator g c κs within = record { frees = λ a τ p. frees.frees a.inner τ p }
+pub answer-text-requires-frees-A-Allocator : goal.answer-text-requires-frees-A-Allocator
+answer-text-requires-frees-A-Allocator g c κs within = record { frees = λ a τ p. frees.frees a.inner τ p }
 
-pub answer_all-requires-frees-A-Allocator : goal.answer_all-requires-frees-A-Allocator
-answer_all-requires-frees-A-Allocator g c κs within = record { frees = λ a τ p. frees.frees a.inner τ p }
+pub answer_all-text-requires-frees-A-Allocator : goal.answer_all-text-requires-frees-A-Allocator
+answer_all-text-requires-frees-A-Allocator g c κs within = record { frees = λ a τ p. frees.frees a.inner τ p }
