@@ -100,33 +100,3 @@ fn no_steps_take_no_cycles(rt: HostRuntime) -> Result<(), Fail> {
     assert!(rt; total(timed.as_slice()) == 0);
     Ok(())
 }
-
-/// `addi x1,x0,5; addi x2,x0,7; mul x3,x1,x2; ebreak`
-const PRODUCT: [u32; 4] = [0x00500093, 0x00700113, 0x022081b3, 0x00100073];
-
-/// `addi x5,x0,4; mul x6,x5,x5; jalr x0,0(x6); ebreak; ebreak`
-const INDIRECT: [u32; 5] = [0x00400293, 0x02528333, 0x00030067, 0x00100073, 0x00100073];
-
-#[test]
-fn as_many_issue_as_the_width_says(rt: HostRuntime) -> Result<(), Fail> {
-    // alu stations, alu units, buses, width; issues, ends
-    for (words, alu, units, buses, width, issues, ends) in [
-        (PRODUCT.as_slice(), 2, 2, 2, 1, [1, 2, 3, 4], [3, 4, 8, 4]),
-        (PRODUCT.as_slice(), 2, 2, 2, 2, [1, 1, 2, 2], [3, 3, 7, 2]),
-        (PRODUCT.as_slice(), 2, 2, 2, 4, [1, 1, 1, 1], [3, 3, 7, 1]),
-        (PRODUCT.as_slice(), 1, 1, 1, 2, [1, 4, 4, 5], [3, 6, 10, 5]),
-        (INDIRECT.as_slice(), 2, 1, 1, 4, [1, 1, 1, 9], [3, 7, 8, 9]),
-    ] {
-        let alus = UnitOption { units, ..unit(1) };
-        let kinds = [alus, unit(3), unit(1), unit(1), unit(1)];
-        let row = Config::new([alu, 1, 1, 1, 1, 1], kinds, buses, width).ok_or("no row")?;
-        let steps = trace_of(&rt, words)?;
-        assert!(rt; steps.len() == 4);
-        let timed = times(rt.alloc(), steps.as_slice(), &row)?;
-        assert!(rt; timed.len() == 4);
-        for (at, want) in timed.iter().zip(issues.iter().zip(ends)) {
-            assert!(rt; (at.issue, at.end) == (*want.0, want.1));
-        }
-    }
-    Ok(())
-}

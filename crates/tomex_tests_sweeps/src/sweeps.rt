@@ -14,9 +14,6 @@ mod refused;
 /// `addi x1,x0,499; addi x1,x1,-1; bne x1,x0,-4; ebreak`
 const LOOP: [u32; 4] = [0x1f300093, 0xfff08093, 0xfe009ee3, 0x00100073];
 
-/// `addi x1,x0,5; addi x2,x0,7; mul x3,x1,x2; ebreak`
-const PRODUCT: [u32; 4] = [0x00500093, 0x00700113, 0x022081b3, 0x00100073];
-
 /// One unit of this latency, at this price.
 fn unit(latency: u8, price: u32) -> UnitOption {
     UnitOption {
@@ -142,43 +139,5 @@ fn a_look_is_told_by_the_weight(rt: HostRuntime) -> Result<(), Fail> {
     assert!(rt; explored(&rt, &study, 1, &OpenGate)?.marks.as_slice() == marks.as_slice());
     let marks = [Mark::Finished(4000), Mark::Finished(5000)];
     assert!(rt; whole(rt.alloc(), &study)?.marks.as_slice() == marks.as_slice());
-    Ok(())
-}
-
-/// A row with a fast alu unit takes 2,000 cycles for the loop and 71 for the product, and one with a fast
-/// multiplier 6,500 and 26. Which is the better one is the weight's affair.
-#[test]
-fn weights_choose_the_front(rt: HostRuntime) -> Result<(), Fail> {
-    let alloc = rt.alloc();
-    for (weight, cycles, front) in [
-        (1, [2071, 6526], [0].as_slice()),
-        (99, [9029, 9074], [0].as_slice()),
-        (100, [9100, 9100], [0, 1].as_slice()),
-        (101, [9171, 9126], [1].as_slice()),
-        (1000, [73000, 32500], [1].as_slice()),
-    ] {
-        let rows = vec![in alloc;
-            row_of(unit(1, 5), unit(64, 0))?,
-            row_of(unit(10, 5), unit(1, 0))?,
-        ]?;
-        let programs = vec![in alloc;
-            program_of(alloc, "loop", LOOP.as_slice(), 1)?,
-            program_of(alloc, "product", PRODUCT.as_slice(), weight)?,
-        ]?;
-        let study = study_on(alloc, programs, rows)?;
-        let marks = [Mark::Finished(cycles[0]), Mark::Finished(cycles[1])];
-        assert!(rt; whole(alloc, &study)?.marks.as_slice() == marks.as_slice());
-        let outcome = explored(&rt, &study, 2, &OpenGate)?;
-        assert!(rt;
-            outcome
-                .front
-                .iter()
-                .map(|row| row.row)
-                .eq(front.iter().copied())
-        );
-        for row in &outcome.front {
-            assert!(rt; Some(row.cycles) == cycles.get(row.row).copied());
-        }
-    }
     Ok(())
 }
