@@ -2,6 +2,7 @@
 use Rattle.std.specs.Prelude.{ℕ, [], ◌∷◌, codes, true, false, pos, Some}
 use Rattle.clap.specs.Words.{App, Rule, Shape, Text, new_app, new_rule}
 use Rattle.clap.specs.Simple.{new_shape, on_top}
+use Rattle.clap.specs.declared.builder.action.ArgAction.TheVariants.{SetTrue}
 use Rattle.clap.specs.declared.builder.value_parser.ValueParser.TheVariants as parsers
 
 -- a word that a command needs, in its place
@@ -21,6 +22,10 @@ option_rule name least greatest default = record (new_rule name) {
   defaults = default ∷ [];
 }
 
+-- a flag `--name`
+abbrev pub flag_rule : Text → Rule
+flag_rule name = record (new_rule name) { long = Some name; action = Some SetTrue }
+
 -- `run IMAGE [--base N] [--size N] [--limit N]`
 abbrev pub run_shape : Shape
 run_shape = record (new_shape (codes "run")) {
@@ -34,6 +39,12 @@ run_shape = record (new_shape (codes "run")) {
 abbrev pub times_shape : Shape
 times_shape = record (new_shape (codes "times")) {
   rules = word_rule (codes "STUDY") ∷ numeral_rule (codes "CONFIG") 0 16383 ∷ word_rule (codes "PROGRAM") ∷ [];
+}
+
+-- `stalls STUDY CONFIG PROGRAM [--by-pc]`
+abbrev pub stalls_shape : Shape
+stalls_shape = record (new_shape (codes "stalls")) {
+  rules = word_rule (codes "STUDY") ∷ numeral_rule (codes "CONFIG") 0 16383 ∷ word_rule (codes "PROGRAM") ∷ flag_rule (codes "by-pc") ∷ [];
 }
 
 -- `tables STUDY CONFIG PROGRAM CYCLE`
@@ -60,5 +71,5 @@ bare_app = on_top (λ s. record s { has_version = true; subcommand_required = tr
 abbrev pub tomex_app : App
 tomex_app = record {
   top = record (new_shape (codes "tomex")) { has_version = true; is_leaf = false; subcommand_required = true };
-  subs = run_shape ∷ times_shape ∷ tables_shape ∷ all_shape ∷ explore_shape ∷ [];
+  subs = run_shape ∷ times_shape ∷ stalls_shape ∷ tables_shape ∷ all_shape ∷ explore_shape ∷ [];
 }

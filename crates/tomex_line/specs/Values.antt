@@ -1,5 +1,5 @@
 -- The values that are asked for, by the rows of what `clap` is specified to find in a line's words.
-use Rattle.std.specs.Prelude.{◌≡◌, ℕ, List, codes, Some, Ok}
+use Rattle.std.specs.Prelude.{◌≡◌, ℕ, Bool, true, false, List, codes, Some, None, Ok}
 use Rattle.std.specs.Str.Parse.{ParsesUnsigned}
 use Rattle.std.specs.declared.num.ParseIntError.{ParseIntError}
 use Rattle.clap.specs.Words.{Row, Text, first_of, one_of}
@@ -13,6 +13,12 @@ abbrev pub IsNumber : List Row → Text → ℕ → Type 0
 IsNumber rows name number =
     (text : Text) × (one_of name rows ≡ Some text) × ParsesUnsigned {E = ParseIntError} 32 10 text (Ok number)
 
+-- whether a flag was found: `clap` keeps its value as a text, which is `false` where it wasn't given
+pub record IsFlag (rows : List Row) (name : Text) (given : Bool) : Type 0 where
+  pub yes : one_of name rows ≡ Some (codes "true") → given ≡ true
+  pub no : one_of name rows ≡ Some (codes "false") → given ≡ false
+  pub none : one_of name rows ≡ None → given ≡ false
+
 -- the values of `run`
 pub record IsRunAsked (rows : List Row) (image : List ℕ) (base size limit : ℕ) : Type 0 where
   pub is_image : IsWord rows (codes "IMAGE") image
@@ -25,6 +31,13 @@ pub record IsTimesAsked (rows : List Row) (study : List ℕ) (config : ℕ) (pro
   pub is_study : IsWord rows (codes "STUDY") study
   pub is_config : IsNumber rows (codes "CONFIG") config
   pub is_program : IsWord rows (codes "PROGRAM") program
+
+-- the values of `stalls`
+pub record IsStallsAsked (rows : List Row) (study : List ℕ) (config : ℕ) (program : List ℕ) (by_pc : Bool) : Type 0 where
+  pub is_study : IsWord rows (codes "STUDY") study
+  pub is_config : IsNumber rows (codes "CONFIG") config
+  pub is_program : IsWord rows (codes "PROGRAM") program
+  pub is_by_pc : IsFlag rows (codes "by-pc") by_pc
 
 -- the values of `tables`
 pub record IsTablesAsked (rows : List Row) (study : List ℕ) (config : ℕ) (program : List ℕ) (cycle : ℕ) : Type 0 where

@@ -8,6 +8,7 @@ mod system;
 pub use line::all::AllLine;
 pub use line::explore::ExploreLine;
 pub use line::run::RunLine;
+pub use line::stalls::StallsLine;
 pub use line::tables::TablesLine;
 pub use line::times::TimesLine;
 pub use line::{Line, LineFault, read_line};

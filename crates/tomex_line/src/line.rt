@@ -13,6 +13,7 @@ ghost use Rattle.tomex_line.specs.declared.line.LineFault.TheVariants.{Memory};
 pub mod all;
 pub mod explore;
 pub mod run;
+pub mod stalls;
 pub mod tables;
 pub mod times;
 mod values;
@@ -22,6 +23,7 @@ use clap::error::ErrorKind;
 use clap::{ArgMatches, Command};
 use explore::ExploreLine;
 use run::RunLine;
+use stalls::StallsLine;
 use std::alloc::{AllocError, Global};
 use tables::TablesLine;
 use times::TimesLine;
@@ -32,6 +34,7 @@ use values::refused;
 pub enum Line<'a> {
     Run(RunLine<'a>),
     Times(TimesLine<'a>),
+    Stalls(StallsLine<'a>),
     Tables(TablesLine<'a>),
     All(AllLine<'a>),
     Explore(ExploreLine<'a>),
@@ -86,6 +89,7 @@ const AFTER_LONG_HELP: &str = "Exit status:
 Examples, in the folder `examples`:
   tomex run mul.bin --size 4096
   tomex times study.toml 4 mul
+  tomex stalls study.toml 4 mul
   tomex tables study.toml 4 mul 3
   tomex all study.toml
   tomex explore explore.toml --workers 4
@@ -111,6 +115,7 @@ fn grammar<'a>(alloc: Global) -> Result<Command<'a>, AllocError>
     without_commands(alloc)
         .subcommand(run::grammar(alloc)?)?
         .subcommand(times::grammar(alloc)?)?
+        .subcommand(stalls::grammar(alloc)?)?
         .subcommand(tables::grammar(alloc)?)?
         .subcommand(all::grammar(alloc)?)?
         .subcommand(explore::grammar(alloc)?)
@@ -123,6 +128,7 @@ fn line_of<'a>(alloc: Global, matches: &ArgMatches<'a>) -> Result<Line<'a>, Line
     match matches.subcommand() {
         Some(("run", inner)) => Ok(Line::Run(run::line_of(alloc, inner)?)),
         Some(("times", inner)) => Ok(Line::Times(times::line_of(alloc, inner)?)),
+        Some(("stalls", inner)) => Ok(Line::Stalls(stalls::line_of(alloc, inner)?)),
         Some(("tables", inner)) => Ok(Line::Tables(tables::line_of(alloc, inner)?)),
         Some(("all", inner)) => Ok(Line::All(all::line_of(alloc, inner)?)),
         Some(("explore", inner)) => Ok(Line::Explore(explore::line_of(alloc, inner)?)),

@@ -14,7 +14,7 @@ use Rattle.tomex_sweep.specs.Study.{DesignSpace}
 use Rattle.tomex_sweep.specs.Front.{front_of_study}
 use Rattle.tomex_sweep.specs.declared.front_row.FrontRow.{FrontRow}
 use Rattle.tomex_sweep.specs.declared.watch.WatchRange.{WatchRange}
-use Rattle.tomex_report.specs.Csv.{record_text}
+use Rattle.tomex_records.specs.Csv.{record_text}
 use Rattle.tomex_report.specs.declared.ends.ProgramEnd.{ProgramEnd}
 use Rattle.tomex_report.specs.Ends.{bytes_at, count_of, last_state}
 

@@ -1,4 +1,3 @@
-pub mod Csv
 pub mod TimesReport
 pub mod TablesText
 pub mod Study

@@ -9,13 +9,13 @@ ghost use Rattle.tomex_report.specs.Ends.{IsProgramEnd};
 ghost use Rattle.tomex_report.specs.FrontReport.{end_fields, if_wide, program_fields, row_fields, station_fields, unit_fields};
 ghost use Rattle.std.specs.Fmt.{decimal};
 
-use crate::csv_text::push_decimal;
 use crate::end_texts::{registers_text, watch_text};
 use crate::ends::ProgramEnd;
 use csv::ByteRecord;
 use std::alloc::{AllocError, Allocator, Global};
 use std::fmt::Write;
 use tomex_config::Config;
+use tomex_records::push_decimal;
 use tomex_rvdec::{PoolId, UnitId};
 use tomex_sweep::{FrontRow, Program, WatchRange};
 

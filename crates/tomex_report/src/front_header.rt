@@ -6,18 +6,7 @@ ghost use Rattle.tomex_report.specs.FrontReport.{if_wide, program_columns, row_c
 
 use csv::ByteRecord;
 use std::alloc::{AllocError, Global};
-
-/// Adds these names to a record.
-fn push_names(fields: &mut ByteRecord, names: &[&str]) -> Result<(), AllocError>
-    requires { partial_of fields.old ≡ [] }
-    ensures fields { OnOk result (fields_of fields.new ≡ fields_of fields.old ++ map (λ name. name.now) names.now) }
-    ensures whole { OnOk result (partial_of fields.new ≡ []) }
-{
-    for name in names {
-        fields.push_field(name.as_bytes())?;
-    }
-    Ok(())
-}
+use tomex_records::push_names;
 
 /// Adds a name to a record of a report that shows widths and weights.
 fn push_if_wide(fields: &mut ByteRecord, wide: bool, name: &str) -> Result<(), AllocError>

@@ -3,12 +3,11 @@
 ghost use Rattle.std.specs.Prelude.{◌≡◌, ◌++◌, IfOk, OnOk};
 ghost use Rattle.std.specs.List.{AllZip, flat_map};
 ghost use Rattle.tomex_sweep.specs.Front.{front_of_study};
-ghost use Rattle.tomex_report.specs.Csv.{IsReady, written};
+ghost use Rattle.tomex_records.specs.Csv.{IsReady, written};
 ghost use Rattle.tomex_report.specs.Ends.{IsProgramEnd};
 ghost use Rattle.tomex_report.specs.RowEnds.{AreEndsOf};
 ghost use Rattle.tomex_report.specs.FrontReport.{program_record, records_of, report_of};
 
-use crate::csv_text::put_record;
 use crate::ends::ProgramEnd;
 use crate::front_fields::fill_record;
 use crate::front_header::columns;
@@ -16,6 +15,7 @@ use crate::row_ends::RowEnds;
 use csv::{ByteRecord, Writer};
 use std::alloc::{AllocError, Allocator, Global};
 use tomex_config::Config;
+use tomex_records::{into_text, put_record};
 use tomex_sweep::{FrontRow, Program, Study};
 
 /// Writes the records of a front row's programs.
@@ -115,8 +115,5 @@ pub fn front_report<A: Allocator + Clone>(
     let mut writer = Writer::from_writer(Vec::new(alloc));
     put_record(&mut writer, &columns(heap, study.wide())?)?;
     put_rows(&mut writer, heap, study, front, ends)?;
-    match writer.into_inner() {
-        Ok(text) => Ok(text),
-        Err(_) => Err(AllocError),
-    }
+    into_text(writer)
 }

@@ -5,7 +5,6 @@
 
 mod answer_error;
 mod answering;
-mod csv_text;
 mod end_texts;
 mod ends;
 mod front_fields;

@@ -2,19 +2,17 @@
 
 ghost use Rattle.std.specs.Prelude.{◌≡◌, ◌++◌, ◌∷◌, [], IfOk, OnOk, length, codes};
 ghost use Rattle.csv.specs.Records.{fields_of, partial_of};
-ghost use Rattle.tomex_report.specs.Csv.{IsReady, written};
+ghost use Rattle.tomex_records.specs.Csv.{IsReady, written};
 ghost use Rattle.tomex_report.specs.TimesReport.{cycle_text, station_text, fields_of_step, header, report_of_times, step_records, times_report_of, total_fields};
 ghost use Rattle.tomex_rvexec.specs.Run.{start_of};
 ghost use Rattle.tomex_rvexec.specs.Steps.{step_pool};
 ghost use Rattle.tomex_rvexec.specs.Trace.{steps_from};
-ghost use Rattle.tomex_rvexec.specs.Texts.{hex8};
-ghost use Rattle.tomex_rvdec.specs.Text.{instr_text};
 
-use crate::csv_text::{push_decimal, put_record};
 use csv::{ByteRecord, Writer};
 use std::alloc::{AllocError, Allocator, Global};
 use std::fmt::Write;
 use tomex_config::Config;
+use tomex_records::{into_text, push_decimal, push_instruction, put_record};
 use tomex_rvexec::{Step, trace};
 use tomex_sweep::Program;
 use tomex_timing::Times;
@@ -69,25 +67,6 @@ fn push_cycle(
         Some(cycle) => push_decimal(fields, scratch, cycle),
         None => fields.push_field(b"-"),
     }
-}
-
-/// Adds what a step is: its address and its instruction.
-fn push_instruction(
-    fields: &mut ByteRecord,
-    scratch: &mut String,
-    step: &Step,
-) -> Result<(), AllocError>
-    requires { partial_of fields.old ≡ [] }
-    ensures fields { OnOk result (fields_of fields.new ≡ fields_of fields.old ++ hex8 step.now.pc ∷ instr_text step.now.instr ∷ []) }
-    ensures whole { OnOk result (partial_of fields.new ≡ []) }
-{
-    let (pc, instr) = (step.pc, step.instr);
-    scratch.clear();
-    write!(scratch, "{pc:08x}")?;
-    fields.push_field(scratch.as_bytes())?;
-    scratch.clear();
-    write!(scratch, "{instr}")?;
-    fields.push_field(scratch.as_bytes())
 }
 
 /// Adds a step's station, or `-` where it has none.
@@ -169,10 +148,7 @@ fn text_of_times<A: Allocator>(
     put_record(&mut writer, &header_of(heap)?)?;
     put_steps(&mut writer, heap, steps, times)?;
     put_record(&mut writer, &total_record(heap, total(times))?)?;
-    match writer.into_inner() {
-        Ok(text) => Ok(text),
-        Err(_) => Err(AllocError),
-    }
+    into_text(writer)
 }
 
 /// The times report of a program on a row: CSV with a header, a record for each step in program

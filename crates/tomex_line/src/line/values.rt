@@ -1,13 +1,13 @@
 //! The values of a line: what `clap` is to read, and what it read.
 ghost use Rattle.std.specs.Prelude.{◌≡◌, ◌≤◌, false, IfOk, IfErr};
 ghost use Rattle.tomex_line.specs.Lines.{IsRefusal};
-ghost use Rattle.tomex_line.specs.Grammar.{word_rule, numeral_rule, option_rule};
+ghost use Rattle.tomex_line.specs.Grammar.{word_rule, numeral_rule, option_rule, flag_rule};
 ghost use Rattle.clap.specs.Words.{rule_of, found_of};
 ghost use Rattle.clap.specs.Walk.{rows_of};
-ghost use Rattle.tomex_line.specs.Values.{IsNumber, IsWord};
+ghost use Rattle.tomex_line.specs.Values.{IsFlag, IsNumber, IsWord};
 
 use super::LineFault;
-use clap::{Arg, ArgMatches, value_parser};
+use clap::{Arg, ArgAction, ArgMatches, value_parser};
 use std::alloc::Global;
 
 /// The least and the greatest value of a number.
@@ -52,6 +52,17 @@ pub fn numeral<'a>(alloc: Global, name: &'a str, bounds: Bounds, help: &'a str) 
     Arg::new(alloc, name)
         .required(true)
         .value_parser(value_parser!(u32).range(range))
+        .help(help)
+}
+
+/// A flag `--NAME`, which takes no value.
+pub fn flag<'a>(alloc: Global, name: &'a str, help: &'a str) -> Arg<'a>
+    ensures rule { rule_of result ≡ flag_rule name.entry.now }
+    ensures global { result.global ≡ false }
+{
+    Arg::new(alloc, name)
+        .long(name)
+        .action(ArgAction::SetTrue)
         .help(help)
 }
 
@@ -104,4 +115,11 @@ pub fn word_of<'a>(
         Some(text) => Ok(text),
         None => Err(refused(alloc, name)),
     }
+}
+
+/// Whether a flag was given.
+pub fn flag_of(matches: &ArgMatches<'_>, name: &str) -> bool
+    ensures { IsFlag (rows_of (found_of matches.now)) name.now result }
+{
+    matches.get_flag(name)
 }

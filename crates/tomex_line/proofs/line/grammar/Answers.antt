@@ -11,4 +11,5 @@ returns c =
     let two = c.in_ok-subcommand-2.ensures.shape (no_globals _ _ c.in_ok-grammar-2.ensures refl) ∙ ap₂ with_subcommand one c.in_ok-grammar-2.ensures in
     let three = c.in_ok-subcommand-3.ensures.shape (no_globals _ _ c.in_ok-grammar-3.ensures refl) ∙ ap₂ with_subcommand two c.in_ok-grammar-3.ensures in
     let four = c.in_ok-subcommand-4.ensures.shape (no_globals _ _ c.in_ok-grammar-4.ensures refl) ∙ ap₂ with_subcommand three c.in_ok-grammar-4.ensures in
-    IfOk-weaker c.subcommand-5.result _ _ (λ m h. h.shape (no_globals _ _ c.in_ok-grammar-5.ensures refl) ∙ ap₂ with_subcommand four c.in_ok-grammar-5.ensures) c.subcommand-5.ensures
+    let five = c.in_ok-subcommand-5.ensures.shape (no_globals _ _ c.in_ok-grammar-5.ensures refl) ∙ ap₂ with_subcommand four c.in_ok-grammar-5.ensures in
+    IfOk-weaker c.subcommand-6.result _ _ (λ m h. h.shape (no_globals _ _ c.in_ok-grammar-6.ensures refl) ∙ ap₂ with_subcommand five c.in_ok-grammar-6.ensures) c.subcommand-6.ensures

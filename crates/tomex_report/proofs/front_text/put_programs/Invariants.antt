@@ -1,7 +1,7 @@
 -- The text so far, and that of the programs to come.
 use Rattle.std.proofs.Common.{◌≡◌, ◌++◌, drop}
 use Rattle.std.specs.List.{flat_map}
-use Rattle.tomex_report.specs.Csv.{IsReady, written}
+use Rattle.tomex_records.specs.Csv.{IsReady, written}
 use Rattle.tomex_report.specs.FrontReport.{program_record}
 use Rattle.tomex_report.proofs.front_text.put_programs.Given as goal
 

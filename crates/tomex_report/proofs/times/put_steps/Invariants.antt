@@ -1,6 +1,6 @@
 -- The text so far, and that of the steps to come.
 use Rattle.std.proofs.Common.{◌≡◌, ◌+◌, ◌++◌, drop}
-use Rattle.tomex_report.specs.Csv.{IsReady, written}
+use Rattle.tomex_records.specs.Csv.{IsReady, written}
 use Rattle.tomex_report.specs.TimesReport.{step_records}
 use Rattle.tomex_report.proofs.times.put_steps.Given as goal
 

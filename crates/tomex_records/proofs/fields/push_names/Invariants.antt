@@ -1,7 +1,7 @@
 -- The names so far are in the record.
 use Rattle.std.proofs.Common.{◌≡◌, ◌++◌, [], take, map}
 use Rattle.csv.specs.Records.{fields_of, partial_of}
-use Rattle.tomex_report.proofs.front_header.push_names.Given as goal
+use Rattle.tomex_records.proofs.fields.push_names.Given as goal
 
 abbrev pub invariant-loop-name : goal.invariant-loop-name
 invariant-loop-name l = record {

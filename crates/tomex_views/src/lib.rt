@@ -1,0 +1,2 @@
+//! What people look at to understand one run: which parts of a machine hold a program back.
+#![tactic(auto)]
