@@ -6,6 +6,7 @@ pub mod RunLines
 pub mod RunText
 pub mod Statuses
 pub mod StudyFiles
+pub mod StallsLines
 pub mod TablesLines
 pub mod Telling
 pub mod TimesLines

@@ -10,6 +10,7 @@ pub mod chosen;
 pub mod explore;
 pub mod reading;
 pub mod run;
+pub mod stalls;
 pub mod study;
 pub mod tables;
 pub mod times;
@@ -19,6 +20,7 @@ use crate::telling::{tell, tell_line_fault};
 use all::text_of_all;
 use explore::text_of_explore;
 use run::text_of_run;
+use stalls::text_of_stalls;
 use std::alloc::{Allocator, Global};
 use std::sync::Wait;
 use std::thread::Threads;
@@ -47,6 +49,7 @@ fn text_of<
     match line {
         Line::Run(line) => text_of_run(alloc, heap, line, files),
         Line::Times(line) => text_of_times(alloc, heap, line, files),
+        Line::Stalls(line) => text_of_stalls(alloc, heap, line, files),
         Line::Tables(line) => text_of_tables(alloc, heap, line, files),
         Line::All(line) => text_of_all(rt, alloc, heap, line, files, meter),
         Line::Explore(line) => text_of_explore(rt, alloc, heap, line, files, meter),

@@ -29,3 +29,4 @@ pub use study::read_study;
 pub use tables::tables_text;
 pub use times::times_report;
 pub use tomex_document::{Key, Place, StudyError, documents_have_a_grid, file_names};
+pub use tomex_views::{stalls_by_pc, stalls_report};

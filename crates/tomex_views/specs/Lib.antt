@@ -1,0 +1,4 @@
+pub mod StallsReport
+pub mod ByPlace
+pub mod Tally
+pub mod Laws

@@ -1,0 +1,134 @@
+//! The stalls report by place in the program.
+
+ghost use Rattle.std.specs.Prelude.{◌≡◌, ◌++◌, ◌∷◌, [], IfOk, OnOk};
+ghost use Rattle.std.specs.BTreeMap.{values};
+ghost use Rattle.std.specs.List.{flat_map};
+ghost use Rattle.csv.specs.Records.{fields_of, partial_of};
+ghost use Rattle.tomex_rvexec.specs.Run.{start_of};
+ghost use Rattle.tomex_rvexec.specs.Trace.{steps_from};
+ghost use Rattle.tomex_records.specs.Csv.{IsReady, record_text, written};
+ghost use Rattle.tomex_views.specs.ByPlace.{IsReportByPlace, header, sum_fields};
+ghost use Rattle.tomex_views.specs.Tally.{place_fields, report_of_tally, total_fields};
+
+use crate::steps::steps_of;
+use crate::tally::{Place, Sum, Tally, tally};
+use csv::{ByteRecord, Writer};
+use std::alloc::{AllocError, Allocator, Global};
+use tomex_config::Config;
+use tomex_records::{into_text, push_decimal, push_instruction, push_names, put_record};
+use tomex_sweep::Program;
+use tomex_timing::evaluate::waits;
+
+/// The names of the columns.
+fn header_of(heap: Global) -> Result<ByteRecord, AllocError>
+    ensures { IfOk result (λ made. fields_of made ≡ header) }
+{
+    let mut record = ByteRecord::new(heap);
+    let names = [
+        "pc", "instr", "steps", "branch", "width", "station", "operand", "address", "memory",
+        "unit", "bus",
+    ];
+    push_names(&mut record, &names)?;
+    Ok(record)
+}
+
+/// Adds how many steps there are, and how long they wait.
+fn push_sum(
+    fields: &mut ByteRecord,
+    scratch: &mut String,
+    sum: &Sum,
+) -> Result<(), AllocError>
+    requires { partial_of fields.old ≡ [] }
+    ensures fields { OnOk result (fields_of fields.new
+        ≡ fields_of fields.old ++ sum_fields sum.now.steps sum.now.waits) }
+    ensures whole { OnOk result (partial_of fields.new ≡ []) }
+{
+    let waits = &sum.waits;
+    push_decimal(fields, scratch, sum.steps)?;
+    push_decimal(fields, scratch, waits.branch)?;
+    push_decimal(fields, scratch, waits.width)?;
+    push_decimal(fields, scratch, waits.station)?;
+    push_decimal(fields, scratch, waits.operand)?;
+    push_decimal(fields, scratch, waits.address)?;
+    push_decimal(fields, scratch, waits.memory)?;
+    push_decimal(fields, scratch, waits.unit)?;
+    push_decimal(fields, scratch, waits.bus)
+}
+
+/// Makes a record the one of an address.
+fn fill_place(
+    fields: &mut ByteRecord,
+    scratch: &mut String,
+    place: &Place,
+) -> Result<(), AllocError>
+    ensures { OnOk result (fields_of fields.new ≡ place_fields place.now) }
+{
+    fields.clear();
+    push_instruction(fields, scratch, &place.first)?;
+    push_sum(fields, scratch, &place.sum)
+}
+
+/// Writes the records of the addresses, rising.
+fn put_places<A: Allocator>(
+    writer: &mut Writer<Vec<u8, A>>,
+    heap: Global,
+    tally: &Tally<A>,
+) -> Result<(), AllocError>
+    requires ready { IsReady writer.old }
+    ensures ready { OnOk result (IsReady writer.new) }
+    ensures text { OnOk result (written (λ v. v.items) writer.new
+        ≡ written (λ v. v.items) writer.old ++ flat_map (λ place. record_text (place_fields place)) (values tally.now.places)) }
+{
+    let mut record = ByteRecord::new(heap);
+    let mut scratch = String::new(heap);
+    for place in tally.places.values() {
+        fill_place(&mut record, &mut scratch, place)?;
+        put_record(writer, &record)?;
+    }
+    Ok(())
+}
+
+/// The record of all steps.
+fn total_record(heap: Global, all: &Sum) -> Result<ByteRecord, AllocError>
+    ensures { IfOk result (λ made. fields_of made ≡ total_fields all.now) }
+{
+    let mut record = ByteRecord::new(heap);
+    push_names(&mut record, &["total", "-"])?;
+    push_sum(&mut record, &mut String::new(heap), all)?;
+    Ok(record)
+}
+
+/// The report of what was counted.
+fn text_of_tally<A: Allocator>(
+    alloc: A,
+    heap: Global,
+    tally: &Tally<A>,
+) -> Result<Vec<u8, A>, AllocError>
+    ensures { IfOk result (λ text. text.items ≡ report_of_tally tally.now) }
+{
+    let mut writer = Writer::from_writer(Vec::new(alloc));
+    put_record(&mut writer, &header_of(heap)?)?;
+    put_places(&mut writer, heap, tally)?;
+    put_record(&mut writer, &total_record(heap, &tally.all)?)?;
+    into_text(writer)
+}
+
+/// The stalls report of a program on a row by place in the program: CSV with a header, a record for each address at
+/// which the run has a step, rising, with how many steps it has there and for how many cycles they wait for what, and
+/// last the same of all steps.
+///
+/// What `csv` needs for its records it takes of `heap`.
+pub fn stalls_by_pc<A: Allocator + Clone>(
+    alloc: A,
+    heap: Global,
+    program: &Program<A>,
+    row: &Config,
+) -> Result<Vec<u8, A>, AllocError>
+    ensures { IfOk result (λ text.
+        IsReportByPlace row.now (steps_from program.now.limit (start_of program.now.image)) text.items) }
+{
+    let steps = steps_of(alloc.clone()?, program)?;
+    let waits = waits(alloc.clone()?, steps.as_slice(), row)?;
+    let tally = tally(alloc.clone()?, steps.as_slice(), waits.as_slice())?;
+    text_of_tally(alloc, heap, &tally)
+}

@@ -1,0 +1,160 @@
+//! The stalls report of a run on one row.
+
+ghost use Rattle.std.specs.Prelude.{◌≡◌, ◌++◌, ◌∷◌, [], IfOk, OnOk};
+ghost use Rattle.std.specs.List.{flat_map};
+ghost use Rattle.csv.specs.Records.{fields_of, partial_of};
+ghost use Rattle.tomex_rvexec.specs.Run.{start_of};
+ghost use Rattle.tomex_rvexec.specs.Trace.{steps_from};
+ghost use Rattle.tomex_records.specs.Csv.{IsReady, written};
+ghost use Rattle.tomex_views.specs.StallsReport.{IsStallsReport, all_parts, header, name_of_part, other_record, other_records, part_fields, part_record, report_of_needs};
+
+use crate::steps::steps_of;
+use csv::{ByteRecord, Writer};
+use std::alloc::{AllocError, Allocator, Global};
+use std::fmt::Write;
+use tomex_config::Config;
+use tomex_records::{into_text, push_decimal, push_names, put_record};
+use tomex_sweep::Program;
+use tomex_timing::evaluate::needs;
+use tomex_timing::{Needs, Part};
+
+/// The names of the columns.
+fn header_of(heap: Global) -> Result<ByteRecord, AllocError>
+    ensures { IfOk result (λ made. fields_of made ≡ header) }
+{
+    let mut record = ByteRecord::new(heap);
+    push_names(&mut record, &["part", "count", "peak", "stalls"])?;
+    Ok(record)
+}
+
+/// Adds a part's name.
+fn push_part(
+    fields: &mut ByteRecord,
+    scratch: &mut String,
+    part: Part,
+) -> Result<(), AllocError>
+    requires { partial_of fields.old ≡ [] }
+    ensures fields { OnOk result (fields_of fields.new ≡ fields_of fields.old ++ name_of_part part ∷ []) }
+    ensures whole { OnOk result (partial_of fields.new ≡ []) }
+{
+    scratch.clear();
+    match part {
+        Part::Stations(pool) => write!(scratch, "{pool}")?,
+        Part::Units(unit) => write!(scratch, "{unit}_units")?,
+        Part::Buses => scratch.push_str("buses")?,
+        Part::Width => scratch.push_str("width")?,
+    }
+    fields.push_field(scratch.as_bytes())
+}
+
+/// Makes a record the one of a part.
+fn fill_part(
+    fields: &mut ByteRecord,
+    scratch: &mut String,
+    row: &Config,
+    needs: &Needs,
+    part: Part,
+) -> Result<(), AllocError>
+    ensures { OnOk result (fields_of fields.new ≡ part_fields row.now needs.now part) }
+{
+    let need = needs.need(part);
+    fields.clear();
+    push_part(fields, scratch, part)?;
+    push_decimal(fields, scratch, part.count(row))?;
+    push_decimal(fields, scratch, need.peak)?;
+    push_decimal(fields, scratch, need.stalls)?;
+    Ok(())
+}
+
+/// Writes the records of the parts.
+fn put_parts<A: Allocator>(
+    writer: &mut Writer<Vec<u8, A>>,
+    heap: Global,
+    row: &Config,
+    needs: &Needs,
+) -> Result<(), AllocError>
+    requires ready { IsReady writer.old }
+    ensures ready { OnOk result (IsReady writer.new) }
+    ensures text { OnOk result (written (λ v. v.items) writer.new
+        ≡ written (λ v. v.items) writer.old ++ flat_map (part_record row.now needs.now) all_parts) }
+{
+    let mut record = ByteRecord::new(heap);
+    let mut scratch = String::new(heap);
+    for part in Part::ALL {
+        fill_part(&mut record, &mut scratch, row, needs, part)?;
+        put_record(writer, &record)?;
+    }
+    Ok(())
+}
+
+/// Writes the record of cycles that are no part's.
+fn put_other<A: Allocator>(
+    writer: &mut Writer<Vec<u8, A>>,
+    heap: Global,
+    name: &str,
+    cycles: u64,
+) -> Result<(), AllocError>
+    requires ready { IsReady writer.old }
+    ensures ready { OnOk result (IsReady writer.new) }
+    ensures text { OnOk result (written (λ v. v.items) writer.new
+        ≡ written (λ v. v.items) writer.old ++ other_record name.now cycles) }
+{
+    let mut record = ByteRecord::new(heap);
+    push_names(&mut record, &[name, "-", "-"])?;
+    push_decimal(&mut record, &mut String::new(heap), cycles)?;
+    put_record(writer, &record)
+}
+
+/// Writes the records of what is no part: the other causes of waits, the drain and the total.
+fn put_others<A: Allocator>(
+    writer: &mut Writer<Vec<u8, A>>,
+    heap: Global,
+    needs: &Needs,
+) -> Result<(), AllocError>
+    requires ready { IsReady writer.old }
+    ensures ready { OnOk result (IsReady writer.new) }
+    ensures text { OnOk result (written (λ v. v.items) writer.new
+        ≡ written (λ v. v.items) writer.old ++ other_records needs.now) }
+{
+    put_other(writer, heap, "branch", needs.branch)?;
+    put_other(writer, heap, "operand", needs.operand)?;
+    put_other(writer, heap, "address", needs.address)?;
+    put_other(writer, heap, "memory", needs.memory)?;
+    put_other(writer, heap, "drain", needs.drain())?;
+    put_other(writer, heap, "total", needs.total)
+}
+
+/// The report of these needs.
+fn text_of_needs<A: Allocator>(
+    alloc: A,
+    heap: Global,
+    row: &Config,
+    needs: &Needs,
+) -> Result<Vec<u8, A>, AllocError>
+    ensures { IfOk result (λ text. text.items ≡ report_of_needs row.now needs.now) }
+{
+    let mut writer = Writer::from_writer(Vec::new(alloc));
+    put_record(&mut writer, &header_of(heap)?)?;
+    put_parts(&mut writer, heap, row, needs)?;
+    put_others(&mut writer, heap, needs)?;
+    into_text(writer)
+}
+
+/// The stalls report of a program on a row: CSV with a header, a record for each part with how many the row has, how
+/// many of them the run takes at once at most, and for how many cycles its steps wait for one; then the cycles that
+/// they wait for what is no part, the drain, which is the cycles after the last issue, and the total.
+///
+/// What `csv` needs for its records it takes of `heap`.
+pub fn stalls_report<A: Allocator + Clone>(
+    alloc: A,
+    heap: Global,
+    program: &Program<A>,
+    row: &Config,
+) -> Result<Vec<u8, A>, AllocError>
+    ensures { IfOk result (λ text.
+        IsStallsReport row.now (steps_from program.now.limit (start_of program.now.image)) text.items) }
+{
+    let steps = steps_of(alloc.clone()?, program)?;
+    let needs = needs(alloc.clone()?, steps.as_slice(), row)?;
+    text_of_needs(alloc, heap, row, &needs)
+}
