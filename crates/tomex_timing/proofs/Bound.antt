@@ -19,7 +19,7 @@ use Rattle.tomex_timing.proofs.Least.{least_le}
 use Rattle.tomex_timing.proofs.Limits.{latency_low, latency_high}
 use Rattle.tomex_timing.proofs.Settled.{AllBy, can_issue_after, can_address_after, can_start_after, can_end_after}
 
-issue_low : (row : Row) (older : List Done) (s : Step) (t : ℕ) → can_issue row older s t ≡ true → 0 < t
+pub issue_low : (row : Row) (older : List Done) (s : Step) (t : ℕ) → can_issue row older s t ≡ true → 0 < t
 issue_low row older s t h = ltb-true 0 t (and_parts _ _ (and_parts _ _ (and_parts _ _ h).0).0).0
 
 pub start_low : (row : Row) (older : List Done) (s : Step) (unit : UnitId) (issue address t : ℕ) → can_start row older s unit issue address t ≡ true → (issue < t) × (address < t)

@@ -11,6 +11,17 @@ pub mod Width
 pub mod Histories
 pub mod Orders
 pub mod Holders
+pub mod Places
+pub mod Pigeons
+pub mod Taken
+pub mod Telling
+pub mod Serving
 pub mod Searching
 pub mod Windows
+pub mod Bands
+pub mod Charges
+pub mod Needed
+pub mod Small
+pub mod Accounts
 pub mod Turns
+pub mod NeedTurns

@@ -9,7 +9,7 @@ use Rattle.tomex_rvdec.specs.declared.pool.UnitId.{UnitId}
 use Rattle.tomex_rvdec.specs.declared.pool.UnitId.TheVariants as units
 use Rattle.tomex_config.specs.Row.{Row, IsRow, is_between, is_option, stations_of, option_of, plain_option}
 
-pool_in : (pool : PoolId) → place_of_pool pool < 6
+pub pool_in : (pool : PoolId) → place_of_pool pool < 6
 pool_in pools.Alu = omega arith
 pool_in pools.Mul = omega arith
 pool_in pools.Div = omega arith
@@ -17,7 +17,7 @@ pool_in pools.Load = omega arith
 pool_in pools.Store = omega arith
 pool_in pools.Bru = omega arith
 
-unit_in : (unit : UnitId) → place_of_unit unit < 5
+pub unit_in : (unit : UnitId) → place_of_unit unit < 5
 unit_in units.Alu = omega arith
 unit_in units.Mul = omega arith
 unit_in units.Div = omega arith

@@ -31,11 +31,11 @@ least_cases p n =
     rw z at (first_from_cases p 0 n (λ s l. absurd (omega arith)))
 
 -- the step has a station of the pool whose number is lower
-abbrev lower : Option ℕ → ℕ → Bool
+abbrev pub lower : Option ℕ → ℕ → Bool
 lower None n = false
 lower (Some m) n = nat_lt m n
 
-abbrev one : Bool → ℕ
+abbrev pub one : Bool → ℕ
 one b = cond b 1 0
 
 split_number : (m n : ℕ) → one (nat_lt m (suc n)) ≡ one (nat_lt m n) + one (m == n)
@@ -50,7 +50,7 @@ split_one false st n = refl
 split_one true None n = refl
 split_one true (Some m) n = split_number m n
 
-split_count : {X : Type 0} (held : X → Bool) (station : X → Option ℕ) (n : ℕ) (xs : List X) → count_by (λ d. held d && lower (station d) (suc n)) xs ≡ count_by (λ d. held d && lower (station d) n) xs + count_by (λ d. held d && is_number (station d) n) xs
+pub split_count : {X : Type 0} (held : X → Bool) (station : X → Option ℕ) (n : ℕ) (xs : List X) → count_by (λ d. held d && lower (station d) (suc n)) xs ≡ count_by (λ d. held d && lower (station d) n) xs + count_by (λ d. held d && is_number (station d) n) xs
 split_count held station n [] = refl
 split_count held station n (d ∷ xs) =
     let e = split_count held station n xs in
@@ -73,12 +73,12 @@ pigeons held station xs (suc n) h =
     let e = split_count held station n xs in
     omega arith
 
-one_part : (a b : Bool) → one (a && b) ≤ one a
+pub one_part : (a b : Bool) → one (a && b) ≤ one a
 one_part false b = omega arith
 one_part true false = omega arith
 one_part true true = omega arith
 
-part_count : {X : Type 0} (held : X → Bool) (station : X → Option ℕ) (n : ℕ) (xs : List X) → count_by (λ d. held d && lower (station d) n) xs ≤ count_by (held) xs
+pub part_count : {X : Type 0} (held : X → Bool) (station : X → Option ℕ) (n : ℕ) (xs : List X) → count_by (λ d. held d && lower (station d) n) xs ≤ count_by (held) xs
 part_count held station n [] = omega arith
 part_count held station n (d ∷ xs) =
     let e = part_count held station n xs in

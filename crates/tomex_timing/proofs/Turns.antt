@@ -97,7 +97,7 @@ turn row xs x at live latest good small_j small_k small kept next =
     let m : history row (xs ++ (x ∷ [])) ≡ record { step = x; at = at } ∷ history row xs = rw same (history_more row xs x) in
     (rw m k, times_more row xs x ∙ ap (λ t. times_in row xs ++ (t ∷ [])) (sym same))
 
-for_some : (o : Option ℕ) → IfSome o (λ r. r < 32) → ForSome o (λ r. r < 32)
+pub for_some : (o : Option ℕ) → IfSome o (λ r. r < 32) → ForSome o (λ r. r < 32)
 for_some None h x e = absurd (cc)
 for_some (Some r) h x e = let k : r ≡ x = cc in rw (← k) h
 

@@ -49,7 +49,7 @@ abbrev one : Bool → ℕ
 one b = cond b 1 0
 
 -- a count over those that end in the cycle or later is that over all, where the others don't pass
-count_recent : (p : Live → Bool) (c : ℕ) → ((l : Live) → IsClosed l → l.end < c → p l ≡ false) → (h : List Done) → AreClosed h → count_by p (recent c h) ≡ count_by (λ d. p (live_of d)) h
+pub count_recent : (p : Live → Bool) (c : ℕ) → ((l : Live) → IsClosed l → l.end < c → p l ≡ false) → (h : List Done) → AreClosed h → count_by p (recent c h) ≡ count_by (λ d. p (live_of d)) h
 count_recent p c out [] close = refl
 count_recent p c out (d ∷ h) close = elim (cases_Bool (nat_le c d.at.end)) [
   | inl e ↦
@@ -67,7 +67,7 @@ count_recent p c out (d ∷ h) close = elim (cases_Bool (nat_le c d.at.end)) [
       rw (e, k, v, n) (omega arith)
 ]
 
-all_recent : (p : Live → Bool) (c : ℕ) → ((l : Live) → IsClosed l → l.end < c → p l ≡ true) → (h : List Done) → AreClosed h → list_all p (recent c h) ≡ list_all (λ d. p (live_of d)) h
+pub all_recent : (p : Live → Bool) (c : ℕ) → ((l : Live) → IsClosed l → l.end < c → p l ≡ true) → (h : List Done) → AreClosed h → list_all p (recent c h) ≡ list_all (λ d. p (live_of d)) h
 all_recent p c out [] close = refl
 all_recent p c out (d ∷ h) close = elim (cases_Bool (nat_le c d.at.end)) [
   | inl e ↦ rw (e, list_all-append p (recent c h) (live_of d ∷ []), all_recent p c out h close.1) (swap (list_all (λ d. p (live_of d)) h) (p (live_of d)))
@@ -88,7 +88,7 @@ station_agree row h (Some pool) c t close l =
     rw (count_recent (is_held_by pool t) c (λ x k m. and_right (is_in pool x.facts.pool) (nat_le t x.end) (lt-leb t x.end (omega arith))) h close) refl
 
 -- the first cycle from a greatest one on
-max_split : (a b t : ℕ) → nat_le (max a b) t ≡ (nat_le a t && nat_le b t)
+pub max_split : (a b t : ℕ) → nat_le (max a b) t ≡ (nat_le a t && nat_le b t)
 max_split a b t = elim (cases_Bool (nat_le a t)) [
   | inl e ↦ let x : a ≤ t = leb-true a t e in elim (cases_Bool (nat_le b t)) [
     | inl f ↦ let y : b ≤ t = leb-true b t f in rw (e, f) (le-leb (max a b) t (omega arith))
@@ -98,7 +98,7 @@ max_split a b t = elim (cases_Bool (nat_le a t)) [
 ]
 
 -- a cycle from the next one on is later
-after_split : (a t : ℕ) → nat_le (a + 1) t ≡ nat_lt a t
+pub after_split : (a t : ℕ) → nat_le (a + 1) t ≡ nat_lt a t
 after_split a t = elim (cases_Bool (nat_lt a t)) [
   | inl e ↦ let l : a < t = ltb-true a t e in rw e (le-leb (a + 1) t (omega arith))
   | inr e ↦ elim (cases_Bool (nat_le (a + 1) t)) [
@@ -108,7 +108,7 @@ after_split a t = elim (cases_Bool (nat_lt a t)) [
 ]
 
 -- the room for an issue is in the cycle of the last issue, where fewer than the width have it, and in each later one
-slot_split : (row : Row) (h : List Done) (t : ℕ) → IsRow row → AreTimed row h
+pub slot_split : (row : Row) (h : List Done) (t : ℕ) → IsRow row → AreTimed row h
     → nat_le (cond (nat_lt (count_by (λ d. d.at.issue == last_issue h) h) row.width) (last_issue h) (last_issue h + 1)) t ≡ has_slot row h t
 slot_split row h t good timed = elim (cases_order (last_issue h) t) [
   | inl e ↦ elim (cases_Bool (nat_lt (count_by (λ d. d.at.issue == last_issue h) h) row.width)) [
@@ -134,7 +134,7 @@ swap_and false true c = refl
 swap_and false false c = refl
 
 -- later than the latest finish of a branch is later than each
-branch_split : (h : List Done) (t : ℕ) → nat_le (branch_finish h + 1) t ≡ (nat_lt 0 t && are_branches_finished h t)
+pub branch_split : (h : List Done) (t : ℕ) → nat_le (branch_finish h + 1) t ≡ (nat_lt 0 t && are_branches_finished h t)
 branch_split [] t = elim (cases_Bool (nat_lt 0 t)) [ inl e ↦ rw e refl | inr e ↦ rw e refl ]
 branch_split (d ∷ h) t = elim (cases_Bool (is_branch d.step)) [
   | inl e ↦
@@ -159,7 +159,7 @@ issue_agree row h s t good timed close =
       | inr e ↦ elim (cases_Bool (nat_lt 0 t)) [ inl f ↦ rw (e, f) refl | inr f ↦ rw (e, f) refl ]
     ])
 
-ready_split : (issue address j k t : ℕ) → nat_le (max (max issue address) (max j k) + 1) t ≡ ((nat_lt issue t && nat_lt address t) && (nat_lt j t && nat_lt k t))
+pub ready_split : (issue address j k t : ℕ) → nat_le (max (max issue address) (max j k) + 1) t ≡ ((nat_lt issue t && nat_lt address t) && (nat_lt j t && nat_lt k t))
 ready_split issue address j k t =
     let e : max (max issue address) (max j k) + 1 ≡ max (max (issue + 1) (address + 1)) (max (j + 1) (k + 1)) = omega arith in
     rw (
@@ -222,7 +222,7 @@ MatchBool-map : (b : Bool) (P Q R : Type 0) → (P → Q) → MatchBool b P R �
 MatchBool-map true P Q R f h = f h
 MatchBool-map false P Q R f h = h
 
-source_agree : (h : List Done) (ends : List ℕ) (o : Option Operand) → ((r : ℕ) → r < 32 → slice_index ends r ≡ writer_end h r) → ForSome o (λ o. o.register < 32) → end_among ends o ≡ source_end h o
+pub source_agree : (h : List Done) (ends : List ℕ) (o : Option Operand) → ((r : ℕ) → r < 32 → slice_index ends r ≡ writer_end h r) → ForSome o (λ o. o.register < 32) → end_among ends o ≡ source_end h o
 source_agree h ends None same small = refl
 source_agree h ends (Some o) same small = same o.register (small o refl)
 
@@ -305,7 +305,7 @@ length-written_by None end written = refl
 length-written_by (Some r) end written = length-set written r end
 
 -- the count of those that issue in the last cycle of issue
-issued_kept : (row : Row) (h : List Done) (issue issued : ℕ) → AreTimed row h → last_issue h ≤ issue → issued ≡ count_by (λ d. d.at.issue == last_issue h) h
+pub issued_kept : (row : Row) (h : List Done) (issue issued : ℕ) → AreTimed row h → last_issue h ≤ issue → issued ≡ count_by (λ d. d.at.issue == last_issue h) h
     → cond (issue == last_issue h) (issued + 1) 1 ≡ suc (count_by (λ d. d.at.issue == issue) h)
 issued_kept row h issue issued timed l e = elim (cases_eq issue (last_issue h)) [
   | inl f ↦ let b : (issue == last_issue h) ≡ true = eq-eqb issue (last_issue h) f in rw (b, f, e) (omega arith)

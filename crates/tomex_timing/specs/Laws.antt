@@ -1,14 +1,21 @@
 -- Laws of the recurrence.
-use Rattle.std.specs.Prelude.{ℕ, ◌+◌, ◌*◌, ◌<◌, ◌≤◌, ◌≡◌, ◌==◌, nat_lt, Bool, true, ◌&&◌, ◌||◌, List, ◌∷◌, ◌++◌, Some, is_some, length, map, count_by}
+use Rattle.std.specs.Prelude.{ℕ, ◌+◌, ◌-◌, ◌*◌, ◌<◌, ◌≤◌, ◌≡◌, ◌==◌, nat_lt, Bool, true, ◌&&◌, ◌||◌, if◌then◌else◌, List, [], ◌∷◌, ◌++◌, Option, Some, None, is_some, length, map, count_by}
 use Rattle.tomex_rvdec.specs.declared.pool.PoolId.{PoolId}
+use Rattle.tomex_rvdec.specs.declared.pool.PoolId.TheVariants as pools
+use Rattle.tomex_rvdec.specs.declared.pool.UnitId.{UnitId}
+use Rattle.tomex_rvdec.specs.declared.pool.UnitId.TheVariants as units
 use Rattle.tomex_rvexec.specs.Flow.{covers}
 use Rattle.tomex_rvexec.specs.Steps.{is_store, step_dest, step_pool, step_unit}
 use Rattle.tomex_rvexec.specs.declared.step.Step.{Step}
-use Rattle.tomex_config.specs.Row.{Row, IsRow, stations_of}
+use Rattle.tomex_config.specs.Row.{Row, IsRow, stations_of, option_of}
+use Rattle.tomex_timing.specs.declared.needs.Needs.{Needs}
+use Rattle.tomex_timing.specs.declared.part.Part.{Part}
+use Rattle.tomex_timing.specs.declared.part.Part.TheVariants.{Stations, Units, Buses, Width}
 use Rattle.tomex_timing.specs.declared.tables.Tag.{Tag}
 use Rattle.tomex_timing.specs.declared.times.Done.{Done}
 use Rattle.tomex_timing.specs.declared.times.Times.{Times}
 use Rattle.tomex_timing.specs.History.{cycle_of, is_memory, last_address, last_issue, greatest_end}
+use Rattle.tomex_timing.specs.Needs.{AreNeeds, Serves, count_of, peak, stalls, stalls_by, suffice}
 use Rattle.tomex_timing.specs.Station.{has_station, is_free}
 use Rattle.tomex_timing.specs.Recurrence.{IsTimed, AreTimed, can_issue, are_branches_finished, are_conflicts_finished, conflicts}
 use Rattle.tomex_timing.specs.Search.{history, timed_of, times_in, total_of}
@@ -133,3 +140,55 @@ AccessesConflict = (x y : Step) (a : ℕ) → covers x a ≡ true → covers y a
 abbrev pub ConflictsAreFinished : Type 0
 ConflictsAreFinished = (row : Row) (d : Done) (older : List Done) → IsTimed row older d.step d.at
     → is_some (step_unit d.step) ≡ true → are_conflicts_finished older d.step d.at.start ≡ true
+
+-- a history takes no more of a part than its row has
+abbrev pub PeakIsWithin : Type 0
+PeakIsWithin = (row : Row) (h : List Done) (part : Part) → AreTimed row h → peak part h ≤ count_of row part
+
+-- a row that serves a history as its own row does gives each step of it the same times
+abbrev pub ServedTimesAreSame : Type 0
+ServedTimesAreSame = (row other : Row) (h : List Done) → AreTimed row h → Serves row other h → AreTimed other h
+
+-- so a run has one history, and one total, on both
+abbrev pub ServedRunsAreSame : Type 0
+ServedRunsAreSame = (row other : Row) (steps : List Step) → IsRow row → IsRow other → Serves row other (history row steps)
+    → (history other steps ≡ history row steps) × (total_of (times_in other steps) ≡ total_of (times_in row steps))
+
+-- Issue accounting: each cycle of a run is one in which something waits to issue, the one in which the last step
+-- issues but for waits, or one of the drain after its last issue.
+abbrev pub IssueCyclesAddUp : Type 0
+IssueCyclesAddUp = (row : Row) (d : Done) (older : List Done) → IsRow row → AreTimed row (d ∷ older)
+    → stalls_by (λ w. w.branch) row (d ∷ older) + stalls row Width (d ∷ older)
+    + (stalls row (Stations pools.Alu) (d ∷ older) + stalls row (Stations pools.Mul) (d ∷ older)
+    + stalls row (Stations pools.Div) (d ∷ older) + stalls row (Stations pools.Load) (d ∷ older)
+    + stalls row (Stations pools.Store) (d ∷ older) + stalls row (Stations pools.Bru) (d ∷ older))
+    + (greatest_end (d ∷ older) - last_issue (d ∷ older)) + 1
+    ≡ greatest_end (d ∷ older)
+
+-- the cycles from issue to end of the steps with a unit
+abbrev pub held_cycles : List Done → ℕ
+held_cycles [] = 0
+held_cycles (d ∷ older) = (if is_some (step_unit d.step) then d.at.end - d.at.issue else 0) + held_cycles older
+
+-- of these an operation takes its latency, and its result a cycle on a bus
+abbrev pub work_by : Row → Option UnitId → Bool → ℕ
+work_by row None dest = 0
+work_by row (Some unit) dest = (option_of row unit).latency + (if dest then 1 else 0)
+
+abbrev pub work_cycles : Row → List Done → ℕ
+work_cycles row [] = 0
+work_cycles row (d ∷ older) = work_by row (step_unit d.step) (is_some (step_dest d.step)) + work_cycles row older
+
+-- Station accounting: the others are waits.
+abbrev pub StationCyclesAddUp : Type 0
+StationCyclesAddUp = (row : Row) (h : List Done) → IsRow row → AreTimed row h
+    → held_cycles h
+    ≡ stalls_by (λ w. w.operand) row h + stalls_by (λ w. w.address) row h + stalls_by (λ w. w.memory) row h
+    + (stalls row (Units units.Alu) h + stalls row (Units units.Mul) h + stalls row (Units units.Div) h
+    + stalls row (Units units.Mem) h + stalls row (Units units.Bru) h)
+    + stalls row Buses h + work_cycles row h
+
+-- needs of a run that suffice for another row tell that its times are the same there
+abbrev pub NeedsTell : Type 0
+NeedsTell = (row other : Row) (h : List Done) (needs : Needs) → AreNeeds row h needs → suffice needs row other ≡ true
+    → Serves row other h

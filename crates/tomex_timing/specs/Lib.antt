@@ -2,6 +2,8 @@ pub mod History
 pub mod Station
 pub mod Recurrence
 pub mod Search
+pub mod Needs
 pub mod Tables
 pub mod Window
+pub mod Waiting
 pub mod Laws

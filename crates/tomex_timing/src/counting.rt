@@ -75,7 +75,7 @@ fn held_in(live: &[Live], pool: PoolId, cycle: u64) -> usize
 }
 
 /// How many operations start on units of the kind in the cycle.
-fn started_in(live: &[Live], unit: UnitId, cycle: u64) -> usize
+pub(crate) fn started_in(live: &[Live], unit: UnitId, cycle: u64) -> usize
     ensures { result ≡ count_by (starts_in unit cycle) live.now }
 {
     live.iter()
@@ -84,7 +84,7 @@ fn started_in(live: &[Live], unit: UnitId, cycle: u64) -> usize
 }
 
 /// How many results are on a bus in the cycle.
-fn sent_in(live: &[Live], cycle: u64) -> usize
+pub(crate) fn sent_in(live: &[Live], cycle: u64) -> usize
     ensures { result ≡ count_by (sends_in cycle) live.now }
 {
     live.iter()

@@ -2,11 +2,14 @@
 
 ghost use Rattle.std.specs.Prelude.{◌≡◌, ◌<◌, ◌≤◌, ◌*◌, ◌^◌, nat_le, length, IfOk};
 ghost use Rattle.std.specs.List.{filter};
+ghost use Rattle.tomex_timing.specs.Needs.{AreNeeds};
 ghost use Rattle.tomex_timing.specs.Recurrence.{AreTimed};
 ghost use Rattle.tomex_timing.specs.Search.{history, times_in, total_of};
 
+use crate::needs::Needs;
 use crate::next::next_times;
 use crate::times::Times;
+use crate::waiting::{taken_by, waits_of};
 use crate::window::{Facts, Latest, Live};
 use std::alloc::{AllocError, Allocator};
 use tomex_config::Config;
@@ -49,6 +52,31 @@ pub fn times<A: Allocator + Clone>(
         result.push(at)?;
     }
     Ok(result)
+}
+
+/// The needs of a run's steps on a row.
+///
+/// The work is that of `times`, whose evaluation it makes without keeping the times.
+pub fn needs<A: Allocator>(alloc: A, steps: &[Step], row: &Config) -> Result<Needs, AllocError>
+    requires few { length steps.now < 2 ^ 28 }
+    ensures exact { IfOk result (λ n. AreNeeds row.now (history row.now steps.now) n) }
+{
+    let mut live: Vec<Live, A> = Vec::new(alloc);
+    let mut latest = Latest::none();
+    let mut needs = Needs::none();
+    // Read for what the row's type keeps, which the proof needs.
+    let _buses = row.buses();
+    for step in steps {
+        let facts = Facts::of(step);
+        let at: Times = next_times(row, &live, &latest, step, &facts);
+        let waits = waits_of(row, &live, &latest, step, &facts, &at);
+        let taken = taken_by(&live, &latest, &facts, &at);
+        needs.note(&facts, &waits, &taken, &at);
+        keep_recent(&mut live, at.issue);
+        live.push(Live::new(facts, &at))?;
+        latest.note(&facts, &at);
+    }
+    Ok(needs)
 }
 
 /// The cycles that a run takes: the greatest end of its steps, 0 of none.

@@ -18,7 +18,7 @@ use tomex_rvdec::{PoolId, UnitId};
 use tomex_rvexec::{Operand, Step};
 
 /// The end of an operand's producer, 0 where there is none.
-fn end_of(latest: &Latest, operand: Option<Operand>) -> u64
+pub(crate) fn end_of(latest: &Latest, operand: Option<Operand>) -> u64
     requires register { ForSome operand (λ o. o.register < 32) }
     ensures { result ≡ end_among latest.now.ends operand }
 {
@@ -30,7 +30,7 @@ fn end_of(latest: &Latest, operand: Option<Operand>) -> u64
 
 /// The first cycle that is in program order, with room for an issue, and later than each branch's
 /// finish.
-fn issue_from(row: &Config, latest: &Latest) -> u64
+pub(crate) fn issue_from(row: &Config, latest: &Latest) -> u64
     requires issue { latest.now.issue ≤ latest.now.end }
     requires branch { latest.now.branch ≤ latest.now.end }
     requires small { latest.now.end < 2 ^ 63 }
@@ -62,7 +62,7 @@ fn address_of(latest: &Latest, pool: Option<PoolId>, base: u64, issue: u64) -> O
 }
 
 /// The first cycle after a step's issue, its address and the ends of its operands' producers.
-fn ready_of(issue: u64, address: Option<u64>, j: u64, k: u64) -> u64
+pub(crate) fn ready_of(issue: u64, address: Option<u64>, j: u64, k: u64) -> u64
     requires issue { issue < 2 ^ 63 + 2 }
     requires address { cycle_of address < 2 ^ 63 + 2 }
     requires j { j < 2 ^ 63 }
@@ -127,6 +127,8 @@ pub(crate) fn next_times(
     requires settled { IsSettled live.now latest.now }
     requires small { latest.now.end < 2 ^ 63 }
     ensures next { IsNext row.now live.now latest.now step.now result }
+    ensures issue { result.issue ≤ latest.now.end + 1 }
+    ensures address { cycle_of result.address ≤ latest.now.end + 2 }
     ensures j { ForSome (j_of step.now) (λ o. o.register < 32) }
     ensures k { ForSome (k_of step.now) (λ o. o.register < 32) }
 {

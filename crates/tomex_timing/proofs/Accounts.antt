@@ -1,0 +1,174 @@
+-- The cycles of a run are its waits and its issues; the cycles of its stations are its waits and its operations.
+use Rattle.std.proofs.Common.{ℕ, zero, suc, ◌+◌, ◌-◌, ◌<◌, ◌≤◌, ◌≡◌, Bool, true, false, cond, arith, refl, inl, inr, List, [], ◌∷◌, Option, Some, None, max}
+use Rattle.std.specs.Prelude.{nat_lt, not, ◌&&◌, count_by, is_some}
+use Rattle.std.specs.Bool.{MatchBool}
+use Rattle.std.specs.List.{range_with_len}
+use Rattle.std.proofs.lemmas.Bool.{cases_Bool, lt-ltb, MatchBool-at_true, MatchBool-at_false}
+use Rattle.std.proofs.lemmas.List.Sums.{sum_by-cons}
+use Rattle.tomex_rvdec.specs.declared.pool.PoolId.{PoolId}
+use Rattle.tomex_rvdec.specs.declared.pool.PoolId.TheVariants as pools
+use Rattle.tomex_rvdec.specs.declared.pool.UnitId.{UnitId}
+use Rattle.tomex_rvdec.specs.declared.pool.UnitId.TheVariants as units
+use Rattle.tomex_rvexec.specs.Steps.{step_pool, step_unit, step_dest, is_in}
+use Rattle.tomex_config.specs.Row.{Row, IsRow, option_of}
+use Rattle.tomex_timing.specs.declared.part.Part.TheVariants.{Stations, Width}
+use Rattle.tomex_timing.specs.declared.times.Done.{Done}
+use Rattle.tomex_timing.specs.History.{is_of, cycle_of, last_issue, greatest_end}
+use Rattle.tomex_timing.specs.Laws.{IssueCyclesAddUp, StationCyclesAddUp, work_by}
+use Rattle.tomex_timing.specs.Needs.{lacks_branch, lacks_width, lacks_station, lacks_operand, lacks_address, lacks_memory, lacks_unit, waits_of, stalls, stalls_by}
+use Rattle.tomex_timing.specs.Recurrence.{IsLeast, IsTimed, AreTimed, can_end, can_issue, can_start, has_slot, are_branches_finished, has_operands, are_conflicts_finished}
+use Rattle.tomex_timing.proofs.Bound.{end_low, issue_low, start_low, timed_by}
+use Rattle.tomex_timing.proofs.Limits.{latency_low}
+use Rattle.tomex_timing.proofs.Settled.{last_issue_by}
+use Rattle.tomex_timing.proofs.Width.{issue_from}
+
+abbrev one : Bool → ℕ
+one b = cond b 1 0
+
+-- tests of which each cycle passes one count all of them
+three_ways : (p q r : ℕ → Bool) (n a : ℕ) → ((t : ℕ) → one (p t) + one (q t) + one (r t) ≡ 1) → count_by p (range_with_len a n) + count_by q (range_with_len a n) + count_by r (range_with_len a n) ≡ n
+three_ways p q r zero a each = refl
+three_ways p q r (suc n) a each =
+    let k = three_ways p q r n (a + 1) each in
+    let h : one (p a) + one (q a) + one (r a) ≡ 1 = each a in
+    let x : count_by p (range_with_len a (suc n)) ≡ one (p a) + count_by p (range_with_len (a + 1) n) = sum_by-cons (λ x. one (p x)) a (range_with_len (a + 1) n) in
+    let y : count_by q (range_with_len a (suc n)) ≡ one (q a) + count_by q (range_with_len (a + 1) n) = sum_by-cons (λ x. one (q x)) a (range_with_len (a + 1) n) in
+    let z : count_by r (range_with_len a (suc n)) ≡ one (r a) + count_by r (range_with_len (a + 1) n) = sum_by-cons (λ x. one (r x)) a (range_with_len (a + 1) n) in
+    omega arith
+
+four_ways : (p q r s : ℕ → Bool) (n a : ℕ) → ((t : ℕ) → one (p t) + one (q t) + one (r t) + one (s t) ≡ 1) → count_by p (range_with_len a n) + count_by q (range_with_len a n) + count_by r (range_with_len a n) + count_by s (range_with_len a n) ≡ n
+four_ways p q r s zero a each = refl
+four_ways p q r s (suc n) a each =
+    let k = four_ways p q r s n (a + 1) each in
+    let h : one (p a) + one (q a) + one (r a) + one (s a) ≡ 1 = each a in
+    let x : count_by p (range_with_len a (suc n)) ≡ one (p a) + count_by p (range_with_len (a + 1) n) = sum_by-cons (λ x. one (p x)) a (range_with_len (a + 1) n) in
+    let y : count_by q (range_with_len a (suc n)) ≡ one (q a) + count_by q (range_with_len (a + 1) n) = sum_by-cons (λ x. one (q x)) a (range_with_len (a + 1) n) in
+    let z : count_by r (range_with_len a (suc n)) ≡ one (r a) + count_by r (range_with_len (a + 1) n) = sum_by-cons (λ x. one (r x)) a (range_with_len (a + 1) n) in
+    let w : count_by s (range_with_len a (suc n)) ≡ one (s a) + count_by s (range_with_len (a + 1) n) = sum_by-cons (λ x. one (s x)) a (range_with_len (a + 1) n) in
+    omega arith
+
+none_in_range : (p : ℕ → Bool) (n a : ℕ) → ((t : ℕ) → a ≤ t → t < a + n → p t ≡ false) → count_by p (range_with_len a n) ≡ 0
+none_in_range p zero a none = refl
+none_in_range p (suc n) a none = rw (sum_by-cons, none a (omega arith) (omega arith), none_in_range p n (a + 1) (λ t l m. none t (omega arith) (omega arith))) refl
+
+issue_ways : (b w : Bool) → one (not b) + one (b && not w) + one (b && w) ≡ 1
+issue_ways true true = refl
+issue_ways true false = refl
+issue_ways false w = refl
+
+-- the waits of one issue
+issue_account : (row : Row) (older : List Done) (d : Done) → (waits_of row older d).branch + (waits_of row older d).width + (waits_of row older d).station ≡ d.at.issue - max 1 (last_issue older)
+issue_account row older d = three_ways (lacks_branch older) (lacks_width row older) (lacks_station row older) (d.at.issue - max 1 (last_issue older)) (max 1 (last_issue older)) (λ t. issue_ways (are_branches_finished older t) (has_slot row older t))
+
+-- what needs no station waits for none
+no_station_wait : (row : Row) (older : List Done) (d : Done) → step_pool d.step ≡ None → IsTimed row older d.step d.at → (waits_of row older d).station ≡ 0
+no_station_wait row older d none is =
+    none_in_range (lacks_station row older) (d.at.issue - max 1 (last_issue older)) (max 1 (last_issue older)) (λ t l m. fails t l (omega arith))
+  where
+    swap : (b w : Bool) → (((true && w) && b) && true) ≡ false → (b && w) ≡ false
+    swap true true h = h
+    swap true false h = refl
+    swap false w h = refl
+
+    fails : (t : ℕ) → max 1 (last_issue older) ≤ t → t < d.at.issue → lacks_station row older t ≡ false
+    fails t l m =
+        let can : can_issue row older d.step t ≡ false = is.issue.1 t m in
+        let can2 = rw (none, lt-ltb 0 t (omega arith)) at can in
+        swap (are_branches_finished older t) (has_slot row older t) can2
+
+abbrev in_pools : Option PoolId → ℕ → ℕ
+in_pools x n = cond (is_in pools.Alu x) n 0 + cond (is_in pools.Mul x) n 0 + cond (is_in pools.Div x) n 0 + cond (is_in pools.Load x) n 0 + cond (is_in pools.Store x) n 0 + cond (is_in pools.Bru x) n 0
+
+in_one_pool : (p : PoolId) (n : ℕ) → in_pools (Some p) n ≡ n
+in_one_pool pools.Alu n = omega arith
+in_one_pool pools.Mul n = omega arith
+in_one_pool pools.Div n = omega arith
+in_one_pool pools.Load n = omega arith
+in_one_pool pools.Store n = omega arith
+in_one_pool pools.Bru n = omega arith
+
+pool_account : (x : Option PoolId) (n : ℕ) → (x ≡ None → n ≡ 0) → in_pools x n ≡ n
+pool_account None n none = let z : n ≡ 0 = none refl in rw z refl
+pool_account (Some p) n none = in_one_pool p n
+
+abbrev issue_stalls : Row → List Done → ℕ
+issue_stalls row h =
+    stalls_by (λ w. w.branch) row h + stalls row Width h
+    + (stalls row (Stations pools.Alu) h + stalls row (Stations pools.Mul) h + stalls row (Stations pools.Div) h + stalls row (Stations pools.Load) h + stalls row (Stations pools.Store) h + stalls row (Stations pools.Bru) h)
+
+issues_add_up : (row : Row) (h : List Done) → AreTimed row h → issue_stalls row h + 1 ≡ max 1 (last_issue h)
+issues_add_up row [] timed = refl
+issues_add_up row (d ∷ older) timed =
+    let k : issue_stalls row older + 1 ≡ max 1 (last_issue older) = issues_add_up row older timed.1 in
+    let a = issue_account row older d in
+    let p : in_pools (step_pool d.step) (waits_of row older d).station ≡ (waits_of row older d).station = pool_account (step_pool d.step) (waits_of row older d).station (λ none. no_station_wait row older d none timed.0) in
+    let l : last_issue older ≤ d.at.issue = issue_from row older d.step d.at.issue timed.0.issue.0 in
+    let pos : 0 < d.at.issue = issue_low row older d.step d.at.issue timed.0.issue.0 in
+    omega arith
+
+pub issue_cycles : IssueCyclesAddUp
+issue_cycles row d older good timed =
+    let k : issue_stalls row (d ∷ older) + 1 ≡ max 1 d.at.issue = issues_add_up row (d ∷ older) timed in
+    let pos : 0 < d.at.issue = issue_low row older d.step d.at.issue timed.0.issue.0 in
+    let l : d.at.issue ≤ greatest_end (d ∷ older) = last_issue_by (greatest_end (d ∷ older)) (d ∷ older) (timed_by row (d ∷ older) good timed) in
+    omega arith
+
+-- one operation
+
+start_ways : (o a m : Bool) → one (not o) + one (o && not a) + one ((o && a) && not m) + one ((o && a) && m) ≡ 1
+start_ways true true true = refl
+start_ways true true false = refl
+start_ways true false m = refl
+start_ways false a m = refl
+
+start_account : (row : Row) (older : List Done) (d : Done) → (waits_of row older d).operand + (waits_of row older d).address + (waits_of row older d).memory + (waits_of row older d).unit ≡ d.at.start - (d.at.issue + 1)
+start_account row older d =
+    four_ways (lacks_operand older d) (lacks_address older d) (lacks_memory older d) (lacks_unit older d) (d.at.start - (d.at.issue + 1)) (d.at.issue + 1)
+    (λ t. start_ways (has_operands older d.step t) (nat_lt (cycle_of d.at.address) t) (are_conflicts_finished older d.step t))
+
+abbrev in_units : Option UnitId → ℕ → ℕ
+in_units x n = cond (is_of units.Alu x) n 0 + cond (is_of units.Mul x) n 0 + cond (is_of units.Div x) n 0 + cond (is_of units.Mem x) n 0 + cond (is_of units.Bru x) n 0
+
+in_one_unit : (u : UnitId) (n : ℕ) → in_units (Some u) n ≡ n
+in_one_unit units.Alu n = omega arith
+in_one_unit units.Mul n = omega arith
+in_one_unit units.Div n = omega arith
+in_one_unit units.Mem n = omega arith
+in_one_unit units.Bru n = omega arith
+
+end_account : (row : Row) (older : List Done) (d : Done) → MatchBool (is_some (step_dest d.step)) (IsLeast (can_end row older d.at.finish) d.at.end) (d.at.end ≡ d.at.finish)
+    → d.at.end ≡ d.at.finish + (d.at.end - (d.at.finish + 1)) + one (is_some (step_dest d.step))
+end_account row older d is = elim (cases_Bool (is_some (step_dest d.step))) [
+  | inl e ↦
+      let least : IsLeast (can_end row older d.at.finish) d.at.end = MatchBool-at_true _ _ e is in
+      let low : d.at.finish < d.at.end = end_low row older d.at.finish d.at.end least.0 in
+      rw e (omega arith)
+  | inr e ↦ let same : d.at.end ≡ d.at.finish = MatchBool-at_false (IsLeast (can_end row older d.at.finish) d.at.end) _ e is in rw e (omega arith)
+]
+
+operation_account : (row : Row) (older : List Done) (d : Done) (unit : Option UnitId) → IsRow row → step_unit d.step ≡ unit → IsTimed row older d.step d.at
+    → cond (is_some unit) (d.at.end - d.at.issue) 0
+    ≡ (waits_of row older d).operand + (waits_of row older d).address + (waits_of row older d).memory + in_units unit (waits_of row older d).unit + (waits_of row older d).bus + work_by row unit (is_some (step_dest d.step))
+operation_account row older d None good e is =
+    let s : d.at.start ≡ d.at.issue = rw e at is.start in
+    let f : d.at.finish ≡ d.at.issue = rw e at is.finish in
+    let n : d.at.end ≡ d.at.issue = rw e at is.end in
+    let a = start_account row older d in
+    omega arith
+operation_account row older d (Some u) good e is =
+    let s : IsLeast (can_start row older d.step u d.at.issue (cycle_of d.at.address)) d.at.start = rw e at is.start in
+    let low : d.at.issue < d.at.start = (start_low row older d.step u d.at.issue (cycle_of d.at.address) d.at.start s.0).0 in
+    let f : d.at.finish ≡ d.at.start + (option_of row u).latency - 1 = rw e at is.finish in
+    let n : MatchBool (is_some (step_dest d.step)) (IsLeast (can_end row older d.at.finish) d.at.end) (d.at.end ≡ d.at.finish) = rw e at is.end in
+    let pos : 0 < (option_of row u).latency = latency_low row u good in
+    let a = start_account row older d in
+    let b = end_account row older d n in
+    let k = in_one_unit u (waits_of row older d).unit in
+    omega arith
+
+pub station_cycles : StationCyclesAddUp
+station_cycles row [] good timed = refl
+station_cycles row (d ∷ older) good timed =
+    let k = station_cycles row older good timed.1 in
+    let a = operation_account row older d (step_unit d.step) good refl timed.0 in
+    omega arith

@@ -1,0 +1,40 @@
+-- How many cycles of a wait lie from one cycle on and before another.
+use Rattle.std.proofs.Common.{ℕ, zero, suc, ◌+◌, ◌-◌, ◌<◌, ◌≤◌, ◌≡◌, ◌∙◌, Bool, cond, arith, refl, inl, inr, max, min}
+use Rattle.std.specs.Prelude.{nat_le, not, ◌&&◌, count_by}
+use Rattle.std.specs.List.{range_with_len}
+use Rattle.std.proofs.lemmas.Bool.{cases_Bool, leb-true, leb-false}
+use Rattle.std.proofs.lemmas.List.Sums.{sum_by-cons}
+use Rattle.tomex_timing.specs.Needs.{cycles_that}
+
+abbrev pub is_in_band : ℕ → ℕ → ℕ → Bool
+is_in_band a b t = nat_le a t && not (nat_le b t)
+
+abbrev one : Bool → ℕ
+one b = cond b 1 0
+
+one_step : (a b t n : ℕ) → one (is_in_band a b t) + (min b (t + 1 + n) - max a (t + 1)) ≡ min b (t + suc n) - max a t
+one_step a b t n = elim (cases_Bool (nat_le a t)) [
+  | inl e ↦ let l : a ≤ t = leb-true a t e in elim (cases_Bool (nat_le b t)) [
+    | inl f ↦ let m : b ≤ t = leb-true b t f in rw (e, f) (omega arith)
+    | inr f ↦ let m : t < b = leb-false b t f in rw (e, f) (omega arith)
+  ]
+  | inr e ↦ let l : t < a = leb-false a t e in rw e (omega arith)
+]
+
+-- a test that passes just in a band counts its length
+band_count : (p : ℕ → Bool) (a b n t : ℕ) → ((s : ℕ) → t ≤ s → s < t + n → p s ≡ is_in_band a b s) → count_by p (range_with_len t n) ≡ min b (t + n) - max a t
+band_count p a b zero t h = let z : min b (t + 0) - max a t ≡ 0 = omega arith in rw z refl
+band_count p a b (suc n) t h =
+    let k : count_by p (range_with_len (t + 1) n) ≡ min b (t + 1 + n) - max a (t + 1) = band_count p a b n (t + 1) (λ s l m. h s (omega arith) (omega arith)) in
+    let s : count_by p (range_with_len t (suc n)) ≡ one (p t) + count_by p (range_with_len (t + 1) n) = sum_by-cons (λ x. one (p x)) t (range_with_len (t + 1) n) in
+    rw (s, k, h t (omega arith) (omega arith)) (one_step a b t n)
+
+pub band : (p : ℕ → Bool) (a b from to : ℕ) → from ≤ a → a ≤ b → b ≤ to → ((s : ℕ) → from ≤ s → s < to → p s ≡ is_in_band a b s) → cycles_that p from to ≡ b - a
+band p a b from to l m u h =
+    let k : count_by p (range_with_len from (to - from)) ≡ min b (from + (to - from)) - max a from = band_count p a b (to - from) from (λ s x y. h s x (omega arith)) in
+    let e : min b (from + (to - from)) - max a from ≡ b - a = omega arith in
+    k ∙ e
+
+-- of no cycles none passes
+pub none_of : (p : ℕ → Bool) (from to : ℕ) → to ≤ from → cycles_that p from to ≡ 0
+none_of p from to l = let e : to - from ≡ 0 = omega arith in rw e refl

@@ -1,0 +1,152 @@
+-- One step more: the needs that are counted stay those of the history.
+use Rattle.std.proofs.Common.{ℕ, suc, ◌+◌, ◌<◌, ◌≤◌, ◌≡◌, ◌∙◌, true, cond, arith, refl, ap, sym, inl, inr, List, [], ◌∷◌, Option, Some, None}
+use Rattle.std.specs.Prelude.{◌==◌, ◌&&◌, count_by, is_some, length, slice_index_or}
+use Rattle.std.proofs.lemmas.Bool.{cases_Bool, and_right, eqb-true, ne_eqb, both_ways, eq-eqb}
+use Rattle.std.proofs.lemmas.List.{get_or-set_same, get_or-set_other, get_or-replicate, length-set}
+use Rattle.tomex_rvdec.specs.Parts.{place_of_pool, place_of_unit}
+use Rattle.tomex_rvdec.specs.declared.pool.PoolId.{PoolId}
+use Rattle.tomex_rvdec.specs.declared.pool.UnitId.{UnitId}
+use Rattle.tomex_rvexec.specs.Steps.{step_pool, step_unit, step_dest, is_in}
+use Rattle.tomex_config.specs.Row.{Row, IsRow}
+use Rattle.tomex_timing.specs.declared.needs.Needs.{Needs}
+use Rattle.tomex_timing.specs.declared.part.Need.{Need}
+use Rattle.tomex_timing.specs.declared.part.Part.{Part}
+use Rattle.tomex_timing.specs.declared.part.Part.TheVariants.{Stations, Units, Buses, Width}
+use Rattle.tomex_timing.specs.declared.part.Taken.{Taken}
+use Rattle.tomex_timing.specs.declared.part.Waits.{Waits}
+use Rattle.tomex_timing.specs.declared.times.Done.{Done}
+use Rattle.tomex_timing.specs.declared.window.Live.{Live}
+use Rattle.tomex_timing.specs.declared.window.Latest.{Latest}
+use Rattle.tomex_timing.specs.History.{is_of, last_issue, greatest_end}
+use Rattle.tomex_timing.specs.Needs.{AreNeeds, need_of, no_need, peak, stalls, taken_by, waits_for, waits_of}
+use Rattle.tomex_timing.specs.Laws.{InReach}
+use Rattle.tomex_timing.specs.Recurrence.{IsTimed, AreTimed}
+use Rattle.tomex_timing.specs.Waiting.{need_after, needs_after, stations_after, units_after, taken_among, units_taken, nothing_needed}
+use Rattle.tomex_timing.specs.Window.{facts_of, recent, starts_in, sends_in, IsKept}
+use Rattle.tomex_timing.proofs.Limits.{pool_in, unit_in}
+use Rattle.tomex_timing.proofs.Orders.{dest_unit, reach, start_later, result_later}
+use Rattle.tomex_timing.proofs.Places.{same_unit}
+use Rattle.tomex_timing.proofs.Width.{issue_from}
+use Rattle.tomex_timing.proofs.Windows.{AreClosed, count_recent, issued_kept}
+
+-- of what a step takes, what it takes of a part
+abbrev pub taken_for : Part → Done → Taken → ℕ
+taken_for (Stations pool) d taken = cond (is_in pool (step_pool d.step)) taken.station 0
+taken_for (Units unit) d taken = cond (is_of unit (step_unit d.step)) taken.unit 0
+taken_for Buses d taken = taken.bus
+taken_for Width d taken = taken.width
+
+same_need : (a b : Need) → a.peak ≡ b.peak → a.stalls ≡ b.stalls → a ≡ b
+same_need a b e f =
+    let g : ℕ → Need = λ m. record { peak = m; stalls = a.stalls } in
+    let h : ℕ → Need = λ s. record { peak = b.peak; stalls = s } in
+    ap g e ∙ ap h f
+
+no_more : (need : Need) → need ≡ need_after need 0 0
+no_more need = same_need need (need_after need 0 0) (omega arith) (omega arith)
+
+pool_part : (pool : PoolId) (x : Option PoolId) (taken waited : ℕ) (xs : List Need) → length xs ≡ 6
+    → slice_index_or (stations_after x taken waited xs) (place_of_pool pool) no_need ≡ need_after (slice_index_or xs (place_of_pool pool) no_need) (cond (is_in pool x) taken 0) (cond (is_in pool x) waited 0)
+pool_part pool None taken waited xs len = no_more (slice_index_or xs (place_of_pool pool) no_need)
+pool_part pool (Some p) taken waited xs len = elim (cases_Bool (place_of_pool p == place_of_pool pool)) [
+  | inl e ↦
+      let same : place_of_pool p ≡ place_of_pool pool = eqb-true (place_of_pool p) (place_of_pool pool) e in
+      let m : place_of_pool pool < length xs = rw len (pool_in pool) in
+      rw (e, same) (get_or-set_same xs (place_of_pool pool) (need_after (slice_index_or xs (place_of_pool pool) no_need) taken waited) no_need m)
+  | inr e ↦
+      rw e
+      (get_or-set_other xs (place_of_pool p) (place_of_pool pool) (need_after (slice_index_or xs (place_of_pool p) no_need) taken waited) no_need (λ (s : place_of_pool pool ≡ place_of_pool p). absurd (both_ways _ e (eq-eqb (place_of_pool p) (place_of_pool pool) (sym s))))
+      ∙ no_more (slice_index_or xs (place_of_pool pool) no_need))
+]
+
+unit_part : (unit : UnitId) (x : Option UnitId) (taken waited : ℕ) (xs : List Need) → length xs ≡ 5
+    → slice_index_or (units_after x taken waited xs) (place_of_unit unit) no_need ≡ need_after (slice_index_or xs (place_of_unit unit) no_need) (cond (is_of unit x) taken 0) (cond (is_of unit x) waited 0)
+unit_part unit None taken waited xs len = no_more (slice_index_or xs (place_of_unit unit) no_need)
+unit_part unit (Some p) taken waited xs len = elim (cases_Bool (place_of_unit p == place_of_unit unit)) [
+  | inl e ↦
+      let same : place_of_unit p ≡ place_of_unit unit = eqb-true (place_of_unit p) (place_of_unit unit) e in
+      let m : place_of_unit unit < length xs = rw len (unit_in unit) in
+      rw (e, same) (get_or-set_same xs (place_of_unit unit) (need_after (slice_index_or xs (place_of_unit unit) no_need) taken waited) no_need m)
+  | inr e ↦
+      rw e
+      (get_or-set_other xs (place_of_unit p) (place_of_unit unit) (need_after (slice_index_or xs (place_of_unit p) no_need) taken waited) no_need (λ (s : place_of_unit unit ≡ place_of_unit p). absurd (both_ways _ e (eq-eqb (place_of_unit p) (place_of_unit unit) (sym s))))
+      ∙ no_more (slice_index_or xs (place_of_unit unit) no_need))
+]
+
+length-stations_after : (x : Option PoolId) (taken waited : ℕ) (xs : List Need) → length (stations_after x taken waited xs) ≡ length xs
+length-stations_after None taken waited xs = refl
+length-stations_after (Some p) taken waited xs = length-set xs (place_of_pool p) _
+
+length-units_after : (x : Option UnitId) (taken waited : ℕ) (xs : List Need) → length (units_after x taken waited xs) ≡ length xs
+length-units_after None taken waited xs = refl
+length-units_after (Some p) taken waited xs = length-set xs (place_of_unit p) _
+
+-- what starts or ends with a step is still kept
+units_kept : (row : Row) (h : List Done) (d : Done) (unit : UnitId) → AreClosed h → last_issue h < d.at.start → count_by (starts_in unit d.at.start) (recent (last_issue h) h) ≡ count_by (λ x. is_of unit (step_unit x.step) && x.at.start == d.at.start) h
+units_kept row h d unit close l = count_recent (starts_in unit d.at.start) (last_issue h) (λ x k m. and_right (is_of unit x.facts.unit) (x.start == d.at.start) (ne_eqb x.start d.at.start (λ (e : x.start ≡ d.at.start). absurd (omega (arith, k.start))))) h close
+
+results_kept : (row : Row) (h : List Done) (d : Done) → AreClosed h → last_issue h < d.at.end → count_by (sends_in d.at.end) (recent (last_issue h) h) ≡ count_by (λ x. is_some (step_dest x.step) && x.at.end == d.at.end) h
+results_kept row h d close l = count_recent (sends_in d.at.end) (last_issue h) (λ x k m. and_right (is_some x.facts.dest) (x.end == d.at.end) (ne_eqb x.end d.at.end (λ (e : x.end ≡ d.at.end). absurd (omega arith)))) h close
+
+same_kind : (unit : UnitId) (x : Option UnitId) (live : List Live) (h : List Done) (t : ℕ) → (is_some x ≡ true → count_by (starts_in unit t) live ≡ count_by (λ x. is_of unit (step_unit x.step) && x.at.start == t) h)
+    → cond (is_of unit x) (units_taken live x t) 0 ≡ cond (is_of unit x) (count_by (λ x. is_of unit (step_unit x.step) && x.at.start == t) h + 1) 0
+same_kind unit None live h t f = refl
+same_kind unit (Some u) live h t f = elim (cases_Bool (place_of_unit u == place_of_unit unit)) [
+  | inl e ↦ let s : u ≡ unit = same_unit u unit e in rw (e, s, f refl) refl
+  | inr e ↦ rw e refl
+]
+
+-- what is counted as taken is what is taken
+pub taken_is : (row : Row) (h : List Done) (d : Done) (live : List Live) (latest : Latest) (part : Part) → IsRow row → AreTimed row h → AreClosed h → IsKept h live latest → IsTimed row h d.step d.at
+    → taken_for part d (taken_among live latest (facts_of d.step) d.at) ≡ taken_by part h d
+taken_is row h d live latest (Stations pool) good timed close kept is = refl
+taken_is row h d live latest (Units unit) good timed close kept is =
+    let l : last_issue h ≤ d.at.issue = issue_from row h d.step d.at.issue is.issue.0 in
+    rw kept.window
+    (same_kind unit (step_unit d.step) (recent (last_issue h) h) h d.at.start (λ some. let s : d.at.issue < d.at.start = (start_later row d h is some).0 in units_kept row h d unit close (omega arith)))
+taken_is row h d live latest Buses good timed close kept is = elim (cases_Bool (is_some (step_dest d.step))) [
+  | inl e ↦
+      let l : last_issue h ≤ d.at.issue = issue_from row h d.step d.at.issue is.issue.0 in
+      let r : InReach (greatest_end h) d.at = reach row d h good (is, timed) in
+      let s : d.at.issue < d.at.start = (start_later row d h is (dest_unit d.step e)).0 in
+      let f : d.at.finish < d.at.end = result_later row d h is e in
+      let o : d.at.start ≤ d.at.finish = r.order in
+      rw (e, kept.window, results_kept row h d close (omega arith)) refl
+  | inr e ↦ rw e refl
+]
+taken_is row h d live latest Width good timed close kept is =
+    let l : last_issue h ≤ d.at.issue = issue_from row h d.step d.at.issue is.issue.0 in
+    let e : latest.issued ≡ count_by (λ d. d.at.issue == last_issue h) h = kept.issued in
+    let k : cond (d.at.issue == last_issue h) (latest.issued + 1) 1 ≡ suc (count_by (λ x. x.at.issue == d.at.issue) h) = issued_kept row h d.at.issue latest.issued timed l e in
+    let s : suc (count_by (λ x. x.at.issue == d.at.issue) h) ≡ count_by (λ x. x.at.issue == d.at.issue) h + 1 = omega arith in
+    rw kept.issue (k ∙ s)
+
+part_more : (part : Part) (d : Done) (needs : Needs) (waits : Waits) (taken : Taken) → length needs.stations ≡ 6 → length needs.units ≡ 5
+    → need_of (needs_after (facts_of d.step) waits taken d.at needs) part ≡ need_after (need_of needs part) (taken_for part d taken) (waits_for part d waits)
+part_more (Stations pool) d needs waits taken p k = pool_part pool (step_pool d.step) taken.station waits.station needs.stations p
+part_more (Units unit) d needs waits taken p k = unit_part unit (step_unit d.step) taken.unit waits.unit needs.units k
+part_more Buses d needs waits taken p k = refl
+part_more Width d needs waits taken p k = refl
+
+pub needs_more : (row : Row) (h : List Done) (d : Done) (needs : Needs) (waits : Waits) (taken : Taken) → AreNeeds row h needs → waits ≡ waits_of row h d → ((part : Part) → taken_for part d taken ≡ taken_by part h d)
+    → AreNeeds row (d ∷ h) (needs_after (facts_of d.step) waits taken d.at needs)
+needs_more row h d needs waits taken are w t = record {
+  parts = λ part. part_more part d needs waits taken are.pools are.kinds ∙ rw (are.parts part, t part, w) refl;
+  branch = rw (w, are.branch) refl;
+  operand = rw (w, are.operand) refl;
+  address = rw (w, are.address) refl;
+  memory = rw (w, are.memory) refl;
+  last_issue = refl;
+  total = rw are.total refl;
+  pools = length-stations_after (step_pool d.step) taken.station waits.station needs.stations ∙ are.pools;
+  kinds = length-units_after (step_unit d.step) taken.unit waits.unit needs.units ∙ are.kinds;
+}
+
+pub needs_none : (row : Row) → AreNeeds row [] nothing_needed
+needs_none row = record { parts = none; branch = refl; operand = refl; address = refl; memory = refl; last_issue = refl; total = refl; pools = refl; kinds = refl }
+  where
+    none : (part : Part) → need_of nothing_needed part ≡ record { peak = peak part []; stalls = stalls row part [] }
+    none (Stations pool) = get_or-replicate 6 (place_of_pool pool) no_need no_need (pool_in pool)
+    none (Units unit) = get_or-replicate 5 (place_of_unit unit) no_need no_need (unit_in unit)
+    none Buses = refl
+    none Width = refl

@@ -1,0 +1,17 @@
+-- Step by step: where the first row's test fails for a part, that part is as many on the second.
+use Rattle.tomex_timing.proofs.Serving.{serves_timed, serves_runs}
+use Rattle.tomex_timing.proofs.Taken.{peak_within}
+use Rattle.tomex_timing.proofs.Telling.{needs_tell}
+use Rattle.tomex_timing.proofs.laws.parts_without_stalls_may_differ.Goals as goal
+
+pub returns-clause-times : goal.returns-clause-times
+returns-clause-times c = serves_timed
+
+pub returns-clause-runs : goal.returns-clause-runs
+returns-clause-runs c = serves_runs
+
+pub returns-clause-peak : goal.returns-clause-peak
+returns-clause-peak c = peak_within
+
+pub returns-clause-needs : goal.returns-clause-needs
+returns-clause-needs c = needs_tell

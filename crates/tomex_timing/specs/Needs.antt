@@ -1,0 +1,173 @@
+-- What a run takes of a machine's parts, and how long its steps wait for each of them.
+-- Every cycle in which a step waits is charged to one thing: the first of the tests below that fails in it. A wait's
+-- last test needs no look: it is what is left.
+use Rattle.std.specs.Prelude.{ℕ, ◌+◌, ◌-◌, ◌≤◌, ◌≡◌, ◌⊎◌, ◌==◌, nat_lt, nat_le, Bool, not, ◌&&◌, ◌||◌, if◌then◌else◌, List, [], ◌∷◌, Option, Some, None, count_by, is_some, max, length, slice_index_or}
+use Rattle.std.specs.List.{range_with_len}
+use Rattle.tomex_rvdec.specs.Parts.{place_of_pool, place_of_unit}
+use Rattle.tomex_rvdec.specs.declared.pool.PoolId.TheVariants as pools
+use Rattle.tomex_rvdec.specs.declared.pool.UnitId.{UnitId}
+use Rattle.tomex_rvdec.specs.declared.pool.UnitId.TheVariants as units
+use Rattle.tomex_rvexec.specs.Steps.{step_pool, step_unit, step_dest, is_in}
+use Rattle.tomex_config.specs.Row.{Row, stations_of, option_of}
+use Rattle.tomex_timing.specs.declared.needs.Needs.{Needs}
+use Rattle.tomex_timing.specs.declared.part.Need.{Need}
+use Rattle.tomex_timing.specs.declared.part.Part.{Part}
+use Rattle.tomex_timing.specs.declared.part.Part.TheVariants.{Stations, Units, Buses, Width}
+use Rattle.tomex_timing.specs.declared.part.Waits.{Waits}
+use Rattle.tomex_timing.specs.declared.times.Done.{Done}
+use Rattle.tomex_timing.specs.History.{is_of, cycle_of, greatest_end, last_issue}
+use Rattle.tomex_timing.specs.Recurrence.{has_slot, are_branches_finished, has_operands, are_conflicts_finished}
+
+-- how many of a part a row has
+abbrev pub count_of : Row → Part → ℕ
+count_of row (Stations pool) = stations_of row pool
+count_of row (Units unit) = (option_of row unit).units
+count_of row Buses = row.buses
+count_of row Width = row.width
+
+-- how many cycles pass a test, from one on and before another
+abbrev pub cycles_that : (ℕ → Bool) → ℕ → ℕ → ℕ
+cycles_that p from to = count_by p (range_with_len from (to - from))
+
+-- To issue a step waits from the issue before it on: for a branch, for the width, for a station.
+
+abbrev pub lacks_branch : List Done → ℕ → Bool
+lacks_branch older t = not (are_branches_finished older t)
+
+abbrev pub lacks_width : Row → List Done → ℕ → Bool
+lacks_width row older t = are_branches_finished older t && not (has_slot row older t)
+
+abbrev pub lacks_station : Row → List Done → ℕ → Bool
+lacks_station row older t = are_branches_finished older t && has_slot row older t
+
+abbrev pub issue_waits : List Done → Done → (ℕ → Bool) → ℕ
+issue_waits older d lacks = cycles_that lacks (max 1 (last_issue older)) d.at.issue
+
+-- To start it waits after its issue: for an operand, for its address, for an older access, for a unit.
+
+abbrev pub lacks_operand : List Done → Done → ℕ → Bool
+lacks_operand older d t = not (has_operands older d.step t)
+
+abbrev pub lacks_address : List Done → Done → ℕ → Bool
+lacks_address older d t = has_operands older d.step t && not (nat_lt (cycle_of d.at.address) t)
+
+abbrev pub lacks_memory : List Done → Done → ℕ → Bool
+lacks_memory older d t =
+    has_operands older d.step t && nat_lt (cycle_of d.at.address) t && not (are_conflicts_finished older d.step t)
+
+abbrev pub lacks_unit : List Done → Done → ℕ → Bool
+lacks_unit older d t =
+    has_operands older d.step t && nat_lt (cycle_of d.at.address) t && are_conflicts_finished older d.step t
+
+abbrev pub start_waits : Done → (ℕ → Bool) → ℕ
+start_waits d lacks = cycles_that lacks (d.at.issue + 1) d.at.start
+
+-- the waits of a step, given what is older; its result waits for a bus from its finish to its end
+abbrev pub waits_of : Row → List Done → Done → Waits
+waits_of row older d = record {
+  branch = issue_waits older d (lacks_branch older);
+  width = issue_waits older d (lacks_width row older);
+  station = issue_waits older d (lacks_station row older);
+  operand = start_waits d (lacks_operand older d);
+  address = start_waits d (lacks_address older d);
+  memory = start_waits d (lacks_memory older d);
+  unit = start_waits d (lacks_unit older d);
+  bus = d.at.end - (d.at.finish + 1);
+}
+
+-- of these, the waits for a part
+abbrev pub waits_for : Part → Done → Waits → ℕ
+waits_for (Stations pool) d waits = if is_in pool (step_pool d.step) then waits.station else 0
+waits_for (Units unit) d waits = if is_of unit (step_unit d.step) then waits.unit else 0
+waits_for Buses d waits = waits.bus
+waits_for Width d waits = waits.width
+
+-- a number of each step, given what is older, added up over a history
+abbrev pub sum_over : (List Done → Done → ℕ) → List Done → ℕ
+sum_over f [] = 0
+sum_over f (d ∷ older) = f older d + sum_over f older
+
+-- the stalls of a part: how long all steps together wait for it
+abbrev pub stalls : Row → Part → List Done → ℕ
+stalls row part h = sum_over (λ older d. waits_for part d (waits_of row older d)) h
+
+-- and how long they wait for what is no part
+abbrev pub stalls_by : (Waits → ℕ) → Row → List Done → ℕ
+stalls_by cause row h = sum_over (λ older d. cause (waits_of row older d)) h
+
+-- a station's number counts from 0
+abbrev pub stations_up_to : Option ℕ → ℕ
+stations_up_to None = 0
+stations_up_to (Some n) = n + 1
+
+-- What a step takes of a part, with what older steps take of it at the same time: the stations up to its own, the
+-- operations of its kind that start with it, the results that end with it, the steps that issue with it.
+abbrev pub taken_by : Part → List Done → Done → ℕ
+taken_by (Stations pool) older d = if is_in pool (step_pool d.step) then stations_up_to d.at.station else 0
+taken_by (Units unit) older d =
+    if is_of unit (step_unit d.step)
+    then count_by (λ x. is_of unit (step_unit x.step) && x.at.start == d.at.start) older + 1
+    else 0
+taken_by Buses older d =
+    if is_some (step_dest d.step)
+    then count_by (λ x. is_some (step_dest x.step) && x.at.end == d.at.end) older + 1
+    else 0
+taken_by Width older d = count_by (λ x. x.at.issue == d.at.issue) older + 1
+
+-- the most of a part that a history takes at once
+abbrev pub peak : Part → List Done → ℕ
+peak part [] = 0
+peak part (d ∷ older) = max (taken_by part older d) (peak part older)
+
+-- A second row serves a history as the first does: of each part it has as many, or the history has no stalls of
+-- it and takes no more of it than the second row has; and each kind of unit that is used has the same latency.
+pub record Serves (row other : Row) (h : List Done) : Type 0 where
+  pub parts : (part : Part)
+      → (count_of other part ≡ count_of row part) ⊎ ((stalls row part h ≡ 0) × (peak part h ≤ count_of other part))
+  pub latencies : (unit : UnitId)
+      → ((option_of other unit).latency ≡ (option_of row unit).latency) ⊎ (peak (Units unit) h ≡ 0)
+
+-- nothing is taken and nothing waits
+abbrev pub no_need : Need
+no_need = record { peak = 0; stalls = 0 }
+
+-- the need of a part
+abbrev pub need_of : Needs → Part → Need
+need_of needs (Stations pool) = slice_index_or needs.stations (place_of_pool pool) no_need
+need_of needs (Units unit) = slice_index_or needs.units (place_of_unit unit) no_need
+need_of needs Buses = needs.buses
+need_of needs Width = needs.width
+
+-- these are the needs of a history
+pub record AreNeeds (row : Row) (h : List Done) (needs : Needs) : Type 0 where
+  pub parts : (part : Part) → need_of needs part ≡ record { peak = peak part h; stalls = stalls row part h }
+  pub branch : needs.branch ≡ stalls_by (λ w. w.branch) row h
+  pub operand : needs.operand ≡ stalls_by (λ w. w.operand) row h
+  pub address : needs.address ≡ stalls_by (λ w. w.address) row h
+  pub memory : needs.memory ≡ stalls_by (λ w. w.memory) row h
+  pub last_issue : needs.last_issue ≡ last_issue h
+  pub total : needs.total ≡ greatest_end h
+  pub pools : length needs.stations ≡ 6
+  pub kinds : length needs.units ≡ 5
+
+-- needs on one row tell that a part may be as many as on another
+abbrev pub allows : Needs → Row → Row → Part → Bool
+allows needs own other part =
+    count_of own part == count_of other part
+    || ((need_of needs part).stalls == 0 && nat_le (need_of needs part).peak (count_of other part))
+
+-- and that units of a kind may be as many, and of the latency
+abbrev pub allows_units : Needs → Row → Row → UnitId → Bool
+allows_units needs own other unit =
+    allows needs own other (Units unit)
+    && ((option_of own unit).latency == (option_of other unit).latency || (need_of needs (Units unit)).peak == 0)
+
+-- and all that there is
+abbrev pub suffice : Needs → Row → Row → Bool
+suffice needs own other =
+    allows needs own other (Stations pools.Alu) && (allows needs own other (Stations pools.Mul)
+    && (allows needs own other (Stations pools.Div) && (allows needs own other (Stations pools.Load)
+    && (allows needs own other (Stations pools.Store) && (allows needs own other (Stations pools.Bru)
+    && (allows_units needs own other units.Alu && (allows_units needs own other units.Mul
+    && (allows_units needs own other units.Div && (allows_units needs own other units.Mem
+    && (allows_units needs own other units.Bru && (allows needs own other Buses && allows needs own other Width)))))))))))

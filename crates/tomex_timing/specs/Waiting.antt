@@ -1,0 +1,136 @@
+-- The needs of a run as they are counted: a step's waits are differences of cycles that the evaluator has at hand.
+use Rattle.std.specs.Prelude.{ℕ, ◌+◌, ◌-◌, ◌≤◌, ◌==◌, if◌then◌else◌, List, [], ◌∷◌, Option, Some, None, count_by, is_some, max, replicate, slice_index_or, slice_set}
+use Rattle.tomex_rvdec.specs.Parts.{place_of_pool, place_of_unit}
+use Rattle.tomex_rvdec.specs.declared.pool.PoolId.{PoolId}
+use Rattle.tomex_rvdec.specs.declared.pool.UnitId.{UnitId}
+use Rattle.tomex_rvexec.specs.Steps.{j_of, k_of}
+use Rattle.tomex_rvexec.specs.declared.step.Step.{Step}
+use Rattle.tomex_config.specs.Row.{Row}
+use Rattle.tomex_timing.specs.declared.needs.Needs.{Needs}
+use Rattle.tomex_timing.specs.declared.part.Need.{Need}
+use Rattle.tomex_timing.specs.declared.part.Part.{Part}
+use Rattle.tomex_timing.specs.declared.part.Taken.{Taken}
+use Rattle.tomex_timing.specs.declared.part.Waits.{Waits}
+use Rattle.tomex_timing.specs.declared.times.Times.{Times}
+use Rattle.tomex_timing.specs.declared.window.Facts.{Facts}
+use Rattle.tomex_timing.specs.declared.window.Live.{Live}
+use Rattle.tomex_timing.specs.declared.window.Latest.{Latest}
+use Rattle.tomex_timing.specs.Needs.{no_need, need_of, stations_up_to}
+use Rattle.tomex_timing.specs.Window.{facts_of, issue_from, conflicts_with, starts_in, sends_in, end_among, ready_from}
+
+-- the first cycle from this one on that is later than the finish of each conflicting access
+abbrev pub clear_among : Facts → List Live → ℕ → ℕ
+clear_among f [] from = from
+clear_among f (l ∷ live) from = clear_among f live (if conflicts_with f l then max from (l.finish + 1) else from)
+
+-- the first cycle in which a step can wait to issue, and the first after it that no branch is in the way of
+abbrev pub issue_low : Latest → ℕ
+issue_low latest = max 1 latest.issue
+
+abbrev pub past_branches : Latest → ℕ
+past_branches latest = max (issue_low latest) (latest.branch + 1)
+
+-- the first cycle after the issue with both operands
+abbrev pub operands_from : ℕ → ℕ → ℕ → ℕ
+operands_from issue j k = max issue (max j k) + 1
+
+abbrev pub unless_none : Option UnitId → ℕ → ℕ
+unless_none None n = 0
+unless_none (Some unit) n = n
+
+abbrev pub waits_by : Row → Latest → Option UnitId → ℕ → ℕ → ℕ → Times → Waits
+waits_by row latest unit operands ready clear at = record {
+  branch = past_branches latest - issue_low latest;
+  width = issue_from row latest - past_branches latest;
+  station = at.issue - issue_from row latest;
+  operand = unless_none unit (operands - (at.issue + 1));
+  address = unless_none unit (ready - operands);
+  memory = unless_none unit (clear - ready);
+  unit = unless_none unit (at.start - clear);
+  bus = unless_none unit (at.end - at.finish - 1);
+}
+
+abbrev pub waits_from : Row → List Live → Latest → Facts → ℕ → ℕ → Times → Waits
+waits_from row live latest f j k at =
+    waits_by row latest f.unit (operands_from at.issue j k) (ready_from at.issue at.address j k)
+    (clear_among f live (ready_from at.issue at.address j k)) at
+
+-- the waits of a next step
+abbrev pub waits_among : Row → List Live → Latest → Step → Times → Waits
+waits_among row live latest s at =
+    waits_from row live latest (facts_of s) (end_among latest.ends (j_of s)) (end_among latest.ends (k_of s)) at
+
+abbrev pub units_taken : List Live → Option UnitId → ℕ → ℕ
+units_taken live None t = 0
+units_taken live (Some unit) t = count_by (starts_in unit t) live + 1
+
+-- what a next step takes
+abbrev pub taken_among : List Live → Latest → Facts → Times → Taken
+taken_among live latest f at = record {
+  station = stations_up_to at.station;
+  unit = units_taken live f.unit at.start;
+  bus = if is_some f.dest then count_by (sends_in at.end) live + 1 else 0;
+  width = if at.issue == latest.issue then latest.issued + 1 else 1;
+}
+
+-- before the first step
+abbrev pub nothing_needed : Needs
+nothing_needed = record {
+  stations = replicate 6 no_need;
+  units = replicate 5 no_need;
+  buses = no_need;
+  width = no_need;
+  branch = 0;
+  operand = 0;
+  address = 0;
+  memory = 0;
+  last_issue = 0;
+  total = 0;
+}
+
+abbrev pub need_after : Need → ℕ → ℕ → Need
+need_after need taken waited = record { peak = max taken need.peak; stalls = waited + need.stalls }
+
+abbrev pub stations_after : Option PoolId → ℕ → ℕ → List Need → List Need
+stations_after None taken waited needs = needs
+stations_after (Some pool) taken waited needs =
+    slice_set needs (place_of_pool pool) (need_after (slice_index_or needs (place_of_pool pool) no_need) taken waited)
+
+abbrev pub units_after : Option UnitId → ℕ → ℕ → List Need → List Need
+units_after None taken waited needs = needs
+units_after (Some unit) taken waited needs =
+    slice_set needs (place_of_unit unit) (need_after (slice_index_or needs (place_of_unit unit) no_need) taken waited)
+
+-- after one more step
+abbrev pub needs_after : Facts → Waits → Taken → Times → Needs → Needs
+needs_after f waits taken at needs = record {
+  stations = stations_after f.pool taken.station waits.station needs.stations;
+  units = units_after f.unit taken.unit waits.unit needs.units;
+  buses = need_after needs.buses taken.bus waits.bus;
+  width = need_after needs.width taken.width waits.width;
+  branch = waits.branch + needs.branch;
+  operand = waits.operand + needs.operand;
+  address = waits.address + needs.address;
+  memory = waits.memory + needs.memory;
+  last_issue = at.issue;
+  total = max at.end needs.total;
+}
+
+-- no wait is longer
+pub record AreWithin (n : ℕ) (waits : Waits) : Type 0 where
+  pub branch : waits.branch ≤ n
+  pub width : waits.width ≤ n
+  pub station : waits.station ≤ n
+  pub operand : waits.operand ≤ n
+  pub address : waits.address ≤ n
+  pub memory : waits.memory ≤ n
+  pub unit : waits.unit ≤ n
+  pub bus : waits.bus ≤ n
+
+-- and no part has more stalls
+pub record IsWithin (n : ℕ) (needs : Needs) : Type 0 where
+  pub parts : (part : Part) → (need_of needs part).stalls ≤ n
+  pub branch : needs.branch ≤ n
+  pub operand : needs.operand ≤ n
+  pub address : needs.address ≤ n
+  pub memory : needs.memory ≤ n

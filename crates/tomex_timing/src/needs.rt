@@ -1,0 +1,158 @@
+//! What a run takes of a row's parts, and how long its steps wait for each of them.
+
+ghost use Rattle.std.specs.Prelude.{◌≡◌, ◌+◌, ◌^◌, ◌<◌, ◌≤◌, slice_index_or};
+ghost use Rattle.tomex_rvdec.specs.Parts.{place_of_pool, place_of_unit};
+ghost use Rattle.tomex_rvdec.specs.declared.pool.PoolId.{PoolId};
+ghost use Rattle.tomex_rvdec.specs.declared.pool.UnitId.{UnitId};
+ghost use Rattle.tomex_timing.specs.Needs.{no_need, need_of, allows, allows_units, suffice};
+ghost use Rattle.tomex_timing.specs.Waiting.{AreWithin, IsWithin, nothing_needed, need_after, needs_after, stations_after, units_after};
+
+use crate::part::{Need, Part, Taken, Waits};
+use crate::times::Times;
+use crate::window::Facts;
+use tomex_config::Config;
+use tomex_rvdec::{PoolId, UnitId};
+
+/// The needs of a run on a row.
+#[derive(Clone, Copy, Debug, PartialEq, Eq)]
+pub struct Needs {
+    pub stations: [Need; 6],
+    pub units: [Need; 5],
+    pub buses: Need,
+    pub width: Need,
+    /// In how many cycles steps wait for what is no part: for older branches to issue, and to start for an operand, for
+    /// an address and for older accesses.
+    pub branch: u64,
+    pub operand: u64,
+    pub address: u64,
+    pub memory: u64,
+    /// The last step's issue, 0 of no steps.
+    pub last_issue: u64,
+    /// The run's total.
+    pub total: u64,
+}
+
+impl Need {
+    /// After one more step, which takes so much of the part at once and waits so long for it.
+    fn after(self, taken: u64, waited: u64) -> Need
+        requires small { self.stalls + waited < 2 ^ 64 }
+        ensures { result ≡ need_after self taken waited }
+    {
+        Need {
+            peak: taken.max(self.peak),
+            stalls: waited + self.stalls,
+        }
+    }
+}
+
+/// Notes what a step takes of its pool, and how long it waits for it.
+fn note_station(needs: &mut [Need; 6], pool: Option<PoolId>, taken: u64, waited: u64)
+    requires needs { (p : PoolId) → (slice_index_or needs.old (place_of_pool p) no_need).stalls ≤ 2 ^ 63 }
+    requires waited { waited ≤ 2 ^ 62 }
+    ensures { needs.new ≡ stations_after pool taken waited needs.old }
+{
+    if let Some(pool) = pool {
+        let place = pool.place();
+        needs[place] = needs[place].after(taken, waited);
+    }
+}
+
+/// The same of its kind of unit.
+fn note_unit(needs: &mut [Need; 5], unit: Option<UnitId>, taken: u64, waited: u64)
+    requires needs { (u : UnitId) → (slice_index_or needs.old (place_of_unit u) no_need).stalls ≤ 2 ^ 63 }
+    requires waited { waited ≤ 2 ^ 62 }
+    ensures { needs.new ≡ units_after unit taken waited needs.old }
+{
+    if let Some(unit) = unit {
+        let place = unit.place();
+        needs[place] = needs[place].after(taken, waited);
+    }
+}
+
+impl Needs {
+    /// Of no steps.
+    pub(crate) fn none() -> Needs
+        ensures { result ≡ nothing_needed }
+    {
+        let nothing = Need { peak: 0, stalls: 0 };
+        Needs {
+            stations: [nothing; 6],
+            units: [nothing; 5],
+            buses: nothing,
+            width: nothing,
+            branch: 0,
+            operand: 0,
+            address: 0,
+            memory: 0,
+            last_issue: 0,
+            total: 0,
+        }
+    }
+
+    /// The need of a part.
+    pub fn part(&self, part: Part) -> Need
+        ensures { result ≡ need_of self.now part }
+    {
+        match part {
+            Part::Stations(pool) => self.stations[pool.place()],
+            Part::Units(unit) => self.units[unit.place()],
+            Part::Buses => self.buses,
+            Part::Width => self.width,
+        }
+    }
+
+    /// Whether a part may be as many as on another row.
+    fn allows(&self, part: Part, own: &Config, other: &Config) -> bool
+        ensures { result ≡ allows self.now own.now other.now part }
+    {
+        let need = self.part(part);
+        let count = part.count(other);
+        part.count(own) == count || (need.stalls == 0 && need.peak <= count)
+    }
+
+    /// Whether units of a kind may be as many, and of the latency, as on another row.
+    fn allows_units(&self, unit: UnitId, own: &Config, other: &Config) -> bool
+        ensures { result ≡ allows_units self.now own.now other.now unit }
+    {
+        self.allows(Part::Units(unit), own, other)
+            && (own.latency(unit) == other.latency(unit) || self.units[unit.place()].peak == 0)
+    }
+
+    /// Whether these needs, of a run on its own row, tell that the run has the same times on another row. Then its total
+    /// there is `total`.
+    pub fn suffice(&self, own: &Config, other: &Config) -> bool
+        ensures { result ≡ suffice self.now own.now other.now }
+    {
+        self.allows(Part::Stations(PoolId::Alu), own, other)
+            && self.allows(Part::Stations(PoolId::Mul), own, other)
+            && self.allows(Part::Stations(PoolId::Div), own, other)
+            && self.allows(Part::Stations(PoolId::Load), own, other)
+            && self.allows(Part::Stations(PoolId::Store), own, other)
+            && self.allows(Part::Stations(PoolId::Bru), own, other)
+            && self.allows_units(UnitId::Alu, own, other)
+            && self.allows_units(UnitId::Mul, own, other)
+            && self.allows_units(UnitId::Div, own, other)
+            && self.allows_units(UnitId::Mem, own, other)
+            && self.allows_units(UnitId::Bru, own, other)
+            && self.allows(Part::Buses, own, other)
+            && self.allows(Part::Width, own, other)
+    }
+
+    /// Notes a step with its waits and with what it takes.
+    pub(crate) fn note(&mut self, facts: &Facts, waits: &Waits, taken: &Taken, at: &Times)
+        requires needs { IsWithin (2 ^ 63) self.old }
+        requires waits { AreWithin (2 ^ 62) waits.now }
+        ensures { self.new ≡ needs_after facts.now waits.now taken.now at.now self.old }
+    {
+        self.buses = self.buses.after(taken.bus, waits.bus);
+        self.width = self.width.after(taken.width, waits.width);
+        self.branch = waits.branch + self.branch;
+        self.operand = waits.operand + self.operand;
+        self.address = waits.address + self.address;
+        self.memory = waits.memory + self.memory;
+        self.last_issue = at.issue;
+        self.total = at.end.max(self.total);
+        note_station(&mut self.stations, facts.pool, taken.station, waits.station);
+        note_unit(&mut self.units, facts.unit, taken.unit, waits.unit);
+    }
+}

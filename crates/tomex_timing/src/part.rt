@@ -1,0 +1,64 @@
+//! The parts of a machine, and what steps wait for.
+
+ghost use Rattle.std.specs.Prelude.{◌≡◌};
+ghost use Rattle.tomex_timing.specs.Needs.{count_of};
+
+use tomex_config::Config;
+use tomex_rvdec::{PoolId, UnitId};
+
+/// A part of a machine that a row has a count of: the stations of a pool, the units of a kind, the
+/// common data buses, and how many instructions issue in a cycle.
+#[derive(Clone, Copy, Debug, PartialEq, Eq)]
+pub enum Part {
+    Stations(PoolId),
+    Units(UnitId),
+    Buses,
+    Width,
+}
+
+impl Part {
+    /// How many of it a row has.
+    pub fn count(self, row: &Config) -> u64
+        ensures { result ≡ count_of row.now self }
+    {
+        match self {
+            Part::Stations(pool) => u64::from(row.stations(pool)),
+            Part::Units(unit) => u64::from(row.units(unit)),
+            Part::Buses => u64::from(row.buses()),
+            Part::Width => u64::from(row.width()),
+        }
+    }
+}
+
+/// In how many cycles a step waits, by the first thing that it lacks in each of them.
+#[derive(Clone, Copy, Debug, PartialEq, Eq)]
+pub struct Waits {
+    /// To issue: for an older branch, for the width, for a station of its pool.
+    pub branch: u64,
+    pub width: u64,
+    pub station: u64,
+    /// To start: for an operand, for its address, for an older access, for a unit of its kind.
+    pub operand: u64,
+    pub address: u64,
+    pub memory: u64,
+    pub unit: u64,
+    /// For a bus, as a result.
+    pub bus: u64,
+}
+
+/// What a run takes of a part at once at most, and in how many cycles its steps wait for it.
+#[derive(Clone, Copy, Debug, PartialEq, Eq)]
+pub struct Need {
+    pub peak: u64,
+    pub stalls: u64,
+}
+
+/// What one step takes of each part, with what others take of it at the same time: the stations up to its own, the
+/// operations that start with it, the results that end with it, the steps that issue with it.
+#[derive(Clone, Copy)]
+pub(crate) struct Taken {
+    pub station: u64,
+    pub unit: u64,
+    pub bus: u64,
+    pub width: u64,
+}
