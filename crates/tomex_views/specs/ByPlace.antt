@@ -1,6 +1,6 @@
 -- The stalls report by place in the program: a record for each address at which the run has a step, rising, with how
 -- many steps it has there and how long they wait for what.
-use Rattle.std.specs.Prelude.{◌≡◌, ℕ, ◌==◌, true, List, [], ◌∷◌, ◌++◌, codes, filter, length, sum_by, All, Contains}
+use Rattle.std.specs.Prelude.{◌≡◌, ℕ, ◌==◌, List, [], ◌∷◌, ◌++◌, codes, filter, length, sum_by}
 use Rattle.std.specs.List.{flat_map, list_any, zip}
 use Rattle.std.specs.List.Sorted.{IsStrictlySortedBy}
 use Rattle.std.specs.Ordering.{nat_cmp}
@@ -27,8 +27,7 @@ visits_at pc visits = filter (λ v. v.0.pc == pc) visits
 -- the addresses of the steps, rising, each once
 pub record ArePlaces (visits : List Visit) (pcs : List ℕ) : Type 0 where
   pub rising : IsStrictlySortedBy nat_cmp pcs
-  pub all : All (λ v. Contains pcs v.0.pc) visits
-  pub no_others : All (λ pc. list_any (λ v. v.0.pc == pc) visits ≡ true) pcs
+  pub those : (pc : ℕ) → list_any (λ p. p == pc) pcs ≡ list_any (λ v. v.0.pc == pc) visits
 
 -- how long some steps wait, all together
 abbrev pub waits_of_all : List Visit → Waits
@@ -68,7 +67,10 @@ abbrev pub report_at : List ℕ → List Visit → List ℕ
 report_at pcs visits =
     record_text header ++ (flat_map (λ pc. place_record (visits_at pc visits)) pcs ++ total_record visits)
 
--- the text is the report of a run's steps on a row
+-- the text is the report of these visits
+abbrev pub IsReport : List Visit → List ℕ → Type 0
+IsReport visits text = (pcs : List ℕ) × ArePlaces visits pcs × (text ≡ report_at pcs visits)
+
+-- and of a run's steps on a row
 abbrev pub IsReportByPlace : Row → List Step → List ℕ → Type 0
-IsReportByPlace row steps text =
-    (pcs : List ℕ) × ArePlaces (visits_in row steps) pcs × (text ≡ report_at pcs (visits_in row steps))
+IsReportByPlace row steps text = IsReport (visits_in row steps) text

@@ -11,7 +11,7 @@ ghost use Rattle.tomex_views.specs.ByPlace.{IsReportByPlace, header, sum_fields}
 ghost use Rattle.tomex_views.specs.Tally.{place_fields, report_of_tally, total_fields};
 
 use crate::steps::steps_of;
-use crate::tally::{Place, Sum, Tally, tally};
+use crate::tally::{Place, Sum, Tally, count_by_place};
 use csv::{ByteRecord, Writer};
 use std::alloc::{AllocError, Allocator, Global};
 use tomex_config::Config;
@@ -129,6 +129,6 @@ pub fn stalls_by_pc<A: Allocator + Clone>(
 {
     let steps = steps_of(alloc.clone()?, program)?;
     let waits = waits(alloc.clone()?, steps.as_slice(), row)?;
-    let tally = tally(alloc.clone()?, steps.as_slice(), waits.as_slice())?;
+    let tally = count_by_place(alloc.clone()?, steps.as_slice(), waits.as_slice())?;
     text_of_tally(alloc, heap, &tally)
 }

@@ -3,7 +3,7 @@
 ghost use Rattle.std.specs.Prelude.{◌≡◌, ◌+◌, ◌*◌, ◌^◌, ◌<◌, ◌≤◌, IfOk, All, length};
 ghost use Rattle.std.specs.List.{zip};
 ghost use Rattle.tomex_timing.specs.Waiting.{AreWithin};
-ghost use Rattle.tomex_views.specs.Tally.{IsTally, no_sum, place_sum, sum_after};
+ghost use Rattle.tomex_views.specs.Tally.{IsTally, no_sum, sum_after};
 
 use std::alloc::{AllocError, Allocator};
 use std::collections::BTreeMap;
@@ -93,7 +93,7 @@ impl Place {
 }
 
 /// Counts steps with their waits, by address and all together.
-pub fn tally<A: Allocator + Clone>(
+pub fn count_by_place<A: Allocator + Clone>(
     alloc: A,
     steps: &[Step],
     waits: &[Waits],
