@@ -11,12 +11,13 @@ use Rattle.tomex_rvdec.specs.declared.pool.UnitId.{UnitId}
 use Rattle.tomex_rvdec.specs.declared.pool.UnitId.TheVariants as units
 use Rattle.tomex_rvexec.specs.Steps.{step_pool, step_unit, step_dest, is_in}
 use Rattle.tomex_config.specs.Row.{Row, IsRow, option_of}
-use Rattle.tomex_timing.specs.declared.part.Part.TheVariants.{Stations, Width}
+use Rattle.tomex_timing.specs.declared.part.Part.TheVariants.{Width}
 use Rattle.tomex_timing.specs.declared.times.Done.{Done}
 use Rattle.tomex_timing.specs.History.{is_of, cycle_of, last_issue, greatest_end}
-use Rattle.tomex_timing.specs.Laws.{IssueCyclesAddUp, StationCyclesAddUp, work_by}
-use Rattle.tomex_timing.specs.Needs.{lacks_branch, lacks_width, lacks_station, lacks_operand, lacks_address, lacks_memory, lacks_unit, waits_of, stalls, stalls_by}
+use Rattle.tomex_timing.specs.Laws.{IssueCyclesAddUp, StationCyclesAddUp, StationWaitsAreStalls, UnitWaitsAreStalls, work_by}
+use Rattle.tomex_timing.specs.Needs.{lacks_branch, lacks_width, lacks_station, lacks_operand, lacks_address, lacks_memory, lacks_unit, waits_of, pool_stalls, stalls, stalls_by}
 use Rattle.tomex_timing.specs.Recurrence.{IsLeast, IsTimed, AreTimed, can_end, can_issue, can_start, has_slot, are_branches_finished, has_operands, are_conflicts_finished}
+use Rattle.tomex_timing.proofs.Bands.{none_of}
 use Rattle.tomex_timing.proofs.Bound.{end_low, issue_low, start_low, timed_by}
 use Rattle.tomex_timing.proofs.Limits.{latency_low}
 use Rattle.tomex_timing.proofs.Settled.{last_issue_by}
@@ -93,8 +94,7 @@ pool_account (Some p) n none = in_one_pool p n
 
 abbrev issue_stalls : Row → List Done → ℕ
 issue_stalls row h =
-    stalls_by (λ w. w.branch) row h + stalls row Width h
-    + (stalls row (Stations pools.Alu) h + stalls row (Stations pools.Mul) h + stalls row (Stations pools.Div) h + stalls row (Stations pools.Load) h + stalls row (Stations pools.Store) h + stalls row (Stations pools.Bru) h)
+    stalls_by (λ w. w.branch) row h + stalls row Width h + pool_stalls row h
 
 issues_add_up : (row : Row) (h : List Done) → AreTimed row h → issue_stalls row h + 1 ≡ max 1 (last_issue h)
 issues_add_up row [] timed = refl
@@ -171,4 +171,27 @@ station_cycles row [] good timed = refl
 station_cycles row (d ∷ older) good timed =
     let k = station_cycles row older good timed.1 in
     let a = operation_account row older d (step_unit d.step) good refl timed.0 in
+    omega arith
+
+-- the waits for stations are those of all pools
+pub station_stalls : StationWaitsAreStalls
+station_stalls row [] timed = refl
+station_stalls row (d ∷ older) timed =
+    let k = station_stalls row older timed.1 in
+    let p : in_pools (step_pool d.step) (waits_of row older d).station ≡ (waits_of row older d).station = pool_account (step_pool d.step) (waits_of row older d).station (λ none. no_station_wait row older d none timed.0) in
+    omega arith
+
+unit_account : (row : Row) (older : List Done) (d : Done) (unit : Option UnitId) → step_unit d.step ≡ unit → IsTimed row older d.step d.at → in_units unit (waits_of row older d).unit ≡ (waits_of row older d).unit
+unit_account row older d None e is =
+    let s : d.at.start ≡ d.at.issue = rw e at is.start in
+    let n : (waits_of row older d).unit ≡ 0 = none_of (lacks_unit older d) (d.at.issue + 1) d.at.start (omega arith) in
+    omega arith
+unit_account row older d (Some u) e is = in_one_unit u (waits_of row older d).unit
+
+-- and those for units of all kinds
+pub kind_stalls : UnitWaitsAreStalls
+kind_stalls row [] timed = refl
+kind_stalls row (d ∷ older) timed =
+    let k = kind_stalls row older timed.1 in
+    let p : in_units (step_unit d.step) (waits_of row older d).unit ≡ (waits_of row older d).unit = unit_account row older d (step_unit d.step) refl timed.0 in
     omega arith

@@ -1,12 +1,13 @@
 -- What the evaluator counts of a step's waits is what the definition says.
 use Rattle.std.proofs.Common.{ℕ, ◌+◌, ◌-◌, ◌<◌, ◌≤◌, ◌≡◌, ◌∙◌, Bool, true, false, cond, arith, refl, ap, sym, inl, inr, List, [], ◌∷◌, Option, Some, None, max}
-use Rattle.std.specs.Prelude.{nat_lt, nat_le, ◌==◌, not, ◌&&◌, count_by, MatchOption, ⊤}
+use Rattle.std.specs.Prelude.{nat_lt, nat_le, ◌==◌, not, ◌&&◌, count_by, MatchOption}
 use Rattle.std.specs.List.{list_all}
 use Rattle.std.specs.Option.{ForSome}
 use Rattle.std.proofs.lemmas.Bool.{cases_Bool, cases_order, and_parts, le-leb, lt-leb, leb-true, leb-false, ltb-true, lt-ltb, or_right}
 use Rattle.tomex_rvdec.specs.declared.pool.UnitId.{UnitId}
 use Rattle.tomex_rvexec.specs.Steps.{step_unit, j_of, k_of}
 use Rattle.tomex_config.specs.Row.{Row, IsRow}
+use Rattle.tomex_timing.specs.declared.next.Marks.{Marks}
 use Rattle.tomex_timing.specs.declared.part.Waits.{Waits}
 use Rattle.tomex_timing.specs.declared.times.Done.{Done}
 use Rattle.tomex_timing.specs.declared.window.Facts.{Facts}
@@ -15,7 +16,7 @@ use Rattle.tomex_timing.specs.declared.window.Latest.{Latest}
 use Rattle.tomex_timing.specs.History.{cycle_of, source_end, last_issue}
 use Rattle.tomex_timing.specs.Needs.{waits_of, lacks_branch, lacks_width, lacks_station, lacks_operand, lacks_address, lacks_memory, lacks_unit, issue_waits, start_waits}
 use Rattle.tomex_timing.specs.Recurrence.{IsLeast, IsTimed, AreTimed, are_branches_finished, can_issue, can_start, has_operands, are_conflicts_finished}
-use Rattle.tomex_timing.specs.Waiting.{clear_among, operands_from, unless_none, waits_among}
+use Rattle.tomex_timing.specs.Waiting.{clear_among, operands_from, marks_among, marks_from, waits_by}
 use Rattle.tomex_timing.specs.Window.{facts_of, recent, branch_finish, conflicts_with, is_finished_conflict, end_among, ready_from, IsKept}
 use Rattle.tomex_timing.proofs.Bands.{band, none_of, is_in_band}
 use Rattle.tomex_timing.proofs.Windows.{AreClosed, all_recent, max_split, after_split, slot_split, branch_split, issue_agree, ready_split, source_agree}
@@ -214,57 +215,61 @@ start_at_least row h d u c clear can =
 issue_at_least : (row : Row) (h : List Done) (d : Done) → IsRow row → AreTimed row h → AreClosed h → can_issue row h d.step d.at.issue ≡ true → from_of row h ≤ d.at.issue
 issue_at_least row h d good timed close can = leb-true (from_of row h) d.at.issue (and_parts _ _ (issue_agree row h d.step d.at.issue good timed close ∙ can)).0
 
--- all of them, by the history
-abbrev waits_at : Row → List Done → Done → Option UnitId → ℕ → Waits
-waits_at row h d unit c = record {
+-- all of them, by the history and the marks
+abbrev marks_at : Row → List Done → Done → Option UnitId → ℕ → Marks
+marks_at row h d None c = record { from = from_of row h; operands = d.at.issue; ready = d.at.issue; clear = d.at.issue }
+marks_at row h d (Some u) c = record { from = from_of row h; operands = operands_at h d; ready = ready_at h d; clear = c }
+
+abbrev waits_at : List Done → Done → Marks → Waits
+waits_at h d marks = record {
   branch = branches_of h - low_of h;
-  width = from_of row h - branches_of h;
-  station = d.at.issue - from_of row h;
-  operand = unless_none unit (operands_at h d - (d.at.issue + 1));
-  address = unless_none unit (ready_at h d - operands_at h d);
-  memory = unless_none unit (c - ready_at h d);
-  unit = unless_none unit (d.at.start - c);
-  bus = unless_none unit (d.at.end - d.at.finish - 1);
+  width = marks.from - branches_of h;
+  station = d.at.issue - marks.from;
+  operand = marks.operands - d.at.issue - 1;
+  address = marks.ready - marks.operands;
+  memory = marks.clear - marks.ready;
+  unit = d.at.start - marks.clear;
+  bus = d.at.end - d.at.finish - 1;
 }
 
 waits_unit : (row : Row) (h : List Done) (d : Done) (unit : Option UnitId) (c : ℕ) → IsRow row → AreTimed row h → from_of row h ≤ d.at.issue → IsClear h d c
     → MatchOption unit (d.at.start ≡ d.at.issue) (λ u. IsLeast (can_start row h d.step u d.at.issue (cycle_of d.at.address)) d.at.start)
-    → MatchOption unit (d.at.finish ≡ d.at.issue) (λ u. ⊤) → MatchOption unit (d.at.end ≡ d.at.issue) (λ u. ⊤)
-    → waits_at row h d unit c ≡ waits_of row h d
-waits_unit row h d None c good timed l clear start finish end =
+    → waits_at h d (marks_at row h d unit c) ≡ waits_of row h d
+waits_unit row h d None c good timed l clear start =
     let s : d.at.start ≡ d.at.issue = start in
-    let f : d.at.finish ≡ d.at.issue = finish in
-    let e : d.at.end ≡ d.at.issue = end in
+    let w1 = none_of (lacks_operand h d) (d.at.issue + 1) d.at.start (omega arith) in
+    let w2 = none_of (lacks_address h d) (d.at.issue + 1) d.at.start (omega arith) in
+    let w3 = none_of (lacks_memory h d) (d.at.issue + 1) d.at.start (omega arith) in
+    let w4 = none_of (lacks_unit h d) (d.at.issue + 1) d.at.start (omega arith) in
     same_waits _ _ (sym (branch_waits row h d l)) (sym (width_waits row h d good timed l)) (sym (station_waits row h d good timed l))
-    (sym (none_of (lacks_operand h d) (d.at.issue + 1) d.at.start (omega arith))) (sym (none_of (lacks_address h d) (d.at.issue + 1) d.at.start (omega arith)))
-    (sym (none_of (lacks_memory h d) (d.at.issue + 1) d.at.start (omega arith))) (sym (none_of (lacks_unit h d) (d.at.issue + 1) d.at.start (omega arith))) (omega arith)
-waits_unit row h d (Some u) c good timed l clear start finish end =
+    (omega arith) (omega arith) (omega arith) (omega arith) (omega arith)
+waits_unit row h d (Some u) c good timed l clear start =
     let two = start_at_least row h d u c clear start.0 in
     let r : ready_at h d ≤ c = two.0 in
     let s : c ≤ d.at.start = two.1 in
+    let w1 = operand_waits h d (omega arith) in
     same_waits _ _ (sym (branch_waits row h d l)) (sym (width_waits row h d good timed l)) (sym (station_waits row h d good timed l))
-    (sym (operand_waits h d (omega arith))) (sym (address_waits h d (omega arith)))
+    (omega arith) (sym (address_waits h d (omega arith)))
     (sym (memory_waits h d c clear r s)) (sym (unit_waits h d c clear r s)) (omega arith)
 
-some_fact : {X : Type 0} (x : Option X) (A : Type 0) (P : X → Type 0) → MatchOption x A P → MatchOption x A (λ u. ⊤)
-some_fact None A P h = h
-some_fact (Some u) A P h = tt
-
--- what is kept gives the same numbers
-waits_kept : (row : Row) (h : List Done) (d : Done) (live : List Live) (latest : Latest) (c : ℕ) → ForSome (j_of d.step) (λ o. o.register < 32) → ForSome (k_of d.step) (λ o. o.register < 32) → IsKept h live latest
-    → clear_among (facts_of d.step) (recent (last_issue h) h) (ready_at h d) ≡ c → waits_among row live latest d.step d.at ≡ waits_at row h d (step_unit d.step) c
-waits_kept row h d live latest c small_j small_k kept e =
+-- what is kept gives the same marks
+marks_kept : (row : Row) (h : List Done) (d : Done) (live : List Live) (latest : Latest) (unit : Option UnitId) (c : ℕ) → ForSome (j_of d.step) (λ o. o.register < 32) → ForSome (k_of d.step) (λ o. o.register < 32) → IsKept h live latest
+    → clear_among (facts_of d.step) (recent (last_issue h) h) (ready_at h d) ≡ c
+    → marks_from row live latest (facts_of d.step) unit (end_among latest.ends (j_of d.step)) (end_among latest.ends (k_of d.step)) d.at ≡ marks_at row h d unit c
+marks_kept row h d live latest None c small_j small_k kept e = rw (kept.issue, kept.issued, kept.branch) refl
+marks_kept row h d live latest (Some u) c small_j small_k kept e =
     let j : end_among latest.ends (j_of d.step) ≡ source_end h (j_of d.step) = source_agree h latest.ends (j_of d.step) kept.ends small_j in
     let k : end_among latest.ends (k_of d.step) ≡ source_end h (k_of d.step) = source_agree h latest.ends (k_of d.step) kept.ends small_k in
     rw (j, k, kept.window, kept.issue, kept.issued, kept.branch, e) refl
 
 pub waits_are : (row : Row) (h : List Done) (d : Done) (live : List Live) (latest : Latest) → ForSome (j_of d.step) (λ o. o.register < 32) → ForSome (k_of d.step) (λ o. o.register < 32)
-    → IsRow row → AreTimed row h → AreClosed h → IsKept h live latest → IsTimed row h d.step d.at → waits_among row live latest d.step d.at ≡ waits_of row h d
+    → IsRow row → AreTimed row h → AreClosed h → IsKept h live latest → IsTimed row h d.step d.at → waits_by latest (marks_among row live latest d.step d.at) d.at ≡ waits_of row h d
 waits_are row h d live latest small_j small_k good timed close kept is =
     let order : last_issue h ≤ d.at.issue = issue_after row h d.step d.at.issue is.issue.0 in
     let c : ℕ = clear_among (facts_of d.step) (recent (last_issue h) h) (ready_at h d) in
-    waits_kept row h d live latest c small_j small_k kept refl
-    ∙ waits_unit row h d (step_unit d.step) c good timed (issue_at_least row h d good timed close is.issue.0) (clear_is row h d close order) is.start (some_fact (step_unit d.step) _ _ is.finish) (some_fact (step_unit d.step) _ _ is.end)
+    let m = marks_kept row h d live latest (step_unit d.step) c small_j small_k kept refl in
+    let w : waits_by latest (marks_at row h d (step_unit d.step) c) d.at ≡ waits_at h d (marks_at row h d (step_unit d.step) c) = rw (kept.issue, kept.branch) refl in
+    ap (λ m. waits_by latest m d.at) m ∙ (w ∙ waits_unit row h d (step_unit d.step) c good timed (issue_at_least row h d good timed close is.issue.0) (clear_is row h d close order) is.start)
 
 -- what is told of a first cycle without conflicts at every cycle tells which it is
 pub clear_same : (f : Facts) (live : List Live) (from n : ℕ) → ((t : ℕ) → nat_le n t ≡ (nat_le from t && list_all (is_finished_conflict f t) live)) → n ≡ clear_among f live from

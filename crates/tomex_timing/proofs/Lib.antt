@@ -24,4 +24,5 @@ pub mod Needed
 pub mod Small
 pub mod Accounts
 pub mod Turns
+pub mod WaitLists
 pub mod NeedTurns

@@ -14,8 +14,8 @@ use Rattle.tomex_timing.specs.declared.times.Done.{Done}
 use Rattle.tomex_timing.specs.History.{is_of, cycle_of, last_issue}
 use Rattle.tomex_timing.specs.Laws.{PeakIsWithin}
 use Rattle.tomex_timing.specs.Needs.{count_of, peak, stations_up_to, taken_by}
-use Rattle.tomex_timing.specs.Recurrence.{IsLeast, IsTimed, can_end, can_start, has_bus, has_slot, has_unit}
-use Rattle.tomex_timing.specs.Station.{is_free}
+use Rattle.tomex_timing.specs.Recurrence.{IsLeast, IsTimed, are_branches_finished, can_end, can_start, has_bus, has_slot, has_unit}
+use Rattle.tomex_timing.specs.Station.{has_station, is_free}
 use Rattle.tomex_timing.proofs.Holders.{number_low}
 use Rattle.tomex_timing.proofs.Orders.{dest_unit}
 use Rattle.tomex_timing.proofs.Places.{same_pool, same_unit}
@@ -66,8 +66,10 @@ taken_within row older d (Stations pool) is = station_within row older d pool (s
 taken_within row older d (Units unit) is = unit_within row older d unit (step_unit d.step) is.start
 taken_within row older d Buses is = bus_within row older d (step_unit d.step) refl is.end
 taken_within row older d Width is =
-    let slot : has_slot row older d.at.issue ≡ true = (and_parts _ _ (and_parts _ _ (and_parts _ _ is.issue.0).0).0).1 in
-    let l : count_by (λ x. x.at.issue == d.at.issue) older < row.width = ltb-true (count_by (λ x. x.at.issue == d.at.issue) older) row.width (and_parts (nat_le (last_issue older) d.at.issue) _ slot).1 in
+    let most = and_parts (nat_lt 0 d.at.issue && has_slot row older d.at.issue && are_branches_finished older d.at.issue) (has_station row older (step_pool d.step) d.at.issue) is.issue.0 in
+    let first = and_parts (nat_lt 0 d.at.issue && has_slot row older d.at.issue) (are_branches_finished older d.at.issue) most.0 in
+    let slot : has_slot row older d.at.issue ≡ true = (and_parts (nat_lt 0 d.at.issue) (has_slot row older d.at.issue) first.0).1 in
+    let l : count_by (λ x. x.at.issue == d.at.issue) older < row.width = ltb-true (count_by (λ x. x.at.issue == d.at.issue) older) row.width (and_parts (nat_le (last_issue older) d.at.issue) (nat_lt (count_by (λ x. x.at.issue == d.at.issue) older) row.width) slot).1 in
     omega arith
 
 pub peak_within : PeakIsWithin

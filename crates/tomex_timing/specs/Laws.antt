@@ -1,21 +1,20 @@
 -- Laws of the recurrence.
-use Rattle.std.specs.Prelude.{ℕ, ◌+◌, ◌-◌, ◌*◌, ◌<◌, ◌≤◌, ◌≡◌, ◌==◌, nat_lt, Bool, true, ◌&&◌, ◌||◌, if◌then◌else◌, List, [], ◌∷◌, ◌++◌, Option, Some, None, is_some, length, map, count_by}
+use Rattle.std.specs.Prelude.{ℕ, ◌+◌, ◌-◌, ◌*◌, ◌<◌, ◌≤◌, ◌≡◌, ◌==◌, nat_lt, Bool, true, ◌&&◌, ◌||◌, if◌then◌else◌, List, [], ◌∷◌, ◌++◌, Option, Some, None, is_some, length, map, count_by, sum_by}
 use Rattle.tomex_rvdec.specs.declared.pool.PoolId.{PoolId}
-use Rattle.tomex_rvdec.specs.declared.pool.PoolId.TheVariants as pools
 use Rattle.tomex_rvdec.specs.declared.pool.UnitId.{UnitId}
-use Rattle.tomex_rvdec.specs.declared.pool.UnitId.TheVariants as units
 use Rattle.tomex_rvexec.specs.Flow.{covers}
 use Rattle.tomex_rvexec.specs.Steps.{is_store, step_dest, step_pool, step_unit}
 use Rattle.tomex_rvexec.specs.declared.step.Step.{Step}
 use Rattle.tomex_config.specs.Row.{Row, IsRow, stations_of, option_of}
 use Rattle.tomex_timing.specs.declared.needs.Needs.{Needs}
 use Rattle.tomex_timing.specs.declared.part.Part.{Part}
-use Rattle.tomex_timing.specs.declared.part.Part.TheVariants.{Stations, Units, Buses, Width}
+use Rattle.tomex_timing.specs.declared.part.Part.TheVariants.{Buses, Width}
+use Rattle.tomex_timing.specs.declared.part.Waits.{Waits}
 use Rattle.tomex_timing.specs.declared.tables.Tag.{Tag}
 use Rattle.tomex_timing.specs.declared.times.Done.{Done}
 use Rattle.tomex_timing.specs.declared.times.Times.{Times}
 use Rattle.tomex_timing.specs.History.{cycle_of, is_memory, last_address, last_issue, greatest_end}
-use Rattle.tomex_timing.specs.Needs.{AreNeeds, Serves, count_of, peak, stalls, stalls_by, suffice}
+use Rattle.tomex_timing.specs.Needs.{AreNeeds, Serves, count_of, drain, peak, pool_stalls, stalls, stalls_by, suffice, unit_stalls, waits_in}
 use Rattle.tomex_timing.specs.Station.{has_station, is_free}
 use Rattle.tomex_timing.specs.Recurrence.{IsTimed, AreTimed, can_issue, are_branches_finished, are_conflicts_finished, conflicts}
 use Rattle.tomex_timing.specs.Search.{history, timed_of, times_in, total_of}
@@ -151,19 +150,16 @@ ServedTimesAreSame = (row other : Row) (h : List Done) → AreTimed row h → Se
 
 -- so a run has one history, and one total, on both
 abbrev pub ServedRunsAreSame : Type 0
-ServedRunsAreSame = (row other : Row) (steps : List Step) → IsRow row → IsRow other → Serves row other (history row steps)
+ServedRunsAreSame = (row other : Row) (steps : List Step) → IsRow row → IsRow other
+    → Serves row other (history row steps)
     → (history other steps ≡ history row steps) × (total_of (times_in other steps) ≡ total_of (times_in row steps))
 
 -- Issue accounting: each cycle of a run is one in which something waits to issue, the one in which the last step
 -- issues but for waits, or one of the drain after its last issue.
 abbrev pub IssueCyclesAddUp : Type 0
 IssueCyclesAddUp = (row : Row) (d : Done) (older : List Done) → IsRow row → AreTimed row (d ∷ older)
-    → stalls_by (λ w. w.branch) row (d ∷ older) + stalls row Width (d ∷ older)
-    + (stalls row (Stations pools.Alu) (d ∷ older) + stalls row (Stations pools.Mul) (d ∷ older)
-    + stalls row (Stations pools.Div) (d ∷ older) + stalls row (Stations pools.Load) (d ∷ older)
-    + stalls row (Stations pools.Store) (d ∷ older) + stalls row (Stations pools.Bru) (d ∷ older))
-    + (greatest_end (d ∷ older) - last_issue (d ∷ older)) + 1
-    ≡ greatest_end (d ∷ older)
+    → stalls_by (λ w. w.branch) row (d ∷ older) + stalls row Width (d ∷ older) + pool_stalls row (d ∷ older)
+    + drain (d ∷ older) + 1 ≡ greatest_end (d ∷ older)
 
 -- the cycles from issue to end of the steps with a unit
 abbrev pub held_cycles : List Done → ℕ
@@ -184,11 +180,31 @@ abbrev pub StationCyclesAddUp : Type 0
 StationCyclesAddUp = (row : Row) (h : List Done) → IsRow row → AreTimed row h
     → held_cycles h
     ≡ stalls_by (λ w. w.operand) row h + stalls_by (λ w. w.address) row h + stalls_by (λ w. w.memory) row h
-    + (stalls row (Units units.Alu) h + stalls row (Units units.Mul) h + stalls row (Units units.Div) h
-    + stalls row (Units units.Mem) h + stalls row (Units units.Bru) h)
-    + stalls row Buses h + work_cycles row h
+    + unit_stalls row h + stalls row Buses h + work_cycles row h
 
 -- needs of a run that suffice for another row tell that its times are the same there
 abbrev pub NeedsTell : Type 0
 NeedsTell = (row other : Row) (h : List Done) (needs : Needs) → AreNeeds row h needs → suffice needs row other ≡ true
     → Serves row other h
+
+-- the waits of a run's steps for one cause add up to its stalls by that cause
+abbrev pub WaitsAddUp : Type 0
+WaitsAddUp = (row : Row) (steps : List Step) (cause : Waits → ℕ)
+    → sum_by cause (waits_in row steps) ≡ stalls_by cause row (history row steps)
+
+-- those for a station are the stalls of all pools
+abbrev pub StationWaitsAreStalls : Type 0
+StationWaitsAreStalls = (row : Row) (h : List Done) → AreTimed row h
+    → stalls_by (λ w. w.station) row h ≡ pool_stalls row h
+
+-- those for a unit are the stalls of all kinds
+abbrev pub UnitWaitsAreStalls : Type 0
+UnitWaitsAreStalls = (row : Row) (h : List Done) → AreTimed row h
+    → stalls_by (λ w. w.unit) row h ≡ unit_stalls row h
+
+-- and those for the buses and the width are theirs
+abbrev pub BusWaitsAreStalls : Type 0
+BusWaitsAreStalls = (row : Row) (h : List Done) → stalls_by (λ w. w.bus) row h ≡ stalls row Buses h
+
+abbrev pub WidthWaitsAreStalls : Type 0
+WidthWaitsAreStalls = (row : Row) (h : List Done) → stalls_by (λ w. w.width) row h ≡ stalls row Width h

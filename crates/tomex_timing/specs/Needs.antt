@@ -1,13 +1,14 @@
--- What a run takes of a machine's parts, and how long its steps wait for each of them.
--- Every cycle in which a step waits is charged to one thing: the first of the tests below that fails in it. A wait's
--- last test needs no look: it is what is left.
-use Rattle.std.specs.Prelude.{ℕ, ◌+◌, ◌-◌, ◌≤◌, ◌≡◌, ◌⊎◌, ◌==◌, nat_lt, nat_le, Bool, not, ◌&&◌, ◌||◌, if◌then◌else◌, List, [], ◌∷◌, Option, Some, None, count_by, is_some, max, length, slice_index_or}
+-- What a run takes of a machine's parts, and how long its steps wait for each of them. Every cycle in which a step
+-- waits is charged to one thing: the first that it lacks, in the order below. This order is the project's choice; the
+-- last thing is charged with what is left, since a step that lacked nothing would have gone on.
+use Rattle.std.specs.Prelude.{ℕ, ◌+◌, ◌-◌, ◌≤◌, ◌≡◌, ◌⊎◌, ◌==◌, nat_lt, nat_le, Bool, not, ◌&&◌, ◌||◌, if◌then◌else◌, List, [], ◌∷◌, Option, Some, None, count_by, is_some, max, length, reverse, slice_index_or}
 use Rattle.std.specs.List.{range_with_len}
 use Rattle.tomex_rvdec.specs.Parts.{place_of_pool, place_of_unit}
 use Rattle.tomex_rvdec.specs.declared.pool.PoolId.TheVariants as pools
 use Rattle.tomex_rvdec.specs.declared.pool.UnitId.{UnitId}
 use Rattle.tomex_rvdec.specs.declared.pool.UnitId.TheVariants as units
 use Rattle.tomex_rvexec.specs.Steps.{step_pool, step_unit, step_dest, is_in}
+use Rattle.tomex_rvexec.specs.declared.step.Step.{Step}
 use Rattle.tomex_config.specs.Row.{Row, stations_of, option_of}
 use Rattle.tomex_timing.specs.declared.needs.Needs.{Needs}
 use Rattle.tomex_timing.specs.declared.part.Need.{Need}
@@ -17,6 +18,7 @@ use Rattle.tomex_timing.specs.declared.part.Waits.{Waits}
 use Rattle.tomex_timing.specs.declared.times.Done.{Done}
 use Rattle.tomex_timing.specs.History.{is_of, cycle_of, greatest_end, last_issue}
 use Rattle.tomex_timing.specs.Recurrence.{has_slot, are_branches_finished, has_operands, are_conflicts_finished}
+use Rattle.tomex_timing.specs.Search.{history}
 
 -- how many of a part a row has
 abbrev pub count_of : Row → Part → ℕ
@@ -82,6 +84,15 @@ waits_for (Units unit) d waits = if is_of unit (step_unit d.step) then waits.uni
 waits_for Buses d waits = waits.bus
 waits_for Width d waits = waits.width
 
+-- the waits of each step of a history, the youngest first
+abbrev pub waits_over : Row → List Done → List Waits
+waits_over row [] = []
+waits_over row (d ∷ older) = waits_of row older d ∷ waits_over row older
+
+-- the waits of each step of a run, in program order
+abbrev pub waits_in : Row → List Step → List Waits
+waits_in row steps = reverse (waits_over row (history row steps))
+
 -- a number of each step, given what is older, added up over a history
 abbrev pub sum_over : (List Done → Done → ℕ) → List Done → ℕ
 sum_over f [] = 0
@@ -94,6 +105,21 @@ stalls row part h = sum_over (λ older d. waits_for part d (waits_of row older d
 -- and how long they wait for what is no part
 abbrev pub stalls_by : (Waits → ℕ) → Row → List Done → ℕ
 stalls_by cause row h = sum_over (λ older d. cause (waits_of row older d)) h
+
+-- the stalls of all pools, and of all kinds of units
+abbrev pub pool_stalls : Row → List Done → ℕ
+pool_stalls row h =
+    stalls row (Stations pools.Alu) h + stalls row (Stations pools.Mul) h + stalls row (Stations pools.Div) h
+    + stalls row (Stations pools.Load) h + stalls row (Stations pools.Store) h + stalls row (Stations pools.Bru) h
+
+abbrev pub unit_stalls : Row → List Done → ℕ
+unit_stalls row h =
+    stalls row (Units units.Alu) h + stalls row (Units units.Mul) h + stalls row (Units units.Div) h
+    + stalls row (Units units.Mem) h + stalls row (Units units.Bru) h
+
+-- the cycles after the last issue
+abbrev pub drain : List Done → ℕ
+drain h = greatest_end h - last_issue h
 
 -- a station's number counts from 0
 abbrev pub stations_up_to : Option ℕ → ℕ

@@ -1,22 +1,24 @@
 -- The needs of a run as they are counted: a step's waits are differences of cycles that the evaluator has at hand.
-use Rattle.std.specs.Prelude.{ℕ, ◌+◌, ◌-◌, ◌≤◌, ◌==◌, if◌then◌else◌, List, [], ◌∷◌, Option, Some, None, count_by, is_some, max, replicate, slice_index_or, slice_set}
+use Rattle.std.specs.Prelude.{ℕ, ◌+◌, ◌-◌, ◌≤◌, ◌==◌, nat_le, if◌then◌else◌, List, [], ◌∷◌, ◌++◌, Option, Some, None, count_by, is_some, max, replicate, slice_index_or, slice_set}
+use Rattle.std.specs.List.{filter}
 use Rattle.tomex_rvdec.specs.Parts.{place_of_pool, place_of_unit}
 use Rattle.tomex_rvdec.specs.declared.pool.PoolId.{PoolId}
 use Rattle.tomex_rvdec.specs.declared.pool.UnitId.{UnitId}
-use Rattle.tomex_rvexec.specs.Steps.{j_of, k_of}
+use Rattle.tomex_rvexec.specs.Steps.{step_unit, j_of, k_of}
 use Rattle.tomex_rvexec.specs.declared.step.Step.{Step}
 use Rattle.tomex_config.specs.Row.{Row}
 use Rattle.tomex_timing.specs.declared.needs.Needs.{Needs}
+use Rattle.tomex_timing.specs.declared.next.Marks.{Marks}
 use Rattle.tomex_timing.specs.declared.part.Need.{Need}
 use Rattle.tomex_timing.specs.declared.part.Part.{Part}
-use Rattle.tomex_timing.specs.declared.part.Taken.{Taken}
 use Rattle.tomex_timing.specs.declared.part.Waits.{Waits}
 use Rattle.tomex_timing.specs.declared.times.Times.{Times}
+use Rattle.tomex_timing.specs.declared.waiting.Taken.{Taken}
 use Rattle.tomex_timing.specs.declared.window.Facts.{Facts}
 use Rattle.tomex_timing.specs.declared.window.Live.{Live}
 use Rattle.tomex_timing.specs.declared.window.Latest.{Latest}
 use Rattle.tomex_timing.specs.Needs.{no_need, need_of, stations_up_to}
-use Rattle.tomex_timing.specs.Window.{facts_of, issue_from, conflicts_with, starts_in, sends_in, end_among, ready_from}
+use Rattle.tomex_timing.specs.Window.{facts_of, live_from, issue_from, conflicts_with, starts_in, sends_in, end_among, ready_from}
 
 -- the first cycle from this one on that is later than the finish of each conflicting access
 abbrev pub clear_among : Facts → List Live → ℕ → ℕ
@@ -34,31 +36,39 @@ past_branches latest = max (issue_low latest) (latest.branch + 1)
 abbrev pub operands_from : ℕ → ℕ → ℕ → ℕ
 operands_from issue j k = max issue (max j k) + 1
 
-abbrev pub unless_none : Option UnitId → ℕ → ℕ
-unless_none None n = 0
-unless_none (Some unit) n = n
-
-abbrev pub waits_by : Row → Latest → Option UnitId → ℕ → ℕ → ℕ → Times → Waits
-waits_by row latest unit operands ready clear at = record {
-  branch = past_branches latest - issue_low latest;
-  width = issue_from row latest - past_branches latest;
-  station = at.issue - issue_from row latest;
-  operand = unless_none unit (operands - (at.issue + 1));
-  address = unless_none unit (ready - operands);
-  memory = unless_none unit (clear - ready);
-  unit = unless_none unit (at.start - clear);
-  bus = unless_none unit (at.end - at.finish - 1);
+-- the marks of a next step, with the ends of its operands' producers; without a unit it starts as it issues
+abbrev pub marks_from : Row → List Live → Latest → Facts → Option UnitId → ℕ → ℕ → Times → Marks
+marks_from row live latest f None j k at =
+    record { from = issue_from row latest; operands = at.issue; ready = at.issue; clear = at.issue }
+marks_from row live latest f (Some unit) j k at = record {
+  from = issue_from row latest;
+  operands = operands_from at.issue j k;
+  ready = ready_from at.issue at.address j k;
+  clear = clear_among f live (ready_from at.issue at.address j k);
 }
 
-abbrev pub waits_from : Row → List Live → Latest → Facts → ℕ → ℕ → Times → Waits
-waits_from row live latest f j k at =
-    waits_by row latest f.unit (operands_from at.issue j k) (ready_from at.issue at.address j k)
-    (clear_among f live (ready_from at.issue at.address j k)) at
+abbrev pub marks_among : Row → List Live → Latest → Step → Times → Marks
+marks_among row live latest s at =
+    let j = end_among latest.ends (j_of s) in
+    let k = end_among latest.ends (k_of s) in
+    marks_from row live latest (facts_of s) (step_unit s) j k at
 
--- the waits of a next step
-abbrev pub waits_among : Row → List Live → Latest → Step → Times → Waits
-waits_among row live latest s at =
-    waits_from row live latest (facts_of s) (end_among latest.ends (j_of s)) (end_among latest.ends (k_of s)) at
+-- the waits of a next step, between its marks
+abbrev pub waits_by : Latest → Marks → Times → Waits
+waits_by latest marks at = record {
+  branch = past_branches latest - issue_low latest;
+  width = marks.from - past_branches latest;
+  station = at.issue - marks.from;
+  operand = marks.operands - at.issue - 1;
+  address = marks.ready - marks.operands;
+  memory = marks.clear - marks.ready;
+  unit = at.start - marks.clear;
+  bus = at.end - at.finish - 1;
+}
+
+-- what is kept after one more step
+abbrev pub live_after : Facts → Times → List Live → List Live
+live_after f at live = filter (λ l. nat_le at.issue l.end) live ++ (live_from f at ∷ [])
 
 abbrev pub units_taken : List Live → Option UnitId → ℕ → ℕ
 units_taken live None t = 0

@@ -1,13 +1,16 @@
 //! The evaluation of a run.
 
-ghost use Rattle.std.specs.Prelude.{◌≡◌, ◌<◌, ◌≤◌, ◌*◌, ◌^◌, nat_le, length, IfOk};
-ghost use Rattle.std.specs.List.{filter};
-ghost use Rattle.tomex_timing.specs.Needs.{AreNeeds};
+ghost use Rattle.std.specs.Prelude.{◌≡◌, ◌<◌, ◌≤◌, ◌*◌, ◌^◌, length, IfOk};
+ghost use Rattle.std.specs.Option.{ForSome};
+ghost use Rattle.tomex_timing.specs.Needs.{AreNeeds, waits_in};
 ghost use Rattle.tomex_timing.specs.Recurrence.{AreTimed};
 ghost use Rattle.tomex_timing.specs.Search.{history, times_in, total_of};
+ghost use Rattle.tomex_timing.specs.Waiting.{live_after};
+ghost use Rattle.tomex_timing.specs.Window.{latest_after};
 
 use crate::needs::Needs;
-use crate::next::next_times;
+use crate::next::next_step;
+use crate::part::Waits;
 use crate::times::Times;
 use crate::waiting::{taken_by, waits_of};
 use crate::window::{Facts, Latest, Live};
@@ -15,11 +18,22 @@ use std::alloc::{AllocError, Allocator};
 use tomex_config::Config;
 use tomex_rvexec::Step;
 
-/// Keeps the steps that end in the cycle or later.
-fn keep_recent<A: Allocator>(live: &mut Vec<Live, A>, cycle: u64)
-    ensures { live.new.items ≡ filter (λ l. nat_le cycle l.end) live.old.items }
+/// Keeps a step with its times, and of those before the ones that end no earlier than it issues.
+fn keep<A: Allocator>(
+    live: &mut Vec<Live, A>,
+    latest: &mut Latest,
+    facts: Facts,
+    at: &Times,
+) -> Result<(), AllocError>
+    requires register { ForSome facts.dest (λ r. r < 32) }
+    requires few { latest.old.issued < 2 ^ 63 }
+    ensures live { IfOk result (λ _. live.new.items ≡ live_after facts at.now live.old.items) }
+    ensures latest { IfOk result (λ _. latest.new ≡ latest_after facts at.now latest.old) }
 {
-    live.retain(|step| step.end >= cycle);
+    live.retain(|step| step.end >= at.issue);
+    live.push(Live::new(facts, at))?;
+    latest.note(&facts, at);
+    Ok(())
 }
 
 /// The times of a run's steps on a row, in program order.
@@ -45,18 +59,44 @@ pub fn times<A: Allocator + Clone>(
     let _buses = row.buses();
     for step in steps {
         let facts = Facts::of(step);
-        let at = next_times(row, &live, &latest, step, &facts);
-        keep_recent(&mut live, at.issue);
-        live.push(Live::new(facts, &at))?;
-        latest.note(&facts, &at);
+        let at = next_step(row, &live, &latest, step, &facts).at;
+        keep(&mut live, &mut latest, facts, &at)?;
         result.push(at)?;
     }
     Ok(result)
 }
 
-/// The needs of a run's steps on a row.
+/// In how many cycles each step of a run waits on a row, in program order.
 ///
-/// The work is that of `times`, whose evaluation it makes without keeping the times.
+/// The work is that of `times`.
+pub fn waits<A: Allocator + Clone>(
+    alloc: A,
+    steps: &[Step],
+    row: &Config,
+) -> Result<Vec<Waits, A>, AllocError>
+    requires few { length steps.now < 2 ^ 56 }
+    ensures exact { IfOk result (λ v. v.items ≡ waits_in row.now steps.now) }
+    ensures pairs { IfOk result (λ v. length v.items ≡ length steps.now) }
+{
+    let mut result: Vec<Waits, A> = Vec::new(alloc.clone()?);
+    let mut live: Vec<Live, A> = Vec::new(alloc);
+    let mut latest = Latest::none();
+    // Read for what the row's type keeps, which the proof needs.
+    let _buses = row.buses();
+    for step in steps {
+        let facts = Facts::of(step);
+        let next = next_step(row, &live, &latest, step, &facts);
+        let waits = waits_of(&latest, &next);
+        keep(&mut live, &mut latest, facts, &next.at)?;
+        result.push(waits)?;
+    }
+    Ok(result)
+}
+
+/// What a run's steps take of a row's parts, and how long they wait for them.
+///
+/// The work is that of `times`. Stalls grow with the square of the steps: fewer than 2^28 of them, of
+/// at most 67 cycles each, keep every sum within 64 bits.
 pub fn needs<A: Allocator>(alloc: A, steps: &[Step], row: &Config) -> Result<Needs, AllocError>
     requires few { length steps.now < 2 ^ 28 }
     ensures exact { IfOk result (λ n. AreNeeds row.now (history row.now steps.now) n) }
@@ -68,13 +108,11 @@ pub fn needs<A: Allocator>(alloc: A, steps: &[Step], row: &Config) -> Result<Nee
     let _buses = row.buses();
     for step in steps {
         let facts = Facts::of(step);
-        let at: Times = next_times(row, &live, &latest, step, &facts);
-        let waits = waits_of(row, &live, &latest, step, &facts, &at);
-        let taken = taken_by(&live, &latest, &facts, &at);
-        needs.note(&facts, &waits, &taken, &at);
-        keep_recent(&mut live, at.issue);
-        live.push(Live::new(facts, &at))?;
-        latest.note(&facts, &at);
+        let next = next_step(row, &live, &latest, step, &facts);
+        let waits = waits_of(&latest, &next);
+        let taken = taken_by(&live, &latest, &facts, &next.at);
+        needs.note(&facts, &waits, &taken, &next.at);
+        keep(&mut live, &mut latest, facts, &next.at)?;
     }
     Ok(needs)
 }

@@ -1,6 +1,6 @@
 //! Laws of the recurrence. These functions do nothing: their contracts are the laws.
 
-ghost use Rattle.tomex_timing.specs.Laws.{TimesExist, TimesAreUnique, SearchIsTimed, TimedIsSearch, TotalIsBounded, TotalIsGreatestEnd, YoungerChangeNothing, IssuesAlone, IssuesRise, IssuesStandInOrder, IssuesFitTheWidth, TimesAreInReach, StartsComeLater, ResultsComeLater, AddressesRise, NumbersAreLow, StationsAreApart, StationsAreThere, AccessesConflict, ConflictsAreFinished, PeakIsWithin, NeedsTell, ServedTimesAreSame, ServedRunsAreSame, IssueCyclesAddUp, StationCyclesAddUp};
+ghost use Rattle.tomex_timing.specs.Laws.{TimesExist, TimesAreUnique, SearchIsTimed, TimedIsSearch, TotalIsBounded, TotalIsGreatestEnd, YoungerChangeNothing, IssuesAlone, IssuesRise, IssuesStandInOrder, IssuesFitTheWidth, TimesAreInReach, StartsComeLater, ResultsComeLater, AddressesRise, NumbersAreLow, StationsAreApart, StationsAreThere, AccessesConflict, ConflictsAreFinished, PeakIsWithin, NeedsTell, ServedTimesAreSame, ServedRunsAreSame, IssueCyclesAddUp, StationCyclesAddUp, WaitsAddUp, StationWaitsAreStalls, UnitWaitsAreStalls, BusWaitsAreStalls, WidthWaitsAreStalls};
 
 /// Each step of a run has times, and only one set of them.
 pub fn each_step_has_one_set_of_times()
@@ -65,8 +65,9 @@ pub fn accesses_of_one_byte_wait()
     ensures wait { ConflictsAreFinished }
 {}
 
-/// A second row gives a run the times of the first where each part that the run waits for is as many on both, each other
-/// part is no fewer than the run takes of it at once, and each kind of unit that it uses has the same latency.
+/// A second row gives a run the times of the first where each part that the run waits for is as many on
+/// both, each other part is no fewer than the run takes of it at once, and each kind of unit that it
+/// uses has the same latency.
 pub fn parts_without_stalls_may_differ()
     ensures peak { PeakIsWithin }
     ensures times { ServedTimesAreSame }
@@ -74,9 +75,19 @@ pub fn parts_without_stalls_may_differ()
     ensures needs { NeedsTell }
 {}
 
-/// The total of a run is one cycle, the waits to issue and the drain; the cycles in which its stations are held are
-/// waits, latencies and cycles on a bus.
+/// The total of a run is one cycle, the waits to issue and the drain; the cycles in which its stations
+/// are held are waits, latencies and cycles on a bus.
 pub fn cycles_are_accounted_for()
     ensures issue { IssueCyclesAddUp }
     ensures station { StationCyclesAddUp }
+{}
+
+/// The waits of a run's steps, added up by cause, are its stalls: those for a station are the stalls of
+/// the six pools, those for a unit of the five kinds.
+pub fn waits_add_up_to_stalls()
+    ensures steps { WaitsAddUp }
+    ensures stations { StationWaitsAreStalls }
+    ensures units { UnitWaitsAreStalls }
+    ensures buses { BusWaitsAreStalls }
+    ensures width { WidthWaitsAreStalls }
 {}

@@ -1,34 +1,36 @@
 //! What a run takes of a row's parts, and how long its steps wait for each of them.
 
-ghost use Rattle.std.specs.Prelude.{◌≡◌, ◌+◌, ◌^◌, ◌<◌, ◌≤◌, slice_index_or};
+ghost use Rattle.std.specs.Prelude.{◌≡◌, ◌+◌, ◌-◌, ◌^◌, ◌<◌, ◌≤◌, slice_index_or};
 ghost use Rattle.tomex_rvdec.specs.Parts.{place_of_pool, place_of_unit};
 ghost use Rattle.tomex_rvdec.specs.declared.pool.PoolId.{PoolId};
 ghost use Rattle.tomex_rvdec.specs.declared.pool.UnitId.{UnitId};
 ghost use Rattle.tomex_timing.specs.Needs.{no_need, need_of, allows, allows_units, suffice};
 ghost use Rattle.tomex_timing.specs.Waiting.{AreWithin, IsWithin, nothing_needed, need_after, needs_after, stations_after, units_after};
 
-use crate::part::{Need, Part, Taken, Waits};
+use crate::part::{Need, Part, Waits};
 use crate::times::Times;
+use crate::waiting::Taken;
 use crate::window::Facts;
 use tomex_config::Config;
 use tomex_rvdec::{PoolId, UnitId};
 
-/// The needs of a run on a row.
+/// What a run on a row takes of its parts, and how long its steps wait for them, in cycles.
 #[derive(Clone, Copy, Debug, PartialEq, Eq)]
 pub struct Needs {
+    /// In the order of `PoolId::ALL` and of `UnitId::ALL`.
     pub stations: [Need; 6],
     pub units: [Need; 5],
     pub buses: Need,
     pub width: Need,
-    /// In how many cycles steps wait for what is no part: for older branches to issue, and to start for an operand, for
-    /// an address and for older accesses.
+    /// In how many cycles steps wait for what is no part: to issue for older branches, and to start for
+    /// an operand, for an address and for older accesses.
     pub branch: u64,
     pub operand: u64,
     pub address: u64,
     pub memory: u64,
     /// The last step's issue, 0 of no steps.
     pub last_issue: u64,
-    /// The run's total.
+    /// The cycles of the run.
     pub total: u64,
 }
 
@@ -90,7 +92,7 @@ impl Needs {
     }
 
     /// The need of a part.
-    pub fn part(&self, part: Part) -> Need
+    pub fn need(&self, part: Part) -> Need
         ensures { result ≡ need_of self.now part }
     {
         match part {
@@ -101,11 +103,18 @@ impl Needs {
         }
     }
 
+    /// The cycles after the last issue.
+    pub fn drain(&self) -> u64
+        ensures { result ≡ self.now.total - self.now.last_issue }
+    {
+        self.total.saturating_sub(self.last_issue)
+    }
+
     /// Whether a part may be as many as on another row.
     fn allows(&self, part: Part, own: &Config, other: &Config) -> bool
         ensures { result ≡ allows self.now own.now other.now part }
     {
-        let need = self.part(part);
+        let need = self.need(part);
         let count = part.count(other);
         part.count(own) == count || (need.stalls == 0 && need.peak <= count)
     }
@@ -118,8 +127,8 @@ impl Needs {
             && (own.latency(unit) == other.latency(unit) || self.units[unit.place()].peak == 0)
     }
 
-    /// Whether these needs, of a run on its own row, tell that the run has the same times on another row. Then its total
-    /// there is `total`.
+    /// Whether these needs, of a run on its own row, tell that each step of the run has the same times on
+    /// another row. Then the run's total there is `total`.
     pub fn suffice(&self, own: &Config, other: &Config) -> bool
         ensures { result ≡ suffice self.now own.now other.now }
     {

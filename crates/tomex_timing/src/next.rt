@@ -7,6 +7,7 @@ ghost use Rattle.tomex_rvexec.specs.Steps.{step_pool, j_of, k_of};
 ghost use Rattle.tomex_config.specs.Row.{IsRow};
 ghost use Rattle.tomex_timing.specs.History.{cycle_of};
 ghost use Rattle.tomex_timing.specs.Recurrence.{IsLeast};
+ghost use Rattle.tomex_timing.specs.Waiting.{clear_among, marks_among};
 ghost use Rattle.tomex_timing.specs.Window.{IsBy, IsSettled, IsNext, IsFirst, facts_of, issue_from, may_start, has_station_among, has_bus_among, is_free_among, end_among, ready_from, address_among};
 
 use crate::counting::{is_memory, past_conflicts};
@@ -17,8 +18,28 @@ use tomex_config::Config;
 use tomex_rvdec::{PoolId, UnitId};
 use tomex_rvexec::{Operand, Step};
 
+/// The cycles from which on a next step lacks one thing less. Without a unit it lacks nothing from its
+/// issue on.
+#[derive(Clone, Copy)]
+pub(crate) struct Marks {
+    /// With a slot to issue in, and each older branch finished.
+    pub from: u64,
+    pub operands: u64,
+    /// With its address too.
+    pub ready: u64,
+    /// And with no older access in its way.
+    pub clear: u64,
+}
+
+/// The times of a next step, and the marks between its waits.
+#[derive(Clone, Copy)]
+pub(crate) struct Next {
+    pub at: Times,
+    pub marks: Marks,
+}
+
 /// The end of an operand's producer, 0 where there is none.
-pub(crate) fn end_of(latest: &Latest, operand: Option<Operand>) -> u64
+fn end_of(latest: &Latest, operand: Option<Operand>) -> u64
     requires register { ForSome operand (λ o. o.register < 32) }
     ensures { result ≡ end_among latest.now.ends operand }
 {
@@ -30,7 +51,7 @@ pub(crate) fn end_of(latest: &Latest, operand: Option<Operand>) -> u64
 
 /// The first cycle that is in program order, with room for an issue, and later than each branch's
 /// finish.
-pub(crate) fn issue_from(row: &Config, latest: &Latest) -> u64
+fn issue_from(row: &Config, latest: &Latest) -> u64
     requires issue { latest.now.issue ≤ latest.now.end }
     requires branch { latest.now.branch ≤ latest.now.end }
     requires small { latest.now.end < 2 ^ 63 }
@@ -62,7 +83,7 @@ fn address_of(latest: &Latest, pool: Option<PoolId>, base: u64, issue: u64) -> O
 }
 
 /// The first cycle after a step's issue, its address and the ends of its operands' producers.
-pub(crate) fn ready_of(issue: u64, address: Option<u64>, j: u64, k: u64) -> u64
+fn ready_of(issue: u64, address: Option<u64>, j: u64, k: u64) -> u64
     requires issue { issue < 2 ^ 63 + 2 }
     requires address { cycle_of address < 2 ^ 63 + 2 }
     requires j { j < 2 ^ 63 }
@@ -72,17 +93,26 @@ pub(crate) fn ready_of(issue: u64, address: Option<u64>, j: u64, k: u64) -> u64
     issue.max(address.unwrap_or(0)).max(j.max(k)) + 1
 }
 
-/// The cycle in which an operation starts, which is ready from a cycle on.
-fn start_of(row: &Config, live: &[Live], facts: &Facts, unit: UnitId, ready: u64, bound: u64) -> u64
+/// The first cycle of an operation that is ready without an older access in its way, and the one in
+/// which it starts.
+fn start_of(
+    row: &Config,
+    live: &[Live],
+    facts: &Facts,
+    unit: UnitId,
+    ready: u64,
+    bound: u64,
+) -> (u64, u64)
     requires row { IsRow row.now }
     requires live { All (IsBy bound) live.now }
     requires ready { ready ≤ bound + 3 }
     requires small { bound < 2 ^ 63 }
-    ensures least { IsLeast (may_start row.now ready live.now facts.now unit) result }
-    ensures by { result ≤ bound + 3 }
+    ensures clear { result.0 ≡ clear_among facts.now live.now ready }
+    ensures least { IsLeast (may_start row.now ready live.now facts.now unit) result.1 }
+    ensures by { result.1 ≤ bound + 3 }
 {
-    let from = past_conflicts(live, facts, ready, bound);
-    find_start(row, live, unit, from, bound)
+    let clear = past_conflicts(live, facts, ready, bound);
+    (clear, find_start(row, live, unit, clear, bound))
 }
 
 /// The end of a step that finishes.
@@ -106,7 +136,8 @@ fn end_after(row: &Config, live: &[Live], dest: Option<u8>, finish: u64, bound: 
 fn station_of(row: &Config, live: &[Live], pool: Option<PoolId>, issue: u64) -> Option<u8>
     requires row { IsRow row.now }
     requires left { has_station_among row.now live.now pool issue ≡ true }
-    ensures least { MatchOption pool (result ≡ None) (λ p. (n : ℕ) × (result ≡ Some n) × IsLeast (is_free_among p live.now issue) n) }
+    ensures least { MatchOption pool (result ≡ None)
+        (λ p. (n : ℕ) × (result ≡ Some n) × IsLeast (is_free_among p live.now issue) n) }
 {
     match pool {
         None => None,
@@ -114,21 +145,20 @@ fn station_of(row: &Config, live: &[Live], pool: Option<PoolId>, issue: u64) -> 
     }
 }
 
-/// The times of the next step.
-pub(crate) fn next_times(
+/// The next step.
+pub(crate) fn next_step(
     row: &Config,
     live: &[Live],
     latest: &Latest,
     step: &Step,
     facts: &Facts,
-) -> Times
+) -> Next
     requires row { IsRow row.now }
     requires facts { facts.now ≡ facts_of step.now }
     requires settled { IsSettled live.now latest.now }
     requires small { latest.now.end < 2 ^ 63 }
-    ensures next { IsNext row.now live.now latest.now step.now result }
-    ensures issue { result.issue ≤ latest.now.end + 1 }
-    ensures address { cycle_of result.address ≤ latest.now.end + 2 }
+    ensures next { IsNext row.now live.now latest.now step.now result.at }
+    ensures marks { result.marks ≡ marks_among row.now live.now latest.now step.now result.at }
     ensures j { ForSome (j_of step.now) (λ o. o.register < 32) }
     ensures k { ForSome (k_of step.now) (λ o. o.register < 32) }
 {
@@ -139,25 +169,42 @@ pub(crate) fn next_times(
     let address = address_of(latest, facts.pool, j, issue);
     let station = station_of(row, live, facts.pool, issue);
     let Some(unit) = facts.unit else {
-        return Times {
-            issue,
-            address,
-            start: issue,
-            finish: issue,
-            end: issue,
-            station,
+        return Next {
+            at: Times {
+                issue,
+                address,
+                start: issue,
+                finish: issue,
+                end: issue,
+                station,
+            },
+            marks: Marks {
+                from,
+                operands: issue,
+                ready: issue,
+                clear: issue,
+            },
         };
     };
+    let operands = issue.max(j.max(k)) + 1;
     let ready = ready_of(issue, address, j, k);
-    let start = start_of(row, live, facts, unit, ready, latest.end);
+    let (clear, start) = start_of(row, live, facts, unit, ready, latest.end);
     let finish = start + u64::from(row.latency(unit)) - 1;
     let end = end_after(row, live, facts.dest, finish, latest.end);
-    Times {
-        issue,
-        address,
-        start,
-        finish,
-        end,
-        station,
+    Next {
+        at: Times {
+            issue,
+            address,
+            start,
+            finish,
+            end,
+            station,
+        },
+        marks: Marks {
+            from,
+            operands,
+            ready,
+            clear,
+        },
     }
 }

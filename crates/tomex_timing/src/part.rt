@@ -17,6 +17,23 @@ pub enum Part {
 }
 
 impl Part {
+    /// All parts, in the order in which reports list them.
+    pub const ALL: [Part; 13] = [
+        Part::Stations(PoolId::Alu),
+        Part::Stations(PoolId::Mul),
+        Part::Stations(PoolId::Div),
+        Part::Stations(PoolId::Load),
+        Part::Stations(PoolId::Store),
+        Part::Stations(PoolId::Bru),
+        Part::Units(UnitId::Alu),
+        Part::Units(UnitId::Mul),
+        Part::Units(UnitId::Div),
+        Part::Units(UnitId::Mem),
+        Part::Units(UnitId::Bru),
+        Part::Buses,
+        Part::Width,
+    ];
+
     /// How many of it a row has.
     pub fn count(self, row: &Config) -> u64
         ensures { result ≡ count_of row.now self }
@@ -30,10 +47,18 @@ impl Part {
     }
 }
 
+/// What a run takes of a part at once at most, and in how many cycles its steps wait for it: two that
+/// wait in one cycle count twice.
+#[derive(Clone, Copy, Debug, PartialEq, Eq)]
+pub struct Need {
+    pub peak: u64,
+    pub stalls: u64,
+}
+
 /// In how many cycles a step waits, by the first thing that it lacks in each of them.
 #[derive(Clone, Copy, Debug, PartialEq, Eq)]
 pub struct Waits {
-    /// To issue: for an older branch, for the width, for a station of its pool.
+    /// To issue: for an older branch's finish, for the width, for a station of its pool.
     pub branch: u64,
     pub width: u64,
     pub station: u64,
@@ -42,23 +67,6 @@ pub struct Waits {
     pub address: u64,
     pub memory: u64,
     pub unit: u64,
-    /// For a bus, as a result.
+    /// To end: for a bus that takes its result.
     pub bus: u64,
-}
-
-/// What a run takes of a part at once at most, and in how many cycles its steps wait for it.
-#[derive(Clone, Copy, Debug, PartialEq, Eq)]
-pub struct Need {
-    pub peak: u64,
-    pub stalls: u64,
-}
-
-/// What one step takes of each part, with what others take of it at the same time: the stations up to its own, the
-/// operations that start with it, the results that end with it, the steps that issue with it.
-#[derive(Clone, Copy)]
-pub(crate) struct Taken {
-    pub station: u64,
-    pub unit: u64,
-    pub bus: u64,
-    pub width: u64,
 }

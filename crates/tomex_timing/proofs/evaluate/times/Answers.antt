@@ -12,28 +12,28 @@ loop-step-init g c = record {
   times = c.new-result.ensures.items;
 }
 
-pub next_times-at-requires-clause-settled : goal.next_times-at-requires-clause-settled
-next_times-at-requires-clause-settled g c =
+pub next_step-requires-clause-settled : goal.next_step-requires-clause-settled
+next_step-requires-clause-settled g c =
     rw c.deref.ensures.value (settled_at c.args.row.now c.args.steps.now c.loop-step.step-index c.loop-step.live.items c.loop-step.latest c.buses-buses.ensures.lawful c.loop-step.invariant.kept)
 
-pub next_times-at-requires-clause-small : goal.next_times-at-requires-clause-small
-next_times-at-requires-clause-small g c =
+pub next_step-requires-clause-small : goal.next_step-requires-clause-small
+next_step-requires-clause-small g c =
     let by : c.loop-step.latest.end ≤ 67 * c.loop-step.step-index = end_bound c.args.row.now c.args.steps.now c.loop-step.step-index c.loop-step.live.items c.loop-step.latest c.buses-buses.ensures.lawful (omega arith) c.loop-step.invariant.kept in
     omega arith
 
-pub note-requires-clause-few : goal.note-requires-clause-few
-note-requires-clause-few g c =
+pub keep-requires-clause-few : goal.keep-requires-clause-few
+keep-requires-clause-few g c =
     let by : c.loop-step.latest.issued ≤ c.loop-step.step-index = issued_bound c.args.row.now c.args.steps.now c.loop-step.step-index c.loop-step.live.items c.loop-step.latest (omega arith) c.loop-step.invariant.kept in
     omega arith
 
 pub loop-step-preserved : goal.loop-step-preserved
 loop-step-preserved g c =
-    let n = rw c.deref.ensures.value at c.next_times-at.ensures.next in
+    let n = rw c.deref.ensures.value at c.next_step.ensures.next in
     let is : slice_index_or c.args.steps.now c.loop-step.step-index c.step-item.result ≡ c.step-item.result = search rules in
-    let s = turn_at c.args.row.now c.args.steps.now c.loop-step.step-index c.step-item.result c.of-facts.result c.next_times-at.result c.loop-step.live.items c.loop-step.latest c.buses-buses.ensures.lawful c.loop-step-test.true is c.of-facts.ensures.facts c.of-facts.ensures.register c.next_times-at.ensures.j c.next_times-at.ensures.k c.loop-step.invariant.kept n in
+    let s = turn_at c.args.row.now c.args.steps.now c.loop-step.step-index c.step-item.result c.of-facts.result c.next_step.result.at c.loop-step.live.items c.loop-step.latest c.buses-buses.ensures.lawful c.loop-step-test.true is c.of-facts.ensures.facts c.of-facts.ensures.register c.next_step.ensures.j c.next_step.ensures.k c.loop-step.invariant.kept n in
     record {
-      kept = rw (c.in_ok-push.ensures.items, c.keep_recent.ensures, c.note.ensures, c.new.ensures) s.0;
-      times = rw (c.in_ok-push-2.ensures.items, c.loop-step.invariant.times) (sym s.1);
+      kept = rw (c.in_ok-keep.ensures.live, c.in_ok-keep.ensures.latest) s.0;
+      times = rw (c.in_ok-push.ensures.items, c.loop-step.invariant.times) (sym s.1);
     }
 
 pub returns-clause-recurrence : goal.returns-clause-recurrence
