@@ -5,6 +5,8 @@
 #[cfg(test)]
 mod cycle_machine;
 #[cfg(test)]
+mod needs;
+#[cfg(test)]
 mod restarts;
 #[cfg(test)]
 mod timings;

@@ -1,0 +1,308 @@
+//! What small runs lack, beside tables that were made by hand from the rules.
+
+use std::alloc::{AllocError, Global};
+use std::test::Fail;
+use tomex_config::{Config, UnitOption};
+use tomex_rvexec::{Step, trace};
+use tomex_samples::{Attempt, Heap, Try, image_of, refusals};
+use tomex_timing::evaluate::{needs, waits};
+use tomex_timing::{Need, Needs, Part, Waits};
+
+/// One unit of this latency.
+fn unit(latency: u8) -> UnitOption {
+    UnitOption {
+        units: 1,
+        latency,
+        price: 0,
+    }
+}
+
+/// A row of one unit a kind, whose div and bru units have latency 1.
+fn row_of(stations: [u8; 6], latencies: [u8; 3], buses: u8) -> Result<Config, Fail> {
+    let [alu, mul, mem] = latencies;
+    let units = [unit(alu), unit(mul), unit(1), unit(mem), unit(1)];
+    Ok(Config::new(stations, units, buses, 1).ok_or("no row")?)
+}
+
+/// The trace of a program at address 0.
+fn trace_of(alloc: Global, words: &[u32]) -> Result<Vec<Step>, Fail> {
+    let image = image_of(alloc, 0, 4096, words)?;
+    Ok(trace(alloc, &image, 1000).map_err(|_| "no trace")?)
+}
+
+/// What a program's run on a row lacks.
+fn needs_of(alloc: Global, words: &[u32], row: &Config) -> Result<Needs, Fail> {
+    let steps = trace_of(alloc, words)?;
+    if steps.len() > 1000 {
+        return Err("a long trace".into());
+    }
+    Ok(needs(alloc, steps.as_slice(), row)?)
+}
+
+/// How long each of its steps waits.
+fn waits_of(alloc: Global, words: &[u32], row: &Config) -> Result<Vec<Waits>, Fail> {
+    let steps = trace_of(alloc, words)?;
+    if steps.len() > 1000 {
+        return Err("a long trace".into());
+    }
+    Ok(waits(alloc, steps.as_slice(), row)?)
+}
+
+/// The count, peak and stalls of each part, in the order of reports.
+type Table = [(u64, u64, u64); 13];
+
+/// Whether the needs on a row are those of a table, and branch, operand, address, memory, drain and total
+/// these.
+fn are_needs(needs: &Needs, row: &Config, table: &Table, rest: &[u64; 6]) -> bool {
+    let mut same = true;
+    for (part, (count, peak, stalls)) in Part::ALL.iter().zip(table.iter()) {
+        let need = Need {
+            peak: *peak,
+            stalls: *stalls,
+        };
+        same = same && part.count(row) == *count && needs.need(*part) == need;
+    }
+    same && [
+        needs.branch,
+        needs.operand,
+        needs.address,
+        needs.memory,
+        needs.drain(),
+        needs.total,
+    ] == *rest
+}
+
+/// Waits in the order of the report by place.
+fn waits_from(numbers: &[u64; 8]) -> Waits {
+    let [branch, width, station, operand, address, memory, unit, bus] = *numbers;
+    Waits {
+        branch,
+        width,
+        station,
+        operand,
+        address,
+        memory,
+        unit,
+        bus,
+    }
+}
+
+fn are_waits(waits: &[Waits], table: &[[u64; 8]]) -> bool {
+    waits.len() == table.len()
+        && waits
+            .iter()
+            .zip(table.iter())
+            .all(|(step, numbers)| *step == waits_from(numbers))
+}
+
+/// `addi x1,x0,5; addi x2,x0,7; mul x3,x1,x2; ebreak`
+static PRODUCT: [u32; 4] = [0x00500093, 0x00700113, 0x022081b3, 0x00100073];
+
+static PRODUCT_NEEDS: Table = [
+    (2, 2, 0),
+    (1, 1, 0),
+    (1, 0, 0),
+    (1, 0, 0),
+    (1, 0, 0),
+    (1, 0, 0),
+    (1, 1, 0),
+    (1, 1, 0),
+    (1, 0, 0),
+    (1, 0, 0),
+    (1, 0, 0),
+    (1, 1, 0),
+    (1, 1, 3),
+];
+
+static PRODUCT_WAITS: [[u64; 8]; 4] = [
+    [0, 0, 0, 0, 0, 0, 0, 0],
+    [0, 1, 0, 0, 0, 0, 0, 0],
+    [0, 1, 0, 1, 0, 0, 0, 0],
+    [0, 1, 0, 0, 0, 0, 0, 0],
+];
+
+#[test]
+fn a_product_waits_for_its_last_factor(rt: HostRuntime) -> Result<(), Fail> {
+    let row = row_of([2, 1, 1, 1, 1, 1], [1, 3, 1], 1)?;
+    let needs = needs_of(rt.alloc(), PRODUCT.as_slice(), &row)?;
+    assert!(rt; are_needs(&needs, &row, &PRODUCT_NEEDS, &[0, 1, 0, 0, 4, 8]));
+    let waits = waits_of(rt.alloc(), PRODUCT.as_slice(), &row)?;
+    assert!(rt; are_waits(waits.as_slice(), PRODUCT_WAITS.as_slice()));
+    Ok(())
+}
+
+/// `addi x8,x0,256; addi x1,x0,768; mul x3,x1,x1; sw x1,0(x8); lb x2,1(x8); add x4,x3,x2; ebreak`
+static FOLLOWED: [u32; 7] = [
+    0x10000413, 0x30000093, 0x021081b3, 0x00142023, 0x00140103, 0x00218233, 0x00100073,
+];
+
+static FOLLOWED_NEEDS: Table = [
+    (2, 2, 0),
+    (1, 1, 0),
+    (1, 0, 0),
+    (1, 1, 0),
+    (1, 1, 0),
+    (1, 0, 0),
+    (1, 1, 0),
+    (1, 1, 0),
+    (1, 0, 0),
+    (1, 1, 0),
+    (1, 0, 0),
+    (1, 1, 1),
+    (1, 1, 6),
+];
+
+static FOLLOWED_WAITS: [[u64; 8]; 7] = [
+    [0, 0, 0, 0, 0, 0, 0, 0],
+    [0, 1, 0, 0, 0, 0, 0, 0],
+    [0, 1, 0, 1, 0, 0, 0, 0],
+    [0, 1, 0, 0, 1, 0, 0, 0],
+    [0, 1, 0, 0, 1, 1, 0, 1],
+    [0, 1, 0, 5, 0, 0, 0, 0],
+    [0, 1, 0, 0, 0, 0, 0, 0],
+];
+
+#[test]
+fn the_followed_program_waits_for_its_load(rt: HostRuntime) -> Result<(), Fail> {
+    let row = row_of([2, 1, 1, 1, 1, 1], [1, 5, 2], 1)?;
+    let needs = needs_of(rt.alloc(), FOLLOWED.as_slice(), &row)?;
+    assert!(rt; are_needs(&needs, &row, &FOLLOWED_NEEDS, &[0, 6, 2, 1, 6, 13]));
+    let waits = waits_of(rt.alloc(), FOLLOWED.as_slice(), &row)?;
+    assert!(rt; are_waits(waits.as_slice(), FOLLOWED_WAITS.as_slice()));
+    Ok(())
+}
+
+/// `mul x3,x3,x0; add x4,x0,x4; sw x4,264(x0); lw x4,256(x0); ebreak`
+static STORE_BEFORE_LOAD: [u32; 5] = [0x020181b3, 0x00400233, 0x10402423, 0x10002203, 0x00100073];
+
+#[test]
+fn a_second_bus_may_cost_a_cycle(rt: HostRuntime) -> Result<(), Fail> {
+    let one_bus = row_of([1; 6], [2, 3, 2], 1)?;
+    let two_buses = row_of([1; 6], [2, 3, 2], 2)?;
+    let one = needs_of(rt.alloc(), STORE_BEFORE_LOAD.as_slice(), &one_bus)?;
+    let two = needs_of(rt.alloc(), STORE_BEFORE_LOAD.as_slice(), &two_buses)?;
+    // The sum waits for the bus, so the store takes the unit after the load.
+    assert!(rt; one.total == 8 && one.buses == Need { peak: 1, stalls: 1 });
+    assert!(rt; one.operand == 3 && one.need(Part::ALL[9]) == Need { peak: 1, stalls: 0 });
+    // With two it takes it before the load, which waits for it.
+    assert!(rt; two.total == 9 && two.buses == Need { peak: 2, stalls: 0 });
+    assert!(rt; two.operand == 2 && two.need(Part::ALL[9]) == Need { peak: 1, stalls: 1 });
+    // Either row's needs say that the other row may have other times.
+    assert!(rt; !one.suffice(&one_bus, &two_buses) && !two.suffice(&two_buses, &one_bus));
+    Ok(())
+}
+
+/// `addi x8,x0,256; mul x3,x8,x8; mul x5,x8,x8; sw x8,0(x8); lb x2,1(x8); addi x1,x2,0; addi x6,x0,0;`
+/// `bne x0,x0,8; mul x9,x0,x0; addi x10,x0,0; ebreak`
+static EACH_CAUSE: [u32; 11] = [
+    0x10000413, 0x028401b3, 0x028402b3, 0x00842023, 0x00140103, 0x00010093, 0x00000313, 0x00001463,
+    0x020004b3, 0x00000513, 0x00100073,
+];
+
+static EACH_CAUSE_NEEDS: Table = [
+    (1, 1, 6),
+    (2, 2, 0),
+    (1, 0, 0),
+    (1, 1, 0),
+    (1, 1, 0),
+    (1, 1, 0),
+    (1, 1, 0),
+    (1, 1, 1),
+    (1, 0, 0),
+    (1, 1, 0),
+    (1, 1, 0),
+    (1, 1, 1),
+    (1, 1, 9),
+];
+
+static EACH_CAUSE_WAITS: [[u64; 8]; 11] = [
+    [0, 0, 0, 0, 0, 0, 0, 0],
+    [0, 1, 0, 1, 0, 0, 0, 0],
+    [0, 1, 0, 0, 0, 0, 1, 0],
+    [0, 1, 0, 0, 1, 0, 0, 0],
+    [0, 1, 0, 0, 1, 1, 0, 0],
+    [0, 1, 0, 4, 0, 0, 0, 0],
+    [0, 1, 6, 0, 0, 0, 0, 0],
+    [0, 1, 0, 0, 0, 0, 0, 0],
+    [2, 0, 0, 0, 0, 0, 0, 0],
+    [0, 1, 0, 0, 0, 0, 0, 1],
+    [0, 1, 0, 0, 0, 0, 0, 0],
+];
+
+#[test]
+fn each_cause_is_charged(rt: HostRuntime) -> Result<(), Fail> {
+    let row = row_of([1, 2, 1, 1, 1, 1], [1, 2, 2], 1)?;
+    let needs = needs_of(rt.alloc(), EACH_CAUSE.as_slice(), &row)?;
+    assert!(rt; are_needs(&needs, &row, &EACH_CAUSE_NEEDS, &[2, 5, 2, 1, 2, 20]));
+    let waits = waits_of(rt.alloc(), EACH_CAUSE.as_slice(), &row)?;
+    assert!(rt; are_waits(waits.as_slice(), EACH_CAUSE_WAITS.as_slice()));
+    Ok(())
+}
+
+#[test]
+fn parts_without_stalls_may_be_fewer(rt: HostRuntime) -> Result<(), Fail> {
+    let large = row_of([16; 6], [1, 5, 2], 8)?;
+    let needs = needs_of(rt.alloc(), FOLLOWED.as_slice(), &large)?;
+    // What doesn't divide takes no div station and no div unit.
+    assert!(rt; needs.need(Part::ALL[2]) == Need { peak: 0, stalls: 0 });
+    assert!(rt; needs.need(Part::ALL[8]) == Need { peak: 0, stalls: 0 });
+    // Its peaks are enough, and one alu station less isn't.
+    let enough = row_of([2, 1, 1, 1, 1, 1], [1, 5, 2], 2)?;
+    let fewer = row_of([1, 1, 1, 1, 1, 1], [1, 5, 2], 2)?;
+    assert!(rt; needs.suffice(&large, &enough) && !needs.suffice(&large, &fewer));
+    Ok(())
+}
+
+#[test]
+fn no_steps_lack_nothing(rt: HostRuntime) -> Result<(), Fail> {
+    let row = row_of([1; 6], [1; 3], 1)?;
+    let none: Vec<Step> = Vec::new(rt.alloc());
+    let needs = needs(rt.alloc(), none.as_slice(), &row)?;
+    assert!(rt; needs.total == 0 && needs.drain() == 0);
+    let waits = waits(rt.alloc(), none.as_slice(), &row)?;
+    assert!(rt; waits.is_empty());
+    Ok(())
+}
+
+/// Evaluates the product's run on a row: its needs, or the waits of its steps.
+#[derive(Clone, Copy)]
+struct Evaluation<'a> {
+    steps: &'a [Step],
+    row: Config,
+    by_step: bool,
+}
+
+impl<'a> Attempt for Evaluation<'a> {
+    fn attempt(&self, heap: Heap) -> Result<Try, AllocError> {
+        if self.steps.len() > 1000 {
+            return Ok(Try::Wrong);
+        }
+        if self.by_step {
+            match waits(heap, self.steps, &self.row) {
+                Ok(waits) => Ok(Try::right_if(waits.len() == 4)),
+                Err(AllocError) => Ok(Try::Refused),
+            }
+        } else {
+            match needs(heap, self.steps, &self.row) {
+                Ok(needs) => Ok(Try::right_if(needs.total == 8)),
+                Err(AllocError) => Ok(Try::Refused),
+            }
+        }
+    }
+}
+
+#[test]
+fn memory_is_refused(rt: HostRuntime) -> Result<(), Fail> {
+    let other = rt.alloc();
+    let row = row_of([2, 1, 1, 1, 1, 1], [1, 3, 1], 1)?;
+    let steps = trace_of(other, PRODUCT.as_slice())?;
+    for by_step in [false, true] {
+        let evaluation = Evaluation {
+            steps: steps.as_slice(),
+            row,
+            by_step,
+        };
+        assert!(rt; matches!(refusals(other, &evaluation)?, Some(granted) if granted > 0));
+    }
+    Ok(())
+}
