@@ -1,11 +1,11 @@
 //! The evaluation of a run.
 
-ghost use Rattle.std.specs.Prelude.{◌≡◌, ◌<◌, ◌≤◌, ◌*◌, ◌^◌, length, IfOk};
+ghost use Rattle.std.specs.Prelude.{◌≡◌, ◌<◌, ◌≤◌, ◌*◌, ◌^◌, length, All, IfOk};
 ghost use Rattle.std.specs.Option.{ForSome};
 ghost use Rattle.tomex_timing.specs.Needs.{AreNeeds, waits_in};
 ghost use Rattle.tomex_timing.specs.Recurrence.{AreTimed};
 ghost use Rattle.tomex_timing.specs.Search.{history, times_in, total_of};
-ghost use Rattle.tomex_timing.specs.Waiting.{live_after};
+ghost use Rattle.tomex_timing.specs.Waiting.{AreWithin, live_after};
 ghost use Rattle.tomex_timing.specs.Window.{latest_after};
 
 use crate::needs::Needs;
@@ -77,6 +77,7 @@ pub fn waits<A: Allocator + Clone>(
     requires few { length steps.now < 2 ^ 56 }
     ensures exact { IfOk result (λ v. v.items ≡ waits_in row.now steps.now) }
     ensures pairs { IfOk result (λ v. length v.items ≡ length steps.now) }
+    ensures bound { IfOk result (λ v. All (AreWithin (67 * length steps.now)) v.items) }
 {
     let mut result: Vec<Waits, A> = Vec::new(alloc.clone()?);
     let mut live: Vec<Live, A> = Vec::new(alloc);

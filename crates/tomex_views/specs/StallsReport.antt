@@ -1,12 +1,12 @@
 -- The stalls report of a run: a record for each part of the machine, and one for each thing else that steps wait for.
-use Rattle.std.specs.Prelude.{◌≡◌, ℕ, List, [], ◌∷◌, ◌++◌, codes, map}
+use Rattle.std.specs.Prelude.{◌≡◌, ℕ, ◌-◌, List, [], ◌∷◌, ◌++◌, codes, map}
 use Rattle.std.specs.List.{flat_map}
 use Rattle.std.specs.Fmt.{decimal}
 use Rattle.tomex_rvdec.specs.Parts.{name_of_pool, name_of_unit}
 use Rattle.tomex_rvexec.specs.declared.step.Step.{Step}
 use Rattle.tomex_config.specs.Row.{Row}
 use Rattle.tomex_config.specs.Cost.{all_pools, all_units}
-use Rattle.tomex_timing.specs.Needs.{AreNeeds, count_of, drain_in, need_of}
+use Rattle.tomex_timing.specs.Needs.{AreNeeds, count_of, need_of}
 use Rattle.tomex_timing.specs.Search.{history}
 use Rattle.tomex_timing.specs.declared.needs.Needs.{Needs}
 use Rattle.tomex_timing.specs.declared.part.Part.{Part}
@@ -33,11 +33,11 @@ part_fields row needs part =
     name_of_part part ∷ decimal (count_of row part)
     ∷ decimal (need_of needs part).peak ∷ decimal (need_of needs part).stalls ∷ []
 
-abbrev pub part_record : Row → Needs → Part → List ℕ
+unfoldable pub part_record : Row → Needs → Part → List ℕ
 part_record row needs part = record_text (part_fields row needs part)
 
 -- cycles that are no part's
-abbrev pub other_record : List ℕ → ℕ → List ℕ
+unfoldable pub other_record : List ℕ → ℕ → List ℕ
 other_record name cycles = record_text (name ∷ codes "-" ∷ codes "-" ∷ decimal cycles ∷ [])
 
 abbrev pub other_records : Needs → List ℕ
@@ -46,7 +46,7 @@ other_records needs =
     ++ (other_record (codes "operand") needs.operand
     ++ (other_record (codes "address") needs.address
     ++ (other_record (codes "memory") needs.memory
-    ++ (other_record (codes "drain") (drain_in needs) ++ other_record (codes "total") needs.total))))
+    ++ (other_record (codes "drain") (needs.total - needs.last_issue) ++ other_record (codes "total") needs.total))))
 
 abbrev pub report_of_needs : Row → Needs → List ℕ
 report_of_needs row needs = record_text header ++ (flat_map (part_record row needs) all_parts ++ other_records needs)

@@ -1,7 +1,8 @@
 //! The stalls report by place in the program.
 
 ghost use Rattle.std.specs.Prelude.{◌≡◌, ◌++◌, ◌∷◌, [], IfOk, OnOk};
-ghost use Rattle.std.specs.BTreeMap.{values};
+ghost use Rattle.std.specs.BTreeMap.{IsOrdered, values};
+ghost use Rattle.std.specs.Ordering.{nat_cmp};
 ghost use Rattle.std.specs.List.{flat_map};
 ghost use Rattle.csv.specs.Records.{fields_of, partial_of};
 ghost use Rattle.tomex_rvexec.specs.Run.{start_of};
@@ -78,6 +79,7 @@ fn put_places<A: Allocator>(
     ensures ready { OnOk result (IsReady writer.new) }
     ensures text { OnOk result (written (λ v. v.items) writer.new
         ≡ written (λ v. v.items) writer.old ++ flat_map (λ place. record_text (place_fields place)) (values tally.now.places)) }
+    ensures rising { OnOk result (IsOrdered nat_cmp tally.now.places) }
 {
     let mut record = ByteRecord::new(heap);
     let mut scratch = String::new(heap);
@@ -104,7 +106,8 @@ fn text_of_tally<A: Allocator>(
     heap: Global,
     tally: &Tally<A>,
 ) -> Result<Vec<u8, A>, AllocError>
-    ensures { IfOk result (λ text. text.items ≡ report_of_tally tally.now) }
+    ensures text { IfOk result (λ text. text.items ≡ report_of_tally tally.now) }
+    ensures rising { OnOk result (IsOrdered nat_cmp tally.now.places) }
 {
     let mut writer = Writer::from_writer(Vec::new(alloc));
     put_record(&mut writer, &header_of(heap)?)?;

@@ -66,6 +66,25 @@ fn fill_part(
     Ok(())
 }
 
+/// Writes the record of a part.
+#[tactic(auto, unfolding(crate::specs::StallsReport::part_record))]
+fn put_part<A: Allocator>(
+    writer: &mut Writer<Vec<u8, A>>,
+    record: &mut ByteRecord,
+    scratch: &mut String,
+    row: &Config,
+    needs: &Needs,
+    part: Part,
+) -> Result<(), AllocError>
+    requires ready { IsReady writer.old }
+    ensures ready { OnOk result (IsReady writer.new) }
+    ensures text { OnOk result (written (λ v. v.items) writer.new
+        ≡ written (λ v. v.items) writer.old ++ part_record row.now needs.now part) }
+{
+    fill_part(record, scratch, row, needs, part)?;
+    put_record(writer, record)
+}
+
 /// Writes the records of the parts.
 fn put_parts<A: Allocator>(
     writer: &mut Writer<Vec<u8, A>>,
@@ -81,13 +100,13 @@ fn put_parts<A: Allocator>(
     let mut record = ByteRecord::new(heap);
     let mut scratch = String::new(heap);
     for part in Part::ALL {
-        fill_part(&mut record, &mut scratch, row, needs, part)?;
-        put_record(writer, &record)?;
+        put_part(writer, &mut record, &mut scratch, row, needs, part)?;
     }
     Ok(())
 }
 
 /// Writes the record of cycles that are no part's.
+#[tactic(auto, unfolding(crate::specs::StallsReport::other_record))]
 fn put_other<A: Allocator>(
     writer: &mut Writer<Vec<u8, A>>,
     heap: Global,

@@ -3,7 +3,7 @@ use Rattle.std.proofs.Common.{rules, ◌≡◌, ◌≤◌, ◌*◌, arith, slice
 use Rattle.std.proofs.lemmas.Grind.{common_steps}
 use Rattle.tomex_timing.specs.Needs.{waits_in}
 use Rattle.tomex_timing.proofs.NeedTurns.{waits_turn}
-use Rattle.tomex_timing.proofs.WaitLists.{length-waits_in}
+use Rattle.tomex_timing.proofs.WaitLists.{length-waits_in, waits_in_within}
 use Rattle.tomex_timing.proofs.Turns.{start_kept, settled_at, end_bound, issued_bound, turn_at}
 use Rattle.tomex_timing.proofs.evaluate.waits.Goals as goal
 
@@ -50,3 +50,8 @@ pub returns-clause-pairs : goal.returns-clause-pairs
 returns-clause-pairs g c =
     let e : c.loop-step.result.items ≡ waits_in c.args.row.now c.args.steps.now = grind (arith, common_steps) in
     rw e (length-waits_in c.args.row.now c.args.steps.now)
+
+pub returns-clause-bound : goal.returns-clause-bound
+returns-clause-bound g c =
+    let e : c.loop-step.result.items ≡ waits_in c.args.row.now c.args.steps.now = grind (arith, common_steps) in
+    rw e (waits_in_within c.args.row.now c.args.steps.now c.buses-buses.ensures.lawful)

@@ -1,0 +1,4 @@
+pub mod Sums
+pub mod Tallies
+pub mod Reports
+pub mod Pieces

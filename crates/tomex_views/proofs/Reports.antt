@@ -1,0 +1,80 @@
+-- The report of what was counted is that of the visits.
+use Rattle.std.proofs.Common.{◌≡◌, ◌≢◌, ◌⊎◌, ◌∙◌, ap, ap₂, sym, refl, inl, inr, ℕ, ◌<◌, ◌==◌, Bool, true, false, cond, ◌||◌, List, [], ◌∷◌, ◌++◌, length, get_or, Option, Some, None, is_some, arith}
+use Rattle.std.specs.Prelude.{All, filter}
+use Rattle.std.specs.BTreeMap.{BTreeMap, IsOrdered, get, is_at, keys, values}
+use Rattle.std.specs.List.{flat_map, list_any}
+use Rattle.std.specs.Map.{keys_of, values_of}
+use Rattle.std.specs.Option.{option_map_or}
+use Rattle.std.specs.Ordering.{is_eq, nat_cmp}
+use Rattle.std.proofs.lemmas.Bool.{eq-eqb, ne_eqb}
+use Rattle.std.proofs.lemmas.Bool.Decides.{eqb_tells}
+use Rattle.std.proofs.lemmas.Cmp.{nat_cmp_total}
+use Rattle.std.proofs.lemmas.List.Concat.{flat_map-cons}
+use Rattle.std.proofs.lemmas.List.Elements.{All-head, All-tail}
+use Rattle.std.proofs.lemmas.Map.Entries.{btree_map_get_place}
+use Rattle.std.proofs.lemmas.Map.Made.{is_some-lookup}
+use Rattle.std.proofs.lemmas.Option.{slice_get-get_or}
+use Rattle.tomex_records.specs.Csv.{record_text}
+use Rattle.tomex_views.specs.ByPlace.{ArePlaces, Visit, header, place_record, report_at, visits_at}
+use Rattle.tomex_views.specs.declared.tally.Place.{Place}
+use Rattle.tomex_views.specs.declared.tally.Sum.{Sum}
+use Rattle.tomex_views.specs.declared.tally.Tally.{Tally}
+use Rattle.tomex_views.specs.Tally.{IsTally, place_fields, place_of, report_of_tally, total_fields}
+use Rattle.tomex_views.proofs.Tallies.{same_key}
+
+same_any : {X : Type 0} (f g : X → Bool) → ((x : X) → f x ≡ g x) → (xs : List X) → list_any f xs ≡ list_any g xs
+same_any f g same [] = refl
+same_any f g same (x ∷ xs) = ap₂ (λ a b. a || b) (same x) (same_any f g same xs)
+
+-- there is a place just where there is a visit
+is_visited : (pc : ℕ) (visits : List Visit) → is_some (place_of (visits_at pc visits)) ≡ list_any (λ v. v.0.pc == pc) visits
+is_visited pc [] = refl
+is_visited pc (v ∷ visits) = go (v.0.pc == pc) (is_visited pc visits)
+  where
+    go : (b : Bool) → is_some (place_of (visits_at pc visits)) ≡ list_any (λ v. v.0.pc == pc) visits
+        → is_some (place_of (cond b (v ∷ visits_at pc visits) (visits_at pc visits))) ≡ b || list_any (λ v. v.0.pc == pc) visits
+    go true rest = refl
+    go false rest = rest
+
+-- the test for a key, either way round
+flip : (a b : ℕ) → (a == b) ≡ is_at (nat_cmp b) a
+flip a b = go (eqb_tells a b) ∙ sym (same_key b a)
+  where
+    go : ((a == b) ≡ true) × (a ≡ b) ⊎ ((a == b) ≡ false) × (a ≢ b) → (a == b) ≡ (b == a)
+    go (inl same) = same.0 ∙ sym (eq-eqb b a (sym same.1))
+    go (inr other) = other.0 ∙ sym (ne_eqb b a (λ e. other.1 (sym e)))
+
+-- a place's record is that of its visits
+record_is : (vs : List Visit) (place : Place) → place_of vs ≡ Some place → record_text (place_fields place) ≡ place_record vs
+record_is [] place is = absurd (cc)
+record_is (v ∷ vs) place is =
+    ap (λ (o : Option Place). option_map_or (λ p. record_text (place_fields p)) o []) (sym is)
+
+module _ {A : Type 0} (visits : List Visit) (tally : Tally A) (is : IsTally visits tally) (ordered : IsOrdered nat_cmp tally.places) where
+  pub keys_are_places : ArePlaces visits (keys tally.places)
+  keys_are_places = record {
+    rising = ordered;
+    those = λ pc.
+        same_any (λ p. p == pc) (is_at (nat_cmp pc)) (λ p. flip p pc) (keys tally.places)
+        ∙ (sym (is_some-lookup (is_at (nat_cmp pc)) tally.places.entries) ∙ (ap (λ (o : Option Place). is_some o) (is.places pc) ∙ is_visited pc visits));
+  }
+
+  -- what an entry has is what its key's visits come to
+  abbrev IsKept : ℕ × Place → Type 0
+  IsKept e = place_of (visits_at e.0 visits) ≡ Some e.1
+
+  entry_is : All IsKept tally.places.entries
+  entry_is k d within =
+      let e = get_or tally.places.entries k d in
+      sym (is.places e.0) ∙ btree_map_get_place nat_cmp_total tally.places k e.0 e.1 ordered (slice_get-get_or tally.places.entries k d within)
+
+  records_are : (es : List (ℕ × Place)) → All IsKept es
+      → flat_map (λ place. record_text (place_fields place)) (values_of es) ≡ flat_map (λ pc. place_record (visits_at pc visits)) (keys_of es)
+  records_are [] all = refl
+  records_are (e ∷ es) all =
+      ap₂ (λ (a b : List ℕ). a ++ b) (record_is (visits_at e.0 visits) e.1 (All-head IsKept e es all)) (records_are es (All-tail IsKept e es all))
+
+  pub report_is : report_of_tally tally ≡ report_at (keys tally.places) visits
+  report_is =
+      ap₂ (λ (a b : List ℕ). record_text header ++ (a ++ b)) (records_are tally.places.entries entry_is)
+      (ap (λ (s : Sum). record_text (total_fields s)) is.all)

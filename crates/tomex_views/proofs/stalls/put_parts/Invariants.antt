@@ -1,0 +1,13 @@
+-- The records of the parts so far are written.
+use Rattle.std.proofs.Common.{◌≡◌, ◌++◌, take}
+use Rattle.std.specs.List.{flat_map}
+use Rattle.tomex_records.specs.Csv.{IsReady, written}
+use Rattle.tomex_views.specs.StallsReport.{all_parts, part_record}
+use Rattle.tomex_views.proofs.stalls.put_parts.Given as goal
+
+abbrev pub invariant-loop-part : goal.invariant-loop-part
+invariant-loop-part g l = record {
+  ready : IsReady l.writer;
+  text : written (λ v. v.items) l.writer
+      ≡ written (λ v. v.items) l.fn.writer ++ flat_map (part_record l.row l.needs) (take l.part-index all_parts);
+}
