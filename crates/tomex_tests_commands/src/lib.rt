@@ -16,6 +16,8 @@ mod lines;
 #[cfg(test)]
 mod refused_memory;
 #[cfg(test)]
+mod stalls;
+#[cfg(test)]
 mod system;
 #[cfg(test)]
 mod tables;

@@ -18,6 +18,13 @@ fn told(alloc: Global, line: &str) -> Result<String, AllocError> {
         Ok(Line::Times(times)) => {
             format!(in alloc; "times {} {} {}", times.study, times.config, times.program)
         }
+        Ok(Line::Stalls(stalls)) => {
+            let (study, config) = (stalls.study, stalls.config);
+            format!(in alloc;
+                "stalls {study} {config} {} {}",
+                stalls.program, stalls.by_pc
+            )
+        }
         Ok(Line::Tables(tables)) => {
             let (study, config) = (tables.study, tables.config);
             format!(in alloc;
@@ -45,6 +52,14 @@ fn lines_are_read(rt: HostRuntime) -> Result<(), Fail> {
         ),
         ("times study 0 a", "times study 0 a"),
         ("times study 16383 -- -a", "times study 16383 -a"),
+        ("stalls study 0 a", "stalls study 0 a false"),
+        ("stalls study 0 a --by-pc", "stalls study 0 a true"),
+        (
+            "stalls --by-pc study 16383 -- -a",
+            "stalls study 16383 -a true",
+        ),
+        ("stalls --help", "help Prints, for each part"),
+        ("stalls -h", "help Prints which parts"),
         ("tables study 0 a 0", "tables study 0 a 0"),
         (
             "tables study 16383 -- -a 17563648",
@@ -90,6 +105,10 @@ fn lines_are_refused(rt: HostRuntime) -> Result<(), Fail> {
         "times study 16384 a",
         "times study 0x1 a",
         "times study 0",
+        "stalls study 16384 a",
+        "stalls study 0",
+        "stalls study 0 a --by-pc 1",
+        "stalls study 0 a --by-pc --by-pc",
         "tables study 16384 a 0",
         "tables study 0 a 17563649",
         "tables study 0 a -1",

@@ -9,7 +9,8 @@ use tomex_command::{RunRefusal, run_text};
 use tomex_image::Window;
 use tomex_samples::programs::{ELF, LOOP, PRODUCT};
 use tomex_samples::studies::{
-    DROPPED, DROPPED_REPORT, PRODUCT_AFTER_3, PRODUCT_STUDY, PRODUCT_TIMES,
+    DROPPED, DROPPED_REPORT, PRODUCT_AFTER_3, PRODUCT_STALLS, PRODUCT_STALLS_BY_PC, PRODUCT_STUDY,
+    PRODUCT_TIMES,
 };
 use tomex_samples::{Attempt, Heap, Try, refusals, refusals_of};
 use tomex_streams::NoMeter;
@@ -94,6 +95,20 @@ fn of_each_command(rt: HostRuntime) -> Result<(), Fail> {
             product,
             PRODUCT_TIMES,
             11,
+        ),
+        // All that but the times.
+        (
+            ["tomex", "stalls", "study", "1", "mul"].as_slice(),
+            product,
+            PRODUCT_STALLS,
+            10,
+        ),
+        // All that with the waits, and the places.
+        (
+            ["tomex", "stalls", "study", "1", "mul", "--by-pc"].as_slice(),
+            product,
+            PRODUCT_STALLS_BY_PC,
+            12,
         ),
         // All that but steps and times; the machine's memory and the text.
         (
