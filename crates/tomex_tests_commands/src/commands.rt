@@ -1,11 +1,11 @@
 //! Whole runs of the program over files in memory: what they print, and their statuses.
-use crate::in_memory::{Narrow, Shelf};
 use std::alloc::{AllocError, Allocator, Global};
 use std::process::Abort;
 use std::sync::Wait;
 use std::test::Fail;
 use std::thread::Threads;
 use tomex_command::command;
+use tomex_samples::in_memory::{Narrow, Shelf};
 use tomex_samples::programs::PRODUCT;
 use tomex_streams::{Meter, NoMeter};
 

@@ -1,6 +1,5 @@
 //! Front reports, over studies and programs in memory.
 use crate::commands::{comes_to_within, outcome_of};
-use crate::in_memory::Narrow;
 use std::process::Abort;
 use std::sync::Wait;
 use std::sync::atomic::{AtomicU64, Ordering};

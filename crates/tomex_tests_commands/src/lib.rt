@@ -10,15 +10,9 @@ mod elf_images;
 #[cfg(test)]
 mod explorations;
 #[cfg(test)]
-mod in_memory;
-#[cfg(test)]
-mod lines;
-#[cfg(test)]
 mod refused_memory;
 #[cfg(test)]
 mod stalls;
-#[cfg(test)]
-mod system;
 #[cfg(test)]
 mod tables;
 #[cfg(test)]

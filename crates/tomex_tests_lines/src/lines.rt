@@ -1,10 +1,19 @@
 //! What no contract says of the command line: how the words of a line are read, and the parser's texts.
 
-use crate::in_memory::{Narrow, words};
 use std::alloc::{AllocError, Global};
 use std::test::Fail;
 use tomex_command::tell_line_fault;
 use tomex_line::{Line, LineFault, not_text, read_line, unread};
+use tomex_samples::in_memory::Narrow;
+
+/// The words of a line, apart at each space.
+fn words(alloc: Global, line: &str) -> Result<Vec<String>, AllocError> {
+    let mut words = Vec::new(alloc);
+    for word in line.split(' ') {
+        words.push(String::from_str(alloc, word)?)?;
+    }
+    Ok(words)
+}
 
 /// What the words after the program's name come to: the name and the numbers of a run, or the kind of
 /// the fault and its text.

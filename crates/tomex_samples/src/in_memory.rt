@@ -1,11 +1,10 @@
-//! A sink and files in memory, for tests of what the program reads and writes, and a write that stops on its way.
+//! A sink and files in memory, for tests of what the program reads and writes.
 ghost use Rattle.std.specs.Prelude.{◌≡◌, Some, find, option_copied};
 ghost use Rattle.std.specs.Str.{bytes_eq};
 ghost use Rattle.tomex_streams.specs.Files.{told_of};
 
-use std::alloc::{AllocError, Allocator, Global};
-use std::test::Fail;
-use tomex_streams::{Files, PutFault, ReadFault, Sink, WriteFault, write_all_of};
+use std::alloc::{Allocator, Global};
+use tomex_streams::{Files, PutFault, ReadFault, Sink};
 
 /// A sink in memory: it takes at most `step` bytes a put and `room` in all, and then fails, or takes
 /// nothing where `is_silent`.
@@ -81,36 +80,4 @@ impl<'a> Files for Shelf<'a> {
             None => Err(ReadFault::NoFile),
         }
     }
-}
-
-const TEXT: &[u8; 13] = b"0123456789abc";
-
-#[test]
-fn a_write_stops_where_the_sink_does(rt: HostRuntime) -> Result<(), Fail> {
-    let text = TEXT.as_slice();
-    for room in 0..13usize {
-        for step in [1, 4, 100] {
-            let mut sink = Narrow::new(rt.alloc(), room, step);
-            assert!(rt; write_all_of(&mut sink, text) == Err(WriteFault { written: room }));
-            assert!(rt; sink.bytes.as_slice() == &text[..room]);
-            assert!(rt; sink.faults == 1);
-        }
-    }
-    let mut sink = Narrow::new(rt.alloc(), 13, 1);
-    assert!(rt; write_all_of(&mut sink, text) == Ok(()));
-    assert!(rt; sink.bytes.as_slice() == text);
-    assert!(rt; sink.faults == 0);
-    let mut sink = Narrow::new(rt.alloc(), 0, 1);
-    sink.is_silent = true;
-    assert!(rt; write_all_of(&mut sink, text) == Err(WriteFault { written: 0 }));
-    Ok(())
-}
-
-/// The words of a line, apart at each space.
-pub fn words(alloc: Global, line: &str) -> Result<Vec<String>, AllocError> {
-    let mut words = Vec::new(alloc);
-    for word in line.split(' ') {
-        words.push(String::from_str(alloc, word)?)?;
-    }
-    Ok(words)
 }
