@@ -20,7 +20,8 @@ pub const PRODUCT_STALLS: &str = "part,count,peak,stalls\n\
     branch,-,-,0\noperand,-,-,1\naddress,-,-,0\nmemory,-,-,0\ndrain,-,-,4\ntotal,-,-,10\n";
 
 /// And by place.
-pub const PRODUCT_STALLS_BY_PC: &str = "pc,instr,steps,branch,width,station,operand,address,memory,unit,bus\n\
+pub const PRODUCT_STALLS_BY_PC: &str =
+    "pc,instr,steps,branch,width,station,operand,address,memory,unit,bus\n\
     00000000,\"addi x1,x0,5\",1,0,0,0,0,0,0,0,0\n\
     00000004,\"addi x2,x0,7\",1,0,1,2,0,0,0,0,0\n\
     00000008,\"mul x3,x1,x2\",1,0,1,0,1,0,0,0,0\n\

@@ -21,7 +21,12 @@ static ASKED: [(&str, &str, Option<&str>, (u8, &str, &str)); 7] = [
     ("2", "div", None, (1, "", "tomex: no such row\n")),
     ("2", "div", Some("--by-pc"), (1, "", "tomex: no such row\n")),
     ("0", "div", None, (1, "", "tomex: no such program\n")),
-    ("0", "div", Some("--by-pc"), (1, "", "tomex: no such program\n")),
+    (
+        "0",
+        "div",
+        Some("--by-pc"),
+        (1, "", "tomex: no such program\n"),
+    ),
 ];
 
 #[test]
@@ -31,7 +36,14 @@ fn what_a_row_lacks(rt: HostRuntime) -> Result<(), Fail> {
         ("mul.bin", PRODUCT.as_slice()),
     ];
     for (row, program, flag, wanted) in &ASKED {
-        let words = ["tomex", "stalls", "study", *row, *program, flag.unwrap_or("")];
+        let words = [
+            "tomex",
+            "stalls",
+            "study",
+            *row,
+            *program,
+            flag.unwrap_or(""),
+        ];
         let count = if flag.is_some() { 6 } else { 5 };
         comes_to(&rt, files.as_slice(), &words[..count], *wanted)?;
     }

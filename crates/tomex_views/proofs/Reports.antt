@@ -1,21 +1,25 @@
 -- The report of what was counted is that of the visits.
-use Rattle.std.proofs.Common.{◌≡◌, ◌≢◌, ◌⊎◌, ◌∙◌, ap, ap₂, sym, refl, inl, inr, ℕ, ◌<◌, ◌==◌, Bool, true, false, cond, ◌||◌, List, [], ◌∷◌, ◌++◌, length, get_or, Option, Some, None, is_some, arith}
-use Rattle.std.specs.Prelude.{All, filter}
-use Rattle.std.specs.BTreeMap.{BTreeMap, IsOrdered, get, is_at, keys, values}
-use Rattle.std.specs.List.{flat_map, list_any}
+use Rattle.std.proofs.Common.{◌≡◌, ◌≢◌, ◌≤◌, ◌⊎◌, Ok, Err, Vec, ◌∙◌, ap, ap₂, sym, refl, inl, inr, ℕ, ◌==◌, Bool, true, false, cond, ◌||◌, List, [], ◌∷◌, ◌++◌, get_or, Option, Some, is_some, arith}
+use Rattle.std.specs.Prelude.{All, IfOk, OnOk, Result}
+use Rattle.std.specs.BTreeMap.{IsOrdered, is_at, keys}
+use Rattle.std.specs.List.{flat_map, list_any, zip}
 use Rattle.std.specs.Map.{keys_of, values_of}
 use Rattle.std.specs.Option.{option_map_or}
-use Rattle.std.specs.Ordering.{is_eq, nat_cmp}
+use Rattle.std.specs.Ordering.{nat_cmp}
 use Rattle.std.proofs.lemmas.Bool.{eq-eqb, ne_eqb}
 use Rattle.std.proofs.lemmas.Bool.Decides.{eqb_tells}
 use Rattle.std.proofs.lemmas.Cmp.{nat_cmp_total}
-use Rattle.std.proofs.lemmas.List.Concat.{flat_map-cons}
 use Rattle.std.proofs.lemmas.List.Elements.{All-head, All-tail}
 use Rattle.std.proofs.lemmas.Map.Entries.{btree_map_get_place}
 use Rattle.std.proofs.lemmas.Map.Made.{is_some-lookup}
 use Rattle.std.proofs.lemmas.Option.{slice_get-get_or}
+use Rattle.tomex_rvexec.specs.declared.step.Step.{Step}
+use Rattle.tomex_config.specs.Row.{Row}
+use Rattle.tomex_timing.specs.Needs.{waits_in}
+use Rattle.tomex_timing.specs.Waiting.{AreWithin}
+use Rattle.tomex_timing.specs.declared.part.Waits.{Waits}
 use Rattle.tomex_records.specs.Csv.{record_text}
-use Rattle.tomex_views.specs.ByPlace.{ArePlaces, Visit, header, place_record, report_at, visits_at}
+use Rattle.tomex_views.specs.ByPlace.{ArePlaces, IsReport, Visit, header, place_record, report_at, visits_at, visits_in}
 use Rattle.tomex_views.specs.declared.tally.Place.{Place}
 use Rattle.tomex_views.specs.declared.tally.Sum.{Sum}
 use Rattle.tomex_views.specs.declared.tally.Tally.{Tally}
@@ -78,3 +82,38 @@ module _ {A : Type 0} (visits : List Visit) (tally : Tally A) (is : IsTally visi
   report_is =
       ap₂ (λ (a b : List ℕ). record_text header ++ (a ++ b)) (records_are tally.places.entries entry_is)
       (ap (λ (s : Sum). record_text (total_fields s)) is.all)
+
+-- the text of what was counted of visits is their report
+pub report_of : {A B E : Type 0} (r : Result (Vec ℕ B) E) (visits : List Visit) (tally : Tally A) → IsTally visits tally
+    → IfOk r (λ text. text.items ≡ report_of_tally tally) → OnOk r (IsOrdered nat_cmp tally.places)
+    → IfOk r (λ text. IsReport visits text.items)
+report_of (Ok text) visits tally is written ordered =
+    (keys tally.places, keys_are_places visits tally is ordered, written ∙ report_is visits tally is ordered)
+report_of (Err e) visits tally is written ordered = tt
+
+-- the visits that were counted are those of the run
+pub visits_are : (row : Row) (run given made counted : List Step) (waits kept : List Waits) → made ≡ run → given ≡ made → counted ≡ made
+    → waits ≡ waits_in row given → kept ≡ waits → zip counted kept ≡ visits_in row run
+visits_are row run given made counted waits kept is lent again waited held = rw (held, waited, again, lent, is) refl
+
+-- no wait is longer than a larger number
+pub wider : (n m : ℕ) (w : Waits) → n ≤ m → AreWithin n w → AreWithin m w
+wider n m w more h =
+    let b : w.branch ≤ n = h.branch in
+    let i : w.width ≤ n = h.width in
+    let s : w.station ≤ n = h.station in
+    let o : w.operand ≤ n = h.operand in
+    let a : w.address ≤ n = h.address in
+    let y : w.memory ≤ n = h.memory in
+    let u : w.unit ≤ n = h.unit in
+    let e : w.bus ≤ n = h.bus in
+    record {
+      branch = omega (arith, more);
+      width = omega (arith, more);
+      station = omega (arith, more);
+      operand = omega (arith, more);
+      address = omega (arith, more);
+      memory = omega (arith, more);
+      unit = omega (arith, more);
+      bus = omega (arith, more);
+    }

@@ -1,5 +1,5 @@
 -- Sums over visits are sums over the places at which they stand, since each stands at one.
-use Rattle.std.proofs.Common.{◌≡◌, ◌≢◌, ◌⊎◌, ◌∙◌, sym, subst, refl, inl, inr, ℕ, ◌+◌, ◌==◌, Bool, true, false, cond, ◌||◌, List, [], ◌∷◌, arith}
+use Rattle.std.proofs.Common.{◌≡◌, ◌≢◌, ◌⊎◌, ◌∙◌, sym, subst, refl, inl, inr, ℕ, ◌+◌, ◌==◌, Bool, true, false, cond, List, [], ◌∷◌, arith}
 use Rattle.std.specs.Prelude.{sum_by, length}
 use Rattle.std.specs.List.{list_any, AllByRecursion}
 use Rattle.std.specs.List.Sorted.{IsStrictlySortedBy}
@@ -35,12 +35,17 @@ one_more f v vs pc = go (v.0.pc == pc) refl
 -- and so it is of all places together
 one_more_in_all : (f : Visit → ℕ) (v : Visit) (vs : List Visit) (pcs : List ℕ)
     → sum_by (λ pc. sum_by f (visits_at pc (v ∷ vs))) pcs
-      ≡ sum_by (λ pc. cond (v.0.pc == pc) (f v) 0) pcs + sum_by (λ pc. sum_by f (visits_at pc vs)) pcs
+    ≡ sum_by (λ pc. cond (v.0.pc == pc) (f v) 0) pcs + sum_by (λ pc. sum_by f (visits_at pc vs)) pcs
 one_more_in_all f v vs [] = refl
 one_more_in_all f v vs (pc ∷ pcs) =
-    omega (arith, one_more f v vs pc, one_more_in_all f v vs pcs,
-    sum_by-cons (λ pc. sum_by f (visits_at pc (v ∷ vs))) pc pcs, sum_by-cons (λ pc. cond (v.0.pc == pc) (f v) 0) pc pcs,
-    sum_by-cons (λ pc. sum_by f (visits_at pc vs)) pc pcs)
+    omega (
+      arith,
+      one_more f v vs pc,
+      one_more_in_all f v vs pcs,
+      sum_by-cons (λ pc. sum_by f (visits_at pc (v ∷ vs))) pc pcs,
+      sum_by-cons (λ pc. cond (v.0.pc == pc) (f v) 0) pc pcs,
+      sum_by-cons (λ pc. sum_by f (visits_at pc vs)) pc pcs,
+    )
 
 -- a term at an address below all is nowhere
 nowhere : (n k : ℕ) (pcs : List ℕ) → AllByRecursion (λ y. nat_cmp k y ≡ Less) pcs → sum_by (λ pc. cond (k == pc) n 0) pcs ≡ 0
@@ -86,5 +91,10 @@ ones (x ∷ xs) = omega (arith, ones xs, sum_by-cons (λ x. 1) x xs)
 pub ones_in_all : (visits : List Visit) (pcs : List ℕ)
     → sum_by (λ pc. length (visits_at pc visits)) pcs ≡ sum_by (λ pc. sum_by (λ v. 1) (visits_at pc visits)) pcs
 ones_in_all visits [] = refl
-ones_in_all visits (pc ∷ pcs) = omega (arith, ones (visits_at pc visits), ones_in_all visits pcs,
-    sum_by-cons (λ pc. length (visits_at pc visits)) pc pcs, sum_by-cons (λ pc. sum_by (λ v. 1) (visits_at pc visits)) pc pcs)
+ones_in_all visits (pc ∷ pcs) = omega (
+  arith,
+  ones (visits_at pc visits),
+  ones_in_all visits pcs,
+  sum_by-cons (λ pc. length (visits_at pc visits)) pc pcs,
+  sum_by-cons (λ pc. sum_by (λ v. 1) (visits_at pc visits)) pc pcs,
+)

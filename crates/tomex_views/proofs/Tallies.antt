@@ -1,6 +1,6 @@
 -- One visit more in what visits come to, and that the sums stay small.
-use Rattle.std.proofs.Common.{◌≡◌, ◌≢◌, ◌⊎◌, ◌∙◌, ap, sym, inl, inr, eqb-true, take_all, subst, refl, ℕ, ◌+◌, ◌*◌, ◌^◌, ◌<◌, ◌≤◌, ◌==◌, Bool, true, false, cond, List, [], ◌∷◌, ◌++◌, length, get_or, take, Option, Some, None, arith}
-use Rattle.std.specs.Prelude.{All, filter, sum_by, unwrap_or}
+use Rattle.std.proofs.Common.{◌≡◌, ◌≢◌, ◌⊎◌, ◌∙◌, ap, sym, inl, inr, eqb-true, take_all, subst, refl, ℕ, ◌+◌, ◌^◌, ◌<◌, ◌≤◌, ◌==◌, Bool, true, false, cond, List, [], ◌∷◌, ◌++◌, length, get_or, take, Option, Some, arith}
+use Rattle.std.specs.Prelude.{All, sum_by, unwrap_or}
 use Rattle.std.specs.List.{zip}
 use Rattle.std.specs.FinMap.{nat_cmp-IsAntisymmetric}
 use Rattle.std.specs.Ordering.{is_eq, nat_cmp}
@@ -22,9 +22,17 @@ use Rattle.tomex_views.specs.Tally.{no_sum, place_of, sum_after, sum_of}
 
 pub sum_more : (vs : List Visit) (v : Visit) → sum_of (vs ++ v ∷ []) ≡ sum_after (sum_of vs) v.1
 sum_more vs v =
-    rw (length_push vs v, sum_by_push (λ v. v.1.branch) vs v, sum_by_push (λ v. v.1.width) vs v,
-    sum_by_push (λ v. v.1.station) vs v, sum_by_push (λ v. v.1.operand) vs v, sum_by_push (λ v. v.1.address) vs v,
-    sum_by_push (λ v. v.1.memory) vs v, sum_by_push (λ v. v.1.unit) vs v, sum_by_push (λ v. v.1.bus) vs v) refl
+    rw (
+      length_push vs v,
+      sum_by_push (λ v. v.1.branch) vs v,
+      sum_by_push (λ v. v.1.width) vs v,
+      sum_by_push (λ v. v.1.station) vs v,
+      sum_by_push (λ v. v.1.operand) vs v,
+      sum_by_push (λ v. v.1.address) vs v,
+      sum_by_push (λ v. v.1.memory) vs v,
+      sum_by_push (λ v. v.1.unit) vs v,
+      sum_by_push (λ v. v.1.bus) vs v,
+    ) refl
 
 -- a place with one visit more, of which it may be the first
 abbrev pub before : Option Place → Visit → Place
@@ -90,7 +98,7 @@ at_more ss ws i s w none pc got had now new within pairs step waits is was kept 
   where
     go : (b : Bool) → (s.pc == pc) ≡ b
         → cond (s.pc == pc) (Some new) had
-          ≡ cond (s.pc == pc) (Some (place_after (place_of (visits_at pc (take i (zip ss ws)))) (s, w))) (place_of (visits_at pc (take i (zip ss ws))))
+        ≡ cond (s.pc == pc) (Some (place_after (place_of (visits_at pc (take i (zip ss ws)))) (s, w))) (place_of (visits_at pc (take i (zip ss ws))))
     go true e = rw (e, grown, kept, eqb-true s.pc pc e) refl
     go false e = rw (e, was) refl
 

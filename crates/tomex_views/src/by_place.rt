@@ -34,11 +34,7 @@ fn header_of(heap: Global) -> Result<ByteRecord, AllocError>
 }
 
 /// Adds how many steps there are, and how long they wait.
-fn push_sum(
-    fields: &mut ByteRecord,
-    scratch: &mut String,
-    sum: &Sum,
-) -> Result<(), AllocError>
+fn push_sum(fields: &mut ByteRecord, scratch: &mut String, sum: &Sum) -> Result<(), AllocError>
     requires { partial_of fields.old ≡ [] }
     ensures fields { OnOk result (fields_of fields.new
         ≡ fields_of fields.old ++ sum_fields sum.now.steps sum.now.waits) }

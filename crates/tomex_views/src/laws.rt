@@ -7,5 +7,4 @@ ghost use Rattle.tomex_views.specs.Laws.{StepsOfPlacesAddUp, WaitsOfPlacesAddUp}
 pub fn waits_of_places_add_up()
     ensures steps { StepsOfPlacesAddUp }
     ensures waits { WaitsOfPlacesAddUp }
-{
-}
+{}

@@ -28,11 +28,7 @@ fn header_of(heap: Global) -> Result<ByteRecord, AllocError>
 }
 
 /// Adds a part's name.
-fn push_part(
-    fields: &mut ByteRecord,
-    scratch: &mut String,
-    part: Part,
-) -> Result<(), AllocError>
+fn push_part(fields: &mut ByteRecord, scratch: &mut String, part: Part) -> Result<(), AllocError>
     requires { partial_of fields.old ≡ [] }
     ensures fields { OnOk result (fields_of fields.new ≡ fields_of fields.old ++ name_of_part part ∷ []) }
     ensures whole { OnOk result (partial_of fields.new ≡ []) }

@@ -1,6 +1,6 @@
 //! The steps of a program's run.
 
-ghost use Rattle.std.specs.Prelude.{◌≡◌, IfOk};
+ghost use Rattle.std.specs.Prelude.{◌≡◌, ◌≤◌, length, IfOk};
 ghost use Rattle.tomex_rvexec.specs.Run.{start_of};
 ghost use Rattle.tomex_rvexec.specs.Trace.{steps_from};
 
@@ -13,7 +13,8 @@ pub fn steps_of<A: Allocator + Clone>(
     alloc: A,
     program: &Program<A>,
 ) -> Result<Vec<Step, A>, AllocError>
-    ensures { IfOk result (λ steps. steps.items ≡ steps_from program.now.limit (start_of program.now.image)) }
+    ensures steps { IfOk result (λ steps. steps.items ≡ steps_from program.now.limit (start_of program.now.image)) }
+    ensures few { IfOk result (λ steps. length steps.items ≤ 262144) }
 {
     match trace(alloc, program.image(), program.limit()) {
         Ok(steps) => Ok(steps),

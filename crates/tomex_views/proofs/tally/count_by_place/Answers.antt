@@ -1,7 +1,6 @@
 -- One visit more is counted at its place and in all.
-use Rattle.std.proofs.Common.{◌≡◌, ◌∙◌, ap, sym, subst, refl, arith, ℕ, ◌^◌, ◌<◌, List, Option, take}
+use Rattle.std.proofs.Common.{◌≡◌, ◌∙◌, ap, sym, subst, refl, arith, ◌^◌, ◌<◌, List, Option}
 use Rattle.std.specs.Prelude.{unwrap_or}
-use Rattle.std.specs.List.{zip}
 use Rattle.std.proofs.lemmas.Grind.{common_steps}
 use Rattle.tomex_timing.specs.Waiting.{AreWithin}
 use Rattle.tomex_rvexec.specs.declared.step.Step.{Step}
@@ -45,8 +44,12 @@ loop-index-preserved g c =
     let step = c.index-steps-index.result in
     let had = kept c.or_insert.result.now _ _ _ c.new.result step c.or_insert.ensures.value c.in_ok-places.ensures.value (c.loop-index.invariant.places step.pc) c.new.ensures in
     record {
-      places = λ pc. grind (arith, common_steps, at_more c.args.steps.now c.args.waits.now c.loop-index.index step _ no_waits pc _ _ c.or_insert.result.now c.add-in-loop-index.new.self
-          c.loop-index-test.true c.requires.pairs c.index-steps-index.is refl ((c.in_ok-places.ensures.update.0 c.add-in-loop-index.new.self).0 pc) (c.loop-index.invariant.places pc) had c.add-in-loop-index.ensures);
+      places = λ pc. grind (
+        arith,
+        common_steps,
+        at_more c.args.steps.now c.args.waits.now c.loop-index.index step _ no_waits pc _ _ c.or_insert.result.now c.add-in-loop-index.new.self
+            c.loop-index-test.true c.requires.pairs c.index-steps-index.is refl ((c.in_ok-places.ensures.update.0 c.add-in-loop-index.new.self).0 pc) (c.loop-index.invariant.places pc) had c.add-in-loop-index.ensures,
+      );
       all = all_more c.args.steps.now c.args.waits.now c.loop-index.index step _ no_waits c.loop-index.all c.add.new.self
           c.loop-index-test.true c.requires.pairs c.index-steps-index.is refl c.loop-index.invariant.all c.add.ensures;
     }
