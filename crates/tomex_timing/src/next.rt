@@ -10,7 +10,7 @@ ghost use Rattle.tomex_timing.specs.Recurrence.{IsLeast};
 ghost use Rattle.tomex_timing.specs.Waiting.{clear_among, marks_among};
 ghost use Rattle.tomex_timing.specs.Window.{IsBy, IsSettled, IsNext, IsFirst, facts_of, issue_from, may_start, has_station_among, has_bus_among, is_free_among, end_among, ready_from, address_among};
 
-use crate::counting::{is_memory, past_conflicts};
+use crate::counting::{is_in, past_conflicts};
 use crate::searches::{find_end, find_issue, find_start, find_station};
 use crate::times::Times;
 use crate::window::{Facts, Latest, Live};
@@ -75,7 +75,7 @@ fn address_of(latest: &Latest, pool: Option<PoolId>, base: u64, issue: u64) -> O
     ensures cycle { result ≡ address_among latest.now pool base issue }
     ensures by { cycle_of result ≤ latest.now.end + 2 }
 {
-    if is_memory(pool) {
+    if is_in(PoolId::Load, pool) || is_in(PoolId::Store, pool) {
         Some(issue.max(base).max(latest.address) + 1)
     } else {
         None
