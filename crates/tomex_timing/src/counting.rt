@@ -5,7 +5,7 @@ ghost use Rattle.std.specs.List.{list_all};
 ghost use Rattle.tomex_rvexec.specs.Steps.{is_in, is_number};
 ghost use Rattle.tomex_timing.specs.History.{is_of};
 ghost use Rattle.tomex_timing.specs.Recurrence.{shares_byte};
-ghost use Rattle.tomex_timing.specs.Window.{IsBy, is_held_by, has_station_among, is_free_among, conflicts_with, is_finished_conflict, starts_in, has_unit_among, sends_in, has_bus_among};
+ghost use Rattle.tomex_timing.specs.Window.{IsBy, is_held_by, has_station_among, is_free_among, conflicts_with, is_finished_conflict, starts_in, sends_in};
 
 use crate::window::{Facts, Live};
 use tomex_config::Config;
@@ -102,20 +102,6 @@ pub(crate) fn has_station(row: &Config, live: &[Live], pool: Option<PoolId>, cyc
         None => true,
         Some(pool) => held_in(live, pool, cycle) < row.stations(pool) as usize,
     }
-}
-
-/// Whether a unit of the kind is left in the cycle.
-pub(crate) fn has_unit(row: &Config, live: &[Live], unit: UnitId, cycle: u64) -> bool
-    ensures { result ≡ has_unit_among row.now live.now unit cycle }
-{
-    started_in(live, unit, cycle) < row.units(unit) as usize
-}
-
-/// Whether a bus is left in the cycle.
-pub(crate) fn has_bus(row: &Config, live: &[Live], cycle: u64) -> bool
-    ensures { result ≡ has_bus_among row.now live.now cycle }
-{
-    sent_in(live, cycle) < row.buses() as usize
 }
 
 /// The cycle, or the one after the finish where that is to be waited for and later.
