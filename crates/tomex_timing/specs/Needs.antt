@@ -102,7 +102,7 @@ sum_over f (d ∷ older) = f older d + sum_over f older
 abbrev pub stalls : Row → Part → List Done → ℕ
 stalls row part h = sum_over (λ older d. waits_for part d (waits_of row older d)) h
 
--- and how long they wait for what is no part
+-- and how long they wait by a cause, as for an operand, which is no part
 abbrev pub stalls_by : (Waits → ℕ) → Row → List Done → ℕ
 stalls_by cause row h = sum_over (λ older d. cause (waits_of row older d)) h
 

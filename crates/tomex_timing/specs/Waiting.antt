@@ -80,8 +80,8 @@ abbrev pub buses_taken : List Live → Option ℕ → ℕ → ℕ
 buses_taken live dest t = if is_some dest then count_by (sends_in t) live + 1 else 0
 
 -- what a next step takes
-abbrev pub taken_by : Latest → Times → ℕ → ℕ → Taken
-taken_by latest at units buses = record {
+abbrev pub taken_with : Latest → Times → ℕ → ℕ → Taken
+taken_with latest at units buses = record {
   station = stations_up_to at.station;
   unit = units;
   bus = buses;
@@ -89,12 +89,12 @@ taken_by latest at units buses = record {
 }
 
 abbrev pub taken_from : Latest → Next → Taken
-taken_from latest next = taken_by latest next.at next.units next.buses
+taken_from latest next = taken_with latest next.at next.units next.buses
 
 -- by what is kept
 abbrev pub taken_among : List Live → Latest → Facts → Times → Taken
 taken_among live latest f at =
-    taken_by latest at (units_taken live f.unit at.start) (buses_taken live f.dest at.end)
+    taken_with latest at (units_taken live f.unit at.start) (buses_taken live f.dest at.end)
 
 -- before the first step
 abbrev pub nothing_needed : Needs

@@ -11,7 +11,7 @@ ghost use Rattle.tomex_timing.specs.Waiting.{clear_among, marks_among, units_tak
 ghost use Rattle.tomex_timing.specs.Window.{IsBy, IsSettled, IsNext, IsFirst, facts_of, issue_from, may_start, has_station_among, has_bus_among, is_free_among, end_among, ready_from, address_among};
 
 use crate::counting::{is_in, past_conflicts};
-use crate::searches::{Place, find_end, find_issue, find_start, find_station};
+use crate::searches::{Room, find_end, find_issue, find_start, find_station};
 use crate::times::Times;
 use crate::window::{Facts, Latest, Live};
 use tomex_config::Config;
@@ -104,7 +104,7 @@ fn start_of(
     unit: UnitId,
     ready: u64,
     bound: u64,
-) -> (u64, Place)
+) -> (u64, Room)
     requires row { IsRow row.now }
     requires live { All (IsBy bound) live.now }
     requires ready { ready ≤ bound + 3 }
@@ -119,7 +119,7 @@ fn start_of(
 }
 
 /// The end of a step that finishes.
-fn end_after(row: &Config, live: &[Live], dest: Option<u8>, finish: u64, bound: u64) -> Place
+fn end_after(row: &Config, live: &[Live], dest: Option<u8>, finish: u64, bound: u64) -> Room
     requires row { IsRow row.now }
     requires live { All (IsBy bound) live.now }
     requires finish { finish ≤ bound + 66 }
@@ -132,7 +132,7 @@ fn end_after(row: &Config, live: &[Live], dest: Option<u8>, finish: u64, bound: 
     if dest.is_some() {
         find_end(row, live, finish + 1, bound)
     } else {
-        Place {
+        Room {
             cycle: finish,
             taken: 0,
         }
@@ -149,6 +149,40 @@ fn station_of(row: &Config, live: &[Live], pool: Option<PoolId>, issue: u64) -> 
     match pool {
         None => None,
         Some(pool) => Some(find_station(row, live, pool, issue)),
+    }
+}
+
+/// A step that uses no unit starts, finishes and ends as it issues, and takes no bus.
+fn without_unit(from: u64, issue: u64, address: Option<u64>, station: Option<u8>) -> Next
+    ensures at { result.at ≡ record {
+      issue = issue;
+      address = address;
+      start = issue;
+      finish = issue;
+      end = issue;
+      station = station;
+    } }
+    ensures marks { result.marks ≡ record { from = from; operands = issue; ready = issue; clear = issue } }
+    ensures units { result.units ≡ 0 }
+    ensures buses { result.buses ≡ 0 }
+{
+    Next {
+        at: Times {
+            issue,
+            address,
+            start: issue,
+            finish: issue,
+            end: issue,
+            station,
+        },
+        marks: Marks {
+            from,
+            operands: issue,
+            ready: issue,
+            clear: issue,
+        },
+        units: 0,
+        buses: 0,
     }
 }
 
@@ -178,24 +212,7 @@ pub(crate) fn next_step(
     let address = address_of(latest, facts.pool, j, issue);
     let station = station_of(row, live, facts.pool, issue);
     let Some(unit) = facts.unit else {
-        return Next {
-            at: Times {
-                issue,
-                address,
-                start: issue,
-                finish: issue,
-                end: issue,
-                station,
-            },
-            marks: Marks {
-                from,
-                operands: issue,
-                ready: issue,
-                clear: issue,
-            },
-            units: 0,
-            buses: 0,
-        };
+        return without_unit(from, issue, address, station);
     };
     let operands = issue.max(j.max(k)) + 1;
     let ready = ready_of(issue, address, j, k);

@@ -12,7 +12,7 @@ use tomex_rvdec::{PoolId, UnitId};
 
 /// A cycle with a unit or a bus left, and how many are taken in it with that one.
 #[derive(Clone, Copy)]
-pub(crate) struct Place {
+pub(crate) struct Room {
     pub cycle: u64,
     pub taken: u64,
 }
@@ -42,7 +42,7 @@ pub(crate) fn find_issue(
 
 /// The first cycle from `from` on with a unit of the kind left, and how many operations of the kind
 /// start in it with the one that takes it.
-pub(crate) fn find_start(row: &Config, live: &[Live], unit: UnitId, from: u64, bound: u64) -> Place
+pub(crate) fn find_start(row: &Config, live: &[Live], unit: UnitId, from: u64, bound: u64) -> Room
     requires row { IsRow row.now }
     requires live { All (IsBy bound) live.now }
     requires from { from ≤ bound + 3 }
@@ -55,7 +55,7 @@ pub(crate) fn find_start(row: &Config, live: &[Live], unit: UnitId, from: u64, b
     loop {
         let started = started_in(live, unit, cycle) as u64;
         if started < u64::from(row.units(unit)) {
-            return Place {
+            return Room {
                 cycle,
                 taken: started + 1,
             };
@@ -66,7 +66,7 @@ pub(crate) fn find_start(row: &Config, live: &[Live], unit: UnitId, from: u64, b
 
 /// The first cycle from `from` on with a bus left, and how many results are on buses in it with the one
 /// that takes it.
-pub(crate) fn find_end(row: &Config, live: &[Live], from: u64, bound: u64) -> Place
+pub(crate) fn find_end(row: &Config, live: &[Live], from: u64, bound: u64) -> Room
     requires row { IsRow row.now }
     requires live { All (IsBy bound) live.now }
     requires from { from ≤ bound + 67 }
@@ -79,7 +79,7 @@ pub(crate) fn find_end(row: &Config, live: &[Live], from: u64, bound: u64) -> Pl
     loop {
         let sent = sent_in(live, cycle) as u64;
         if sent < u64::from(row.buses()) {
-            return Place {
+            return Room {
                 cycle,
                 taken: sent + 1,
             };
