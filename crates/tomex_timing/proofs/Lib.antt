@@ -14,6 +14,7 @@ pub mod Holders
 pub mod Places
 pub mod Pigeons
 pub mod Taken
+pub mod InUse
 pub mod Telling
 pub mod Serving
 pub mod Searching

@@ -39,7 +39,7 @@ is_next row xs x at live latest good small_j small_k kept next =
 
 turn : (row : Row) (xs : List Step) (x : Step) (facts : Facts) (at : Times) (live : List Live) (latest : Latest) (needs : Needs) (waits : Waits) (taken : Taken)
     → IsRow row → facts ≡ facts_of x → ForSome (j_of x) (λ o. o.register < 32) → ForSome (k_of x) (λ o. o.register < 32) → IsKept (history row xs) live latest → IsNext row live latest x at
-    → waits ≡ waits_by latest (marks_among row live latest x at) at → taken ≡ taken_among live latest facts at → AreNeeds row (history row xs) needs → AreNeeds row (history row (xs ++ (x ∷ []))) (needs_after facts waits taken at needs)
+    → waits ≡ waits_by latest (marks_among row live latest x at) at → taken ≡ taken_among live latest (facts_of x) at → AreNeeds row (history row xs) needs → AreNeeds row (history row (xs ++ (x ∷ []))) (needs_after facts waits taken at needs)
 turn row xs x facts at live latest needs waits taken good of small_j small_k kept next w t are =
     let timed : AreTimed row (history row xs) = are_timed row xs good in
     let close = closed row (history row xs) good timed in
@@ -48,12 +48,12 @@ turn row xs x facts at live latest needs waits taken good of small_j small_k kep
     let d : Done = record { step = x; at = at } in
     let m : history row (xs ++ (x ∷ [])) ≡ record { step = x; at = at } ∷ history row xs = rw same (history_more row xs x) in
     let v = waits_are row (history row xs) (record { step = x; at = at }) live latest small_j small_k good timed close kept is in
-    rw (m, of) (needs_more row (history row xs) (record { step = x; at = at }) needs waits taken are (w ∙ v) (λ part. rw (t, of) (taken_is row (history row xs) (record { step = x; at = at }) live latest part good timed close kept is)))
+    rw (m, of) (needs_more row (history row xs) (record { step = x; at = at }) needs waits taken are (w ∙ v) (λ part. rw t (taken_is row (history row xs) (record { step = x; at = at }) live latest part good timed close kept is)))
 
 pub needs_turn : (row : Row) (steps : List Step) (i : ℕ) (x : Step) (facts : Facts) (at : Times) (live : List Live) (latest : Latest) (needs : Needs) (waits : Waits) (taken : Taken)
     → IsRow row → i < length steps → slice_index_or steps i x ≡ x → facts ≡ facts_of x → ForSome (j_of x) (λ o. o.register < 32) → ForSome (k_of x) (λ o. o.register < 32)
     → IsKept (history row (take i steps)) live latest → IsNext row live latest x at
-    → waits ≡ waits_by latest (marks_among row live latest x at) at → taken ≡ taken_among live latest facts at → AreNeeds row (history row (take i steps)) needs → AreNeeds row (history row (take (i + 1) steps)) (needs_after facts waits taken at needs)
+    → waits ≡ waits_by latest (marks_among row live latest x at) at → taken ≡ taken_among live latest (facts_of x) at → AreNeeds row (history row (take i steps)) needs → AreNeeds row (history row (take (i + 1) steps)) (needs_after facts waits taken at needs)
 needs_turn row steps i x facts at live latest needs waits taken good l is of small_j small_k kept next w t are =
     let m : take (i + 1) steps ≡ take i steps ++ (x ∷ []) = take_more steps i x l ∙ ap (λ y. take i steps ++ (y ∷ [])) is in
     rw m (turn row (take i steps) x facts at live latest needs waits taken good of small_j small_k kept next w t are)

@@ -128,3 +128,8 @@ all_low row (d ∷ h) pool t m timed l =
 pub stations_fit : (row : Row) (h : List Done) (pool : PoolId) (t n m : ℕ) → AreTimed row h → last_issue h ≤ t → is_free pool h t n ≡ true → n < m → peak (Stations pool) h ≤ m → count_by (is_held pool t) h < m
 stations_fit row h pool t n m timed l free below top =
     rw (all_low row h pool t m timed top) (fewer (is_held pool t) (λ d. d.at.station) h m n (λ k. one_holder row h pool t k timed l) below (none_pass (is_holder pool t n) h free))
+
+-- no cycle from the last issue on has more stations held than the greatest number up to one's own
+pub stations_held : (row : Row) (h : List Done) (pool : PoolId) (t : ℕ) → AreTimed row h → last_issue h ≤ t → count_by (is_held pool t) h ≤ peak (Stations pool) h
+stations_held row h pool t timed l =
+    rw (all_low row h pool t (peak (Stations pool) h) timed (omega arith)) (few (is_held pool t) (λ d. d.at.station) h (peak (Stations pool) h) (λ k. one_holder row h pool t k timed l))

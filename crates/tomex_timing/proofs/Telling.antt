@@ -1,8 +1,8 @@
 -- What needs tell of another row.
-use Rattle.std.proofs.Common.{◌≤◌, ◌≡◌, ◌⊎◌, Bool, true, false, sym, inl, inr, List}
-use Rattle.std.specs.Prelude.{nat_le, ◌==◌, ◌&&◌, ◌||◌}
+use Rattle.std.proofs.Common.{ℕ, zero, suc, ◌≤◌, ◌≡◌, ◌⊎◌, Bool, true, false, refl, sym, inl, inr, List, [], ◌∷◌, Some}
+use Rattle.std.specs.Prelude.{nat_le, ◌==◌, ◌&&◌, ◌||◌, slice_get}
+use Rattle.std.specs.List.{list_all}
 use Rattle.std.proofs.lemmas.Bool.{and_parts, eqb-true, leb-true}
-use Rattle.tomex_rvdec.specs.declared.pool.PoolId.{PoolId}
 use Rattle.tomex_rvdec.specs.declared.pool.PoolId.TheVariants as pools
 use Rattle.tomex_rvdec.specs.declared.pool.UnitId.{UnitId}
 use Rattle.tomex_rvdec.specs.declared.pool.UnitId.TheVariants as units
@@ -12,7 +12,7 @@ use Rattle.tomex_timing.specs.declared.part.Part.{Part}
 use Rattle.tomex_timing.specs.declared.part.Part.TheVariants.{Stations, Units, Buses, Width}
 use Rattle.tomex_timing.specs.declared.times.Done.{Done}
 use Rattle.tomex_timing.specs.Laws.{NeedsTell}
-use Rattle.tomex_timing.specs.Needs.{AreNeeds, allows, allows_units, suffice, count_of, peak, need_of, stalls}
+use Rattle.tomex_timing.specs.Needs.{AreNeeds, all_parts, all_units, allows, allows_latency, count_of, peak, need_of, stalls}
 
 either : (a b : Bool) → (a || b) ≡ true → (a ≡ true) ⊎ (b ≡ true)
 either true b h = inl h
@@ -28,59 +28,44 @@ part_told row other h needs part are told_so = elim (either (count_of row part =
       inr (none, top)
 ]
 
-latency_told : (row other : Row) (h : List Done) (needs : Needs) (unit : UnitId) → AreNeeds row h needs → ((option_of row unit).latency == (option_of other unit).latency || (need_of needs (Units unit)).peak == 0) ≡ true → ((option_of other unit).latency ≡ (option_of row unit).latency) ⊎ (peak (Units unit) h ≡ 0)
+latency_told : (row other : Row) (h : List Done) (needs : Needs) (unit : UnitId) → AreNeeds row h needs → allows_latency needs row other unit ≡ true → ((option_of other unit).latency ≡ (option_of row unit).latency) ⊎ (peak (Units unit) h ≡ 0)
 latency_told row other h needs unit are told_so = elim (either ((option_of row unit).latency == (option_of other unit).latency) ((need_of needs (Units unit)).peak == 0) told_so) [
   | inl e ↦ inl (sym (eqb-true (option_of row unit).latency (option_of other unit).latency e))
   | inr e ↦ inr (rw (are.parts (Units unit)) at (eqb-true (need_of needs (Units unit)).peak 0 e))
 ]
 
-record Told (needs : Needs) (own other : Row) : Type 0 where
-  stations : (pool : PoolId) → allows needs own other (Stations pool) ≡ true
-  units : (unit : UnitId) → allows_units needs own other unit ≡ true
-  buses : allows needs own other Buses ≡ true
-  width : allows needs own other Width ≡ true
+-- what all of a list pass the one after so many passes
+at_place : {X : Type 0} (p : X → Bool) (xs : List X) (n : ℕ) (x : X) → list_all p xs ≡ true → slice_get xs n ≡ Some x → p x ≡ true
+at_place p [] n x all here = absurd (cc)
+at_place p (y ∷ xs) zero x all here = let e : y ≡ x = cc in rw (← e) (and_parts (p y) (list_all p xs) all).0
+at_place p (y ∷ xs) (suc n) x all here = at_place p xs n x (and_parts (p y) (list_all p xs) all).1 here
 
-told : (needs : Needs) (own other : Row) → suffice needs own other ≡ true → Told needs own other
-told needs own other told_so =
-    let a = and_parts (allows needs own other (Stations pools.Alu)) _ told_so in
-    let b = and_parts (allows needs own other (Stations pools.Mul)) _ a.1 in
-    let c = and_parts (allows needs own other (Stations pools.Div)) _ b.1 in
-    let d = and_parts (allows needs own other (Stations pools.Load)) _ c.1 in
-    let e = and_parts (allows needs own other (Stations pools.Store)) _ d.1 in
-    let f = and_parts (allows needs own other (Stations pools.Bru)) _ e.1 in
-    let g = and_parts (allows_units needs own other units.Alu) _ f.1 in
-    let h = and_parts (allows_units needs own other units.Mul) _ g.1 in
-    let i = and_parts (allows_units needs own other units.Div) _ h.1 in
-    let j = and_parts (allows_units needs own other units.Mem) _ i.1 in
-    let k = and_parts (allows_units needs own other units.Bru) _ j.1 in
-    let l = and_parts (allows needs own other Buses) (allows needs own other Width) k.1 in
-    record { stations = by_pool a.0 b.0 c.0 d.0 e.0 f.0; units = by_unit g.0 h.0 i.0 j.0 k.0; buses = l.0; width = l.1 }
-  where
-    by_pool : allows needs own other (Stations pools.Alu) ≡ true → allows needs own other (Stations pools.Mul) ≡ true → allows needs own other (Stations pools.Div) ≡ true → allows needs own other (Stations pools.Load) ≡ true → allows needs own other (Stations pools.Store) ≡ true → allows needs own other (Stations pools.Bru) ≡ true → (pool : PoolId) → allows needs own other (Stations pool) ≡ true
-    by_pool a b c d e f pools.Alu = a
-    by_pool a b c d e f pools.Mul = b
-    by_pool a b c d e f pools.Div = c
-    by_pool a b c d e f pools.Load = d
-    by_pool a b c d e f pools.Store = e
-    by_pool a b c d e f pools.Bru = f
+part_listed : (p : Part → Bool) (part : Part) → list_all p all_parts ≡ true → p part ≡ true
+part_listed p (Stations pools.Alu) all = at_place p all_parts 0 _ all refl
+part_listed p (Stations pools.Mul) all = at_place p all_parts 1 _ all refl
+part_listed p (Stations pools.Div) all = at_place p all_parts 2 _ all refl
+part_listed p (Stations pools.Load) all = at_place p all_parts 3 _ all refl
+part_listed p (Stations pools.Store) all = at_place p all_parts 4 _ all refl
+part_listed p (Stations pools.Bru) all = at_place p all_parts 5 _ all refl
+part_listed p (Units units.Alu) all = at_place p all_parts 6 _ all refl
+part_listed p (Units units.Mul) all = at_place p all_parts 7 _ all refl
+part_listed p (Units units.Div) all = at_place p all_parts 8 _ all refl
+part_listed p (Units units.Mem) all = at_place p all_parts 9 _ all refl
+part_listed p (Units units.Bru) all = at_place p all_parts 10 _ all refl
+part_listed p Buses all = at_place p all_parts 11 _ all refl
+part_listed p Width all = at_place p all_parts 12 _ all refl
 
-    by_unit : allows_units needs own other units.Alu ≡ true → allows_units needs own other units.Mul ≡ true → allows_units needs own other units.Div ≡ true → allows_units needs own other units.Mem ≡ true → allows_units needs own other units.Bru ≡ true → (unit : UnitId) → allows_units needs own other unit ≡ true
-    by_unit a b c d e units.Alu = a
-    by_unit a b c d e units.Mul = b
-    by_unit a b c d e units.Div = c
-    by_unit a b c d e units.Mem = d
-    by_unit a b c d e units.Bru = e
-
-each_part : (needs : Needs) (row other : Row) → Told needs row other → (part : Part) → allows needs row other part ≡ true
-each_part needs row other t (Stations pool) = t.stations pool
-each_part needs row other t (Units unit) = (and_parts (allows needs row other (Units unit)) _ (t.units unit)).0
-each_part needs row other t Buses = t.buses
-each_part needs row other t Width = t.width
+unit_listed : (p : UnitId → Bool) (unit : UnitId) → list_all p all_units ≡ true → p unit ≡ true
+unit_listed p units.Alu all = at_place p all_units 0 _ all refl
+unit_listed p units.Mul all = at_place p all_units 1 _ all refl
+unit_listed p units.Div all = at_place p all_units 2 _ all refl
+unit_listed p units.Mem all = at_place p all_units 3 _ all refl
+unit_listed p units.Bru all = at_place p all_units 4 _ all refl
 
 pub needs_tell : NeedsTell
 needs_tell row other h needs are told_so =
-    let t = told needs row other told_so in
+    let told = and_parts (list_all (allows needs row other) all_parts) (list_all (allows_latency needs row other) all_units) told_so in
     record {
-      parts = λ part. part_told row other h needs part are (each_part needs row other t part);
-      latencies = λ unit. latency_told row other h needs unit are (and_parts (allows needs row other (Units unit)) _ (t.units unit)).1;
+      parts = λ part. part_told row other h needs part are (part_listed (allows needs row other) part told.0);
+      latencies = λ unit. latency_told row other h needs unit are (unit_listed (allows_latency needs row other) unit told.1);
     }

@@ -144,6 +144,11 @@ ConflictsAreFinished = (row : Row) (d : Done) (older : List Done) → IsTimed ro
 abbrev pub PeakIsWithin : Type 0
 PeakIsWithin = (row : Row) (h : List Done) (part : Part) → AreTimed row h → peak part h ≤ count_of row part
 
+-- and all that its row has, where steps wait for it
+abbrev pub StalledPartsAreFull : Type 0
+StalledPartsAreFull = (row : Row) (h : List Done) (part : Part) → AreTimed row h
+    → 0 < stalls row part h → peak part h ≡ count_of row part
+
 -- a row that serves a history as its own row does gives each step of it the same times
 abbrev pub ServedTimesAreSame : Type 0
 ServedTimesAreSame = (row other : Row) (h : List Done) → AreTimed row h → Serves row other h → AreTimed other h

@@ -2,7 +2,7 @@
 -- waits is charged to one thing: the first that it lacks, in the order below. This order is the project's choice; the
 -- last thing is charged with what is left, since a step that lacked nothing would have gone on.
 use Rattle.std.specs.Prelude.{ℕ, ◌+◌, ◌-◌, ◌≤◌, ◌≡◌, ◌⊎◌, ◌==◌, nat_lt, nat_le, Bool, not, ◌&&◌, ◌||◌, if◌then◌else◌, List, [], ◌∷◌, Option, Some, None, count_by, is_some, max, length, reverse, slice_index_or}
-use Rattle.std.specs.List.{range_with_len}
+use Rattle.std.specs.List.{list_all, range_with_len}
 use Rattle.tomex_rvdec.specs.Parts.{place_of_pool, place_of_unit}
 use Rattle.tomex_rvdec.specs.declared.pool.PoolId.TheVariants as pools
 use Rattle.tomex_rvdec.specs.declared.pool.UnitId.{UnitId}
@@ -102,7 +102,7 @@ sum_over f (d ∷ older) = f older d + sum_over f older
 abbrev pub stalls : Row → Part → List Done → ℕ
 stalls row part h = sum_over (λ older d. waits_for part d (waits_of row older d)) h
 
--- and how long they wait for what is no part
+-- and how long they wait by a cause, as for an operand, which is no part
 abbrev pub stalls_by : (Waits → ℕ) → Row → List Done → ℕ
 stalls_by cause row h = sum_over (λ older d. cause (waits_of row older d)) h
 
@@ -182,18 +182,22 @@ allows needs own other part =
     count_of own part == count_of other part
     || ((need_of needs part).stalls == 0 && nat_le (need_of needs part).peak (count_of other part))
 
--- and that units of a kind may be as many, and of the latency
-abbrev pub allows_units : Needs → Row → Row → UnitId → Bool
-allows_units needs own other unit =
-    allows needs own other (Units unit)
-    && ((option_of own unit).latency == (option_of other unit).latency || (need_of needs (Units unit)).peak == 0)
+-- and that units of a kind may have the latency that they have there
+abbrev pub allows_latency : Needs → Row → Row → UnitId → Bool
+allows_latency needs own other unit =
+    (option_of own unit).latency == (option_of other unit).latency || (need_of needs (Units unit)).peak == 0
 
--- and all that there is
+-- all parts, in the order in which reports list them
+abbrev pub all_parts : List Part
+all_parts =
+    Stations pools.Alu ∷ Stations pools.Mul ∷ Stations pools.Div ∷ Stations pools.Load ∷ Stations pools.Store
+    ∷ Stations pools.Bru ∷ Units units.Alu ∷ Units units.Mul ∷ Units units.Div ∷ Units units.Mem ∷ Units units.Bru
+    ∷ Buses ∷ Width ∷ []
+
+abbrev pub all_units : List UnitId
+all_units = units.Alu ∷ units.Mul ∷ units.Div ∷ units.Mem ∷ units.Bru ∷ []
+
+-- and so all that the rows have
 abbrev pub suffice : Needs → Row → Row → Bool
 suffice needs own other =
-    allows needs own other (Stations pools.Alu) && (allows needs own other (Stations pools.Mul)
-    && (allows needs own other (Stations pools.Div) && (allows needs own other (Stations pools.Load)
-    && (allows needs own other (Stations pools.Store) && (allows needs own other (Stations pools.Bru)
-    && (allows_units needs own other units.Alu && (allows_units needs own other units.Mul
-    && (allows_units needs own other units.Div && (allows_units needs own other units.Mem
-    && (allows_units needs own other units.Bru && (allows needs own other Buses && allows needs own other Width)))))))))))
+    list_all (allows needs own other) all_parts && list_all (allows_latency needs own other) all_units

@@ -9,6 +9,7 @@ use Rattle.tomex_rvexec.specs.declared.step.Step.{Step}
 use Rattle.tomex_config.specs.Row.{Row}
 use Rattle.tomex_timing.specs.declared.needs.Needs.{Needs}
 use Rattle.tomex_timing.specs.declared.next.Marks.{Marks}
+use Rattle.tomex_timing.specs.declared.next.Next.{Next}
 use Rattle.tomex_timing.specs.declared.part.Need.{Need}
 use Rattle.tomex_timing.specs.declared.part.Part.{Part}
 use Rattle.tomex_timing.specs.declared.part.Waits.{Waits}
@@ -70,18 +71,30 @@ waits_by latest marks at = record {
 abbrev pub live_after : Facts → Times → List Live → List Live
 live_after f at live = filter (λ l. nat_le at.issue l.end) live ++ (live_from f at ∷ [])
 
+-- how many units of a kind are taken in a cycle with a next step's own, and how many buses
 abbrev pub units_taken : List Live → Option UnitId → ℕ → ℕ
 units_taken live None t = 0
 units_taken live (Some unit) t = count_by (starts_in unit t) live + 1
 
+abbrev pub buses_taken : List Live → Option ℕ → ℕ → ℕ
+buses_taken live dest t = if is_some dest then count_by (sends_in t) live + 1 else 0
+
 -- what a next step takes
-abbrev pub taken_among : List Live → Latest → Facts → Times → Taken
-taken_among live latest f at = record {
+abbrev pub taken_with : Latest → Times → ℕ → ℕ → Taken
+taken_with latest at units buses = record {
   station = stations_up_to at.station;
-  unit = units_taken live f.unit at.start;
-  bus = if is_some f.dest then count_by (sends_in at.end) live + 1 else 0;
+  unit = units;
+  bus = buses;
   width = if at.issue == latest.issue then latest.issued + 1 else 1;
 }
+
+abbrev pub taken_from : Latest → Next → Taken
+taken_from latest next = taken_with latest next.at next.units next.buses
+
+-- by what is kept
+abbrev pub taken_among : List Live → Latest → Facts → Times → Taken
+taken_among live latest f at =
+    taken_with latest at (units_taken live f.unit at.start) (buses_taken live f.dest at.end)
 
 -- before the first step
 abbrev pub nothing_needed : Needs

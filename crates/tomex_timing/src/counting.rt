@@ -5,7 +5,7 @@ ghost use Rattle.std.specs.List.{list_all};
 ghost use Rattle.tomex_rvexec.specs.Steps.{is_in, is_number};
 ghost use Rattle.tomex_timing.specs.History.{is_of};
 ghost use Rattle.tomex_timing.specs.Recurrence.{shares_byte};
-ghost use Rattle.tomex_timing.specs.Window.{IsBy, is_held_by, has_station_among, is_free_among, conflicts_with, is_finished_conflict, starts_in, has_unit_among, sends_in, has_bus_among, is_memory_pool};
+ghost use Rattle.tomex_timing.specs.Window.{IsBy, is_held_by, has_station_among, is_free_among, conflicts_with, is_finished_conflict, starts_in, sends_in};
 
 use crate::window::{Facts, Live};
 use tomex_config::Config;
@@ -13,7 +13,7 @@ use tomex_rvdec::{PoolId, UnitId};
 use tomex_rvexec::ByteRange;
 
 /// Whether what takes a station takes one of this pool.
-fn is_in(pool: PoolId, other: Option<PoolId>) -> bool
+pub(crate) fn is_in(pool: PoolId, other: Option<PoolId>) -> bool
     ensures { result ≡ is_in pool other }
 {
     match other {
@@ -39,13 +39,6 @@ fn is_number(station: Option<u8>, number: u8) -> bool
         None => false,
         Some(station) => station == number,
     }
-}
-
-/// Whether the pool is that of the loads or that of the stores.
-pub(crate) fn is_memory(pool: Option<PoolId>) -> bool
-    ensures { result ≡ is_memory_pool pool }
-{
-    is_in(PoolId::Load, pool) || is_in(PoolId::Store, pool)
 }
 
 /// Whether two accesses share a byte.
@@ -109,20 +102,6 @@ pub(crate) fn has_station(row: &Config, live: &[Live], pool: Option<PoolId>, cyc
         None => true,
         Some(pool) => held_in(live, pool, cycle) < row.stations(pool) as usize,
     }
-}
-
-/// Whether a unit of the kind is left in the cycle.
-pub(crate) fn has_unit(row: &Config, live: &[Live], unit: UnitId, cycle: u64) -> bool
-    ensures { result ≡ has_unit_among row.now live.now unit cycle }
-{
-    started_in(live, unit, cycle) < row.units(unit) as usize
-}
-
-/// Whether a bus is left in the cycle.
-pub(crate) fn has_bus(row: &Config, live: &[Live], cycle: u64) -> bool
-    ensures { result ≡ has_bus_among row.now live.now cycle }
-{
-    sent_in(live, cycle) < row.buses() as usize
 }
 
 /// The cycle, or the one after the finish where that is to be waited for and later.

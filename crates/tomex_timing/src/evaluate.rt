@@ -111,7 +111,7 @@ pub fn needs<A: Allocator>(alloc: A, steps: &[Step], row: &Config) -> Result<Nee
         let facts = Facts::of(step);
         let next = next_step(row, &live, &latest, step, &facts);
         let waits = waits_of(&latest, &next);
-        let taken = taken_by(&live, &latest, &facts, &next.at);
+        let taken = taken_by(&latest, &next);
         needs.note(&facts, &waits, &taken, &next.at);
         keep(&mut live, &mut latest, facts, &next.at)?;
     }

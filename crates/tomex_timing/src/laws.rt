@@ -1,6 +1,6 @@
 //! Laws of the recurrence. These functions do nothing: their contracts are the laws.
 
-ghost use Rattle.tomex_timing.specs.Laws.{TimesExist, TimesAreUnique, SearchIsTimed, TimedIsSearch, TotalIsBounded, TotalIsGreatestEnd, YoungerChangeNothing, IssuesAlone, IssuesRise, IssuesStandInOrder, IssuesFitTheWidth, TimesAreInReach, StartsComeLater, ResultsComeLater, AddressesRise, NumbersAreLow, StationsAreApart, StationsAreThere, AccessesConflict, ConflictsAreFinished, PeakIsWithin, NeedsTell, ServedTimesAreSame, ServedRunsAreSame, IssueCyclesAddUp, StationCyclesAddUp, WaitsAddUp, StationWaitsAreStalls, UnitWaitsAreStalls, BusWaitsAreStalls, WidthWaitsAreStalls};
+ghost use Rattle.tomex_timing.specs.Laws.{TimesExist, TimesAreUnique, SearchIsTimed, TimedIsSearch, TotalIsBounded, TotalIsGreatestEnd, YoungerChangeNothing, IssuesAlone, IssuesRise, IssuesStandInOrder, IssuesFitTheWidth, TimesAreInReach, StartsComeLater, ResultsComeLater, AddressesRise, NumbersAreLow, StationsAreApart, StationsAreThere, AccessesConflict, ConflictsAreFinished, PeakIsWithin, StalledPartsAreFull, NeedsTell, ServedTimesAreSame, ServedRunsAreSame, IssueCyclesAddUp, StationCyclesAddUp, WaitsAddUp, StationWaitsAreStalls, UnitWaitsAreStalls, BusWaitsAreStalls, WidthWaitsAreStalls};
 
 /// Each step of a run has times, and only one set of them.
 pub fn each_step_has_one_set_of_times()
@@ -65,11 +65,12 @@ pub fn accesses_of_one_byte_wait()
     ensures wait { ConflictsAreFinished }
 {}
 
-/// A second row gives a run the times of the first where each part that the run waits for is as many on
-/// both, each other part is no fewer than the run takes of it at once, and each kind of unit that it
-/// uses has the same latency.
+/// A run takes all of each part that it waits for, and a second row gives it the same times where that
+/// part is as many on both, each other part is no fewer than the run takes of it at once, and each kind
+/// of unit that it uses has the same latency.
 pub fn parts_without_stalls_may_differ()
     ensures peak { PeakIsWithin }
+    ensures full { StalledPartsAreFull }
     ensures times { ServedTimesAreSame }
     ensures runs { ServedRunsAreSame }
     ensures needs { NeedsTell }

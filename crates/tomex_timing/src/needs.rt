@@ -4,7 +4,7 @@ ghost use Rattle.std.specs.Prelude.{◌≡◌, ◌+◌, ◌-◌, ◌^◌, ◌<�
 ghost use Rattle.tomex_rvdec.specs.Parts.{place_of_pool, place_of_unit};
 ghost use Rattle.tomex_rvdec.specs.declared.pool.PoolId.{PoolId};
 ghost use Rattle.tomex_rvdec.specs.declared.pool.UnitId.{UnitId};
-ghost use Rattle.tomex_timing.specs.Needs.{no_need, need_of, allows, allows_units, suffice};
+ghost use Rattle.tomex_timing.specs.Needs.{no_need, need_of, allows, suffice};
 ghost use Rattle.tomex_timing.specs.Waiting.{AreWithin, IsWithin, nothing_needed, need_after, needs_after, stations_after, units_after};
 
 use crate::part::{Need, Part, Waits};
@@ -119,32 +119,16 @@ impl Needs {
         part.count(own) == count || (need.stalls == 0 && need.peak <= count)
     }
 
-    /// Whether units of a kind may be as many, and of the latency, as on another row.
-    fn allows_units(&self, unit: UnitId, own: &Config, other: &Config) -> bool
-        ensures { result ≡ allows_units self.now own.now other.now unit }
-    {
-        self.allows(Part::Units(unit), own, other)
-            && (own.latency(unit) == other.latency(unit) || self.units[unit.place()].peak == 0)
-    }
-
     /// Whether these needs, of a run on its own row, tell that each step of the run has the same times on
     /// another row. Then the run's total there is `total`.
     pub fn suffice(&self, own: &Config, other: &Config) -> bool
         ensures { result ≡ suffice self.now own.now other.now }
     {
-        self.allows(Part::Stations(PoolId::Alu), own, other)
-            && self.allows(Part::Stations(PoolId::Mul), own, other)
-            && self.allows(Part::Stations(PoolId::Div), own, other)
-            && self.allows(Part::Stations(PoolId::Load), own, other)
-            && self.allows(Part::Stations(PoolId::Store), own, other)
-            && self.allows(Part::Stations(PoolId::Bru), own, other)
-            && self.allows_units(UnitId::Alu, own, other)
-            && self.allows_units(UnitId::Mul, own, other)
-            && self.allows_units(UnitId::Div, own, other)
-            && self.allows_units(UnitId::Mem, own, other)
-            && self.allows_units(UnitId::Bru, own, other)
-            && self.allows(Part::Buses, own, other)
-            && self.allows(Part::Width, own, other)
+        Part::ALL.iter().all(|part| self.allows(*part, own, other))
+            && UnitId::ALL.iter().all(|unit| {
+                own.latency(*unit) == other.latency(*unit)
+                    || self.need(Part::Units(*unit)).peak == 0
+            })
     }
 
     /// Notes a step with its waits and with what it takes.

@@ -1,13 +1,11 @@
 //! How long a next step waits, and what it takes.
 
 ghost use Rattle.std.specs.Prelude.{◌≡◌, ◌^◌, ◌<◌};
-ghost use Rattle.tomex_timing.specs.Waiting.{waits_by, taken_among};
+ghost use Rattle.tomex_timing.specs.Waiting.{waits_by, taken_from};
 
-use crate::counting::{sent_in, started_in};
 use crate::next::Next;
 use crate::part::Waits;
-use crate::times::Times;
-use crate::window::{Facts, Latest, Live};
+use crate::window::Latest;
 
 /// What one step takes of each part, with what others take of it at the same time: the stations up to
 /// its own, the operations that start with it, the results that end with it, the steps that issue with
@@ -42,32 +40,23 @@ pub(crate) fn waits_of(latest: &Latest, next: &Next) -> Waits
 }
 
 /// What a next step takes of each part.
-pub(crate) fn taken_by(live: &[Live], latest: &Latest, facts: &Facts, at: &Times) -> Taken
+pub(crate) fn taken_by(latest: &Latest, next: &Next) -> Taken
     requires few { latest.now.issued < 2 ^ 63 }
-    ensures { result ≡ taken_among live.now latest.now facts.now at.now }
+    ensures { result ≡ taken_from latest.now next.now }
 {
-    let station = match at.station {
+    let station = match next.at.station {
         None => 0,
         Some(number) => u64::from(number) + 1,
     };
-    let unit = match facts.unit {
-        None => 0,
-        Some(unit) => started_in(live, unit, at.start) as u64 + 1,
-    };
-    let bus = if facts.dest.is_some() {
-        sent_in(live, at.end) as u64 + 1
-    } else {
-        0
-    };
-    let width = if at.issue == latest.issue {
+    let width = if next.at.issue == latest.issue {
         latest.issued + 1
     } else {
         1
     };
     Taken {
         station,
-        unit,
-        bus,
+        unit: next.units,
+        bus: next.buses,
         width,
     }
 }

@@ -1,4 +1,5 @@
 -- Step by step: where the first row's test fails for a part, that part is as many on the second.
+use Rattle.tomex_timing.proofs.InUse.{stalled_full}
 use Rattle.tomex_timing.proofs.Serving.{serves_timed, serves_runs}
 use Rattle.tomex_timing.proofs.Taken.{peak_within}
 use Rattle.tomex_timing.proofs.Telling.{needs_tell}
@@ -15,3 +16,6 @@ returns-clause-peak c = peak_within
 
 pub returns-clause-needs : goal.returns-clause-needs
 returns-clause-needs c = needs_tell
+
+pub returns-clause-full : goal.returns-clause-full
+returns-clause-full c = stalled_full

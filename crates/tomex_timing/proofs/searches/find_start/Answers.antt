@@ -15,7 +15,7 @@ loop-unit-preserved c =
     let fails : has_unit_among c.args.row.now c.args.live.now c.args.unit c.loop-unit.cycle ≡ false = search rules in
     goes_on (has_unit_among c.args.row.now c.args.live.now c.args.unit) c.args.from c.loop-unit.cycle (c.args.bound + 3) (unit_after c.args.row.now c.args.live.now c.args.unit c.args.bound (c.args.bound + 3) c.requires.row c.requires.live (omega arith)) c.loop-unit.invariant fails
 
-pub returns-clause-first : goal.returns-clause-first
-returns-clause-first c =
+pub returns-then-started-from-clause-first : goal.returns-then-started-from-clause-first
+returns-then-started-from-clause-first c =
     let here : has_unit_among c.args.row.now c.args.live.now c.args.unit c.loop-unit.cycle ≡ true = search rules in
     found (has_unit_among c.args.row.now c.args.live.now c.args.unit) c.args.from c.loop-unit.cycle (c.args.bound + 3) c.loop-unit.invariant here
