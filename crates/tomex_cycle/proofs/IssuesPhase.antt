@@ -1,5 +1,6 @@
 -- The issues of a cycle: the first, and those that the width leaves after it.
 use Rattle.std.proofs.Common.{ℕ, suc, ◌+◌, ◌%◌, ◌<◌, ◌≤◌, ◌≡◌, ◌∙◌, Bool, true, false, arith, refl, List, [], ◌∷◌, ap, inl, inr, subst}
+use Rattle.std.specs.Result.{result_unwrap_or}
 use Rattle.std.specs.Prelude.{nat_lt, ◌&&◌, Result, Ok, Err, if◌then◌else◌}
 use Rattle.std.proofs.lemmas.Bool.{cases_Bool, ltb-true, ltb-false, lt-ltb, le-ltb, le-leb, both_ways, eq-eqb}
 use Rattle.std.proofs.lemmas.List.Sums.{sum_by-cons}
@@ -80,6 +81,15 @@ ok_made r x y e f = cc
 ok_or_err : {A E : Type 0} (r : Result A E) (x : A) (y : E) → r ≡ Ok x → r ≡ Err y → ⊥
 ok_or_err r x y e f = cc
 
+-- what doesn't answer that it has issued is taken as none
+pub one_is : (result : Result Bool Fault) → result_unwrap_or result false ≡ true → result ≡ Ok true
+one_is (Ok made) e = ap (λ (b : Bool). Ok b) e
+one_is (Err fault) e = let z : false ≡ true = e in absurd (cc)
+
+none_is : (result : Result Bool Fault) (made : Bool) → result_unwrap_or result false ≡ false → result ≡ Ok made → result ≡ Ok false
+none_is (Ok more) made e is = ap (λ (b : Bool). Ok b) e
+none_is (Err fault) made e is = absurd (cc)
+
 -- The issue of one more: it is made, or it can't be, in the cycle.
 
 pub record IsTried (i : Loaded) (row : Row) (n t u count : ℕ) (more : Bool) (st : Pools) (rg : RegStatus) (ft : Fetch) : Type 0 where
@@ -98,13 +108,14 @@ tried i row n t u count made s kind st new rg status ft from result more have le
       yet = λ none. d.3 (m ∙ none);
     }
 
-never_faults : (i : Loaded) (row : Row) (n t u count made : ℕ) (s : State) (kind : EndKind) (st new : Pools) (rg status : RegStatus) (ft from : Fetch) (result : Result Bool Fault) (fault : Fault)
-    → HaveIssued i row n t u count made st rg ft → made < row.width → IssuesNext i row count st rg ft result new status from → result ≡ Err fault
-    → RunEnds i n s kind → n < 262144 → u ≡ t + 1 → IsRow row → IsLoaded i.window i.memory i.entry → ⊥
-never_faults i row n t u count made s kind st new rg status ft from result fault have left issues is ends l at good loaded =
+-- nothing faults
+answers : (i : Loaded) (row : Row) (n t u count made : ℕ) (s : State) (kind : EndKind) (st new : Pools) (rg status : RegStatus) (ft from : Fetch) (result : Result Bool Fault)
+    → HaveIssued i row n t u count made st rg ft → made < row.width → IssuesNext i row count st rg ft result new status from
+    → RunEnds i n s kind → n < 262144 → u ≡ t + 1 → IsRow row → IsLoaded i.window i.memory i.entry → (more : Bool) × (result ≡ Ok more)
+answers i row n t u count made s kind st new rg status ft from result have left issues ends l at good loaded =
     let before : issued_in u (run_to row i count) ≡ made = have.same in
     let d = issues n t u s kind ends l at good loaded (slot_there row u (run_to row i count) have.now.issued (omega arith)) have.now in
-    ok_or_err result d.0 fault d.1 is
+    (d.0, d.1)
 
 issued_again : (i : Loaded) (row : Row) (n t u count made : ℕ) (s : State) (kind : EndKind) (st new : Pools) (rg status : RegStatus) (ft from : Fetch) → HaveIssued i row n t u count made st rg ft → IsTried i row n t u count true new status from
     → RunEnds i n s kind → u ≡ t + 1 → IsRow row → HaveIssued i row n t u (count + 1) (made + 1) new status from
@@ -140,22 +151,17 @@ on_more i row count made counted word st0 st new rg0 rg status ft0 ft from resul
     (omega (arith, same), subst (λ (k : ℕ). HaveIssued i row n t u k (made + 1) new status from) same again)
 
 pub on_wait : (i : Loaded) (row : Row) (count made counted : ℕ) (st0 st new : Pools) (rg0 rg status : RegStatus) (ft0 ft from : Fetch) (result : Result Bool Fault) → IssuesOn i row count st0 rg0 ft0 made counted st rg ft → made < row.width
-    → IssuesNext i row counted st rg ft result new status from → result ≡ Ok false → IssuesMore i row count st0 rg0 ft0 (Ok tt) counted new status from
-on_wait i row count made counted st0 st new rg0 rg status ft0 ft from result on less issues is n t u s kind ends l at good loaded first =
+    → IssuesNext i row counted st rg ft result new status from → result_unwrap_or result false ≡ false → IssuesMore i row count st0 rg0 ft0 counted new status from
+on_wait i row count made counted st0 st new rg0 rg status ft0 ft from result on less issues none n t u s kind ends l at good loaded first =
     let have = on n t u s kind ends l at good loaded first in
-    let more = tried i row n t u counted made s kind st new rg status ft from result false have.1 less issues is ends l at good loaded in
-    (refl, have.0, more.on, more.yet refl)
+    let d = answers i row n t u counted made s kind st new rg status ft from result have.1 less issues ends l at good loaded in
+    let more = tried i row n t u counted made s kind st new rg status ft from result false have.1 less issues (none_is result d.0 none d.1) ends l at good loaded in
+    (have.0, more.on, more.yet refl)
 
-pub on_fault : (i : Loaded) (row : Row) (count made counted : ℕ) (st0 st new : Pools) (rg0 rg status : RegStatus) (ft0 ft from : Fetch) (result : Result Bool Fault) (fault : Fault) (last : Result (Unit {0}) Fault) → IssuesOn i row count st0 rg0 ft0 made counted st rg ft → made < row.width
-    → IssuesNext i row counted st rg ft result new status from → result ≡ Err fault → IssuesMore i row count st0 rg0 ft0 last counted new status from
-on_fault i row count made counted st0 st new rg0 rg status ft0 ft from result fault last on less issues is n t u s kind ends l at good loaded first =
-    let have = on n t u s kind ends l at good loaded first in
-    absurd (never_faults i row n t u counted made s kind st new rg status ft from result fault have.1 less issues is ends l at good loaded)
-
-pub on_full : (i : Loaded) (row : Row) (count made counted : ℕ) (st0 st : Pools) (rg0 rg : RegStatus) (ft0 ft : Fetch) → IssuesOn i row count st0 rg0 ft0 made counted st rg ft → row.width ≤ made → IssuesMore i row count st0 rg0 ft0 (Ok tt) counted st rg ft
+pub on_full : (i : Loaded) (row : Row) (count made counted : ℕ) (st0 st : Pools) (rg0 rg : RegStatus) (ft0 ft : Fetch) → IssuesOn i row count st0 rg0 ft0 made counted st rg ft → row.width ≤ made → IssuesMore i row count st0 rg0 ft0 counted st rg ft
 on_full i row count made counted st0 st rg0 rg ft0 ft on most n t u s kind ends l e good loaded first =
     let have = on n t u s kind ends l e good loaded first in
-    (refl, have.0, have.1.now, full i row n t u counted made st rg ft have.1 most e)
+    (have.0, have.1.now, full i row n t u counted made st rg ft have.1 most e)
 
 -- The phase.
 
@@ -194,26 +200,18 @@ phase_one i row u count word st new rg status ft from result issues is w one n s
     (rw (lt-ltb count word more) refl, omega arith, issued_to i row n t u word new status from made.1.now (full i row n t u word 1 new status from made.1 (omega arith) e))
 
 -- one does, and more after it
-pub phase_more : (i : Loaded) (row : Row) (u count word counted : ℕ) (st mid new : Pools) (rg between status : RegStatus) (ft next from : Fetch) (result : Result Bool Fault) (last : Result (Unit {0}) Fault)
-    → IssuesNext i row count st rg ft result mid between next → result ≡ Ok true → word ≡ (count + 1) % 4294967296 → IssuesMore i row word mid between next last counted new status from → MakesIssue i row u count st rg ft (Ok true) counted new status from
-phase_more i row u count word counted st mid new rg between status ft next from result last issues is w more n s kind t ends l e good loaded old =
+pub phase_more : (i : Loaded) (row : Row) (u count word counted : ℕ) (st mid new : Pools) (rg between status : RegStatus) (ft next from : Fetch) (result : Result Bool Fault)
+    → IssuesNext i row count st rg ft result mid between next → result ≡ Ok true → word ≡ (count + 1) % 4294967296 → IssuesMore i row word mid between next counted new status from → MakesIssue i row u count st rg ft (Ok true) counted new status from
+phase_more i row u count word counted st mid new rg between status ft next from result issues is w more n s kind t ends l e good loaded old =
     let made = first_made i row n t u count word s kind st mid rg between ft next result old issues is w ends l e good loaded in
     let d = more n t u s kind ends l e good loaded made.1 in
     let some : count < word = made.0 in
-    let rest : word ≤ counted = d.1 in
-    (rw (lt-ltb count counted (omega arith)) refl, omega arith, issued_to i row n t u counted new status from d.2 d.3)
+    let rest : word ≤ counted = d.0 in
+    (rw (lt-ltb count counted (omega arith)) refl, omega arith, issued_to i row n t u counted new status from d.1 d.2)
 
--- and none faults, the first
+-- and none faults
 pub phase_fault : (i : Loaded) (row : Row) (u count counted : ℕ) (st new : Pools) (rg status : RegStatus) (ft from : Fetch) (result : Result Bool Fault) (fault : Fault) (last : Result Bool Fault)
     → IssuesNext i row count st rg ft result new status from → result ≡ Err fault → MakesIssue i row u count st rg ft last counted new status from
 phase_fault i row u count counted st new rg status ft from result fault last issues is n s kind t ends l e good loaded old =
-    absurd (never_faults i row n t u count 0 s kind st new rg status ft from result fault (before_one i row n count t u st rg ft good e old) (width_low row good) issues is ends l e good loaded)
-
--- nor one of the others
-pub phase_more_fault : (i : Loaded) (row : Row) (u count word counted : ℕ) (st mid new : Pools) (rg between status : RegStatus) (ft next from : Fetch) (result : Result Bool Fault) (more : Result (Unit {0}) Fault) (fault : Fault) (last : Result Bool Fault)
-    → IssuesNext i row count st rg ft result mid between next → result ≡ Ok true → word ≡ (count + 1) % 4294967296 → IssuesMore i row word mid between next more counted new status from → more ≡ Err fault
-    → MakesIssue i row u count st rg ft last counted new status from
-phase_more_fault i row u count word counted st mid new rg between status ft next from result more fault last issues is w on faults n s kind t ends l e good loaded old =
-    let made = first_made i row n t u count word s kind st mid rg between ft next result old issues is w ends l e good loaded in
-    let d = on n t u s kind ends l e good loaded made.1 in
-    absurd (ok_or_err more tt fault d.0 faults)
+    let d = answers i row n t u count 0 s kind st new rg status ft from result (before_one i row n count t u st rg ft good e old) (width_low row good) issues ends l e good loaded in
+    absurd (ok_or_err result d.0 fault d.1 is)

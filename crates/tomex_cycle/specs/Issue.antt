@@ -49,7 +49,7 @@ IssuesOn i row count stations registers fetch made counted new status from = (n 
     → HaveIssued i row n t u count 1 stations registers fetch → (count ≤ counted) × HaveIssued i row n t u counted made new status from
 
 -- Where one has issued, more do, up to the width or to one that can't.
-abbrev pub IssuesMore : Loaded → Row → ℕ → Pools → RegStatus → Fetch → Result (Unit {0}) Fault → ℕ → Pools → RegStatus → Fetch → Type 0
-IssuesMore i row count stations registers fetch result counted new status from = (n t u : ℕ) (s : State) (kind : EndKind) → RunEnds i n s kind → n < 262144 → u ≡ t + 1 → IsRow row → IsLoaded i.window i.memory i.entry
+abbrev pub IssuesMore : Loaded → Row → ℕ → Pools → RegStatus → Fetch → ℕ → Pools → RegStatus → Fetch → Type 0
+IssuesMore i row count stations registers fetch counted new status from = (n t u : ℕ) (s : State) (kind : EndKind) → RunEnds i n s kind → n < 262144 → u ≡ t + 1 → IsRow row → IsLoaded i.window i.memory i.entry
     → HaveIssued i row n t u count 1 stations registers fetch
-    → (result ≡ Ok tt) × (count ≤ counted) × IsIssuing i row n t u counted new status from × (counted ≤ n → IsYetToIssue i row counted u)
+    → (count ≤ counted) × IsIssuing i row n t u counted new status from × (counted ≤ n → IsYetToIssue i row counted u)

@@ -53,9 +53,10 @@ pub fn issue_next<A: Allocator>(
 }
 
 /// Issues more instructions in a cycle in which one has issued, as many as the row's width leaves, up to
-/// the first that can't, and counts each.
+/// the first that can't, and counts each. One that can't be fetched is told by the next cycle, which begins with it.
 ///
-/// A function of its own, which is not put into its caller: on a row of width 1 none is called.
+/// A function of its own, which is not put into its caller: on a row of width 1 none is called. It answers nothing,
+/// since each cycle would set up the answer's place.
 #[inline(never)]
 pub fn issue_more<A: Allocator>(
     pools: &mut Pools,
@@ -64,20 +65,19 @@ pub fn issue_more<A: Allocator>(
     count: &mut u32,
     fetcher: &mut Fetcher<'_, A>,
     row: &Config,
-) -> Result<(), Fault>
-    ensures issues { IssuesMore fetcher.old row.now count.old pools.old registers.old fetch.old result count.new pools.new registers.new fetch.new }
+)
+    ensures issues { IssuesMore fetcher.old row.now count.old pools.old registers.old fetch.old count.new pools.new registers.new fetch.new }
     ensures known { (f : Finishes) (next : ℕ) → AreKnown pools.old.slots next f → AreKnown pools.new.slots next f }
     ensures same { fetcher.new ≡ fetcher.old }
 {
     let width = row.width();
     let mut made = 1;
     'issues: while made < width {
-        let more = issue_next(pools, registers, fetch, *count, fetcher, row)?;
+        let more = issue_next(pools, registers, fetch, *count, fetcher, row).unwrap_or(false);
         if !more {
-            return Ok(());
+            return;
         }
         *count = count.wrapping_add(1);
         made += 1;
     }
-    Ok(())
 }

@@ -95,7 +95,7 @@ pub fn issue<A: Allocator>(
     if row.width() == 1 {
         return Ok(true);
     }
-    issue_more(pools, registers, fetch, count, fetcher, row)?;
+    issue_more(pools, registers, fetch, count, fetcher, row);
     Ok(true)
 }
 

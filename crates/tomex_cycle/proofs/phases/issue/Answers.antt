@@ -1,6 +1,6 @@
 -- None issues, one does, or more after it.
 use Rattle.std.proofs.Common.{Bool, Ok, ◌∙◌, ◌≡◌, ap, arith, refl}
-use Rattle.tomex_cycle.proofs.IssuesPhase.{phase_fault, phase_more, phase_more_fault, phase_none, phase_one}
+use Rattle.tomex_cycle.proofs.IssuesPhase.{phase_fault, phase_more, phase_none, phase_one}
 use Rattle.tomex_cycle.proofs.phases.issue.Goals as goal
 
 pub returns-in_err-issue_next-clause-issues : goal.returns-in_err-issue_next-clause-issues
@@ -24,17 +24,9 @@ returns-then-width-eq1-clause-issues g c =
 pub returns-then-width-eq1-clause-known : goal.returns-then-width-eq1-clause-known
 returns-then-width-eq1-clause-known g c = λ f known. c.issue_next.ensures.known f c.args.next known
 
-pub returns-in_err-issue_more-clause-issues : goal.returns-in_err-issue_more-clause-issues
-returns-in_err-issue_more-clause-issues g c =
-    phase_more_fault c.args.fetcher.now c.args.row.now c.args.next c.args.count.now _ _ _ _ _ _ _ _ _ _ _ c.issue_next.result c.issue_more.result _ _ c.issue_next.ensures.issues
-    (c.in_ok-issue_next.was ∙ ap (λ (b : Bool). Ok b) c.if-not-branch.false) refl (rw c.issue_next.ensures.same at c.issue_more.ensures.issues) c.in_err-issue_more.was
-
-pub returns-in_err-issue_more-clause-known : goal.returns-in_err-issue_more-clause-known
-returns-in_err-issue_more-clause-known g c = λ f known. c.issue_more.ensures.known f c.args.next (c.issue_next.ensures.known f c.args.next known)
-
 pub returns-clause-issues : goal.returns-clause-issues
 returns-clause-issues g c =
-    phase_more c.args.fetcher.now c.args.row.now c.args.next c.args.count.now _ _ _ _ _ _ _ _ _ _ _ c.issue_next.result c.issue_more.result c.issue_next.ensures.issues
+    phase_more c.args.fetcher.now c.args.row.now c.args.next c.args.count.now _ _ _ _ _ _ _ _ _ _ _ c.issue_next.result c.issue_next.ensures.issues
     (c.in_ok-issue_next.was ∙ ap (λ (b : Bool). Ok b) c.if-not-branch.false) refl (rw c.issue_next.ensures.same at c.issue_more.ensures.issues)
 
 pub returns-clause-known : goal.returns-clause-known
