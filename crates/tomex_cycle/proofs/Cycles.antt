@@ -1,5 +1,5 @@
 -- The phases, one after the other, make a cycle.
-use Rattle.std.proofs.Common.{ℕ, ◌+◌, ◌<◌, ◌≤◌, ◌≡◌, ◌∙◌, Bool, true, false, arith, refl, List, [], ◌∷◌, ◌++◌, Option, Some, None, sym, inl, inr, subst}
+use Rattle.std.proofs.Common.{ℕ, ◌+◌, ◌<◌, ◌≤◌, ◌≡◌, ◌∙◌, Bool, true, false, arith, refl, List, [], ◌∷◌, ◌++◌, Option, Some, None, sym, inl, inr}
 use Rattle.std.specs.Prelude.{nat_lt, MatchOption, if◌then◌else◌, Result, Ok, Err, not}
 use Rattle.std.proofs.lemmas.Bool.{cases_Bool, ltb-true, lt-leb, and_parts}
 use Rattle.tomex_image.specs.Image.{Loaded, IsLoaded}

@@ -55,8 +55,9 @@ pub fn issue_next<A: Allocator>(
 /// Issues more instructions in a cycle in which one has issued, as many as the row's width leaves, up to
 /// the first that can't, and counts each. One that can't be fetched is told by the next cycle, which begins with it.
 ///
-/// A function of its own, which is not put into its caller: on a row of width 1 none is called. It answers nothing,
-/// since each cycle would set up the answer's place.
+/// On a row of width 1 it is never called. So it isn't put into its caller, the compiler keeps nothing in readiness
+/// for it, and it answers nothing, since each cycle would make room for the answer.
+#[cold]
 #[inline(never)]
 pub fn issue_more<A: Allocator>(
     pools: &mut Pools,
