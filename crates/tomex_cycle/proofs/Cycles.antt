@@ -1,5 +1,5 @@
 -- The phases, one after the other, make a cycle.
-use Rattle.std.proofs.Common.{ℕ, ◌+◌, ◌<◌, ◌≤◌, ◌≡◌, ◌∙◌, Bool, true, false, arith, refl, List, [], ◌∷◌, ◌++◌, Option, Some, None, sym, inl, inr, subst}
+use Rattle.std.proofs.Common.{ℕ, ◌+◌, ◌<◌, ◌≤◌, ◌≡◌, ◌∙◌, Bool, true, false, arith, refl, List, [], ◌∷◌, ◌++◌, Option, Some, None, sym, inl, inr}
 use Rattle.std.specs.Prelude.{nat_lt, MatchOption, if◌then◌else◌, Result, Ok, Err, not}
 use Rattle.std.proofs.lemmas.Bool.{cases_Bool, ltb-true, lt-leb, and_parts}
 use Rattle.tomex_image.specs.Image.{Loaded, IsLoaded}
@@ -72,58 +72,43 @@ memory_issued row i n k m t u s kind bytes good ends next low high e shown =
     }
 
 -- what a cycle makes of a snapshot up to its issue
-pub record IsUnderWay (i : Loaded) (row : Row) (n t next before : ℕ) (fault : Option Fault) (result : Result ℕ Fault) (stations : Pools) (registers : RegStatus) (fetch : Fetch) (memory : Bytes) : Type 0 where
+pub record IsUnderWay (i : Loaded) (row : Row) (n t next before count : ℕ) (fault : Option Fault) (stations : Pools) (registers : RegStatus) (fetch : Fetch) (memory : Bytes) : Type 0 where
   pub good : fault ≡ None
-  pub count : ℕ
-  pub issued : result ≡ Ok count
   pub low : before ≤ count
   pub after : IsIssuedTo i row n next (clocks next next t) count stations registers fetch
   pub bytes : ShowsMemory i next (run_to row i count) memory
 
--- and as a whole
-pub record IsMade (i : Loaded) (row : Row) (n next : ℕ) (fault : Option Fault) (result : Result ℕ Fault) (stations : Pools) (registers : RegStatus) (fetch : Fetch) (memory : Bytes) : Type 0 where
-  pub good : fault ≡ None
-  pub count : ℕ
-  pub issued : result ≡ Ok count
-  pub snapshot : IsSnapshot i row n next count stations registers fetch memory
-
-pub issue_made : (i : Loaded) (row : Row) (n t next count : ℕ) (s : State) (kind : EndKind) (fault : Option Fault) (result : Result ℕ Fault)
+pub issue_made : (i : Loaded) (row : Row) (n t next count counted : ℕ) (s : State) (kind : EndKind) (fault : Option Fault) (result : Result Bool Fault)
     (st0 st1 st2 st3 : Pools) (rg0 rg1 : RegStatus) (ft0 ft1 : Fetch) (m0 m1 : Bytes)
-    → MakesStarts row next st0 m0 fault st1 m1 → MakesAddress next st1 st2 → MakesIssue i row next count st2 rg0 ft0 result st3 rg1 ft1
+    → MakesStarts row next st0 m0 fault st1 m1 → MakesAddress next st1 st2 → MakesIssue i row next count st2 rg0 ft0 result counted st3 rg1 ft1
     → RunEnds i n s kind → n < 262144 → next ≡ t + 1 → IsRow row → IsLoaded i.window i.memory i.entry → IsSnapshot i row n t count st0 rg0 ft0 m0
-    → IsUnderWay i row n t next count fault result st3 rg1 ft1 m1
-issue_made i row n t next count s kind fault result st0 st1 st2 st3 rg0 rg1 ft0 ft1 m0 m1 starts addresses issues ends l e good loaded old =
+    → (result ≡ Ok (nat_lt count counted)) × IsUnderWay i row n t next count counted fault st3 rg1 ft1 m1
+issue_made i row n t next count counted s kind fault result st0 st1 st2 st3 rg0 rg1 ft0 ft1 m0 m1 starts addresses issues ends l e good loaded old =
     let few : count ≤ n + 1 = old.issue.few in
     let h0 : IsHistory i row (run_to row i count) = run_history row i n count s kind good loaded ends few in
     let a = starts i (run_to row i count) t e h0 old.issue.issued old.issue.slots old.bytes in
     let b = addresses i row (run_to row i count) t e h0 old.issue.issued a.1 in
     let shown : IsIssuedTo i row n t (clocks next next t) count st2 rg0 ft0 = record { few = few; slots = b; status = old.issue.status; from = old.issue.from; issued = old.issue.issued; next = old.issue.next } in
-    let d = issues n s kind t ends l e good loaded shown in
-    record {
-      good = a.0;
-      count = d.0;
-      issued = d.1;
-      low = d.2;
-      after = d.3;
-      bytes = memory_issued row i n count d.0 t next s kind m1 good ends old.issue.next d.2 d.3.few e a.2;
-    }
+    let d = issues n s kind t ends l e good loaded shown in (
+      d.0,
+      record {
+        good = a.0;
+        low = d.1;
+        after = d.2;
+        bytes = memory_issued row i n count counted t next s kind m1 good ends old.issue.next d.1 d.2.few e a.2;
+      },
+    )
 
-pub cycle_made : (i : Loaded) (row : Row) (n t next count : ℕ) (s : State) (kind : EndKind) (fault : Option Fault) (result : Result ℕ Fault)
+pub cycle_made : (i : Loaded) (row : Row) (n t next count counted : ℕ) (s : State) (kind : EndKind) (fault : Option Fault)
     (st3 st4 : Pools) (rg1 rg2 : RegStatus) (ft1 ft2 : Fetch) (m1 : Bytes)
-    → IsUnderWay i row n t next count fault result st3 rg1 ft1 m1 → MakesEnds row next st3 rg1 ft1 st4 rg2 ft2
-    → RunEnds i n s kind → next ≡ t + 1 → IsRow row → IsLoaded i.window i.memory i.entry
-    → IsMade i row n next fault result st4 rg2 ft2 m1
-cycle_made i row n t next count s kind fault result st3 st4 rg1 rg2 ft1 ft2 m1 on end_phase ends e good loaded =
-    let h1 : IsHistory i row (run_to row i on.count) = run_history row i n on.count s kind good loaded ends on.after.few in
-    let f = end_phase i (run_to row i on.count) t e h1 on.after.issued on.after.slots on.after.status on.after.from in
+    → IsUnderWay i row n t next count counted fault st3 rg1 ft1 m1 → MakesEnds row next st3 rg1 ft1 st4 rg2 ft2
+    → RunEnds i n s kind → next ≡ t + 1 → IsRow row → IsLoaded i.window i.memory i.entry → IsSnapshot i row n next counted st4 rg2 ft2 m1
+cycle_made i row n t next count counted s kind fault st3 st4 rg1 rg2 ft1 ft2 m1 on end_phase ends e good loaded =
+    let h1 : IsHistory i row (run_to row i counted) = run_history row i n counted s kind good loaded ends on.after.few in
+    let f = end_phase i (run_to row i counted) t e h1 on.after.issued on.after.slots on.after.status on.after.from in
     record {
-      good = on.good;
-      count = on.count;
-      issued = on.issued;
-      snapshot = record {
-        issue = record { few = on.after.few; slots = f.0; status = f.1; from = f.2; issued = on.after.issued; next = on.after.next };
-        bytes = on.bytes;
-      };
+      issue = record { few = on.after.few; slots = f.0; status = f.1; from = f.2; issued = on.after.issued; next = on.after.next };
+      bytes = on.bytes;
     }
 
 pub some_none : {A : Type 0} (o : Option A) (x : A) → o ≡ Some x → o ≡ None → ⊥
@@ -145,11 +130,9 @@ progress_same : (a : Bool) (over : Bool) (p : Progress) → over ≡ not a → p
 progress_same true over p e f = rw e at f
 progress_same false over p e f = rw e at f
 
-pub cycle_answer : (i : Loaded) (row : Row) (n next count : ℕ) (s : State) (kind : EndKind) (fault : Option Fault) (result : Result ℕ Fault) (st : Pools) (rg : RegStatus) (ft : Fetch) (m : Bytes) (over : Bool) (p : Progress)
-    → IsMade i row n next fault result st rg ft m → RunEnds i n s kind → IsRow row → IsLoaded i.window i.memory i.entry
-    → result ≡ Ok count → AreBusy st.slots st.busy st.ages → over ≡ is_done ft st.busy → p ≡ (if over then Ended else Running)
-    → IsSnapshot i row n next count st rg ft m × (p ≡ (if nat_lt next (greatest_end (run_to row i (n + 1))) then Running else Ended))
-cycle_answer i row n next count s kind fault result st rg ft m over p made ends good loaded issued filled e f =
-    let same : made.count ≡ count = ok_same result made.count count made.issued issued in
-    let shown : IsSnapshot i row n next count st rg ft m = subst (λ (x : ℕ). IsSnapshot i row n next x st rg ft m) same made.snapshot in
-    (shown, progress_same (nat_lt next (greatest_end (run_to row i (n + 1)))) over p (e ∙ done_is row i n next count s kind st rg ft good loaded ends shown.issue filled) f)
+pub cycle_answer : (i : Loaded) (row : Row) (n next count : ℕ) (s : State) (kind : EndKind) (st : Pools) (rg : RegStatus) (ft : Fetch) (m : Bytes) (over : Bool) (p : Progress)
+    → IsSnapshot i row n next count st rg ft m → RunEnds i n s kind → IsRow row → IsLoaded i.window i.memory i.entry
+    → AreBusy st.slots st.busy st.ages → over ≡ is_done ft st.busy → p ≡ (if over then Ended else Running)
+    → p ≡ (if nat_lt next (greatest_end (run_to row i (n + 1))) then Running else Ended)
+cycle_answer i row n next count s kind st rg ft m over p shown ends good loaded filled e f =
+    progress_same (nat_lt next (greatest_end (run_to row i (n + 1)))) over p (e ∙ done_is row i n next count s kind st rg ft good loaded ends shown.issue filled) f

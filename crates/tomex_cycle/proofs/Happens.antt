@@ -1,6 +1,6 @@
 -- What a phase or a station shows is an event of the cycle.
 use Rattle.std.proofs.Common.{ℕ, ◌+◌, ◌^◌, ◌<◌, ◌≤◌, ◌≡◌, ◌∙◌, Bool, true, false, arith, refl, List, [], ◌∷◌, ◌++◌, Option, Some, None, ap, sym, inl, inr, ◌⊎◌, append_assoc, slice_index_or, length, max}
-use Rattle.std.specs.Prelude.{◌≢◌, nat_lt, nat_le, ◌&&◌, ◌==◌, if◌then◌else◌, is_some, not, Result, Ok}
+use Rattle.std.specs.Prelude.{◌≢◌, nat_lt, nat_le, ◌&&◌, ◌==◌, if◌then◌else◌, is_some, not}
 use Rattle.std.specs.Int.{w128, trailing_zeros}
 use Rattle.std.proofs.lemmas.Nat.Bits.{bit_at-trailing_zeros, bit_at_above}
 use Rattle.std.proofs.lemmas.List.{get_or_past}
@@ -23,7 +23,7 @@ use Rattle.tomex_bus.proofs.Bits.{has_one, has_none}
 use Rattle.tomex_cycle.specs.Ends.{AreDone, AreEnding, finishes}
 use Rattle.tomex_cycle.specs.Events.{events_in, events_of}
 use Rattle.tomex_cycle.specs.Phases.{AddressHappens, EndsHappen, IsSnapshot, IsYetToIssue, MakesStarts, StartsHappen}
-use Rattle.tomex_cycle.proofs.Cycles.{IsUnderWay, ok_same}
+use Rattle.tomex_cycle.proofs.Cycles.{IsUnderWay}
 use Rattle.tomex_cycle.proofs.Shifting.{run_split}
 use Rattle.tomex_cycle.proofs.Orders.{order_is}
 use Rattle.tomex_cycle.proofs.Addresses.{waiting_is}
@@ -250,15 +250,14 @@ run_happens row i n k u s kind ends l some =
     rw part.1 (omega arith)
 
 -- a cycle whose phases tell of something has an event
-pub cycle_happens : (i : Loaded) (row : Row) (n t next count c : ℕ) (s : State) (kind : EndKind) (fault : Option Fault) (result : Result ℕ Fault) (any addressed ended : Bool)
+pub cycle_happens : (i : Loaded) (row : Row) (n t next count c : ℕ) (s : State) (kind : EndKind) (fault : Option Fault) (any addressed ended : Bool)
     (st0 st1 st3 : Pools) (rg0 rg1 : RegStatus) (ft0 ft1 : Fetch) (m0 m1 : Bytes)
     → MakesStarts row next st0 m0 fault st1 m1 → (any ≡ true → StartsHappen row next st0) → (addressed ≡ true → AddressHappens next st1) → (ended ≡ true → EndsHappen row next st3)
-    → IsUnderWay i row n t next count fault result st3 rg1 ft1 m1 → result ≡ Ok c → RunEnds i n s kind → next ≡ t + 1 → IsRow row → IsLoaded i.window i.memory i.entry → IsSnapshot i row n t count st0 rg0 ft0 m0
+    → IsUnderWay i row n t next count c fault st3 rg1 ft1 m1 → RunEnds i n s kind → next ≡ t + 1 → IsRow row → IsLoaded i.window i.memory i.entry → IsSnapshot i row n t count st0 rg0 ft0 m0
     → (any ≡ true) ⊎ ((addressed ≡ true) ⊎ ((c ≢ count) ⊎ (ended ≡ true))) → 0 < events_in next (run_to row i (n + 1))
-cycle_happens i row n t next count c s kind fault result any addressed ended st0 st1 st3 rg0 rg1 ft0 ft1 m0 m1 starts a b d on issued ends e good loaded old which =
+cycle_happens i row n t next count c s kind fault any addressed ended st0 st1 st3 rg0 rg1 ft0 ft1 m0 m1 starts a b d on ends e good loaded old which =
     let few : count ≤ n + 1 = old.issue.few in
     let h0 : IsHistory i row (run_to row i count) = run_history row i n count s kind good loaded ends few in
-    let same : on.count ≡ c = ok_same result on.count c on.issued issued in
     elim which [
       | inl k ↦ run_happens row i n count next s kind ends few (a k i (run_to row i count) t e h0 old.issue.issued old.issue.slots)
       | inr other ↦ elim other [
@@ -266,8 +265,8 @@ cycle_happens i row n t next count c s kind fault result any addressed ended st0
             let made = starts i (run_to row i count) t e h0 old.issue.issued old.issue.slots old.bytes in
             run_happens row i n count next s kind ends few (b k i row (run_to row i count) t e h0 old.issue.issued made.1)
         | inr other ↦ elim other [
-          | inl k ↦ run_happens row i n on.count next s kind ends on.after.few (issue_happens i row n t next count on.count s kind good ends e old.issue.next on.low on.after.few (λ z. k (sym same ∙ z)) on.after.issued)
-          | inr k ↦ run_happens row i n on.count next s kind ends on.after.few (d k i (run_to row i on.count) t e (run_history row i n on.count s kind good loaded ends on.after.few) on.after.issued on.after.slots)
+          | inl k ↦ run_happens row i n c next s kind ends on.after.few (issue_happens i row n t next count c s kind good ends e old.issue.next on.low on.after.few k on.after.issued)
+          | inr k ↦ run_happens row i n c next s kind ends on.after.few (d k i (run_to row i c) t e (run_history row i n c s kind good loaded ends on.after.few) on.after.issued on.after.slots)
         ]
       ]
     ]

@@ -1,6 +1,7 @@
 -- The issues of a cycle: the first, and those that the width leaves after it.
 use Rattle.std.proofs.Common.{ℕ, suc, ◌+◌, ◌%◌, ◌<◌, ◌≤◌, ◌≡◌, ◌∙◌, Bool, true, false, arith, refl, List, [], ◌∷◌, ap, inl, inr, subst}
-use Rattle.std.specs.Prelude.{nat_lt, ◌&&◌, Result, Ok, Err, if◌then◌else◌}
+use Rattle.std.specs.Result.{result_unwrap_or}
+use Rattle.std.specs.Prelude.{nat_lt, ◌&&◌, Result, Ok, Err}
 use Rattle.std.proofs.lemmas.Bool.{cases_Bool, ltb-true, ltb-false, lt-ltb, le-ltb, le-leb, both_ways, eq-eqb}
 use Rattle.std.proofs.lemmas.List.Sums.{sum_by-cons}
 use Rattle.tomex_image.specs.Image.{IsLoaded, Loaded}
@@ -20,7 +21,7 @@ use Rattle.tomex_timing.proofs.Limits.{width_low}
 use Rattle.tomex_timing.proofs.Search.{times_are}
 use Rattle.tomex_timing.proofs.Width.{none_later}
 use Rattle.tomex_cycle.specs.declared.fetch.Fetch.{Fetch}
-use Rattle.tomex_cycle.specs.Issue.{HaveIssued, IsIssuing, IssuesMore, IssuesNext, IssuesOn, count_after, counted_by, issued_in}
+use Rattle.tomex_cycle.specs.Issue.{HaveIssued, IsIssuing, IssuesMore, IssuesNext, IssuesOn, count_after, issued_in}
 use Rattle.tomex_cycle.specs.Phases.{IsIssuedTo, IsYetToIssue, MakesIssue}
 use Rattle.tomex_cycle.specs.Run.{AreIssuedBy, run_to}
 use Rattle.tomex_cycle.specs.Views.{clocks}
@@ -80,151 +81,137 @@ ok_made r x y e f = cc
 ok_or_err : {A E : Type 0} (r : Result A E) (x : A) (y : E) → r ≡ Ok x → r ≡ Err y → ⊥
 ok_or_err r x y e f = cc
 
-yes_no : true ≡ false → ⊥
-yes_no e = cc
+-- what doesn't answer that it has issued is taken as none
+pub one_is : (result : Result Bool Fault) → result_unwrap_or result false ≡ true → result ≡ Ok true
+one_is (Ok made) e = ap (λ (b : Bool). Ok b) e
+one_is (Err fault) e = let z : false ≡ true = e in absurd (cc)
+
+none_is : (result : Result Bool Fault) (made : Bool) → result_unwrap_or result false ≡ false → result ≡ Ok made → result ≡ Ok false
+none_is (Ok more) made e is = ap (λ (b : Bool). Ok b) e
+none_is (Err fault) made e is = absurd (cc)
 
 -- The issue of one more: it is made, or it can't be, in the cycle.
 
-pub record IsTried (i : Loaded) (row : Row) (n t u count made : ℕ) (more : Bool) (st : Pools) (rg : RegStatus) (ft : Fetch) : Type 0 where
-  pub on : IsIssuing i row n t u (count_after more (count + made)) st rg ft
-  pub yet : more ≡ false → count + made ≤ n → IsYetToIssue i row (count + made) u
+pub record IsTried (i : Loaded) (row : Row) (n t u count : ℕ) (more : Bool) (st : Pools) (rg : RegStatus) (ft : Fetch) : Type 0 where
+  pub on : IsIssuing i row n t u (count_after more count) st rg ft
+  pub yet : more ≡ false → count ≤ n → IsYetToIssue i row count u
 
-tried : (i : Loaded) (row : Row) (n t u count made word : ℕ) (s : State) (kind : EndKind) (st new : Pools) (rg status : RegStatus) (ft from : Fetch) (result : Result Bool Fault) (more : Bool)
-    → IsIssuing i row n t u (count + made) st rg ft → issued_in u (run_to row i (count + made)) < row.width → word ≡ count + made → IssuesNext i row word st rg ft result new status from → result ≡ Ok more
-    → RunEnds i n s kind → n < 262144 → u ≡ t + 1 → IsRow row → IsLoaded i.window i.memory i.entry → IsTried i row n t u count made more new status from
-tried i row n t u count made word s kind st new rg status ft from result more now left e issues is ends l at good loaded =
-    let next : IssuesNext i row (count + made) st rg ft result new status from = subst (λ (k : ℕ). IssuesNext i row k st rg ft result new status from) e issues in
-    let d = next n t u s kind ends l at good loaded (slot_there row u (run_to row i (count + made)) now.issued left) now in
+tried : (i : Loaded) (row : Row) (n t u count made : ℕ) (s : State) (kind : EndKind) (st new : Pools) (rg status : RegStatus) (ft from : Fetch) (result : Result Bool Fault) (more : Bool)
+    → HaveIssued i row n t u count made st rg ft → made < row.width → IssuesNext i row count st rg ft result new status from → result ≡ Ok more
+    → RunEnds i n s kind → n < 262144 → u ≡ t + 1 → IsRow row → IsLoaded i.window i.memory i.entry → IsTried i row n t u count more new status from
+tried i row n t u count made s kind st new rg status ft from result more have left issues is ends l at good loaded =
+    let before : issued_in u (run_to row i count) ≡ made = have.same in
+    let d = issues n t u s kind ends l at good loaded (slot_there row u (run_to row i count) have.now.issued (omega arith)) have.now in
     let m : d.0 ≡ more = ok_made result d.0 more d.1 is in
     record {
-      on = subst (λ (b : Bool). IsIssuing i row n t u (count_after b (count + made)) new status from) m d.2;
+      on = subst (λ (b : Bool). IsIssuing i row n t u (count_after b count) new status from) m d.2;
       yet = λ none. d.3 (m ∙ none);
     }
 
-issued_again : (i : Loaded) (row : Row) (n t u count made : ℕ) (s : State) (kind : EndKind) (st new : Pools) (rg status : RegStatus) (ft from : Fetch) → HaveIssued i row n t u count made st rg ft → IsTried i row n t u count made true new status from
-    → RunEnds i n s kind → u ≡ t + 1 → IsRow row → HaveIssued i row n t u count (made + 1) new status from
+-- nothing faults
+answers : (i : Loaded) (row : Row) (n t u count made : ℕ) (s : State) (kind : EndKind) (st new : Pools) (rg status : RegStatus) (ft from : Fetch) (result : Result Bool Fault)
+    → HaveIssued i row n t u count made st rg ft → made < row.width → IssuesNext i row count st rg ft result new status from
+    → RunEnds i n s kind → n < 262144 → u ≡ t + 1 → IsRow row → IsLoaded i.window i.memory i.entry → (more : Bool) × (result ≡ Ok more)
+answers i row n t u count made s kind st new rg status ft from result have left issues ends l at good loaded =
+    let before : issued_in u (run_to row i count) ≡ made = have.same in
+    let d = issues n t u s kind ends l at good loaded (slot_there row u (run_to row i count) have.now.issued (omega arith)) have.now in
+    (d.0, d.1)
+
+issued_again : (i : Loaded) (row : Row) (n t u count made : ℕ) (s : State) (kind : EndKind) (st new : Pools) (rg status : RegStatus) (ft from : Fetch) → HaveIssued i row n t u count made st rg ft → IsTried i row n t u count true new status from
+    → RunEnds i n s kind → u ≡ t + 1 → IsRow row → HaveIssued i row n t u (count + 1) (made + 1) new status from
 issued_again i row n t u count made s kind st new rg status ft from have more ends e good =
-    let few : count + made + 1 ≤ n + 1 = more.on.few in
-    let counted : issued_in u (run_to row i (count + made + 1)) ≡ suc (issued_in u (run_to row i (count + made))) = one_more i row n (count + made) t u s kind ends good e have.now.next more.on.issued few in
-    let before : issued_in u (run_to row i (count + made)) ≡ made = have.same in
-    let same : issued_in u (run_to row i (count + made + 1)) ≡ made + 1 = omega arith in
-    let at : count + made + 1 ≡ count + (made + 1) = omega arith in
-    record {
-      now = subst (λ (k : ℕ). IsIssuing i row n t u k new status from) at more.on;
-      same = subst (λ (k : ℕ). issued_in u (run_to row i k) ≡ made + 1) at same;
-    }
+    let few : count + 1 ≤ n + 1 = more.on.few in
+    let counted : issued_in u (run_to row i (count + 1)) ≡ suc (issued_in u (run_to row i count)) = one_more i row n count t u s kind ends good e have.now.next more.on.issued few in
+    let before : issued_in u (run_to row i count) ≡ made = have.same in
+    record { now = more.on; same = omega arith }
+
+-- no run counts as far as a word goes
+word_of : (i : Loaded) (row : Row) (n t u count made word : ℕ) (st : Pools) (rg : RegStatus) (ft : Fetch) → HaveIssued i row n t u count made st rg ft → n < 262144 → word ≡ count % 4294967296 → count ≡ word
+word_of i row n t u count made word st rg ft have l e = let few : count ≤ n + 1 = have.now.few in omega (arith, e)
+
+-- the width leaves no more
+full : (i : Loaded) (row : Row) (n t u count made : ℕ) (st : Pools) (rg : RegStatus) (ft : Fetch) → HaveIssued i row n t u count made st rg ft → row.width ≤ made → u ≡ t + 1 → count ≤ n → IsYetToIssue i row count u
+full i row n t u count made st rg ft have most e less =
+    let before : issued_in u (run_to row i count) ≡ made = have.same in
+    yet_more i row count t u (have.now.next less) (λ y is. without_slot row u (run_to row i count) y (slot_gone row u (run_to row i count) have.now.issued (omega arith))) e
 
 -- The turns of the loop.
 
-pub on_first : (i : Loaded) (row : Row) (count : ℕ) (st : Pools) (rg : RegStatus) (ft : Fetch) → IssuesOn i row count st rg ft 1 st rg ft
-on_first i row count st rg ft n t u s kind ends l e good loaded have = have
+pub on_first : (i : Loaded) (row : Row) (count : ℕ) (st : Pools) (rg : RegStatus) (ft : Fetch) → IssuesOn i row count st rg ft 1 count st rg ft
+on_first i row count st rg ft n t u s kind ends l e good loaded have = (omega arith, have)
 
-pub on_more : (i : Loaded) (row : Row) (count made word : ℕ) (st0 st new : Pools) (rg0 rg status : RegStatus) (ft0 ft from : Fetch) (result : Result Bool Fault) → IssuesOn i row count st0 rg0 ft0 made st rg ft → made < row.width → word ≡ (count + made) % 4294967296
-    → IssuesNext i row word st rg ft result new status from → result ≡ Ok true → IssuesOn i row count st0 rg0 ft0 (made + 1) new status from
-on_more i row count made word st0 st new rg0 rg status ft0 ft from result on less e issues is n t u s kind ends l at good loaded first =
+pub on_more : (i : Loaded) (row : Row) (count made counted word : ℕ) (st0 st new : Pools) (rg0 rg status : RegStatus) (ft0 ft from : Fetch) (result : Result Bool Fault) → IssuesOn i row count st0 rg0 ft0 made counted st rg ft → made < row.width
+    → IssuesNext i row counted st rg ft result new status from → result ≡ Ok true → word ≡ (counted + 1) % 4294967296 → IssuesOn i row count st0 rg0 ft0 (made + 1) word new status from
+on_more i row count made counted word st0 st new rg0 rg status ft0 ft from result on less issues is e n t u s kind ends l at good loaded first =
     let have = on n t u s kind ends l at good loaded first in
-    let before : issued_in u (run_to row i (count + made)) ≡ made = have.same in
-    let few : count + made ≤ n + 1 = have.now.few in
-    let same : word ≡ count + made = omega (arith, e) in
-    let more = tried i row n t u count made word s kind st new rg status ft from result true have.now (omega arith) same issues is ends l at good loaded in
-    issued_again i row n t u count made s kind st new rg status ft from have more ends at good
+    let more = tried i row n t u counted made s kind st new rg status ft from result true have.1 less issues is ends l at good loaded in
+    let again = issued_again i row n t u counted made s kind st new rg status ft from have.1 more ends at good in
+    let same : counted + 1 ≡ word = word_of i row n t u (counted + 1) (made + 1) word new status from again l e in
+    let low : count ≤ counted = have.0 in
+    (omega (arith, same), subst (λ (k : ℕ). HaveIssued i row n t u k (made + 1) new status from) same again)
 
-pub on_wait : (i : Loaded) (row : Row) (count made word : ℕ) (st0 st new : Pools) (rg0 rg status : RegStatus) (ft0 ft from : Fetch) (result : Result Bool Fault) → IssuesOn i row count st0 rg0 ft0 made st rg ft → made < row.width → word ≡ (count + made) % 4294967296
-    → IssuesNext i row word st rg ft result new status from → result ≡ Ok false → IssuesMore i row count st0 rg0 ft0 (Ok made) new status from
-on_wait i row count made word st0 st new rg0 rg status ft0 ft from result on less e issues is n t u s kind ends l at good loaded first =
+pub on_wait : (i : Loaded) (row : Row) (count made counted : ℕ) (st0 st new : Pools) (rg0 rg status : RegStatus) (ft0 ft from : Fetch) (result : Result Bool Fault) → IssuesOn i row count st0 rg0 ft0 made counted st rg ft → made < row.width
+    → IssuesNext i row counted st rg ft result new status from → result_unwrap_or result false ≡ false → IssuesMore i row count st0 rg0 ft0 counted new status from
+on_wait i row count made counted st0 st new rg0 rg status ft0 ft from result on less issues none n t u s kind ends l at good loaded first =
     let have = on n t u s kind ends l at good loaded first in
-    let before : issued_in u (run_to row i (count + made)) ≡ made = have.same in
-    let few : count + made ≤ n + 1 = have.now.few in
-    let same : word ≡ count + made = omega (arith, e) in
-    let more = tried i row n t u count made word s kind st new rg status ft from result false have.now (omega arith) same issues is ends l at good loaded in
-    (made, refl, record { now = more.on; same = have.same }, more.yet refl)
+    let d = answers i row n t u counted made s kind st new rg status ft from result have.1 less issues ends l at good loaded in
+    let more = tried i row n t u counted made s kind st new rg status ft from result false have.1 less issues (none_is result d.0 none d.1) ends l at good loaded in
+    (have.0, more.on, more.yet refl)
 
-pub on_fault : (i : Loaded) (row : Row) (count made word : ℕ) (st0 st new : Pools) (rg0 rg status : RegStatus) (ft0 ft from : Fetch) (result : Result Bool Fault) (fault : Fault) (last : Result ℕ Fault) → IssuesOn i row count st0 rg0 ft0 made st rg ft → made < row.width → word ≡ (count + made) % 4294967296
-    → IssuesNext i row word st rg ft result new status from → result ≡ Err fault → IssuesMore i row count st0 rg0 ft0 last new status from
-on_fault i row count made word st0 st new rg0 rg status ft0 ft from result fault last on less e issues is n t u s kind ends l at good loaded first =
-    let have = on n t u s kind ends l at good loaded first in
-    let before : issued_in u (run_to row i (count + made)) ≡ made = have.same in
-    let few : count + made ≤ n + 1 = have.now.few in
-    let same : word ≡ count + made = omega (arith, e) in
-    let next : IssuesNext i row (count + made) st rg ft result new status from = subst (λ (k : ℕ). IssuesNext i row k st rg ft result new status from) same issues in
-    let d = next n t u s kind ends l at good loaded (slot_there row u (run_to row i (count + made)) have.now.issued (omega arith)) have.now in
-    absurd (ok_or_err result d.0 fault d.1 is)
-
--- the width leaves no more
-full : (i : Loaded) (row : Row) (n t u count made : ℕ) (st : Pools) (rg : RegStatus) (ft : Fetch) → HaveIssued i row n t u count made st rg ft → row.width ≤ made → u ≡ t + 1 → count + made ≤ n → IsYetToIssue i row (count + made) u
-full i row n t u count made st rg ft have most e less =
-    let before : issued_in u (run_to row i (count + made)) ≡ made = have.same in
-    yet_more i row (count + made) t u (have.now.next less) (λ y is. without_slot row u (run_to row i (count + made)) y (slot_gone row u (run_to row i (count + made)) have.now.issued (omega arith))) e
-
-pub on_full : (i : Loaded) (row : Row) (count made : ℕ) (st0 st : Pools) (rg0 rg : RegStatus) (ft0 ft : Fetch) → IssuesOn i row count st0 rg0 ft0 made st rg ft → row.width ≤ made → IssuesMore i row count st0 rg0 ft0 (Ok made) st rg ft
-on_full i row count made st0 st rg0 rg ft0 ft on most n t u s kind ends l e good loaded first =
+pub on_full : (i : Loaded) (row : Row) (count made counted : ℕ) (st0 st : Pools) (rg0 rg : RegStatus) (ft0 ft : Fetch) → IssuesOn i row count st0 rg0 ft0 made counted st rg ft → row.width ≤ made → IssuesMore i row count st0 rg0 ft0 counted st rg ft
+on_full i row count made counted st0 st rg0 rg ft0 ft on most n t u s kind ends l e good loaded first =
     let have = on n t u s kind ends l e good loaded first in
-    (made, refl, have, full i row n t u count made st rg ft have most e)
+    (have.0, have.1.now, full i row n t u counted made st rg ft have.1 most e)
 
 -- The phase.
 
 before_one : (i : Loaded) (row : Row) (n count t u : ℕ) (st : Pools) (rg : RegStatus) (ft : Fetch) → IsRow row → u ≡ t + 1 → IsIssuedTo i row n t (clocks u u t) count st rg ft → HaveIssued i row n t u count 0 st rg ft
-before_one i row n count t u st rg ft good e old =
-    let at : count ≡ count + 0 = omega arith in
-    let none : issued_in u (run_to row i count) ≡ 0 = none_first row t u (run_to row i count) (run_timed row i count good) old.issued e in
-    record {
-      now = subst (λ (k : ℕ). IsIssuing i row n t u k st rg ft) at (record { few = old.few; slots = old.slots; status = old.status; from = old.from; issued = issued_more t u (run_to row i count) (omega arith) old.issued; next = old.next });
-      same = subst (λ (k : ℕ). issued_in u (run_to row i k) ≡ 0) at none;
-    }
+before_one i row n count t u st rg ft good e old = record {
+  now = record { few = old.few; slots = old.slots; status = old.status; from = old.from; issued = issued_more t u (run_to row i count) (omega arith) old.issued; next = old.next };
+  same = none_first row t u (run_to row i count) (run_timed row i count good) old.issued e;
+}
 
-first_tried : (i : Loaded) (row : Row) (n t u count : ℕ) (s : State) (kind : EndKind) (st new : Pools) (rg status : RegStatus) (ft from : Fetch) (result : Result Bool Fault) (more : Bool)
-    → HaveIssued i row n t u count 0 st rg ft → IssuesNext i row count st rg ft result new status from → result ≡ Ok more
-    → RunEnds i n s kind → n < 262144 → u ≡ t + 1 → IsRow row → IsLoaded i.window i.memory i.entry → IsTried i row n t u count 0 more new status from
-first_tried i row n t u count s kind st new rg status ft from result more have issues is ends l e good loaded =
-    let none : issued_in u (run_to row i (count + 0)) ≡ 0 = have.same in
-    let some : 0 < row.width = width_low row good in
-    tried i row n t u count 0 count s kind st new rg status ft from result more have.now (omega arith) (omega arith) issues is ends l e good loaded
+first_made : (i : Loaded) (row : Row) (n t u count word : ℕ) (s : State) (kind : EndKind) (st new : Pools) (rg status : RegStatus) (ft from : Fetch) (result : Result Bool Fault)
+    → IsIssuedTo i row n t (clocks u u t) count st rg ft → IssuesNext i row count st rg ft result new status from → result ≡ Ok true → word ≡ (count + 1) % 4294967296
+    → RunEnds i n s kind → n < 262144 → u ≡ t + 1 → IsRow row → IsLoaded i.window i.memory i.entry → (count < word) × HaveIssued i row n t u word 1 new status from
+first_made i row n t u count word s kind st new rg status ft from result old issues is e ends l at good loaded =
+    let have = before_one i row n count t u st rg ft good at old in
+    let first = tried i row n t u count 0 s kind st new rg status ft from result true have (width_low row good) issues is ends l at good loaded in
+    let made = issued_again i row n t u count 0 s kind st new rg status ft from have first ends at good in
+    let same : count + 1 ≡ word = word_of i row n t u (count + 1) 1 word new status from made l e in
+    (omega (arith, same), subst (λ (k : ℕ). HaveIssued i row n t u k 1 new status from) same made)
 
-issued_to : (i : Loaded) (row : Row) (n t u count made : ℕ) (st : Pools) (rg : RegStatus) (ft : Fetch) → HaveIssued i row n t u count made st rg ft → (count + made ≤ n → IsYetToIssue i row (count + made) u) → IsIssuedTo i row n u (clocks u u t) (count + made) st rg ft
-issued_to i row n t u count made st rg ft have yet = record { few = have.now.few; slots = have.now.slots; status = have.now.status; from = have.now.from; issued = have.now.issued; next = yet }
+issued_to : (i : Loaded) (row : Row) (n t u count : ℕ) (st : Pools) (rg : RegStatus) (ft : Fetch) → IsIssuing i row n t u count st rg ft → (count ≤ n → IsYetToIssue i row count u) → IsIssuedTo i row n u (clocks u u t) count st rg ft
+issued_to i row n t u count st rg ft on yet = record { few = on.few; slots = on.slots; status = on.status; from = on.from; issued = on.issued; next = yet }
 
 -- none issues
 pub phase_none : (i : Loaded) (row : Row) (u count : ℕ) (st new : Pools) (rg status : RegStatus) (ft from : Fetch) (result : Result Bool Fault)
-    → IssuesNext i row count st rg ft result new status from → result ≡ Ok false → MakesIssue i row u count st rg ft (counted_by count (Ok 0)) new status from
+    → IssuesNext i row count st rg ft result new status from → result ≡ Ok false → MakesIssue i row u count st rg ft (Ok false) count new status from
 phase_none i row u count st new rg status ft from result issues is n s kind t ends l e good loaded old =
-    let have = before_one i row n count t u st rg ft good e old in
-    let first = first_tried i row n t u count s kind st new rg status ft from result false have issues is ends l e good loaded in
-    (count + 0, refl, omega arith, issued_to i row n t u count 0 new status from (record { now = first.on; same = have.same }) (first.yet refl))
+    let first = tried i row n t u count 0 s kind st new rg status ft from result false (before_one i row n count t u st rg ft good e old) (width_low row good) issues is ends l e good loaded in
+    (rw (le-ltb count count (omega arith)) refl, omega arith, issued_to i row n t u count new status from first.on (first.yet refl))
 
 -- one does, and the width is one
-pub phase_one : (i : Loaded) (row : Row) (u count : ℕ) (st new : Pools) (rg status : RegStatus) (ft from : Fetch) (result : Result Bool Fault)
-    → IssuesNext i row count st rg ft result new status from → result ≡ Ok true → row.width ≡ 1 → MakesIssue i row u count st rg ft (counted_by count (Ok 1)) new status from
-phase_one i row u count st new rg status ft from result issues is one n s kind t ends l e good loaded old =
-    let have = before_one i row n count t u st rg ft good e old in
-    let first = first_tried i row n t u count s kind st new rg status ft from result true have issues is ends l e good loaded in
-    let made : HaveIssued i row n t u count 1 new status from = issued_again i row n t u count 0 s kind st new rg status ft from have first ends e good in
-    (count + 1, refl, omega arith, issued_to i row n t u count 1 new status from made (full i row n t u count 1 new status from made (omega arith) e))
+pub phase_one : (i : Loaded) (row : Row) (u count word : ℕ) (st new : Pools) (rg status : RegStatus) (ft from : Fetch) (result : Result Bool Fault)
+    → IssuesNext i row count st rg ft result new status from → result ≡ Ok true → word ≡ (count + 1) % 4294967296 → row.width ≡ 1 → MakesIssue i row u count st rg ft (Ok true) word new status from
+phase_one i row u count word st new rg status ft from result issues is w one n s kind t ends l e good loaded old =
+    let made = first_made i row n t u count word s kind st new rg status ft from result old issues is w ends l e good loaded in
+    let more : count < word = made.0 in
+    (rw (lt-ltb count word more) refl, omega arith, issued_to i row n t u word new status from made.1.now (full i row n t u word 1 new status from made.1 (omega arith) e))
 
 -- one does, and more after it
-pub phase_more : (i : Loaded) (row : Row) (u count : ℕ) (st mid new : Pools) (rg between status : RegStatus) (ft next from : Fetch) (result : Result Bool Fault) (last : Result ℕ Fault)
-    → IssuesNext i row count st rg ft result mid between next → result ≡ Ok true → IssuesMore i row count mid between next last new status from → MakesIssue i row u count st rg ft (counted_by count last) new status from
-phase_more i row u count st mid new rg between status ft next from result last issues is more n s kind t ends l e good loaded old =
-    let have = before_one i row n count t u st rg ft good e old in
-    let first = first_tried i row n t u count s kind st mid rg between ft next result true have issues is ends l e good loaded in
-    let made : HaveIssued i row n t u count 1 mid between next = issued_again i row n t u count 0 s kind st mid rg between ft next have first ends e good in
-    let d = more n t u s kind ends l e good loaded made in
-    (count + d.0, ap (counted_by count) d.1, omega arith, issued_to i row n t u count d.0 new status from d.2 d.3)
+pub phase_more : (i : Loaded) (row : Row) (u count word counted : ℕ) (st mid new : Pools) (rg between status : RegStatus) (ft next from : Fetch) (result : Result Bool Fault)
+    → IssuesNext i row count st rg ft result mid between next → result ≡ Ok true → word ≡ (count + 1) % 4294967296 → IssuesMore i row word mid between next counted new status from → MakesIssue i row u count st rg ft (Ok true) counted new status from
+phase_more i row u count word counted st mid new rg between status ft next from result issues is w more n s kind t ends l e good loaded old =
+    let made = first_made i row n t u count word s kind st mid rg between ft next result old issues is w ends l e good loaded in
+    let d = more n t u s kind ends l e good loaded made.1 in
+    let some : count < word = made.0 in
+    let rest : word ≤ counted = d.0 in
+    (rw (lt-ltb count counted (omega arith)) refl, omega arith, issued_to i row n t u counted new status from d.1 d.2)
 
 -- and none faults
-pub phase_fault : (i : Loaded) (row : Row) (u count : ℕ) (st new : Pools) (rg status : RegStatus) (ft from : Fetch) (result : Result Bool Fault) (fault : Fault) (last : Result ℕ Fault)
-    → IssuesNext i row count st rg ft result new status from → result ≡ Err fault → MakesIssue i row u count st rg ft last new status from
-phase_fault i row u count st new rg status ft from result fault last issues is n s kind t ends l e good loaded old =
-    let have = before_one i row n count t u st rg ft good e old in
-    let none : issued_in u (run_to row i (count + 0)) ≡ 0 = have.same in
-    let some : 0 < row.width = width_low row good in
-    let at : count ≡ count + 0 = omega arith in
-    let next : IssuesNext i row (count + 0) st rg ft result new status from = subst (λ (k : ℕ). IssuesNext i row k st rg ft result new status from) at issues in
-    let d = next n t u s kind ends l e good loaded (slot_there row u (run_to row i (count + 0)) have.now.issued (omega arith)) have.now in
+pub phase_fault : (i : Loaded) (row : Row) (u count counted : ℕ) (st new : Pools) (rg status : RegStatus) (ft from : Fetch) (result : Result Bool Fault) (fault : Fault) (last : Result Bool Fault)
+    → IssuesNext i row count st rg ft result new status from → result ≡ Err fault → MakesIssue i row u count st rg ft last counted new status from
+phase_fault i row u count counted st new rg status ft from result fault last issues is n s kind t ends l e good loaded old =
+    let d = answers i row n t u count 0 s kind st new rg status ft from result (before_one i row n count t u st rg ft good e old) (width_low row good) issues ends l e good loaded in
     absurd (ok_or_err result d.0 fault d.1 is)
-
--- no machine counts as far as its numbers go
-pub counted_in_word : (made count c : ℕ) → count + made < 4294967296 → c ≡ (if nat_lt 0 made then (count + made) % 4294967296 else count) → count + made ≡ c
-counted_in_word made count c l e = elim (cases_Bool (nat_lt 0 made)) [
-  | inl some ↦ let counted : c ≡ (count + made) % 4294967296 = rw some at e in omega (arith, counted)
-  | inr none ↦ let same : c ≡ count = rw none at e in let few : made ≤ 0 = ltb-false 0 made none in omega (arith, same, few)
-]

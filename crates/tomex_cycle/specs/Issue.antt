@@ -1,5 +1,5 @@
 -- The issue of one instruction, in a cycle in which others may have issued before it, and of as many as the width says.
-use Rattle.std.specs.Prelude.{◌≡◌, ℕ, ◌+◌, ◌≤◌, ◌<◌, ◌==◌, Bool, true, false, if◌then◌else◌, List, Result, Ok, Err, count_by}
+use Rattle.std.specs.Prelude.{◌≡◌, ℕ, ◌+◌, ◌≤◌, ◌<◌, ◌==◌, Bool, true, false, if◌then◌else◌, List, Result, Ok, count_by}
 use Rattle.tomex_image.specs.Image.{Loaded, IsLoaded}
 use Rattle.tomex_rvexec.specs.declared.outcome.EndKind.{EndKind}
 use Rattle.tomex_rvexec.specs.declared.outcome.Fault.{Fault}
@@ -28,11 +28,6 @@ pub record IsIssuing (i : Loaded) (row : Row) (n t u count : ℕ) (stations : Po
 abbrev pub count_after : Bool → ℕ → ℕ
 count_after made count = if made then count + 1 else count
 
--- how many are issued once so many more are, or why none could be
-abbrev pub counted_by : ℕ → Result ℕ Fault → Result ℕ Fault
-counted_by count (Ok made) = Ok (count + made)
-counted_by count (Err fault) = Err fault
-
 -- The next step issues, or can't in the cycle. The width leaves one more issue before it.
 abbrev pub IssuesNext : Loaded → Row → ℕ → Pools → RegStatus → Fetch → Result Bool Fault → Pools → RegStatus → Fetch → Type 0
 IssuesNext i row count stations registers fetch result new status from = (n t u : ℕ) (s : State) (kind : EndKind) → RunEnds i n s kind → n < 262144 → u ≡ t + 1 → IsRow row → IsLoaded i.window i.memory i.entry
@@ -43,18 +38,18 @@ IssuesNext i row count stations registers fetch result new status from = (n t u 
 abbrev pub issued_in : ℕ → List Done → ℕ
 issued_in u h = count_by (λ d. d.at.issue == u) h
 
--- Of the issues of the cycle u so many are made, after as many as are counted by then.
+-- So many steps are issued, the last so many of them in the cycle u.
 pub record HaveIssued (i : Loaded) (row : Row) (n t u count made : ℕ) (stations : Pools) (registers : RegStatus) (fetch : Fetch) : Type 0 where
-  pub now : IsIssuing i row n t u (count + made) stations registers fetch
-  pub same : issued_in u (run_to row i (count + made)) ≡ made
+  pub now : IsIssuing i row n t u count stations registers fetch
+  pub same : issued_in u (run_to row i count) ≡ made
 
--- from where one has issued to where so many have
-abbrev pub IssuesOn : Loaded → Row → ℕ → Pools → RegStatus → Fetch → ℕ → Pools → RegStatus → Fetch → Type 0
-IssuesOn i row count stations registers fetch made new status from = (n t u : ℕ) (s : State) (kind : EndKind) → RunEnds i n s kind → n < 262144 → u ≡ t + 1 → IsRow row → IsLoaded i.window i.memory i.entry
-    → HaveIssued i row n t u count 1 stations registers fetch → HaveIssued i row n t u count made new status from
+-- from where one has issued in the cycle to where so many have
+abbrev pub IssuesOn : Loaded → Row → ℕ → Pools → RegStatus → Fetch → ℕ → ℕ → Pools → RegStatus → Fetch → Type 0
+IssuesOn i row count stations registers fetch made counted new status from = (n t u : ℕ) (s : State) (kind : EndKind) → RunEnds i n s kind → n < 262144 → u ≡ t + 1 → IsRow row → IsLoaded i.window i.memory i.entry
+    → HaveIssued i row n t u count 1 stations registers fetch → (count ≤ counted) × HaveIssued i row n t u counted made new status from
 
 -- Where one has issued, more do, up to the width or to one that can't.
-abbrev pub IssuesMore : Loaded → Row → ℕ → Pools → RegStatus → Fetch → Result ℕ Fault → Pools → RegStatus → Fetch → Type 0
-IssuesMore i row count stations registers fetch result new status from = (n t u : ℕ) (s : State) (kind : EndKind) → RunEnds i n s kind → n < 262144 → u ≡ t + 1 → IsRow row → IsLoaded i.window i.memory i.entry
+abbrev pub IssuesMore : Loaded → Row → ℕ → Pools → RegStatus → Fetch → ℕ → Pools → RegStatus → Fetch → Type 0
+IssuesMore i row count stations registers fetch counted new status from = (n t u : ℕ) (s : State) (kind : EndKind) → RunEnds i n s kind → n < 262144 → u ≡ t + 1 → IsRow row → IsLoaded i.window i.memory i.entry
     → HaveIssued i row n t u count 1 stations registers fetch
-    → (made : ℕ) × (result ≡ Ok made) × HaveIssued i row n t u count made new status from × (count + made ≤ n → IsYetToIssue i row (count + made) u)
+    → (count ≤ counted) × IsIssuing i row n t u counted new status from × (counted ≤ n → IsYetToIssue i row counted u)

@@ -1,5 +1,5 @@
 -- What each phase of a cycle makes, and the snapshot between two cycles.
-use Rattle.std.specs.Prelude.{◌≡◌, ℕ, ◌+◌, ◌≤◌, ◌<◌, false, List, Option, Some, None, Result, Ok, Bool, true, ◌&&◌, ◌==◌}
+use Rattle.std.specs.Prelude.{◌≡◌, ℕ, ◌+◌, ◌≤◌, ◌<◌, false, List, Option, Some, None, Result, Ok, Bool, true, ◌&&◌, ◌==◌, nat_lt}
 use Rattle.tomex_image.specs.Image.{Loaded, IsLoaded}
 use Rattle.tomex_rvexec.specs.declared.outcome.EndKind.{EndKind}
 use Rattle.tomex_rvexec.specs.declared.outcome.Fault.{Fault}
@@ -50,11 +50,11 @@ abbrev pub MakesAddress : ℕ → Pools → Pools → Type 0
 MakesAddress next stations new = (i : Loaded) (row : Row) (h : List Done) (t : ℕ) → next ≡ t + 1 → IsHistory i row h → AreIssuedBy t h
     → ShowsStations i (clocks next t t) h stations → ShowsStations i (clocks next next t) h new
 
--- the issues of the run's next steps whose cycle it is
-abbrev pub MakesIssue : Loaded → Row → ℕ → ℕ → Pools → RegStatus → Fetch → Result ℕ Fault → Pools → RegStatus → Fetch → Type 0
-MakesIssue i row next count stations registers fetch result new status from = (n : ℕ) (s : State) (kind : EndKind) (t : ℕ) → RunEnds i n s kind → n < 262144 → next ≡ t + 1 → IsRow row → IsLoaded i.window i.memory i.entry
+-- the issues of the run's next steps whose cycle it is, how many are counted then, and whether there are any
+abbrev pub MakesIssue : Loaded → Row → ℕ → ℕ → Pools → RegStatus → Fetch → Result Bool Fault → ℕ → Pools → RegStatus → Fetch → Type 0
+MakesIssue i row next count stations registers fetch result counted new status from = (n : ℕ) (s : State) (kind : EndKind) (t : ℕ) → RunEnds i n s kind → n < 262144 → next ≡ t + 1 → IsRow row → IsLoaded i.window i.memory i.entry
     → IsIssuedTo i row n t (clocks next next t) count stations registers fetch
-    → (c : ℕ) × (result ≡ Ok c) × (count ≤ c) × IsIssuedTo i row n next (clocks next next t) c new status from
+    → (result ≡ Ok (nat_lt count counted)) × (count ≤ counted) × IsIssuedTo i row n next (clocks next next t) counted new status from
 
 -- the broadcasts and ends, and the targets of branches that finish
 abbrev pub MakesEnds : Row → ℕ → Pools → RegStatus → Fetch → Pools → RegStatus → Fetch → Type 0

@@ -1,6 +1,6 @@
 //! What has happened in a cycle, as far as it tells whether those after it can be passed.
 
-ghost use Rattle.std.specs.Prelude.{◌≡◌, ◌≢◌, ◌+◌, ◌%◌, ◌^◌, ◌⊎◌, true, false, if◌then◌else◌, nat_lt};
+ghost use Rattle.std.specs.Prelude.{◌≡◌, ◌≢◌, ◌⊎◌, true, false, if◌then◌else◌};
 ghost use Rattle.tomex_cycle.specs.Starts.{NoneWaits};
 
 use tomex_tags::Pools;
@@ -24,18 +24,6 @@ impl Happened {
         if happens {
             *self = what;
         }
-    }
-}
-
-/// Counts the instructions that have issued in the cycle, and notes it where one has.
-#[inline(always)]
-pub(crate) fn count_issues(count: &mut u32, happened: &mut Happened, made: u32)
-    ensures count { count.new ≡ (if nat_lt 0 made then (count.old + made) % 2 ^ 32 else count.old) }
-    ensures happened { happened.new ≡ (if nat_lt 0 made then Happened.More else happened.old) }
-{
-    if 0 < made {
-        *count = count.wrapping_add(made);
-        *happened = Happened::More;
     }
 }
 

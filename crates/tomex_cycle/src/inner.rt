@@ -22,7 +22,7 @@ ghost use Rattle.tomex_cycle.specs.declared.progress.Progress.{Progress};
 
 use crate::fetch::Fetch;
 use crate::finishes::Finishes;
-use crate::happened::{Happened, count_issues, is_still};
+use crate::happened::{Happened, is_still};
 use crate::phases;
 use crate::progress::Made;
 use crate::shown::Tables;
@@ -102,12 +102,12 @@ impl<A: Allocator> Inner<A> {
             &mut self.pools,
             &mut self.registers,
             &mut self.fetch,
-            self.count,
+            &mut self.count,
             fetcher,
             row,
             next,
         ) {
-            Ok(made) => count_issues(&mut self.count, &mut self.happened, made),
+            Ok(made) => self.happened.note(Happened::More, made),
             Err(fault) => return Made::Faulted(fault),
         }
         let ended = phases::end(

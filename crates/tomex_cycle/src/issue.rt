@@ -1,6 +1,6 @@
 //! The issue of one instruction, and of more in the same cycle.
 
-ghost use Rattle.std.specs.Prelude.{ℕ, ◌≡◌, ◌<◌, IfOk, Ok, false};
+ghost use Rattle.std.specs.Prelude.{ℕ, ◌≡◌, Ok, false};
 ghost use Rattle.tomex_cycle.specs.declared.finishes.Finishes.{Finishes};
 ghost use Rattle.tomex_cycle.specs.Finishes.{AreKnown};
 ghost use Rattle.tomex_cycle.specs.Issue.{IssuesMore, IssuesNext};
@@ -53,38 +53,32 @@ pub fn issue_next<A: Allocator>(
 }
 
 /// Issues more instructions in a cycle in which one has issued, as many as the row's width leaves, up to
-/// the first that can't; answers how many have issued in the cycle then. So many had issued before it.
+/// the first that can't, and counts each. One that can't be fetched is told by the next cycle, which begins with it.
 ///
-/// A function of its own, which is not put into its caller: on a row of width 1 none is called.
+/// On a row of width 1 it is never called. So it isn't put into its caller, the compiler keeps nothing in readiness
+/// for it, and it answers nothing, since each cycle would make room for the answer.
+#[cold]
 #[inline(never)]
 pub fn issue_more<A: Allocator>(
     pools: &mut Pools,
     registers: &mut RegStatus,
     fetch: &mut Fetch,
-    count: u32,
+    count: &mut u32,
     fetcher: &mut Fetcher<'_, A>,
     row: &Config,
-) -> Result<u32, Fault>
-    ensures issues { IssuesMore fetcher.old row.now count pools.old registers.old fetch.old result pools.new registers.new fetch.new }
-    ensures some { IfOk result (λ made. 0 < made) }
+)
+    ensures issues { IssuesMore fetcher.old row.now count.old pools.old registers.old fetch.old count.new pools.new registers.new fetch.new }
     ensures known { (f : Finishes) (next : ℕ) → AreKnown pools.old.slots next f → AreKnown pools.new.slots next f }
     ensures same { fetcher.new ≡ fetcher.old }
 {
-    let width = u32::from(row.width());
+    let width = row.width();
     let mut made = 1;
     'issues: while made < width {
-        let more = issue_next(
-            pools,
-            registers,
-            fetch,
-            count.wrapping_add(made),
-            fetcher,
-            row,
-        )?;
+        let more = issue_next(pools, registers, fetch, *count, fetcher, row).unwrap_or(false);
         if !more {
-            return Ok(made);
+            return;
         }
+        *count = count.wrapping_add(1);
         made += 1;
     }
-    Ok(made)
 }

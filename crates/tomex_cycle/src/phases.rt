@@ -2,7 +2,6 @@
 
 ghost use Rattle.std.specs.Prelude.{ℕ, ◌≡◌, ◌<◌, ◌+◌, ◌^◌, IfSome, None, Ok, Some, false, slice_index_or, true};
 ghost use Rattle.tomex_cycle.specs.Finishes.{AreKnown};
-ghost use Rattle.tomex_cycle.specs.Issue.{counted_by};
 ghost use Rattle.tomex_cycle.specs.Phases.{AddressHappens, EndsHappen, MakesStarts, MakesAddress, MakesIssue, MakesEnds, StartsHappen};
 ghost use Rattle.tomex_cycle.specs.Starts.{CanBegin};
 ghost use Rattle.tomex_rvexec.specs.declared.outcome.FaultKind.{FaultKind};
@@ -71,31 +70,33 @@ pub fn address(pools: &mut Pools, next: u64) -> bool
     }
 }
 
-/// Issues the next instructions, as many as the row's width says, up to the first that something is in the way of;
-/// answers how many. So many have issued before.
+/// Issues the next instructions, as many as the row's width says, up to the first that something is in the way of, and
+/// counts them; answers whether any has issued.
 #[inline(always)]
 pub fn issue<A: Allocator>(
     pools: &mut Pools,
     registers: &mut RegStatus,
     fetch: &mut Fetch,
-    count: u32,
+    count: &mut u32,
     fetcher: &mut Fetcher<'_, A>,
     row: &Config,
     next: u64,
-) -> Result<u32, Fault>
-    ensures issues { MakesIssue fetcher.old row.now next count pools.old registers.old fetch.old (counted_by count result) pools.new registers.new fetch.new }
-    ensures none { result ≡ Ok 0 → pools.new.slots ≡ pools.old.slots }
+) -> Result<bool, Fault>
+    ensures issues { MakesIssue fetcher.old row.now next count.old pools.old registers.old fetch.old result count.new pools.new registers.new fetch.new }
+    ensures none { result ≡ Ok false → pools.new.slots ≡ pools.old.slots }
     ensures known { (f : Finishes) → AreKnown pools.old.slots next f → AreKnown pools.new.slots next f }
     ensures same { fetcher.new ≡ fetcher.old }
 {
-    if !issue_next(pools, registers, fetch, count, fetcher, row)? {
-        return Ok(0);
+    if !issue_next(pools, registers, fetch, *count, fetcher, row)? {
+        return Ok(false);
     }
+    *count = count.wrapping_add(1);
     // Most rows are of width 1, and their cycles are not to pay for the others.
     if row.width() == 1 {
-        return Ok(1);
+        return Ok(true);
     }
-    issue_more(pools, registers, fetch, count, fetcher, row)
+    issue_more(pools, registers, fetch, count, fetcher, row);
+    Ok(true)
 }
 
 /// Sends results over the buses, frees stations, and follows branches; answers whether anything ends or finishes.

@@ -100,3 +100,50 @@ fn no_steps_take_no_cycles(rt: HostRuntime) -> Result<(), Fail> {
     assert!(rt; total(timed.as_slice()) == 0);
     Ok(())
 }
+
+/// `addi x1,x0,5; addi x2,x0,7; mul x3,x1,x2; ebreak`
+const PRODUCT: [u32; 4] = [0x00500093, 0x00700113, 0x022081b3, 0x00100073];
+
+/// `addi x5,x0,4; mul x6,x5,x5; jalr x0,0(x6); ebreak; ebreak`
+const INDIRECT: [u32; 5] = [0x00400293, 0x02528333, 0x00030067, 0x00100073, 0x00100073];
+
+/// Programs on machines of so many alu stations, alu units, buses and issues a cycle, each with the issue and the end
+/// of every step. Nothing issues past the jump by a register before it has finished.
+static TIMED: [(&[u32], [u8; 4], &[(u64, u64)]); 5] = [
+    (&PRODUCT, [2, 2, 2, 1], &[(1, 3), (2, 4), (3, 8), (4, 4)]),
+    (&PRODUCT, [2, 2, 2, 2], &[(1, 3), (1, 3), (2, 7), (2, 2)]),
+    (&PRODUCT, [2, 2, 2, 4], &[(1, 3), (1, 3), (1, 7), (1, 1)]),
+    (&PRODUCT, [1, 1, 1, 2], &[(1, 3), (4, 6), (4, 10), (5, 5)]),
+    (&INDIRECT, [2, 1, 1, 4], &[(1, 3), (1, 7), (1, 8), (9, 9)]),
+];
+
+/// The issue and the end of each of a program's four steps on such a machine.
+fn issues_and_ends(
+    rt: &HostRuntime,
+    words: &[u32],
+    machine: [u8; 4],
+) -> Result<Vec<(u64, u64)>, Fail> {
+    let [stations, units, buses, width] = machine;
+    let alus = UnitOption { units, ..unit(1) };
+    let kinds = [alus, unit(3), unit(1), unit(1), unit(1)];
+    let row = Config::new([stations, 1, 1, 1, 1, 1], kinds, buses, width).ok_or("no row")?;
+    let steps = trace_of(rt, words)?;
+    if steps.len() != 4 {
+        return Err("another number of steps")?;
+    }
+    let timed = times(rt.alloc(), steps.as_slice(), &row)?;
+    let mut seen = Vec::new(rt.alloc());
+    for at in &timed {
+        seen.push((at.issue, at.end))?;
+    }
+    Ok(seen)
+}
+
+#[test]
+fn as_many_issue_as_the_width_says(rt: HostRuntime) -> Result<(), Fail> {
+    for (words, machine, wanted) in &TIMED {
+        let seen = issues_and_ends(&rt, words, *machine)?;
+        assert!(rt; seen.as_slice() == *wanted);
+    }
+    Ok(())
+}

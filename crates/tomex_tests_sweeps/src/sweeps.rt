@@ -14,6 +14,9 @@ mod refused;
 /// `addi x1,x0,499; addi x1,x1,-1; bne x1,x0,-4; ebreak`
 const LOOP: [u32; 4] = [0x1f300093, 0xfff08093, 0xfe009ee3, 0x00100073];
 
+/// `addi x1,x0,5; addi x2,x0,7; mul x3,x1,x2; ebreak`
+const PRODUCT: [u32; 4] = [0x00500093, 0x00700113, 0x022081b3, 0x00100073];
+
 /// One unit of this latency, at this price.
 fn unit(latency: u8, price: u32) -> UnitOption {
     UnitOption {
@@ -139,5 +142,49 @@ fn a_look_is_told_by_the_weight(rt: HostRuntime) -> Result<(), Fail> {
     assert!(rt; explored(&rt, &study, 1, &OpenGate)?.marks.as_slice() == marks.as_slice());
     let marks = [Mark::Finished(4000), Mark::Finished(5000)];
     assert!(rt; whole(rt.alloc(), &study)?.marks.as_slice() == marks.as_slice());
+    Ok(())
+}
+
+/// Weights of the product beside the loop, each with the cycles of two rows and with the front: of a fast alu unit,
+/// 2,000 cycles of the loop and 71 of the product, and of a fast multiplier, 6,500 and 26.
+static WEIGHED: [(u32, [u64; 2], &[usize]); 5] = [
+    (1, [2_071, 6_526], &[0]),
+    (99, [9_029, 9_074], &[0]),
+    (100, [9_100, 9_100], &[0, 1]),
+    (101, [9_171, 9_126], &[1]),
+    (1_000, [73_000, 32_500], &[1]),
+];
+
+/// The study of the loop and the product, of this weight, on those two rows, which cost the same.
+fn study_of_both(alloc: Global, weight: u32) -> Result<Study, Fail> {
+    let mut rows = Vec::new(alloc);
+    rows.push(row_of(unit(1, 5), unit(64, 0))?)?;
+    rows.push(row_of(unit(10, 5), unit(1, 0))?)?;
+    let mut programs = Vec::new(alloc);
+    programs.push(program_of(alloc, "loop", LOOP.as_slice(), 1)?)?;
+    programs.push(program_of(alloc, "product", PRODUCT.as_slice(), weight)?)?;
+    study_on(alloc, programs, rows)
+}
+
+/// Whether the study's rows take these cycles, and these rows are on its front.
+fn fronts<R: AllocGlobal + Threads + Wait + Sync>(
+    rt: &R,
+    weight: u32,
+    cycles: [u64; 2],
+    front: &[usize],
+) -> Result<bool, Fail> {
+    let study = study_of_both(rt.alloc(), weight)?;
+    let marks = [Mark::Finished(cycles[0]), Mark::Finished(cycles[1])];
+    let ran = whole(rt.alloc(), &study)?.marks.as_slice() == marks.as_slice();
+    let found = explored(rt, &study, 2, &OpenGate)?.front;
+    Ok(ran && found.iter().map(|row| row.row).eq(front.iter().copied()))
+}
+
+/// Which of the rows is the better one is the weight's affair.
+#[test]
+fn weights_choose_the_front(rt: HostRuntime) -> Result<(), Fail> {
+    for (weight, cycles, front) in &WEIGHED {
+        assert!(rt; fronts(&rt, *weight, *cycles, front)?);
+    }
     Ok(())
 }

@@ -1,46 +1,35 @@
 -- The first issue is made; each turn makes one more, or finds that it can't be made.
-use Rattle.std.proofs.Common.{Bool, Ok, ◌∙◌, ◌<◌, ◌≤◌, ap, arith, refl}
-use Rattle.tomex_cycle.proofs.IssuesPhase.{on_fault, on_first, on_full, on_more, on_wait}
+use Rattle.std.proofs.Common.{◌∙◌, ◌<◌, ◌≤◌, arith, refl, sym}
+use Rattle.tomex_cycle.proofs.IssuesPhase.{on_first, on_full, on_more, on_wait, one_is}
 use Rattle.tomex_cycle.proofs.issue.issue_more.Goals as goal
 
 pub issues-init : goal.issues-init
 issues-init g c = record {
-  on = on_first c.args.fetcher.now c.args.row.now c.args.count c.args.pools.now c.args.registers.now c.args.fetch.now;
-  some = omega arith;
+  on = on_first c.args.fetcher.now c.args.row.now c.args.count.now c.args.pools.now c.args.registers.now c.args.fetch.now;
   known = λ f next known. known;
   same = refl;
 }
 
-pub returns-in_err-more-clause-issues : goal.returns-in_err-more-clause-issues
-returns-in_err-more-clause-issues g c =
-    let less : c.issues.made < c.args.row.now.width = omega (arith, c.from-width.ensures, c.width.ensures.count, c.issues-test.true) in
-    on_fault c.args.fetcher.now c.args.row.now c.args.count c.issues.made _ _ _ _ _ _ _ _ _ _ c.issue_next.result _ _ c.issues.invariant.on less refl
-    (rw c.issues.invariant.same at c.issue_next.ensures.issues) c.in_err-more.was
-
-pub returns-in_err-more-clause-known : goal.returns-in_err-more-clause-known
-returns-in_err-more-clause-known g c = λ f next known. c.issue_next.ensures.known f next (c.issues.invariant.known f next known)
-
-pub returns-then-not-more-clause-issues : goal.returns-then-not-more-clause-issues
-returns-then-not-more-clause-issues g c =
-    let less : c.issues.made < c.args.row.now.width = omega (arith, c.from-width.ensures, c.width.ensures.count, c.issues-test.true) in
-    on_wait c.args.fetcher.now c.args.row.now c.args.count c.issues.made _ _ _ _ _ _ _ _ _ _ c.issue_next.result c.issues.invariant.on less refl
-    (rw c.issues.invariant.same at c.issue_next.ensures.issues) (c.in_ok-more.was ∙ ap (λ (b : Bool). Ok b) c.if-not-more.true)
-
-pub returns-then-not-more-clause-known : goal.returns-then-not-more-clause-known
-returns-then-not-more-clause-known g c = λ f next known. c.issue_next.ensures.known f next (c.issues.invariant.known f next known)
-
 pub issues-preserved : goal.issues-preserved
 issues-preserved g c =
-    let less : c.issues.made < c.args.row.now.width = omega (arith, c.from-width.ensures, c.width.ensures.count, c.issues-test.true) in
+    let less : c.issues.made < c.args.row.now.width = omega (arith, c.width-width.ensures.count, c.issues-test.true) in
     record {
-      on = on_more c.args.fetcher.now c.args.row.now c.args.count c.issues.made _ _ _ _ _ _ _ _ _ _ c.issue_next.result c.issues.invariant.on less refl
-          (rw c.issues.invariant.same at c.issue_next.ensures.issues) (c.in_ok-more.was ∙ ap (λ (b : Bool). Ok b) c.if-not-more.false);
-      some = omega arith;
+      on = on_more c.args.fetcher.now c.args.row.now c.args.count.now c.issues.made c.issues.count _ _ _ _ _ _ _ _ _ _ c.issue_next.result c.issues.invariant.on less
+          (rw c.issues.invariant.same at c.issue_next.ensures.issues) (one_is c.issue_next.result (sym c.unwrap_or-more.ensures ∙ c.if-not-more.false)) refl;
       known = λ f next known. c.issue_next.ensures.known f next (c.issues.invariant.known f next known);
       same = c.issue_next.ensures.same ∙ c.issues.invariant.same;
     }
 
+pub returns-then-not-more-clause-issues : goal.returns-then-not-more-clause-issues
+returns-then-not-more-clause-issues g c =
+    let less : c.issues.made < c.args.row.now.width = omega (arith, c.width-width.ensures.count, c.issues-test.true) in
+    on_wait c.args.fetcher.now c.args.row.now c.args.count.now c.issues.made _ _ _ _ _ _ _ _ _ _ c.issue_next.result c.issues.invariant.on less
+    (rw c.issues.invariant.same at c.issue_next.ensures.issues) (sym c.unwrap_or-more.ensures ∙ c.if-not-more.true)
+
+pub returns-then-not-more-clause-known : goal.returns-then-not-more-clause-known
+returns-then-not-more-clause-known g c = λ f next known. c.issue_next.ensures.known f next (c.issues.invariant.known f next known)
+
 pub returns-clause-issues : goal.returns-clause-issues
 returns-clause-issues g c =
-    let most : c.args.row.now.width ≤ c.issues.made = omega (arith, c.from-width.ensures, c.width.ensures.count, c.issues-test.false) in
-    on_full c.args.fetcher.now c.args.row.now c.args.count c.issues.made _ _ _ _ _ _ c.issues.invariant.on most
+    let most : c.args.row.now.width ≤ c.issues.made = omega (arith, c.width-width.ensures.count, c.issues-test.false) in
+    on_full c.args.fetcher.now c.args.row.now c.args.count.now c.issues.made c.issues.count _ _ _ _ _ _ c.issues.invariant.on most
