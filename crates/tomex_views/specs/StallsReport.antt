@@ -1,12 +1,11 @@
 -- The stalls report of a run: a record for each part of the machine, and one for each thing else that steps wait for.
-use Rattle.std.specs.Prelude.{◌≡◌, ℕ, ◌-◌, List, [], ◌∷◌, ◌++◌, codes, map}
+use Rattle.std.specs.Prelude.{◌≡◌, ℕ, ◌-◌, List, [], ◌∷◌, ◌++◌, codes}
 use Rattle.std.specs.List.{flat_map}
 use Rattle.std.specs.Fmt.{decimal}
 use Rattle.tomex_rvdec.specs.Parts.{name_of_pool, name_of_unit}
 use Rattle.tomex_rvexec.specs.declared.step.Step.{Step}
 use Rattle.tomex_config.specs.Row.{Row}
-use Rattle.tomex_config.specs.Cost.{all_pools, all_units}
-use Rattle.tomex_timing.specs.Needs.{AreNeeds, count_of, need_of}
+use Rattle.tomex_timing.specs.Needs.{AreNeeds, all_parts, count_of, need_of}
 use Rattle.tomex_timing.specs.Search.{history}
 use Rattle.tomex_timing.specs.declared.needs.Needs.{Needs}
 use Rattle.tomex_timing.specs.declared.part.Part.{Part}
@@ -16,16 +15,12 @@ use Rattle.tomex_records.specs.Csv.{record_text}
 abbrev pub header : List (List ℕ)
 header = codes "part" ∷ codes "count" ∷ codes "peak" ∷ codes "stalls" ∷ []
 
--- a part's name, which is that of its column in the front report
+-- a part's name, which is that of its column in the front report; the parts are listed in the order of those columns
 abbrev pub name_of_part : Part → List ℕ
 name_of_part (Stations pool) = name_of_pool pool
 name_of_part (Units unit) = name_of_unit unit ++ codes "_units"
 name_of_part Buses = codes "buses"
 name_of_part Width = codes "width"
-
--- all parts, in the order of those columns
-abbrev pub all_parts : List Part
-all_parts = map Stations all_pools ++ (map Units all_units ++ (Buses ∷ Width ∷ []))
 
 -- how many of a part there are, how many of it the run takes at once at most, and how long its steps wait for it
 abbrev pub part_fields : Row → Needs → Part → List (List ℕ)

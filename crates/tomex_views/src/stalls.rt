@@ -5,8 +5,9 @@ ghost use Rattle.std.specs.List.{flat_map};
 ghost use Rattle.csv.specs.Records.{fields_of, partial_of};
 ghost use Rattle.tomex_rvexec.specs.Run.{start_of};
 ghost use Rattle.tomex_rvexec.specs.Trace.{steps_from};
+ghost use Rattle.tomex_timing.specs.Needs.{all_parts};
 ghost use Rattle.tomex_records.specs.Csv.{IsReady, written};
-ghost use Rattle.tomex_views.specs.StallsReport.{IsStallsReport, all_parts, header, name_of_part, other_record, other_records, part_fields, part_record, report_of_needs};
+ghost use Rattle.tomex_views.specs.StallsReport.{IsStallsReport, header, name_of_part, other_record, other_records, part_fields, part_record, report_of_needs};
 
 use crate::steps::steps_of;
 use csv::{ByteRecord, Writer};

@@ -1,6 +1,7 @@
 -- The record of one part more.
 use Rattle.std.proofs.Common.{refl}
-use Rattle.tomex_views.specs.StallsReport.{all_parts, part_record}
+use Rattle.tomex_timing.specs.Needs.{all_parts}
+use Rattle.tomex_views.specs.StallsReport.{part_record}
 use Rattle.tomex_views.proofs.Pieces.{next_piece}
 use Rattle.tomex_views.proofs.stalls.put_parts.Goals as goal
 

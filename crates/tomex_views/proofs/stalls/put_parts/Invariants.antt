@@ -1,8 +1,9 @@
 -- The records of the parts so far are written.
 use Rattle.std.proofs.Common.{◌≡◌, ◌++◌, take}
 use Rattle.std.specs.List.{flat_map}
+use Rattle.tomex_timing.specs.Needs.{all_parts}
 use Rattle.tomex_records.specs.Csv.{IsReady, written}
-use Rattle.tomex_views.specs.StallsReport.{all_parts, part_record}
+use Rattle.tomex_views.specs.StallsReport.{part_record}
 use Rattle.tomex_views.proofs.stalls.put_parts.Given as goal
 
 abbrev pub invariant-loop-part : goal.invariant-loop-part
