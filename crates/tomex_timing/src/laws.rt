@@ -1,6 +1,10 @@
 //! Laws of the recurrence. These functions do nothing: their contracts are the laws.
 
+ghost use Rattle.std.specs.Prelude.{◌≡◌};
+ghost use Rattle.tomex_timing.specs.Needs.{all_parts};
 ghost use Rattle.tomex_timing.specs.Laws.{TimesExist, TimesAreUnique, SearchIsTimed, TimedIsSearch, TotalIsBounded, TotalIsGreatestEnd, YoungerChangeNothing, IssuesAlone, IssuesRise, IssuesStandInOrder, IssuesFitTheWidth, TimesAreInReach, StartsComeLater, ResultsComeLater, AddressesRise, NumbersAreLow, StationsAreApart, StationsAreThere, AccessesConflict, ConflictsAreFinished, PeakIsWithin, StalledPartsAreFull, NeedsTell, ServedTimesAreSame, ServedRunsAreSame, IssueCyclesAddUp, StationCyclesAddUp, WaitsAddUp, StationWaitsAreStalls, UnitWaitsAreStalls, BusWaitsAreStalls, WidthWaitsAreStalls};
+
+use crate::part::Part;
 
 /// Each step of a run has times, and only one set of them.
 pub fn each_step_has_one_set_of_times()
@@ -91,4 +95,9 @@ pub fn waits_add_up_to_stalls()
     ensures units { UnitWaitsAreStalls }
     ensures buses { BusWaitsAreStalls }
     ensures width { WidthWaitsAreStalls }
+{}
+
+/// `Part::ALL` has all parts, in the order of reports.
+pub fn all_parts_stand_in_order()
+    ensures { Part.ALL ≡ all_parts }
 {}

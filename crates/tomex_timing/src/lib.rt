@@ -20,10 +20,11 @@ mod waiting;
 mod window;
 
 pub use laws::{
-    accesses_of_one_byte_wait, cycles_are_accounted_for, each_step_has_one_set_of_times,
-    issues_alone_at_width_one, issues_fit_the_width, parts_without_stalls_may_differ,
-    search_is_the_recurrence, stations_hold_one_step, times_stand_in_order, total_is_bounded,
-    total_is_the_greatest_end, waits_add_up_to_stalls, younger_steps_change_nothing,
+    accesses_of_one_byte_wait, all_parts_stand_in_order, cycles_are_accounted_for,
+    each_step_has_one_set_of_times, issues_alone_at_width_one, issues_fit_the_width,
+    parts_without_stalls_may_differ, search_is_the_recurrence, stations_hold_one_step,
+    times_stand_in_order, total_is_bounded, total_is_the_greatest_end, waits_add_up_to_stalls,
+    younger_steps_change_nothing,
 };
 pub use needs::Needs;
 pub use part::{Need, Part, Waits};
