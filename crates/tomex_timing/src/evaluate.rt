@@ -19,6 +19,7 @@ use tomex_config::Config;
 use tomex_rvexec::Step;
 
 /// Keeps a step with its times, and of those before the ones that end no earlier than it issues.
+#[inline(always)]
 fn keep<A: Allocator>(
     live: &mut Vec<Live, A>,
     latest: &mut Latest,

@@ -187,6 +187,8 @@ fn without_unit(from: u64, issue: u64, address: Option<u64>, station: Option<u8>
 }
 
 /// The next step.
+// Inlined, as are the other calls of the loops over a run's steps: what a loop doesn't use isn't made.
+#[inline(always)]
 pub(crate) fn next_step(
     row: &Config,
     live: &[Live],

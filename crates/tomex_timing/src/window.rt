@@ -46,6 +46,7 @@ pub(crate) struct Latest {
 }
 
 impl Facts {
+    #[inline(always)]
     pub fn of(step: &Step) -> Facts
         ensures facts { result ≡ facts_of step.now }
         ensures register { IfSome result.dest (λ r. r < 32) }
