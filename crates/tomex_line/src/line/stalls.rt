@@ -70,7 +70,7 @@ of which there is one, which holds the program back; and
   tomex stalls explore.toml 132 matrix --by-pc
 
 prints a line for each instruction, such as
-  BY_PC_EXAMPLE";
+  000112e0,\"mul x22,x23,x9\",144,0,144,1008,0,0,0,0,0";
 
 const STUDY_HELP: &str = "The file of the study";
 

@@ -2,5 +2,5 @@ use Rattle.std.proofs.Common.{arith}
 use Rattle.std.proofs.lemmas.Grind.{common_steps}
 use Rattle.tomex_report.proofs.times.text_of_times.Goals as goal
 
-pub returns-in-Ok : goal.returns-in-Ok
-returns-in-Ok g c = grind (arith, common_steps)
+pub returns : goal.returns
+returns g c = grind (arith, common_steps)
