@@ -6,6 +6,7 @@ use std::sync::atomic::{AtomicU64, Ordering};
 use std::test::Fail;
 use std::thread::Threads;
 use tomex_samples::front_report_of;
+use tomex_samples::in_memory::Narrow;
 use tomex_samples::programs::{LOOP, PRODUCT};
 use tomex_samples::studies::{DROPPED, DROPPED_REPORT};
 use tomex_streams::{Meter, WriteFault, write_all_of};
