@@ -11,6 +11,7 @@ ghost use Rattle.tomex_line.specs.Asked.{IsCommand, IsAsked, IsNoCommand};
 ghost use Rattle.tomex_line.specs.declared.line.LineFault.TheVariants.{Memory};
 
 pub mod all;
+mod described;
 pub mod explore;
 pub mod run;
 pub mod stalls;
