@@ -17,3 +17,5 @@ mod stalls;
 mod tables;
 #[cfg(test)]
 mod times;
+#[cfg(test)]
+mod wide;
