@@ -64,7 +64,7 @@ fn what_instructions_do(rt: HostRuntime) -> Result<(), Fail> {
     Ok(())
 }
 
-/// Without options it begins with the first instruction. 33 would be more than are shown then.
+/// Without options it begins with the first instruction.
 #[test]
 fn of_the_first_instructions(rt: HostRuntime) -> Result<(), Fail> {
     let files = [

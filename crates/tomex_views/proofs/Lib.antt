@@ -4,3 +4,4 @@ pub mod Reports
 pub mod Pieces
 pub mod Pictures
 mod Rows
+mod KonataRows
