@@ -1,12 +1,16 @@
 -- What a picture's loops have written one turn later, and how much of a run its steps are.
-use Rattle.std.proofs.Common.{◌≡◌, ◌∙◌, ap, ap₂, sym, refl, arith, ℕ, zero, suc, ◌+◌, ◌-◌, ◌*◌, ◌^◌, ◌<◌, ◌≤◌, List, [], ◌∷◌, ◌++◌, append_assoc, codes, drop, get_or, length, take}
+use Rattle.std.proofs.Common.{◌≡◌, ◌∙◌, ap, ap₂, sym, subst, refl, arith, ℕ, zero, suc, ◌+◌, ◌-◌, ◌*◌, ◌^◌, ◌<◌, ◌≤◌, true, false, List, [], ◌∷◌, ◌++◌, append_assoc, codes, drop, get_or, length, take}
+use Rattle.std.specs.Prelude.{nat_lt}
 use Rattle.std.specs.List.{flat_map, range_with_len, repeat}
 use Rattle.std.proofs.Math.Nat.{mul-le-mul_left}
+use Rattle.std.proofs.lemmas.Bool.Decides.{nat_tests}
 use Rattle.std.proofs.lemmas.List.{append-nil, length-drop, length-take}
 use Rattle.tomex_rvexec.specs.declared.step.Step.{Step}
-use Rattle.tomex_timing.specs.Search.{total_of}
+use Rattle.tomex_config.specs.Row.{Row}
+use Rattle.tomex_timing.specs.Search.{times_in, total_of}
 use Rattle.tomex_timing.specs.declared.times.Times.{Times}
-use Rattle.tomex_views.specs.Chart.{chart, line_of, lines_of, sign_in}
+use Rattle.tomex_views.specs.Chart.{IsPictureOf, IsUnpictured, chart, first_issue, line_of, lines_of, most_signs, picture_of, shown, sign_in, signs_of}
+use Rattle.tomex_views.specs.declared.picture_error.PictureError.TheVariants.{TooLarge}
 use Rattle.tomex_views.specs.declared.lines.Frame.{Frame}
 
 -- one space of those to come
@@ -97,3 +101,38 @@ part_few n k xs = omega (arith, length-take n (drop k xs), length-drop k xs)
 -- a picture's signs can be counted
 pub area_fits : (lines columns : ℕ) → lines ≤ 262144 → columns ≤ 2 ^ 33 → lines * columns < 2 ^ 64
 area_fits lines columns few small = omega (arith, mul-le-mul_left lines small)
+
+-- the first of some steps, if there is one
+pub first_is : (times : List Times) (at : Times) → 0 < length times → at ≡ get_or times 0 at → at.issue ≡ first_issue times
+first_is [] at some is = absurd (omega (arith, some))
+first_is (x ∷ xs) at some is = ap (λ (t : Times). t.issue) is
+
+pub first_none : (times : List Times) → length times ≡ 0 → first_issue times ≡ 0
+first_none [] none = refl
+first_none (x ∷ xs) none = absurd (omega (arith, none))
+
+at_most : (a b : ℕ) → nat_lt a b ≡ false → b ≤ a
+at_most a b e = grind (arith, nat_tests)
+
+beyond : (a b : ℕ) → nat_lt a b ≡ true → a < b
+beyond a b e = grind (arith, nat_tests)
+
+-- what was made of a part of a run is the picture that is asked for
+pub is_picture : (row : Row) (all : List Step) (number behind count : ℕ) (steps : List Step) (times : List Times) (text : List ℕ)
+    → number ≤ length all → behind ≡ number - 1 → steps ≡ take count (drop behind all) → times ≡ take count (drop behind (times_in row all))
+    → nat_lt most_signs (signs_of times) ≡ false → text ≡ picture_of number steps times → IsPictureOf row all number count text
+is_picture row all number behind count steps times text there before steps_are times_are small is =
+    let ss : steps ≡ shown number count all = steps_are ∙ ap (λ (n : ℕ). take count (drop n all)) before in
+    let ts : times ≡ shown number count (times_in row all) = times_are ∙ ap (λ (n : ℕ). take count (drop n (times_in row all))) before in
+    record {
+      there = there;
+      drawn = subst (λ (t : List Times). signs_of t ≤ most_signs) ts (at_most most_signs (signs_of times) small);
+      is = is ∙ ap₂ (λ (a : List Step) (b : List Times). picture_of number a b) ss ts;
+    }
+
+pub is_too_large : (row : Row) (all : List Step) (number behind count : ℕ) (times : List Times)
+    → number ≤ length all → behind ≡ number - 1 → times ≡ take count (drop behind (times_in row all))
+    → nat_lt most_signs (signs_of times) ≡ true → IsUnpictured row all number count TooLarge
+is_too_large row all number behind count times there before times_are large =
+    let ts : times ≡ shown number count (times_in row all) = times_are ∙ ap (λ (n : ℕ). take count (drop n (times_in row all))) before in
+    (there, subst (λ (t : List Times). most_signs < signs_of t) ts (beyond most_signs (signs_of times) large))
