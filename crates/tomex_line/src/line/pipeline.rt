@@ -8,6 +8,7 @@ ghost use Rattle.clap.specs.Walk.{rows_of};
 ghost use Rattle.tomex_line.specs.Values.{IsPipelineAsked};
 
 use super::LineFault;
+use super::described::{Texts, described, taking};
 use super::values::{Bounds, CONFIG, number, number_of, numeral, word, word_of};
 use clap::{ArgMatches, Command};
 use std::alloc::{AllocError, Global};
@@ -89,6 +90,12 @@ prints
   2 IEW     00000004 addi x2,x0,7
   3  I=EEEW 00000008 mul x3,x1,x2";
 
+const TEXTS: Texts = Texts {
+    about: ABOUT,
+    long_about: LONG_ABOUT,
+    after_long_help: AFTER_LONG_HELP,
+};
+
 const STUDY_HELP: &str = "The file of the study";
 
 const CONFIG_HELP: &str = "The number of the configuration, from 0";
@@ -102,15 +109,12 @@ const STEPS_HELP: &str = "How many are shown at most";
 pub(super) fn grammar<'a>(alloc: Global) -> Result<Command<'a>, AllocError>
     ensures { IfOk result (λ c. shape_of c ≡ pipeline_shape) }
 {
-    Command::new(alloc, "pipeline")
-        .about(ABOUT)
-        .long_about(LONG_ABOUT)
-        .after_long_help(AFTER_LONG_HELP)
-        .arg(word(alloc, "STUDY", STUDY_HELP))?
-        .arg(numeral(alloc, "CONFIG", CONFIG, CONFIG_HELP))?
-        .arg(word(alloc, "PROGRAM", PROGRAM_HELP))?
-        .arg(number(alloc, "from", STEP, "1", FROM_HELP))?
-        .arg(number(alloc, "steps", STEP, "32", STEPS_HELP))
+    let command = described(alloc, "pipeline", TEXTS);
+    let command = taking(command, word(alloc, "STUDY", STUDY_HELP))?;
+    let command = taking(command, numeral(alloc, "CONFIG", CONFIG, CONFIG_HELP))?;
+    let command = taking(command, word(alloc, "PROGRAM", PROGRAM_HELP))?;
+    let command = taking(command, number(alloc, "from", STEP, "1", FROM_HELP))?;
+    taking(command, number(alloc, "steps", STEP, "32", STEPS_HELP))
 }
 
 pub(super) fn line_of<'a>(
