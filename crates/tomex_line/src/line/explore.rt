@@ -80,7 +80,10 @@ pub(super) fn grammar<'a>(alloc: Global) -> Result<Command<'a>, AllocError>
 {
     let command = described(alloc, "explore", TEXTS);
     let command = taking(command, word(alloc, "STUDY", STUDY_HELP))?;
-    taking(command, number(alloc, "workers", WORKERS, "1", WORKERS_HELP))
+    taking(
+        command,
+        number(alloc, "workers", WORKERS, "1", WORKERS_HELP),
+    )
 }
 
 pub(super) fn line_of<'a>(
