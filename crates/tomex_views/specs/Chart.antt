@@ -15,8 +15,8 @@ use Rattle.tomex_views.specs.declared.picture_error.PictureError.TheVariants.{No
 use Rattle.tomex_views.specs.declared.stage.Stage.{Stage}
 use Rattle.tomex_views.specs.declared.stage.Stage.TheVariants.{Issue, Address, Execute, Write, BusWait, Wait}
 
--- what a step does in a cycle, if anything: the first row that fits. A step without a destination ends as it finishes, in
--- its unit; those without a unit start as they issue.
+-- what a step does in a cycle, if anything: the first row that fits. A step without a destination ends as it
+-- finishes, in its unit; those without a unit start as they issue.
 abbrev pub stage_in : Times → ℕ → Option Stage
 stage_in at t =
     if nat_lt t at.issue then None
@@ -60,7 +60,8 @@ line_of frame number step at =
 
 -- the lines of the steps from a number on
 abbrev pub lines_of : Frame → ℕ → List Step → List Times → List ℕ
-lines_of frame number (step ∷ steps) (at ∷ times) = line_of frame number step at ++ lines_of frame (number + 1) steps times
+lines_of frame number (step ∷ steps) (at ∷ times) =
+    line_of frame number step at ++ lines_of frame (number + 1) steps times
 lines_of frame number _ _ = []
 
 -- the issue of the first of them
@@ -108,5 +109,6 @@ pub record IsPictureOf (row : Row) (steps : List Step) (number count : ℕ) (tex
 -- why there is none: the step is looked for first, and how large the picture would be last
 abbrev pub IsUnpictured : Row → List Step → ℕ → ℕ → PictureError → Type 0
 IsUnpictured row steps number count NoSuchStep = length steps < number
-IsUnpictured row steps number count TooLarge = (number ≤ length steps) × (most_signs < signs_shown row steps number count)
+IsUnpictured row steps number count TooLarge =
+    (number ≤ length steps) × (most_signs < signs_shown row steps number count)
 IsUnpictured row steps number count Memory = Unit {0}

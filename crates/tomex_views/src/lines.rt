@@ -95,7 +95,8 @@ pub fn push_lines<A: Allocator>(
 ) -> Result<(), AllocError>
     requires pairs { length times.now ≡ length steps.now }
     requires few { number + length steps.now < 2 ^ 63 }
-    ensures { OnOk result (string_bytes text.new ≡ string_bytes text.old ++ lines_of frame.now number steps.now times.now) }
+    ensures { OnOk result (string_bytes text.new
+        ≡ string_bytes text.old ++ lines_of frame.now number steps.now times.now) }
 {
     let mut scratch = String::new(heap);
     for (index, step) in steps.iter().enumerate() {

@@ -119,11 +119,5 @@ pub fn pipeline_text<A: Allocator + Clone>(
     if is_too_large(shown_times) {
         return Err(PictureError::TooLarge);
     }
-    Ok(picture_of(
-        alloc,
-        heap,
-        u64::from(number),
-        shown_steps,
-        shown_times,
-    )?)
+    Ok(picture_of(alloc, heap, u64::from(number), shown_steps, shown_times)?)
 }

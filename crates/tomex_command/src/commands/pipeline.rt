@@ -23,12 +23,5 @@ pub fn text_of_pipeline<F: Files, A: Allocator + Clone>(
     let study = study_in(alloc.clone()?, heap, files, line.study)?;
     let chosen = chosen_in(&study, line.config, line.program)?;
     let (from, steps) = (line.from, line.steps);
-    Ok(pipeline_text(
-        alloc,
-        heap,
-        chosen.program,
-        chosen.row,
-        from,
-        steps,
-    )?)
+    Ok(pipeline_text(alloc, heap, chosen.program, chosen.row, from, steps)?)
 }
