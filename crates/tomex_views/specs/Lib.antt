@@ -3,3 +3,4 @@ pub mod ByPlace
 pub mod Tally
 pub mod Laws
 pub mod Chart
+pub mod Konata
