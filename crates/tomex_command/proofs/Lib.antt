@@ -1,4 +1,5 @@
 -- What the proofs of the crate share.
+mod Drawn
 mod Fronts
 mod Reached
 mod Reading

@@ -3,12 +3,13 @@ use Rattle.std.specs.Prelude.{◌≡◌, ◌⊎◌, ℕ, List}
 use Rattle.tomex_command.specs.declared.failure.Failure.{Failure}
 use Rattle.tomex_command.specs.declared.failure.Failure.TheVariants.{CannotWrite}
 use Rattle.tomex_line.specs.declared.line.Line.{Line}
-use Rattle.tomex_line.specs.declared.line.Line.TheVariants.{Run, Times, Stalls, Tables, All, Explore}
+use Rattle.tomex_line.specs.declared.line.Line.TheVariants.{Run, Times, Stalls, Pipeline, Tables, All, Explore}
 use Rattle.tomex_line.specs.declared.line.LineFault.{LineFault}
 use Rattle.tomex_line.specs.Asked.{IsAsked, IsNoCommand}
 use Rattle.tomex_streams.specs.Files.{Told}
 use Rattle.tomex_command.specs.FrontLines.{IsFrontOf, IsAllFailure, IsExploreFailure}
 use Rattle.tomex_streams.specs.Sinks.{Seen, IsWhole, IsCut}
+use Rattle.tomex_command.specs.PipelineLines.{IsPipelineOf, IsPipelineFailure}
 use Rattle.tomex_command.specs.RunLines.{IsRunOf, IsRunFailure}
 use Rattle.tomex_command.specs.StallsLines.{IsStallsOf, IsStallsFailure}
 use Rattle.tomex_command.specs.TablesLines.{IsTablesOf, IsTablesFailure}
@@ -20,6 +21,7 @@ abbrev pub IsDone : (List ℕ → Told) → Line → List ℕ → Type 0
 IsDone file (Run line) text = IsRunOf file line text
 IsDone file (Times line) text = IsTimesOf file line text
 IsDone file (Stalls line) text = IsStallsOf file line text
+IsDone file (Pipeline line) text = IsPipelineOf file line text
 IsDone file (Tables line) text = IsTablesOf file line text
 IsDone file (All line) text = IsFrontOf file line.study.now text
 IsDone file (Explore line) text = IsFrontOf file line.study.now text
@@ -29,6 +31,7 @@ abbrev pub IsFailure : (List ℕ → Told) → Line → Failure → Type 0
 IsFailure file (Run line) failure = IsRunFailure file line failure
 IsFailure file (Times line) failure = IsTimesFailure file line failure
 IsFailure file (Stalls line) failure = IsStallsFailure file line failure
+IsFailure file (Pipeline line) failure = IsPipelineFailure file line failure
 IsFailure file (Tables line) failure = IsTablesFailure file line failure
 IsFailure file (All line) failure = IsAllFailure file line.study.now failure
 IsFailure file (Explore line) failure = IsExploreFailure file line.study.now failure

@@ -1,6 +1,7 @@
 pub mod Chosen
 pub mod Commands
 pub mod FrontLines
+pub mod PipelineLines
 pub mod Reading
 pub mod RunLines
 pub mod RunText

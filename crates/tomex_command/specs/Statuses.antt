@@ -3,10 +3,12 @@ use Rattle.std.specs.Prelude.{ℕ}
 use Rattle.tomex_sweep.specs.declared.outcome.SweepError.TheVariants as sweeps
 use Rattle.tomex_report.specs.declared.answer_error.AnswerError.{AnswerError}
 use Rattle.tomex_report.specs.declared.answer_error.AnswerError.TheVariants as answers
+use Rattle.tomex_views.specs.declared.picture_error.PictureError.{PictureError}
+use Rattle.tomex_views.specs.declared.picture_error.PictureError.TheVariants as pictures
 use Rattle.tomex_values.specs.declared.error.StudyError.TheVariants as studies
 use Rattle.tomex_command.specs.declared.run.RunRefusal.TheVariants as refusals
 use Rattle.tomex_command.specs.declared.failure.Failure.{Failure}
-use Rattle.tomex_command.specs.declared.failure.Failure.TheVariants.{BadWindow, Run, Study, NoSuchRow, NoSuchProgram, CyclePastEnd, CannotRead, CannotWrite, Memory, Worker}
+use Rattle.tomex_command.specs.declared.failure.Failure.TheVariants.{BadWindow, Run, Study, NoSuchRow, NoSuchProgram, CyclePastEnd, NoSuchStep, PictureTooLarge, CannotRead, CannotWrite, Memory, Worker}
 
 -- 1 for input that is refused, 3 for want of memory, a thread, a file or a device
 abbrev pub status_of_failure : Failure → ℕ
@@ -18,6 +20,8 @@ status_of_failure (Study error) = 1
 status_of_failure NoSuchRow = 1
 status_of_failure NoSuchProgram = 1
 status_of_failure CyclePastEnd = 1
+status_of_failure NoSuchStep = 1
+status_of_failure PictureTooLarge = 1
 status_of_failure (CannotRead name) = 3
 status_of_failure CannotWrite = 3
 status_of_failure Memory = 3
@@ -28,3 +32,9 @@ abbrev pub failure_of_answer : AnswerError → Failure
 failure_of_answer (answers.Study error) = Study error
 failure_of_answer (answers.Sweep sweeps.Memory) = Memory
 failure_of_answer (answers.Sweep sweeps.Worker) = Worker
+
+-- the failure that a refused picture becomes
+abbrev pub failure_of_picture : PictureError → Failure
+failure_of_picture pictures.NoSuchStep = NoSuchStep
+failure_of_picture pictures.TooLarge = PictureTooLarge
+failure_of_picture pictures.Memory = Memory

@@ -1,7 +1,7 @@
 -- What is said of failures, and of lines that ask for no command.
 use Rattle.std.specs.Prelude.{◌≡◌, ◌⊎◌, ℕ, List, ◌++◌, codes, string_bytes}
 use Rattle.tomex_command.specs.declared.failure.Failure.{Failure}
-use Rattle.tomex_command.specs.declared.failure.Failure.TheVariants.{BadWindow, Run, Study, NoSuchRow, NoSuchProgram, CyclePastEnd, CannotRead, CannotWrite, Memory, Worker}
+use Rattle.tomex_command.specs.declared.failure.Failure.TheVariants.{BadWindow, Run, Study, NoSuchRow, NoSuchProgram, CyclePastEnd, NoSuchStep, PictureTooLarge, CannotRead, CannotWrite, Memory, Worker}
 use Rattle.tomex_line.specs.declared.line.LineFault.{LineFault}
 use Rattle.tomex_line.specs.declared.line.LineFault.TheVariants.{Help, Usage}
 use Rattle.tomex_line.specs.declared.line.LineFault.TheVariants as faults
@@ -17,6 +17,8 @@ IsTextOf (Study error) text = Unit {0}
 IsTextOf NoSuchRow text = text ≡ codes "no such row"
 IsTextOf NoSuchProgram text = text ≡ codes "no such program"
 IsTextOf CyclePastEnd text = text ≡ codes "cycle past the end"
+IsTextOf NoSuchStep text = text ≡ codes "no such step"
+IsTextOf PictureTooLarge text = text ≡ codes "picture too large"
 IsTextOf (CannotRead name) text = text ≡ codes "cannot read " ++ shown_name (string_bytes name)
 IsTextOf CannotWrite text = text ≡ codes "cannot write"
 IsTextOf Memory text = text ≡ codes "out of memory"

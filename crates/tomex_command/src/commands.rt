@@ -8,6 +8,7 @@ ghost use Rattle.tomex_command.specs.Commands.{IsDone, IsFailure, IsCarriedOut, 
 pub mod all;
 pub mod chosen;
 pub mod explore;
+pub mod pipeline;
 pub mod reading;
 pub mod run;
 pub mod stalls;
@@ -19,6 +20,7 @@ use crate::failure::Failure;
 use crate::telling::{tell, tell_line_fault};
 use all::text_of_all;
 use explore::text_of_explore;
+use pipeline::text_of_pipeline;
 use run::text_of_run;
 use stalls::text_of_stalls;
 use std::alloc::{Allocator, Global};
@@ -50,6 +52,7 @@ fn text_of<
         Line::Run(line) => text_of_run(alloc, heap, line, files),
         Line::Times(line) => text_of_times(alloc, heap, line, files),
         Line::Stalls(line) => text_of_stalls(alloc, heap, line, files),
+        Line::Pipeline(line) => text_of_pipeline(alloc, heap, line, files),
         Line::Tables(line) => text_of_tables(alloc, heap, line, files),
         Line::All(line) => text_of_all(rt, alloc, heap, line, files, meter),
         Line::Explore(line) => text_of_explore(rt, alloc, heap, line, files, meter),

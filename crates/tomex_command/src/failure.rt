@@ -1,12 +1,13 @@
 //! Why a command was not done.
 ghost use Rattle.std.specs.Prelude.{◌≡◌};
 ghost use Rattle.tomex_command.specs.declared.failure.Failure.TheVariants as failures;
-ghost use Rattle.tomex_command.specs.Statuses.{failure_of_answer, status_of_failure};
+ghost use Rattle.tomex_command.specs.Statuses.{failure_of_answer, failure_of_picture, status_of_failure};
 
 use crate::run::RunRefusal;
 use std::alloc::{AllocError, AllocFailed};
 use tomex_report::{AnswerError, StudyError};
 use tomex_sweep::SweepError;
+use tomex_views::PictureError;
 
 /// Why a command was not done. Told behind `tomex: ` on the standard error.
 #[derive(Debug, Drop)]
@@ -23,6 +24,10 @@ pub enum Failure {
     NoSuchProgram,
     /// The program's run on the configuration ends before that cycle.
     CyclePastEnd,
+    /// The program's run on the configuration ends before that step.
+    NoSuchStep,
+    /// The picture would have too many signs.
+    PictureTooLarge,
     /// A file was not read. Carries its name as written.
     CannotRead(String),
     /// The standard output did not take the whole text.
@@ -45,6 +50,7 @@ impl Failure {
             Failure::Study(StudyError::Memory) => 3,
             Failure::Study(_) => 1,
             Failure::NoSuchRow | Failure::NoSuchProgram | Failure::CyclePastEnd => 1,
+            Failure::NoSuchStep | Failure::PictureTooLarge => 1,
             Failure::CannotRead(_) | Failure::CannotWrite | Failure::Memory | Failure::Worker => 3,
         }
     }
@@ -90,6 +96,18 @@ impl From<AnswerError> for Failure {
             AnswerError::Study(error) => Failure::Study(error),
             AnswerError::Sweep(SweepError::Memory) => Failure::Memory,
             AnswerError::Sweep(SweepError::Worker) => Failure::Worker,
+        }
+    }
+}
+
+impl From<PictureError> for Failure {
+    ghost from_gives = { λ error failure. failure ≡ failure_of_picture error };
+
+    fn from(error: PictureError) -> Failure {
+        match error {
+            PictureError::NoSuchStep => Failure::NoSuchStep,
+            PictureError::TooLarge => Failure::PictureTooLarge,
+            PictureError::Memory => Failure::Memory,
         }
     }
 }

@@ -64,6 +64,8 @@ fn text_of(heap: Global, failure: &Failure) -> Result<String, AllocError>
         Failure::NoSuchRow => String::from_str(heap, "no such row"),
         Failure::NoSuchProgram => String::from_str(heap, "no such program"),
         Failure::CyclePastEnd => String::from_str(heap, "cycle past the end"),
+        Failure::NoSuchStep => String::from_str(heap, "no such step"),
+        Failure::PictureTooLarge => String::from_str(heap, "picture too large"),
         Failure::CannotRead(name) => {
             let name = shown(heap, name.as_str())?;
             format!(in heap; "cannot read {name}")

@@ -3,11 +3,11 @@ use Rattle.std.specs.Prelude.{◌≡◌, ◌⊎◌, List, codes, Option, Some}
 use Rattle.clap.specs.Words.{IsAmong, Row, Text, fault_of, subcommand_of}
 use Rattle.clap.specs.declared.error.kind.ErrorKind.TheVariants.{DisplayHelp, DisplayVersion}
 use Rattle.tomex_line.specs.declared.line.Line.{Line}
-use Rattle.tomex_line.specs.declared.line.Line.TheVariants.{Run, Times, Stalls, Tables, All, Explore}
+use Rattle.tomex_line.specs.declared.line.Line.TheVariants.{Run, Times, Stalls, Pipeline, Tables, All, Explore}
 use Rattle.tomex_line.specs.declared.line.LineFault.{LineFault}
 use Rattle.tomex_line.specs.declared.line.LineFault.TheVariants.{Help, Usage, Memory}
 use Rattle.tomex_line.specs.Grammar.{tomex_app}
-use Rattle.tomex_line.specs.Values.{IsRunAsked, IsTimesAsked, IsStallsAsked, IsTablesAsked, IsAllAsked, IsExploreAsked}
+use Rattle.tomex_line.specs.Values.{IsRunAsked, IsTimesAsked, IsStallsAsked, IsPipelineAsked, IsTablesAsked, IsAllAsked, IsExploreAsked}
 
 -- the command of that name with these values
 abbrev pub IsCommand : Option (Text × List Row) → Line → Type 0
@@ -15,6 +15,9 @@ IsCommand found (Run line) = (rows : List Row) × (found ≡ Some (codes "run", 
 IsCommand found (Times line) = (rows : List Row) × (found ≡ Some (codes "times", rows)) × IsTimesAsked rows line.study.now line.config line.program.now
 IsCommand found (Stalls line) =
     (rows : List Row) × (found ≡ Some (codes "stalls", rows)) × IsStallsAsked rows line.study.now line.config line.program.now line.by_pc
+IsCommand found (Pipeline line) =
+    (rows : List Row) × (found ≡ Some (codes "pipeline", rows))
+    × IsPipelineAsked rows line.study.now line.config line.program.now line.from line.steps
 IsCommand found (Tables line) = (rows : List Row) × (found ≡ Some (codes "tables", rows)) × IsTablesAsked rows line.study.now line.config line.program.now line.cycle
 IsCommand found (All line) = (rows : List Row) × (found ≡ Some (codes "all", rows)) × IsAllAsked rows line.study.now
 IsCommand found (Explore line) = (rows : List Row) × (found ≡ Some (codes "explore", rows)) × IsExploreAsked rows line.study.now line.workers

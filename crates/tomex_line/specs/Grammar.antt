@@ -47,6 +47,14 @@ stalls_shape = record (new_shape (codes "stalls")) {
   rules = word_rule (codes "STUDY") ∷ numeral_rule (codes "CONFIG") 0 16383 ∷ word_rule (codes "PROGRAM") ∷ flag_rule (codes "by-pc") ∷ [];
 }
 
+-- `pipeline STUDY CONFIG PROGRAM [--from N] [--steps N]`
+abbrev pub pipeline_shape : Shape
+pipeline_shape = record (new_shape (codes "pipeline")) {
+  rules = word_rule (codes "STUDY") ∷ numeral_rule (codes "CONFIG") 0 16383 ∷ word_rule (codes "PROGRAM")
+      ∷ option_rule (codes "from") 1 262144 (codes "1")
+      ∷ option_rule (codes "steps") 1 262144 (codes "32") ∷ [];
+}
+
 -- `tables STUDY CONFIG PROGRAM CYCLE`
 abbrev pub tables_shape : Shape
 tables_shape = record (new_shape (codes "tables")) {
@@ -71,5 +79,5 @@ bare_app = on_top (λ s. record s { has_version = true; subcommand_required = tr
 abbrev pub tomex_app : App
 tomex_app = record {
   top = record (new_shape (codes "tomex")) { has_version = true; is_leaf = false; subcommand_required = true };
-  subs = run_shape ∷ times_shape ∷ stalls_shape ∷ tables_shape ∷ all_shape ∷ explore_shape ∷ [];
+  subs = run_shape ∷ times_shape ∷ stalls_shape ∷ pipeline_shape ∷ tables_shape ∷ all_shape ∷ explore_shape ∷ [];
 }

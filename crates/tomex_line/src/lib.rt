@@ -7,6 +7,7 @@ mod system;
 
 pub use line::all::AllLine;
 pub use line::explore::ExploreLine;
+pub use line::pipeline::PipelineLine;
 pub use line::run::RunLine;
 pub use line::stalls::StallsLine;
 pub use line::tables::TablesLine;

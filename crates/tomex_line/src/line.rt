@@ -11,7 +11,9 @@ ghost use Rattle.tomex_line.specs.Asked.{IsCommand, IsAsked, IsNoCommand};
 ghost use Rattle.tomex_line.specs.declared.line.LineFault.TheVariants.{Memory};
 
 pub mod all;
+mod described;
 pub mod explore;
+pub mod pipeline;
 pub mod run;
 pub mod stalls;
 pub mod tables;
@@ -22,6 +24,7 @@ use all::AllLine;
 use clap::error::ErrorKind;
 use clap::{ArgMatches, Command};
 use explore::ExploreLine;
+use pipeline::PipelineLine;
 use run::RunLine;
 use stalls::StallsLine;
 use std::alloc::{AllocError, Global};
@@ -35,6 +38,7 @@ pub enum Line<'a> {
     Run(RunLine<'a>),
     Times(TimesLine<'a>),
     Stalls(StallsLine<'a>),
+    Pipeline(PipelineLine<'a>),
     Tables(TablesLine<'a>),
     All(AllLine<'a>),
     Explore(ExploreLine<'a>),
@@ -90,6 +94,7 @@ Examples, in the folder `examples`:
   tomex run mul.bin --size 4096
   tomex times study.toml 4 mul
   tomex stalls study.toml 4 mul
+  tomex pipeline study.toml 4 mul
   tomex tables study.toml 4 mul 3
   tomex all study.toml
   tomex explore explore.toml --workers 4
@@ -116,6 +121,7 @@ fn grammar<'a>(alloc: Global) -> Result<Command<'a>, AllocError>
         .subcommand(run::grammar(alloc)?)?
         .subcommand(times::grammar(alloc)?)?
         .subcommand(stalls::grammar(alloc)?)?
+        .subcommand(pipeline::grammar(alloc)?)?
         .subcommand(tables::grammar(alloc)?)?
         .subcommand(all::grammar(alloc)?)?
         .subcommand(explore::grammar(alloc)?)
@@ -129,6 +135,7 @@ fn line_of<'a>(alloc: Global, matches: &ArgMatches<'a>) -> Result<Line<'a>, Line
         Some(("run", inner)) => Ok(Line::Run(run::line_of(alloc, inner)?)),
         Some(("times", inner)) => Ok(Line::Times(times::line_of(alloc, inner)?)),
         Some(("stalls", inner)) => Ok(Line::Stalls(stalls::line_of(alloc, inner)?)),
+        Some(("pipeline", inner)) => Ok(Line::Pipeline(pipeline::line_of(alloc, inner)?)),
         Some(("tables", inner)) => Ok(Line::Tables(tables::line_of(alloc, inner)?)),
         Some(("all", inner)) => Ok(Line::All(all::line_of(alloc, inner)?)),
         Some(("explore", inner)) => Ok(Line::Explore(explore::line_of(alloc, inner)?)),

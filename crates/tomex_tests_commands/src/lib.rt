@@ -10,6 +10,8 @@ mod elf_images;
 #[cfg(test)]
 mod explorations;
 #[cfg(test)]
+mod pipeline;
+#[cfg(test)]
 mod refused_memory;
 #[cfg(test)]
 mod stalls;
@@ -17,3 +19,5 @@ mod stalls;
 mod tables;
 #[cfg(test)]
 mod times;
+#[cfg(test)]
+mod wide;

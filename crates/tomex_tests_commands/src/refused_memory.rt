@@ -1,6 +1,7 @@
 //! The text of a run, and whole runs of the program, whose command line takes other memory, with memory refused.
 
 use crate::commands::{PRODUCT_END, outcome_of, text_of};
+use crate::pipeline::ON_ONE_STATION;
 use std::alloc::AllocError;
 use std::sync::Wait;
 use std::test::Fail;
@@ -108,6 +109,13 @@ fn of_each_command(rt: HostRuntime) -> Result<(), Fail> {
             ["tomex", "stalls", "study", "1", "mul", "--by-pc"].as_slice(),
             product,
             PRODUCT_STALLS_BY_PC,
+            12,
+        ),
+        // All that but the waits and places; the times, how wide the numbers are, and each number.
+        (
+            ["tomex", "pipeline", "study", "1", "mul"].as_slice(),
+            product,
+            ON_ONE_STATION,
             12,
         ),
         // All that but steps and times; the machine's memory and the text.

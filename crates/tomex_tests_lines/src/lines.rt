@@ -34,6 +34,13 @@ fn told(alloc: Global, line: &str) -> Result<String, AllocError> {
                 stalls.program, stalls.by_pc
             )
         }
+        Ok(Line::Pipeline(pipeline)) => {
+            let (study, config) = (pipeline.study, pipeline.config);
+            format!(in alloc;
+                "pipeline {study} {config} {} {} {}",
+                pipeline.program, pipeline.from, pipeline.steps
+            )
+        }
         Ok(Line::Tables(tables)) => {
             let (study, config) = (tables.study, tables.config);
             format!(in alloc;
@@ -69,6 +76,17 @@ fn lines_are_read(rt: HostRuntime) -> Result<(), Fail> {
         ),
         ("stalls --help", "help Prints, for each part"),
         ("stalls -h", "help Prints which parts"),
+        ("pipeline study 0 a", "pipeline study 0 a 1 32"),
+        (
+            "pipeline study 0 a --from 262144 --steps 1",
+            "pipeline study 0 a 262144 1",
+        ),
+        (
+            "pipeline --steps=262144 study 16383 -- -a",
+            "pipeline study 16383 -a 1 262144",
+        ),
+        ("pipeline --help", "help Draws the instructions"),
+        ("pipeline -h", "help Draws what instructions"),
         ("tables study 0 a 0", "tables study 0 a 0"),
         (
             "tables study 16383 -- -a 17563648",
@@ -118,6 +136,12 @@ fn lines_are_refused(rt: HostRuntime) -> Result<(), Fail> {
         "stalls study 0",
         "stalls study 0 a --by-pc 1",
         "stalls study 0 a --by-pc --by-pc",
+        "pipeline study 16384 a",
+        "pipeline study 0",
+        "pipeline study 0 a --from 0",
+        "pipeline study 0 a --from 262145",
+        "pipeline study 0 a --steps 0",
+        "pipeline study 0 a --steps 262145",
         "tables study 16384 a 0",
         "tables study 0 a 17563649",
         "tables study 0 a -1",

@@ -1,13 +1,19 @@
-//! What people look at to understand one run of a program on a machine: which parts hold it back, and where in the
-//! program its instructions wait.
+//! What people look at to understand one run of a program on a machine: which parts hold it back, where in the
+//! program its instructions wait, and what they do cycle by cycle.
 #![tactic(auto)]
 
 mod by_place;
 mod laws;
+mod lines;
+mod picture_error;
+mod pipeline;
+mod stage;
 mod stalls;
 mod steps;
 mod tally;
 
 pub use by_place::stalls_by_pc;
 pub use laws::waits_of_places_add_up;
+pub use picture_error::PictureError;
+pub use pipeline::pipeline_text;
 pub use stalls::stalls_report;

@@ -8,6 +8,7 @@ ghost use Rattle.clap.specs.Walk.{rows_of};
 ghost use Rattle.tomex_line.specs.Values.{IsAllAsked};
 
 use super::LineFault;
+use super::described::{Texts, described, taking};
 use super::values::{word, word_of};
 use clap::{ArgMatches, Command};
 use std::alloc::{AllocError, Global};
@@ -47,16 +48,19 @@ prints a header, and for each configuration on the front a line for each
 program, such as
   4,101,54153,1,1,1,1,1,1,1,1,1,8,1,1,1,2,1,1,1,matrix,6625,22408,ebreak,..";
 
+const TEXTS: Texts = Texts {
+    about: ABOUT,
+    long_about: LONG_ABOUT,
+    after_long_help: AFTER_LONG_HELP,
+};
+
 const STUDY_HELP: &str = "The file of the study";
 
 pub(super) fn grammar<'a>(alloc: Global) -> Result<Command<'a>, AllocError>
     ensures { IfOk result (λ c. shape_of c ≡ all_shape) }
 {
-    Command::new(alloc, "all")
-        .about(ABOUT)
-        .long_about(LONG_ABOUT)
-        .after_long_help(AFTER_LONG_HELP)
-        .arg(word(alloc, "STUDY", STUDY_HELP))
+    let command = described(alloc, "all", TEXTS);
+    taking(command, word(alloc, "STUDY", STUDY_HELP))
 }
 
 pub(super) fn line_of<'a>(alloc: Global, matches: &ArgMatches<'a>) -> Result<AllLine<'a>, LineFault>

@@ -8,6 +8,7 @@ ghost use Rattle.clap.specs.Walk.{rows_of};
 ghost use Rattle.tomex_line.specs.Values.{IsExploreAsked};
 
 use super::LineFault;
+use super::described::{Texts, described, taking};
 use super::values::{Bounds, number, number_of, word, word_of};
 use clap::{ArgMatches, Command};
 use std::alloc::{AllocError, Global};
@@ -64,6 +65,12 @@ print a header, and for each configuration on the front a line for each
 program, such as
   4,101,54153,1,1,1,1,1,1,1,1,1,8,1,1,1,2,1,1,1,matrix,6625,22408,ebreak,..";
 
+const TEXTS: Texts = Texts {
+    about: ABOUT,
+    long_about: LONG_ABOUT,
+    after_long_help: AFTER_LONG_HELP,
+};
+
 const STUDY_HELP: &str = "The file of the study";
 
 const WORKERS_HELP: &str = "How many workers share the configurations, from 1 to 32";
@@ -71,12 +78,12 @@ const WORKERS_HELP: &str = "How many workers share the configurations, from 1 to
 pub(super) fn grammar<'a>(alloc: Global) -> Result<Command<'a>, AllocError>
     ensures { IfOk result (λ c. shape_of c ≡ explore_shape) }
 {
-    Command::new(alloc, "explore")
-        .about(ABOUT)
-        .long_about(LONG_ABOUT)
-        .after_long_help(AFTER_LONG_HELP)
-        .arg(word(alloc, "STUDY", STUDY_HELP))?
-        .arg(number(alloc, "workers", WORKERS, "1", WORKERS_HELP))
+    let command = described(alloc, "explore", TEXTS);
+    let command = taking(command, word(alloc, "STUDY", STUDY_HELP))?;
+    taking(
+        command,
+        number(alloc, "workers", WORKERS, "1", WORKERS_HELP),
+    )
 }
 
 pub(super) fn line_of<'a>(

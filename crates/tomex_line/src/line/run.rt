@@ -8,6 +8,7 @@ ghost use Rattle.clap.specs.Walk.{rows_of};
 ghost use Rattle.tomex_line.specs.Values.{IsRunAsked};
 
 use super::LineFault;
+use super::described::{Texts, described, taking};
 use super::values::{Bounds, number, number_of, word, word_of};
 use clap::{ArgMatches, Command};
 use std::alloc::{AllocError, Global};
@@ -76,6 +77,12 @@ print x0 to x31, a line each, as
 and then how the program ended, as
   ebreak at 0000000c after 4";
 
+const TEXTS: Texts = Texts {
+    about: ABOUT,
+    long_about: LONG_ABOUT,
+    after_long_help: AFTER_LONG_HELP,
+};
+
 const IMAGE_HELP: &str = "The file of the image";
 
 const BASE_HELP: &str = "The address of memory's first byte, a multiple of 4 up to 4294967292";
@@ -87,14 +94,11 @@ const LIMIT_HELP: &str = "The greatest number of instructions to run, from 1 to 
 pub(super) fn grammar<'a>(alloc: Global) -> Result<Command<'a>, AllocError>
     ensures { IfOk result (λ c. shape_of c ≡ run_shape) }
 {
-    Command::new(alloc, "run")
-        .about(ABOUT)
-        .long_about(LONG_ABOUT)
-        .after_long_help(AFTER_LONG_HELP)
-        .arg(word(alloc, "IMAGE", IMAGE_HELP))?
-        .arg(number(alloc, "base", BASE, "0", BASE_HELP))?
-        .arg(number(alloc, "size", SIZE, "65536", SIZE_HELP))?
-        .arg(number(alloc, "limit", LIMIT, "262144", LIMIT_HELP))
+    let command = described(alloc, "run", TEXTS);
+    let command = taking(command, word(alloc, "IMAGE", IMAGE_HELP))?;
+    let command = taking(command, number(alloc, "base", BASE, "0", BASE_HELP))?;
+    let command = taking(command, number(alloc, "size", SIZE, "65536", SIZE_HELP))?;
+    taking(command, number(alloc, "limit", LIMIT, "262144", LIMIT_HELP))
 }
 
 pub(super) fn line_of<'a>(alloc: Global, matches: &ArgMatches<'a>) -> Result<RunLine<'a>, LineFault>

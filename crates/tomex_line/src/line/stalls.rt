@@ -8,6 +8,7 @@ ghost use Rattle.clap.specs.Walk.{rows_of};
 ghost use Rattle.tomex_line.specs.Values.{IsStallsAsked};
 
 use super::LineFault;
+use super::described::{Texts, described, taking};
 use super::values::{CONFIG, flag, flag_of, number_of, numeral, word, word_of};
 use clap::{ArgMatches, Command};
 use std::alloc::{AllocError, Global};
@@ -72,6 +73,12 @@ of which there is one, which holds the program back; and
 prints a line for each instruction, such as
   000112e0,\"mul x22,x23,x9\",144,0,144,1008,0,0,0,0,0";
 
+const TEXTS: Texts = Texts {
+    about: ABOUT,
+    long_about: LONG_ABOUT,
+    after_long_help: AFTER_LONG_HELP,
+};
+
 const STUDY_HELP: &str = "The file of the study";
 
 const CONFIG_HELP: &str = "The number of the configuration, from 0";
@@ -83,14 +90,11 @@ const BY_PC_HELP: &str = "Tell the waits by place in the program";
 pub(super) fn grammar<'a>(alloc: Global) -> Result<Command<'a>, AllocError>
     ensures { IfOk result (λ c. shape_of c ≡ stalls_shape) }
 {
-    Command::new(alloc, "stalls")
-        .about(ABOUT)
-        .long_about(LONG_ABOUT)
-        .after_long_help(AFTER_LONG_HELP)
-        .arg(word(alloc, "STUDY", STUDY_HELP))?
-        .arg(numeral(alloc, "CONFIG", CONFIG, CONFIG_HELP))?
-        .arg(word(alloc, "PROGRAM", PROGRAM_HELP))?
-        .arg(flag(alloc, "by-pc", BY_PC_HELP))
+    let command = described(alloc, "stalls", TEXTS);
+    let command = taking(command, word(alloc, "STUDY", STUDY_HELP))?;
+    let command = taking(command, numeral(alloc, "CONFIG", CONFIG, CONFIG_HELP))?;
+    let command = taking(command, word(alloc, "PROGRAM", PROGRAM_HELP))?;
+    taking(command, flag(alloc, "by-pc", BY_PC_HELP))
 }
 
 pub(super) fn line_of<'a>(

@@ -8,6 +8,7 @@ ghost use Rattle.clap.specs.Walk.{rows_of};
 ghost use Rattle.tomex_line.specs.Values.{IsTablesAsked};
 
 use super::LineFault;
+use super::described::{Texts, described, taking};
 use super::values::{Bounds, CONFIG, number_of, numeral, word, word_of};
 use clap::{ArgMatches, Command};
 use std::alloc::{AllocError, Global};
@@ -76,6 +77,12 @@ prints
   x2 Qi=alu1
   x3 Qi=mul0";
 
+const TEXTS: Texts = Texts {
+    about: ABOUT,
+    long_about: LONG_ABOUT,
+    after_long_help: AFTER_LONG_HELP,
+};
+
 const STUDY_HELP: &str = "The file of the study";
 
 const CONFIG_HELP: &str = "The number of the configuration, from 0";
@@ -87,14 +94,11 @@ const CYCLE_HELP: &str = "The cycle after which the tables are shown, 0 for the 
 pub(super) fn grammar<'a>(alloc: Global) -> Result<Command<'a>, AllocError>
     ensures { IfOk result (λ c. shape_of c ≡ tables_shape) }
 {
-    Command::new(alloc, "tables")
-        .about(ABOUT)
-        .long_about(LONG_ABOUT)
-        .after_long_help(AFTER_LONG_HELP)
-        .arg(word(alloc, "STUDY", STUDY_HELP))?
-        .arg(numeral(alloc, "CONFIG", CONFIG, CONFIG_HELP))?
-        .arg(word(alloc, "PROGRAM", PROGRAM_HELP))?
-        .arg(numeral(alloc, "CYCLE", CYCLE, CYCLE_HELP))
+    let command = described(alloc, "tables", TEXTS);
+    let command = taking(command, word(alloc, "STUDY", STUDY_HELP))?;
+    let command = taking(command, numeral(alloc, "CONFIG", CONFIG, CONFIG_HELP))?;
+    let command = taking(command, word(alloc, "PROGRAM", PROGRAM_HELP))?;
+    taking(command, numeral(alloc, "CYCLE", CYCLE, CYCLE_HELP))
 }
 
 pub(super) fn line_of<'a>(

@@ -8,6 +8,7 @@ ghost use Rattle.clap.specs.Walk.{rows_of};
 ghost use Rattle.tomex_line.specs.Values.{IsTimesAsked};
 
 use super::LineFault;
+use super::described::{Texts, described, taking};
 use super::values::{CONFIG, number_of, numeral, word, word_of};
 use clap::{ArgMatches, Command};
 use std::alloc::{AllocError, Global};
@@ -58,6 +59,12 @@ prints a line for each instruction, such as
 and last the total:
   total,-,-,-,-,-,-,8,-";
 
+const TEXTS: Texts = Texts {
+    about: ABOUT,
+    long_about: LONG_ABOUT,
+    after_long_help: AFTER_LONG_HELP,
+};
+
 const STUDY_HELP: &str = "The file of the study";
 
 const CONFIG_HELP: &str = "The number of the configuration, from 0";
@@ -67,13 +74,10 @@ const PROGRAM_HELP: &str = "The name of the program in the study";
 pub(super) fn grammar<'a>(alloc: Global) -> Result<Command<'a>, AllocError>
     ensures { IfOk result (λ c. shape_of c ≡ times_shape) }
 {
-    Command::new(alloc, "times")
-        .about(ABOUT)
-        .long_about(LONG_ABOUT)
-        .after_long_help(AFTER_LONG_HELP)
-        .arg(word(alloc, "STUDY", STUDY_HELP))?
-        .arg(numeral(alloc, "CONFIG", CONFIG, CONFIG_HELP))?
-        .arg(word(alloc, "PROGRAM", PROGRAM_HELP))
+    let command = described(alloc, "times", TEXTS);
+    let command = taking(command, word(alloc, "STUDY", STUDY_HELP))?;
+    let command = taking(command, numeral(alloc, "CONFIG", CONFIG, CONFIG_HELP))?;
+    taking(command, word(alloc, "PROGRAM", PROGRAM_HELP))
 }
 
 pub(super) fn line_of<'a>(

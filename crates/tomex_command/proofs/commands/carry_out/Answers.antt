@@ -3,7 +3,7 @@ use Rattle.std.proofs.Common.{rules}
 use Rattle.tomex_command.proofs.commands.carry_out.Goals as goal
 
 pub returns-in_err-text-clause-left : goal.returns-in_err-text-clause-left
-returns-in_err-text-clause-left g c = search rules fits 100
+returns-in_err-text-clause-left g c = search rules fits 200
 
 pub returns-in-Ok-clause-done : goal.returns-in-Ok-clause-done
 returns-in-Ok-clause-done g c = search rules fits 100

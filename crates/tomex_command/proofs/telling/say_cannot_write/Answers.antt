@@ -1,5 +1,4 @@
 -- The text that is written is the line's.
-use Rattle.std.proofs.Common.{rules}
 use Rattle.tomex_command.proofs.telling.say_cannot_write.Goals as goal
 
 pub returns : goal.returns

@@ -1,5 +1,4 @@
 -- The text that is written is the line's.
-use Rattle.std.proofs.Common.{rules}
 use Rattle.tomex_command.proofs.telling.say_out_of_memory.Goals as goal
 
 pub returns : goal.returns

@@ -12,4 +12,5 @@ returns c =
     let three = c.in_ok-subcommand-3.ensures.shape (no_globals _ _ c.in_ok-grammar-3.ensures refl) ∙ ap₂ with_subcommand two c.in_ok-grammar-3.ensures in
     let four = c.in_ok-subcommand-4.ensures.shape (no_globals _ _ c.in_ok-grammar-4.ensures refl) ∙ ap₂ with_subcommand three c.in_ok-grammar-4.ensures in
     let five = c.in_ok-subcommand-5.ensures.shape (no_globals _ _ c.in_ok-grammar-5.ensures refl) ∙ ap₂ with_subcommand four c.in_ok-grammar-5.ensures in
-    IfOk-weaker c.subcommand-6.result _ _ (λ m h. h.shape (no_globals _ _ c.in_ok-grammar-6.ensures refl) ∙ ap₂ with_subcommand five c.in_ok-grammar-6.ensures) c.subcommand-6.ensures
+    let six = c.in_ok-subcommand-6.ensures.shape (no_globals _ _ c.in_ok-grammar-6.ensures refl) ∙ ap₂ with_subcommand five c.in_ok-grammar-6.ensures in
+    IfOk-weaker c.subcommand-7.result _ _ (λ m h. h.shape (no_globals _ _ c.in_ok-grammar-7.ensures refl) ∙ ap₂ with_subcommand six c.in_ok-grammar-7.ensures) c.subcommand-7.ensures

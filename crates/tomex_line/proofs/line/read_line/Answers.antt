@@ -1,17 +1,22 @@
--- An error of the parser is help only where the words ask for it.
-use Rattle.std.proofs.Common.{◌≡◌, ◌∙◌, ap, sym, subst, refl, inl, inr, true, List, map, string_bytes}
-use Rattle.clap.specs.Words.{App, HasKind, IsAmong, Text, fault_of, is_simple_and_free}
+-- What the parser finds is what the words ask for, and an error of it is help only where they ask for that.
+use Rattle.std.proofs.Common.{◌≡◌, ◌∙◌, ap, sym, subst, refl, inl, inr, true, List, Option, map, string_bytes}
+use Rattle.std.proofs.lemmas.Result.{IfOk-weaker}
+use Rattle.clap.specs.Words.{App, HasKind, HasMatchesOf, IsAmong, Row, Text, fault_of, is_simple, is_simple_and_free}
 use Rattle.clap.specs.Values.{kind_of}
 use Rattle.clap.specs.declared.error.Error.{Error}
 use Rattle.clap.specs.declared.error.kind.ErrorKind.{ErrorKind}
 use Rattle.clap.specs.declared.error.kind.ErrorKind.TheVariants.{DisplayHelp, DisplayVersion, OutOfMemory}
 use Rattle.clap.proofs.OnLiterals.{clap_on_literals}
-use Rattle.tomex_line.specs.Asked.{IsNoCommand}
+use Rattle.tomex_line.specs.Asked.{IsCommand, IsNoCommand}
 use Rattle.tomex_line.specs.Grammar.{tomex_app}
 use Rattle.tomex_line.specs.Lines.{StandsFor}
 use Rattle.tomex_line.specs.declared.line.LineFault.{LineFault}
 use Rattle.tomex_line.specs.declared.line.LineFault.TheVariants.{Help, Usage, Memory}
 use Rattle.tomex_line.proofs.line.read_line.Goals as goal
+
+is_plain : is_simple tomex_app ≡ true
+unfolding clap_on_literals
+is_plain = refl
 
 is_free : is_simple_and_free tomex_app ≡ true
 unfolding clap_on_literals
@@ -27,6 +32,13 @@ asks words error (Help text) has (inl is) = inl (is_among words error DisplayHel
 asks words error (Help text) has (inr is) = inr (is_among words error DisplayVersion (λ bad. cc) has is)
 asks words error (Usage text) has stands = tt
 asks words error Memory has stands = tt
+
+pub returns-in-Ok-clause-asked : goal.returns-in-Ok-clause-asked
+returns-in-Ok-clause-asked c =
+    let words : List Text = map string_bytes c.args.words.now in
+    let has = subst (λ (a : App). HasMatchesOf a words c.in-Ok.matches) c.in_ok-grammar.ensures c.in-Ok.ensures.matches in
+    IfOk-weaker c.line_of.result _ _ (λ line h. subst (λ (o : Option (Text × List Row)). IsCommand o line) (has is_plain).1 h)
+    c.line_of.ensures.command
 
 pub returns-in-Err-clause-no_command : goal.returns-in-Err-clause-no_command
 returns-in-Err-clause-no_command c =

@@ -1,0 +1,27 @@
+//! What `pipeline` prints.
+ghost use Rattle.std.specs.Prelude.{IfOk, IfErr};
+ghost use Rattle.tomex_command.specs.PipelineLines.{IsPipelineOf, IsPipelineFailure};
+
+use super::chosen::chosen_in;
+use super::study::study_in;
+use crate::failure::Failure;
+use std::alloc::{Allocator, Global};
+use tomex_line::PipelineLine;
+use tomex_streams::Files;
+use tomex_views::pipeline_text;
+
+/// The text that `pipeline` prints. The step is looked for after the program, and last the size of the picture.
+pub fn text_of_pipeline<F: Files, A: Allocator + Clone>(
+    alloc: A,
+    heap: Global,
+    line: PipelineLine<'_>,
+    files: &F,
+) -> Result<Vec<u8, A>, Failure>
+    ensures text { IfOk result (λ text. IsPipelineOf (F.file files.now) line.entry text.items) }
+    ensures failure { IfErr result (λ failure. IsPipelineFailure (F.file files.now) line.entry failure) }
+{
+    let study = study_in(alloc.clone()?, heap, files, line.study)?;
+    let chosen = chosen_in(&study, line.config, line.program)?;
+    let (from, steps) = (line.from, line.steps);
+    Ok(pipeline_text(alloc, heap, chosen.program, chosen.row, from, steps)?)
+}

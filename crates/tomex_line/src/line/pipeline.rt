@@ -1,0 +1,135 @@
+//! `pipeline STUDY CONFIG PROGRAM [--from N] [--steps N]`
+ghost use Rattle.std.specs.Prelude.{◌≡◌, ◌≤◌, IfOk, IfErr};
+ghost use Rattle.tomex_line.specs.Lines.{IsRefusal};
+ghost use Rattle.tomex_line.specs.Grammar.{pipeline_shape};
+ghost use Rattle.clap.specs.Simple.{shape_of};
+ghost use Rattle.clap.specs.Words.{found_of};
+ghost use Rattle.clap.specs.Walk.{rows_of};
+ghost use Rattle.tomex_line.specs.Values.{IsPipelineAsked};
+
+use super::LineFault;
+use super::described::{Texts, described, taking};
+use super::values::{Bounds, CONFIG, number, number_of, numeral, word, word_of};
+use clap::{ArgMatches, Command};
+use std::alloc::{AllocError, Global};
+
+/// The numbers of a run's instructions, and how many there can be.
+const STEP: Bounds = Bounds {
+    least: 1,
+    greatest: 262_144,
+};
+
+/// A picture of instructions that was asked for.
+#[derive(Clone, Copy, Debug)]
+pub struct PipelineLine<'a> {
+    /// The name of the study's file, as written.
+    pub study: &'a str,
+    /// The number of the configuration.
+    pub config: u32,
+    /// The name by which the study calls the program.
+    pub program: &'a str,
+    /// The number of the first instruction that is shown, in the order in which they ran, from 1.
+    pub from: u32,
+    /// How many are shown at most.
+    pub steps: u32,
+    pub ghost config_to: { config ≤ 16383 },
+    pub ghost from_least: { 1 ≤ from },
+    pub ghost from_to: { from ≤ 262144 },
+    pub ghost steps_to: { steps ≤ 262144 },
+}
+
+const ABOUT: &str = "Draws what instructions do, cycle by cycle, on one configuration";
+
+const LONG_ABOUT: &str = "Draws the instructions of a program's run on one of the study's
+configurations: a line for each in the order in which they ran, and a column
+for each cycle.
+
+STUDY is a TOML document that names programs, prices, axes and unit options;
+its files are read from the current folder. CONFIG is the number of a
+configuration, from 0: the product of the axes, the last axis fastest. PROGRAM
+is the name of a program of the study; a name that begins with `-` must follow
+`--`. docs/STUDIES.md lists the keys of a study, and docs/MACHINE.md says when
+an instruction does what.
+
+CONFIG and the options are decimal, like all numbers on the command line; in
+the study's TOML they may be hexadecimal too, as in 0x10000.
+
+The first line has the cycles of the columns. Each other line has the number
+of an instruction, its signs, its address and itself. The signs:
+  I  it issues
+  A  it computes its address, a load or store
+  E  it is in its unit
+  W  its result is on a common data bus
+  -  its result waits for a bus
+  =  it waits in its station for anything else
+
+A picture of more than 16777216 signs is refused.";
+
+const AFTER_LONG_HELP: &str = "Exit status:
+  0  the picture was written
+  1  the study or a program of it was refused, or has no such row or program,
+     or its run ends before the first instruction that is asked for, or the
+     picture is too large
+  2  the command line was refused
+  3  memory, a file or a device was refused
+
+Examples, in the folder `examples`:
+  tomex pipeline study.toml 4 mul
+
+prints
+  cycles 1 to 8
+  1 IEW      00000000 addi x1,x0,5
+  2  IEW     00000004 addi x2,x0,7
+  3   I=EEEW 00000008 mul x3,x1,x2
+  4    I     0000000c ebreak
+and
+  tomex pipeline study.toml 4 mul --from 2 --steps 2
+
+prints
+  cycles 2 to 8
+  2 IEW     00000004 addi x2,x0,7
+  3  I=EEEW 00000008 mul x3,x1,x2";
+
+const TEXTS: Texts = Texts {
+    about: ABOUT,
+    long_about: LONG_ABOUT,
+    after_long_help: AFTER_LONG_HELP,
+};
+
+const STUDY_HELP: &str = "The file of the study";
+
+const CONFIG_HELP: &str = "The number of the configuration, from 0";
+
+const PROGRAM_HELP: &str = "The name of the program in the study";
+
+const FROM_HELP: &str = "The number of the first instruction shown";
+
+const STEPS_HELP: &str = "How many are shown at most";
+
+pub(super) fn grammar<'a>(alloc: Global) -> Result<Command<'a>, AllocError>
+    ensures { IfOk result (λ c. shape_of c ≡ pipeline_shape) }
+{
+    let command = described(alloc, "pipeline", TEXTS);
+    let command = taking(command, word(alloc, "STUDY", STUDY_HELP))?;
+    let command = taking(command, numeral(alloc, "CONFIG", CONFIG, CONFIG_HELP))?;
+    let command = taking(command, word(alloc, "PROGRAM", PROGRAM_HELP))?;
+    let command = taking(command, number(alloc, "from", STEP, "1", FROM_HELP))?;
+    taking(command, number(alloc, "steps", STEP, "32", STEPS_HELP))
+}
+
+pub(super) fn line_of<'a>(
+    alloc: Global,
+    matches: &ArgMatches<'a>,
+) -> Result<PipelineLine<'a>, LineFault>
+    ensures line { IfOk result (λ line.
+        IsPipelineAsked (rows_of (found_of matches.now)) line.study.now line.config line.program.now line.from line.steps) }
+    ensures refused { IfErr result IsRefusal }
+{
+    Ok(PipelineLine {
+        study: word_of(alloc, matches, "STUDY")?,
+        config: number_of(alloc, matches, "CONFIG", CONFIG)?,
+        program: word_of(alloc, matches, "PROGRAM")?,
+        from: number_of(alloc, matches, "from", STEP)?,
+        steps: number_of(alloc, matches, "steps", STEP)?,
+    })
+}

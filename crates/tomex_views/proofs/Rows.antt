@@ -1,0 +1,37 @@
+-- The pictures of short runs, computed by the definition itself.
+use Rattle.std.proofs.Common.{◌≡◌, refl, ℕ, List}
+use Rattle.std.specs.Prelude.{codes}
+use Rattle.std.specs.Fmt.{char_count, digits, padded_integral}
+use Rattle.tomex_rvdec.specs.declared.pool.UnitId.TheVariants as units
+use Rattle.tomex_rvexec.specs.declared.step.Step.{Step}
+use Rattle.tomex_config.specs.Row.{Row, plain}
+use Rattle.tomex_timing.specs.Search.{times_in, times_of}
+use Rattle.tomex_timing.proofs.Programs.{product, two_results, stored_and_loaded, two_alu_stations, with_latency}
+use Rattle.tomex_views.specs.Chart.{line_of, picture_of, shown, sign_in}
+
+-- the picture of so many steps from a number on
+abbrev picture : ℕ → ℕ → Row → List Step → List ℕ
+picture number count row steps = picture_of number (shown number count steps) (shown number count (times_in row steps))
+
+product_picture : picture 1 32 (with_latency units.Mul two_alu_stations 3) product
+    ≡ codes "cycles 1 to 8\n1 IEW      00000000 addi x1,x0,5\n2  IEW     00000004 addi x2,x0,7\n3   I=EEEW 00000008 mul x3,x1,x2\n4    I     0000000c ebreak\n"
+unfolding line_of sign_in times_of digits padded_integral char_count
+product_picture = refl
+
+-- a part of it
+two_of_product : picture 2 2 (with_latency units.Mul two_alu_stations 3) product
+    ≡ codes "cycles 2 to 8\n2 IEW     00000004 addi x2,x0,7\n3  I=EEEW 00000008 mul x3,x1,x2\n"
+unfolding line_of sign_in times_of digits padded_integral char_count
+two_of_product = refl
+
+-- both results are ready for cycle 4: the younger one waits for the bus
+results_picture : picture 1 32 (with_latency units.Mul plain 2) two_results
+    ≡ codes "cycles 1 to 5\n1 IEEW  00000000 mul x3,x0,x0\n2  IE-W 00000004 addi x4,x0,1\n3   I   00000008 ebreak\n"
+unfolding line_of sign_in times_of digits padded_integral char_count
+results_picture = refl
+
+-- addresses, and a store, which ends in its unit
+accesses_picture : picture 3 2 (with_latency units.Mem two_alu_stations 2) (stored_and_loaded 1)
+    ≡ codes "cycles 3 to 9\n3 IAEE    00000008 sw x1,0(x8)\n4  IA=EEW 0000000c lb x2,1(x8)\n"
+unfolding line_of sign_in times_of digits padded_integral char_count
+accesses_picture = refl

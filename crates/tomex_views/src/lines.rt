@@ -1,0 +1,107 @@
+//! The lines of a picture.
+
+ghost use Rattle.std.specs.Prelude.{◌≡◌, ◌+◌, ◌<◌, ◌^◌, ◌++◌, codes, length, OnOk, string_bytes};
+ghost use Rattle.std.specs.Fmt.{decimal};
+ghost use Rattle.std.specs.List.{repeat};
+ghost use Rattle.tomex_views.specs.Chart.{chart, line_of, lines_of, right_aligned};
+
+use crate::stage::sign_in;
+use std::alloc::{AllocError, Allocator, Global};
+use std::fmt::Write;
+use tomex_rvexec::Step;
+use tomex_timing::Times;
+
+/// What all lines have in common.
+#[derive(Clone, Copy)]
+pub struct Frame {
+    /// How wide the numbers are.
+    pub digits: usize,
+    /// The cycle of the first column.
+    pub first: u64,
+    /// The cycle behind the last column.
+    pub until: u64,
+}
+
+/// Adds spaces.
+fn push_spaces<A: Allocator>(text: &mut String<A>, count: usize) -> Result<(), AllocError>
+    ensures { OnOk result (string_bytes text.new ≡ string_bytes text.old ++ repeat count (codes " ")) }
+{
+    let mut left = count;
+    while left > 0 {
+        text.push_str(" ")?;
+        left -= 1;
+    }
+    Ok(())
+}
+
+/// Adds a number, right-aligned.
+fn push_number<A: Allocator>(
+    text: &mut String<A>,
+    scratch: &mut String,
+    number: u64,
+    width: usize,
+) -> Result<(), AllocError>
+    ensures { OnOk result (string_bytes text.new ≡ string_bytes text.old ++ right_aligned width (decimal number)) }
+{
+    scratch.clear();
+    write!(scratch, "{number}")?;
+    push_spaces(text, width.saturating_sub(scratch.as_bytes().len()))?;
+    text.push_str(scratch.as_str())
+}
+
+/// Adds a step's chart: its signs from a cycle on, before another.
+fn push_chart<A: Allocator>(
+    text: &mut String<A>,
+    at: &Times,
+    from: u64,
+    until: u64,
+) -> Result<(), AllocError>
+    ensures { OnOk result (string_bytes text.new ≡ string_bytes text.old ++ chart at.now from until) }
+{
+    for cycle in from..until {
+        text.push_str(sign_in(at, cycle))?;
+    }
+    Ok(())
+}
+
+/// Adds a step's line.
+#[tactic(auto, unfolding(crate::specs::Chart::line_of))]
+fn push_line<A: Allocator>(
+    text: &mut String<A>,
+    scratch: &mut String,
+    frame: &Frame,
+    number: u64,
+    step: &Step,
+    at: &Times,
+) -> Result<(), AllocError>
+    ensures { OnOk result (string_bytes text.new ≡ string_bytes text.old ++ line_of frame.now number step.now at.now) }
+{
+    let (pc, instr) = (step.pc, step.instr);
+    push_number(text, scratch, number, frame.digits)?;
+    text.push_str(" ")?;
+    push_chart(text, at, frame.first, frame.until)?;
+    write!(text, " {pc:08x} {instr}\n")?;
+    Ok(())
+}
+
+/// Adds the lines of the steps from a number on.
+pub fn push_lines<A: Allocator>(
+    text: &mut String<A>,
+    heap: Global,
+    frame: &Frame,
+    number: u64,
+    steps: &[Step],
+    times: &[Times],
+) -> Result<(), AllocError>
+    requires pairs { length times.now ≡ length steps.now }
+    requires few { number + length steps.now < 2 ^ 63 }
+    ensures { OnOk result (string_bytes text.new
+        ≡ string_bytes text.old ++ lines_of frame.now number steps.now times.now) }
+{
+    let mut scratch = String::new(heap);
+    for (index, step) in steps.iter().enumerate() {
+        let number = number + index as u64;
+        push_line(text, &mut scratch, frame, number, step, &times[index])?;
+    }
+    Ok(())
+}
