@@ -1,0 +1,94 @@
+-- What a search among plateaus finds.
+use Rattle.std.proofs.Common.{◌≡◌, ℕ, ◌-◌, ◌<◌, ◌≤◌, ◌++◌, ◌+◌, arith, ap, sym, ◌∙◌, refl, subst, Bool, true, false, List, [], ◌∷◌, length, get_or, Option, Some, None, All, reverse, inl, inr}
+use Rattle.std.specs.Prelude.{option_map, IfSome}
+use Rattle.std.specs.List.{find}
+use Rattle.std.proofs.lemmas.Bool.{cases_Bool, cases_order}
+use Rattle.std.proofs.lemmas.List.{get_or-reverse, get_or-set_same, get_or_push, length_push, length-reverse, reverse-reverse}
+use Rattle.std.proofs.Math.ListN.{set, length-set}
+use Rattle.std.proofs.lemmas.List.Elements.{All-cons, All-head, All-nil, All-tail}
+use Rattle.tomex_rvexec.specs.declared.step.Step.{Step}
+use Rattle.tomex_config.specs.Row.{Row, IsRow}
+use Rattle.tomex_timing.specs.Search.{times_in, total_of}
+use Rattle.tomex_plateaus.specs.declared.plateau.Plateau.{Plateau}
+use Rattle.tomex_plateaus.specs.declared.plateaus.TheConstants.{MOST}
+use Rattle.tomex_plateaus.specs.Kept.{Kept, AreKept}
+use Rattle.tomex_plateaus.specs.Plateaus.{IsPlateauOf, lies_on, total_known}
+
+all_reverse : {X : Type 0} (P : X → Type 0) (xs : List X) → All P xs → All P (reverse xs)
+all_reverse P xs all k d low =
+    let below : k < length xs = rw length-reverse at low in
+    subst P (sym (get_or-reverse xs k d below)) (all (length xs - 1 - k) d (omega arith))
+
+-- what is found passes, and is one of them
+found_one : {X : Type 0} (P : X → Type 0) (p : X → Bool) (xs : List X) (x : X) → All P xs → find p xs ≡ Some x → P x × (p x ≡ true)
+found_one P p [] x all is = absurd (cc)
+found_one P p (y ∷ ys) x all is = elim (cases_Bool (p y)) [
+  | inl holds ↦
+      let same : Some y ≡ Some x = rw holds at is in
+      let e : y ≡ x = cc in
+      (subst P e (All-head P y ys all), subst (λ z. p z ≡ true) e holds)
+  | inr fails ↦ found_one P p ys x (All-tail P y ys all) (rw fails at is)
+]
+
+-- where none is found none passes
+none_found : {X : Type 0} (p : X → Bool) (xs : List X) → find p xs ≡ None → All (λ x. p x ≡ false) xs
+none_found p [] is = All-nil (λ x. p x ≡ false)
+none_found p (y ∷ ys) is = elim (cases_Bool (p y)) [
+  | inl holds ↦ let f : Some y ≡ None = rw holds at is in absurd (cc)
+  | inr fails ↦ All-cons (λ x. p x ≡ false) y ys fails (none_found p ys (rw fails at is))
+]
+
+total_in : (row : Row) (steps : List Step) (found : List Plateau) (o : Option Plateau) (n : ℕ) → IsRow row → All (IsPlateauOf steps) found → find (lies_on row) (reverse found) ≡ o
+    → option_map (λ p. p.total) o ≡ Some n → total_of (times_in row steps) ≡ n
+total_in row steps found None n good all at is = absurd (cc)
+total_in row steps found (Some p) n good all at is =
+    let same : Some p.total ≡ Some n = is in
+    let e : p.total ≡ n = cc in
+    let w = found_one (IsPlateauOf steps) (lies_on row) (reverse found) p (all_reverse (IsPlateauOf steps) found all) at in
+    w.0 row good w.1 ∙ e
+
+-- a total that is known is the program's
+total_is : (row : Row) (steps : List Step) (found : List Plateau) (n : ℕ) → IsRow row → All (IsPlateauOf steps) found → total_known row found ≡ Some n → total_of (times_in row steps) ≡ n
+total_is row steps found n good all is = total_in row steps found (find (lies_on row) (reverse found)) n good all refl is
+
+pub total_told : (row : Row) (steps : List Step) (found : List Plateau) (o : Option ℕ) → IsRow row → All (IsPlateauOf steps) found → o ≡ total_known row found → IfSome o (λ n. total_of (times_in row steps) ≡ n)
+total_told row steps found None good all is = tt
+total_told row steps found (Some n) good all is = total_is row steps found n good all (sym is)
+
+known_in : (row : Row) (steps : List Step) (found : List Plateau) (o : Option Plateau) (k : ℕ) (d : Plateau) → IsRow row → All (IsPlateauOf steps) found → k < length found → lies_on row (get_or found k d) ≡ true → find (lies_on row) (reverse found) ≡ o
+    → option_map (λ p. p.total) o ≡ Some (total_of (times_in row steps))
+known_in row steps found None k d good all low on at =
+    let none : All (λ x. lies_on row x ≡ false) found = subst (All (λ x. lies_on row x ≡ false)) (reverse-reverse found) (all_reverse (λ x. lies_on row x ≡ false) (reverse found) (none_found (lies_on row) (reverse found) at)) in
+    let f : lies_on row (get_or found k d) ≡ false = none k d low in
+    let g : true ≡ false = sym on ∙ f in
+    absurd (cc)
+known_in row steps found (Some p) k d good all low on at =
+    let w = found_one (IsPlateauOf steps) (lies_on row) (reverse found) p (all_reverse (IsPlateauOf steps) found all) at in
+    ap (λ (n : ℕ). Some n) (sym (w.0 row good w.1))
+
+-- and that of a row on one of the plateaus is known
+pub is_known : (row : Row) (steps : List Step) (found : List Plateau) (k : ℕ) (d : Plateau) → IsRow row → All (IsPlateauOf steps) found → k < length found → lies_on row (get_or found k d) ≡ true → total_known row found ≡ Some (total_of (times_in row steps))
+is_known row steps found k d good all low on = known_in row steps found (find (lies_on row) (reverse found)) k d good all low on refl
+
+another : (row : Row) (k m : Kept) (p : Plateau) → IsRow row → AreKept k → AreKept m → lies_on row p ≡ true → m.found ≡ set k.found k.oldest p → MOST ≤ length k.found
+    → total_known row m.found ≡ Some (total_of (times_in row m.steps))
+another row k m p good old new on is many =
+    let place : k.oldest < MOST = old.place in
+    let low : k.oldest < length k.found = omega arith in
+    let long : length m.found ≡ length k.found = rw is (length-set k.found k.oldest p) in
+    let at : get_or m.found k.oldest p ≡ p = rw is (get_or-set_same k.found k.oldest p p low) in
+    is_known row m.steps m.found k.oldest p good new.are (omega arith) (rw at on)
+
+-- a plateau that is kept is one of the list, so the total of each row on it is known
+pub learnt : (row : Row) (k m : Kept) (p : Plateau) → IsRow row → AreKept k → AreKept m → lies_on row p ≡ true
+    → (length k.found < MOST → m.found ≡ k.found ++ p ∷ []) → (MOST ≤ length k.found → m.found ≡ set k.found k.oldest p)
+    → total_known row m.found ≡ Some (total_of (times_in row m.steps))
+learnt row k m p good old new on more other = elim (cases_order (length k.found) MOST) [
+  | inl same ↦ another row k m p good old new on (other (omega arith)) (omega arith)
+  | inr (inl less) ↦
+      let is : m.found ≡ k.found ++ p ∷ [] = more less in
+      let long : length m.found ≡ length k.found + 1 = rw is (length_push k.found p) in
+      let at : get_or m.found (length k.found) p ≡ p = rw is (get_or_push k.found p p (length k.found) refl) in
+      is_known row m.steps m.found (length k.found) p good new.are (omega arith) (rw at on)
+  | inr (inr greater) ↦ another row k m p good old new on (other (omega arith)) (omega arith)
+]

@@ -1,0 +1,27 @@
+-- One plateau more, or another one, in the list of a program's.
+use Rattle.std.proofs.Common.{◌<◌, ◌≤◌, ◌≡◌, ◌+◌, ◌++◌, ◌∷◌, [], ◌%◌, ℕ, List, arith, length}
+use Rattle.std.proofs.Math.ListN.{set, length-set}
+use Rattle.std.proofs.lemmas.List.{length_push}
+use Rattle.std.proofs.lemmas.List.Elements.{All-push, All-set}
+use Rattle.tomex_rvexec.specs.declared.step.Step.{Step}
+use Rattle.tomex_plateaus.specs.declared.plateau.Plateau.{Plateau}
+use Rattle.tomex_plateaus.specs.Kept.{AreKept}
+use Rattle.tomex_plateaus.specs.Plateaus.{IsPlateauOf}
+
+pub one_more : (steps : List Step) (found all : List Plateau) (oldest : ℕ) (p : Plateau) → AreKept (record { steps = steps; found = found; oldest = oldest }) → IsPlateauOf steps p → length found < 1024 → all ≡ found ++ p ∷ []
+    → AreKept (record { steps = steps; found = all; oldest = oldest })
+one_more steps found all oldest p kept one low is =
+    let long = length_push found p in
+    let few : length (found ++ p ∷ []) ≤ 1024 = omega arith in
+    record { short = kept.short; are = rw is (All-push (IsPlateauOf steps) found p kept.are one); few = rw is few; place = kept.place }
+
+pub another_one : (steps : List Step) (found : List Plateau) (oldest : ℕ) (p : Plateau) → AreKept (record { steps = steps; found = found; oldest = oldest }) → IsPlateauOf steps p
+    → AreKept (record { steps = steps; found = set found oldest p; oldest = (oldest + 1) % 1024 })
+another_one steps found oldest p kept one =
+    let few : length found ≤ 1024 = kept.few in
+    record {
+      short = kept.short;
+      are = All-set (IsPlateauOf steps) found oldest p one kept.are;
+      few = rw length-set few;
+      place = (let l : (oldest + 1) % 1024 < 1024 = omega arith in l);
+    }

@@ -1,0 +1,175 @@
+-- Needs tell a plateau: a row that lies on it serves the run as its own row does.
+use Rattle.std.proofs.Common.{ℕ, zero, suc, ◌<◌, ◌≤◌, ◌≡◌, ◌∙◌, ◌⊎◌, Bool, true, arith, refl, sym, inl, inr, List, [], ◌∷◌, Some, length}
+use Rattle.std.specs.Prelude.{min, nat_le, ◌==◌, slice_get}
+use Rattle.std.specs.List.{list_all}
+use Rattle.std.proofs.lemmas.Bool.{and_from, and_parts, cases_Bool, eqb-true, leb-true, le-leb}
+use Rattle.tomex_rvdec.specs.Parts.{place_of_unit}
+use Rattle.tomex_rvdec.specs.declared.pool.PoolId.TheVariants as pools
+use Rattle.tomex_rvdec.specs.declared.pool.UnitId.{UnitId}
+use Rattle.tomex_rvdec.specs.declared.pool.UnitId.TheVariants as units
+use Rattle.tomex_config.specs.Row.{Row, IsRow, is_between, option_of, plain_option}
+use Rattle.tomex_timing.specs.declared.needs.Needs.{Needs}
+use Rattle.tomex_timing.specs.declared.part.Need.{Need}
+use Rattle.tomex_timing.specs.declared.part.Part.{Part}
+use Rattle.tomex_timing.specs.declared.part.Part.TheVariants.{Stations, Units, Buses, Width}
+use Rattle.tomex_timing.specs.declared.times.Done.{Done}
+use Rattle.tomex_timing.specs.Needs.{AreNeeds, Serves, all_parts, all_units, count_of, need_of, peak, stalls}
+use Rattle.tomex_timing.specs.Search.{history}
+use Rattle.tomex_timing.proofs.Histories.{are_timed, total_of-history}
+use Rattle.tomex_timing.proofs.Limits.{stations_high, latency_high, unit_in}
+use Rattle.tomex_timing.proofs.Serving.{serves_runs}
+use Rattle.tomex_timing.proofs.Taken.{peak_within}
+use Rattle.tomex_plateaus.specs.Laws.{OwnRowLiesOn, PlateauTells}
+use Rattle.tomex_plateaus.specs.Plateaus.{counts_for, counts_of, is_within, latencies_for, latencies_of, latency_for, lies_on, plateau_of}
+
+-- the counts of a row are small
+
+between : (low high n : ℕ) → is_between low high n ≡ true → n ≤ high
+between low high n h = leb-true n high (and_parts (nat_le low n) (nat_le n high) h).1
+
+units_high : (row : Row) (unit : UnitId) → IsRow row → (option_of row unit).units ≤ 8
+units_high row unit good =
+    let l : place_of_unit unit < length row.units = rw good.kinds (unit_in unit) in
+    between 1 8 (option_of row unit).units (and_parts _ _ (and_parts _ _ (good.units (place_of_unit unit) plain_option l)).0).0
+
+count_high : (row : Row) (part : Part) → IsRow row → count_of row part ≤ 16
+count_high row (Stations pool) good = stations_high row pool good
+count_high row (Units unit) good = let h = units_high row unit good in omega arith
+count_high row Buses good = let h = between 1 8 row.buses good.buses in omega arith
+count_high row Width good = let h = between 1 4 row.width good.width in omega arith
+
+-- what an interval tells of a count and of a latency in it, and that a row's own is in it
+
+count_told : (need : Need) (count n : ℕ) → n ≤ 16 → is_within (counts_for need count) n ≡ true → (n ≡ count) ⊎ ((need.stalls ≡ 0) × (need.peak ≤ n))
+count_told need count n few within = elim (cases_Bool (need.stalls == 0)) [
+  | inl holds ↦
+      let two = and_parts (nat_le (min need.peak 255) n) (nat_le n 255) (rw holds at within) in
+      let low : min need.peak 255 ≤ n = leb-true (min need.peak 255) n two.0 in
+      inr (eqb-true need.stalls 0 holds, omega arith)
+  | inr fails ↦
+      let two = and_parts (nat_le count n) (nat_le n count) (rw fails at within) in
+      let low : count ≤ n = leb-true count n two.0 in
+      let high : n ≤ count = leb-true n count two.1 in
+      inl (omega arith)
+]
+
+own_count : (need : Need) (count : ℕ) → count ≤ 16 → need.peak ≤ count → is_within (counts_for need count) count ≡ true
+own_count need count few enough = elim (cases_Bool (need.stalls == 0)) [
+  | inl holds ↦ rw holds (and_from (nat_le (min need.peak 255) count) (nat_le count 255) (le-leb (min need.peak 255) count (omega arith)) (le-leb count 255 (omega arith)))
+  | inr fails ↦ rw fails (and_from (nat_le count count) (nat_le count count) (le-leb count count (omega arith)) (le-leb count count (omega arith)))
+]
+
+latency_told : (need : Need) (latency n : ℕ) → is_within (latencies_for need latency) n ≡ true → (n ≡ latency) ⊎ (need.peak ≡ 0)
+latency_told need latency n within = elim (cases_Bool (need.peak == 0)) [
+  | inl holds ↦ inr (eqb-true need.peak 0 holds)
+  | inr fails ↦
+      let two = and_parts (nat_le latency n) (nat_le n latency) (rw fails at within) in
+      let low : latency ≤ n = leb-true latency n two.0 in
+      let high : n ≤ latency = leb-true n latency two.1 in
+      inl (omega arith)
+]
+
+own_latency : (need : Need) (latency : ℕ) → latency ≤ 64 → is_within (latencies_for need latency) latency ≡ true
+own_latency need latency few = elim (cases_Bool (need.peak == 0)) [
+  | inl holds ↦ rw holds (and_from (nat_le 0 latency) (nat_le latency 255) (le-leb 0 latency (omega arith)) (le-leb latency 255 (omega arith)))
+  | inr fails ↦ rw fails (and_from (nat_le latency latency) (nat_le latency latency) (le-leb latency latency (omega arith)) (le-leb latency latency (omega arith)))
+]
+
+-- the intervals of the plateau, part by part
+
+counts_are : (needs : Needs) (own : Row) (part : Part) → counts_of (plateau_of needs own) part ≡ counts_for (need_of needs part) (count_of own part)
+counts_are needs own (Stations pools.Alu) = refl
+counts_are needs own (Stations pools.Mul) = refl
+counts_are needs own (Stations pools.Div) = refl
+counts_are needs own (Stations pools.Load) = refl
+counts_are needs own (Stations pools.Store) = refl
+counts_are needs own (Stations pools.Bru) = refl
+counts_are needs own (Units units.Alu) = refl
+counts_are needs own (Units units.Mul) = refl
+counts_are needs own (Units units.Div) = refl
+counts_are needs own (Units units.Mem) = refl
+counts_are needs own (Units units.Bru) = refl
+counts_are needs own Buses = refl
+counts_are needs own Width = refl
+
+latencies_are : (needs : Needs) (own : Row) (unit : UnitId) → latencies_of (plateau_of needs own) unit ≡ latency_for needs own unit
+latencies_are needs own units.Alu = refl
+latencies_are needs own units.Mul = refl
+latencies_are needs own units.Div = refl
+latencies_are needs own units.Mem = refl
+latencies_are needs own units.Bru = refl
+
+-- what all of a list pass each of them passes
+
+at_place : {X : Type 0} (p : X → Bool) (xs : List X) (n : ℕ) (x : X) → list_all p xs ≡ true → slice_get xs n ≡ Some x → p x ≡ true
+at_place p [] n x all here = absurd (cc)
+at_place p (y ∷ xs) zero x all here = let e : y ≡ x = cc in rw (← e) (and_parts (p y) (list_all p xs) all).0
+at_place p (y ∷ xs) (suc n) x all here = at_place p xs n x (and_parts (p y) (list_all p xs) all).1 here
+
+each_part : (p : Part → Bool) (part : Part) → list_all p all_parts ≡ true → p part ≡ true
+each_part p (Stations pools.Alu) all = at_place p all_parts 0 _ all refl
+each_part p (Stations pools.Mul) all = at_place p all_parts 1 _ all refl
+each_part p (Stations pools.Div) all = at_place p all_parts 2 _ all refl
+each_part p (Stations pools.Load) all = at_place p all_parts 3 _ all refl
+each_part p (Stations pools.Store) all = at_place p all_parts 4 _ all refl
+each_part p (Stations pools.Bru) all = at_place p all_parts 5 _ all refl
+each_part p (Units units.Alu) all = at_place p all_parts 6 _ all refl
+each_part p (Units units.Mul) all = at_place p all_parts 7 _ all refl
+each_part p (Units units.Div) all = at_place p all_parts 8 _ all refl
+each_part p (Units units.Mem) all = at_place p all_parts 9 _ all refl
+each_part p (Units units.Bru) all = at_place p all_parts 10 _ all refl
+each_part p Buses all = at_place p all_parts 11 _ all refl
+each_part p Width all = at_place p all_parts 12 _ all refl
+
+each_unit : (p : UnitId → Bool) (unit : UnitId) → list_all p all_units ≡ true → p unit ≡ true
+each_unit p units.Alu all = at_place p all_units 0 _ all refl
+each_unit p units.Mul all = at_place p all_units 1 _ all refl
+each_unit p units.Div all = at_place p all_units 2 _ all refl
+each_unit p units.Mem all = at_place p all_units 3 _ all refl
+each_unit p units.Bru all = at_place p all_units 4 _ all refl
+
+all_from : {X : Type 0} (p : X → Bool) (xs : List X) → ((x : X) → p x ≡ true) → list_all p xs ≡ true
+all_from p [] each = refl
+all_from p (x ∷ xs) each = and_from (p x) (list_all p xs) (each x) (all_from p xs each)
+
+-- a row on the plateau serves the run
+
+part_serves : (own other : Row) (h : List Done) (needs : Needs) (part : Part) → IsRow other → AreNeeds own h needs → is_within (counts_of (plateau_of needs own) part) (count_of other part) ≡ true
+    → (count_of other part ≡ count_of own part) ⊎ ((stalls own part h ≡ 0) × (peak part h ≤ count_of other part))
+part_serves own other h needs part good are within = elim (count_told (need_of needs part) (count_of own part) (count_of other part) (count_high other part good) (rw counts_are at within)) [
+  | inl same ↦ inl same
+  | inr two ↦ inr (rw (are.parts part) at two.0, rw (are.parts part) at two.1)
+]
+
+latency_serves : (own other : Row) (h : List Done) (needs : Needs) (unit : UnitId) → AreNeeds own h needs → is_within (latencies_of (plateau_of needs own) unit) (option_of other unit).latency ≡ true
+    → ((option_of other unit).latency ≡ (option_of own unit).latency) ⊎ (peak (Units unit) h ≡ 0)
+latency_serves own other h needs unit are within = elim (latency_told (need_of needs (Units unit)) (option_of own unit).latency (option_of other unit).latency (rw latencies_are at within)) [
+  | inl same ↦ inl same
+  | inr none ↦ inr (rw (are.parts (Units unit)) at none)
+]
+
+row_serves : (own other : Row) (h : List Done) (needs : Needs) → IsRow other → AreNeeds own h needs → lies_on other (plateau_of needs own) ≡ true → Serves own other h
+row_serves own other h needs good are on =
+    let p = plateau_of needs own in
+    let parts = λ (part : Part). is_within (counts_of p part) (count_of other part) in
+    let kinds = λ (unit : UnitId). is_within (latencies_of p unit) (option_of other unit).latency in
+    let two = and_parts (list_all parts all_parts) (list_all kinds all_units) on in
+    record {
+      parts = λ part. part_serves own other h needs part good are (each_part parts part two.0);
+      latencies = λ unit. latency_serves own other h needs unit are (each_unit kinds unit two.1);
+    }
+
+pub plateau_tells : PlateauTells
+plateau_tells own steps needs good are other good' on =
+    let serves = row_serves own other (history own steps) needs good' are on in
+    (serves_runs own other steps good good' serves).1 ∙ (total_of-history (history own steps) ∙ sym are.total)
+
+pub own_lies_on : OwnRowLiesOn
+own_lies_on own steps needs good are =
+    let p = plateau_of needs own in
+    let h = history own steps in
+    let parts = λ (part : Part). is_within (counts_of p part) (count_of own part) in
+    let kinds = λ (unit : UnitId). is_within (latencies_of p unit) (option_of own unit).latency in
+    and_from (list_all parts all_parts) (list_all kinds all_units)
+    (all_from parts all_parts (λ part. let most : peak part h ≤ count_of own part = peak_within own h part (are_timed own steps good) in rw counts_are (own_count (need_of needs part) (count_of own part) (count_high own part good) (rw (are.parts part) most))))
+    (all_from kinds all_units (λ unit. rw latencies_are (own_latency (need_of needs (Units unit)) (option_of own unit).latency (latency_high own unit good))))

@@ -1,0 +1,101 @@
+//! The plateaus of one program.
+
+ghost use Rattle.std.specs.Prelude.{◌≡◌, ◌≤◌, ◌<◌, ◌++◌, ◌∷◌, [], ◌^◌, length, slice_set, IfSome, OnOk, Some};
+ghost use Rattle.tomex_timing.specs.Search.{times_in, total_of};
+ghost use Rattle.tomex_plateaus.specs.Kept.{AreKept};
+ghost use Rattle.tomex_plateaus.specs.Plateaus.{IsPlateauOf, total_known};
+
+use crate::plateau::Plateau;
+use std::alloc::{AllocError, Allocator};
+use std::marker::Model;
+use tomex_config::Config;
+use tomex_rvexec::Step;
+use tomex_timing::evaluate::needs;
+
+/// So many of them are kept.
+const MOST: usize = 1024;
+
+/// Plateaus of a program, as the needs of its runs have told them.
+#[derive(Drop)]
+pub struct Plateaus<'s, A: Allocator> {
+    /// Of a run of the program.
+    steps: &'s [Step],
+    found: Vec<Plateau, A>,
+    /// The place of the oldest, if there are as many as are kept.
+    oldest: usize,
+}
+
+impl<'s, A: Allocator> Model for Plateaus<'s, A> {
+    ghost use Rattle.tomex_plateaus.specs.Kept.{Kept, AreKept};
+
+    ghost Value = { Kept };
+
+    ghost view = { λ p. record { steps = p.steps.now; found = p.found.items; oldest = p.oldest } };
+
+    ghost invariant = { λ p. AreKept (record { steps = p.steps.now; found = p.found.items; oldest = p.oldest }) };
+}
+
+impl<'s, A: Allocator> Plateaus<'s, A> {
+    /// None yet of the program whose run has these steps. Takes no memory.
+    pub fn new(alloc: A, steps: &'s [Step]) -> Plateaus<'s, A>
+        requires { length steps.now < 2 ^ 28 }
+        ensures { result ≡ record { steps = steps.now; found = []; oldest = 0 } }
+    {
+        Plateaus {
+            steps,
+            found: Vec::new(alloc),
+            oldest: 0,
+        }
+    }
+
+    /// The cycles that the program takes on a row, if the row lies on one of its plateaus. The newest are
+    /// asked first.
+    pub fn total_on(&self, row: &Config) -> Option<u64>
+        ensures known { result ≡ total_known row.now self.now.found }
+        ensures total { IfSome result (λ n. total_of (times_in row.now self.now.steps) ≡ n) }
+    {
+        // Read for what the row's type keeps, which the proof needs.
+        let _buses = row.buses();
+        self.newest_total(row)
+    }
+
+    /// What the newest plateau says on which a row lies.
+    fn newest_total(&self, row: &Config) -> Option<u64>
+        ensures known { result ≡ total_known row.now self.now.found }
+        ensures kept { AreKept self.now }
+    {
+        let plateau = self.found.iter().rev().find(|plateau| plateau.has(row))?;
+        Some(plateau.total)
+    }
+
+    /// Keeps one more, in the place of the oldest if there are as many as are kept.
+    fn keep(&mut self, plateau: Plateau) -> Result<(), AllocError>
+        requires { IsPlateauOf self.old.steps plateau }
+        ensures steps { self.new.steps ≡ self.old.steps }
+        ensures kept { AreKept self.new }
+        ensures one_more { OnOk result (length self.old.found < MOST → self.new.found ≡ self.old.found ++ plateau ∷ []) }
+        ensures another { OnOk result (MOST ≤ length self.old.found → self.new.found ≡ slice_set self.old.found self.old.oldest plateau) }
+    {
+        if self.found.len() < MOST {
+            self.found.push(plateau)?;
+            return Ok(());
+        }
+        self.found[self.oldest] = plateau;
+        self.oldest = (self.oldest + 1) % MOST;
+        Ok(())
+    }
+
+    /// Takes the needs of the program's run on a row, and keeps the plateau that they tell. The row lies on it.
+    ///
+    /// The work is that of `times`, and the memory too.
+    pub fn learn(&mut self, alloc: A, row: &Config) -> Result<(), AllocError>
+        ensures steps { self.new.steps ≡ self.old.steps }
+        ensures known { OnOk result (total_known row.now self.new.found ≡ Some (total_of (times_in row.now self.new.steps))) }
+    {
+        // Read for what the row's type keeps, which the proof needs.
+        let _buses = row.buses();
+        let needs = needs(alloc, self.steps, row)?;
+        self.keep(Plateau::of(&needs, row))?;
+        Ok(())
+    }
+}
