@@ -3,6 +3,8 @@ mod Each
 pub mod Totals
 pub mod Machines
 pub mod Stops
+pub mod Spares
+pub mod Knowing
 pub mod Pareto
 pub mod Relations
 pub mod Passes

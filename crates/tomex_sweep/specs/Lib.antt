@@ -11,6 +11,7 @@ pub mod Passing
 pub mod Marks
 pub mod Stops
 pub mod Reused
+pub mod Known
 pub use Rattle.tomex_image.specs.Image
 pub use Rattle.tomex_rvexec.specs.Run
 pub use Rattle.tomex_config.specs.Row

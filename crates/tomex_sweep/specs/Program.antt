@@ -1,9 +1,11 @@
 -- A program of a study: an image whose run in order ends within its limit.
-use Rattle.std.specs.Prelude.{ℕ, ◌≤◌, List}
+use Rattle.std.specs.Prelude.{◌≡◌, ℕ, ◌≤◌, List, length}
 use Rattle.tomex_image.specs.Image.{Loaded}
-use Rattle.tomex_rvexec.specs.Run.{EndsWithin, IsRefusal}
+use Rattle.tomex_rvexec.specs.Run.{EndsWithin, IsRefusal, start_of}
+use Rattle.tomex_rvexec.specs.Trace.{steps_from}
 use Rattle.tomex_rvexec.specs.declared.end.RunError.{RunError}
 use Rattle.tomex_rvexec.specs.declared.end.RunError.TheVariants as errors
+use Rattle.tomex_rvexec.specs.declared.step.Step.{Step}
 use Rattle.tomex_sweep.specs.Watch.{IsWatch}
 use Rattle.tomex_sweep.specs.declared.watch.WatchRange.{WatchRange}
 use Rattle.tomex_sweep.specs.declared.program.ProgramError.{ProgramError}
@@ -27,6 +29,11 @@ pub record IsProgram (p : Workload) : Type 0 where
   pub watch : IsWatch p.image.window p.watch
   pub some_weight : 1 ≤ p.weight
   pub most_weight : p.weight ≤ 1000
+
+-- the steps of an image's run within a limit, which are few
+pub record AreSteps (image : Loaded) (limit : ℕ) (steps : List Step) : Type 0 where
+  pub run : steps ≡ steps_from limit (start_of image)
+  pub few : length steps ≤ 262144
 
 -- what the run was refused for
 abbrev pub refusal_of : ProgramError → RunError

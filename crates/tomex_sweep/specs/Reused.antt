@@ -1,8 +1,11 @@
--- A machine that is handed over to make the next one.
-use Rattle.std.specs.Prelude.{Option, Some, None, []}
-use Rattle.tomex_config.specs.Row.{plain}
+-- A machine that is handed over to make the next one, and what is counted in its place where a total is known.
+use Rattle.std.specs.Prelude.{◌≡◌, ℕ, min, nat_lt, Bool, true, if◌then◌else◌, Option, Some, None, [], IsSome, IfSome}
+use Rattle.tomex_image.specs.Image.{Loaded}
+use Rattle.tomex_config.specs.Row.{Row, plain}
+use Rattle.tomex_cycle.specs.Run.{total}
 use Rattle.tomex_cycle.specs.Seen.{Counted}
-use Rattle.tomex_cycle.specs.declared.progress.Progress.TheVariants.{Running}
+use Rattle.tomex_cycle.specs.declared.progress.Progress.TheVariants.{Running, Ended}
+use Rattle.tomex_sweep.specs.declared.spared.Spared.{Spared}
 
 -- the machine that is there; there is one at each moment at which contracts look
 abbrev pub machine_in : Option Counted → Counted
@@ -14,3 +17,23 @@ machine_in None = record {
   last = Running;
   worked = 0;
 }
+
+-- a run of this image on this row, which a machine makes or which is spared
+abbrev pub run_in : Loaded → Row → Option Counted → Option Spared → Counted
+run_in image row machine None = machine_in machine
+run_in image row machine (Some s) =
+    record { image = image; row = row; cycle = s.cycle; last = if s.running then Running else Ended; worked = 0 }
+
+-- there is a machine, and what is spared has the run's total
+pub record IsReused (image : Loaded) (row : Row) (machine : Option Counted) (spared : Option Spared) : Type 0 where
+  pub some : IsSome machine
+  pub known : IfSome spared (λ s. total row image ≡ s.total)
+
+-- the run of a total that is known, before its first cycle
+abbrev pub spared_of : Option ℕ → Option Spared
+spared_of None = None
+spared_of (Some n) = Some (record { total = n; cycle = 0; running = true })
+
+-- a run of so many cycles that has gone on to a cycle, or to its end before it
+abbrev pub spared_to : ℕ → ℕ → Spared
+spared_to total to = record { total = total; cycle = min to total; running = nat_lt to total }

@@ -7,6 +7,10 @@ pub trait Gate {
 
     /// Called by a worker that has taken a row, before it runs it.
     fn before(&self, worker: usize, row: usize);
+
+    /// Called after that by an exploration's worker, with how many of the programs it runs on the row: of the
+    /// others the cycles are known.
+    fn runs(&self, _worker: usize, _row: usize, _programs: usize) {}
 }
 
 /// Lets each run begin at once.

@@ -1,6 +1,8 @@
 //! A program of a study: an image that is known to end.
 
-ghost use Rattle.std.specs.Prelude.{◌≡◌, ◌≤◌, IfOk, IfErr, string_bytes};
+ghost use Rattle.std.specs.Prelude.{◌≡◌, ◌≤◌, length, IfOk, IfErr, string_bytes};
+ghost use Rattle.tomex_rvexec.specs.Run.{start_of};
+ghost use Rattle.tomex_rvexec.specs.Trace.{steps_from};
 ghost use Rattle.tomex_sweep.specs.Watch.{IsWatch};
 ghost use Rattle.tomex_sweep.specs.Program.{IsProgram, IsUnfit, refusal_of};
 ghost use Rattle.tomex_sweep.specs.declared.program.ProgramError.TheVariants as unfit;
@@ -10,7 +12,7 @@ use std::alloc::{Allocator, Global};
 use std::marker::Model;
 use thiserror::Error;
 use tomex_image::Image;
-use tomex_rvexec::{Fault, RunError, run};
+use tomex_rvexec::{Fault, RunError, Step, trace};
 
 /// A program, which ends within its limit of 1 to 262,144 steps, by a run in order of its image.
 /// At most 8 ranges of its memory are watched, each inside it, together of at most 4,096 bytes. Its
@@ -22,11 +24,13 @@ pub struct Program<A: Allocator = Global> {
     limit: u32,
     watch: Vec<WatchRange, A>,
     weight: u32,
+    /// Those of its run, in program order.
+    steps: Vec<Step, A>,
 }
 
 impl<A: Allocator> Model for Program<A> {
     ghost use Rattle.std.specs.Prelude.{string_bytes};
-    ghost use Rattle.tomex_sweep.specs.Program.{Workload, IsProgram};
+    ghost use Rattle.tomex_sweep.specs.Program.{Workload, IsProgram, AreSteps};
 
     ghost Value = { Workload };
 
@@ -34,7 +38,8 @@ impl<A: Allocator> Model for Program<A> {
         record { name = string_bytes p.name; image = p.image; limit = p.limit; watch = p.watch.items; weight = p.weight } };
 
     ghost invariant = { λ p.
-        IsProgram (record { name = string_bytes p.name; image = p.image; limit = p.limit; watch = p.watch.items; weight = p.weight }) };
+        IsProgram (record { name = string_bytes p.name; image = p.image; limit = p.limit; watch = p.watch.items; weight = p.weight })
+        × AreSteps p.image p.limit p.steps.items };
 }
 
 /// Why an image is no program of a study.
@@ -63,9 +68,9 @@ impl From<RunError> for ProgramError {
     }
 }
 
-impl<A: Allocator> Program<A> {
+impl<A: Allocator + Clone> Program<A> {
     /// The program of this image, which is run to find whether it ends. The run takes as much
-    /// memory as the image has.
+    /// memory as the image has, and 20 bytes a step, which the program keeps.
     pub fn new(
         alloc: A,
         name: String<A>,
@@ -84,16 +89,19 @@ impl<A: Allocator> Program<A> {
         ensures program { IfOk result (λ p. IsProgram p) }
         ensures unfit { IfErr result (λ e. IsUnfit image limit e) }
     {
-        run(alloc, &image, limit)?;
+        let steps = trace(alloc, &image, limit)?;
         Ok(Program {
             name,
             image,
             limit,
             watch,
             weight,
+            steps,
         })
     }
+}
 
+impl<A: Allocator> Program<A> {
     /// The name by which the study calls it.
     pub fn name(&self) -> &str
         ensures value { result.now ≡ self.now.name }
@@ -133,5 +141,14 @@ impl<A: Allocator> Program<A> {
         ensures program { IsProgram self.now }
     {
         self.weight
+    }
+
+    /// The steps of its run, in program order; the one that ends the program is the last.
+    pub fn steps(&self) -> &[Step]
+        ensures steps { result.now ≡ steps_from self.now.limit (start_of self.now.image) }
+        ensures few { length result.now ≤ 262144 }
+        ensures program { IsProgram self.now }
+    {
+        self.steps.as_slice()
     }
 }

@@ -1,48 +1,94 @@
-//! A machine that runs one program after another, in the memory that the first one took.
+//! The run of one program after another on one row after another, in the memory that the first one took.
 
-ghost use Rattle.std.specs.Prelude.{◌≡◌, ◌≤◌, ◌^◌, max, OnErr, OnOk};
+ghost use Rattle.std.specs.Prelude.{◌≡◌, ◌≤◌, ◌^◌, max, OnErr, OnOk, IfSome};
 ghost use Rattle.tomex_rvexec.specs.Run.{EndsWithin};
+ghost use Rattle.tomex_cycle.specs.Run.{total};
 ghost use Rattle.tomex_cycle.specs.Seen.{is_end, seen, seen_after};
 ghost use Rattle.tomex_cycle.specs.declared.progress.Progress.{Progress};
 
+use crate::spared::Spared;
 use std::alloc::{AllocError, Allocator};
 use std::marker::Model;
 use tomex_config::Config;
 use tomex_cycle::Machine;
 use tomex_image::Image;
 
-/// The machine of the program at hand. A new one is made of the old one, which is handed over for that.
+/// The run of the program at hand: by the machine, or spared where its total is known. A new machine is made of the
+/// old one, which is handed over for that.
 #[derive(Drop)]
 pub(crate) struct Reused<'s, A: Allocator> {
+    image: &'s Image<A>,
+    row: &'s Config,
     /// There is one but for the moment in which it is handed over.
     machine: Option<Machine<'s, A>>,
+    /// The run that is spared. The machine stands still meanwhile, at whatever it ran last.
+    spared: Option<Spared>,
 }
 
 impl<'s, A: Allocator> Model for Reused<'s, A> {
-    ghost use Rattle.std.specs.Prelude.{IsSome};
     ghost use Rattle.tomex_cycle.specs.Seen.{Counted};
-    ghost use Rattle.tomex_sweep.specs.Reused.{machine_in};
+    ghost use Rattle.tomex_sweep.specs.Reused.{run_in, IsReused};
 
     ghost Value = { Counted };
 
-    ghost view = { λ r. machine_in r.machine };
+    ghost view = { λ r. run_in r.image.now r.row.now r.machine r.spared };
 
-    ghost invariant = { λ r. IsSome r.machine };
+    ghost invariant = { λ r. IsReused r.image.now r.row.now r.machine r.spared };
 }
 
 impl<'s, A: Allocator> Reused<'s, A> {
-    /// At first that machine.
-    pub(crate) fn new(machine: Machine<'s, A>) -> Reused<'s, A>
-        ensures { result ≡ machine.entry }
+    /// The run of this image on this row, before its first cycle: spared if its total is known, else by that machine.
+    pub(crate) fn new(
+        machine: Machine<'s, A>,
+        image: &'s Image<A>,
+        row: &'s Config,
+        known: Option<u64>,
+    ) -> Reused<'s, A>
+        requires fresh { seen machine ≡ record { image = image.now; row = row.now; cycle = 0; last = Progress.Running } }
+        requires known { IfSome known (λ n. total row.now image.now ≡ n) }
+        ensures { seen result ≡ record { image = image.now; row = row.now; cycle = 0; last = Progress.Running } }
     {
         Reused {
+            image,
+            row,
             machine: Some(machine),
+            spared: Spared::of(known),
         }
     }
 
-    /// A machine of this image and this row, before its first cycle, in the memory of the one at hand if that is
-    /// enough. If more is refused, the one at hand stays as it is.
-    pub(crate) fn restart(&mut self, image: &'s Image<A>, row: &Config) -> Result<(), AllocError>
+    /// The run of this image on this row, before its first cycle: spared if its total is known, else by a machine
+    /// in the memory of the one at hand, if that is enough. If more is refused, the run at hand stays as it is.
+    pub(crate) fn restart(
+        &mut self,
+        image: &'s Image<A>,
+        row: &'s Config,
+        known: Option<u64>,
+    ) -> Result<(), AllocError>
+        requires { IfSome known (λ n. total row.now image.now ≡ n) }
+        ensures start { OnOk result (seen self.new ≡ record { image = image.now; row = row.now; cycle = 0; last = Progress.Running }) }
+        ensures err { OnErr result (self.new ≡ self.old) }
+    {
+        match known {
+            Some(total) => {
+                self.spare(image, row, total);
+                Ok(())
+            }
+            None => self.make(image, row),
+        }
+    }
+
+    /// The run of this image on this row, which is spared since it has this total.
+    fn spare(&mut self, image: &'s Image<A>, row: &'s Config, known: u64)
+        requires { total row.now image.now ≡ known }
+        ensures { seen self.new ≡ record { image = image.now; row = row.now; cycle = 0; last = Progress.Running } }
+    {
+        self.image = image;
+        self.row = row;
+        self.spared = Spared::of(Some(known));
+    }
+
+    /// The run of this image on this row by a machine.
+    fn make(&mut self, image: &'s Image<A>, row: &'s Config) -> Result<(), AllocError>
         ensures start { OnOk result (seen self.new ≡ record { image = image.now; row = row.now; cycle = 0; last = Progress.Running }) }
         ensures err { OnErr result (self.new ≡ self.old) }
     {
@@ -52,6 +98,9 @@ impl<'s, A: Allocator> Reused<'s, A> {
         match machine.restart(image, row) {
             Ok(machine) => {
                 self.machine = Some(machine);
+                self.image = image;
+                self.row = row;
+                self.spared = None;
                 Ok(())
             }
             Err(machine) => {
@@ -66,6 +115,10 @@ impl<'s, A: Allocator> Reused<'s, A> {
         requires { to ≤ 2 ^ 40 }
         ensures { EndsWithin self.old.image 262144 → seen self.new ≡ seen_after self.old.image self.old.row (max self.old.cycle to) }
     {
+        if let Some(spared) = self.spared {
+            self.spared = Some(spared.advanced(to));
+            return;
+        }
         if let Some(machine) = &mut self.machine {
             machine.advance(to);
         }
@@ -75,6 +128,9 @@ impl<'s, A: Allocator> Reused<'s, A> {
     pub(crate) fn cycle(&self) -> u64
         ensures { result ≡ self.now.cycle }
     {
+        if let Some(spared) = self.spared {
+            return spared.cycle;
+        }
         match &self.machine {
             Some(machine) => machine.cycle(),
             None => unreachable!(),
@@ -85,6 +141,9 @@ impl<'s, A: Allocator> Reused<'s, A> {
     pub(crate) fn ended(&self) -> bool
         ensures { result ≡ is_end self.now.last }
     {
+        if let Some(spared) = self.spared {
+            return !spared.running;
+        }
         match &self.machine {
             Some(machine) => machine.ended(),
             None => unreachable!(),

@@ -1,6 +1,8 @@
-//! The run of a row: the programs in order, by the cycle machine.
+//! The run of a row: the programs in order, by the cycle machine, but for those whose totals are known.
 
-ghost use Rattle.std.specs.Prelude.{◌≡◌, ◌+◌, ◌≤◌, length, IfOk, OnOk, All};
+ghost use Rattle.std.specs.Prelude.{◌≡◌, ◌+◌, ◌≤◌, length, take, IfOk, OnOk, All};
+ghost use Rattle.tomex_sweep.specs.Known.{AreTotals};
+ghost use Rattle.tomex_sweep.specs.Cycles.{plain_on};
 ghost use Rattle.tomex_sweep.specs.Program.{IsProgram};
 ghost use Rattle.tomex_sweep.specs.Stops.{IsNearer, stop_at};
 
@@ -20,6 +22,8 @@ const STRIDE: u64 = 1024;
 pub(crate) struct RowRun<'s, A: Allocator> {
     programs: &'s [Program<A>],
     row: &'s Config,
+    /// In the programs' order, those that are known.
+    totals: [Option<u64>; 8],
     /// How many programs are done.
     place: usize,
     /// The sum of their totals.
@@ -28,44 +32,50 @@ pub(crate) struct RowRun<'s, A: Allocator> {
     counted: u64,
     /// The cycles made at the last look, 0 before the first.
     reached: u64,
-    /// The machine of the program at hand.
+    /// The run of the program at hand.
     machine: Reused<'s, A>,
 }
 
 impl<'s, A: Allocator> Model for RowRun<'s, A> {
     ghost use Rattle.tomex_cycle.specs.Seen.{seen};
+    ghost use Rattle.tomex_sweep.specs.Known.{AreTotals};
     ghost use Rattle.tomex_sweep.specs.Stops.{Going, IsGoing};
 
     ghost Value = { Going };
 
     ghost view = { λ r. record { programs = r.programs.now; row = r.row.now; reached = r.reached } };
 
-    ghost invariant = { λ r. IsGoing r.programs.now r.row.now r.reached r.place r.done r.counted (seen r.machine) };
+    ghost invariant = { λ r. IsGoing r.programs.now r.row.now r.reached r.place r.done r.counted (seen r.machine)
+        × AreTotals r.programs.now r.row.now r.totals };
 }
 
 impl<'s, A: Allocator> RowRun<'s, A> {
-    /// The run of a row, before its first cycle.
+    /// The run of a row, before its first cycle, given what totals are known.
     pub(crate) fn new(
         alloc: A,
         programs: &'s [Program<A>],
         row: &'s Config,
+        totals: [Option<u64>; 8],
     ) -> Result<RowRun<'s, A>, AllocError>
         requires some { 1 ≤ length programs.now }
         requires few { length programs.now ≤ 8 }
         requires ends { All IsProgram programs.now }
+        requires totals { AreTotals programs.now row.now totals }
         ensures { IfOk result (λ r. r ≡ record { programs = programs.now; row = row.now; reached = 0 }) }
     {
         // Read for what the row's type keeps, which the proof needs.
         let _buses = row.buses();
-        let machine = Machine::new(alloc, programs[0].image(), row)?;
+        let image = programs[0].image();
+        let machine = Machine::new(alloc, image, row)?;
         Ok(RowRun {
             programs,
             row,
+            totals,
             place: 0,
             done: 0,
             counted: 0,
             reached: 0,
-            machine: Reused::new(machine),
+            machine: Reused::new(machine, image, row, totals[0]),
         })
     }
 
@@ -75,17 +85,20 @@ impl<'s, A: Allocator> RowRun<'s, A> {
         &mut self,
         programs: &'s [Program<A>],
         row: &'s Config,
+        totals: [Option<u64>; 8],
     ) -> Result<(), AllocError>
         requires some { 1 ≤ length programs.now }
         requires few { length programs.now ≤ 8 }
         requires ends { All IsProgram programs.now }
+        requires totals { AreTotals programs.now row.now totals }
         ensures { OnOk result (self.new ≡ record { programs = programs.now; row = row.now; reached = 0 }) }
     {
         // Read for what the row's type keeps, which the proof needs.
         let _buses = row.buses();
-        self.machine.restart(programs[0].image(), row)?;
+        self.machine.restart(programs[0].image(), row, totals[0])?;
         self.programs = programs;
         self.row = row;
+        self.totals = totals;
         self.place = 0;
         self.done = 0;
         self.counted = 0;
@@ -119,11 +132,20 @@ impl<'s, A: Allocator> RowRun<'s, A> {
                 self.counted = counted;
                 return Ok(Stop::Over(counted));
             };
-            self.machine.restart(program.image(), self.row)?;
+            self.machine
+                .restart(program.image(), self.row, self.totals[place])?;
             self.place = place;
             self.done = done;
             self.counted = counted;
         }
         Ok(Stop::Over(self.counted))
+    }
+
+    /// How many of the programs are done.
+    pub(crate) fn done(&self) -> usize
+        ensures within { result ≤ length self.now.programs }
+        ensures made { plain_on (take result self.now.programs) self.now.row ≤ self.now.reached + 1024 }
+    {
+        self.place
     }
 }

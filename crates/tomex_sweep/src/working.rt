@@ -1,10 +1,12 @@
 //! A worker's whole body.
 
-ghost use Rattle.std.specs.Prelude.{◌≡◌, ◌<◌, ◌∷◌, [], length, IfOk, OnOk, All};
+ghost use Rattle.std.specs.Prelude.{◌≡◌, ◌<◌, ◌≤◌, ◌∷◌, [], length, count_by, take, is_some, not, IfOk, OnOk, All};
 ghost use Rattle.tomex_board.specs.Views.{IsNoted, Grows};
+ghost use Rattle.tomex_sweep.specs.Known.{AreTotalsOn};
 ghost use Rattle.tomex_sweep.specs.Plans.{IsPlanOf};
 
 use crate::gate::Gate;
+use crate::knowledge::Knowledge;
 use crate::laws::each_program_ends;
 use crate::runs::Runs;
 use crate::stop::Stop;
@@ -14,36 +16,40 @@ use tomex_board::{Board, Plan, Seat};
 use tomex_lanes::{Lane, Part};
 
 /// Runs a row that the seat has in hand, until it is over or a look finds a finished row that costs no
-/// more and takes fewer cycles than this one has made, and closes it on the board.
+/// more and takes fewer cycles than this one has made, and closes it on the board: how many programs have ended
+/// on it. The programs whose totals are known aren't run.
 fn close_row<'s, J: Plan, A: Allocator + Clone>(
     runs: &mut Runs<'s, A>,
     study: &'s Study<A>,
     board: &Board<J, A>,
     seat: &mut Seat<J>,
     row: usize,
-) -> Result<(), AllocError>
+    totals: [Option<u64>; 8],
+) -> Result<usize, AllocError>
     requires board { seat.old.board ≡ board.now }
     requires plan { IsPlanOf study.now J.costs J.cycles }
     requires row { row < length J.costs }
     requires hand { seat.old.view.hand ≡ row ∷ [] }
+    requires totals { AreTotalsOn study.now row totals }
+    ensures done { IfOk result (λ n. n ≤ length study.now.programs) }
     ensures board { seat.new.board ≡ seat.old.board }
     ensures share { seat.new.view.share ≡ seat.old.view.share }
     ensures hand { OnOk result (seat.new.view.hand ≡ []) }
     ensures grown { Grows seat.old.view seat.new.view }
 {
     each_program_ends(study.programs());
-    let run = runs.begin(study.programs(), &study.rows()[row])?;
+    let run = runs.begin(study.programs(), &study.rows()[row], totals)?;
     loop {
         match run.go_on()? {
             Stop::Over(cycles) => {
                 board.finish(seat, row, cycles);
-                return Ok(());
+                return Ok(run.done());
             }
             Stop::Look(reached) => {
                 if let Some(bound) = board.look(seat, row) {
                     if bound.cycles < reached {
                         board.give_up(seat, row, bound, reached);
-                        return Ok(());
+                        return Ok(run.done());
                     }
                 }
             }
@@ -51,9 +57,21 @@ fn close_row<'s, J: Plan, A: Allocator + Clone>(
     }
 }
 
-/// Claims a row, and where the claim is true runs and closes it. Either way it isn't open then.
-fn try_row<'s, J: Plan, A: Allocator + Clone, G: Gate>(
+/// For how many of so many programs no total is known.
+fn count_unknown(programs: usize, totals: &[Option<u64>; 8]) -> usize
+    ensures { result ≡ count_by (λ t. not (is_some t)) (take programs totals.now) }
+{
+    totals
+        .iter()
+        .take(programs)
+        .filter(|total| total.is_none())
+        .count()
+}
+
+/// Runs a row that the seat has in hand, but for the programs whose totals are known, closes it, and learns from it.
+fn run_row<'s, J: Plan, A: Allocator + Clone, G: Gate>(
     runs: &mut Runs<'s, A>,
+    knowledge: &mut Knowledge<'s, A>,
     study: &'s Study<A>,
     board: &Board<J, A>,
     seat: &mut Seat<J>,
@@ -63,8 +81,39 @@ fn try_row<'s, J: Plan, A: Allocator + Clone, G: Gate>(
 ) -> Result<(), AllocError>
     requires board { seat.old.board ≡ board.now }
     requires plan { IsPlanOf study.now J.costs J.cycles }
+    requires known { knowledge.old ≡ study.now.programs }
+    requires row { row < length J.costs }
+    requires hand { seat.old.view.hand ≡ row ∷ [] }
+    ensures known { knowledge.new ≡ knowledge.old }
+    ensures board { seat.new.board ≡ seat.old.board }
+    ensures share { seat.new.view.share ≡ seat.old.view.share }
+    ensures hand { OnOk result (seat.new.view.hand ≡ []) }
+    ensures grown { Grows seat.old.view seat.new.view }
+{
+    let config = &study.rows()[row];
+    let totals = knowledge.totals(config);
+    gate.runs(worker, row, count_unknown(study.programs().len(), &totals));
+    let done = close_row(runs, study, board, seat, row, totals)?;
+    knowledge.learn(config, done, totals)
+}
+
+/// Claims a row, and where the claim is true runs and closes it. Either way it isn't open then.
+fn try_row<'s, J: Plan, A: Allocator + Clone, G: Gate>(
+    runs: &mut Runs<'s, A>,
+    knowledge: &mut Knowledge<'s, A>,
+    study: &'s Study<A>,
+    board: &Board<J, A>,
+    seat: &mut Seat<J>,
+    worker: usize,
+    row: usize,
+    gate: &G,
+) -> Result<(), AllocError>
+    requires board { seat.old.board ≡ board.now }
+    requires plan { IsPlanOf study.now J.costs J.cycles }
+    requires known { knowledge.old ≡ study.now.programs }
     requires row { row < length J.costs }
     requires hand { seat.old.view.hand ≡ [] }
+    ensures known { knowledge.new ≡ knowledge.old }
     ensures board { seat.new.board ≡ seat.old.board }
     ensures share { seat.new.view.share ≡ seat.old.view.share }
     ensures hand { OnOk result (seat.new.view.hand ≡ []) }
@@ -75,12 +124,13 @@ fn try_row<'s, J: Plan, A: Allocator + Clone, G: Gate>(
         return Ok(());
     }
     gate.before(worker, row);
-    close_row(runs, study, board, seat, row)
+    run_row(runs, knowledge, study, board, seat, worker, row, gate)
 }
 
 /// Takes rows as long as there are any, but at most as many as there are rows, and tries each.
 fn try_taken<'s, J: Plan, A: Allocator + Clone, G: Gate>(
     runs: &mut Runs<'s, A>,
+    knowledge: &mut Knowledge<'s, A>,
     study: &'s Study<A>,
     board: &Board<J, A>,
     seat: &mut Seat<J>,
@@ -89,8 +139,10 @@ fn try_taken<'s, J: Plan, A: Allocator + Clone, G: Gate>(
 ) -> Result<(), AllocError>
     requires board { seat.old.board ≡ board.now }
     requires plan { IsPlanOf study.now J.costs J.cycles }
+    requires known { knowledge.old ≡ study.now.programs }
     requires rows { lane.old.count ≡ length J.costs }
     requires hand { seat.old.view.hand ≡ [] }
+    ensures known { knowledge.new ≡ knowledge.old }
     ensures lane { lane.new ≡ lane.old }
     ensures board { seat.new.board ≡ seat.old.board }
     ensures share { seat.new.view.share ≡ seat.old.view.share }
@@ -101,7 +153,7 @@ fn try_taken<'s, J: Plan, A: Allocator + Clone, G: Gate>(
         let Some(row) = lane.take() else {
             return Ok(());
         };
-        try_row(runs, study, board, seat, worker, row, gate)?;
+        try_row(runs, knowledge, study, board, seat, worker, row, gate)?;
     }
     Ok(())
 }
@@ -109,6 +161,7 @@ fn try_taken<'s, J: Plan, A: Allocator + Clone, G: Gate>(
 /// Tries each row of the lane's list once, rising. None of them is open then.
 fn try_listed<'s, J: Plan, A: Allocator + Clone, G: Gate>(
     runs: &mut Runs<'s, A>,
+    knowledge: &mut Knowledge<'s, A>,
     study: &'s Study<A>,
     board: &Board<J, A>,
     seat: &mut Seat<J>,
@@ -117,8 +170,10 @@ fn try_listed<'s, J: Plan, A: Allocator + Clone, G: Gate>(
 ) -> Result<(), AllocError>
     requires board { seat.old.board ≡ board.now }
     requires plan { IsPlanOf study.now J.costs J.cycles }
+    requires known { knowledge.old ≡ study.now.programs }
     requires rows { lane.now.count ≡ length J.costs }
     requires hand { seat.old.view.hand ≡ [] }
+    ensures known { knowledge.new ≡ knowledge.old }
     ensures board { seat.new.board ≡ seat.old.board }
     ensures share { seat.new.view.share ≡ seat.old.view.share }
     ensures hand { OnOk result (seat.new.view.hand ≡ []) }
@@ -126,7 +181,7 @@ fn try_listed<'s, J: Plan, A: Allocator + Clone, G: Gate>(
 {
     let worker = lane.worker();
     for row in lane.rows() {
-        try_row(runs, study, board, seat, worker, *row, gate)?;
+        try_row(runs, knowledge, study, board, seat, worker, *row, gate)?;
     }
     Ok(())
 }
@@ -150,8 +205,26 @@ pub fn work<J: Plan, A: Allocator + Clone, G: Gate>(
     ensures board { IfOk result (λ p. p.seat.board ≡ seat.board) }
     ensures share { IfOk result (λ p. p.seat.view.share ≡ seat.view.share) }
 {
+    each_program_ends(study.programs());
+    let mut knowledge = Knowledge::new(alloc.clone()?, study.programs(), lane.rows().len())?;
     let mut runs = Runs::new(alloc);
-    try_taken(&mut runs, study, board, &mut seat, &mut lane, gate)?;
-    try_listed(&mut runs, study, board, &mut seat, &lane, gate)?;
+    try_taken(
+        &mut runs,
+        &mut knowledge,
+        study,
+        board,
+        &mut seat,
+        &mut lane,
+        gate,
+    )?;
+    try_listed(
+        &mut runs,
+        &mut knowledge,
+        study,
+        board,
+        &mut seat,
+        &lane,
+        gate,
+    )?;
     Ok(Part::new(seat, lane.into_rows()))
 }

@@ -10,6 +10,7 @@ use tomex_sweep::{FrontRow, Gate, Mark, OpenGate, Outcome, Program, Study, explo
 
 mod many;
 mod refused;
+mod shared;
 
 /// `addi x1,x0,499; addi x1,x1,-1; bne x1,x0,-4; ebreak`
 const LOOP: [u32; 4] = [0x1f300093, 0xfff08093, 0xfe009ee3, 0x00100073];

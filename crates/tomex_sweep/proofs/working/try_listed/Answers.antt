@@ -11,6 +11,7 @@ loop-row-preserved g c = (
   c.try_row.ensures.share ∙ c.loop-row.invariant.1,
   c.in_ok-try_row.ensures.hand,
   one_noted _ _ c.args.lane.now.rows c.rows-row-items.result.now c.loop-row.row-index c.rows-row-items.ensures.value c.loop-row-test.true c.loop-row.invariant.3 c.try_row.ensures.grown c.in_ok-try_row.ensures.noted,
+  c.try_row.ensures.known ∙ c.loop-row.invariant.4,
 )
 
 pub returns-clause-noted : goal.returns-clause-noted

@@ -9,3 +9,4 @@ invariant-loop-row g l =
     × (l.seat.view.share ≡ l.initial.seat.view.share)
     × (l.seat.view.hand ≡ [])
     × All (IsNoted l.seat.view) (take l.row-index l.lane.rows)
+    × (l.knowledge ≡ l.initial.knowledge)

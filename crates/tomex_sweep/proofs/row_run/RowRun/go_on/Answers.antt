@@ -19,7 +19,7 @@ overflow_add-counted g c =
 pub invariant_of-self : goal.invariant_of-self
 invariant_of-self g c =
     let goes = rw c.loop-self.invariant.next at c.advance.ensures in
-    rw c.loop-self.invariant.next (looked _ _ _ _ _ _ _ _ c.loop-self.invariant.going c.loop-self-test.true goes (sym c.ended.ensures ∙ c.if-not-ended.true))
+    (rw c.loop-self.invariant.next (looked _ _ _ _ _ _ _ _ c.loop-self.invariant.going c.loop-self-test.true goes (sym c.ended.ensures ∙ c.if-not-ended.true)), c.loop-self.invariant.totals)
 
 pub returns-then-not-ended-clause-stop : goal.returns-then-not-ended-clause-stop
 returns-then-not-ended-clause-stop g c =
@@ -57,9 +57,11 @@ invariant_of-self-in_default g c =
     let at = slice_get_read c.loop-self.self-inside.programs.now _ c.loop-self.self-inside.place c.index-programs-self.result refl c.loop-self-test.true c.index-programs-self.is in
     let weight : c.from-weight.result ≡ c.index-programs-self.result.weight = omega (arith, c.from-weight.ensures, c.weight.ensures.value) in
     let t = ended_total _ _ _ _ _ _ _ _ _ c.loop-self.invariant.going c.loop-self-test.true goes (sym c.ended.ensures ∙ c.if-not-ended.false) at in
-    let past : length c.loop-self.self-inside.programs.now ≤ c.loop-self.self-inside.place + 1 = rw c.in_default.is at c.get.ensures.lookup.3 in
-    last_going _ _ _ _ _ _ _ _ _ _ c.loop-self.invariant.going c.loop-self-test.true
-    (rw c.cycle-made.ensures t.0) (rw (weight, c.cycle-made.ensures) t.1) (rw c.cycle-made.ensures t.2) past
+    let past : length c.loop-self.self-inside.programs.now ≤ c.loop-self.self-inside.place + 1 = rw c.in_default.is at c.get.ensures.lookup.3 in (
+      last_going _ _ _ _ _ _ _ _ _ _ c.loop-self.invariant.going c.loop-self-test.true
+          (rw c.cycle-made.ensures t.0) (rw (weight, c.cycle-made.ensures) t.1) (rw c.cycle-made.ensures t.2) past,
+      c.loop-self.invariant.totals,
+    )
 
 pub returns-in_default-clause-stop : goal.returns-in_default-clause-stop
 returns-in_default-clause-stop g c =
@@ -74,7 +76,7 @@ returns-in_default-clause-stop g c =
 pub invariant_of-self-in_err-restart : goal.invariant_of-self-in_err-restart
 invariant_of-self-in_err-restart g c =
     let same = ap (λ (m : Counted). seen m) c.in_err-restart.ensures.err in
-    still_going _ _ _ _ _ _ _ _ c.loop-self.invariant.going c.loop-self-test.true (rw same (rw c.loop-self.invariant.next at c.advance.ensures))
+    (still_going _ _ _ _ _ _ _ _ c.loop-self.invariant.going c.loop-self-test.true (rw same (rw c.loop-self.invariant.next at c.advance.ensures)), c.loop-self.invariant.totals)
 
 pub loop-self-smaller : goal.loop-self-smaller
 loop-self-smaller g c = let l : c.loop-self.self-inside.place < length c.loop-self.self-inside.programs.now = c.loop-self-test.true in omega arith
@@ -90,6 +92,7 @@ loop-self-preserved g c =
       going = next_going _ _ _ _ _ _ _ _ _ _ c.in-Some.program.now c.loop-self.invariant.going c.loop-self-test.true
           (rw c.cycle-made.ensures t.0) (rw (weight, c.cycle-made.ensures) t.1) (rw c.cycle-made.ensures t.2)
           (slice_get_read c.loop-self.self-inside.programs.now _ (c.loop-self.self-inside.place + 1) c.in-Some.program.now refl at.0 (at.1 c.in-Some.program.now)) (rw c.image.ensures.value at c.in_ok-restart.ensures.start);
+      totals = c.loop-self.invariant.totals;
       next = c.loop-self.invariant.next;
       programs = c.loop-self.invariant.programs;
       row = c.loop-self.invariant.row;

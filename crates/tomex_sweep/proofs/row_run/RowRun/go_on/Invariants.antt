@@ -1,12 +1,14 @@
--- The run stays one, and the next look is the same.
+-- The run stays one, what is known of its totals stays, and the next look is the same.
 use Rattle.std.proofs.Common.{◌≡◌, ◌+◌, ◌-◌, length}
 use Rattle.tomex_cycle.specs.Seen.{seen}
+use Rattle.tomex_sweep.specs.Known.{AreTotals}
 use Rattle.tomex_sweep.specs.Stops.{IsGoing}
 use Rattle.tomex_sweep.proofs.row_run.RowRun.go_on.Given as goal
 
 abbrev pub invariant-loop-self : goal.invariant-loop-self
 invariant-loop-self g l = record {
   going : IsGoing l.self-inside.programs.now l.self-inside.row.now l.self-inside.reached l.self-inside.place l.self-inside.done l.self-inside.counted (seen l.self-inside.machine);
+  totals : AreTotals l.self-inside.programs.now l.self-inside.row.now l.self-inside.totals;
   next : l.next ≡ l.self-inside.reached + 1024;
   programs : l.self-inside.programs.now ≡ l.fn.self.programs;
   row : l.self-inside.row.now ≡ l.fn.self.row;

@@ -1,0 +1,25 @@
+-- Totals of a study's programs that are known before they are run.
+use Rattle.std.specs.Prelude.{◌≡◌, ℕ, ◌≤◌, List, Option, Some, length, map, slice_get, All}
+use Rattle.tomex_rvexec.specs.Run.{start_of}
+use Rattle.tomex_rvexec.specs.Trace.{steps_from}
+use Rattle.tomex_config.specs.Row.{Row}
+use Rattle.tomex_cycle.specs.Run.{total}
+use Rattle.tomex_plateaus.specs.Kept.{Kept}
+use Rattle.tomex_sweep.specs.Program.{Workload, IsProgram}
+use Rattle.tomex_sweep.specs.Study.{DesignSpace}
+
+-- where there is one at a program's place, the program takes so many cycles on the row
+pub record AreTotals (programs : List Workload) (row : Row) (totals : List (Option ℕ)) : Type 0 where
+  pub count : length totals ≡ 8
+  pub known : (place : ℕ) (p : Workload) (n : ℕ) → slice_get programs place ≡ Some p
+      → slice_get totals place ≡ Some (Some n) → total row p.image ≡ n
+
+-- such totals on a study's row of that number
+abbrev pub AreTotalsOn : DesignSpace → ℕ → List (Option ℕ) → Type 0
+AreTotalsOn s row totals = (r : Row) → slice_get s.rows row ≡ Some r → AreTotals s.programs r totals
+
+-- a list of plateaus for each program, of the steps of its run; the programs are few, and end
+pub record IsKnowledge (programs : List Workload) (lists : List Kept) : Type 0 where
+  pub few : length programs ≤ 8
+  pub ends : All IsProgram programs
+  pub steps : map (λ l. l.steps) lists ≡ map (λ p. steps_from p.limit (start_of p.image)) programs

@@ -1,0 +1,243 @@
+//! Runs that rows share: which programs run on a row, and that no mark depends on it.
+
+use super::{explored, program_of, study_on, unit, whole};
+use std::alloc::Global;
+use std::sync::Wait;
+use std::sync::atomic::{AtomicU64, Ordering};
+use std::test::Fail;
+use std::thread::Threads;
+use tomex_config::{Config, UnitOption};
+use tomex_sweep::{Gate, Mark, OpenGate, Program, Study};
+use tomex_timing::evaluate::{times, total};
+
+/// `addi x1,x0,400; mul x2,x1,x1; addi x1,x1,-1; bne x1,x0,-8; ebreak`
+const PRODUCTS: [u32; 5] = [0x19000093, 0x02108133, 0xfff08093, 0xfe009ce3, 0x00100073];
+
+/// `addi x3,x0,300; lw x1,24(x0); sw x3,24(x0); addi x3,x3,-1; bne x3,x0,-12; ebreak`
+const ACCESSES: [u32; 6] = [
+    0x12c00193, 0x01802083, 0x00302c23, 0xfff18193, 0xfe019ae3, 0x00100073,
+];
+
+/// Marsaglia's xorshift of 32 bits.
+#[derive(Drop)]
+struct Random {
+    state: u32,
+}
+
+impl Random {
+    fn next(&mut self) -> u32 {
+        self.state ^= self.state << 13;
+        self.state ^= self.state >> 17;
+        self.state ^= self.state << 5;
+        self.state
+    }
+
+    /// A number from 1 to 4, mostly a low one.
+    fn few(&mut self) -> u8 {
+        let turn = self.next() / 8;
+        if turn % 3 == 0 {
+            (turn / 3 % 4) as u8 + 1
+        } else {
+            (turn / 3 % 2) as u8 + 1
+        }
+    }
+
+    /// So many units, at a price that few others have.
+    fn option(&mut self) -> UnitOption {
+        UnitOption {
+            units: self.few(),
+            latency: self.few(),
+            price: self.next() / 8 % 3,
+        }
+    }
+
+    fn row(&mut self) -> Result<Config, Fail> {
+        let stations = [
+            self.few(),
+            self.few(),
+            self.few(),
+            self.few(),
+            self.few(),
+            self.few(),
+        ];
+        let units = [
+            self.option(),
+            self.option(),
+            self.option(),
+            self.option(),
+            unit(1, 0),
+        ];
+        Ok(Config::new(stations, units, self.few(), self.few()).ok_or("no row")?)
+    }
+
+    /// The study of two programs on 40 rows.
+    fn study(&mut self, alloc: Global) -> Result<Study, Fail> {
+        let mut rows = Vec::new(alloc);
+        for _ in 0..40 {
+            rows.push(self.row()?)?;
+        }
+        let mut programs = Vec::new(alloc);
+        let weight = u32::from(self.few());
+        programs.push(program_of(alloc, "products", PRODUCTS.as_slice(), weight)?)?;
+        programs.push(program_of(alloc, "accesses", ACCESSES.as_slice(), 1)?)?;
+        study_on(alloc, programs, rows)
+    }
+}
+
+/// The cycles of a program on a row, by the recurrence.
+fn cycles_of(alloc: Global, program: &Program, row: &Config) -> Result<u64, Fail> {
+    let steps = program.steps();
+    if steps.len() > 262_144 {
+        return Err("a long run")?;
+    }
+    Ok(total(times(alloc, steps, row)?.as_slice()))
+}
+
+/// What a row's cycles come to when so many are made, given its programs' totals and their weights.
+fn weighed(totals: &[(u64, u64)], made: u64) -> u64 {
+    let mut left = made;
+    let mut sum = 0u64;
+    for (total, weight) in totals {
+        sum = sum.wrapping_add(left.min(*total).wrapping_mul(*weight));
+        left = left.saturating_sub(*total);
+    }
+    sum
+}
+
+/// The mark of a row, given the rows before it: it is looked at at each multiple of 1,024 cycles.
+fn mark_of(totals: &[(u64, u64)], bound: Option<(u64, usize)>) -> Mark {
+    let mut plain = 0u64;
+    for (total, _) in totals {
+        plain = plain.wrapping_add(*total);
+    }
+    for look in 1..1_000u64 {
+        let made = look * 1024;
+        if plain <= made {
+            break;
+        }
+        if let Some((cycles, row)) = bound {
+            if cycles < weighed(totals, made) {
+                return Mark::Dropped(row);
+            }
+        }
+    }
+    Mark::Finished(weighed(totals, plain))
+}
+
+/// The best of the finished rows that cost no more: its cycles, and its number.
+fn bound_of(marks: &[Mark], costs: &[u64], cost: u64) -> Option<(u64, usize)> {
+    let mut best = None;
+    for (row, (mark, other)) in marks.iter().zip(costs).enumerate() {
+        if let Mark::Finished(cycles) = mark {
+            let is_better = match best {
+                None => true,
+                Some((least, _)) => *cycles < least,
+            };
+            if *other <= cost && is_better {
+                best = Some((*cycles, row));
+            }
+        }
+    }
+    best
+}
+
+/// The marks that one worker gives which runs each row.
+fn marks_of(alloc: Global, study: &Study) -> Result<Vec<Mark>, Fail> {
+    let mut marks = Vec::new(alloc);
+    for (row, cost) in study.rows().iter().zip(study.costs()) {
+        let mut totals = Vec::new(alloc);
+        for program in study.programs() {
+            let cycles = cycles_of(alloc, program, row)?;
+            totals.push((cycles, u64::from(program.weight())))?;
+        }
+        let bound = bound_of(marks.as_slice(), study.costs(), *cost);
+        marks.push(mark_of(totals.as_slice(), bound))?;
+    }
+    Ok(marks)
+}
+
+#[test]
+fn marks_are_those_of_plain_runs(rt: HostRuntime) -> Result<(), Fail> {
+    let mut random = Random { state: 2463534242 };
+    for turn in 0..200 {
+        let study = random.study(rt.alloc())?;
+        let marks = marks_of(rt.alloc(), &study)?;
+        let outcome = explored(&rt, &study, 1, &OpenGate)?;
+        assert!(rt; outcome.marks.as_slice() == marks.as_slice(), "study {turn}");
+    }
+    Ok(())
+}
+
+/// Any number of workers gives the front of all rows.
+#[test]
+fn fronts_are_those_of_all_rows(rt: HostRuntime) -> Result<(), Fail> {
+    let mut random = Random { state: 88172645 };
+    for turn in 0..30 {
+        let study = random.study(rt.alloc())?;
+        let front = whole(rt.alloc(), &study)?.front;
+        for workers in [1, 2, 3, 7, 32] {
+            let outcome = explored(&rt, &study, workers, &OpenGate)?;
+            assert!(rt; outcome.front.as_slice() == front.as_slice(), "study {turn}");
+            assert!(rt; outcome.gathered == 0);
+        }
+    }
+    Ok(())
+}
+
+/// Counts the rows, and the programs that are run on them.
+#[derive(Drop)]
+struct Counting {
+    rows: AtomicU64,
+    runs: AtomicU64,
+}
+
+impl Gate for Counting {
+    fn before(&self, _worker: usize, _row: usize) {
+        self.rows.fetch_add(1, Ordering::SeqCst);
+    }
+
+    fn runs(&self, _worker: usize, _row: usize, programs: usize) {
+        self.runs.fetch_add(programs as u64, Ordering::SeqCst);
+    }
+}
+
+/// How many rows are taken, and how many programs are run, by one worker.
+fn counted<R: AllocGlobal + Threads + Wait + Sync>(
+    rt: &R,
+    study: &Study,
+) -> Result<[u64; 2], Fail> {
+    let gate = Counting {
+        rows: AtomicU64::new(0),
+        runs: AtomicU64::new(0),
+    };
+    explored(rt, study, 1, &gate)?;
+    Ok([gate.rows.load(Ordering::SeqCst), gate.runs.load(Ordering::SeqCst)])
+}
+
+/// Rows that differ in the dividers and their stations, of which a loop of products has no use.
+fn dividers(alloc: Global, counts: u8) -> Result<Study, Fail> {
+    let mut rows = Vec::new(alloc);
+    for stations in 1..=counts {
+        for units in 1..=4u8 {
+            let divider = UnitOption {
+                units,
+                latency: 4 * units,
+                price: 0,
+            };
+            let units = [unit(1, 0), unit(3, 0), divider, unit(1, 0), unit(1, 0)];
+            let row = Config::new([1, 1, stations, 1, 1, 1], units, 1, 1);
+            rows.push(row.ok_or("no row")?)?;
+        }
+    }
+    let programs = vec![in alloc; program_of(alloc, "products", PRODUCTS.as_slice(), 1)?]?;
+    study_on(alloc, programs, rows)
+}
+
+/// The machine runs once where only a part differs that the program never uses, and each row has its turn. Few
+/// rows are all run.
+#[test]
+fn rows_that_cannot_differ_share_a_run(rt: HostRuntime) -> Result<(), Fail> {
+    assert!(rt; counted(&rt, &dividers(rt.alloc(), 16)?)? == [64, 1]);
+    assert!(rt; counted(&rt, &dividers(rt.alloc(), 4)?)? == [16, 16]);
+    Ok(())
+}
