@@ -3,7 +3,7 @@ use Rattle.std.proofs.Common.{◌≡◌, ◌≢◌, ℕ, zero, suc, ◌+◌, ◌
 use Rattle.std.specs.Prelude.{IfSome}
 use Rattle.std.proofs.Math.ListN.{replicate, set, length-set}
 use Rattle.std.proofs.Math.Seq.{map-set_same}
-use Rattle.std.proofs.lemmas.List.{get_or-replicate, get_or-set_other, get_or-set_same, length-replicate, map-append, map_more}
+use Rattle.std.proofs.lemmas.List.{get_or-replicate, get_or-set_other, get_or-set_same, length-map, length-replicate, map-append, map_more}
 use Rattle.std.proofs.lemmas.Bool.{cases_order}
 use Rattle.std.proofs.lemmas.Option.{get_or_from_slice_get, slice_get-get_or, slice_get_within}
 use Rattle.tomex_image.specs.Image.{Loaded}
@@ -95,6 +95,11 @@ list_tells programs lists row place l (Some n) is here tells p at =
     let same : l.steps ≡ steps_of p = listed programs lists place p l is.steps at here in
     let good : IsProgram p = subst IsProgram (get_or_from_slice_get programs place p p at) (is.ends place p (slice_get_within programs place p at)) in
     total_within p row good ∙ (ap (λ (steps : List Step). total_of (times_in row steps)) (sym same) ∙ tells)
+
+-- there is a list for each program
+pub as_many : (programs : List Workload) (lists : List Kept) → IsKnowledge programs lists → length lists ≡ length programs
+as_many programs lists is =
+    sym (length-map _ _) ∙ (ap length is.steps ∙ length-map _ _)
 
 -- a list that learns stays that of its program
 pub learnt_one : (programs : List Workload) (lists : List Kept) (place : ℕ) (l k : Kept) → IsKnowledge programs lists → l ≡ get_or lists place l → k.steps ≡ l.steps → IsKnowledge programs (set lists place k)

@@ -1,5 +1,5 @@
 -- Totals of a study's programs that are known before they are run.
-use Rattle.std.specs.Prelude.{◌≡◌, ℕ, ◌≤◌, List, Option, Some, length, map, slice_get, All}
+use Rattle.std.specs.Prelude.{◌≡◌, ℕ, ◌≤◌, List, Option, Some, length, map, slice_get, All, IfSome}
 use Rattle.tomex_rvexec.specs.Run.{start_of}
 use Rattle.tomex_rvexec.specs.Trace.{steps_from}
 use Rattle.tomex_config.specs.Row.{Row}
@@ -13,6 +13,10 @@ pub record AreTotals (programs : List Workload) (row : Row) (totals : List (Opti
   pub count : length totals ≡ 8
   pub known : (place : ℕ) (p : Workload) (n : ℕ) → slice_get programs place ≡ Some p
       → slice_get totals place ≡ Some (Some n) → total row p.image ≡ n
+
+-- and of one program: where there is one, the program at that place takes so many cycles on the row
+abbrev pub IsTotalAt : List Workload → Row → ℕ → Option ℕ → Type 0
+IsTotalAt programs row place known = (p : Workload) → slice_get programs place ≡ Some p → IfSome known (λ n. total row p.image ≡ n)
 
 -- such totals on a study's row of that number
 abbrev pub AreTotalsOn : DesignSpace → ℕ → List (Option ℕ) → Type 0

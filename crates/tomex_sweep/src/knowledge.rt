@@ -1,7 +1,7 @@
 //! What a worker knows of a study's programs.
 
 ghost use Rattle.std.specs.Prelude.{◌≡◌, ◌<◌, ◌≤◌, length, IfOk, All};
-ghost use Rattle.tomex_sweep.specs.Known.{AreTotals};
+ghost use Rattle.tomex_sweep.specs.Known.{AreTotals, IsTotalAt};
 ghost use Rattle.tomex_sweep.specs.Program.{IsProgram};
 
 use crate::program::Program;
@@ -10,8 +10,11 @@ use std::marker::Model;
 use tomex_config::Config;
 use tomex_plateaus::Plateaus;
 
-/// While fewer rows are left to a worker, needs cost more than they are likely to save.
+/// With so few rows left to a worker, needs cost more than they are likely to save.
 const FEW: usize = 16;
+
+/// So many needs are taken before any of them has saved a run.
+const TRIES: usize = 16;
 
 /// Plateaus of a study's programs, from the runs that a worker has made to their ends.
 #[derive(Drop)]
@@ -20,8 +23,10 @@ pub(crate) struct Knowledge<'s, A: Allocator> {
     programs: &'s [Program<A>],
     /// Those of each program, in the programs' order.
     lists: Vec<Plateaus<'s, A>, A>,
-    /// How many rows of its list the worker hasn't closed yet.
+    /// How many rows of its list the worker hasn't come to yet.
     left: usize,
+    /// How many needs may be taken: one for each total that was known, and a few to begin with.
+    allowed: usize,
 }
 
 impl<'s, A: Allocator> Model for Knowledge<'s, A> {
@@ -56,6 +61,7 @@ impl<'s, A: Allocator + Clone> Knowledge<'s, A> {
             programs,
             lists,
             left,
+            allowed: TRIES,
         })
     }
 
@@ -70,27 +76,55 @@ impl<'s, A: Allocator + Clone> Knowledge<'s, A> {
         totals
     }
 
-    /// Learns of a row on which so many programs have ended, of which these totals were known before, as long
-    /// as enough rows are left.
+    /// What is known of a row when the programs without a total are learnt of, of which it is said whether that pays.
+    /// The row's turn is then over.
     pub(crate) fn learn(
         &mut self,
         row: &Config,
-        done: usize,
         totals: [Option<u64>; 8],
-    ) -> Result<(), AllocError>
-        requires { done ≤ length self.old }
-        ensures { self.new ≡ self.old }
+    ) -> Result<[Option<u64>; 8], AllocError>
+        requires { AreTotals self.old row.now totals }
+        ensures programs { self.new ≡ self.old }
+        ensures totals { IfOk result (λ t. AreTotals self.new row.now t) }
     {
+        let mut totals = totals;
+        for place in 0..self.programs.len() {
+            totals[place] = self.total_of(place, row, totals[place])?;
+        }
         self.left = self.left.saturating_sub(1);
-        if self.left < FEW {
-            return Ok(());
+        Ok(totals)
+    }
+
+    /// The total of the program at a place, if it is known, or if it pays to learn it.
+    fn total_of(
+        &mut self,
+        place: usize,
+        row: &Config,
+        known: Option<u64>,
+    ) -> Result<Option<u64>, AllocError>
+        requires place { place < length self.old }
+        requires known { IsTotalAt self.old row.now place known }
+        ensures programs { self.new ≡ self.old }
+        ensures total { IfOk result (λ t. IsTotalAt self.new row.now place t) }
+    {
+        if known.is_some() {
+            self.allowed = self.allowed.saturating_add(1);
+            return Ok(known);
         }
-        for place in 0..done {
-            if totals[place].is_none() {
-                self.learn_of(place, row)?;
-            }
+        if self.left <= FEW || self.allowed == 0 {
+            return Ok(None);
         }
-        Ok(())
+        self.allowed -= 1;
+        self.learn_of(place, row)?;
+        Ok(self.known_of(place, row))
+    }
+
+    /// What is known of a row for the program at a place.
+    fn known_of(&self, place: usize, row: &Config) -> Option<u64>
+        requires { place < length self.now }
+        ensures { IsTotalAt self.now row.now place result }
+    {
+        self.lists[place].total_on(row)
     }
 
     /// Learns of a row for the program at a place.

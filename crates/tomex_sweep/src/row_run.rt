@@ -1,8 +1,7 @@
 //! The run of a row: the programs in order, by the cycle machine, but for those whose totals are known.
 
-ghost use Rattle.std.specs.Prelude.{◌≡◌, ◌+◌, ◌≤◌, length, take, IfOk, OnOk, All};
+ghost use Rattle.std.specs.Prelude.{◌≡◌, ◌+◌, ◌≤◌, length, IfOk, OnOk, All};
 ghost use Rattle.tomex_sweep.specs.Known.{AreTotals};
-ghost use Rattle.tomex_sweep.specs.Cycles.{plain_on};
 ghost use Rattle.tomex_sweep.specs.Program.{IsProgram};
 ghost use Rattle.tomex_sweep.specs.Stops.{IsNearer, stop_at};
 
@@ -139,13 +138,5 @@ impl<'s, A: Allocator> RowRun<'s, A> {
             self.counted = counted;
         }
         Ok(Stop::Over(self.counted))
-    }
-
-    /// How many of the programs are done.
-    pub(crate) fn done(&self) -> usize
-        ensures within { result ≤ length self.now.programs }
-        ensures made { plain_on (take result self.now.programs) self.now.row ≤ self.now.reached + 1024 }
-    {
-        self.place
     }
 }

@@ -1,6 +1,6 @@
 //! A worker's whole body.
 
-ghost use Rattle.std.specs.Prelude.{◌≡◌, ◌<◌, ◌≤◌, ◌∷◌, [], length, count_by, take, is_some, not, IfOk, OnOk, All};
+ghost use Rattle.std.specs.Prelude.{◌≡◌, ◌<◌, ◌∷◌, [], length, count_by, take, is_some, not, IfOk, OnOk, All};
 ghost use Rattle.tomex_board.specs.Views.{IsNoted, Grows};
 ghost use Rattle.tomex_sweep.specs.Known.{AreTotalsOn};
 ghost use Rattle.tomex_sweep.specs.Plans.{IsPlanOf};
@@ -16,8 +16,8 @@ use tomex_board::{Board, Plan, Seat};
 use tomex_lanes::{Lane, Part};
 
 /// Runs a row that the seat has in hand, until it is over or a look finds a finished row that costs no
-/// more and takes fewer cycles than this one has made, and closes it on the board: how many programs have ended
-/// on it. The programs whose totals are known aren't run.
+/// more and takes fewer cycles than this one has made, and closes it on the board. The programs whose totals are
+/// known aren't run.
 fn close_row<'s, J: Plan, A: Allocator + Clone>(
     runs: &mut Runs<'s, A>,
     study: &'s Study<A>,
@@ -25,13 +25,12 @@ fn close_row<'s, J: Plan, A: Allocator + Clone>(
     seat: &mut Seat<J>,
     row: usize,
     totals: [Option<u64>; 8],
-) -> Result<usize, AllocError>
+) -> Result<(), AllocError>
     requires board { seat.old.board ≡ board.now }
     requires plan { IsPlanOf study.now J.costs J.cycles }
     requires row { row < length J.costs }
     requires hand { seat.old.view.hand ≡ row ∷ [] }
     requires totals { AreTotalsOn study.now row totals }
-    ensures done { IfOk result (λ n. n ≤ length study.now.programs) }
     ensures board { seat.new.board ≡ seat.old.board }
     ensures share { seat.new.view.share ≡ seat.old.view.share }
     ensures hand { OnOk result (seat.new.view.hand ≡ []) }
@@ -43,13 +42,13 @@ fn close_row<'s, J: Plan, A: Allocator + Clone>(
         match run.go_on()? {
             Stop::Over(cycles) => {
                 board.finish(seat, row, cycles);
-                return Ok(run.done());
+                return Ok(());
             }
             Stop::Look(reached) => {
                 if let Some(bound) = board.look(seat, row) {
                     if bound.cycles < reached {
                         board.give_up(seat, row, bound, reached);
-                        return Ok(run.done());
+                        return Ok(());
                     }
                 }
             }
@@ -68,7 +67,7 @@ fn count_unknown(programs: usize, totals: &[Option<u64>; 8]) -> usize
         .count()
 }
 
-/// Runs a row that the seat has in hand, but for the programs whose totals are known, closes it, and learns from it.
+/// Runs a row that the seat has in hand, but for the programs whose totals are known or are learnt first, and closes it.
 fn run_row<'s, J: Plan, A: Allocator + Clone, G: Gate>(
     runs: &mut Runs<'s, A>,
     knowledge: &mut Knowledge<'s, A>,
@@ -91,10 +90,10 @@ fn run_row<'s, J: Plan, A: Allocator + Clone, G: Gate>(
     ensures grown { Grows seat.old.view seat.new.view }
 {
     let config = &study.rows()[row];
-    let totals = knowledge.totals(config);
-    gate.runs(worker, row, count_unknown(study.programs().len(), &totals));
-    let done = close_row(runs, study, board, seat, row, totals)?;
-    knowledge.learn(config, done, totals)
+    let known = knowledge.totals(config);
+    gate.runs(worker, row, count_unknown(study.programs().len(), &known));
+    let totals = knowledge.learn(config, known)?;
+    close_row(runs, study, board, seat, row, totals)
 }
 
 /// Claims a row, and where the claim is true runs and closes it. Either way it isn't open then.
