@@ -8,7 +8,7 @@ use tomex_config::{Config, Prices, UnitOption};
 use tomex_image::{Window, load};
 use tomex_rvexec::trace;
 use tomex_samples::{Heap, Try, ample, refusals_of};
-use tomex_sweep::{Mark, OpenGate, Outcome, Program, Study, SweepError, explore, run_all};
+use tomex_sweep::{FrontRow, Mark, OpenGate, Outcome, Program, Study, SweepError, explore, run_all};
 use tomex_timing::evaluate::{times, total};
 
 /// A loop that reads its count behind the program, and leaves another one there: `addi x3,x0,9;
@@ -34,8 +34,13 @@ fn program_of(other: Global, words: &[u32], size: u32) -> Result<Program<Heap>, 
 }
 
 /// The study of both programs, in windows of so many bytes, on rows of 1, 2, 3 and so on alu stations, each of
-/// which costs more than the one before.
-fn study_of(other: Global, sizes: [u32; 2], rows: u8) -> Result<Study<Heap>, Fail> {
+/// which costs more than the one before, and of so many buses.
+fn study_of(
+    other: Global,
+    sizes: [u32; 2],
+    most_stations: u8,
+    most_buses: u8,
+) -> Result<Study<Heap>, Fail> {
     let plain = UnitOption {
         units: 1,
         latency: 1,
@@ -45,9 +50,11 @@ fn study_of(other: Global, sizes: [u32; 2], rows: u8) -> Result<Study<Heap>, Fai
     programs.push(program_of(other, OVERWRITTEN.as_slice(), sizes[0])?)?;
     programs.push(program_of(other, COUNTED.as_slice(), sizes[1])?)?;
     let mut configs = Vec::new(ample(other)?);
-    for stations in 1..=rows {
-        let row = Config::new([stations, 1, 1, 1, 1, 1], [plain; 5], 1, 1);
-        configs.push(row.ok_or("no row")?)?;
+    for stations in 1..=most_stations {
+        for buses in 1..=most_buses {
+            let row = Config::new([stations, 1, 1, 1, 1, 1], [plain; 5], buses, 1);
+            configs.push(row.ok_or("no row")?)?;
+        }
     }
     if configs.is_empty() || configs.len() > 16_384 || programs.len() != 2 {
         return Err("no rows")?;
@@ -96,7 +103,7 @@ fn blocks_of<R: Threads + Wait + Sync>(
     sizes: [u32; 2],
     rows: u8,
 ) -> Result<[Option<u64>; 2], Fail> {
-    let study = study_of(other, sizes, rows)?;
+    let study = study_of(other, sizes, rows, 1)?;
     let cycles = cycles_in(other, &study)?;
     let all = refusals_of!(other, heap => tried(run_all(heap, &study), cycles.as_slice()));
     let some = refusals_of!(other, heap => {
@@ -116,6 +123,35 @@ fn as_many_blocks_for_more_rows(rt: HostRuntime) -> Result<(), Fail> {
         assert_eq!(rt; few[0], Some(blocks));
         assert!(rt; few[1].is_some());
         assert_eq!(rt; few, many);
+    }
+    Ok(())
+}
+
+/// How an exploration by so many workers, of 1 to 32, came out which is to have this front.
+fn explored_in<R: Threads + Wait + Sync>(
+    rt: &R,
+    heap: Heap,
+    study: &Study<Heap>,
+    workers: usize,
+    front: &[FrontRow],
+) -> Try {
+    match explore(rt, heap, study, workers.max(1).min(32), &OpenGate) {
+        Ok(outcome) => Try::right_if(outcome.front.as_slice() == front),
+        Err(SweepError::Memory) => Try::Refused,
+        Err(SweepError::Worker) => Try::Wrong,
+    }
+}
+
+/// Each growth is refused in turn where there are enough rows for workers to learn from them.
+#[test]
+fn each_growth_of_learning_is_refused(rt: HostRuntime) -> Result<(), Fail> {
+    let other = rt.alloc();
+    let study = study_of(other, [4096, 4096], 16, 3)?;
+    let whole = run_all(ample(other)?, &study)?;
+    let front = whole.front.as_slice();
+    for workers in [1, 2] {
+        let blocks = refusals_of!(other, heap => explored_in(&rt, heap, &study, workers, front));
+        assert!(rt; matches!(blocks, Some(blocks) if blocks > 12));
     }
     Ok(())
 }

@@ -163,7 +163,10 @@ fn marks_are_those_of_plain_runs(rt: HostRuntime) -> Result<(), Fail> {
         let study = random.study(rt.alloc())?;
         let marks = marks_of(rt.alloc(), &study)?;
         let outcome = explored(&rt, &study, 1, &OpenGate)?;
-        assert!(rt; outcome.marks.as_slice() == marks.as_slice(), "study {turn}");
+        assert!(rt;
+            outcome.marks.as_slice() == marks.as_slice(),
+            "study {turn}"
+        );
     }
     Ok(())
 }
@@ -177,7 +180,10 @@ fn fronts_are_those_of_all_rows(rt: HostRuntime) -> Result<(), Fail> {
         let front = whole(rt.alloc(), &study)?.front;
         for workers in [1, 2, 3, 7, 32] {
             let outcome = explored(&rt, &study, workers, &OpenGate)?;
-            assert!(rt; outcome.front.as_slice() == front.as_slice(), "study {turn}");
+            assert!(rt;
+                outcome.front.as_slice() == front.as_slice(),
+                "study {turn}"
+            );
             assert!(rt; outcome.gathered == 0);
         }
     }
@@ -211,7 +217,10 @@ fn counted<R: AllocGlobal + Threads + Wait + Sync>(
         runs: AtomicU64::new(0),
     };
     explored(rt, study, 1, &gate)?;
-    Ok([gate.rows.load(Ordering::SeqCst), gate.runs.load(Ordering::SeqCst)])
+    Ok([
+        gate.rows.load(Ordering::SeqCst),
+        gate.runs.load(Ordering::SeqCst),
+    ])
 }
 
 /// Rows that differ in the dividers and their stations, of which a loop of products has no use.
