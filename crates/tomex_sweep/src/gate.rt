@@ -8,8 +8,8 @@ pub trait Gate {
     /// Called by a worker that has taken a row, before it runs it.
     fn before(&self, worker: usize, row: usize);
 
-    /// Called after that by an exploration's worker, with how many of the programs it runs on the row: of the
-    /// others the cycles are known.
+    /// Called after that by a worker of an exploration, with how many of the programs are new to it on the row. Of
+    /// the others it knows the cycles from other rows, and doesn't run them.
     fn runs(&self, _worker: usize, _row: usize, _programs: usize) {}
 }
 

@@ -16,7 +16,7 @@ const FEW: usize = 16;
 /// So many needs are taken before any of them has saved a run.
 const TRIES: usize = 16;
 
-/// Plateaus of a study's programs, from the runs that a worker has made to their ends.
+/// Plateaus of a study's programs, on rows that a worker has come to. Needs that it takes there tell them.
 #[derive(Drop)]
 pub(crate) struct Knowledge<'s, A: Allocator> {
     alloc: A,
@@ -76,8 +76,8 @@ impl<'s, A: Allocator + Clone> Knowledge<'s, A> {
         totals
     }
 
-    /// What is known of a row when the programs without a total are learnt of, of which it is said whether that pays.
-    /// The row's turn is then over.
+    /// The totals on a row, given those that were known, with those that are learnt as far as that pays. The row
+    /// is one of those that were left.
     pub(crate) fn learn(
         &mut self,
         row: &Config,
