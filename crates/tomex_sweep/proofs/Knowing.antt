@@ -1,5 +1,5 @@
 -- Totals that are known, and the plateaus that they are known by.
-use Rattle.std.proofs.Common.{◌≡◌, ◌≢◌, ℕ, zero, suc, ◌+◌, ◌++◌, take, ◌<◌, ◌≤◌, arith, ap, sym, ◌∙◌, List, [], ◌∷◌, length, map, slice_get, Option, Some, None, All, get_or, refl, subst, inl, inr}
+use Rattle.std.proofs.Common.{◌≡◌, ◌≢◌, ℕ, zero, suc, ◌+◌, ◌++◌, take, ◌<◌, arith, ap, sym, ◌∙◌, List, [], ◌∷◌, length, map, slice_get, Option, Some, None, get_or, subst, inl, inr}
 use Rattle.std.specs.Prelude.{IfSome}
 use Rattle.std.proofs.Math.ListN.{replicate, set, length-set}
 use Rattle.std.proofs.Math.Seq.{map-set_same}

@@ -1,5 +1,5 @@
 -- A machine that is handed over to make the next one, and what is counted in its place where a total is known.
-use Rattle.std.specs.Prelude.{◌≡◌, ℕ, min, nat_lt, Bool, true, if◌then◌else◌, Option, Some, None, [], IsSome, IfSome}
+use Rattle.std.specs.Prelude.{◌≡◌, ℕ, min, nat_lt, true, if◌then◌else◌, Option, Some, None, [], IsSome, IfSome}
 use Rattle.tomex_image.specs.Image.{Loaded}
 use Rattle.tomex_config.specs.Row.{Row, plain}
 use Rattle.tomex_cycle.specs.Run.{total}

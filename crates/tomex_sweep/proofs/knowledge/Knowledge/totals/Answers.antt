@@ -1,7 +1,6 @@
 -- One total more is known, or is known not to be.
-use Rattle.std.proofs.Common.{◌≡◌, refl}
+use Rattle.std.proofs.Common.{refl}
 use Rattle.std.proofs.lemmas.Option.{slice_get_read}
-use Rattle.tomex_plateaus.specs.Kept.{Kept}
 use Rattle.tomex_sweep.specs.Known.{IsKnowledge}
 use Rattle.tomex_sweep.proofs.Knowing.{list_tells, none_known, one_known}
 use Rattle.tomex_sweep.proofs.knowledge.Knowledge.totals.Goals as goal
