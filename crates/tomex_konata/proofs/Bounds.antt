@@ -38,11 +38,10 @@ there all pre older [] times long is = tt
 there all pre older (s ∷ ss) [] long is = tt
 there all pre older (s ∷ ss) (t ∷ ts) long is =
     let d : Done = record { step = s; at = t } in
-    let rest = entries_from (d ∷ older) ss ts in
-    (
+    let rest = entries_from (d ∷ older) ss ts in (
       rw is (at_end pre (entry_of older d) rest (length older) long),
       there all (pre ++ entry_of older d ∷ []) (d ∷ older) ss ts (omega (arith, one_longer pre (entry_of older d), long))
-      (is ∙ sym (append_assoc pre (entry_of older d ∷ []) rest)),
+          (is ∙ sym (append_assoc pre (entry_of older d ∷ []) rest)),
     )
 
 pub as_many : (older : List Done) (steps : List Step) (times : List Times) → length times ≡ length steps → length (entries_from older steps times) ≡ length steps
@@ -100,6 +99,7 @@ timely last es all =
     some : (e : Entry) → All (λ c. c ≤ last) (change_cycles last e)
     some e = All-from_recursion (λ c. c ≤ last) (change_cycles last e)
         (omega arith, (omega arith, (omega arith, (omega arith, (omega arith, (omega arith, (omega arith, (omega arith, (omega arith, tt)))))))))
+
     each : (e : Entry) → e.at.end < last → All (λ v. v.cycle ≤ last) (changes_of last e)
     each e less = All-map (λ v. v.cycle ≤ last) (change_in e.id) (once (change_cycles last e)) (once_all (λ c. c ≤ last) (change_cycles last e) (some e))
 

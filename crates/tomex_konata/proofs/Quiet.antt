@@ -147,6 +147,6 @@ quiet number last t e within none =
     } in
     let j = no_wake e.id e.at t e.j (is_none (ready e.at e.j) last t within p7.0) in
     let k = no_wake e.id e.at t e.k (is_none (ready e.at e.k) last t within p8.0) in
-    let wakes : wake_lines t e ≡ [] = elim (cases_Bool (is_shared e.j e.k)) [ | inl s ↦ rw (j, s) refl | inr s ↦ rw (j, s, k) refl ] in
+    let wakes : wake_lines t e ≡ [] = elim (cases_Bool (is_shared e.j e.k)) [ inl s ↦ rw (j, s) refl | inr s ↦ rw (j, s, k) refl ] in
     let not_issue : (t == e.at.issue) ≡ false = ne_eqb t e.at.issue (λ same. issue (sym same)) in
     nothing (t == e.at.issue) (issue_lines (number + e.id) e) _ _ not_issue (still_turn e.id e.at t still) wakes

@@ -80,8 +80,10 @@ module _ {X : Type 0} (f : X → ℕ) where
   pub rises : (t last : ℕ) (xs : List X) → IsNonDecreasingBy f xs → ((i : ℕ) (d : X) → i < length xs → t ≤ f (get_or xs i d))
       → ((i : ℕ) (d : X) → i < length xs → f (get_or xs i d) ≤ last) → Rises t last xs
   rises t last [] order low high = tt
-  rises t last (x ∷ xs) order low high =
-      (low 0 x (omega arith), high 0 x (omega arith), rises (f x) last xs (λ i j d le within. order (suc i) (suc j) d (omega (arith, le)) (omega (arith, within)))
-      (λ i d within. order 0 (suc i) d (omega arith) (omega (arith, within)))
-      (λ i d within. high (suc i) d (omega (arith, within))))
-
+  rises t last (x ∷ xs) order low high = (
+    low 0 x (omega arith),
+    high 0 x (omega arith),
+    rises (f x) last xs (λ i j d le within. order (suc i) (suc j) d (omega (arith, le)) (omega (arith, within)))
+        (λ i d within. order 0 (suc i) d (omega arith) (omega (arith, within)))
+        (λ i d within. high (suc i) d (omega (arith, within))),
+  )

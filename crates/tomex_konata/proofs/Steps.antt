@@ -94,7 +94,7 @@ one_gathered steps times i before after writers behind step s at t j k g within 
     let d : Done = record { step = step; at = at } in
     let rest = entries_from (d ∷ g.older) (drop (suc i) steps) (drop (suc i) times) in
     let entry : entry_of g.older d ≡ record { id = i; step = step; at = at; j = j; k = k } =
-        rw (j_is, k_is, read g.older writers (j_of step) g.kept j_low, read g.older writers (k_of step) g.kept k_low, g.long) refl in
+    rw (j_is, k_is, read g.older writers (j_of step) g.kept j_low, read g.older writers (k_of step) g.kept k_low, g.long) refl in
     record {
       older = d ∷ g.older;
       long = omega (arith, g.long);

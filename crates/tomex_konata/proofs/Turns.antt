@@ -68,8 +68,8 @@ event_more number es vs i since gone since' gone' v d e cleared lines before aft
     let same : lines ≡ lines_at number gone v (slice_get es v.id) = line ∙ rw (clear, there) refl in
     let rest = written number es since' gone' (drop (i + 1) vs) in
     let whole_line : written number es since gone (drop i vs) ≡ with_cycle (v.cycle - since) lines ++ rest =
-        ap (λ (ws : List Event). written number es since gone ws) (next vs i v d within is)
-        ∙ rw (then, went, more, ← same) refl in
+    ap (λ (ws : List Event). written number es since gone ws) (next vs i v d within is)
+    ∙ rw (then, went, more, ← same) refl in
     ap (λ (z : List ℕ). z ++ rest) grown
     ∙ (append_assoc before (with_cycle (v.cycle - since) lines) rest ∙ (ap (λ (z : List ℕ). before ++ z) (sym whole_line) ∙ so_far))
 

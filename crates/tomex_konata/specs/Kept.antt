@@ -83,4 +83,5 @@ abbrev pub written : ℕ → List Entry → ℕ → ℕ → List Event → List 
 written number es since gone [] = []
 written number es since gone (v ∷ vs) =
     with_cycle (v.cycle - since) (lines_at number gone v (slice_get es v.id))
-    ++ written number es (next_since since v.cycle (lines_at number gone v (slice_get es v.id))) (gone_after gone v.kind) vs
+    ++ written number es (next_since since v.cycle (lines_at number gone v (slice_get es v.id)))
+    (gone_after gone v.kind) vs

@@ -44,7 +44,8 @@ entry_of older d = record {
 -- and the steps from there on
 abbrev pub entries_from : List Done → List Step → List Times → List Entry
 entries_from older (step ∷ steps) (at ∷ times) =
-    entry_of older (record { step = step; at = at }) ∷ entries_from (record { step = step; at = at } ∷ older) steps times
+    entry_of older (record { step = step; at = at })
+    ∷ entries_from (record { step = step; at = at } ∷ older) steps times
 entries_from older _ _ = []
 
 abbrev pub name_of_stage : Stage → List ℕ
@@ -72,13 +73,17 @@ tabbed (field ∷ fields) = field ++ (codes "\t" ++ tabbed fields)
 
 -- `I`: a step comes in; `L`: its texts, of which the second is its station
 abbrev pub station_line : ℕ → Option PoolId → Option ℕ → List ℕ
-station_line id (Some pool) (Some station) = tabbed (codes "L" ∷ decimal id ∷ codes "1" ∷ (name_of_pool pool ++ decimal station) ∷ [])
+station_line id (Some pool) (Some station) =
+    tabbed (codes "L" ∷ decimal id ∷ codes "1" ∷ (name_of_pool pool ++ decimal station) ∷ [])
 station_line id _ _ = []
+
+abbrev pub text_of : Step → List ℕ
+text_of step = hex8 step.pc ++ (codes ": " ++ instr_text step.instr)
 
 abbrev pub issue_lines : ℕ → Entry → List ℕ
 issue_lines number e =
     tabbed (codes "I" ∷ decimal e.id ∷ decimal number ∷ codes "0" ∷ [])
-    ++ (tabbed (codes "L" ∷ decimal e.id ∷ codes "0" ∷ (hex8 e.step.pc ++ (codes ": " ++ instr_text e.step.instr)) ∷ [])
+    ++ (tabbed (codes "L" ∷ decimal e.id ∷ codes "0" ∷ text_of e.step ∷ [])
     ++ station_line e.id (step_pool e.step) e.at.station)
 
 -- `S`: a stage begins; `E`: it ends
@@ -99,7 +104,9 @@ turn_lines id _ None = []
 abbrev pub wake_line : ℕ → Times → ℕ → Option Producer → List ℕ
 wake_line id at t None = []
 wake_line id at t (Some p) =
-    if p.end == t && nat_le at.issue t then tabbed (codes "W" ∷ decimal id ∷ decimal p.id ∷ codes "0" ∷ []) else []
+    if p.end == t && nat_le at.issue t
+    then tabbed (codes "W" ∷ decimal id ∷ decimal p.id ∷ codes "0" ∷ [])
+    else []
 
 abbrev pub is_shared : Option Producer → Option Producer → Bool
 is_shared (Some j) (Some k) = j.id == k.id
@@ -118,7 +125,8 @@ step_lines number t e =
 -- `R`: a step goes out in the cycle behind its end, so many having gone before it
 abbrev pub leave_lines : ℕ → ℕ → Option Stage → List ℕ
 leave_lines gone id None = []
-leave_lines gone id (Some stage) = end_line id stage ++ tabbed (codes "R" ∷ decimal id ∷ decimal gone ∷ codes "0" ∷ [])
+leave_lines gone id (Some stage) =
+    end_line id stage ++ tabbed (codes "R" ∷ decimal id ∷ decimal gone ∷ codes "0" ∷ [])
 
 unfoldable pub out_lines : ℕ → Entry → List ℕ
 out_lines gone e = leave_lines gone e.id (stage_in e.at e.at.end)

@@ -98,10 +98,7 @@ fn push_all_changes<A: Allocator>(
 }
 
 /// Adds the cycles in which steps go out, step by step.
-fn push_outs<A: Allocator>(
-    events: &mut Vec<Event, A>,
-    entries: &[Entry],
-) -> Result<(), AllocError>
+fn push_outs<A: Allocator>(events: &mut Vec<Event, A>, entries: &[Entry]) -> Result<(), AllocError>
     requires bound { All (λ entry. entry.at.end < 2 ^ 63) entries.now }
     ensures { OnOk result (events.new.items ≡ events.old.items ++ map out_of entries.now) }
 {

@@ -110,7 +110,8 @@ fn push_wake(
     cycle: u64,
     producer: Option<Producer>,
 ) -> Result<(), AllocError>
-    ensures { OnOk result (string_bytes text.new ≡ string_bytes text.old ++ wake_line entry.now.id entry.now.at cycle producer) }
+    ensures { OnOk result (string_bytes text.new
+        ≡ string_bytes text.old ++ wake_line entry.now.id entry.now.at cycle producer) }
 {
     if let Some(producer) = producer {
         if producer.end == cycle && entry.at.issue <= cycle {

@@ -29,7 +29,8 @@ fn push_event(
     entry: &Entry,
 ) -> Result<(), AllocError>
     requires few { number + entry.now.id < 2 ^ 64 }
-    ensures { OnOk result (string_bytes text.new ≡ string_bytes text.old ++ event_lines number gone event.now.cycle event.now.kind entry.now) }
+    ensures { OnOk result (string_bytes text.new
+        ≡ string_bytes text.old ++ event_lines number gone event.now.cycle event.now.kind entry.now) }
 {
     match event.kind {
         Kind::Change => push_step(text, number, event.cycle, entry),
@@ -37,15 +38,16 @@ fn push_event(
     }
 }
 
-/// Adds the lines of a cycle, if there are any, behind the cycles that passed since the last one with lines. Returns the
-/// last one with lines.
+/// Adds lines of a cycle, if there are any, behind the cycles that passed since the last one with lines. Returns which
+/// one that is now.
 fn push_in_cycle<A: Allocator>(
     text: &mut String<A>,
     since: u64,
     cycle: u64,
     lines: &str,
 ) -> Result<u64, AllocError>
-    ensures text { OnOk result (string_bytes text.new ≡ string_bytes text.old ++ with_cycle (cycle - since) lines.now) }
+    ensures text { OnOk result (string_bytes text.new
+        ≡ string_bytes text.old ++ with_cycle (cycle - since) lines.now) }
     ensures since { IfOk result (λ last. last ≡ next_since since cycle lines.now) }
 {
     if lines.is_empty() {
@@ -123,7 +125,14 @@ fn log_of<A: Allocator + Clone>(
     let events = ordered_events(alloc.clone()?, entries.as_slice(), total(times) + 1)?;
     let mut text = String::new(alloc);
     push_head(&mut text, first)?;
-    push_events(&mut text, heap, number, first, entries.as_slice(), events.as_slice())?;
+    push_events(
+        &mut text,
+        heap,
+        number,
+        first,
+        entries.as_slice(),
+        events.as_slice(),
+    )?;
     Ok(text.into_bytes())
 }
 
