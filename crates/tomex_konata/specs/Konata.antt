@@ -71,7 +71,7 @@ tabbed [] = codes "\n"
 tabbed (field ∷ []) = field ++ codes "\n"
 tabbed (field ∷ fields) = field ++ (codes "\t" ++ tabbed fields)
 
--- `I`: a step comes in; `L`: its texts, of which the second is its station
+-- `I`: a step comes in; `L`: what it is, and its station
 abbrev pub station_line : ℕ → Option PoolId → Option ℕ → List ℕ
 station_line id (Some pool) (Some station) =
     tabbed (codes "L" ∷ decimal id ∷ codes "1" ∷ (name_of_pool pool ++ decimal station) ∷ [])
@@ -152,11 +152,12 @@ abbrev pub passed : ℕ → List ℕ
 passed zero = []
 passed (suc n) = tabbed (codes "C" ∷ decimal (suc n) ∷ [])
 
--- a cycle's lines, behind the cycles that passed since another; none where nothing happens
+-- a cycle's lines, behind the n cycles that passed since the last one with lines; none where nothing happens
 abbrev pub with_cycle : ℕ → List ℕ → List ℕ
-with_cycle since [] = []
-with_cycle since (x ∷ lines) = passed since ++ (x ∷ lines)
+with_cycle n [] = []
+with_cycle n (x ∷ lines) = passed n ++ (x ∷ lines)
 
+-- and then the last one with lines
 abbrev pub next_since : ℕ → ℕ → List ℕ → ℕ
 next_since since t [] = since
 next_since since t (x ∷ lines) = t
@@ -172,7 +173,8 @@ cycles_of number es since t (suc n) =
 abbrev pub head_of : ℕ → List ℕ
 head_of first = tabbed (codes "Kanata" ∷ codes "0004" ∷ []) ++ tabbed (codes "C=" ∷ decimal first ∷ [])
 
--- the log of steps with these times, from a number on: up to the cycle in which the last one goes out
+-- the log of steps with these times, from a number on: up to the cycle in which the last one goes out. Before the first
+-- one's issue nothing happens.
 abbrev pub log_of : ℕ → List Step → List Times → List ℕ
 log_of number steps times =
     head_of (first_issue times)

@@ -43,7 +43,8 @@ fn ready(at: &Times, producer: Option<Producer>) -> u64
     }
 }
 
-/// The cycles in which a step may change, in no order, and some of them more than once.
+/// The cycles in which a step may change, in no order, and some of them more than once. What would come behind the last
+/// cycle of the log stands at the last: nothing changes there.
 fn change_cycles(entry: &Entry, last: u64) -> [u64; 9]
     ensures { result ≡ change_cycles last entry.now }
 {
