@@ -1,11 +1,11 @@
 -- The places and the cycles of a log's steps and events, and that its events in their order are written as the log.
-use Rattle.std.proofs.Common.{◌≡◌, ◌≢◌, ◌∙◌, ap, ap₂, sym, subst, refl, arith, inl, inr, ℕ, zero, suc, ◌+◌, ◌-◌, ◌<◌, ◌≤◌, ◌==◌, Bool, true, false, cond, List, [], ◌∷◌, ◌++◌, append_assoc, drop, get_or, length, map, Option, Some, None}
-use Rattle.std.specs.Prelude.{All, IsPermutation, count_by, nat_lt, not, ◌&&◌}
+use Rattle.std.proofs.Common.{◌≡◌, ◌∙◌, ap, ap₂, sym, subst, refl, arith, inl, inr, ℕ, zero, suc, ◌+◌, ◌<◌, ◌≤◌, ◌==◌, Bool, false, cond, List, [], ◌∷◌, ◌++◌, append_assoc, length, map, Some}
+use Rattle.std.specs.Prelude.{All, nat_lt, not, ◌&&◌}
 use Rattle.std.specs.List.{filter, flat_map, list_any, slice_get}
 use Rattle.std.specs.List.Sorted.{ties}
 use Rattle.std.specs.Ordering.{is_lt, nat_cmp}
 use Rattle.std.proofs.lemmas.Bool.{cases_Bool, cases_order, eq-eqb, ne_eqb, lt-ltb, le-ltb}
-use Rattle.std.proofs.lemmas.List.Elements.{All-append, All-cons, All-from_recursion, All-head, All-map, All-nil, All-same, All-tail, All-weaker}
+use Rattle.std.proofs.lemmas.List.Elements.{All-append, All-cons, All-from_recursion, All-head, All-map, All-nil, All-tail, All-weaker}
 use Rattle.std.proofs.lemmas.List.Sorted.{All-permutation}
 use Rattle.std.proofs.lemmas.List.Sums.{sum_by-cons}
 use Rattle.tomex_rvexec.specs.declared.step.Step.{Step}
@@ -18,7 +18,7 @@ use Rattle.tomex_konata.specs.declared.events.Kind.TheVariants.{Change}
 use Rattle.tomex_konata.specs.Konata.{cycles_of, entries_from, entry_of, gone_before, head_of, log_of}
 use Rattle.tomex_views.specs.Chart.{first_issue}
 use Rattle.tomex_konata.specs.Kept.{ArePut, change_cycles, change_in, changes_of, events_of, once, out_of, written}
-use Rattle.tomex_konata.proofs.Sorting.{Rises, at, filter_alike, rises}
+use Rattle.tomex_konata.proofs.Sorting.{filter_alike, rises}
 use Rattle.tomex_konata.proofs.Written.{AreThere, cycles_are}
 
 at_end : (pre : List Entry) (e : Entry) (es : List Entry) (n : ℕ) → length pre ≡ n → slice_get (pre ++ e ∷ es) n ≡ Some e

@@ -1,11 +1,10 @@
 -- The events of a cycle: a change of each step that may change in it, and then what goes out.
-use Rattle.std.proofs.Common.{◌≡◌, ◌≢◌, ◌∙◌, ap, ap₂, sym, refl, arith, inl, inr, ℕ, ◌+◌, ◌<◌, ◌≤◌, ◌==◌, Bool, true, false, cond, ◌||◌, List, [], ◌∷◌, ◌++◌, map, min}
-use Rattle.std.specs.Prelude.{unwrap_or}
-use Rattle.std.specs.List.{filter, flat_map, list_any}
-use Rattle.std.proofs.lemmas.Bool.{cases_Bool, cases_eq, eq-eqb, ne_eqb, eqb-true}
+use Rattle.std.proofs.Common.{◌≡◌, ◌∙◌, ap, refl, inl, inr, ℕ, ◌==◌, Bool, true, false, cond, List, [], ◌∷◌, map}
+use Rattle.std.specs.List.{filter, list_any}
+use Rattle.std.proofs.lemmas.Bool.{cases_Bool, cases_eq, eq-eqb, ne_eqb}
 use Rattle.tomex_konata.specs.declared.entries.Entry.{Entry}
 use Rattle.tomex_konata.specs.declared.events.Event.{Event}
-use Rattle.tomex_konata.specs.Kept.{change_cycles, change_in, changes_of, once, ready}
+use Rattle.tomex_konata.specs.Kept.{change_cycles, change_in, changes_of, once}
 
 -- of numbers once each, those that are one are one or none
 pub once_at : (t : ℕ) (cs : List ℕ) → filter (λ c. c == t) (once cs) ≡ cond (list_any (λ c. c == t) cs) (t ∷ []) []

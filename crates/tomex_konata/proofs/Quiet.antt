@@ -1,8 +1,8 @@
 -- In a cycle that is none of those in which it may change a step has no lines.
-use Rattle.std.proofs.Common.{◌≡◌, ◌≢◌, ◌∙◌, ap, sym, refl, arith, inl, inr, ℕ, ◌+◌, ◌-◌, ◌<◌, ◌≤◌, ◌==◌, Bool, true, false, cond, ◌||◌, List, [], ◌∷◌, ◌++◌, Option, Some, None, min, max}
-use Rattle.std.specs.Prelude.{nat_le, nat_lt, ◌&&◌, unwrap_or}
+use Rattle.std.proofs.Common.{◌≡◌, ◌≢◌, ◌∙◌, ap, sym, refl, arith, inl, inr, ℕ, ◌+◌, ◌-◌, ◌<◌, ◌≤◌, ◌==◌, Bool, true, false, cond, ◌||◌, List, [], ◌++◌, Option, Some, None, min}
+use Rattle.std.specs.Prelude.{nat_le, nat_lt, unwrap_or}
 use Rattle.std.specs.List.{list_any}
-use Rattle.std.proofs.lemmas.Bool.{cases_Bool, cases_order, eq-eqb, ne_eqb, eqb-true, eqb-false, lt-ltb, le-ltb, ltb-true, ltb-false, le-leb, lt-leb, leb-true, and_parts}
+use Rattle.std.proofs.lemmas.Bool.{cases_Bool, cases_order, ne_eqb, eqb-true, eqb-false, lt-ltb, le-ltb, le-leb, lt-leb, leb-true}
 use Rattle.tomex_rvexec.specs.Steps.{is_number}
 use Rattle.tomex_timing.specs.declared.times.Times.{Times}
 use Rattle.tomex_views.specs.declared.stage.Stage.{Stage}
@@ -11,7 +11,7 @@ use Rattle.tomex_views.specs.Chart.{stage_in}
 use Rattle.tomex_konata.specs.declared.entries.Entry.{Entry}
 use Rattle.tomex_konata.specs.declared.entries.Producer.{Producer}
 use Rattle.tomex_konata.specs.Konata.{is_shared, issue_lines, step_lines, turn_lines, wake_line, wake_lines}
-use Rattle.tomex_konata.specs.Kept.{after, change_cycles, ready}
+use Rattle.tomex_konata.specs.Kept.{change_cycles, ready}
 
 -- the cycle before is no other one of the same kind
 same_eq : (n t : ℕ) → n ≢ t → n + 1 ≢ t → (t - 1 == n) ≡ (t == n)

@@ -1,5 +1,5 @@
 -- What the loops over a step's cycles and over events have made one turn later.
-use Rattle.std.proofs.Common.{◌≡◌, ◌∙◌, ap, ap₂, sym, subst, refl, arith, ℕ, zero, suc, ◌+◌, ◌-◌, ◌<◌, ◌≤◌, ◌==◌, Bool, true, false, cond, List, [], ◌∷◌, ◌++◌, append_assoc, drop, get_or, length, length-drop, map, take, Option, Some, None}
+use Rattle.std.proofs.Common.{◌≡◌, ◌∙◌, ap, ap₂, sym, refl, arith, ℕ, zero, suc, ◌+◌, ◌-◌, ◌<◌, ◌≤◌, ◌==◌, Bool, true, false, cond, List, [], ◌∷◌, ◌++◌, append_assoc, drop, get_or, length, length-drop, map, take, Some}
 use Rattle.std.specs.List.{list_any, slice_get}
 use Rattle.std.proofs.lemmas.List.{append-nil, drop_all, take_all}
 use Rattle.std.proofs.lemmas.Option.{slice_get_read}
@@ -8,7 +8,7 @@ use Rattle.tomex_konata.specs.declared.events.Event.{Event}
 use Rattle.tomex_konata.specs.declared.events.Kind.{Kind}
 use Rattle.tomex_konata.specs.declared.events.Kind.TheVariants.{Change, Out}
 use Rattle.tomex_konata.specs.Konata.{next_since, with_cycle}
-use Rattle.tomex_konata.specs.Kept.{change_cycles, change_in, changes_of, event_lines, gone_after, lines_at, once, written}
+use Rattle.tomex_konata.specs.Kept.{change_cycles, change_in, event_lines, gone_after, lines_at, once, written}
 
 next : {X : Type 0} (xs : List X) (i : ℕ) (x d : X) → i < length xs → x ≡ get_or xs i d → drop i xs ≡ x ∷ drop (suc i) xs
 next [] i x d within is = absurd (omega (arith, within))

@@ -1,17 +1,14 @@
 -- Events in the order of their cycles, those of a cycle in the order of the steps, are written as the log.
-use Rattle.std.proofs.Common.{◌≡◌, ◌≢◌, ◌∙◌, ap, ap₂, sym, subst, refl, arith, inl, inr, ℕ, zero, suc, ◌+◌, ◌-◌, ◌<◌, ◌≤◌, ◌==◌, Bool, true, false, cond, List, [], ◌∷◌, ◌++◌, append_assoc, map, Option, Some, None}
+use Rattle.std.proofs.Common.{◌≡◌, ◌∙◌, ap, ap₂, sym, subst, refl, arith, inl, inr, ℕ, zero, suc, ◌+◌, ◌-◌, ◌≤◌, ◌==◌, Bool, cond, List, [], ◌∷◌, ◌++◌, append_assoc, map, Option, Some}
 use Rattle.std.specs.Prelude.{count_by, nat_lt}
 use Rattle.std.specs.List.{filter, flat_map, list_any, slice_get}
-use Rattle.std.proofs.lemmas.Bool.{cases_Bool, cases_eq, cases_order, eq-eqb, ne_eqb, eqb-true, lt-ltb, le-ltb}
-use Rattle.std.proofs.lemmas.List.{append-nil}
+use Rattle.std.proofs.lemmas.Bool.{cases_Bool, cases_order, eq-eqb, ne_eqb, eqb-true, lt-ltb, le-ltb}
 use Rattle.std.proofs.lemmas.List.Elements.{filter-append}
 use Rattle.std.proofs.lemmas.List.Sums.{sum_by-cons}
 use Rattle.tomex_konata.specs.declared.entries.Entry.{Entry}
 use Rattle.tomex_konata.specs.declared.events.Event.{Event}
-use Rattle.tomex_konata.specs.declared.events.Kind.{Kind}
-use Rattle.tomex_konata.specs.declared.events.Kind.TheVariants.{Change, Out}
-use Rattle.tomex_konata.specs.Konata.{cycles_of, gone_before, goes_out, lines_in, next_since, out_lines, outs_in, passed, step_lines, with_cycle}
-use Rattle.tomex_konata.specs.Kept.{change_cycles, change_in, changes_of, event_lines, events_of, gone_after, lines_at, out_of, written}
+use Rattle.tomex_konata.specs.Konata.{cycles_of, gone_before, goes_out, lines_in, next_since, outs_in, passed, step_lines, with_cycle}
+use Rattle.tomex_konata.specs.Kept.{change_cycles, change_in, changes_of, events_of, gone_after, lines_at, out_of, written}
 use Rattle.tomex_konata.proofs.Moments.{changes_at}
 use Rattle.tomex_konata.proofs.Quiet.{quiet}
 use Rattle.tomex_konata.proofs.Sorting.{Rises, at, later, parted, rest_at, rest_rises}
