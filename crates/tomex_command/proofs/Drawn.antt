@@ -1,5 +1,5 @@
 -- What is told where a program's steps have no picture or no log.
-use Rattle.std.proofs.Common.{◌≡◌, ℕ, List, Bool, false, sym, subst}
+use Rattle.std.proofs.Common.{◌≡◌, ℕ, List, false, sym, subst}
 use Rattle.tomex_rvexec.specs.Run.{start_of}
 use Rattle.tomex_rvexec.specs.Trace.{steps_from}
 use Rattle.tomex_config.specs.Row.{Row}
