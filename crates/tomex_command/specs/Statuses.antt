@@ -3,6 +3,8 @@ use Rattle.std.specs.Prelude.{ℕ}
 use Rattle.tomex_sweep.specs.declared.outcome.SweepError.TheVariants as sweeps
 use Rattle.tomex_report.specs.declared.answer_error.AnswerError.{AnswerError}
 use Rattle.tomex_report.specs.declared.answer_error.AnswerError.TheVariants as answers
+use Rattle.tomex_konata.specs.declared.log_error.LogError.{LogError}
+use Rattle.tomex_konata.specs.declared.log_error.LogError.TheVariants as logs
 use Rattle.tomex_views.specs.declared.picture_error.PictureError.{PictureError}
 use Rattle.tomex_views.specs.declared.picture_error.PictureError.TheVariants as pictures
 use Rattle.tomex_values.specs.declared.error.StudyError.TheVariants as studies
@@ -38,3 +40,8 @@ abbrev pub failure_of_picture : PictureError → Failure
 failure_of_picture pictures.NoSuchStep = NoSuchStep
 failure_of_picture pictures.TooLarge = PictureTooLarge
 failure_of_picture pictures.Memory = Memory
+
+-- and a refused log
+abbrev pub failure_of_log : LogError → Failure
+failure_of_log logs.NoSuchStep = NoSuchStep
+failure_of_log logs.Memory = Memory

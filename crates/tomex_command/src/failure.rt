@@ -1,10 +1,11 @@
 //! Why a command was not done.
 ghost use Rattle.std.specs.Prelude.{◌≡◌};
 ghost use Rattle.tomex_command.specs.declared.failure.Failure.TheVariants as failures;
-ghost use Rattle.tomex_command.specs.Statuses.{failure_of_answer, failure_of_picture, status_of_failure};
+ghost use Rattle.tomex_command.specs.Statuses.{failure_of_answer, failure_of_log, failure_of_picture, status_of_failure};
 
 use crate::run::RunRefusal;
 use std::alloc::{AllocError, AllocFailed};
+use tomex_konata::LogError;
 use tomex_report::{AnswerError, StudyError};
 use tomex_sweep::SweepError;
 use tomex_views::PictureError;
@@ -108,6 +109,17 @@ impl From<PictureError> for Failure {
             PictureError::NoSuchStep => Failure::NoSuchStep,
             PictureError::TooLarge => Failure::PictureTooLarge,
             PictureError::Memory => Failure::Memory,
+        }
+    }
+}
+
+impl From<LogError> for Failure {
+    ghost from_gives = { λ error failure. failure ≡ failure_of_log error };
+
+    fn from(error: LogError) -> Failure {
+        match error {
+            LogError::NoSuchStep => Failure::NoSuchStep,
+            LogError::Memory => Failure::Memory,
         }
     }
 }

@@ -17,7 +17,7 @@ IsCommand found (Stalls line) =
     (rows : List Row) × (found ≡ Some (codes "stalls", rows)) × IsStallsAsked rows line.study.now line.config line.program.now line.by_pc
 IsCommand found (Pipeline line) =
     (rows : List Row) × (found ≡ Some (codes "pipeline", rows))
-    × IsPipelineAsked rows line.study.now line.config line.program.now line.from line.steps
+    × IsPipelineAsked rows line.study.now line.config line.program.now line.from line.steps line.konata
 IsCommand found (Tables line) = (rows : List Row) × (found ≡ Some (codes "tables", rows)) × IsTablesAsked rows line.study.now line.config line.program.now line.cycle
 IsCommand found (All line) = (rows : List Row) × (found ≡ Some (codes "all", rows)) × IsAllAsked rows line.study.now
 IsCommand found (Explore line) = (rows : List Row) × (found ≡ Some (codes "explore", rows)) × IsExploreAsked rows line.study.now line.workers

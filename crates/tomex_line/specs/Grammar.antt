@@ -47,12 +47,13 @@ stalls_shape = record (new_shape (codes "stalls")) {
   rules = word_rule (codes "STUDY") ∷ numeral_rule (codes "CONFIG") 0 16383 ∷ word_rule (codes "PROGRAM") ∷ flag_rule (codes "by-pc") ∷ [];
 }
 
--- `pipeline STUDY CONFIG PROGRAM [--from N] [--steps N]`
+-- `pipeline STUDY CONFIG PROGRAM [--from N] [--steps N] [--konata]`
 abbrev pub pipeline_shape : Shape
 pipeline_shape = record (new_shape (codes "pipeline")) {
   rules = word_rule (codes "STUDY") ∷ numeral_rule (codes "CONFIG") 0 16383 ∷ word_rule (codes "PROGRAM")
       ∷ option_rule (codes "from") 1 262144 (codes "1")
-      ∷ option_rule (codes "steps") 1 262144 (codes "32") ∷ [];
+      ∷ option_rule (codes "steps") 1 262144 (codes "32")
+      ∷ flag_rule (codes "konata") ∷ [];
 }
 
 -- `tables STUDY CONFIG PROGRAM CYCLE`

@@ -40,12 +40,13 @@ pub record IsStallsAsked (rows : List Row) (study : List ℕ) (config : ℕ) (pr
   pub is_by_pc : IsFlag rows (codes "by-pc") by_pc
 
 -- the values of `pipeline`
-pub record IsPipelineAsked (rows : List Row) (study : List ℕ) (config : ℕ) (program : List ℕ) (from steps : ℕ) : Type 0 where
+pub record IsPipelineAsked (rows : List Row) (study : List ℕ) (config : ℕ) (program : List ℕ) (from steps : ℕ) (konata : Bool) : Type 0 where
   pub is_study : IsWord rows (codes "STUDY") study
   pub is_config : IsNumber rows (codes "CONFIG") config
   pub is_program : IsWord rows (codes "PROGRAM") program
   pub is_from : IsNumber rows (codes "from") from
   pub is_steps : IsNumber rows (codes "steps") steps
+  pub is_konata : IsFlag rows (codes "konata") konata
 
 -- the values of `tables`
 pub record IsTablesAsked (rows : List Row) (study : List ℕ) (config : ℕ) (program : List ℕ) (cycle : ℕ) : Type 0 where

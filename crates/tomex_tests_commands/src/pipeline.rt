@@ -81,7 +81,7 @@ fn of_the_first_instructions(rt: HostRuntime) -> Result<(), Fail> {
 }
 
 /// A loop of 1,000 instructions whose branches take 64 cycles: 33,433 columns.
-const SLOW_LOOP: &str =
+pub const SLOW_LOOP: &str =
     "[[program]]\nname = \"loop\"\nfile = \"loop.bin\"\n[[unit.bru]]\nlatency = 64\n";
 
 /// What is too large is told last.

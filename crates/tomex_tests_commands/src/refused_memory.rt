@@ -1,6 +1,7 @@
 //! The text of a run, and whole runs of the program, whose command line takes other memory, with memory refused.
 
 use crate::commands::{PRODUCT_END, outcome_of, text_of};
+use crate::konata::PRODUCT_LOG;
 use crate::pipeline::ON_ONE_STATION;
 use std::alloc::AllocError;
 use std::sync::Wait;
@@ -117,6 +118,13 @@ fn of_each_command(rt: HostRuntime) -> Result<(), Fail> {
             product,
             ON_ONE_STATION,
             12,
+        ),
+        // The same, with the steps of the log and their events, but no width of numbers.
+        (
+            ["tomex", "pipeline", "study", "0", "mul", "--konata"].as_slice(),
+            product,
+            PRODUCT_LOG,
+            13,
         ),
         // All that but steps and times; the machine's memory and the text.
         (

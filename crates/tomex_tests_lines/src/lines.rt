@@ -37,8 +37,8 @@ fn told(alloc: Global, line: &str) -> Result<String, AllocError> {
         Ok(Line::Pipeline(pipeline)) => {
             let (study, config) = (pipeline.study, pipeline.config);
             format!(in alloc;
-                "pipeline {study} {config} {} {} {}",
-                pipeline.program, pipeline.from, pipeline.steps
+                "pipeline {study} {config} {} {} {} {}",
+                pipeline.program, pipeline.from, pipeline.steps, pipeline.konata
             )
         }
         Ok(Line::Tables(tables)) => {
@@ -76,14 +76,18 @@ fn lines_are_read(rt: HostRuntime) -> Result<(), Fail> {
         ),
         ("stalls --help", "help Prints, for each part"),
         ("stalls -h", "help Prints which parts"),
-        ("pipeline study 0 a", "pipeline study 0 a 1 32"),
+        ("pipeline study 0 a", "pipeline study 0 a 1 32 false"),
         (
-            "pipeline study 0 a --from 262144 --steps 1",
-            "pipeline study 0 a 262144 1",
+            "pipeline study 0 a --konata",
+            "pipeline study 0 a 1 32 true",
         ),
         (
-            "pipeline --steps=262144 study 16383 -- -a",
-            "pipeline study 16383 -a 1 262144",
+            "pipeline study 0 a --from 262144 --steps 1",
+            "pipeline study 0 a 262144 1 false",
+        ),
+        (
+            "pipeline --konata --steps=262144 study 16383 -- -a",
+            "pipeline study 16383 -a 1 262144 true",
         ),
         ("pipeline --help", "help Draws the instructions"),
         ("pipeline -h", "help Draws what instructions"),
@@ -142,6 +146,8 @@ fn lines_are_refused(rt: HostRuntime) -> Result<(), Fail> {
         "pipeline study 0 a --from 262145",
         "pipeline study 0 a --steps 0",
         "pipeline study 0 a --steps 262145",
+        "pipeline study 0 a --konata 1",
+        "pipeline study 0 a --konata --konata",
         "tables study 16384 a 0",
         "tables study 0 a 17563649",
         "tables study 0 a -1",

@@ -4,4 +4,3 @@ pub mod Reports
 pub mod Pieces
 pub mod Pictures
 mod Rows
-mod KonataRows

@@ -3,4 +3,3 @@ pub mod ByPlace
 pub mod Tally
 pub mod Laws
 pub mod Chart
-pub mod Konata

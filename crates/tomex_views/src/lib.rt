@@ -15,5 +15,7 @@ mod tally;
 pub use by_place::stalls_by_pc;
 pub use laws::waits_of_places_add_up;
 pub use picture_error::PictureError;
-pub use pipeline::pipeline_text;
+pub use pipeline::{first_issue, part_of, pipeline_text};
+pub use stage::{Stage, stage_in};
 pub use stalls::stalls_report;
+pub use steps::steps_of;

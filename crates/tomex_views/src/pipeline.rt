@@ -21,7 +21,7 @@ use tomex_timing::evaluate::{times, total};
 const MOST_SIGNS: u64 = 16_777_216;
 
 /// So many of these at most, behind the first ones.
-fn part_of<T>(items: &[T], behind: usize, count: usize) -> &[T]
+pub fn part_of<T>(items: &[T], behind: usize, count: usize) -> &[T]
     requires { behind ≤ length items.now }
     ensures { result.now ≡ take count (drop behind items.now) }
 {
@@ -31,7 +31,7 @@ fn part_of<T>(items: &[T], behind: usize, count: usize) -> &[T]
 }
 
 /// The issue of the first step, 0 of none.
-fn first_issue(times: &[Times]) -> u64
+pub fn first_issue(times: &[Times]) -> u64
     ensures { result ≡ first_issue times.now }
 {
     match times {

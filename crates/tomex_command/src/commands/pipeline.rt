@@ -6,11 +6,13 @@ use super::chosen::chosen_in;
 use super::study::study_in;
 use crate::failure::Failure;
 use std::alloc::{Allocator, Global};
+use tomex_konata::konata_text;
 use tomex_line::PipelineLine;
 use tomex_streams::Files;
 use tomex_views::pipeline_text;
 
-/// The text that `pipeline` prints. The step is looked for after the program, and last the size of the picture.
+/// The text that `pipeline` prints, a picture or a log. The step is looked for after the program, and last the size of a
+/// picture.
 pub fn text_of_pipeline<F: Files, A: Allocator + Clone>(
     alloc: A,
     heap: Global,
@@ -23,5 +25,9 @@ pub fn text_of_pipeline<F: Files, A: Allocator + Clone>(
     let study = study_in(alloc.clone()?, heap, files, line.study)?;
     let chosen = chosen_in(&study, line.config, line.program)?;
     let (from, steps) = (line.from, line.steps);
-    Ok(pipeline_text(alloc, heap, chosen.program, chosen.row, from, steps)?)
+    if line.konata {
+        Ok(konata_text(alloc, heap, chosen.program, chosen.row, from, steps)?)
+    } else {
+        Ok(pipeline_text(alloc, heap, chosen.program, chosen.row, from, steps)?)
+    }
 }

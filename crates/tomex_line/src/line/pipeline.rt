@@ -1,4 +1,4 @@
-//! `pipeline STUDY CONFIG PROGRAM [--from N] [--steps N]`
+//! `pipeline STUDY CONFIG PROGRAM [--from N] [--steps N] [--konata]`
 ghost use Rattle.std.specs.Prelude.{◌≡◌, ◌≤◌, IfOk, IfErr};
 ghost use Rattle.tomex_line.specs.Lines.{IsRefusal};
 ghost use Rattle.tomex_line.specs.Grammar.{pipeline_shape};
@@ -9,7 +9,7 @@ ghost use Rattle.tomex_line.specs.Values.{IsPipelineAsked};
 
 use super::LineFault;
 use super::described::{Texts, described, taking};
-use super::values::{Bounds, CONFIG, number, number_of, numeral, word, word_of};
+use super::values::{Bounds, CONFIG, flag, flag_of, number, number_of, numeral, word, word_of};
 use clap::{ArgMatches, Command};
 use std::alloc::{AllocError, Global};
 
@@ -32,6 +32,8 @@ pub struct PipelineLine<'a> {
     pub from: u32,
     /// How many are shown at most.
     pub steps: u32,
+    /// Whether a log for the viewer Konata is asked for, and no picture.
+    pub konata: bool,
     pub ghost config_to: { config ≤ 16383 },
     pub ghost from_least: { 1 ≤ from },
     pub ghost from_to: { from ≤ 262144 },
@@ -63,10 +65,13 @@ of an instruction, its signs, its address and itself. The signs:
   -  its result waits for a bus
   =  it waits in its station for anything else
 
-A picture of more than 16777216 signs is refused.";
+A picture of more than 16777216 signs is refused.
+
+With --konata it prints, of the same instructions, a log for the viewer Konata,
+of any size. docs/KONATA.md says how to read it.";
 
 const AFTER_LONG_HELP: &str = "Exit status:
-  0  the picture was written
+  0  the picture or the log was written
   1  the study or a program of it was refused, or has no such row or program,
      or its run ends before the first instruction that is asked for, or the
      picture is too large
@@ -88,7 +93,12 @@ and
 prints
   cycles 2 to 8
   2 IEW     00000004 addi x2,x0,7
-  3  I=EEEW 00000008 mul x3,x1,x2";
+  3  I=EEEW 00000008 mul x3,x1,x2
+and
+  tomex pipeline study.toml 4 mul --konata
+
+prints a log of 47 lines, such as
+  L\t0\t0\t00000000: addi x1,x0,5";
 
 const TEXTS: Texts = Texts {
     about: ABOUT,
@@ -106,6 +116,8 @@ const FROM_HELP: &str = "The number of the first instruction shown";
 
 const STEPS_HELP: &str = "How many are shown at most";
 
+const KONATA_HELP: &str = "Write a log for the viewer Konata";
+
 pub(super) fn grammar<'a>(alloc: Global) -> Result<Command<'a>, AllocError>
     ensures { IfOk result (λ c. shape_of c ≡ pipeline_shape) }
 {
@@ -114,15 +126,16 @@ pub(super) fn grammar<'a>(alloc: Global) -> Result<Command<'a>, AllocError>
     let command = taking(command, numeral(alloc, "CONFIG", CONFIG, CONFIG_HELP))?;
     let command = taking(command, word(alloc, "PROGRAM", PROGRAM_HELP))?;
     let command = taking(command, number(alloc, "from", STEP, "1", FROM_HELP))?;
-    taking(command, number(alloc, "steps", STEP, "32", STEPS_HELP))
+    let command = taking(command, number(alloc, "steps", STEP, "32", STEPS_HELP))?;
+    taking(command, flag(alloc, "konata", KONATA_HELP))
 }
 
 pub(super) fn line_of<'a>(
     alloc: Global,
     matches: &ArgMatches<'a>,
 ) -> Result<PipelineLine<'a>, LineFault>
-    ensures line { IfOk result (λ line.
-        IsPipelineAsked (rows_of (found_of matches.now)) line.study.now line.config line.program.now line.from line.steps) }
+    ensures line { IfOk result (λ line. IsPipelineAsked (rows_of (found_of matches.now))
+        line.study.now line.config line.program.now line.from line.steps line.konata) }
     ensures refused { IfErr result IsRefusal }
 {
     Ok(PipelineLine {
@@ -131,5 +144,6 @@ pub(super) fn line_of<'a>(
         program: word_of(alloc, matches, "PROGRAM")?,
         from: number_of(alloc, matches, "from", STEP)?,
         steps: number_of(alloc, matches, "steps", STEP)?,
+        konata: flag_of(matches, "konata"),
     })
 }

@@ -1,0 +1,191 @@
+-- Steps of a run as a log of the Konata viewer: lines of fields with a tab between, cycle by cycle, and by step in a
+-- cycle.
+-- Source: the log format of Konata and of the simulator Onikiri2, version 4.
+use Rattle.std.specs.Prelude.{◌≡◌, ℕ, zero, suc, ◌+◌, ◌-◌, ◌<◌, ◌≤◌, ◌==◌, nat_le, nat_lt, Bool, false, ◌&&◌, if◌then◌else◌, List, [], ◌∷◌, ◌++◌, codes, count_by, length, Option, Some, None}
+use Rattle.std.specs.List.{flat_map}
+use Rattle.std.specs.Fmt.{decimal}
+use Rattle.tomex_rvdec.specs.Parts.{name_of_pool}
+use Rattle.tomex_rvdec.specs.Text.{instr_text}
+use Rattle.tomex_rvdec.specs.declared.pool.PoolId.{PoolId}
+use Rattle.tomex_rvexec.specs.Steps.{is_number, j_of, k_of, step_dest, step_pool}
+use Rattle.tomex_rvexec.specs.Texts.{hex8}
+use Rattle.tomex_rvexec.specs.declared.step.Operand.{Operand}
+use Rattle.tomex_rvexec.specs.declared.step.Step.{Step}
+use Rattle.tomex_config.specs.Row.{Row}
+use Rattle.tomex_timing.specs.Search.{times_in, total_of}
+use Rattle.tomex_timing.specs.declared.times.Done.{Done}
+use Rattle.tomex_timing.specs.declared.times.Times.{Times}
+use Rattle.tomex_views.specs.Chart.{first_issue, shown, stage_in}
+use Rattle.tomex_views.specs.declared.stage.Stage.{Stage}
+use Rattle.tomex_views.specs.declared.stage.Stage.TheVariants.{Issue, Address, Execute, Write, BusWait, Wait}
+use Rattle.tomex_konata.specs.declared.entries.Entry.{Entry}
+use Rattle.tomex_konata.specs.declared.entries.Producer.{Producer}
+use Rattle.tomex_konata.specs.declared.log_error.LogError.{LogError}
+use Rattle.tomex_konata.specs.declared.log_error.LogError.TheVariants.{NoSuchStep, Memory}
+
+-- an operand's producer among some older steps: the youngest that writes it
+abbrev pub producer : List Done → Option Operand → Option Producer
+producer [] o = None
+producer (d ∷ older) None = None
+producer (d ∷ older) (Some o) =
+    if is_number (step_dest d.step) o.register then Some (record { id = length older; end = d.at.end })
+    else producer older (Some o)
+
+-- a step, behind those that are older
+abbrev pub entry_of : List Done → Done → Entry
+entry_of older d = record {
+  id = length older;
+  step = d.step;
+  at = d.at;
+  j = producer older (j_of d.step);
+  k = producer older (k_of d.step);
+}
+
+-- and the steps from there on
+abbrev pub entries_from : List Done → List Step → List Times → List Entry
+entries_from older (step ∷ steps) (at ∷ times) =
+    entry_of older (record { step = step; at = at })
+    ∷ entries_from (record { step = step; at = at } ∷ older) steps times
+entries_from older _ _ = []
+
+abbrev pub name_of_stage : Stage → List ℕ
+name_of_stage Issue = codes "Is"
+name_of_stage Address = codes "Ad"
+name_of_stage Execute = codes "X"
+name_of_stage Write = codes "Wr"
+name_of_stage BusWait = codes "Bs"
+name_of_stage Wait = codes "Wt"
+
+-- its place in the list of stages, by which two of them are compared
+abbrev pub place_of_stage : Stage → ℕ
+place_of_stage Issue = 0
+place_of_stage Address = 1
+place_of_stage Execute = 2
+place_of_stage Write = 3
+place_of_stage BusWait = 4
+place_of_stage Wait = 5
+
+-- a line of fields
+abbrev pub tabbed : List (List ℕ) → List ℕ
+tabbed [] = codes "\n"
+tabbed (field ∷ []) = field ++ codes "\n"
+tabbed (field ∷ fields) = field ++ (codes "\t" ++ tabbed fields)
+
+-- `I`: a step comes in; `L`: what it is, and its station
+abbrev pub station_line : ℕ → Option PoolId → Option ℕ → List ℕ
+station_line id (Some pool) (Some station) =
+    tabbed (codes "L" ∷ decimal id ∷ codes "1" ∷ (name_of_pool pool ++ decimal station) ∷ [])
+station_line id _ _ = []
+
+abbrev pub text_of : Step → List ℕ
+text_of step = hex8 step.pc ++ (codes ": " ++ instr_text step.instr)
+
+abbrev pub issue_lines : ℕ → Entry → List ℕ
+issue_lines number e =
+    tabbed (codes "I" ∷ decimal e.id ∷ decimal number ∷ codes "0" ∷ [])
+    ++ (tabbed (codes "L" ∷ decimal e.id ∷ codes "0" ∷ text_of e.step ∷ [])
+    ++ station_line e.id (step_pool e.step) e.at.station)
+
+-- `S`: a stage begins; `E`: it ends
+abbrev pub begin_line : ℕ → Stage → List ℕ
+begin_line id stage = tabbed (codes "S" ∷ decimal id ∷ codes "0" ∷ name_of_stage stage ∷ [])
+
+abbrev pub end_line : ℕ → Stage → List ℕ
+end_line id stage = tabbed (codes "E" ∷ decimal id ∷ codes "0" ∷ name_of_stage stage ∷ [])
+
+-- from the stage of a cycle to that of the next
+abbrev pub turn_lines : ℕ → Option Stage → Option Stage → List ℕ
+turn_lines id None (Some new) = begin_line id new
+turn_lines id (Some old) (Some new) =
+    if place_of_stage old == place_of_stage new then [] else end_line id old ++ begin_line id new
+turn_lines id _ None = []
+
+-- `W`: a step gets a value in the cycle in which its producer ends, unless that is before its issue
+abbrev pub wake_line : ℕ → Times → ℕ → Option Producer → List ℕ
+wake_line id at t None = []
+wake_line id at t (Some p) =
+    if p.end == t && nat_le at.issue t
+    then tabbed (codes "W" ∷ decimal id ∷ decimal p.id ∷ codes "0" ∷ [])
+    else []
+
+abbrev pub is_shared : Option Producer → Option Producer → Bool
+is_shared (Some j) (Some k) = j.id == k.id
+is_shared _ _ = false
+
+-- of both operands, and once where they have one producer
+abbrev pub wake_lines : ℕ → Entry → List ℕ
+wake_lines t e = wake_line e.id e.at t e.j ++ (if is_shared e.j e.k then [] else wake_line e.id e.at t e.k)
+
+-- the lines of a step in a cycle; number is that of the first step shown
+unfoldable pub step_lines : ℕ → ℕ → Entry → List ℕ
+step_lines number t e =
+    (if t == e.at.issue then issue_lines (number + e.id) e else [])
+    ++ (turn_lines e.id (stage_in e.at (t - 1)) (stage_in e.at t) ++ wake_lines t e)
+
+-- `R`: a step goes out in the cycle behind its end, so many having gone before it
+abbrev pub leave_lines : ℕ → ℕ → Option Stage → List ℕ
+leave_lines gone id None = []
+leave_lines gone id (Some stage) =
+    end_line id stage ++ tabbed (codes "R" ∷ decimal id ∷ decimal gone ∷ codes "0" ∷ [])
+
+unfoldable pub out_lines : ℕ → Entry → List ℕ
+out_lines gone e = leave_lines gone e.id (stage_in e.at e.at.end)
+
+abbrev pub goes_out : ℕ → Entry → Bool
+goes_out t e = e.at.end + 1 == t
+
+-- the lines of those that go out in a cycle, so many having gone before them
+abbrev pub outs_in : ℕ → ℕ → List Entry → List ℕ
+outs_in t gone [] = []
+outs_in t gone (e ∷ es) = if goes_out t e then out_lines gone e ++ outs_in t (gone + 1) es else outs_in t gone es
+
+-- how many went out before a cycle
+abbrev pub gone_before : ℕ → List Entry → ℕ
+gone_before t es = count_by (λ e. nat_lt (e.at.end + 1) t) es
+
+-- the lines of a cycle
+abbrev pub lines_in : ℕ → ℕ → List Entry → List ℕ
+lines_in number t es = flat_map (step_lines number t) es ++ outs_in t (gone_before t es) es
+
+-- `C`: so many cycles passed since the last one with lines
+abbrev pub passed : ℕ → List ℕ
+passed zero = []
+passed (suc n) = tabbed (codes "C" ∷ decimal (suc n) ∷ [])
+
+-- a cycle's lines, behind the n cycles that passed since the last one with lines; none where nothing happens
+abbrev pub with_cycle : ℕ → List ℕ → List ℕ
+with_cycle n [] = []
+with_cycle n (x ∷ lines) = passed n ++ (x ∷ lines)
+
+-- and then the last one with lines
+abbrev pub next_since : ℕ → ℕ → List ℕ → ℕ
+next_since since t [] = since
+next_since since t (x ∷ lines) = t
+
+-- the log of n cycles from t on; the last one with lines was `since`
+abbrev pub cycles_of : ℕ → List Entry → ℕ → ℕ → ℕ → List ℕ
+cycles_of number es since t zero = []
+cycles_of number es since t (suc n) =
+    with_cycle (t - since) (lines_in number t es)
+    ++ cycles_of number es (next_since since t (lines_in number t es)) (t + 1) n
+
+-- what each log begins with: its format, and the cycle from which it counts
+abbrev pub head_of : ℕ → List ℕ
+head_of first = tabbed (codes "Kanata" ∷ codes "0004" ∷ []) ++ tabbed (codes "C=" ∷ decimal first ∷ [])
+
+-- the log of steps with these times, from a number on: up to the cycle in which the last one goes out. Before the first
+-- one's issue nothing happens.
+abbrev pub log_of : ℕ → List Step → List Times → List ℕ
+log_of number steps times =
+    head_of (first_issue times)
+    ++ cycles_of number (entries_from [] steps times) (first_issue times) 0 (total_of times + 2)
+
+-- the text is the log of the steps that are asked for
+pub record IsLogOf (row : Row) (steps : List Step) (number count : ℕ) (text : List ℕ) : Type 0 where
+  pub there : number ≤ length steps
+  pub is : text ≡ log_of number (shown number count steps) (shown number count (times_in row steps))
+
+-- why there is none
+abbrev pub IsUnlogged : List Step → ℕ → LogError → Type 0
+IsUnlogged steps number NoSuchStep = length steps < number
+IsUnlogged steps number Memory = Unit {0}

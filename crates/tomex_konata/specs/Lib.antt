@@ -1,0 +1,2 @@
+pub mod Konata
+pub mod Kept

@@ -1,0 +1,166 @@
+//! The log of some steps of a run on one row.
+
+ghost use Rattle.std.specs.Prelude.{◌≡◌, ◌+◌, ◌-◌, ◌<◌, ◌^◌, ◌++◌, All, length, IfErr, IfOk, OnOk, string_bytes};
+ghost use Rattle.tomex_rvexec.specs.Run.{start_of};
+ghost use Rattle.tomex_rvexec.specs.Trace.{steps_from};
+ghost use Rattle.tomex_timing.specs.Search.{total_of};
+ghost use Rattle.tomex_konata.specs.Konata.{IsLogOf, IsUnlogged, head_of, log_of, next_since, with_cycle};
+ghost use Rattle.tomex_konata.specs.Kept.{event_lines, gone_after, written};
+
+use crate::entries::{Entry, entries_of};
+use crate::events::{Event, Kind, ordered_events};
+use crate::lines::{push_out, push_step};
+use crate::log_error::LogError;
+use std::alloc::{AllocError, Allocator, Global};
+use std::fmt::Write;
+use tomex_config::Config;
+use tomex_rvexec::Step;
+use tomex_sweep::Program;
+use tomex_timing::Times;
+use tomex_timing::evaluate::{times, total};
+use tomex_views::{first_issue, part_of, steps_of};
+
+/// Adds the lines of an event, if it has any.
+fn push_event(
+    text: &mut String,
+    number: u64,
+    gone: u64,
+    event: &Event,
+    entry: &Entry,
+) -> Result<(), AllocError>
+    requires few { number + entry.now.id < 2 ^ 64 }
+    ensures { OnOk result (string_bytes text.new
+        ≡ string_bytes text.old ++ event_lines number gone event.now.cycle event.now.kind entry.now) }
+{
+    match event.kind {
+        Kind::Change => push_step(text, number, event.cycle, entry),
+        Kind::Out => push_out(text, gone, entry),
+    }
+}
+
+/// Adds lines of a cycle, if there are any, behind the cycles that passed since the last one with lines. Returns which
+/// one that is now.
+fn push_in_cycle<A: Allocator>(
+    text: &mut String<A>,
+    since: u64,
+    cycle: u64,
+    lines: &str,
+) -> Result<u64, AllocError>
+    ensures text { OnOk result (string_bytes text.new
+        ≡ string_bytes text.old ++ with_cycle (cycle - since) lines.now) }
+    ensures since { IfOk result (λ last. last ≡ next_since since cycle lines.now) }
+{
+    if lines.is_empty() {
+        return Ok(since);
+    }
+    let passed = cycle.saturating_sub(since);
+    if passed > 0 {
+        write!(text, "C\t{passed}\n")?;
+    }
+    text.push_str(lines)?;
+    Ok(cycle)
+}
+
+/// Adds what each log begins with.
+fn push_head<A: Allocator>(text: &mut String<A>, first: u64) -> Result<(), AllocError>
+    ensures { OnOk result (string_bytes text.new ≡ string_bytes text.old ++ head_of first) }
+{
+    write!(text, "Kanata\t0004\nC=\t{first}\n")?;
+    Ok(())
+}
+
+/// How many steps went out with an event.
+fn gone_after(gone: u64, kind: Kind) -> u64
+    requires { gone < 2 ^ 63 }
+    ensures { result ≡ gone_after gone kind }
+{
+    match kind {
+        Kind::Change => gone,
+        Kind::Out => gone + 1,
+    }
+}
+
+/// Adds the lines of events, in their order.
+fn push_events<A: Allocator>(
+    text: &mut String<A>,
+    heap: Global,
+    number: u64,
+    first: u64,
+    entries: &[Entry],
+    events: &[Event],
+) -> Result<(), AllocError>
+    requires there { All (λ event. event.id < length entries.now) events.now }
+    requires few { All (λ entry. number + entry.id < 2 ^ 64) entries.now }
+    requires many { length events.now < 2 ^ 63 }
+    ensures { OnOk result (string_bytes text.new
+        ≡ string_bytes text.old ++ written number entries.now first 0 events.now) }
+{
+    let mut lines = String::new(heap);
+    let mut since = first;
+    let mut gone = 0;
+    for event in events {
+        lines.clear();
+        push_event(&mut lines, number, gone, event, &entries[event.id])?;
+        since = push_in_cycle(text, since, event.cycle, lines.as_str())?;
+        gone = gone_after(gone, event.kind);
+    }
+    Ok(())
+}
+
+/// The log of steps with these times, from a number on.
+fn log_of<A: Allocator + Clone>(
+    alloc: A,
+    heap: Global,
+    number: u64,
+    steps: &[Step],
+    times: &[Times],
+) -> Result<Vec<u8, A>, AllocError>
+    requires pairs { length times.now ≡ length steps.now }
+    requires few { number + length steps.now < 2 ^ 63 }
+    requires bound { total_of times.now < 2 ^ 32 }
+    ensures { IfOk result (λ text. text.items ≡ log_of number steps.now times.now) }
+{
+    let first = first_issue(times);
+    let entries = entries_of(alloc.clone()?, steps, times)?;
+    let events = ordered_events(alloc.clone()?, entries.as_slice(), total(times) + 1)?;
+    let mut text = String::new(alloc);
+    push_head(&mut text, first)?;
+    push_events(
+        &mut text,
+        heap,
+        number,
+        first,
+        entries.as_slice(),
+        events.as_slice(),
+    )?;
+    Ok(text.into_bytes())
+}
+
+/// The log of some steps of a program's run on a row for the viewer Konata, `count` of them at most from step `number`
+/// on; the first step is number 1. Producers are looked for among these steps alone.
+///
+/// The work grows as n log n with the steps, whatever the number of cycles. What is small is taken of `heap`.
+pub fn konata_text<A: Allocator + Clone>(
+    alloc: A,
+    heap: Global,
+    program: &Program<A>,
+    row: &Config,
+    number: u32,
+    count: u32,
+) -> Result<Vec<u8, A>, LogError>
+    requires { 0 < number }
+    ensures text { IfOk result (λ text. IsLogOf row.now
+        (steps_from program.now.limit (start_of program.now.image)) number count text.items) }
+    ensures refused { IfErr result (λ error. IsUnlogged
+        (steps_from program.now.limit (start_of program.now.image)) number error) }
+{
+    let steps = steps_of(alloc.clone()?, program)?;
+    if steps.len() < number as usize {
+        return Err(LogError::NoSuchStep);
+    }
+    let times = times(alloc.clone()?, steps.as_slice(), row)?;
+    let behind = number as usize - 1;
+    let shown_steps = part_of(steps.as_slice(), behind, count as usize);
+    let shown_times = part_of(times.as_slice(), behind, count as usize);
+    Ok(log_of(alloc, heap, u64::from(number), shown_steps, shown_times)?)
+}
