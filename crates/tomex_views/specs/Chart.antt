@@ -9,7 +9,7 @@ use Rattle.tomex_rvexec.specs.declared.step.Step.{Step}
 use Rattle.tomex_config.specs.Row.{Row}
 use Rattle.tomex_timing.specs.Search.{times_in, total_of}
 use Rattle.tomex_timing.specs.declared.times.Times.{Times}
-use Rattle.tomex_views.specs.Aligned.{right_aligned}
+use Rattle.tomex_records.specs.Aligned.{right_aligned}
 use Rattle.tomex_views.specs.declared.lines.Frame.{Frame}
 use Rattle.tomex_views.specs.declared.picture_error.PictureError.{PictureError}
 use Rattle.tomex_views.specs.declared.picture_error.PictureError.TheVariants.{NoSuchStep, TooLarge, Memory}

@@ -2,10 +2,5 @@ pub mod StallsReport
 pub mod ByPlace
 pub mod Tally
 pub mod Laws
-pub mod Aligned
-pub mod Table
-pub mod FrontTable
 pub mod Chart
 pub mod Konata
-pub mod Axes
-pub mod Plot

@@ -2,23 +2,18 @@
 //! program its instructions wait, and what they do cycle by cycle.
 #![tactic(auto)]
 
-mod aligned;
 mod by_place;
 mod laws;
 mod lines;
 mod picture_error;
 mod pipeline;
-mod plot;
 mod stage;
 mod stalls;
 mod steps;
-mod table;
 mod tally;
 
 pub use by_place::stalls_by_pc;
 pub use laws::waits_of_places_add_up;
 pub use picture_error::PictureError;
 pub use pipeline::pipeline_text;
-pub use plot::front_picture;
-pub use table::front::front_table;
 pub use stalls::stalls_report;

@@ -3,10 +3,10 @@
 ghost use Rattle.std.specs.Prelude.{◌≡◌, ◌+◌, ◌<◌, ◌^◌, ◌++◌, length, OnOk, string_bytes};
 ghost use Rattle.tomex_views.specs.Chart.{chart, line_of, lines_of};
 
-use crate::aligned::push_number;
 use crate::stage::sign_in;
 use std::alloc::{AllocError, Allocator, Global};
 use std::fmt::Write;
+use tomex_records::push_aligned_number;
 use tomex_rvexec::Step;
 use tomex_timing::Times;
 
@@ -49,7 +49,7 @@ fn push_line<A: Allocator>(
     ensures { OnOk result (string_bytes text.new ≡ string_bytes text.old ++ line_of frame.now number step.now at.now) }
 {
     let (pc, instr) = (step.pc, step.instr);
-    push_number(text, scratch, frame.digits, number)?;
+    push_aligned_number(text, scratch, frame.digits, number)?;
     text.push_str(" ")?;
     push_chart(text, at, frame.first, frame.until)?;
     write!(text, " {pc:08x} {instr}\n")?;

@@ -1,0 +1,3 @@
+mod Tables
+mod Loops
+pub mod Zips
