@@ -1,3 +1,3 @@
 mod Tables
-mod Loops
+pub mod Loops
 pub mod Zips

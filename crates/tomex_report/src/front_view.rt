@@ -35,7 +35,8 @@ fn program_cycles<A: Allocator>(
 {
     let mut cycles = Vec::new(alloc);
     for end in ends {
-        cycles.push(end.programs[place].total)?;
+        let programs = end.programs.as_slice();
+        cycles.push(programs[place].total)?;
     }
     Ok(cycles)
 }
