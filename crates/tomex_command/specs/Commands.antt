@@ -3,9 +3,10 @@ use Rattle.std.specs.Prelude.{◌≡◌, ◌⊎◌, ℕ, List}
 use Rattle.tomex_command.specs.declared.failure.Failure.{Failure}
 use Rattle.tomex_command.specs.declared.failure.Failure.TheVariants.{CannotWrite}
 use Rattle.tomex_line.specs.declared.line.Line.{Line}
-use Rattle.tomex_line.specs.declared.line.Line.TheVariants.{Run, Times, Stalls, Pipeline, Tables, All, Explore}
+use Rattle.tomex_line.specs.declared.line.Line.TheVariants.{Run, Times, Stalls, Pipeline, Tables, All, Explore, Front, Plot}
 use Rattle.tomex_line.specs.declared.line.LineFault.{LineFault}
 use Rattle.tomex_line.specs.Asked.{IsAsked, IsNoCommand}
+use Rattle.tomex_report.specs.declared.front_view.FrontView.TheVariants.{Report, Table, Picture}
 use Rattle.tomex_streams.specs.Files.{Told}
 use Rattle.tomex_command.specs.FrontLines.{IsFrontOf, IsAllFailure, IsExploreFailure}
 use Rattle.tomex_streams.specs.Sinks.{Seen, IsWhole, IsCut}
@@ -23,8 +24,10 @@ IsDone file (Times line) text = IsTimesOf file line text
 IsDone file (Stalls line) text = IsStallsOf file line text
 IsDone file (Pipeline line) text = IsPipelineOf file line text
 IsDone file (Tables line) text = IsTablesOf file line text
-IsDone file (All line) text = IsFrontOf file line.study.now text
-IsDone file (Explore line) text = IsFrontOf file line.study.now text
+IsDone file (All line) text = IsFrontOf Report file line.study.now text
+IsDone file (Explore line) text = IsFrontOf Report file line.study.now text
+IsDone file (Front line) text = IsFrontOf Table file line.study.now text
+IsDone file (Plot line) text = IsFrontOf Picture file line.study.now text
 
 -- the line has no text, for this reason
 abbrev pub IsFailure : (List ℕ → Told) → Line → Failure → Type 0
@@ -35,6 +38,8 @@ IsFailure file (Pipeline line) failure = IsPipelineFailure file line failure
 IsFailure file (Tables line) failure = IsTablesFailure file line failure
 IsFailure file (All line) failure = IsAllFailure file line.study.now failure
 IsFailure file (Explore line) failure = IsExploreFailure file line.study.now failure
+IsFailure file (Front line) failure = IsExploreFailure file line.study.now failure
+IsFailure file (Plot line) failure = IsExploreFailure file line.study.now failure
 
 -- a line was carried out: its text is on the output
 pub record IsCarriedOut (file : List ℕ → Told) (line : Line) (old new : Seen) : Type 0 where

@@ -1,20 +1,21 @@
--- What a line that asks for a front report comes to, by `all` or by `explore`.
+-- What a line that asks for the front of a study comes to, by `all`, or by `explore`, `front` and `plot`.
 use Rattle.std.specs.Prelude.{List, ℕ}
 use Rattle.tomex_sweep.specs.Study.{DesignSpace}
-use Rattle.tomex_report.specs.Answer.{IsAnswer}
+use Rattle.tomex_report.specs.Answer.{IsShown}
+use Rattle.tomex_report.specs.declared.front_view.FrontView.{FrontView}
 use Rattle.tomex_command.specs.declared.failure.Failure.{Failure}
 use Rattle.tomex_command.specs.declared.failure.Failure.TheVariants.{Worker}
 use Rattle.tomex_streams.specs.Files.{Told}
 use Rattle.tomex_command.specs.StudyFiles.{AreSources, IsStudyIn, IsStudyFailure}
 
--- the text is the front report of the study of that name
-pub record IsFrontOf (file : List ℕ → Told) (name : List ℕ) (text : List ℕ) : Type 0 where
+-- the text shows the front of the study of that name so
+pub record IsFrontOf (view : FrontView) (file : List ℕ → Told) (name : List ℕ) (text : List ℕ) : Type 0 where
   pub bytes : List ℕ
   pub contents : List (List ℕ)
   pub sources : AreSources file name bytes contents
-  pub answer : IsAnswer bytes contents text
+  pub shown : IsShown view bytes contents text
 
--- when each failure of `explore` comes: those of the study, and a refused thread where the study is fine
+-- when each failure of an exploration comes: those of the study, and a refused thread where the study is fine
 abbrev pub IsExploreFailure : (List ℕ → Told) → List ℕ → Failure → Type 0
 IsExploreFailure file name Worker = (study : DesignSpace) × IsStudyIn file name study
 IsExploreFailure file name failure = IsStudyFailure file name failure

@@ -19,7 +19,7 @@ pub mod times;
 use crate::failure::Failure;
 use crate::telling::{tell, tell_line_fault};
 use all::text_of_all;
-use explore::text_of_explore;
+use explore::text_of_front;
 use pipeline::text_of_pipeline;
 use run::text_of_run;
 use stalls::text_of_stalls;
@@ -29,6 +29,7 @@ use std::thread::Threads;
 use tables::text_of_tables;
 use times::text_of_times;
 use tomex_line::{Line, read_line};
+use tomex_report::FrontView;
 use tomex_streams::{Files, Meter, Sink, write_all_of};
 
 /// The text that a line asks for.
@@ -55,7 +56,9 @@ fn text_of<
         Line::Pipeline(line) => text_of_pipeline(alloc, heap, line, files),
         Line::Tables(line) => text_of_tables(alloc, heap, line, files),
         Line::All(line) => text_of_all(rt, alloc, heap, line, files, meter),
-        Line::Explore(line) => text_of_explore(rt, alloc, heap, line, files, meter),
+        Line::Explore(line) => text_of_front(rt, alloc, heap, line, files, meter, FrontView::Report),
+        Line::Front(line) => text_of_front(rt, alloc, heap, line, files, meter, FrontView::Table),
+        Line::Plot(line) => text_of_front(rt, alloc, heap, line, files, meter, FrontView::Picture),
     }
 }
 

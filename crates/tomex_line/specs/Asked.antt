@@ -3,7 +3,7 @@ use Rattle.std.specs.Prelude.{◌≡◌, ◌⊎◌, List, codes, Option, Some}
 use Rattle.clap.specs.Words.{IsAmong, Row, Text, fault_of, subcommand_of}
 use Rattle.clap.specs.declared.error.kind.ErrorKind.TheVariants.{DisplayHelp, DisplayVersion}
 use Rattle.tomex_line.specs.declared.line.Line.{Line}
-use Rattle.tomex_line.specs.declared.line.Line.TheVariants.{Run, Times, Stalls, Pipeline, Tables, All, Explore}
+use Rattle.tomex_line.specs.declared.line.Line.TheVariants.{Run, Times, Stalls, Pipeline, Tables, All, Explore, Front, Plot}
 use Rattle.tomex_line.specs.declared.line.LineFault.{LineFault}
 use Rattle.tomex_line.specs.declared.line.LineFault.TheVariants.{Help, Usage, Memory}
 use Rattle.tomex_line.specs.Grammar.{tomex_app}
@@ -21,6 +21,8 @@ IsCommand found (Pipeline line) =
 IsCommand found (Tables line) = (rows : List Row) × (found ≡ Some (codes "tables", rows)) × IsTablesAsked rows line.study.now line.config line.program.now line.cycle
 IsCommand found (All line) = (rows : List Row) × (found ≡ Some (codes "all", rows)) × IsAllAsked rows line.study.now
 IsCommand found (Explore line) = (rows : List Row) × (found ≡ Some (codes "explore", rows)) × IsExploreAsked rows line.study.now line.workers
+IsCommand found (Front line) = (rows : List Row) × (found ≡ Some (codes "front", rows)) × IsExploreAsked rows line.study.now line.workers
+IsCommand found (Plot line) = (rows : List Row) × (found ≡ Some (codes "plot", rows)) × IsExploreAsked rows line.study.now line.workers
 
 -- the words ask for this
 abbrev pub IsAsked : List Text → Line → Type 0

@@ -66,11 +66,20 @@ tables_shape = record (new_shape (codes "tables")) {
 abbrev pub all_shape : Shape
 all_shape = record (new_shape (codes "all")) { rules = word_rule (codes "STUDY") ∷ [] }
 
--- `explore STUDY [--workers N]`
-abbrev pub explore_shape : Shape
-explore_shape = record (new_shape (codes "explore")) {
+-- a command that explores a study: `NAME STUDY [--workers N]`
+abbrev pub exploring_shape : Text → Shape
+exploring_shape name = record (new_shape name) {
   rules = word_rule (codes "STUDY") ∷ option_rule (codes "workers") 1 32 (codes "1") ∷ [];
 }
+
+abbrev pub explore_shape : Shape
+explore_shape = exploring_shape (codes "explore")
+
+abbrev pub front_shape : Shape
+front_shape = exploring_shape (codes "front")
+
+abbrev pub plot_shape : Shape
+plot_shape = exploring_shape (codes "plot")
 
 -- the program before it has commands
 abbrev pub bare_app : App
@@ -80,5 +89,6 @@ bare_app = on_top (λ s. record s { has_version = true; subcommand_required = tr
 abbrev pub tomex_app : App
 tomex_app = record {
   top = record (new_shape (codes "tomex")) { has_version = true; is_leaf = false; subcommand_required = true };
-  subs = run_shape ∷ times_shape ∷ stalls_shape ∷ pipeline_shape ∷ tables_shape ∷ all_shape ∷ explore_shape ∷ [];
+  subs = run_shape ∷ times_shape ∷ stalls_shape ∷ pipeline_shape ∷ tables_shape ∷ all_shape ∷ explore_shape
+      ∷ front_shape ∷ plot_shape ∷ [];
 }

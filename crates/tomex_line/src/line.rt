@@ -13,7 +13,9 @@ ghost use Rattle.tomex_line.specs.declared.line.LineFault.TheVariants.{Memory};
 pub mod all;
 mod described;
 pub mod explore;
+mod front;
 pub mod pipeline;
+mod plot;
 pub mod run;
 pub mod stalls;
 pub mod tables;
@@ -42,6 +44,8 @@ pub enum Line<'a> {
     Tables(TablesLine<'a>),
     All(AllLine<'a>),
     Explore(ExploreLine<'a>),
+    Front(ExploreLine<'a>),
+    Plot(ExploreLine<'a>),
 }
 
 /// A command line that asks for no command.
@@ -98,6 +102,8 @@ Examples, in the folder `examples`:
   tomex tables study.toml 4 mul 3
   tomex all study.toml
   tomex explore explore.toml --workers 4
+  tomex front explore.toml --workers 4
+  tomex plot explore.toml --workers 4
 
 Numbers on the command line are decimal; in a study's TOML they may be
 hexadecimal too, as in 0x10000.";
@@ -124,7 +130,9 @@ fn grammar<'a>(alloc: Global) -> Result<Command<'a>, AllocError>
         .subcommand(pipeline::grammar(alloc)?)?
         .subcommand(tables::grammar(alloc)?)?
         .subcommand(all::grammar(alloc)?)?
-        .subcommand(explore::grammar(alloc)?)
+        .subcommand(explore::grammar(alloc)?)?
+        .subcommand(front::grammar(alloc)?)?
+        .subcommand(plot::grammar(alloc)?)
 }
 
 fn line_of<'a>(alloc: Global, matches: &ArgMatches<'a>) -> Result<Line<'a>, LineFault>
@@ -139,6 +147,8 @@ fn line_of<'a>(alloc: Global, matches: &ArgMatches<'a>) -> Result<Line<'a>, Line
         Some(("tables", inner)) => Ok(Line::Tables(tables::line_of(alloc, inner)?)),
         Some(("all", inner)) => Ok(Line::All(all::line_of(alloc, inner)?)),
         Some(("explore", inner)) => Ok(Line::Explore(explore::line_of(alloc, inner)?)),
+        Some(("front", inner)) => Ok(Line::Front(explore::line_of(alloc, inner)?)),
+        Some(("plot", inner)) => Ok(Line::Plot(explore::line_of(alloc, inner)?)),
         _ => Err(refused(alloc, "command")),
     }
 }

@@ -6,3 +6,4 @@ pub mod Records
 pub mod Machines
 pub mod Rows
 pub mod Loops
+pub mod Cycles

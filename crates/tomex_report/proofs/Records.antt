@@ -64,12 +64,6 @@ record_is wide row p e r f0 f1 f2 f3 f4 part name weight ranges program loaded i
     ∙ (ap (λ (x : List (List ℕ)). x ++ (p.name ∷ (if_wide wide (decimal p.weight) ++ end_fields p.watch e))) first ∙ ap (λ (x : List (List ℕ)). row_fields wide r row ++ x) (fields_are wide row p e program loaded is))
 
 -- what holds place by place holds of what is read at one
-pub at_both : {A B : Type 0} (Q : A → B → Type 0) (xs : List A) (ys : List B) (k : ℕ) (x : A) (y : B) → AllZip Q xs ys → k < length xs → x ≡ get_or xs k x → y ≡ get_or ys k y → Q x y
-at_both Q [] ys k x y h less e f = absurd (omega (arith, less))
-at_both Q (a ∷ xs) [] k x y h less e f = absurd h
-at_both Q (a ∷ xs) (b ∷ ys) zero x y h less e f = subst (λ z. Q x z) (sym f) (subst (λ z. Q z b) (sym e) h.0)
-at_both Q (a ∷ xs) (b ∷ ys) (suc k) x y h less e f = at_both Q xs ys k x y h.1 (omega (arith, less)) e f
-
 pub at_read : {A B : Type 0} (Q : A → B → Type 0) (xs : List A) (ys : List B) (k : ℕ) (d : A) (y : B) → AllZip Q xs ys → k < length xs → y ≡ get_or ys k y → Q (get_or xs k d) y
 at_read Q [] ys k d y h less f = absurd (omega (arith, less))
 at_read Q (a ∷ xs) [] k d y h less f = absurd h

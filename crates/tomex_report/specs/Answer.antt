@@ -1,14 +1,28 @@
--- From bytes to a report.
+-- From bytes to a report, and to what else shows a front.
 use Rattle.std.specs.Prelude.{◌≡◌, ℕ, List}
 use Rattle.tomex_sweep.specs.Study.{DesignSpace}
+use Rattle.tomex_fronts.specs.FrontTable.{front_table_of}
+use Rattle.tomex_fronts.specs.Plot.{front_picture_of}
 use Rattle.tomex_report.specs.Study.{IsStudyOf, IsStudyRefusal}
 use Rattle.tomex_report.specs.FrontReport.{report_of}
 use Rattle.tomex_report.specs.declared.answer_error.AnswerError.{AnswerError}
 use Rattle.tomex_report.specs.declared.answer_error.AnswerError.TheVariants.{Study, Sweep}
+use Rattle.tomex_report.specs.declared.front_view.FrontView.{FrontView}
+use Rattle.tomex_report.specs.declared.front_view.FrontView.TheVariants.{Report, Table, Picture}
 
 -- the bytes and the files stand for a study, and the text is its report
 abbrev pub IsAnswer : List ℕ → List (List ℕ) → List ℕ → Type 0
 IsAnswer bytes files text = (s : DesignSpace) × IsStudyOf bytes files s × (text ≡ report_of s)
+
+-- what the front of a study is shown as
+abbrev pub shown_as : FrontView → DesignSpace → List ℕ
+shown_as Report s = report_of s
+shown_as Table s = front_table_of s
+shown_as Picture s = front_picture_of s
+
+-- the bytes and the files stand for a study, and the text shows its front so
+abbrev pub IsShown : FrontView → List ℕ → List (List ℕ) → List ℕ → Type 0
+IsShown view bytes files text = (s : DesignSpace) × IsStudyOf bytes files s × (text ≡ shown_as view s)
 
 -- the study's own refusal; or it is a study, and memory or a thread was refused
 abbrev pub IsAnswerRefusal : List ℕ → List (List ℕ) → AnswerError → Type 0

@@ -4,37 +4,49 @@ ghost use Rattle.std.specs.Prelude.{◌≡◌, ◌≢◌, ◌≤◌, map, IfOk, 
 ghost use Rattle.tomex_sweep.specs.Front.{front_of_study};
 ghost use Rattle.tomex_sweep.specs.declared.outcome.SweepError.TheVariants.{Memory, Worker};
 ghost use Rattle.tomex_report.specs.declared.answer_error.AnswerError.TheVariants.{Sweep};
-ghost use Rattle.tomex_report.specs.Answer.{IsAnswer, IsAnswerRefusal};
+ghost use Rattle.tomex_report.specs.Answer.{IsAnswer, IsAnswerRefusal, IsShown, shown_as};
+ghost use Rattle.tomex_report.specs.Study.{IsStudyOf};
+ghost use Rattle.tomex_report.specs.declared.front_view.FrontView.TheVariants.{Table, Picture};
 ghost use Rattle.tomex_report.specs.FrontReport.{report_of};
 
 use crate::answer_error::AnswerError;
 use crate::front_text::front_report;
+use crate::front_view::{FrontView, cycles_by_program};
 use crate::replaying::replay;
 use crate::study::read_study;
 use std::alloc::{AllocError, Allocator, Global};
 use std::sync::Wait;
 use std::thread::Threads;
 use tomex_document::StudyError;
+use tomex_fronts::{front_picture, front_table};
 use tomex_sweep::{FrontRow, Gate, OpenGate, Study, SweepError, explore, run_all_under};
 
-/// The report of a study whose front is known.
-fn reported<R: Threads + Sync, A: Allocator + Clone + Send + Sync + Drop>(
+/// The front of a study, shown.
+fn shown<R: Threads + Sync, A: Allocator + Clone + Send + Sync + Drop>(
     rt: &R,
     alloc: A,
     heap: Global,
     study: &Study<A>,
     front: &[FrontRow],
+    view: FrontView,
 ) -> Result<Vec<u8, A>, AllocError>
     requires { front.now ≡ front_of_study study.now }
-    ensures { IfOk result (λ text. text.items ≡ report_of study.now) }
+    ensures { IfOk result (λ text. text.items ≡ shown_as view study.now) }
 {
+    if let FrontView::Picture = view {
+        return front_picture(alloc, heap, study, front);
+    }
     // Read for what the study's type keeps, which the proof needs.
     let _rows = study.rows();
     let ends = replay(rt, alloc.clone()?, study, front)?;
-    front_report(alloc, heap, study, front, ends.as_slice())
+    if let FrontView::Report = view {
+        return front_report(alloc, heap, study, front, ends.as_slice());
+    }
+    let cycles = cycles_by_program(alloc.clone()?, study, front, ends.as_slice())?;
+    front_table(alloc, heap, study, front, cycles.as_slice())
 }
 
-/// The report of a study, which workers explore.
+/// The front of a study, which workers explore, shown.
 fn explored<R: Threads + Wait + Sync, A: Allocator + Clone + Send + Sync + Drop, G: Gate + Sync>(
     rt: &R,
     alloc: A,
@@ -42,13 +54,34 @@ fn explored<R: Threads + Wait + Sync, A: Allocator + Clone + Send + Sync + Drop,
     study: &Study<A>,
     workers: usize,
     gate: &G,
+    view: FrontView,
 ) -> Result<Vec<u8, A>, SweepError>
     requires some_workers { 1 ≤ workers }
     requires few_workers { workers ≤ 32 }
-    ensures { IfOk result (λ text. text.items ≡ report_of study.now) }
+    ensures { IfOk result (λ text. text.items ≡ shown_as view study.now) }
 {
     let outcome = explore(rt, alloc.clone()?, study, workers, gate)?;
-    Ok(reported(rt, alloc, heap, study, outcome.front.as_slice())?)
+    Ok(shown(rt, alloc, heap, study, outcome.front.as_slice(), view)?)
+}
+
+/// The study that the bytes and the files stand for.
+fn studied<A: Allocator + Clone>(
+    alloc: &A,
+    heap: Global,
+    study: &[u8],
+    files: &[Vec<u8, A>],
+) -> Result<Study<A>, AnswerError>
+    ensures ok { IfOk result (λ read. IsStudyOf study.now (map (λ f. f.items) files.now) read) }
+    ensures err { IfErr result (λ e. IsAnswerRefusal study.now (map (λ f. f.items) files.now) e) }
+    ensures no_worker { IfErr result (λ e. e ≢ Sweep Worker) }
+{
+    let Ok(own) = alloc.clone() else {
+        return Err(AnswerError::Study(StudyError::Memory));
+    };
+    match read_study(own, heap, study, files) {
+        Ok(read) => Ok(read),
+        Err(error) => Err(AnswerError::Study(error)),
+    }
 }
 
 /// For every study whose programs end within the stated number of instructions, every list of
@@ -74,14 +107,60 @@ pub fn answer<R: Threads + Wait + Sync, A: Allocator + Clone + Send + Sync + Dro
     ensures ok { IfOk result (λ text. IsAnswer study.now (map (λ f. f.items) files.now) text.items) }
     ensures err { IfErr result (λ e. IsAnswerRefusal study.now (map (λ f. f.items) files.now) e) }
 {
-    let Ok(own) = alloc.clone() else {
-        return Err(AnswerError::Study(StudyError::Memory));
-    };
-    let read = match read_study(own, heap, study, files) {
-        Ok(read) => read,
-        Err(error) => return Err(AnswerError::Study(error)),
-    };
-    match explored(rt, alloc, heap, &read, workers, gate) {
+    let read = studied(&alloc, heap, study, files)?;
+    match explored(rt, alloc, heap, &read, workers, gate, FrontView::Report) {
+        Ok(text) => Ok(text),
+        Err(error) => Err(AnswerError::Sweep(error)),
+    }
+}
+
+/// The front of a study as a table. Refusals are those of `answer`.
+pub fn answer_table<
+    R: Threads + Wait + Sync,
+    A: Allocator + Clone + Send + Sync + Drop,
+    G: Gate + Sync,
+>(
+    rt: &R,
+    alloc: A,
+    heap: Global,
+    study: &[u8],
+    files: &[Vec<u8, A>],
+    workers: usize,
+    gate: &G,
+) -> Result<Vec<u8, A>, AnswerError>
+    requires some_workers { 1 ≤ workers }
+    requires few_workers { workers ≤ 32 }
+    ensures ok { IfOk result (λ text. IsShown Table study.now (map (λ f. f.items) files.now) text.items) }
+    ensures err { IfErr result (λ e. IsAnswerRefusal study.now (map (λ f. f.items) files.now) e) }
+{
+    let read = studied(&alloc, heap, study, files)?;
+    match explored(rt, alloc, heap, &read, workers, gate, FrontView::Table) {
+        Ok(text) => Ok(text),
+        Err(error) => Err(AnswerError::Sweep(error)),
+    }
+}
+
+/// The front of a study as a picture in SVG. Refusals are those of `answer`.
+pub fn answer_picture<
+    R: Threads + Wait + Sync,
+    A: Allocator + Clone + Send + Sync + Drop,
+    G: Gate + Sync,
+>(
+    rt: &R,
+    alloc: A,
+    heap: Global,
+    study: &[u8],
+    files: &[Vec<u8, A>],
+    workers: usize,
+    gate: &G,
+) -> Result<Vec<u8, A>, AnswerError>
+    requires some_workers { 1 ≤ workers }
+    requires few_workers { workers ≤ 32 }
+    ensures ok { IfOk result (λ text. IsShown Picture study.now (map (λ f. f.items) files.now) text.items) }
+    ensures err { IfErr result (λ e. IsAnswerRefusal study.now (map (λ f. f.items) files.now) e) }
+{
+    let read = studied(&alloc, heap, study, files)?;
+    match explored(rt, alloc, heap, &read, workers, gate, FrontView::Picture) {
         Ok(text) => Ok(text),
         Err(error) => Err(AnswerError::Sweep(error)),
     }
@@ -99,7 +178,7 @@ fn explored_whole<R: Threads + Sync, A: Allocator + Clone + Send + Sync + Drop, 
     ensures err { IfErr result (λ e. e ≡ Memory) }
 {
     let outcome = run_all_under(alloc.clone()?, study, gate)?;
-    Ok(reported(rt, alloc, heap, study, outcome.front.as_slice())?)
+    Ok(shown(rt, alloc, heap, study, outcome.front.as_slice(), FrontView::Report)?)
 }
 
 /// `answer_all` with a gate, which is told of worker 0 alone.
@@ -115,13 +194,7 @@ pub fn answer_all_under<R: Threads + Sync, A: Allocator + Clone + Send + Sync + 
     ensures err { IfErr result (λ e. IsAnswerRefusal study.now (map (λ f. f.items) files.now) e) }
     ensures no_worker { IfErr result (λ e. e ≢ Sweep Worker) }
 {
-    let Ok(own) = alloc.clone() else {
-        return Err(AnswerError::Study(StudyError::Memory));
-    };
-    let read = match read_study(own, heap, study, files) {
-        Ok(read) => read,
-        Err(error) => return Err(AnswerError::Study(error)),
-    };
+    let read = studied(&alloc, heap, study, files)?;
     match explored_whole(rt, alloc, heap, &read, gate) {
         Ok(text) => Ok(text),
         Err(error) => Err(AnswerError::Sweep(error)),

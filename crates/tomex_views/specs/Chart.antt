@@ -1,6 +1,6 @@
 -- The picture of some steps of a run: a line a step, with a column for each cycle.
 use Rattle.std.specs.Prelude.{◌≡◌, ℕ, ◌+◌, ◌-◌, ◌*◌, ◌<◌, ◌≤◌, ◌==◌, nat_le, nat_lt, ◌&&◌, if◌then◌else◌, List, [], ◌∷◌, ◌++◌, codes, drop, length, take, Option, Some, None}
-use Rattle.std.specs.List.{flat_map, range_with_len, repeat}
+use Rattle.std.specs.List.{flat_map, range_with_len}
 use Rattle.std.specs.Fmt.{decimal}
 use Rattle.tomex_rvdec.specs.Text.{instr_text}
 use Rattle.tomex_rvexec.specs.Steps.{is_number}
@@ -9,6 +9,7 @@ use Rattle.tomex_rvexec.specs.declared.step.Step.{Step}
 use Rattle.tomex_config.specs.Row.{Row}
 use Rattle.tomex_timing.specs.Search.{times_in, total_of}
 use Rattle.tomex_timing.specs.declared.times.Times.{Times}
+use Rattle.tomex_records.specs.Aligned.{right_aligned}
 use Rattle.tomex_views.specs.declared.lines.Frame.{Frame}
 use Rattle.tomex_views.specs.declared.picture_error.PictureError.{PictureError}
 use Rattle.tomex_views.specs.declared.picture_error.PictureError.TheVariants.{NoSuchStep, TooLarge, Memory}
@@ -47,10 +48,6 @@ sign_in at t = sign_at (stage_in at t)
 -- a step's chart: its signs from a cycle on, before another
 abbrev pub chart : Times → ℕ → ℕ → List ℕ
 chart at from until = flat_map (sign_in at) (range_with_len from (until - from))
-
--- a text behind as many spaces as it is short of the width
-abbrev pub right_aligned : ℕ → List ℕ → List ℕ
-right_aligned width text = repeat (width - length text) (codes " ") ++ text
 
 -- a step's line: its number, its chart, its address and its instruction
 unfoldable pub line_of : Frame → ℕ → Step → Times → List ℕ

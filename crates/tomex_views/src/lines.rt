@@ -1,13 +1,12 @@
 //! The lines of a picture.
 
-ghost use Rattle.std.specs.Prelude.{◌≡◌, ◌+◌, ◌<◌, ◌^◌, ◌++◌, codes, length, OnOk, string_bytes};
-ghost use Rattle.std.specs.Fmt.{decimal};
-ghost use Rattle.std.specs.List.{repeat};
-ghost use Rattle.tomex_views.specs.Chart.{chart, line_of, lines_of, right_aligned};
+ghost use Rattle.std.specs.Prelude.{◌≡◌, ◌+◌, ◌<◌, ◌^◌, ◌++◌, length, OnOk, string_bytes};
+ghost use Rattle.tomex_views.specs.Chart.{chart, line_of, lines_of};
 
 use crate::stage::sign_in;
 use std::alloc::{AllocError, Allocator, Global};
 use std::fmt::Write;
+use tomex_records::push_aligned_number;
 use tomex_rvexec::Step;
 use tomex_timing::Times;
 
@@ -20,33 +19,6 @@ pub struct Frame {
     pub first: u64,
     /// The cycle behind the last column.
     pub until: u64,
-}
-
-/// Adds spaces.
-fn push_spaces<A: Allocator>(text: &mut String<A>, count: usize) -> Result<(), AllocError>
-    ensures { OnOk result (string_bytes text.new ≡ string_bytes text.old ++ repeat count (codes " ")) }
-{
-    let mut left = count;
-    while left > 0 {
-        text.push_str(" ")?;
-        left -= 1;
-    }
-    Ok(())
-}
-
-/// Adds a number, right-aligned.
-fn push_number<A: Allocator>(
-    text: &mut String<A>,
-    scratch: &mut String,
-    number: u64,
-    width: usize,
-) -> Result<(), AllocError>
-    ensures { OnOk result (string_bytes text.new ≡ string_bytes text.old ++ right_aligned width (decimal number)) }
-{
-    scratch.clear();
-    write!(scratch, "{number}")?;
-    push_spaces(text, width.saturating_sub(scratch.as_bytes().len()))?;
-    text.push_str(scratch.as_str())
 }
 
 /// Adds a step's chart: its signs from a cycle on, before another.
@@ -77,7 +49,7 @@ fn push_line<A: Allocator>(
     ensures { OnOk result (string_bytes text.new ≡ string_bytes text.old ++ line_of frame.now number step.now at.now) }
 {
     let (pc, instr) = (step.pc, step.instr);
-    push_number(text, scratch, number, frame.digits)?;
+    push_aligned_number(text, scratch, frame.digits, number)?;
     text.push_str(" ")?;
     push_chart(text, at, frame.first, frame.until)?;
     write!(text, " {pc:08x} {instr}\n")?;

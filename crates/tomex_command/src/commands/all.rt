@@ -1,6 +1,7 @@
 //! What `all` prints.
 ghost use Rattle.std.specs.Prelude.{IfOk, IfErr};
 ghost use Rattle.tomex_command.specs.FrontLines.{IsFrontOf, IsAllFailure};
+ghost use Rattle.tomex_report.specs.declared.front_view.FrontView.TheVariants.{Report};
 
 use super::study::sources_in;
 use crate::failure::Failure;
@@ -25,7 +26,7 @@ pub fn text_of_all<
     files: &F,
     meter: &M,
 ) -> Result<Vec<u8, A>, Failure>
-    ensures text { IfOk result (λ text. IsFrontOf (F.file files.now) line.entry.study.now text.items) }
+    ensures text { IfOk result (λ text. IsFrontOf Report (F.file files.now) line.entry.study.now text.items) }
     ensures failure { IfErr result (λ failure. IsAllFailure (F.file files.now) line.entry.study.now failure) }
 {
     let sources = sources_in(alloc.clone()?, heap, files, line.study)?;

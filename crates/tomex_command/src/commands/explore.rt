@@ -1,19 +1,46 @@
-//! What `explore` prints.
-ghost use Rattle.std.specs.Prelude.{IfOk, IfErr};
+//! What the commands that explore a study print: its front, as a report, as a table or as a picture.
+ghost use Rattle.std.specs.Prelude.{◌≤◌, map, IfOk, IfErr};
+ghost use Rattle.tomex_report.specs.Answer.{IsAnswerRefusal, IsShown};
 ghost use Rattle.tomex_command.specs.FrontLines.{IsFrontOf, IsExploreFailure};
 
-use super::study::sources_in;
+use super::study::{Sources, sources_in};
 use crate::failure::Failure;
 use crate::metered::Metered;
 use std::alloc::{Allocator, Global};
 use std::sync::Wait;
 use std::thread::Threads;
 use tomex_line::ExploreLine;
-use tomex_report::answer;
+use tomex_report::{AnswerError, FrontView, answer, answer_picture, answer_table};
 use tomex_streams::{Files, Meter};
+use tomex_sweep::Gate;
 
-/// The text that `explore` prints.
-pub fn text_of_explore<
+/// The front of a study, which workers explore, shown.
+fn shown<R: Threads + Wait + Sync, A: Allocator + Clone + Send + Sync + Drop, G: Gate + Sync>(
+    rt: &R,
+    alloc: A,
+    heap: Global,
+    sources: &Sources<A>,
+    workers: usize,
+    gate: &G,
+    view: FrontView,
+) -> Result<Vec<u8, A>, AnswerError>
+    requires some_workers { 1 ≤ workers }
+    requires few_workers { workers ≤ 32 }
+    ensures ok { IfOk result (λ text.
+        IsShown view sources.now.study.items (map (λ bytes. bytes.items) sources.now.files.items) text.items) }
+    ensures err { IfErr result (λ e.
+        IsAnswerRefusal sources.now.study.items (map (λ bytes. bytes.items) sources.now.files.items) e) }
+{
+    let (study, files) = (sources.study.as_slice(), sources.files.as_slice());
+    match view {
+        FrontView::Report => answer(rt, alloc, heap, study, files, workers, gate),
+        FrontView::Table => answer_table(rt, alloc, heap, study, files, workers, gate),
+        FrontView::Picture => answer_picture(rt, alloc, heap, study, files, workers, gate),
+    }
+}
+
+/// The front of a study, shown: what `explore` prints, `front` and `plot`.
+pub fn text_of_front<
     R: Threads + Wait + Sync,
     F: Files,
     A: Allocator + Clone + Send + Sync + Drop,
@@ -25,15 +52,15 @@ pub fn text_of_explore<
     line: ExploreLine<'_>,
     files: &F,
     meter: &M,
+    view: FrontView,
 ) -> Result<Vec<u8, A>, Failure>
-    ensures text { IfOk result (λ text. IsFrontOf (F.file files.now) line.entry.study.now text.items) }
+    ensures text { IfOk result (λ text. IsFrontOf view (F.file files.now) line.entry.study.now text.items) }
     ensures failure { IfErr result (λ failure. IsExploreFailure (F.file files.now) line.entry.study.now failure) }
 {
     let sources = sources_in(alloc.clone()?, heap, files, line.study)?;
-    let (study, contents) = (sources.study.as_slice(), sources.files.as_slice());
     let workers = line.workers as usize;
     let gate = Metered::new(meter, u64::from(line.workers));
-    let report = answer(rt, alloc, heap, study, contents, workers, &gate);
+    let text = shown(rt, alloc, heap, &sources, workers, &gate, view);
     meter.clear();
-    Ok(report?)
+    Ok(text?)
 }

@@ -1,7 +1,7 @@
-//! `explore STUDY [--workers N]`
+//! `explore STUDY [--workers N]`, and what other commands that explore a study take.
 ghost use Rattle.std.specs.Prelude.{◌≡◌, ◌≤◌, IfOk, IfErr};
 ghost use Rattle.tomex_line.specs.Lines.{IsRefusal};
-ghost use Rattle.tomex_line.specs.Grammar.{explore_shape};
+ghost use Rattle.tomex_line.specs.Grammar.{explore_shape, exploring_shape};
 ghost use Rattle.clap.specs.Simple.{shape_of};
 ghost use Rattle.clap.specs.Words.{found_of};
 ghost use Rattle.clap.specs.Walk.{rows_of};
@@ -18,7 +18,7 @@ const WORKERS: Bounds = Bounds {
     greatest: 32,
 };
 
-/// A front report that was asked for, of rows that are given up where they can't be in the front.
+/// A front that was asked for, of rows that are given up where they can't be in it.
 #[derive(Clone, Copy, Debug)]
 pub struct ExploreLine<'a> {
     /// The name of the study's file, as written.
@@ -78,7 +78,18 @@ const WORKERS_HELP: &str = "How many workers share the configurations, from 1 to
 pub(super) fn grammar<'a>(alloc: Global) -> Result<Command<'a>, AllocError>
     ensures { IfOk result (λ c. shape_of c ≡ explore_shape) }
 {
-    let command = described(alloc, "explore", TEXTS);
+    exploring(alloc, "explore", TEXTS)
+}
+
+/// The command of that name, which explores a study.
+pub(super) fn exploring<'a>(
+    alloc: Global,
+    name: &'a str,
+    texts: Texts,
+) -> Result<Command<'a>, AllocError>
+    ensures { IfOk result (λ c. shape_of c ≡ exploring_shape name.entry.now) }
+{
+    let command = described(alloc, name, texts);
     let command = taking(command, word(alloc, "STUDY", STUDY_HELP))?;
     taking(
         command,

@@ -13,4 +13,6 @@ returns c =
     let four = c.in_ok-subcommand-4.ensures.shape (no_globals _ _ c.in_ok-grammar-4.ensures refl) ∙ ap₂ with_subcommand three c.in_ok-grammar-4.ensures in
     let five = c.in_ok-subcommand-5.ensures.shape (no_globals _ _ c.in_ok-grammar-5.ensures refl) ∙ ap₂ with_subcommand four c.in_ok-grammar-5.ensures in
     let six = c.in_ok-subcommand-6.ensures.shape (no_globals _ _ c.in_ok-grammar-6.ensures refl) ∙ ap₂ with_subcommand five c.in_ok-grammar-6.ensures in
-    IfOk-weaker c.subcommand-7.result _ _ (λ m h. h.shape (no_globals _ _ c.in_ok-grammar-7.ensures refl) ∙ ap₂ with_subcommand six c.in_ok-grammar-7.ensures) c.subcommand-7.ensures
+    let seven = c.in_ok-subcommand-7.ensures.shape (no_globals _ _ c.in_ok-grammar-7.ensures refl) ∙ ap₂ with_subcommand six c.in_ok-grammar-7.ensures in
+    let eight = c.in_ok-subcommand-8.ensures.shape (no_globals _ _ c.in_ok-grammar-8.ensures refl) ∙ ap₂ with_subcommand seven c.in_ok-grammar-8.ensures in
+    IfOk-weaker c.subcommand-9.result _ _ (λ m h. h.shape (no_globals _ _ c.in_ok-grammar-9.ensures refl) ∙ ap₂ with_subcommand eight c.in_ok-grammar-9.ensures) c.subcommand-9.ensures

@@ -1,7 +1,7 @@
 -- There is an end for each program.
 use Rattle.std.proofs.Common.{arith}
 use Rattle.std.proofs.lemmas.Slice.Zip.{AllZip-long}
-use Rattle.tomex_report.proofs.Records.{at_both}
+use Rattle.tomex_fronts.proofs.Zips.{at_both}
 use Rattle.tomex_report.proofs.front_text.put_programs.Goals as goal
 
 pub offset_bounds-ends-place : goal.offset_bounds-ends-place

@@ -1,6 +1,6 @@
 -- One record after the other.
 use Rattle.std.proofs.lemmas.Result.{on_ok_weaker}
-use Rattle.tomex_views.proofs.Pieces.{six_joined}
+use Rattle.tomex_records.proofs.Pieces.{six_joined}
 use Rattle.tomex_views.proofs.stalls.put_others.Goals as goal
 
 pub returns-clause-text : goal.returns-clause-text

@@ -2,7 +2,7 @@
 use Rattle.std.proofs.Common.{refl}
 use Rattle.tomex_timing.specs.Needs.{all_parts}
 use Rattle.tomex_views.specs.StallsReport.{part_record}
-use Rattle.tomex_views.proofs.Pieces.{next_piece}
+use Rattle.tomex_records.proofs.Pieces.{next_piece}
 use Rattle.tomex_views.proofs.stalls.put_parts.Goals as goal
 
 pub loop-part-preserved : goal.loop-part-preserved

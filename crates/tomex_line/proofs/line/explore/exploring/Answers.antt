@@ -1,8 +1,8 @@
--- The arguments of `explore`, one after the other.
+-- The arguments, one after the other.
 use Rattle.std.proofs.Common.{◌∙◌, ap, ap₂}
 use Rattle.std.proofs.lemmas.Result.{IfOk-weaker}
 use Rattle.clap.specs.Words.{App, with_rule}
-use Rattle.tomex_line.proofs.line.explore.grammar.Goals as goal
+use Rattle.tomex_line.proofs.line.explore.exploring.Goals as goal
 
 pub returns : goal.returns
 returns c =

@@ -2,7 +2,7 @@
 use Rattle.std.proofs.Common.{◌≡◌, ◌++◌, codes}
 use Rattle.std.specs.Prelude.{string_bytes}
 use Rattle.std.specs.List.{repeat}
-use Rattle.tomex_views.proofs.lines.push_spaces.Given as goal
+use Rattle.tomex_records.proofs.aligned.push_spaces.Given as goal
 
 abbrev pub invariant-loop-left : goal.invariant-loop-left
 invariant-loop-left g l =

@@ -1,0 +1,3 @@
+mod Tables
+pub mod Loops
+pub mod Zips

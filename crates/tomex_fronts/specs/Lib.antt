@@ -1,0 +1,4 @@
+pub mod Axes
+pub mod Plot
+pub mod Table
+pub mod FrontTable

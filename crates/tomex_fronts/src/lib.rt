@@ -1,0 +1,8 @@
+//! The front of a study for people: as a table, and as one picture.
+#![tactic(auto)]
+
+mod plot;
+mod table;
+
+pub use plot::front_picture;
+pub use table::front::front_table;

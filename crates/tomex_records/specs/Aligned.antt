@@ -1,0 +1,7 @@
+-- Texts that are aligned at their right.
+use Rattle.std.specs.Prelude.{ℕ, ◌-◌, List, ◌++◌, codes, length}
+use Rattle.std.specs.List.{repeat}
+
+-- a text behind as many spaces as it is short of the width
+abbrev pub right_aligned : ℕ → List ℕ → List ℕ
+right_aligned width text = repeat (width - length text) (codes " ") ++ text
