@@ -56,7 +56,15 @@ fn text_of<
         Line::Pipeline(line) => text_of_pipeline(alloc, heap, line, files),
         Line::Tables(line) => text_of_tables(alloc, heap, line, files),
         Line::All(line) => text_of_all(rt, alloc, heap, line, files, meter),
-        Line::Explore(line) => text_of_front(rt, alloc, heap, line, files, meter, FrontView::Report),
+        Line::Explore(line) => text_of_front(
+            rt,
+            alloc,
+            heap,
+            line,
+            files,
+            meter,
+            FrontView::Report,
+        ),
         Line::Front(line) => text_of_front(rt, alloc, heap, line, files, meter, FrontView::Table),
         Line::Plot(line) => text_of_front(rt, alloc, heap, line, files, meter, FrontView::Picture),
     }

@@ -178,7 +178,14 @@ fn explored_whole<R: Threads + Sync, A: Allocator + Clone + Send + Sync + Drop, 
     ensures err { IfErr result (λ e. e ≡ Memory) }
 {
     let outcome = run_all_under(alloc.clone()?, study, gate)?;
-    Ok(shown(rt, alloc, heap, study, outcome.front.as_slice(), FrontView::Report)?)
+    Ok(shown(
+        rt,
+        alloc,
+        heap,
+        study,
+        outcome.front.as_slice(),
+        FrontView::Report,
+    )?)
 }
 
 /// `answer_all` with a gate, which is told of worker 0 alone.

@@ -8,21 +8,21 @@ use Rattle.tomex_report.proofs.front_view.program_cycles.Goals as goal
 pub offset_bounds-programs-place : goal.offset_bounds-programs-place
 offset_bounds-programs-place g c =
     let within = has_end_at c.args.study.now c.args.front.now c.args.ends.now c.loop-end.end-index c.args.place c.args.program.now
-        c.end-item.result c.requires.ends c.requires.program c.loop-end-test.true c.end-item.is in
+    c.end-item.result c.requires.ends c.requires.program c.loop-end-test.true c.end-item.is in
     let same = ap length c.as_slice-programs.ensures.value in
     omega (arith, within, same)
 
 pub bounds-programs-place : goal.bounds-programs-place
 bounds-programs-place g c =
     let within = has_end_at c.args.study.now c.args.front.now c.args.ends.now c.loop-end.end-index c.args.place c.args.program.now
-        c.end-item.result c.requires.ends c.requires.program c.loop-end-test.true c.end-item.is in
+    c.end-item.result c.requires.ends c.requires.program c.loop-end-test.true c.end-item.is in
     let same = ap length c.as_slice-programs.ensures.value in
     omega (arith, within, same)
 
 pub bounds-programs-place-in-loop-end : goal.bounds-programs-place-in-loop-end
 bounds-programs-place-in-loop-end g c =
     let within = has_end_at c.args.study.now c.args.front.now c.args.ends.now c.loop-end.end-index c.args.place c.args.program.now
-        c.end-item.result c.requires.ends c.requires.program c.loop-end-test.true c.end-item.is in
+    c.end-item.result c.requires.ends c.requires.program c.loop-end-test.true c.end-item.is in
     let same = ap length c.as_slice-programs.ensures.value in
     omega (arith, within, same)
 
