@@ -1,6 +1,6 @@
 //! What goes into an exploration and what comes out of it: studies, which are read from a document and
-//! its programs' files, the front report of a study, the times report of a program on one row, and the
-//! text of a machine's tables.
+//! its programs' files, the front report of a study and what else shows its front, the times report of a
+//! program on one row, and the text of a machine's tables.
 #![tactic(auto)]
 
 mod answer_error;
@@ -32,4 +32,5 @@ pub use tables::tables_text;
 pub use times::times_report;
 pub use tomex_document::{Key, Place, StudyError, documents_have_a_grid, file_names};
 pub use tomex_fronts::{front_picture, front_table};
+pub use tomex_konata::{LogError, konata_text};
 pub use tomex_views::{PictureError, pipeline_text, stalls_by_pc, stalls_report};
