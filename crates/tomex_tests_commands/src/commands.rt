@@ -277,7 +277,7 @@ fn images_are_refused(rt: HostRuntime) -> Result<(), Fail> {
 }
 
 /// Lines that the parser refuses.
-static MISTAKEN: [&[&str]; 12] = [
+static MISTAKEN: [&[&str]; 15] = [
     &["tomex"],
     &["tomex", "jump"],
     &["tomex", "run"],
@@ -288,6 +288,9 @@ static MISTAKEN: [&[&str]; 12] = [
     &["tomex", "explore", "study", "--workers", "0"],
     &["tomex", "explore", "study", "--workers", "33"],
     &["tomex", "explore"],
+    &["tomex", "front"],
+    &["tomex", "front", "study", "--workers", "33"],
+    &["tomex", "plot", "study", "--workers", "0"],
     &["tomex", "all"],
     &["tomex", "all", "study", "--workers", "1"],
 ];

@@ -12,11 +12,11 @@ use tomex_samples::studies::{DROPPED, DROPPED_REPORT};
 use tomex_streams::{Meter, WriteFault, write_all_of};
 
 /// Two rows, of two alu stations and of one.
-const PRICED: &str = "[[program]]\nname = \"mul\"\nfile = \"mul.bin\"\n[prices]\nalu = 10\n\
+pub const PRICED: &str = "[[program]]\nname = \"mul\"\nfile = \"mul.bin\"\n[prices]\nalu = 10\n\
     [axes]\nalu = [2, 1]\n[[unit.mul]]\nlatency = 3\n";
 
 /// One row of two programs, the second of which watches its first word.
-const TWO: &str = "[[program]]\nname = \"mul\"\nfile = \"mul.bin\"\n\
+pub const TWO: &str = "[[program]]\nname = \"mul\"\nfile = \"mul.bin\"\n\
     [[program]]\nname = \"loop\"\nfile = \"loop.bin\"\nwatch = [[0, 4]]\n";
 
 const PRICED_REPORT: &str = front_report_of!(
@@ -37,7 +37,7 @@ macro_rules! with_wide_header {
 }
 
 /// The two rows of a program that counts three times.
-const WEIGHED: &str =
+pub const WEIGHED: &str =
     "[[program]]\nname = \"mul\"\nfile = \"mul.bin\"\nweight = 3\n[prices]\nalu = 10\n\
     [axes]\nalu = [2, 1]\n[[unit.mul]]\nlatency = 3\n";
 
@@ -70,7 +70,7 @@ const REPORT_OF_TWO: &str = front_report_of!(
 
 /// These words of a line, over a study and both programs' files, come to this status, output and telling, where
 /// the output takes so many bytes.
-fn explores_to<R: Abort + AllocGlobal + Threads + Wait + Sync>(
+pub fn explores_to<R: Abort + AllocGlobal + Threads + Wait + Sync>(
     rt: &R,
     words: &[&str],
     study: &[u8],

@@ -10,6 +10,8 @@ mod elf_images;
 #[cfg(test)]
 mod explorations;
 #[cfg(test)]
+mod fronts;
+#[cfg(test)]
 mod konata;
 #[cfg(test)]
 mod pipeline;

@@ -1,5 +1,6 @@
 //! The text of a run, and whole runs of the program, whose command line takes other memory, with memory refused.
 
+use super::fronts::{DROPPED_PICTURE, DROPPED_TABLE};
 use crate::commands::{PRODUCT_END, outcome_of, text_of};
 use crate::konata::PRODUCT_LOG;
 use crate::pipeline::ON_ONE_STATION;
@@ -151,6 +152,20 @@ fn of_each_command(rt: HostRuntime) -> Result<(), Fail> {
             dropped,
             DROPPED_REPORT,
             16,
+        ),
+        // All that, with columns of numbers and their names in place of the records.
+        (
+            ["tomex", "front", "study"].as_slice(),
+            dropped,
+            DROPPED_TABLE,
+            16,
+        ),
+        // The front is enough.
+        (
+            ["tomex", "plot", "study"].as_slice(),
+            dropped,
+            DROPPED_PICTURE,
+            14,
         ),
     ] {
         let granted = granted(&rt, words, files, output)?;
