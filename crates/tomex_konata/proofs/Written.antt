@@ -1,5 +1,5 @@
 -- Events in the order of their cycles, those of a cycle in the order of the steps, are written as the log.
-use Rattle.std.proofs.Common.{◌≡◌, ◌∙◌, ap, ap₂, sym, subst, refl, arith, inl, inr, ℕ, zero, suc, ◌+◌, ◌-◌, ◌≤◌, ◌==◌, Bool, cond, List, [], ◌∷◌, ◌++◌, append_assoc, map, Option, Some}
+use Rattle.std.proofs.Common.{◌≡◌, ◌∙◌, ap, ap₂, sym, subst, refl, arith, inl, inr, ℕ, zero, suc, ◌+◌, ◌-◌, ◌≤◌, ◌==◌, cond, List, [], ◌∷◌, ◌++◌, append_assoc, map, Option, Some}
 use Rattle.std.specs.Prelude.{count_by, nat_lt}
 use Rattle.std.specs.List.{filter, flat_map, list_any, slice_get}
 use Rattle.std.proofs.lemmas.Bool.{cases_Bool, cases_order, eq-eqb, ne_eqb, eqb-true, lt-ltb, le-ltb}
@@ -28,9 +28,6 @@ since_more : (t since : ℕ) (a b : List ℕ) → next_since since t (a ++ b) �
 since_more t since [] b = refl
 since_more t since (x ∷ a) [] = refl
 since_more t since (x ∷ a) (y ∷ b) = refl
-
-one : Bool → ℕ
-one b = cond b 1 0
 
 -- what goes out in a cycle has gone before the next
 gone_next : (t : ℕ) (es : List Entry) → gone_before t es + count_by (goes_out t) es ≡ gone_before (t + 1) es

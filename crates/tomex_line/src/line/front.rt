@@ -35,11 +35,11 @@ Examples, in the folder `examples`:
   tomex front study.toml
 
 prints
-  row  cost  cycles  alu  mul  mul_latency
-    2    50      13    1    1            5
-    6    60      11    1    1            3
-    0    75      10    2    1            5
-    4    85       8    2    1            3";
+  row  cost  cycles  alu  mul_latency  buses
+    2    50      13    1            6      1
+    6    60      11    2            6      1
+    0    75      10    1            3      1
+    4    85       8    2            3      1";
 
 const TEXTS: Texts = Texts {
     about: ABOUT,
