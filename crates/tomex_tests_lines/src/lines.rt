@@ -52,6 +52,8 @@ fn told(alloc: Global, line: &str) -> Result<String, AllocError> {
         Ok(Line::Explore(explore)) => {
             format!(in alloc; "explore {} {}", explore.study, explore.workers)
         }
+        Ok(Line::Front(front)) => format!(in alloc; "front {} {}", front.study, front.workers),
+        Ok(Line::Plot(plot)) => format!(in alloc; "plot {} {}", plot.study, plot.workers),
         Err(LineFault::Help(text)) => format!(in alloc; "help {text}"),
         Err(LineFault::Usage(text)) => format!(in alloc; "usage {text}"),
         Err(LineFault::Memory) => String::from_str(alloc, "memory"),
@@ -106,6 +108,10 @@ fn lines_are_read(rt: HostRuntime) -> Result<(), Fail> {
         ("all study.toml", "all study.toml"),
         ("explore study.toml", "explore study.toml 1"),
         ("explore --workers 32 a", "explore a 32"),
+        ("front a", "front a 1"),
+        ("front a --workers 2", "front a 2"),
+        ("plot a", "plot a 1"),
+        ("plot --workers=32 a", "plot a 32"),
         ("--help", "help Runs RV32IM programs"),
         ("-h", "help Runs RV32IM programs"),
         ("run --help", "help Runs an image"),
