@@ -11,13 +11,12 @@ use Rattle.tomex_timing.specs.declared.next.Marks.{Marks}
 use Rattle.tomex_timing.specs.declared.part.Waits.{Waits}
 use Rattle.tomex_timing.specs.declared.times.Done.{Done}
 use Rattle.tomex_timing.specs.declared.window.Facts.{Facts}
-use Rattle.tomex_timing.specs.declared.window.Live.{Live}
 use Rattle.tomex_timing.specs.declared.window.Latest.{Latest}
 use Rattle.tomex_timing.specs.History.{cycle_of, source_end, last_issue}
 use Rattle.tomex_timing.specs.Needs.{waits_of, lacks_branch, lacks_width, lacks_station, lacks_operand, lacks_address, lacks_memory, lacks_unit, issue_waits, start_waits}
 use Rattle.tomex_timing.specs.Recurrence.{IsLeast, IsTimed, AreTimed, are_branches_finished, can_issue, can_start, has_operands, are_conflicts_finished}
 use Rattle.tomex_timing.specs.Waiting.{clear_among, operands_from, marks_among, marks_from, waits_by}
-use Rattle.tomex_timing.specs.Window.{facts_of, recent, branch_finish, conflicts_with, is_finished_conflict, end_among, ready_from, IsKept}
+use Rattle.tomex_timing.specs.Window.{Live, facts_of, recent, branch_finish, conflicts_with, is_finished_conflict, end_among, ready_from, IsKept}
 use Rattle.tomex_timing.proofs.Bands.{band, none_of, is_in_band}
 use Rattle.tomex_timing.proofs.Windows.{AreClosed, all_recent, max_split, after_split, slot_split, branch_split, issue_agree, ready_split, source_agree}
 use Rattle.tomex_timing.proofs.Width.{issue_from as issue_after}

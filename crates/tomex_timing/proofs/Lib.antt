@@ -18,6 +18,9 @@ pub mod InUse
 pub mod Telling
 pub mod Serving
 pub mod Searching
+pub mod Reserving
+pub mod FreeStations
+pub mod UnderWay
 pub mod Windows
 pub mod Bands
 pub mod Charges

@@ -12,7 +12,6 @@ use Rattle.tomex_timing.specs.declared.part.Waits.{Waits}
 use Rattle.tomex_timing.specs.declared.times.Done.{Done}
 use Rattle.tomex_timing.specs.declared.times.Times.{Times}
 use Rattle.tomex_timing.specs.declared.window.Facts.{Facts}
-use Rattle.tomex_timing.specs.declared.window.Live.{Live}
 use Rattle.tomex_timing.specs.declared.window.Latest.{Latest}
 use Rattle.tomex_timing.specs.History.{greatest_end}
 use Rattle.tomex_timing.specs.Laws.{InReach}
@@ -20,7 +19,7 @@ use Rattle.tomex_timing.specs.Needs.{AreNeeds, waits_in, waits_of}
 use Rattle.tomex_timing.specs.Recurrence.{IsTimed, AreTimed}
 use Rattle.tomex_timing.specs.Search.{times_of, history}
 use Rattle.tomex_timing.specs.Waiting.{AreWithin, IsWithin, needs_after, taken_among, marks_among, waits_by}
-use Rattle.tomex_timing.specs.Window.{facts_of, IsKept, IsNext}
+use Rattle.tomex_timing.specs.Window.{Live, facts_of, IsKept, IsNext}
 use Rattle.tomex_timing.proofs.Bound.{in_reach, timed_by}
 use Rattle.tomex_timing.proofs.Histories.{are_timed, history_more, history_bound, length-history}
 use Rattle.tomex_timing.proofs.Needed.{needs_more, taken_is}

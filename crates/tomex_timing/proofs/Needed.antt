@@ -15,14 +15,13 @@ use Rattle.tomex_timing.specs.declared.part.Part.TheVariants.{Stations, Units, B
 use Rattle.tomex_timing.specs.declared.waiting.Taken.{Taken}
 use Rattle.tomex_timing.specs.declared.part.Waits.{Waits}
 use Rattle.tomex_timing.specs.declared.times.Done.{Done}
-use Rattle.tomex_timing.specs.declared.window.Live.{Live}
 use Rattle.tomex_timing.specs.declared.window.Latest.{Latest}
 use Rattle.tomex_timing.specs.History.{is_of, last_issue, greatest_end}
 use Rattle.tomex_timing.specs.Needs.{AreNeeds, need_of, no_need, peak, stalls, taken_by, waits_for, waits_of}
 use Rattle.tomex_timing.specs.Laws.{InReach}
 use Rattle.tomex_timing.specs.Recurrence.{IsTimed, AreTimed}
 use Rattle.tomex_timing.specs.Waiting.{need_after, needs_after, stations_after, units_after, taken_among, units_taken, nothing_needed}
-use Rattle.tomex_timing.specs.Window.{facts_of, recent, starts_in, sends_in, IsKept}
+use Rattle.tomex_timing.specs.Window.{Live, facts_of, recent, starts_in, sends_in, IsKept}
 use Rattle.tomex_timing.proofs.Limits.{pool_in, unit_in}
 use Rattle.tomex_timing.proofs.Orders.{dest_unit, reach, start_later, result_later}
 use Rattle.tomex_timing.proofs.Places.{same_unit}

@@ -8,11 +8,10 @@ use Rattle.tomex_rvdec.specs.declared.pool.UnitId.{UnitId}
 use Rattle.tomex_config.specs.Row.{Row, IsRow, stations_of, option_of}
 use Rattle.tomex_rvexec.specs.declared.step.ByteRange.{ByteRange}
 use Rattle.tomex_timing.specs.declared.window.Facts.{Facts}
-use Rattle.tomex_timing.specs.declared.window.Live.{Live}
 use Rattle.tomex_rvexec.specs.Steps.{is_in}
 use Rattle.tomex_timing.specs.History.{is_of}
 use Rattle.tomex_timing.specs.Recurrence.{IsLeast, shares_byte}
-use Rattle.tomex_timing.specs.Window.{IsBy, IsFirst, is_held_by, has_station_among, starts_in, has_unit_among, sends_in, has_bus_among, is_finished_conflict}
+use Rattle.tomex_timing.specs.Window.{Live, IsBy, IsFirst, is_held_by, has_station_among, starts_in, has_unit_among, sends_in, has_bus_among, is_finished_conflict}
 use Rattle.std.specs.List.{list_all}
 use Rattle.tomex_timing.proofs.Limits.{stations_low, units_low, buses_low}
 use Rattle.tomex_timing.proofs.Settled.{count_none}
@@ -49,44 +48,6 @@ found p from t n searching here = (
     | inr e ↦ rw e refl
   ],
 )
-
-pub station_after : (row : Row) (live : List Live) (pool : Option PoolId) (g t : ℕ) → IsRow row → All (IsBy g) live → g < t → has_station_among row live pool t ≡ true
-station_after row live None g t good h l = refl
-station_after row live (Some pool) g t good h l =
-    rw (count_none (is_held_by pool t) (IsBy g) (λ x by. and_right (is_in pool x.facts.pool) (nat_le t x.end) (lt-leb t x.end (omega (arith, by.end)))) live (recursion_from_All (IsBy g) live h))
-    (lt-ltb 0 (stations_of row pool) (stations_low row pool good))
-
-pub unit_after : (row : Row) (live : List Live) (unit : UnitId) (g t : ℕ) → IsRow row → All (IsBy g) live → g < t → has_unit_among row live unit t ≡ true
-unit_after row live unit g t good h l =
-    rw (count_none (starts_in unit t) (IsBy g) (λ x by. and_right (is_of unit x.facts.unit) (x.start == t) (ne_eqb x.start t (λ (e : x.start ≡ t). absurd (omega (arith, by.start))))) live (recursion_from_All (IsBy g) live h))
-    (lt-ltb 0 (option_of row unit).units (units_low row unit good))
-
-pub bus_after : (row : Row) (live : List Live) (g t : ℕ) → IsRow row → All (IsBy g) live → g < t → has_bus_among row live t ≡ true
-bus_after row live g t good h l =
-    rw (count_none (sends_in t) (IsBy g) (λ x by. and_right (is_some x.facts.dest) (x.end == t) (ne_eqb x.end t (λ (e : x.end ≡ t). absurd (omega (arith, by.end))))) live (recursion_from_All (IsBy g) live h))
-    (lt-ltb 0 row.buses (buses_low row good))
-
-shares_none : (a : Option ByteRange) → shares_byte a None ≡ false
-shares_none None = refl
-shares_none (Some a) = refl
-
--- what touches no memory conflicts with nothing
-no_conflicts : (f : Facts) (live : List Live) (t : ℕ) → f.bytes ≡ None → list_all (is_finished_conflict f t) live ≡ true
-no_conflicts f [] t e = refl
-no_conflicts f (l ∷ live) t e =
-    let s : shares_byte l.facts.bytes f.bytes ≡ false = rw e (shares_none l.facts.bytes) in
-    rw (s, no_conflicts f live t e) refl
-
-pub from_alone : (f : Facts) (live : List Live) (from : ℕ) → is_none f.bytes ≡ true → (t : ℕ) → nat_le from t ≡ (nat_le from t && list_all (is_finished_conflict f t) live)
-from_alone f live from e t = rw (no_conflicts f live t (is_none_is f.bytes e)) (and_one (nat_le from t))
-  where
-    is_none_is : (b : Option ByteRange) → is_none b ≡ true → b ≡ None
-    is_none_is None e = refl
-    is_none_is (Some b) e = absurd (cc)
-
-    and_one : (a : Bool) → a ≡ (a && true)
-    and_one true = refl
-    and_one false = refl
 
 -- a search from one cycle on, of a test that is as another from there on
 pub least_agree : (p q : ℕ → Bool) (a : ℕ) → ((t : ℕ) → p t ≡ q t) → IsLeast p a → IsLeast q a

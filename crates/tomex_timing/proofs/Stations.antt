@@ -7,12 +7,11 @@ use Rattle.std.proofs.lemmas.List.Sums.{sum_by-cons}
 use Rattle.tomex_rvdec.specs.declared.pool.PoolId.{PoolId}
 use Rattle.tomex_config.specs.Row.{Row, stations_of}
 use Rattle.tomex_timing.specs.declared.times.Done.{Done}
-use Rattle.tomex_timing.specs.declared.window.Live.{Live}
 use Rattle.tomex_rvexec.specs.Steps.{is_number}
 use Rattle.tomex_timing.specs.Station.{is_held, has_station, is_free}
 use Rattle.tomex_timing.specs.Recurrence.{IsLeast}
 use Rattle.tomex_timing.specs.Search.{first_from, least}
-use Rattle.tomex_timing.specs.Window.{is_held_by, has_station_among, is_free_among}
+use Rattle.tomex_timing.specs.Window.{Live, is_held_by, has_station_among, is_free_among}
 use Rattle.tomex_timing.proofs.Least.{fails_more}
 
 -- a bounded search finds the least, or there is none below the bound

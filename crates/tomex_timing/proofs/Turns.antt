@@ -13,12 +13,11 @@ use Rattle.tomex_config.specs.Row.{Row, IsRow}
 use Rattle.tomex_timing.specs.declared.times.Done.{Done}
 use Rattle.tomex_timing.specs.declared.times.Times.{Times}
 use Rattle.tomex_timing.specs.declared.window.Facts.{Facts}
-use Rattle.tomex_timing.specs.declared.window.Live.{Live}
 use Rattle.tomex_timing.specs.declared.window.Latest.{Latest}
 use Rattle.tomex_timing.specs.History.{last_issue, greatest_end}
 use Rattle.tomex_timing.specs.Recurrence.{IsTimed, AreTimed}
 use Rattle.tomex_timing.specs.Search.{times_of, history, times_in}
-use Rattle.tomex_timing.specs.Window.{live_of, live_from, facts_of, recent, IsBy, IsKept, IsNext, IsSettled, branch_finish, nothing_yet, latest_after}
+use Rattle.tomex_timing.specs.Window.{Live, live_of, live_from, facts_of, recent, IsBy, IsKept, IsNext, IsSettled, branch_finish, nothing_yet, latest_after}
 use Rattle.tomex_timing.specs.Laws.{InReach}
 use Rattle.tomex_timing.proofs.Bound.{in_reach, timed_by}
 use Rattle.tomex_timing.proofs.Histories.{are_timed, history_more, times_more, history_bound, length-history}

@@ -17,12 +17,11 @@ use Rattle.tomex_rvexec.specs.declared.step.Step.{Step}
 use Rattle.tomex_config.specs.Row.{Row, IsRow, option_of}
 use Rattle.tomex_timing.specs.declared.times.Done.{Done}
 use Rattle.tomex_timing.specs.declared.times.Times.{Times}
-use Rattle.tomex_timing.specs.declared.window.Live.{Live}
 use Rattle.tomex_timing.specs.declared.window.Latest.{Latest}
 use Rattle.tomex_timing.specs.History.{is_of, is_memory, cycle_of, writer_end, source_end, last_issue, last_address, greatest_end}
 use Rattle.tomex_timing.specs.Station.{has_station, is_free}
 use Rattle.tomex_timing.specs.Recurrence.{IsLeast, IsTimed, AreTimed, can_issue, can_address, can_start, can_end, has_slot, are_branches_finished}
-use Rattle.tomex_timing.specs.Window.{facts_of, live_of, recent, is_held_by, has_station_among, is_free_among, branch_finish, is_finished_conflict, starts_in, may_start, sends_in, has_bus_among, IsFirst, end_among, IsNext, IsKept, written_by, addressed_by, latest_after}
+use Rattle.tomex_timing.specs.Window.{Live, facts_of, live_of, recent, is_held_by, has_station_among, is_free_among, branch_finish, is_finished_conflict, starts_in, may_start, sends_in, has_bus_among, IsFirst, end_among, IsNext, IsKept, written_by, addressed_by, latest_after}
 use Rattle.tomex_timing.specs.Laws.{InReach}
 use Rattle.tomex_timing.proofs.Bound.{in_reach, timed_by}
 use Rattle.tomex_timing.proofs.Limits.{latency_low, width_low}

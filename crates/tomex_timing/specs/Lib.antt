@@ -6,4 +6,5 @@ pub mod Needs
 pub mod Tables
 pub mod Window
 pub mod Waiting
+pub mod Ahead
 pub mod Laws

@@ -16,10 +16,9 @@ use Rattle.tomex_timing.specs.declared.part.Waits.{Waits}
 use Rattle.tomex_timing.specs.declared.times.Times.{Times}
 use Rattle.tomex_timing.specs.declared.waiting.Taken.{Taken}
 use Rattle.tomex_timing.specs.declared.window.Facts.{Facts}
-use Rattle.tomex_timing.specs.declared.window.Live.{Live}
 use Rattle.tomex_timing.specs.declared.window.Latest.{Latest}
 use Rattle.tomex_timing.specs.Needs.{no_need, need_of, stations_up_to}
-use Rattle.tomex_timing.specs.Window.{facts_of, live_from, issue_from, conflicts_with, starts_in, sends_in, end_among, ready_from}
+use Rattle.tomex_timing.specs.Window.{Live, facts_of, live_from, issue_from, conflicts_with, starts_in, sends_in, end_among, ready_from}
 
 -- the first cycle from this one on that is later than the finish of each conflicting access
 abbrev pub clear_among : Facts → List Live → ℕ → ℕ

@@ -1,6 +1,6 @@
--- What the evaluator keeps of a history: the steps that may still be in the way of a next one, and what
--- is latest. Its tests are those of the recurrence over what is kept.
-use Rattle.std.specs.Prelude.{ℕ, ◌-◌, ◌+◌, ◌<◌, ◌≤◌, ◌≡◌, ◌==◌, nat_lt, nat_le, Bool, true, not, ◌&&◌, ◌||◌, if◌then◌else◌, List, [], ◌∷◌, ◌++◌, Option, Some, None, slice_index, slice_set, replicate, max, length, is_some, count_by, MatchOption, All}
+-- What matters of a history to a next step: the steps that may still be in its way, and what is latest. The tests are
+-- those of the recurrence over these.
+use Rattle.std.specs.Prelude.{ℕ, ◌-◌, ◌+◌, ◌<◌, ◌≤◌, ◌≡◌, ◌==◌, nat_lt, nat_le, Bool, true, not, ◌&&◌, ◌||◌, if◌then◌else◌, List, [], ◌∷◌, ◌++◌, Option, Some, None, slice_index, slice_set, replicate, max, length, is_some, count_by, MatchOption, IfSome, All}
 use Rattle.std.specs.Bool.{MatchBool}
 use Rattle.std.specs.List.{list_all}
 use Rattle.tomex_rvdec.specs.declared.pool.PoolId.{PoolId}
@@ -13,20 +13,39 @@ use Rattle.tomex_config.specs.Row.{Row, stations_of, option_of}
 use Rattle.tomex_timing.specs.declared.times.Done.{Done}
 use Rattle.tomex_timing.specs.declared.times.Times.{Times}
 use Rattle.tomex_timing.specs.declared.window.Facts.{Facts}
-use Rattle.tomex_timing.specs.declared.window.Live.{Live}
 use Rattle.tomex_timing.specs.declared.window.Latest.{Latest}
 use Rattle.tomex_timing.specs.History.{is_of, cycle_of, last_issue, last_address, writer_end, greatest_end}
 use Rattle.tomex_timing.specs.Recurrence.{IsLeast, shares_byte}
+
+abbrev pub register_of : Option Operand → Option ℕ
+register_of None = None
+register_of (Some o) = Some o.register
 
 abbrev pub facts_of : Step → Facts
 facts_of s = record {
   pool = step_pool s;
   unit = step_unit s;
   dest = step_dest s;
+  j = register_of (j_of s);
+  k = register_of (k_of s);
   bytes = bytes_of s;
   is_store = is_store s;
   is_branch = is_branch s;
 }
+
+-- the registers are the machine's
+pub record HasRegisters (f : Facts) : Type 0 where
+  pub dest : IfSome f.dest (λ r. r < 32)
+  pub j : IfSome f.j (λ r. r < 32)
+  pub k : IfSome f.k (λ r. r < 32)
+
+-- a step whose times are known, as long as it may be in the way of younger ones
+pub record Live : Type 0 where
+  pub facts : Facts
+  pub start : ℕ
+  pub finish : ℕ
+  pub end : ℕ
+  pub station : Option ℕ
 
 abbrev pub live_from : Facts → Times → Live
 live_from f at = record { facts = f; start = at.start; finish = at.finish; end = at.end; station = at.station }

@@ -7,13 +7,14 @@
 //! stations and registers show after a cycle.
 #![tactic(auto)]
 
-mod counting;
+mod accesses;
 pub mod evaluate;
+mod free_stations;
 mod laws;
 mod needs;
 mod next;
 mod part;
-mod searches;
+mod reservation_table;
 mod tables;
 mod times;
 mod waiting;

@@ -1,22 +1,20 @@
 //! The times of the next step, by what is kept of those before.
 
-ghost use Rattle.std.specs.Prelude.{◌≡◌, ℕ, ◌+◌, ◌-◌, ◌^◌, ◌<◌, ◌≤◌, true, Some, None, max, is_some, slice_index, MatchOption, All};
-ghost use Rattle.std.specs.Bool.{MatchBool};
-ghost use Rattle.std.specs.Option.{ForSome};
-ghost use Rattle.tomex_rvexec.specs.Steps.{step_pool, step_unit, step_dest, j_of, k_of};
-ghost use Rattle.tomex_config.specs.Row.{IsRow};
+ghost use Rattle.std.specs.Prelude.{◌≡◌, ℕ, ◌+◌, ◌-◌, ◌^◌, ◌<◌, ◌≤◌, None, max, IfSome};
+ghost use Rattle.tomex_config.specs.Row.{IsRow, option_of};
+ghost use Rattle.tomex_rvdec.specs.Parts.{place_of_unit};
+ghost use Rattle.tomex_timing.specs.Ahead.{IsNextBy, IsSettledBy, TakesBus, TakesStation, bus_line, end_at, end_in, taken_at};
 ghost use Rattle.tomex_timing.specs.History.{cycle_of};
-ghost use Rattle.tomex_timing.specs.Recurrence.{IsLeast};
-ghost use Rattle.tomex_timing.specs.Waiting.{clear_among, marks_among, units_taken, buses_taken};
-ghost use Rattle.tomex_timing.specs.Window.{IsBy, IsSettled, IsNext, IsFirst, facts_of, issue_from, may_start, has_station_among, has_bus_among, is_free_among, end_among, ready_from, address_among};
+ghost use Rattle.tomex_timing.specs.Window.{HasRegisters, address_among, is_memory_pool, issue_from, ready_from};
 
-use crate::counting::{is_in, past_conflicts};
-use crate::searches::{Room, find_end, find_issue, find_start, find_station};
+use crate::accesses::past_conflicts;
+use crate::reservation_table::{BUSES, ReservationTable, Room};
+use crate::free_stations::Stations;
 use crate::times::Times;
-use crate::window::{Facts, Latest, Live};
+use crate::window::{Facts, Latest, Window};
+use std::alloc::Allocator;
 use tomex_config::Config;
-use tomex_rvdec::{PoolId, UnitId};
-use tomex_rvexec::{Operand, Step};
+use tomex_rvdec::PoolId;
 
 /// The cycles from which on a next step lacks one thing less. Without a unit it lacks nothing from its
 /// issue on.
@@ -41,14 +39,14 @@ pub(crate) struct Next {
     pub buses: u64,
 }
 
-/// The end of an operand's producer, 0 where there is none.
-fn end_of(latest: &Latest, operand: Option<Operand>) -> u64
-    requires register { ForSome operand (λ o. o.register < 32) }
-    ensures { result ≡ end_among latest.now.ends operand }
+/// The end of the producer of what a register holds, 0 without a register.
+fn end_of(latest: &Latest, register: Option<u8>) -> u64
+    requires { IfSome register (λ r. r < 32) }
+    ensures { result ≡ end_in latest.now.ends register }
 {
-    match operand {
+    match register {
         None => 0,
-        Some(operand) => latest.ends[operand.register as usize],
+        Some(register) => latest.ends[register as usize],
     }
 }
 
@@ -59,6 +57,7 @@ fn issue_from(row: &Config, latest: &Latest) -> u64
     requires branch { latest.now.branch ≤ latest.now.end }
     requires small { latest.now.end < 2 ^ 63 }
     ensures from { result ≡ issue_from row.now latest.now }
+    ensures later { latest.now.issue ≤ result }
     ensures by { result ≤ latest.now.end + 1 }
 {
     let from = if latest.issued < u64::from(row.width()) {
@@ -67,6 +66,32 @@ fn issue_from(row: &Config, latest: &Latest) -> u64
         latest.issue + 1
     };
     from.max(latest.branch + 1)
+}
+
+/// The cycle of a step's issue, and the station that it takes, if it takes one.
+#[inline(always)]
+fn station_of(
+    row: &Config,
+    stations: &Stations,
+    pool: Option<PoolId>,
+    from: u64,
+    bound: u64,
+) -> (u64, Option<u8>)
+    requires stations { (p : PoolId) (n : ℕ) → n < 16 → end_at stations.now.ends p n ≤ bound }
+    requires from { from ≤ bound + 1 }
+    requires small { bound < 2 ^ 63 }
+    ensures takes { TakesStation row.now stations.now.ends pool from result.0 result.1 }
+    ensures from { from ≤ result.0 }
+    ensures by { result.0 ≤ bound + 1 }
+    ensures number { IfSome result.1 (λ n. n < 16) }
+{
+    match pool {
+        None => (from, None),
+        Some(pool) => {
+            let free = stations.first(pool, row.stations(pool), from);
+            (free.cycle, Some(free.number))
+        }
+    }
 }
 
 /// The cycle in which a load or store computes its address, from the end of its base's producer.
@@ -78,10 +103,9 @@ fn address_of(latest: &Latest, pool: Option<PoolId>, base: u64, issue: u64) -> O
     ensures cycle { result ≡ address_among latest.now pool base issue }
     ensures by { cycle_of result ≤ latest.now.end + 2 }
 {
-    if is_in(PoolId::Load, pool) || is_in(PoolId::Store, pool) {
-        Some(issue.max(base).max(latest.address) + 1)
-    } else {
-        None
+    match pool {
+        Some(PoolId::Load | PoolId::Store) => Some(issue.max(base).max(latest.address) + 1),
+        _ => None,
     }
 }
 
@@ -96,59 +120,28 @@ fn ready_of(issue: u64, address: Option<u64>, j: u64, k: u64) -> u64
     issue.max(address.unwrap_or(0)).max(j.max(k)) + 1
 }
 
-/// The first cycle of an operation that is ready without an older access in its way, and its start.
-fn start_of(
-    row: &Config,
-    live: &[Live],
-    facts: &Facts,
-    unit: UnitId,
-    ready: u64,
-    bound: u64,
-) -> (u64, Room)
-    requires row { IsRow row.now }
-    requires live { All (IsBy bound) live.now }
-    requires ready { ready ≤ bound + 3 }
-    requires small { bound < 2 ^ 63 }
-    ensures clear { result.0 ≡ clear_among facts.now live.now ready }
-    ensures least { IsLeast (may_start row.now ready live.now facts.now unit) result.1.cycle }
-    ensures taken { result.1.taken ≡ units_taken live.now (Some unit) result.1.cycle }
-    ensures by { result.1.cycle ≤ bound + 3 }
-{
-    let clear = past_conflicts(live, facts, ready, bound);
-    (clear, find_start(row, live, unit, clear, bound))
-}
-
 /// The end of a step that finishes.
-fn end_after(row: &Config, live: &[Live], dest: Option<u8>, finish: u64, bound: u64) -> Room
-    requires row { IsRow row.now }
-    requires live { All (IsBy bound) live.now }
+#[inline(always)]
+fn end_after<A: Allocator>(
+    row: &Config,
+    table: &ReservationTable<A>,
+    dest: Option<u8>,
+    finish: u64,
+    bound: u64,
+) -> Room
+    requires ahead { table.now.base ≤ finish }
+    requires quiet { (t : ℕ) → bound < t → taken_at table.now bus_line t ≡ 0 }
     requires finish { finish ≤ bound + 66 }
     requires small { bound < 2 ^ 63 }
-    ensures least { MatchBool (is_some dest)
-        (IsFirst (finish + 1) (has_bus_among row.now live.now) result.cycle)
-        (result.cycle ≡ finish) }
-    ensures taken { result.taken ≡ buses_taken live.now dest result.cycle }
+    ensures { TakesBus row.now table.now dest finish result.cycle result.taken }
 {
     if dest.is_some() {
-        find_end(row, live, finish + 1, bound)
+        table.first(BUSES, row.buses(), finish + 1, bound)
     } else {
         Room {
             cycle: finish,
             taken: 0,
         }
-    }
-}
-
-/// The station of a step that takes one.
-fn station_of(row: &Config, live: &[Live], pool: Option<PoolId>, issue: u64) -> Option<u8>
-    requires row { IsRow row.now }
-    requires left { has_station_among row.now live.now pool issue ≡ true }
-    ensures least { MatchOption pool (result ≡ None)
-        (λ p. (n : ℕ) × (result ≡ Some n) × IsLeast (is_free_among p live.now issue) n) }
-{
-    match pool {
-        None => None,
-        Some(pool) => Some(find_station(row, live, pool, issue)),
     }
 }
 
@@ -189,38 +182,27 @@ fn without_unit(from: u64, issue: u64, address: Option<u64>, station: Option<u8>
 /// The next step.
 // Inlined, as are the other calls of the loops over a run's steps: what a loop doesn't use isn't made.
 #[inline(always)]
-pub(crate) fn next_step(
-    row: &Config,
-    live: &[Live],
-    latest: &Latest,
-    step: &Step,
-    facts: &Facts,
-) -> Next
-    requires row { IsRow row.now }
-    requires facts { facts.now ≡ facts_of step.now }
-    requires settled { IsSettled live.now latest.now }
-    requires small { latest.now.end < 2 ^ 63 }
-    ensures next { IsNext row.now live.now latest.now step.now result.at }
-    ensures marks { result.marks ≡ marks_among row.now live.now latest.now step.now result.at }
-    ensures units { result.units ≡ units_taken live.now (step_unit step.now) result.at.start }
-    ensures buses { result.buses ≡ buses_taken live.now (step_dest step.now) result.at.end }
-    ensures j { ForSome (j_of step.now) (λ o. o.register < 32) }
-    ensures k { ForSome (k_of step.now) (λ o. o.register < 32) }
+pub(crate) fn next_step<A: Allocator>(row: &Config, window: &Window<A>, facts: &Facts) -> Next
+    requires registers { HasRegisters facts.now }
+    requires settled { IsSettledBy window.now.latest window.now.table window.now.stations.ends window.now.accesses.items }
+    requires small { window.now.latest.end < 2 ^ 63 }
+    ensures { IsNextBy row.now window.now.latest window.now.table window.now.stations.ends window.now.accesses.items facts.now result }
 {
-    let j = end_of(latest, step.j());
-    let k = end_of(latest, step.k());
+    let latest = &window.latest;
+    let j = end_of(latest, facts.j);
+    let k = end_of(latest, facts.k);
     let from = issue_from(row, latest);
-    let issue = find_issue(row, live, facts.pool, from, latest.end);
+    let (issue, station) = station_of(row, &window.stations, facts.pool, from, latest.end);
     let address = address_of(latest, facts.pool, j, issue);
-    let station = station_of(row, live, facts.pool, issue);
     let Some(unit) = facts.unit else {
         return without_unit(from, issue, address, station);
     };
     let operands = issue.max(j.max(k)) + 1;
     let ready = ready_of(issue, address, j, k);
-    let (clear, start) = start_of(row, live, facts, unit, ready, latest.end);
+    let clear = past_conflicts(&window.accesses, facts, ready, latest.end);
+    let start = window.table.first(unit.place(), row.units(unit), clear, latest.end);
     let finish = start.cycle + u64::from(row.latency(unit)) - 1;
-    let end = end_after(row, live, facts.dest, finish, latest.end);
+    let end = end_after(row, &window.table, facts.dest, finish, latest.end);
     Next {
         at: Times {
             issue,

@@ -1,33 +1,31 @@
-//! What the evaluator keeps of the steps before: those that may still be in the way of a next one,
-//! and what is latest.
+//! What the evaluator keeps of the steps before: what is latest, and what may still be in the way of a next one.
 
-ghost use Rattle.std.specs.Prelude.{◌≡◌, ◌<◌, ◌^◌, IfSome};
+ghost use Rattle.std.specs.Prelude.{◌≡◌, ◌<◌, ◌≤◌, ◌^◌, [], replicate, IfOk, IfSome, MatchOption};
 ghost use Rattle.std.specs.Option.{ForSome};
-ghost use Rattle.tomex_timing.specs.Window.{facts_of, live_from, nothing_yet, latest_after};
+ghost use Rattle.tomex_rvdec.specs.Parts.{place_of_unit};
+ghost use Rattle.tomex_timing.specs.Ahead.{IsTableAfter, accesses_after, bus_line, ends_after, taken_at};
+ghost use Rattle.tomex_timing.specs.Window.{facts_of, register_of, HasRegisters, nothing_yet, latest_after};
 
+use crate::accesses::Access;
+use crate::reservation_table::{BUSES, ReservationTable};
+use crate::free_stations::Stations;
 use crate::times::Times;
+use std::alloc::{AllocError, Allocator};
 use tomex_rvdec::{PoolId, UnitId};
-use tomex_rvexec::{ByteRange, Step};
+use tomex_rvexec::{ByteRange, Operand, Step};
 
 /// What the recurrence reads of a step, taken from its instruction once.
-#[derive(Clone, Copy)]
-pub(crate) struct Facts {
+#[derive(Clone, Copy, Debug, PartialEq, Eq)]
+pub struct Facts {
     pub pool: Option<PoolId>,
     pub unit: Option<UnitId>,
     pub dest: Option<u8>,
+    /// The registers of its operands.
+    pub j: Option<u8>,
+    pub k: Option<u8>,
     pub bytes: Option<ByteRange>,
     pub is_store: bool,
     pub is_branch: bool,
-}
-
-/// A step whose times are known, as long as it may be in the way of younger ones.
-#[derive(Clone, Copy)]
-pub(crate) struct Live {
-    pub facts: Facts,
-    pub start: u64,
-    pub finish: u64,
-    pub end: u64,
-    pub station: Option<u8>,
 }
 
 /// The latest of each kind of cycle so far, 0 where there is none.
@@ -45,33 +43,43 @@ pub(crate) struct Latest {
     pub end: u64,
 }
 
+/// All that is kept. No list of steps is: each question about them is a look at one of these.
+#[derive(Drop)]
+pub(crate) struct Window<A: Allocator> {
+    pub latest: Latest,
+    /// The units and buses that are taken.
+    pub table: ReservationTable<A>,
+    pub stations: Stations,
+    /// The loads and stores that may not have finished yet.
+    pub accesses: Vec<Access, A>,
+}
+
+fn register_of(operand: Option<Operand>) -> Option<u8>
+    requires { ForSome operand (λ o. o.register < 32) }
+    ensures value { result ≡ register_of operand }
+    ensures register { IfSome result (λ r. r < 32) }
+{
+    match operand {
+        None => None,
+        Some(operand) => Some(operand.register),
+    }
+}
+
 impl Facts {
     #[inline(always)]
     pub fn of(step: &Step) -> Facts
         ensures facts { result ≡ facts_of step.now }
-        ensures register { IfSome result.dest (λ r. r < 32) }
+        ensures registers { HasRegisters result }
     {
         Facts {
             pool: step.pool(),
             unit: step.unit(),
             dest: step.dest(),
+            j: register_of(step.j()),
+            k: register_of(step.k()),
             bytes: step.bytes(),
             is_store: step.is_store(),
             is_branch: step.is_branch(),
-        }
-    }
-}
-
-impl Live {
-    pub fn new(facts: Facts, at: &Times) -> Live
-        ensures { result ≡ live_from facts at.now }
-    {
-        Live {
-            facts,
-            start: at.start,
-            finish: at.finish,
-            end: at.end,
-            station: at.station,
         }
     }
 }
@@ -92,8 +100,9 @@ impl Latest {
     }
 
     /// Notes a step with its times.
+    #[inline(always)]
     pub fn note(&mut self, facts: &Facts, at: &Times)
-        requires register { ForSome facts.now.dest (λ r. r < 32) }
+        requires register { IfSome facts.now.dest (λ r. r < 32) }
         requires few { self.old.issued < 2 ^ 63 }
         ensures { self.new ≡ latest_after facts.now at.now self.old }
     {
@@ -113,5 +122,91 @@ impl Latest {
             self.address = cycle;
         }
         self.end = at.end.max(self.end);
+    }
+}
+
+/// Notes what a step takes in the cycles ahead: a unit as it starts, and a bus as its result ends.
+#[inline(always)]
+fn reserve<A: Allocator>(
+    table: &mut ReservationTable<A>,
+    facts: &Facts,
+    at: &Times,
+) -> Result<(), AllocError>
+    requires base { table.old.base ≤ at.now.issue }
+    requires start { at.now.issue ≤ at.now.start }
+    requires end { at.now.issue ≤ at.now.end }
+    requires units { IfSome facts.now.unit (λ unit. taken_at table.old (place_of_unit unit) at.now.start < 255) }
+    requires buses { IfSome facts.now.unit (λ _. IfSome facts.now.dest (λ _. taken_at table.old bus_line at.now.end < 255)) }
+    ensures { IfOk result (λ _. IsTableAfter facts.now at.now table.old table.new) }
+{
+    if let Some(unit) = facts.unit {
+        table.take(unit.place(), at.start)?;
+        if facts.dest.is_some() {
+            table.take(BUSES, at.end)?;
+        }
+    }
+    table.pass(at.issue);
+    Ok(())
+}
+
+/// Keeps an access, and of those before the ones that finish no earlier than it issues.
+#[inline(always)]
+fn keep_access<A: Allocator>(
+    accesses: &mut Vec<Access, A>,
+    facts: &Facts,
+    at: &Times,
+) -> Result<(), AllocError>
+    ensures { IfOk result (λ _. accesses.new.items ≡ accesses_after facts.now at.now accesses.old.items) }
+{
+    if let Some(bytes) = facts.bytes {
+        accesses.retain(|access| access.finish >= at.issue);
+        accesses.push(Access {
+            bytes,
+            is_store: facts.is_store,
+            finish: at.finish,
+        })?;
+    }
+    Ok(())
+}
+
+impl<A: Allocator> Window<A> {
+    /// Before the first step. Its memory is of the two allocators.
+    pub fn new(table: A, accesses: A) -> Window<A>
+        ensures latest { result.latest ≡ nothing_yet }
+        ensures table { result.table ≡ record { base = 0; slots = [] } }
+        ensures stations { result.stations.ends ≡ replicate 96 0 }
+        ensures accesses { result.accesses.items ≡ [] }
+    {
+        Window {
+            latest: Latest::none(),
+            table: ReservationTable::new(table),
+            stations: Stations::none(),
+            accesses: Vec::new(accesses),
+        }
+    }
+
+    /// Keeps a step with its times.
+    #[inline(always)]
+    pub fn keep(&mut self, facts: &Facts, at: &Times) -> Result<(), AllocError>
+        requires register { IfSome facts.now.dest (λ r. r < 32) }
+        requires few { self.old.latest.issued < 2 ^ 63 }
+        requires base { self.old.table.base ≤ at.now.issue }
+        requires start { at.now.issue ≤ at.now.start }
+        requires end { at.now.issue ≤ at.now.end }
+        requires station { IfSome at.now.station (λ n. n < 16) }
+        requires units { IfSome facts.now.unit (λ unit. taken_at self.old.table (place_of_unit unit) at.now.start < 255) }
+        requires buses { IfSome facts.now.unit (λ _. IfSome facts.now.dest (λ _. taken_at self.old.table bus_line at.now.end < 255)) }
+        ensures latest { IfOk result (λ _. self.new.latest ≡ latest_after facts.now at.now self.old.latest) }
+        ensures table { IfOk result (λ _. IsTableAfter facts.now at.now self.old.table self.new.table) }
+        ensures stations { IfOk result (λ _. self.new.stations.ends ≡ ends_after facts.now at.now self.old.stations.ends) }
+        ensures accesses { IfOk result (λ _. self.new.accesses.items ≡ accesses_after facts.now at.now self.old.accesses.items) }
+    {
+        reserve(&mut self.table, facts, at)?;
+        keep_access(&mut self.accesses, facts, at)?;
+        if let (Some(pool), Some(number)) = (facts.pool, at.station) {
+            self.stations.take(pool, number, at.end);
+        }
+        self.latest.note(facts, at);
+        Ok(())
     }
 }

@@ -1,0 +1,175 @@
+-- What the evaluator holds of the steps before, in place of a list of them: the reservation table of the cycles
+-- ahead, the ends of the stations' steps, and the accesses under way.
+use Rattle.std.specs.Prelude.{ℕ, ◌+◌, ◌*◌, ◌-◌, ◌<◌, ◌≤◌, ◌≡◌, ◌==◌, nat_lt, nat_le, Bool, not, ◌&&◌, ◌||◌, if◌then◌else◌, List, [], ◌∷◌, ◌++◌, cond, Option, Some, None, is_some, slice_index, slice_index_or, slice_set, replicate, MatchOption, All}
+use Rattle.std.specs.Bool.{MatchBool}
+use Rattle.std.specs.List.{list_all, filter}
+use Rattle.tomex_rvdec.specs.Parts.{place_of_pool, place_of_unit}
+use Rattle.tomex_rvdec.specs.declared.pool.PoolId.{PoolId}
+use Rattle.tomex_rvdec.specs.declared.pool.UnitId.{UnitId}
+use Rattle.tomex_rvexec.specs.declared.step.ByteRange.{ByteRange}
+use Rattle.tomex_config.specs.Row.{Row, stations_of, option_of}
+use Rattle.tomex_timing.specs.declared.accesses.Access.{Access}
+use Rattle.tomex_timing.specs.declared.next.Marks.{Marks}
+use Rattle.tomex_timing.specs.declared.next.Next.{Next}
+use Rattle.tomex_timing.specs.declared.times.Times.{Times}
+use Rattle.tomex_timing.specs.declared.window.Facts.{Facts}
+use Rattle.tomex_timing.specs.declared.window.Latest.{Latest}
+use Rattle.tomex_timing.specs.History.{is_of}
+use Rattle.tomex_timing.specs.Recurrence.{shares_byte}
+use Rattle.tomex_timing.specs.Waiting.{operands_from}
+use Rattle.tomex_timing.specs.Window.{IsFirst, address_among, issue_from, ready_from}
+
+-- The reservation table.
+
+-- the first cycle that it has, and of each from there on how many are taken of each line: of the five kinds of unit,
+-- in their order, and of the buses
+pub record Reserved : Type 0 where
+  pub base : ℕ
+  pub slots : List (List ℕ)
+
+abbrev pub bus_line : ℕ
+bus_line = 5
+
+-- a cycle in which nothing is taken
+abbrev pub free_slot : List ℕ
+free_slot = replicate 6 0
+
+-- how many are taken of a line in a cycle; past the table's end none are
+abbrev pub taken_at : Reserved → ℕ → ℕ → ℕ
+taken_at table line t = slice_index (slice_index_or table.slots (t - table.base) free_slot) line
+
+-- one of so many is left
+abbrev pub is_left : Reserved → ℕ → ℕ → ℕ → Bool
+is_left table line most t = nat_lt (taken_at table line t) most
+
+-- after one more of a line is taken in a cycle
+abbrev pub taken_with : Reserved → ℕ → ℕ → ℕ → ℕ → ℕ
+taken_with table line cycle l t = if l == line && t == cycle then taken_at table l t + 1 else taken_at table l t
+
+-- The stations.
+
+-- where a pool's station stands
+abbrev pub station_place : PoolId → ℕ → ℕ
+station_place pool n = 16 * place_of_pool pool + n
+
+abbrev pub end_at : List ℕ → PoolId → ℕ → ℕ
+end_at ends pool n = slice_index ends (station_place pool n)
+
+-- in the cycle, and in none before it from this one on, a station of the pool is free, and this is the least number
+-- of one
+pub record IsFreeFirst (ends : List ℕ) (pool : PoolId) (count from cycle n : ℕ) : Type 0 where
+  pub begun : from ≤ cycle
+  pub there : n < count
+  pub free : end_at ends pool n < cycle
+  pub least : (k : ℕ) → k < n → cycle ≤ end_at ends pool k
+  pub none : (k t : ℕ) → k < count → from ≤ t → t < cycle → t ≤ end_at ends pool k
+
+-- The accesses under way.
+
+-- a step that touches these bytes conflicts with an access
+abbrev pub access_conflicts : Access → Option ByteRange → Bool → Bool
+access_conflicts a bytes is_store = shares_byte (Some a.bytes) bytes && (a.is_store || is_store)
+
+-- and if it does, the access has finished before the cycle
+abbrev pub is_past : Facts → ℕ → Access → Bool
+is_past f t a = not (access_conflicts a f.bytes f.is_store) || nat_lt a.finish t
+
+-- this is the first cycle from one on that is past each conflict
+abbrev pub ArePast : Facts → List Access → ℕ → ℕ → Type 0
+ArePast f accesses from clear = (t : ℕ) → nat_le clear t ≡ (nat_le from t && list_all (is_past f t) accesses)
+
+-- those under way after one more step
+abbrev pub accesses_with : Option ByteRange → Facts → Times → List Access → List Access
+accesses_with None f at accesses = accesses
+accesses_with (Some bytes) f at accesses =
+    filter (λ a. nat_le at.issue a.finish) accesses
+    ++ (record { bytes = bytes; is_store = f.is_store; finish = at.finish } ∷ [])
+
+abbrev pub accesses_after : Facts → Times → List Access → List Access
+accesses_after f at accesses = accesses_with f.bytes f at accesses
+
+-- the ends of the stations' steps after one more
+abbrev pub ends_with : Option PoolId → Option ℕ → ℕ → List ℕ → List ℕ
+ends_with (Some pool) (Some n) end ends = slice_set ends (station_place pool n) end
+ends_with _ _ end ends = ends
+
+abbrev pub ends_after : Facts → Times → List ℕ → List ℕ
+ends_after f at ends = ends_with f.pool at.station at.end ends
+
+abbrev pub one : Bool → ℕ
+one b = if b then 1 else 0
+
+-- the table after one more step, from the cycle of its issue on: it takes a unit as it starts, and a bus as it ends
+pub record IsTableAfter (f : Facts) (at : Times) (before after : Reserved) : Type 0 where
+  pub base : after.base ≤ at.issue
+  pub starts : (unit : UnitId) (t : ℕ) → at.issue ≤ t
+      → taken_at after (place_of_unit unit) t ≡ taken_at before (place_of_unit unit) t + one (is_of unit f.unit && at.start == t)
+  pub results : (t : ℕ) → at.issue ≤ t
+      → taken_at after bus_line t ≡ taken_at before bus_line t + one (is_some f.unit && is_some f.dest && at.end == t)
+
+-- The next step.
+
+-- the end of the producer of what a register holds, 0 without a register
+abbrev pub end_in : List ℕ → Option ℕ → ℕ
+end_in ends None = 0
+end_in ends (Some r) = slice_index ends r
+
+-- a step takes the station that is free first, if it takes one
+abbrev pub TakesStation : Row → List ℕ → Option PoolId → ℕ → ℕ → Option ℕ → Type 0
+TakesStation row ends pool from issue station =
+    MatchOption pool
+        ((issue ≡ from) × (station ≡ None))
+        (λ p. (n : ℕ) × (station ≡ Some n) × IsFreeFirst ends p (stations_of row p) from issue n)
+
+-- what is taken of a line with one's own is one more than what others take of it
+abbrev pub with_own : Reserved → ℕ → ℕ → ℕ
+with_own table line t = taken_at table line t + 1
+
+-- a result ends in the first cycle after the finish with a bus left
+abbrev pub TakesBus : Row → Reserved → Option ℕ → ℕ → ℕ → ℕ → Type 0
+TakesBus row table dest finish end buses =
+    MatchBool (is_some dest)
+        (IsFirst (finish + 1) (is_left table bus_line row.buses) end × (buses ≡ with_own table bus_line end))
+        ((end ≡ finish) × (buses ≡ 0))
+
+-- what starts and ends as it issues
+pub record IsIdle (next : Next) : Type 0 where
+  pub start : next.at.start ≡ next.at.issue
+  pub finish : next.at.finish ≡ next.at.issue
+  pub end : next.at.end ≡ next.at.issue
+  pub operands : next.marks.operands ≡ next.at.issue
+  pub ready : next.marks.ready ≡ next.at.issue
+  pub clear : next.marks.clear ≡ next.at.issue
+  pub units : next.units ≡ 0
+  pub buses : next.buses ≡ 0
+
+-- what runs on a unit of this kind, given the ends of its operands' producers
+pub record RunsOn (row : Row) (table : Reserved) (accesses : List Access) (f : Facts) (j k : ℕ) (next : Next) (unit : UnitId) : Type 0 where
+  pub operands : next.marks.operands ≡ operands_from next.at.issue j k
+  pub ready : next.marks.ready ≡ ready_from next.at.issue next.at.address j k
+  pub clear : ArePast f accesses next.marks.ready next.marks.clear
+  pub start : IsFirst next.marks.clear (is_left table (place_of_unit unit) (option_of row unit).units) next.at.start
+  pub finish : next.at.finish ≡ next.at.start + (option_of row unit).latency - 1
+  pub end : TakesBus row table f.dest next.at.finish next.at.end next.buses
+  pub units : next.units ≡ with_own table (place_of_unit unit) next.at.start
+
+-- the times of a next step, its marks and what it takes, by what is held
+pub record IsNextBy (row : Row) (latest : Latest) (table : Reserved) (ends : List ℕ) (accesses : List Access) (f : Facts) (next : Next) : Type 0 where
+  pub from : next.marks.from ≡ issue_from row latest
+  pub issue : TakesStation row ends f.pool next.marks.from next.at.issue next.at.station
+  pub address : next.at.address ≡ address_among latest f.pool (end_in latest.ends f.j) next.at.issue
+  pub run : MatchOption f.unit
+      (IsIdle next)
+      (RunsOn row table accesses f (end_in latest.ends f.j) (end_in latest.ends f.k) next)
+
+-- nothing that is held lies past the greatest end, and the table has each cycle after the last issue
+pub record IsSettledBy (latest : Latest) (table : Reserved) (taken : List ℕ) (accesses : List Access) : Type 0 where
+  pub base : table.base ≤ latest.issue
+  pub starts : (unit : UnitId) (t : ℕ) → latest.end < t → taken_at table (place_of_unit unit) t ≡ 0
+  pub results : (t : ℕ) → latest.end < t → taken_at table bus_line t ≡ 0
+  pub stations : (pool : PoolId) (n : ℕ) → n < 16 → end_at taken pool n ≤ latest.end
+  pub finishes : All (λ a. a.finish ≤ latest.end) accesses
+  pub ends : (r : ℕ) → r < 32 → slice_index latest.ends r ≤ latest.end
+  pub issue : latest.issue ≤ latest.end
+  pub branch : latest.branch ≤ latest.end
+  pub address : latest.address ≤ latest.end
