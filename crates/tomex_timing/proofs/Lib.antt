@@ -28,5 +28,8 @@ pub mod Needed
 pub mod Small
 pub mod Accounts
 pub mod Turns
+pub mod Shown
+pub mod NextShown
+pub mod ShownTurns
 pub mod WaitLists
 pub mod NeedTurns

@@ -51,6 +51,11 @@ units_low row unit good =
     let two = between 1 8 o.units (and_parts _ _ (and_parts _ _ (option_is row unit good)).0).0 in
     omega (arith, two.0)
 
+pub units_high : (row : Row) (unit : UnitId) → IsRow row → (option_of row unit).units ≤ 8
+units_high row unit good =
+    let o = option_of row unit in
+    (between 1 8 o.units (and_parts _ _ (and_parts _ _ (option_is row unit good)).0).0).1
+
 latency_is : (row : Row) (unit : UnitId) → IsRow row → is_between 1 64 (option_of row unit).latency ≡ true
 latency_is row unit good = (and_parts _ _ (and_parts _ _ (option_is row unit good)).0).1
 
@@ -62,6 +67,9 @@ latency_high row unit good = (between 1 64 (option_of row unit).latency (latency
 
 pub buses_low : (row : Row) → IsRow row → 0 < row.buses
 buses_low row good = let two = between 1 8 row.buses good.buses in omega (arith, two.0)
+
+pub buses_high : (row : Row) → IsRow row → row.buses ≤ 8
+buses_high row good = (between 1 8 row.buses good.buses).1
 
 pub width_low : (row : Row) → IsRow row → 0 < row.width
 width_low row good = let two = between 1 4 row.width good.width in omega (arith, two.0)

@@ -43,7 +43,7 @@ branch_finish_by g (d ∷ older) h = elim (cases_Bool (is_branch d.step)) [
   | inr e ↦ rw e (branch_finish_by g older h.1)
 ]
 
-settled : (row : Row) (h : List Done) (live : List Live) (latest : Latest) → IsRow row → AreTimed row h → IsKept h live latest → IsSettled live latest
+pub settled : (row : Row) (h : List Done) (live : List Live) (latest : Latest) → IsRow row → AreTimed row h → IsKept h live latest → IsSettled live latest
 settled row h live latest good timed kept =
     let by : AllBy (greatest_end h) h = timed_by row h good timed in
     let all : All (IsBy (greatest_end h)) (recent (last_issue h) h) = All-from_recursion (IsBy (greatest_end h)) (recent (last_issue h) h) (recent_by (greatest_end h) (last_issue h) h by) in
@@ -109,3 +109,25 @@ turn_at row steps i x facts at live latest good l is of small small_j small_k ke
     let m : take (i + 1) steps ≡ take i steps ++ (x ∷ []) = take_more steps i x l ∙ ap (λ y. take i steps ++ (y ∷ [])) is in
     let small_dest : IfSome (step_dest x) (λ r. r < 32) = rw of at small in
     rw (m, of) (turn row (take i steps) x at live latest good small_j small_k (for_some (step_dest x) small_dest) kept next)
+
+-- the history with one step more
+pub history_at : (row : Row) (steps : List Step) (i : ℕ) (x : Step) (at : Times) (latest : Latest)
+    → IsRow row → i < length steps → slice_index_or steps i x ≡ x → ForSome (j_of x) (λ o. o.register < 32) → ForSome (k_of x) (λ o. o.register < 32)
+    → IsKept (history row (take i steps)) (recent (last_issue (history row (take i steps))) (history row (take i steps))) latest → IsNext row (recent (last_issue (history row (take i steps))) (history row (take i steps))) latest x at
+    → history row (take (i + 1) steps) ≡ record { step = x; at = at } ∷ history row (take i steps)
+history_at row steps i x at latest good l is small_j small_k kept next =
+    let m : take (i + 1) steps ≡ take i steps ++ (x ∷ []) = take_more steps i x l ∙ ap (λ y. take i steps ++ (y ∷ [])) is in
+    let timed : AreTimed row (history row (take i steps)) = are_timed row (take i steps) good in
+    let t : IsTimed row (history row (take i steps)) x at = next_is row (history row (take i steps)) x at _ latest good small_j small_k timed (closed row (history row (take i steps)) good timed) kept next in
+    let same : at ≡ times_of row (history row (take i steps)) x = times_same row (history row (take i steps)) x at (times_of row (history row (take i steps)) x) t (times_are row (history row (take i steps)) x good timed) in
+    rw (m, same) (history_more row (take i steps) x)
+
+-- no step finishes after its end
+pub reach_at : (row : Row) (steps : List Step) (i : ℕ) (x : Step) (at : Times) (latest : Latest)
+    → IsRow row → ForSome (j_of x) (λ o. o.register < 32) → ForSome (k_of x) (λ o. o.register < 32)
+    → IsKept (history row (take i steps)) (recent (last_issue (history row (take i steps))) (history row (take i steps))) latest → IsNext row (recent (last_issue (history row (take i steps))) (history row (take i steps))) latest x at
+    → at.finish ≤ at.end
+reach_at row steps i x at latest good small_j small_k kept next =
+    let timed : AreTimed row (history row (take i steps)) = are_timed row (take i steps) good in
+    let t : IsTimed row (history row (take i steps)) x at = next_is row (history row (take i steps)) x at _ latest good small_j small_k timed (closed row (history row (take i steps)) good timed) kept next in
+    (in_reach row (history row (take i steps)) x at (greatest_end (history row (take i steps))) good (timed_by row (history row (take i steps)) good timed) t).finish

@@ -81,7 +81,7 @@ all_recent p c out (d ∷ h) close = elim (cases_Bool (nat_le c d.at.end)) [
     swap false true = refl
     swap false false = refl
 
-station_agree : (row : Row) (h : List Done) (pool : Option PoolId) (c t : ℕ) → AreClosed h → c ≤ t → has_station_among row (recent c h) pool t ≡ has_station row h pool t
+pub station_agree : (row : Row) (h : List Done) (pool : Option PoolId) (c t : ℕ) → AreClosed h → c ≤ t → has_station_among row (recent c h) pool t ≡ has_station row h pool t
 station_agree row h None c t close l = refl
 station_agree row h (Some pool) c t close l =
     rw (count_recent (is_held_by pool t) c (λ x k m. and_right (is_in pool x.facts.pool) (nat_le t x.end) (lt-leb t x.end (omega arith))) h close) refl

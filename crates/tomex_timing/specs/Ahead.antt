@@ -1,6 +1,6 @@
 -- What the evaluator holds of the steps before, in place of a list of them: the reservation table of the cycles
 -- ahead, the ends of the stations' steps, and the accesses under way.
-use Rattle.std.specs.Prelude.{ℕ, ◌+◌, ◌*◌, ◌-◌, ◌<◌, ◌≤◌, ◌≡◌, ◌==◌, nat_lt, nat_le, Bool, not, ◌&&◌, ◌||◌, if◌then◌else◌, List, [], ◌∷◌, ◌++◌, cond, Option, Some, None, is_some, slice_index, slice_index_or, slice_set, replicate, MatchOption, All}
+use Rattle.std.specs.Prelude.{ℕ, ◌+◌, ◌*◌, ◌-◌, ◌^◌, ◌<◌, ◌≤◌, ◌≡◌, ◌==◌, nat_lt, nat_le, Bool, not, ◌&&◌, ◌||◌, if◌then◌else◌, List, [], ◌∷◌, ◌++◌, cond, Option, Some, None, is_some, IfSome, slice_index, slice_index_or, slice_set, replicate, MatchOption, All}
 use Rattle.std.specs.Bool.{MatchBool}
 use Rattle.std.specs.List.{list_all, filter}
 use Rattle.tomex_rvdec.specs.Parts.{place_of_pool, place_of_unit}
@@ -161,6 +161,21 @@ pub record IsNextBy (row : Row) (latest : Latest) (table : Reserved) (ends : Lis
   pub run : MatchOption f.unit
       (IsIdle next)
       (RunsOn row table accesses f (end_in latest.ends f.j) (end_in latest.ends f.k) next)
+
+-- a step can be noted in the table: it has each of its cycles, and no line is full in them
+pub record CanReserve (f : Facts) (at : Times) (table : Reserved) : Type 0 where
+  pub base : table.base ≤ at.issue
+  pub start : at.issue ≤ at.start
+  pub end : at.issue ≤ at.end
+  pub units : IfSome f.unit (λ unit. taken_at table (place_of_unit unit) at.start < 255)
+  pub buses : IfSome f.unit (λ unit. IfSome f.dest (λ r. taken_at table bus_line at.end < 255))
+
+-- and can be kept
+pub record CanKeep (f : Facts) (at : Times) (latest : Latest) (table : Reserved) : Type 0 where
+  pub register : IfSome f.dest (λ r. r < 32)
+  pub few : latest.issued < 2 ^ 63
+  pub station : IfSome at.station (λ n. n < 16)
+  pub reserve : CanReserve f at table
 
 -- nothing that is held lies past the greatest end, and the table has each cycle after the last issue
 pub record IsSettledBy (latest : Latest) (table : Reserved) (taken : List ℕ) (accesses : List Access) : Type 0 where

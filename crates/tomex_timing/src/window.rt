@@ -1,9 +1,8 @@
 //! What the evaluator keeps of the steps before: what is latest, and what may still be in the way of a next one.
 
-ghost use Rattle.std.specs.Prelude.{◌≡◌, ◌<◌, ◌≤◌, ◌^◌, [], replicate, IfOk, IfSome, MatchOption};
+ghost use Rattle.std.specs.Prelude.{◌≡◌, ◌<◌, ◌≤◌, ◌^◌, [], replicate, IfOk, IfSome};
 ghost use Rattle.std.specs.Option.{ForSome};
-ghost use Rattle.tomex_rvdec.specs.Parts.{place_of_unit};
-ghost use Rattle.tomex_timing.specs.Ahead.{IsTableAfter, accesses_after, bus_line, ends_after, taken_at};
+ghost use Rattle.tomex_timing.specs.Ahead.{CanKeep, CanReserve, IsTableAfter, accesses_after, ends_after};
 ghost use Rattle.tomex_timing.specs.Window.{facts_of, register_of, HasRegisters, nothing_yet, latest_after};
 
 use crate::accesses::Access;
@@ -132,11 +131,7 @@ fn reserve<A: Allocator>(
     facts: &Facts,
     at: &Times,
 ) -> Result<(), AllocError>
-    requires base { table.old.base ≤ at.now.issue }
-    requires start { at.now.issue ≤ at.now.start }
-    requires end { at.now.issue ≤ at.now.end }
-    requires units { IfSome facts.now.unit (λ unit. taken_at table.old (place_of_unit unit) at.now.start < 255) }
-    requires buses { IfSome facts.now.unit (λ _. IfSome facts.now.dest (λ _. taken_at table.old bus_line at.now.end < 255)) }
+    requires { CanReserve facts.now at.now table.old }
     ensures { IfOk result (λ _. IsTableAfter facts.now at.now table.old table.new) }
 {
     if let Some(unit) = facts.unit {
@@ -188,14 +183,7 @@ impl<A: Allocator> Window<A> {
     /// Keeps a step with its times.
     #[inline(always)]
     pub fn keep(&mut self, facts: &Facts, at: &Times) -> Result<(), AllocError>
-        requires register { IfSome facts.now.dest (λ r. r < 32) }
-        requires few { self.old.latest.issued < 2 ^ 63 }
-        requires base { self.old.table.base ≤ at.now.issue }
-        requires start { at.now.issue ≤ at.now.start }
-        requires end { at.now.issue ≤ at.now.end }
-        requires station { IfSome at.now.station (λ n. n < 16) }
-        requires units { IfSome facts.now.unit (λ unit. taken_at self.old.table (place_of_unit unit) at.now.start < 255) }
-        requires buses { IfSome facts.now.unit (λ _. IfSome facts.now.dest (λ _. taken_at self.old.table bus_line at.now.end < 255)) }
+        requires { CanKeep facts.now at.now self.old.latest self.old.table }
         ensures latest { IfOk result (λ _. self.new.latest ≡ latest_after facts.now at.now self.old.latest) }
         ensures table { IfOk result (λ _. IsTableAfter facts.now at.now self.old.table self.new.table) }
         ensures stations { IfOk result (λ _. self.new.stations.ends ≡ ends_after facts.now at.now self.old.stations.ends) }

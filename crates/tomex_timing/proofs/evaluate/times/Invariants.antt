@@ -1,11 +1,11 @@
--- What is kept is of the steps so far, and so are the times.
+-- What is held shows the steps so far, and so do the times.
 use Rattle.std.proofs.Common.{◌≡◌, take}
 use Rattle.tomex_timing.specs.Search.{history, times_in}
-use Rattle.tomex_timing.specs.Window.{IsKept}
+use Rattle.tomex_timing.proofs.Shown.{IsShown}
 use Rattle.tomex_timing.proofs.evaluate.times.Given as goal
 
 abbrev pub invariant-loop-step : goal.invariant-loop-step
 invariant-loop-step g l = record {
-  kept : IsKept (history l.row (take l.step-index l.steps)) l.live.items l.latest;
+  shown : IsShown (history l.row (take l.step-index l.steps)) l.window.latest l.window.table l.window.stations.ends l.window.accesses.items;
   times : l.result.items ≡ times_in l.row (take l.step-index l.steps);
 }
