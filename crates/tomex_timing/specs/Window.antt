@@ -1,6 +1,6 @@
 -- What matters of a history to a next step: the steps that may still be in its way, and what is latest. The tests are
 -- those of the recurrence over these.
-use Rattle.std.specs.Prelude.{ℕ, ◌-◌, ◌+◌, ◌<◌, ◌≤◌, ◌≡◌, ◌==◌, nat_lt, nat_le, Bool, true, not, ◌&&◌, ◌||◌, if◌then◌else◌, List, [], ◌∷◌, ◌++◌, Option, Some, None, slice_index, slice_set, replicate, max, length, is_some, count_by, MatchOption, IfSome, All}
+use Rattle.std.specs.Prelude.{ℕ, ◌-◌, ◌+◌, ◌<◌, ◌≤◌, ◌≡◌, ◌==◌, nat_lt, nat_le, Bool, true, not, ◌&&◌, ◌||◌, if◌then◌else◌, List, [], ◌∷◌, ◌++◌, Option, Some, None, slice_index, slice_set, replicate, map, max, length, is_some, count_by, MatchOption, IfSome, All}
 use Rattle.std.specs.Bool.{MatchBool}
 use Rattle.std.specs.List.{list_all}
 use Rattle.tomex_rvdec.specs.declared.pool.PoolId.{PoolId}
@@ -38,6 +38,11 @@ pub record HasRegisters (f : Facts) : Type 0 where
   pub dest : IfSome f.dest (λ r. r < 32)
   pub j : IfSome f.j (λ r. r < 32)
   pub k : IfSome f.k (λ r. r < 32)
+
+-- the facts of a run's steps
+pub record AreFacts (steps : List Step) (facts : List Facts) : Type 0 where
+  pub are : facts ≡ map facts_of steps
+  pub registers : All HasRegisters facts
 
 -- a step whose times are known, as long as it may be in the way of younger ones
 pub record Live : Type 0 where

@@ -1,17 +1,19 @@
 //! The evaluation of a run.
 
-ghost use Rattle.std.specs.Prelude.{◌≡◌, ◌<◌, ◌≤◌, ◌*◌, ◌^◌, length, All, IfOk};
+ghost use Rattle.std.specs.Prelude.{◌≡◌, ◌<◌, ◌≤◌, ◌*◌, ◌^◌, List, length, All, IfOk};
 ghost use Rattle.tomex_timing.specs.Needs.{AreNeeds, waits_in};
 ghost use Rattle.tomex_timing.specs.Recurrence.{AreTimed};
 ghost use Rattle.tomex_timing.specs.Search.{history, times_in, total_of};
+ghost use Rattle.tomex_rvexec.specs.declared.step.Step.{Step};
 ghost use Rattle.tomex_timing.specs.Waiting.{AreWithin};
+ghost use Rattle.tomex_timing.specs.Window.{AreFacts};
 
 use crate::needs::Needs;
 use crate::next::next_step;
 use crate::part::Waits;
 use crate::times::Times;
 use crate::waiting::{taken_by, waits_of};
-use crate::window::{Facts, Window};
+use crate::window::{Facts, Window, facts_of};
 use std::alloc::{AllocError, Allocator};
 use tomex_config::Config;
 use tomex_rvexec::Step;
@@ -80,17 +82,31 @@ pub fn needs<A: Allocator>(alloc: A, steps: &[Step], row: &Config) -> Result<Nee
     requires few { length steps.now < 2 ^ 28 }
     ensures exact { IfOk result (λ n. AreNeeds row.now (history row.now steps.now) n) }
 {
-    let mut window = Window::new(&alloc, &alloc);
+    let facts = facts_of(&alloc, steps)?;
+    needs_of(&alloc, &facts, row)
+}
+
+/// The needs of the run whose steps have these facts.
+pub(crate) fn needs_of<A: Allocator>(
+    alloc: &A,
+    facts: &[Facts],
+    row: &Config,
+) -> Result<Needs, AllocError>
+    requires run { (steps : List Step) × AreFacts steps facts.now }
+    requires few { length facts.now < 2 ^ 28 }
+    ensures exact { IfOk result
+        (λ n. (steps : List Step) → AreFacts steps facts.now → AreNeeds row.now (history row.now steps) n) }
+{
+    let mut window = Window::new(alloc, alloc);
     let mut needs = Needs::none();
     // Read for what the row's type keeps, which the proof needs.
     let _buses = row.buses();
-    for step in steps {
-        let facts = Facts::of(step);
-        let next = next_step(row, &window, &facts);
+    for step in facts {
+        let next = next_step(row, &window, step);
         let waits = waits_of(&window.latest, &next);
         let taken = taken_by(&window.latest, &next);
-        needs.note(&facts, &waits, &taken, &next.at);
-        window.keep(&facts, &next.at)?;
+        needs.note(step, &waits, &taken, &next.at);
+        window.keep(step, &next.at)?;
     }
     Ok(needs)
 }

@@ -15,6 +15,7 @@ mod needs;
 mod next;
 mod part;
 mod reservation_table;
+mod run;
 mod tables;
 mod times;
 mod waiting;
@@ -29,5 +30,6 @@ pub use laws::{
 };
 pub use needs::Needs;
 pub use part::{Need, Part, Waits};
+pub use run::Run;
 pub use tables::{Busy, Field, Tag};
 pub use times::{Done, Times};

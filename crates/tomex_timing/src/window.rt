@@ -3,7 +3,7 @@
 ghost use Rattle.std.specs.Prelude.{◌≡◌, ◌<◌, ◌≤◌, ◌^◌, [], replicate, IfOk, IfSome};
 ghost use Rattle.std.specs.Option.{ForSome};
 ghost use Rattle.tomex_timing.specs.Ahead.{CanKeep, CanReserve, IsTableAfter, accesses_after, ends_after};
-ghost use Rattle.tomex_timing.specs.Window.{facts_of, register_of, HasRegisters, nothing_yet, latest_after};
+ghost use Rattle.tomex_timing.specs.Window.{AreFacts, facts_of, register_of, HasRegisters, nothing_yet, latest_after};
 
 use crate::accesses::Access;
 use crate::reservation_table::{BUSES, ReservationTable};
@@ -15,7 +15,7 @@ use tomex_rvexec::{ByteRange, Operand, Step};
 
 /// What the recurrence reads of a step, taken from its instruction once.
 #[derive(Clone, Copy, Debug, PartialEq, Eq)]
-pub struct Facts {
+pub(crate) struct Facts {
     pub pool: Option<PoolId>,
     pub unit: Option<UnitId>,
     pub dest: Option<u8>,
@@ -81,6 +81,17 @@ impl Facts {
             is_branch: step.is_branch(),
         }
     }
+}
+
+/// The facts of a run's steps.
+pub(crate) fn facts_of<A: Allocator>(alloc: A, steps: &[Step]) -> Result<Vec<Facts, A>, AllocError>
+    ensures { IfOk result (λ v. AreFacts steps.now v.items) }
+{
+    let mut facts = Vec::new(alloc);
+    for step in steps {
+        facts.push(Facts::of(step))?;
+    }
+    Ok(facts)
 }
 
 impl Latest {

@@ -1,50 +1,52 @@
--- Each turn of the loop keeps what is kept, and adds the step's waits.
+-- Each turn of the loop keeps what is held, and adds the step's waits.
 use Rattle.std.proofs.Common.{rules, ◌≡◌, ◌≤◌, ◌*◌, arith, slice_index_or, sym}
 use Rattle.std.proofs.lemmas.Grind.{common_steps}
 use Rattle.tomex_timing.specs.Needs.{waits_in}
-use Rattle.tomex_timing.proofs.NeedTurns.{waits_turn}
+use Rattle.tomex_timing.proofs.HeldNeeds.{held_waits}
+use Rattle.tomex_timing.proofs.Shown.{settled_there, start_shown}
+use Rattle.tomex_timing.proofs.ShownTurns.{IsStep, can_keep, held_turn}
+use Rattle.tomex_timing.proofs.Turns.{end_bound}
 use Rattle.tomex_timing.proofs.WaitLists.{length-waits_in, waits_in_within}
-use Rattle.tomex_timing.proofs.Turns.{start_kept, settled_at, end_bound, issued_bound, turn_at}
 use Rattle.tomex_timing.proofs.evaluate.waits.Goals as goal
 
 pub loop-step-init : goal.loop-step-init
 loop-step-init g c = record {
-  kept = rw (c.new-live.ensures.items, c.none-latest.ensures) (start_kept c.args.row.now);
+  shown = rw (c.new-window.ensures.latest, c.new-window.ensures.table, c.new-window.ensures.stations, c.new-window.ensures.accesses) (start_shown c.args.row.now);
   waits = c.new-result.ensures.items;
 }
 
 pub next_step-next-requires-clause-settled : goal.next_step-next-requires-clause-settled
 next_step-next-requires-clause-settled g c =
-    rw c.deref.ensures.value (settled_at c.args.row.now c.args.steps.now c.loop-step.step-index c.loop-step.live.items c.loop-step.latest c.buses-buses.ensures.lawful c.loop-step.invariant.kept)
+    settled_there c.args.row.now c.args.steps.now c.loop-step.step-index _ _ _ _ c.buses-buses.ensures.lawful c.loop-step.invariant.shown
 
 pub next_step-next-requires-clause-small : goal.next_step-next-requires-clause-small
 next_step-next-requires-clause-small g c =
-    let by : c.loop-step.latest.end ≤ 67 * c.loop-step.step-index = end_bound c.args.row.now c.args.steps.now c.loop-step.step-index c.loop-step.live.items c.loop-step.latest c.buses-buses.ensures.lawful (omega arith) c.loop-step.invariant.kept in
+    let by : c.loop-step.window.latest.end ≤ 67 * c.loop-step.step-index = end_bound c.args.row.now c.args.steps.now c.loop-step.step-index _ c.loop-step.window.latest c.buses-buses.ensures.lawful (omega arith) c.loop-step.invariant.shown.kept in
     omega arith
 
-pub waits_of-waits-requires : goal.waits_of-waits-requires
-waits_of-waits-requires g c =
-    let s = settled_at c.args.row.now c.args.steps.now c.loop-step.step-index c.loop-step.live.items c.loop-step.latest c.buses-buses.ensures.lawful c.loop-step.invariant.kept in
-    let b : c.loop-step.latest.branch ≤ c.loop-step.latest.end = s.branch in
-    let by : c.loop-step.latest.end ≤ 67 * c.loop-step.step-index = end_bound c.args.row.now c.args.steps.now c.loop-step.step-index c.loop-step.live.items c.loop-step.latest c.buses-buses.ensures.lawful (omega arith) c.loop-step.invariant.kept in
-    record { branch = omega arith }
-
-pub keep-requires-clause-few : goal.keep-requires-clause-few
-keep-requires-clause-few g c =
-    let by : c.loop-step.latest.issued ≤ c.loop-step.step-index = issued_bound c.args.row.now c.args.steps.now c.loop-step.step-index c.loop-step.live.items c.loop-step.latest (omega arith) c.loop-step.invariant.kept in
-    omega arith
+pub keep-requires : goal.keep-requires
+keep-requires g c =
+    let is : slice_index_or c.args.steps.now c.loop-step.step-index c.step-item.result ≡ c.step-item.result = search rules in
+    let step : IsStep c.args.row.now c.args.steps.now c.loop-step.step-index c.step-item.result c.of-facts.result = record { good = c.buses-buses.ensures.lawful; place = c.loop-step-test.true; at = is; facts = c.of-facts.ensures.facts; registers = c.of-facts.ensures.registers } in
+    can_keep c.args.row.now c.args.steps.now c.loop-step.step-index c.step-item.result c.of-facts.result _ _ _ _ c.next_step-next.result c.requires.few step c.loop-step.invariant.shown c.next_step-next.ensures
 
 pub loop-step-preserved : goal.loop-step-preserved
 loop-step-preserved g c =
-    let n = rw c.deref.ensures.value at c.next_step-next.ensures.next in
-    let m = rw c.deref.ensures.value at c.next_step-next.ensures.marks in
     let is : slice_index_or c.args.steps.now c.loop-step.step-index c.step-item.result ≡ c.step-item.result = search rules in
-    let s = turn_at c.args.row.now c.args.steps.now c.loop-step.step-index c.step-item.result c.of-facts.result c.next_step-next.result.at c.loop-step.live.items c.loop-step.latest c.buses-buses.ensures.lawful c.loop-step-test.true is c.of-facts.ensures.facts c.of-facts.ensures.register c.next_step-next.ensures.j c.next_step-next.ensures.k c.loop-step.invariant.kept n in
-    let w = waits_turn c.args.row.now c.args.steps.now c.loop-step.step-index c.step-item.result c.next_step-next.result.at c.loop-step.live.items c.loop-step.latest c.waits_of-waits.result c.buses-buses.ensures.lawful c.loop-step-test.true is c.next_step-next.ensures.j c.next_step-next.ensures.k c.loop-step.invariant.kept n (rw m at c.waits_of-waits.ensures) in
+    let step : IsStep c.args.row.now c.args.steps.now c.loop-step.step-index c.step-item.result c.of-facts.result = record { good = c.buses-buses.ensures.lawful; place = c.loop-step-test.true; at = is; facts = c.of-facts.ensures.facts; registers = c.of-facts.ensures.registers } in
+    let turn = held_turn c.args.row.now c.args.steps.now c.loop-step.step-index c.step-item.result c.of-facts.result _ _ _ _ _ c.next_step-next.result step c.loop-step.invariant.shown c.next_step-next.ensures c.in_ok-keep.ensures.table in
+    let waits = held_waits c.args.row.now c.args.steps.now c.loop-step.step-index c.step-item.result c.of-facts.result _ _ _ _ c.next_step-next.result c.waits_of-waits.result step c.loop-step.invariant.shown c.next_step-next.ensures c.waits_of-waits.ensures in
     record {
-      kept = rw (c.in_ok-keep.ensures.live, c.in_ok-keep.ensures.latest) s.0;
-      waits = rw (c.in_ok-push.ensures.items, c.loop-step.invariant.waits) (sym w);
+      shown = rw (c.in_ok-keep.ensures.latest, c.in_ok-keep.ensures.stations, c.in_ok-keep.ensures.accesses) turn.0;
+      waits = rw (c.in_ok-push.ensures.items, c.loop-step.invariant.waits) (sym waits);
     }
+
+pub waits_of-waits-requires : goal.waits_of-waits-requires
+waits_of-waits-requires g c =
+    let s = settled_there c.args.row.now c.args.steps.now c.loop-step.step-index _ _ _ _ c.buses-buses.ensures.lawful c.loop-step.invariant.shown in
+    let b : c.loop-step.window.latest.branch ≤ c.loop-step.window.latest.end = s.branch in
+    let by : c.loop-step.window.latest.end ≤ 67 * c.loop-step.step-index = end_bound c.args.row.now c.args.steps.now c.loop-step.step-index _ c.loop-step.window.latest c.buses-buses.ensures.lawful (omega arith) c.loop-step.invariant.shown.kept in
+    record { branch = omega arith }
 
 pub returns-clause-pairs : goal.returns-clause-pairs
 returns-clause-pairs g c =

@@ -1,12 +1,12 @@
--- What is kept is of the steps so far, and so are the waits.
+-- What is held shows the steps so far, and so do the waits.
 use Rattle.std.proofs.Common.{◌≡◌, take}
 use Rattle.tomex_timing.specs.Needs.{waits_in}
 use Rattle.tomex_timing.specs.Search.{history}
-use Rattle.tomex_timing.specs.Window.{IsKept}
+use Rattle.tomex_timing.proofs.Shown.{IsShown}
 use Rattle.tomex_timing.proofs.evaluate.waits.Given as goal
 
 abbrev pub invariant-loop-step : goal.invariant-loop-step
 invariant-loop-step g l = record {
-  kept : IsKept (history l.row (take l.step-index l.steps)) l.live.items l.latest;
+  shown : IsShown (history l.row (take l.step-index l.steps)) l.window.latest l.window.table l.window.stations.ends l.window.accesses.items;
   waits : l.result.items ≡ waits_in l.row (take l.step-index l.steps);
 }

@@ -1,3 +1,3 @@
 use Rattle.tomex_timing.proofs.NextShown.{marks_shown}
-use Rattle.tomex_timing.proofs.ShownTurns.{can_keep, held_turn}
+use Rattle.tomex_timing.proofs.HeldNeeds.{step_of}
 use Rattle.tomex_timing.proofs.laws.all_parts_stand_in_order.Goals as goal

@@ -1,0 +1,63 @@
+-- Waits and needs of a run's steps, by what is held before each.
+use Rattle.std.proofs.Common.{ℕ, zero, suc, ◌+◌, ◌*◌, ◌^◌, ◌<◌, ◌≤◌, ◌≡◌, ◌∙◌, arith, refl, sym, ap, List, [], ◌∷◌, ◌++◌, length, map, take}
+use Rattle.std.specs.Prelude.{slice_index_or, All}
+use Rattle.std.proofs.lemmas.List.{length-map}
+use Rattle.tomex_rvexec.specs.declared.step.Step.{Step}
+use Rattle.tomex_config.specs.Row.{Row, IsRow}
+use Rattle.tomex_timing.specs.declared.accesses.Access.{Access}
+use Rattle.tomex_timing.specs.declared.needs.Needs.{Needs}
+use Rattle.tomex_timing.specs.declared.next.Next.{Next}
+use Rattle.tomex_timing.specs.declared.part.Waits.{Waits}
+use Rattle.tomex_timing.specs.declared.times.Done.{Done}
+use Rattle.tomex_timing.specs.declared.waiting.Taken.{Taken}
+use Rattle.tomex_timing.specs.declared.window.Facts.{Facts}
+use Rattle.tomex_timing.specs.declared.window.Latest.{Latest}
+use Rattle.tomex_timing.specs.Ahead.{IsNextBy, Reserved}
+use Rattle.tomex_timing.specs.History.{last_issue}
+use Rattle.tomex_timing.specs.Needs.{AreNeeds, waits_in}
+use Rattle.tomex_timing.specs.Search.{history}
+use Rattle.tomex_timing.specs.Waiting.{AreWithin, marks_among, needs_after, taken_from, waits_by}
+use Rattle.tomex_timing.specs.Window.{AreFacts, HasRegisters, facts_of, recent}
+use Rattle.tomex_timing.proofs.NeedTurns.{needs_turn, waits_small, waits_turn}
+use Rattle.tomex_timing.proofs.NextShown.{IsNextShown}
+use Rattle.tomex_timing.proofs.Shown.{IsShown}
+use Rattle.tomex_timing.proofs.ShownTurns.{IsStep, low_j, low_k, now_marks, now_shown}
+
+pub held_waits : (row : Row) (steps : List Step) (i : ℕ) (x : Step) (f : Facts) (latest : Latest) (table : Reserved) (taken : List ℕ) (accesses : List Access) (next : Next) (waits : Waits) → IsStep row steps i x f → IsShown (history row (take i steps)) latest table taken accesses → IsNextBy row latest table taken accesses f next
+    → waits ≡ waits_by latest next.marks next.at → waits_in row (take (i + 1) steps) ≡ waits_in row (take i steps) ++ (waits ∷ [])
+held_waits row steps i x f latest table taken accesses next waits step shown by told =
+    let is : IsNextShown row (history row (take i steps)) latest x next = now_shown row steps i x f latest table taken accesses next step shown by in
+    waits_turn row steps i x next.at (recent (last_issue (history row (take i steps))) (history row (take i steps))) latest waits step.good step.place step.at (low_j row steps i x f step) (low_k row steps i x f step) shown.kept is.is (rw (now_marks row steps i x f latest table taken accesses next step shown by) at told)
+
+pub held_small : (row : Row) (steps : List Step) (i : ℕ) (x : Step) (f : Facts) (latest : Latest) (table : Reserved) (taken : List ℕ) (accesses : List Access) (next : Next) (waits : Waits) → length steps < 2 ^ 28 → IsStep row steps i x f → IsShown (history row (take i steps)) latest table taken accesses → IsNextBy row latest table taken accesses f next
+    → waits ≡ waits_by latest next.marks next.at → AreWithin (2 ^ 62) waits
+held_small row steps i x f latest table taken accesses next waits few step shown by told =
+    let is : IsNextShown row (history row (take i steps)) latest x next = now_shown row steps i x f latest table taken accesses next step shown by in
+    waits_small row steps i x next.at (recent (last_issue (history row (take i steps))) (history row (take i steps))) latest waits step.good step.place few (low_j row steps i x f step) (low_k row steps i x f step) shown.kept is.is (rw (now_marks row steps i x f latest table taken accesses next step shown by) at told)
+
+pub held_needs : (row : Row) (steps : List Step) (i : ℕ) (x : Step) (f : Facts) (latest : Latest) (table : Reserved) (taken : List ℕ) (accesses : List Access) (next : Next) (needs : Needs) (waits : Waits) (takes : Taken) → IsStep row steps i x f → IsShown (history row (take i steps)) latest table taken accesses → IsNextBy row latest table taken accesses f next
+    → waits ≡ waits_by latest next.marks next.at → takes ≡ taken_from latest next → AreNeeds row (history row (take i steps)) needs → AreNeeds row (history row (take (i + 1) steps)) (needs_after f waits takes next.at needs)
+held_needs row steps i x f latest table taken accesses next needs waits takes step shown by told took are =
+    let is : IsNextShown row (history row (take i steps)) latest x next = now_shown row steps i x f latest table taken accesses next step shown by in
+    needs_turn row steps i x f next.at (recent (last_issue (history row (take i steps))) (history row (take i steps))) latest needs waits takes step.good step.place step.at step.facts (low_j row steps i x f step) (low_k row steps i x f step) shown.kept is.is (rw (now_marks row steps i x f latest table taken accesses next step shown by) at told) (rw (is.units, is.buses) at took) are
+
+-- the step whose facts stand at a place
+step_at : (steps : List Step) (i : ℕ) (f : Facts) → i < length steps → slice_index_or (map facts_of steps) i f ≡ f → (x : Step) × (slice_index_or steps i x ≡ x) × (f ≡ facts_of x)
+step_at [] i f l e = absurd (omega arith)
+step_at (x ∷ steps) zero f l e = (x, refl, sym e)
+step_at (x ∷ steps) (suc i) f l e = step_at steps i f (omega arith) e
+
+pub length_facts : (steps : List Step) (facts : List Facts) → AreFacts steps facts → length facts ≡ length steps
+length_facts steps facts are = rw are.are (length-map steps facts_of)
+
+pub step_of : (row : Row) (steps : List Step) (facts : List Facts) (i : ℕ) (f : Facts) → IsRow row → AreFacts steps facts → i < length facts → slice_index_or facts i f ≡ f → (x : Step) × IsStep row steps i x f
+step_of row steps facts i f good are l e =
+    let n : length facts ≡ length steps = length_facts steps facts are in
+    let there = step_at steps i f (omega arith) (rw are.are at e) in
+    (there.0, record {
+      good = good;
+      place = omega arith;
+      at = there.1;
+      facts = there.2;
+      registers = rw e at (are.registers i f l);
+    })

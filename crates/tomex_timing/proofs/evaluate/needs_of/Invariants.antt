@@ -1,0 +1,14 @@
+-- What is held shows the steps so far, and so do the needs.
+use Rattle.std.proofs.Common.{List, take}
+use Rattle.tomex_rvexec.specs.declared.step.Step.{Step}
+use Rattle.tomex_timing.specs.Needs.{AreNeeds}
+use Rattle.tomex_timing.specs.Search.{history}
+use Rattle.tomex_timing.specs.Window.{AreFacts}
+use Rattle.tomex_timing.proofs.Shown.{IsShown}
+use Rattle.tomex_timing.proofs.evaluate.needs_of.Given as goal
+
+abbrev pub invariant-loop-step : goal.invariant-loop-step
+invariant-loop-step g l = (steps : List Step) → AreFacts steps l.facts → record {
+  shown : IsShown (history l.row (take l.step-index steps)) l.window.latest l.window.table l.window.stations.ends l.window.accesses.items;
+  needs : AreNeeds l.row (history l.row (take l.step-index steps)) l.needs;
+}

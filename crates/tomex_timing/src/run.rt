@@ -1,0 +1,57 @@
+//! A run whose steps have been read once for all the rows on which it is timed.
+
+ghost use Rattle.std.specs.Prelude.{◌≡◌, ◌<◌, ◌^◌, length, IfOk};
+ghost use Rattle.tomex_timing.specs.Needs.{AreNeeds};
+ghost use Rattle.tomex_timing.specs.Search.{history};
+
+use crate::evaluate::needs_of;
+use crate::needs::Needs;
+use crate::window::{Facts, facts_of};
+use std::alloc::{AllocError, Allocator, Global};
+use std::marker::Model;
+use tomex_config::Config;
+use tomex_rvexec::Step;
+
+/// The steps of a run, in program order, with the facts of each.
+#[derive(Debug, Drop)]
+pub struct Run<A: Allocator = Global> {
+    steps: Vec<Step, A>,
+    facts: Vec<Facts, A>,
+}
+
+impl<A: Allocator> Model for Run<A> {
+    ghost use Rattle.std.specs.Prelude.{List};
+    ghost use Rattle.tomex_rvexec.specs.declared.step.Step.{Step};
+    ghost use Rattle.tomex_timing.specs.Window.{AreFacts};
+
+    ghost Value = { List Step };
+
+    ghost view = { λ r. r.steps.items };
+
+    ghost invariant = { λ r. AreFacts r.steps.items r.facts.items };
+}
+
+impl<A: Allocator> Run<A> {
+    /// The run of these steps. Their facts take 40 bytes a step.
+    pub fn new(alloc: A, steps: Vec<Step, A>) -> Result<Run<A>, AllocError>
+        ensures { IfOk result (λ r. r ≡ steps.items) }
+    {
+        let facts = facts_of(alloc, &steps)?;
+        Ok(Run { steps, facts })
+    }
+
+    /// Its steps, in program order.
+    pub fn steps(&self) -> &[Step]
+        ensures { result.now ≡ self.now }
+    {
+        self.steps.as_slice()
+    }
+
+    /// What its steps take of a row's parts, and how long they wait for them: `evaluate::needs` of them.
+    pub fn needs(&self, alloc: &A, row: &Config) -> Result<Needs, AllocError>
+        requires few { length self.now < 2 ^ 28 }
+        ensures exact { IfOk result (λ n. AreNeeds row.now (history row.now self.now) n) }
+    {
+        needs_of(alloc, &self.facts, row)
+    }
+}
