@@ -1,7 +1,8 @@
 -- Waits and needs of a run's steps, by what is held before each.
 use Rattle.std.proofs.Common.{ℕ, zero, suc, ◌+◌, ◌*◌, ◌^◌, ◌<◌, ◌≤◌, ◌≡◌, ◌∙◌, arith, refl, sym, ap, List, [], ◌∷◌, ◌++◌, length, map, take}
 use Rattle.std.specs.Prelude.{slice_index_or, All}
-use Rattle.std.proofs.lemmas.List.{length-map}
+use Rattle.std.proofs.lemmas.List.{length-map, map-append, take_more}
+use Rattle.std.proofs.lemmas.List.Elements.{All-push}
 use Rattle.tomex_rvexec.specs.declared.step.Step.{Step}
 use Rattle.tomex_config.specs.Row.{Row, IsRow}
 use Rattle.tomex_timing.specs.declared.accesses.Access.{Access}
@@ -42,22 +43,29 @@ held_needs row steps i x f latest table taken accesses next needs waits takes st
     needs_turn row steps i x f next.at (recent (last_issue (history row (take i steps))) (history row (take i steps))) latest needs waits takes step.good step.place step.at step.facts (low_j row steps i x f step) (low_k row steps i x f step) shown.kept is.is (rw (now_marks row steps i x f latest table taken accesses next step shown by) at told) (rw (is.units, is.buses) at took) are
 
 -- the step whose facts stand at a place
-step_at : (steps : List Step) (i : ℕ) (f : Facts) → i < length steps → slice_index_or (map facts_of steps) i f ≡ f → (x : Step) × (slice_index_or steps i x ≡ x) × (f ≡ facts_of x)
-step_at [] i f l e = absurd (omega arith)
-step_at (x ∷ steps) zero f l e = (x, refl, sym e)
-step_at (x ∷ steps) (suc i) f l e = step_at steps i f (omega arith) e
+step_at : (steps : List Step) (i : ℕ) (d : Facts) → i < length steps → (x : Step) × (slice_index_or steps i x ≡ x) × (slice_index_or (map facts_of steps) i d ≡ facts_of x)
+step_at [] i d l = absurd (omega arith)
+step_at (x ∷ steps) zero d l = (x, refl, refl)
+step_at (x ∷ steps) (suc i) d l = step_at steps i d (omega arith)
 
 pub length_facts : (steps : List Step) (facts : List Facts) → AreFacts steps facts → length facts ≡ length steps
 length_facts steps facts are = rw are.are (length-map steps facts_of)
 
-pub step_of : (row : Row) (steps : List Step) (facts : List Facts) (i : ℕ) (f : Facts) → IsRow row → AreFacts steps facts → i < length facts → slice_index_or facts i f ≡ f → (x : Step) × IsStep row steps i x f
-step_of row steps facts i f good are l e =
+pub step_of : (row : Row) (steps : List Step) (facts : List Facts) (i : ℕ) (d : Facts) → IsRow row → AreFacts steps facts → i < length facts → (x : Step) × IsStep row steps i x (slice_index_or facts i d)
+step_of row steps facts i d good are l =
     let n : length facts ≡ length steps = length_facts steps facts are in
-    let there = step_at steps i f (omega arith) (rw are.are at e) in
+    let there = step_at steps i d (omega arith) in
     (there.0, record {
       good = good;
       place = omega arith;
       at = there.1;
-      facts = there.2;
-      registers = rw e at (are.registers i f l);
+      facts = ap (λ fs. slice_index_or fs i d) are.are ∙ there.2;
+      registers = are.registers i d l;
     })
+
+-- one step's facts more
+pub facts_more : (steps : List Step) (facts : List Facts) (i : ℕ) (x : Step) (f : Facts) → i < length steps → slice_index_or steps i x ≡ x → f ≡ facts_of x → HasRegisters f → AreFacts (take i steps) facts → AreFacts (take (i + 1) steps) (facts ++ (f ∷ []))
+facts_more steps facts i x f l at of registers are = record {
+  are = rw (take_more steps i x l, at, map-append, of, are.are) refl;
+  registers = All-push HasRegisters facts f are.registers registers;
+}

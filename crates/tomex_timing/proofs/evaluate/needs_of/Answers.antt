@@ -1,12 +1,11 @@
 -- Each turn of the loop keeps what is held, and adds the step's needs.
-use Rattle.std.proofs.Common.{rules, ◌≡◌, ◌≤◌, ◌*◌, ℕ, List, length, arith, slice_index_or, sym, take}
+use Rattle.std.proofs.Common.{◌≡◌, ◌≤◌, ◌*◌, List, length, arith}
 use Rattle.tomex_rvexec.specs.declared.step.Step.{Step}
-use Rattle.tomex_timing.specs.Needs.{AreNeeds}
 use Rattle.tomex_timing.proofs.HeldNeeds.{held_needs, held_small, length_facts, step_of}
 use Rattle.tomex_timing.proofs.Needed.{needs_none}
 use Rattle.tomex_timing.proofs.NeedTurns.{needs_small}
 use Rattle.tomex_timing.proofs.Shown.{settled_there, start_shown}
-use Rattle.tomex_timing.proofs.ShownTurns.{IsStep, can_keep, held_turn}
+use Rattle.tomex_timing.proofs.ShownTurns.{can_keep, held_turn}
 use Rattle.tomex_timing.proofs.Turns.{end_bound, issued_bound}
 use Rattle.tomex_timing.proofs.evaluate.needs_of.Goals as goal
 
@@ -16,21 +15,57 @@ loop-step-init g c = λ steps are. record {
   needs = rw c.none-needs.ensures (needs_none c.args.row.now);
 }
 
-pub next_step-next-requires : goal.next_step-next-requires
-next_step-next-requires g c = ?
+pub next_step-next-requires-clause-registers : goal.next_step-next-requires-clause-registers
+next_step-next-requires-clause-registers g c = c.requires.run.1.registers c.loop-step.step-index _ c.loop-step-test.true
+
+pub next_step-next-requires-clause-settled : goal.next_step-next-requires-clause-settled
+next_step-next-requires-clause-settled g c =
+    settled_there c.args.row.now c.requires.run.0 c.loop-step.step-index _ _ _ _ c.buses-buses.ensures.lawful (c.loop-step.invariant c.requires.run.0 c.requires.run.1).shown
+
+pub next_step-next-requires-clause-small : goal.next_step-next-requires-clause-small
+next_step-next-requires-clause-small g c =
+    let n : length c.args.facts.now ≡ length c.requires.run.0 = length_facts c.requires.run.0 c.args.facts.now c.requires.run.1 in
+    let by : c.loop-step.window.latest.end ≤ 67 * c.loop-step.step-index = end_bound c.args.row.now c.requires.run.0 c.loop-step.step-index _ c.loop-step.window.latest c.buses-buses.ensures.lawful (omega arith) (c.loop-step.invariant c.requires.run.0 c.requires.run.1).shown.kept in
+    omega arith
 
 pub waits_of-waits-requires : goal.waits_of-waits-requires
-waits_of-waits-requires g c = ?
+waits_of-waits-requires g c =
+    let n : length c.args.facts.now ≡ length c.requires.run.0 = length_facts c.requires.run.0 c.args.facts.now c.requires.run.1 in
+    let shown = (c.loop-step.invariant c.requires.run.0 c.requires.run.1).shown in
+    let s = settled_there c.args.row.now c.requires.run.0 c.loop-step.step-index _ _ _ _ c.buses-buses.ensures.lawful shown in
+    let b : c.loop-step.window.latest.branch ≤ c.loop-step.window.latest.end = s.branch in
+    let by : c.loop-step.window.latest.end ≤ 67 * c.loop-step.step-index = end_bound c.args.row.now c.requires.run.0 c.loop-step.step-index _ c.loop-step.window.latest c.buses-buses.ensures.lawful (omega arith) shown.kept in
+    record { branch = omega arith }
 
 pub taken_by-taken-requires : goal.taken_by-taken-requires
-taken_by-taken-requires g c = ?
+taken_by-taken-requires g c =
+    let n : length c.args.facts.now ≡ length c.requires.run.0 = length_facts c.requires.run.0 c.args.facts.now c.requires.run.1 in
+    let by : c.loop-step.window.latest.issued ≤ c.loop-step.step-index = issued_bound c.args.row.now c.requires.run.0 c.loop-step.step-index _ c.loop-step.window.latest (omega arith) (c.loop-step.invariant c.requires.run.0 c.requires.run.1).shown.kept in
+    record { few = omega arith }
 
-pub note-requires : goal.note-requires
-note-requires g c = ?
+pub note-requires-clause-needs : goal.note-requires-clause-needs
+note-requires-clause-needs g c =
+    let n : length c.args.facts.now ≡ length c.requires.run.0 = length_facts c.requires.run.0 c.args.facts.now c.requires.run.1 in
+    needs_small c.args.row.now c.requires.run.0 c.loop-step.step-index c.loop-step.needs c.buses-buses.ensures.lawful (omega arith) (omega arith) (c.loop-step.invariant c.requires.run.0 c.requires.run.1).needs
+
+pub note-requires-clause-waits : goal.note-requires-clause-waits
+note-requires-clause-waits g c =
+    let n : length c.args.facts.now ≡ length c.requires.run.0 = length_facts c.requires.run.0 c.args.facts.now c.requires.run.1 in
+    let at = step_of c.args.row.now c.requires.run.0 c.args.facts.now c.loop-step.step-index _ c.buses-buses.ensures.lawful c.requires.run.1 c.loop-step-test.true in
+    held_small c.args.row.now c.requires.run.0 c.loop-step.step-index at.0 _ _ _ _ _ c.next_step-next.result c.waits_of-waits.result (omega arith) at.1 (c.loop-step.invariant c.requires.run.0 c.requires.run.1).shown c.next_step-next.ensures c.waits_of-waits.ensures
 
 pub keep-requires : goal.keep-requires
-keep-requires g c = ?
+keep-requires g c =
+    let n : length c.args.facts.now ≡ length c.requires.run.0 = length_facts c.requires.run.0 c.args.facts.now c.requires.run.1 in
+    let at = step_of c.args.row.now c.requires.run.0 c.args.facts.now c.loop-step.step-index _ c.buses-buses.ensures.lawful c.requires.run.1 c.loop-step-test.true in
+    can_keep c.args.row.now c.requires.run.0 c.loop-step.step-index at.0 _ _ _ _ _ c.next_step-next.result (omega arith) at.1 (c.loop-step.invariant c.requires.run.0 c.requires.run.1).shown c.next_step-next.ensures
 
 pub loop-step-preserved : goal.loop-step-preserved
 loop-step-preserved g c = λ steps are.
-    ?
+    let at = step_of c.args.row.now steps c.args.facts.now c.loop-step.step-index _ c.buses-buses.ensures.lawful are c.loop-step-test.true in
+    let before = c.loop-step.invariant steps are in
+    let turn = held_turn c.args.row.now steps c.loop-step.step-index at.0 _ _ _ _ _ _ c.next_step-next.result at.1 before.shown c.next_step-next.ensures c.in_ok-keep.ensures.table in
+    record {
+      shown = rw (c.in_ok-keep.ensures.latest, c.in_ok-keep.ensures.stations, c.in_ok-keep.ensures.accesses) turn.0;
+      needs = rw c.note.ensures (held_needs c.args.row.now steps c.loop-step.step-index at.0 _ _ _ _ _ c.next_step-next.result c.loop-step.needs c.waits_of-waits.result c.taken_by-taken.result at.1 before.shown c.next_step-next.ensures c.waits_of-waits.ensures c.taken_by-taken.ensures before.needs);
+    }
