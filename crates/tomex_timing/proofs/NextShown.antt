@@ -30,7 +30,7 @@ use Rattle.tomex_timing.proofs.Charges.{clear_same}
 use Rattle.tomex_timing.proofs.Limits.{latency_low, stations_high}
 use Rattle.tomex_timing.proofs.Orders.{dest_unit}
 use Rattle.tomex_timing.proofs.Pigeons.{stations_fit}
-use Rattle.tomex_timing.proofs.Searching.{least_agree}
+use Rattle.tomex_timing.proofs.Searching.{first_here, least_agree}
 use Rattle.tomex_timing.proofs.Shown.{IsShown, conflicts_among, results_among, starts_among}
 use Rattle.tomex_timing.proofs.Stations.{number_is}
 use Rattle.tomex_timing.proofs.Taken.{peak_within}
@@ -47,10 +47,6 @@ from_late row latest = either (nat_lt latest.issued row.width)
     either : (b : Bool) → (latest.issue ≤ max (cond b latest.issue (latest.issue + 1)) (latest.branch + 1)) × (0 < max (cond b latest.issue (latest.issue + 1)) (latest.branch + 1))
     either true = (omega arith, omega arith)
     either false = (omega arith, omega arith)
-
--- what passes at once is first
-first_here : (p : ℕ → Bool) (from : ℕ) → p from ≡ true → IsFirst from p from
-first_here p from e = (and_from (nat_le from from) (p from) (le-leb from from (omega arith)) e, λ s l. rw (lt-leb from s l) refl)
 
 -- a search from one cycle on, of a test that is as another from there on
 first_agree : (p q : ℕ → Bool) (from t : ℕ) → ((s : ℕ) → from ≤ s → p s ≡ q s) → IsFirst from p t → IsFirst from q t

@@ -1,15 +1,29 @@
 -- The reservation table: what is let go of changes nothing ahead, and past its last cycle one of each line is left.
-use Rattle.std.proofs.Common.{ℕ, ◌+◌, ◌-◌, ◌<◌, ◌≤◌, ◌≡◌, ◌∙◌, true, false, arith, ap, List, [], length, drop}
-use Rattle.std.specs.Prelude.{max, slice_index_or}
-use Rattle.std.proofs.lemmas.Bool.{lt-ltb}
-use Rattle.std.proofs.lemmas.List.{get_or-drop, get_or_past}
+use Rattle.std.proofs.Common.{ℕ, ◌+◌, ◌-◌, ◌<◌, ◌≤◌, ◌≡◌, ◌∙◌, true, false, arith, ap, sym, inl, inr, List, [], length, take}
+use Rattle.std.specs.Prelude.{max, nat_lt, slice_index_or}
+use Rattle.std.specs.List.{CopiedTo}
+use Rattle.std.proofs.lemmas.Bool.{cases_Bool, lt-ltb, ltb-true, ltb-false}
+use Rattle.std.proofs.lemmas.List.{get_or-take, get_or_past, length-take}
 use Rattle.tomex_timing.specs.Ahead.{Reserved, is_left, taken_at}
 use Rattle.tomex_timing.proofs.Searching.{IsSearching, goes_on}
 
-pub dropped : {X : Type 0} (xs : List X) (base cycle t : ℕ) (d : X) → base ≤ cycle → cycle ≤ t → slice_index_or (drop (cycle - base) xs) (t - cycle) d ≡ slice_index_or xs (t - base) d
-dropped xs base cycle t d l m =
+-- what is moved down, and all behind it let go of
+pub moved : {X : Type 0} (xs ys : List X) (past rest q : ℕ) (d : X) → past + rest ≡ length xs → CopiedTo xs ys past 0 rest → slice_index_or (take rest ys) q d ≡ slice_index_or xs (past + q) d
+moved xs ys past rest q d long copied = elim (cases_Bool (nat_lt q rest)) [
+  | inl e ↦
+      let l : q < rest = ltb-true q rest e in
+      let z : past + (q - 0) ≡ past + q = omega arith in
+      get_or-take rest ys q d l ∙ (copied q d (omega arith) (omega arith) ∙ ap (λ i. slice_index_or xs i d) z)
+  | inr e ↦
+      let l : rest ≤ q = ltb-false q rest e in
+      let n = length-take rest ys in
+      get_or_past (take rest ys) q d (omega arith) ∙ sym (get_or_past xs (past + q) d (omega arith))
+]
+
+pub dropped : {X : Type 0} (xs ys : List X) (base cycle t rest : ℕ) (d : X) → base ≤ cycle → cycle ≤ t → (cycle - base) + rest ≡ length xs → CopiedTo xs ys (cycle - base) 0 rest → slice_index_or (take rest ys) (t - cycle) d ≡ slice_index_or xs (t - base) d
+dropped xs ys base cycle t rest d l m long copied =
     let e : (cycle - base) + (t - cycle) ≡ t - base = omega arith in
-    get_or-drop (cycle - base) xs (t - cycle) d ∙ ap (λ i. slice_index_or xs i d) e
+    moved xs ys (cycle - base) rest (t - cycle) d long copied ∙ ap (λ i. slice_index_or xs i d) e
 
 pub past_end : {X : Type 0} (xs : List X) (base cycle t : ℕ) (d : X) → length xs ≤ cycle - base → cycle ≤ t → slice_index_or [] (t - cycle) d ≡ slice_index_or xs (t - base) d
 past_end xs base cycle t d l m =

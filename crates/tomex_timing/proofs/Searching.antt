@@ -52,3 +52,7 @@ found p from t n searching here = (
 -- a search from one cycle on, of a test that is as another from there on
 pub least_agree : (p q : ℕ → Bool) (a : ℕ) → ((t : ℕ) → p t ≡ q t) → IsLeast p a → IsLeast q a
 least_agree p q a agree x = (let h : q a ≡ p a = sym (agree a) in h ∙ x.0, λ s l. sym (agree s) ∙ x.1 s l)
+
+-- what passes at once is first
+pub first_here : (p : ℕ → Bool) (from : ℕ) → p from ≡ true → IsFirst from p from
+first_here p from e = (and_from (nat_le from from) (p from) (le-leb from from (omega arith)) e, λ s l. rw (lt-leb from s l) refl)

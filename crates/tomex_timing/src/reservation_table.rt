@@ -10,8 +10,11 @@ use std::marker::Model;
 /// The line of the buses. Those of the kinds of unit stand before it, in the order of `UnitId::ALL`.
 pub(crate) const BUSES: usize = 5;
 
-/// Room is made for so many cycles at once, and as many are let go of at once.
-const STRIDE: usize = 1024;
+/// Room is made for so many cycles at once.
+const STRIDE: usize = 64;
+
+/// And so many are let go of at once.
+const PAST: u64 = 1024;
 
 /// How many are taken of each line in each cycle.
 #[derive(Drop)]
@@ -63,8 +66,33 @@ impl<A: Allocator> ReservationTable<A> {
 
     /// The first cycle from `from` on in which fewer are taken of a line than there are. Past the cycle `bound`
     /// none are.
+    // Mostly it is `from` itself: the search is apart, so that the look before it is a few instructions.
     #[inline(always)]
     pub fn first(&self, line: usize, most: u8, from: u64, bound: u64) -> Room
+        requires line { line < 6 }
+        requires most { 1 ≤ most }
+        requires ahead { self.now.base ≤ from }
+        requires quiet { (t : ℕ) → bound < t → taken_at self.now line t ≡ 0 }
+        requires from { from < 2 ^ 63 + 128 }
+        requires small { bound < 2 ^ 63 }
+        ensures first { IsFirst from (is_left self.now line most) result.cycle }
+        ensures taken { result.taken ≡ taken_at self.now line result.cycle + 1 }
+        ensures from { from ≤ result.cycle }
+        ensures by { result.cycle ≤ max from (bound + 1) }
+    {
+        let taken = self.taken(line, from);
+        if taken < most {
+            Room {
+                cycle: from,
+                taken: u64::from(taken) + 1,
+            }
+        } else {
+            self.search(line, most, from, bound)
+        }
+    }
+
+    /// The same, by a search.
+    fn search(&self, line: usize, most: u8, from: u64, bound: u64) -> Room
         requires line { line < 6 }
         requires most { 1 ≤ most }
         requires ahead { self.now.base ≤ from }
@@ -124,7 +152,7 @@ impl<A: Allocator> ReservationTable<A> {
         ensures base { self.new.base ≤ cycle }
         ensures same { (l t : ℕ) → cycle ≤ t → taken_at self.new l t ≡ taken_at self.old l t }
     {
-        if cycle - self.base >= STRIDE as u64 {
+        if cycle - self.base >= PAST {
             self.forget(cycle);
         }
     }
@@ -137,7 +165,9 @@ impl<A: Allocator> ReservationTable<A> {
     {
         let past = (cycle - self.base) as usize;
         if past < self.slots.len() {
-            drop(self.slots.drain(..past));
+            let rest = self.slots.len() - past;
+            self.slots.copy_within(past.., 0);
+            self.slots.truncate(rest);
         } else {
             self.slots.clear();
         }

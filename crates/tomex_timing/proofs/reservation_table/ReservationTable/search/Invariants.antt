@@ -3,7 +3,7 @@ use Rattle.std.proofs.Common.{◌+◌, ◌-◌}
 use Rattle.std.specs.Prelude.{max}
 use Rattle.tomex_timing.specs.Ahead.{is_left}
 use Rattle.tomex_timing.proofs.Searching.{IsSearching}
-use Rattle.tomex_timing.proofs.reservation_table.ReservationTable.first.Given as goal
+use Rattle.tomex_timing.proofs.reservation_table.ReservationTable.search.Given as goal
 
 abbrev pub invariant-loop-line : goal.invariant-loop-line
 invariant-loop-line g l = IsSearching (is_left l.self l.line l.most) l.from l.cycle (max l.from (l.bound + 1))
