@@ -9,8 +9,7 @@ use crate::plateau::Plateau;
 use std::alloc::{AllocError, Allocator};
 use std::marker::Model;
 use tomex_config::Config;
-use tomex_rvexec::Step;
-use tomex_timing::evaluate::needs;
+use tomex_timing::Run;
 
 /// So many of them are kept.
 const MOST: usize = 1024;
@@ -18,8 +17,8 @@ const MOST: usize = 1024;
 /// Plateaus of a program, as the needs of its runs have told them.
 #[derive(Drop)]
 pub struct Plateaus<'s, A: Allocator> {
-    /// Of a run of the program.
-    steps: &'s [Step],
+    /// A run of the program.
+    run: &'s Run<A>,
     found: Vec<Plateau, A>,
     /// The place of the oldest, if there are as many as are kept.
     oldest: usize,
@@ -30,19 +29,19 @@ impl<'s, A: Allocator> Model for Plateaus<'s, A> {
 
     ghost Value = { Kept };
 
-    ghost view = { λ p. record { steps = p.steps.now; found = p.found.items; oldest = p.oldest } };
+    ghost view = { λ p. record { steps = p.run.now; found = p.found.items; oldest = p.oldest } };
 
-    ghost invariant = { λ p. AreKept (record { steps = p.steps.now; found = p.found.items; oldest = p.oldest }) };
+    ghost invariant = { λ p. AreKept (record { steps = p.run.now; found = p.found.items; oldest = p.oldest }) };
 }
 
 impl<'s, A: Allocator> Plateaus<'s, A> {
-    /// None yet of the program whose run has these steps. Takes no memory.
-    pub fn new(alloc: A, steps: &'s [Step]) -> Plateaus<'s, A>
-        requires { length steps.now < 2 ^ 28 }
-        ensures { result ≡ record { steps = steps.now; found = []; oldest = 0 } }
+    /// None yet of the program whose run this is. Takes no memory.
+    pub fn new(alloc: A, run: &'s Run<A>) -> Plateaus<'s, A>
+        requires { length run.now < 2 ^ 28 }
+        ensures { result ≡ record { steps = run.now; found = []; oldest = 0 } }
     {
         Plateaus {
-            steps,
+            run,
             found: Vec::new(alloc),
             oldest: 0,
         }
@@ -87,14 +86,14 @@ impl<'s, A: Allocator> Plateaus<'s, A> {
 
     /// Takes the needs of the program's run on a row, and keeps the plateau that they tell. The row lies on it.
     ///
-    /// The work is that of `times`, and the memory too.
+    /// The work is that of `times`, without its list.
     pub fn learn(&mut self, alloc: A, row: &Config) -> Result<(), AllocError>
         ensures steps { self.new.steps ≡ self.old.steps }
         ensures known { OnOk result (total_known row.now self.new.found ≡ Some (total_of (times_in row.now self.new.steps))) }
     {
         // Read for what the row's type keeps, which the proof needs.
         let _buses = row.buses();
-        let needs = needs(alloc, self.steps, row)?;
+        let needs = self.run.needs(&alloc, row)?;
         self.keep(Plateau::of(&needs, row))?;
         Ok(())
     }
