@@ -54,7 +54,7 @@ impl<'s, A: Allocator + Clone> Knowledge<'s, A> {
     {
         let mut lists = Vec::new(alloc.clone()?);
         for program in programs {
-            lists.push(Plateaus::new(alloc.clone()?, program.steps()))?;
+            lists.push(Plateaus::new(alloc.clone()?, program.run()))?;
         }
         Ok(Knowledge {
             alloc,

@@ -8,11 +8,12 @@ ghost use Rattle.tomex_sweep.specs.Program.{IsProgram, IsUnfit, refusal_of};
 ghost use Rattle.tomex_sweep.specs.declared.program.ProgramError.TheVariants as unfit;
 
 use crate::watch::WatchRange;
-use std::alloc::{Allocator, Global};
+use std::alloc::{AllocError, Allocator, Global};
 use std::marker::Model;
 use thiserror::Error;
 use tomex_image::Image;
 use tomex_rvexec::{Fault, RunError, Step, trace};
+use tomex_timing::Run;
 
 /// A program, which ends within its limit of 1 to 262,144 steps, by a run in order of its image.
 /// At most 8 ranges of its memory are watched, each inside it, together of at most 4,096 bytes. Its
@@ -24,8 +25,8 @@ pub struct Program<A: Allocator = Global> {
     limit: u32,
     watch: Vec<WatchRange, A>,
     weight: u32,
-    /// Those of its run, in program order.
-    steps: Vec<Step, A>,
+    /// Its run, whose steps are read once for all the rows that it is timed on.
+    run: Run<A>,
 }
 
 impl<A: Allocator> Model for Program<A> {
@@ -39,7 +40,7 @@ impl<A: Allocator> Model for Program<A> {
 
     ghost invariant = { λ p.
         IsProgram (record { name = string_bytes p.name; image = p.image; limit = p.limit; watch = p.watch.items; weight = p.weight })
-        × AreSteps p.image p.limit p.steps.items };
+        × AreSteps p.image p.limit p.run };
 }
 
 /// Why an image is no program of a study.
@@ -68,9 +69,17 @@ impl From<RunError> for ProgramError {
     }
 }
 
+impl From<AllocError> for ProgramError {
+    ghost from_gives = { λ error e. e ≡ unfit.Memory };
+
+    fn from(_error: AllocError) -> Self {
+        ProgramError::Memory
+    }
+}
+
 impl<A: Allocator + Clone> Program<A> {
     /// The program of this image, which is run to find whether it ends. The run takes as much
-    /// memory as the image has, and 20 bytes a step, which the program keeps.
+    /// memory as the image has, and 68 bytes a step, which the program keeps.
     pub fn new(
         alloc: A,
         name: String<A>,
@@ -89,14 +98,15 @@ impl<A: Allocator + Clone> Program<A> {
         ensures program { IfOk result (λ p. IsProgram p) }
         ensures unfit { IfErr result (λ e. IsUnfit image limit e) }
     {
-        let steps = trace(alloc, &image, limit)?;
+        let steps = trace(alloc.clone()?, &image, limit)?;
+        let run = Run::new(alloc, steps)?;
         Ok(Program {
             name,
             image,
             limit,
             watch,
             weight,
-            steps,
+            run,
         })
     }
 }
@@ -149,6 +159,15 @@ impl<A: Allocator> Program<A> {
         ensures few { length result.now ≤ 262144 }
         ensures program { IsProgram self.now }
     {
-        self.steps.as_slice()
+        self.run.steps()
+    }
+
+    /// Its run, with what a row's timing depends on.
+    pub fn run(&self) -> &Run<A>
+        ensures steps { result.now ≡ steps_from self.now.limit (start_of self.now.image) }
+        ensures few { length result.now ≤ 262144 }
+        ensures program { IsProgram self.now }
+    {
+        &self.run
     }
 }
