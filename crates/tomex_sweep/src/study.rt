@@ -32,6 +32,17 @@ impl<A: Allocator> Model for Study<A> {
         IsStudy (record { programs = s.programs.items; rows = s.rows.items; costs = s.costs.items; prices = s.prices; wide = s.wide }) };
 }
 
+/// What each row costs.
+fn costs_of<A: Allocator>(
+    alloc: A,
+    rows: &[Config],
+    prices: &Prices,
+) -> Result<Vec<u64, A>, AllocError>
+    ensures { IfOk result (λ v. v.items ≡ costs_of prices.now rows.now) }
+{
+    rows.iter().map(|row| cost(row, prices)).collect(alloc)
+}
+
 impl<A: Allocator> Study<A> {
     /// The study of these programs and rows, with what each row costs.
     pub fn new(
@@ -55,7 +66,7 @@ impl<A: Allocator> Study<A> {
             }) }
         ensures study { IfOk result (λ s. IsStudy s) }
     {
-        let costs = rows.iter().map(|row| cost(row, &prices)).collect(alloc)?;
+        let costs = costs_of(alloc, &rows, &prices)?;
         Ok(Study {
             programs,
             rows,
