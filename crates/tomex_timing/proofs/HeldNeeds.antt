@@ -1,6 +1,6 @@
 -- Waits and needs of a run's steps, by what is held before each.
-use Rattle.std.proofs.Common.{ℕ, zero, suc, ◌+◌, ◌*◌, ◌^◌, ◌<◌, ◌≤◌, ◌≡◌, ◌∙◌, arith, refl, sym, ap, List, [], ◌∷◌, ◌++◌, length, map, take}
-use Rattle.std.specs.Prelude.{slice_index_or, All}
+use Rattle.std.proofs.Common.{ℕ, zero, suc, ◌+◌, ◌^◌, ◌<◌, ◌≡◌, ◌∙◌, arith, refl, ap, List, [], ◌∷◌, ◌++◌, length, map, take}
+use Rattle.std.specs.Prelude.{slice_index_or}
 use Rattle.std.proofs.lemmas.List.{length-map, map-append, take_more}
 use Rattle.std.proofs.lemmas.List.Elements.{All-push}
 use Rattle.tomex_rvexec.specs.declared.step.Step.{Step}
@@ -9,7 +9,6 @@ use Rattle.tomex_timing.specs.declared.accesses.Access.{Access}
 use Rattle.tomex_timing.specs.declared.needs.Needs.{Needs}
 use Rattle.tomex_timing.specs.declared.next.Next.{Next}
 use Rattle.tomex_timing.specs.declared.part.Waits.{Waits}
-use Rattle.tomex_timing.specs.declared.times.Done.{Done}
 use Rattle.tomex_timing.specs.declared.waiting.Taken.{Taken}
 use Rattle.tomex_timing.specs.declared.window.Facts.{Facts}
 use Rattle.tomex_timing.specs.declared.window.Latest.{Latest}
@@ -17,7 +16,7 @@ use Rattle.tomex_timing.specs.Ahead.{IsNextBy, Reserved}
 use Rattle.tomex_timing.specs.History.{last_issue}
 use Rattle.tomex_timing.specs.Needs.{AreNeeds, waits_in}
 use Rattle.tomex_timing.specs.Search.{history}
-use Rattle.tomex_timing.specs.Waiting.{AreWithin, marks_among, needs_after, taken_from, waits_by}
+use Rattle.tomex_timing.specs.Waiting.{AreWithin, needs_after, taken_from, waits_by}
 use Rattle.tomex_timing.specs.Window.{AreFacts, HasRegisters, facts_of, recent}
 use Rattle.tomex_timing.proofs.NeedTurns.{needs_turn, waits_small, waits_turn}
 use Rattle.tomex_timing.proofs.NextShown.{IsNextShown}
@@ -54,14 +53,16 @@ length_facts steps facts are = rw are.are (length-map steps facts_of)
 pub step_of : (row : Row) (steps : List Step) (facts : List Facts) (i : ℕ) (d : Facts) → IsRow row → AreFacts steps facts → i < length facts → (x : Step) × IsStep row steps i x (slice_index_or facts i d)
 step_of row steps facts i d good are l =
     let n : length facts ≡ length steps = length_facts steps facts are in
-    let there = step_at steps i d (omega arith) in
-    (there.0, record {
-      good = good;
-      place = omega arith;
-      at = there.1;
-      facts = ap (λ fs. slice_index_or fs i d) are.are ∙ there.2;
-      registers = are.registers i d l;
-    })
+    let there = step_at steps i d (omega arith) in (
+      there.0,
+      record {
+        good = good;
+        place = omega arith;
+        at = there.1;
+        facts = ap (λ fs. slice_index_or fs i d) are.are ∙ there.2;
+        registers = are.registers i d l;
+      },
+    )
 
 -- one step's facts more
 pub facts_more : (steps : List Step) (facts : List Facts) (i : ℕ) (x : Step) (f : Facts) → i < length steps → slice_index_or steps i x ≡ x → f ≡ facts_of x → HasRegisters f → AreFacts (take i steps) facts → AreFacts (take (i + 1) steps) (facts ++ (f ∷ []))

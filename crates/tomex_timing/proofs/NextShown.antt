@@ -1,9 +1,9 @@
 -- The next step by what is held is the next step by what is kept.
-use Rattle.std.proofs.Common.{ℕ, suc, ◌+◌, ◌-◌, ◌<◌, ◌≤◌, ◌≡◌, ◌∙◌, Bool, true, false, cond, arith, refl, sym, ap, inl, inr, List, Option, Some, None, max, length}
-use Rattle.std.specs.Prelude.{nat_lt, nat_le, ◌==◌, not, ◌&&◌, is_some, count_by, MatchOption}
+use Rattle.std.proofs.Common.{ℕ, ◌+◌, ◌-◌, ◌<◌, ◌≤◌, ◌≡◌, ◌∙◌, Bool, true, false, cond, arith, refl, sym, ap, inl, inr, List, Option, Some, None, max}
+use Rattle.std.specs.Prelude.{nat_lt, nat_le, ◌&&◌, is_some, count_by, MatchOption}
 use Rattle.std.specs.Bool.{MatchBool}
 use Rattle.std.specs.List.{list_all}
-use Rattle.std.proofs.lemmas.Bool.{cases_Bool, and_from, and_parts, le-leb, lt-leb, lt-ltb, le-ltb, leb-true, ltb-true}
+use Rattle.std.proofs.lemmas.Bool.{cases_Bool, and_from, and_parts, le-leb, lt-ltb, le-ltb, leb-true, ltb-true}
 use Rattle.tomex_rvdec.specs.Parts.{place_of_unit}
 use Rattle.tomex_rvdec.specs.declared.pool.PoolId.{PoolId}
 use Rattle.tomex_rvdec.specs.declared.pool.UnitId.{UnitId}
@@ -16,16 +16,15 @@ use Rattle.tomex_timing.specs.declared.next.Marks.{Marks}
 use Rattle.tomex_timing.specs.declared.next.Next.{Next}
 use Rattle.tomex_timing.specs.declared.part.Part.TheVariants.{Stations}
 use Rattle.tomex_timing.specs.declared.times.Done.{Done}
-use Rattle.tomex_timing.specs.declared.times.Times.{Times}
 use Rattle.tomex_timing.specs.declared.window.Facts.{Facts}
 use Rattle.tomex_timing.specs.declared.window.Latest.{Latest}
-use Rattle.tomex_timing.specs.Ahead.{ArePast, IsFreeFirst, IsIdle, IsNextBy, Reserved, RunsOn, TakesBus, TakesStation, bus_line, end_at, end_in, is_left, is_past, taken_at}
+use Rattle.tomex_timing.specs.Ahead.{ArePast, IsFreeFirst, IsIdle, IsNextBy, Reserved, RunsOn, TakesBus, TakesStation, bus_line, end_at, end_in, is_left, is_past}
 use Rattle.tomex_timing.specs.History.{last_issue}
 use Rattle.tomex_timing.specs.Recurrence.{IsLeast, AreTimed}
 use Rattle.tomex_timing.specs.Search.{least}
 use Rattle.tomex_timing.specs.Station.{is_held, has_station, is_free}
 use Rattle.tomex_timing.specs.Waiting.{buses_taken, clear_among, marks_among, marks_from, units_taken}
-use Rattle.tomex_timing.specs.Window.{EndsAfterAmong, IsFirst, IsNext, end_among, facts_of, has_bus_among, has_station_among, has_unit_among, is_finished_conflict, is_free_among, issue_from, may_start, ready_of, recent, register_of, sends_in, starts_in}
+use Rattle.tomex_timing.specs.Window.{EndsAfterAmong, IsFirst, IsNext, end_among, facts_of, has_bus_among, has_station_among, is_free_among, issue_from, may_start, ready_of, recent, register_of}
 use Rattle.tomex_timing.proofs.Charges.{clear_same}
 use Rattle.tomex_timing.proofs.Limits.{latency_low, stations_high}
 use Rattle.tomex_timing.proofs.Orders.{dest_unit}

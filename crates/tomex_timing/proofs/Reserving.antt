@@ -1,5 +1,5 @@
 -- The reservation table: what is let go of changes nothing ahead, and past its last cycle one of each line is left.
-use Rattle.std.proofs.Common.{ℕ, ◌+◌, ◌-◌, ◌<◌, ◌≤◌, ◌≡◌, ◌∙◌, true, false, arith, ap, sym, inl, inr, List, [], length, take}
+use Rattle.std.proofs.Common.{ℕ, ◌+◌, ◌-◌, ◌<◌, ◌≤◌, ◌≡◌, ◌∙◌, false, arith, ap, sym, inl, inr, List, [], length, take}
 use Rattle.std.specs.Prelude.{max, nat_lt, slice_index_or}
 use Rattle.std.specs.List.{CopiedTo}
 use Rattle.std.proofs.lemmas.Bool.{cases_Bool, lt-ltb, ltb-true, ltb-false}

@@ -1,21 +1,9 @@
 -- Searches for the first cycle that passes a test.
-use Rattle.std.proofs.Common.{ℕ, ◌+◌, ◌<◌, ◌≤◌, ◌≡◌, Bool, true, false, arith, refl, sym, ◌∙◌, List, [], ◌∷◌, Option, Some, None, inl, inr}
-use Rattle.std.specs.Prelude.{nat_le, ◌==◌, ◌&&◌, All}
-use Rattle.std.proofs.lemmas.Bool.{cases_Bool, cases_order, both_ways, lt-ltb, lt-leb, le-leb, leb-true, ne_eqb, and_from, and_right}
-use Rattle.std.proofs.lemmas.List.Elements.{recursion_from_All}
-use Rattle.tomex_rvdec.specs.declared.pool.PoolId.{PoolId}
-use Rattle.tomex_rvdec.specs.declared.pool.UnitId.{UnitId}
-use Rattle.tomex_config.specs.Row.{Row, IsRow, stations_of, option_of}
-use Rattle.tomex_rvexec.specs.declared.step.ByteRange.{ByteRange}
-use Rattle.tomex_timing.specs.declared.window.Facts.{Facts}
-use Rattle.tomex_rvexec.specs.Steps.{is_in}
-use Rattle.tomex_timing.specs.History.{is_of}
-use Rattle.tomex_timing.specs.Recurrence.{IsLeast, shares_byte}
-use Rattle.tomex_timing.specs.Window.{Live, IsBy, IsFirst, is_held_by, has_station_among, starts_in, has_unit_among, sends_in, has_bus_among, is_finished_conflict}
-use Rattle.std.specs.List.{list_all}
-use Rattle.tomex_timing.proofs.Limits.{stations_low, units_low, buses_low}
-use Rattle.tomex_timing.proofs.Settled.{count_none}
-use Rattle.std.specs.Prelude.{is_some, is_none}
+use Rattle.std.proofs.Common.{ℕ, ◌+◌, ◌<◌, ◌≤◌, ◌≡◌, Bool, true, false, arith, refl, sym, ◌∙◌, inl, inr}
+use Rattle.std.specs.Prelude.{nat_le}
+use Rattle.std.proofs.lemmas.Bool.{cases_Bool, cases_order, both_ways, lt-leb, le-leb, leb-true, and_from, and_right}
+use Rattle.tomex_timing.specs.Recurrence.{IsLeast}
+use Rattle.tomex_timing.specs.Window.{IsFirst}
 
 -- a search for what passes: it began at `from`, has come to t with all behind it failing, and n passes
 pub record IsSearching (p : ℕ → Bool) (from t n : ℕ) : Type 0 where

@@ -1,12 +1,12 @@
 -- What the evaluator holds shows a history: each question about a cycle after its last issue is answered as over all
 -- its steps.
-use Rattle.std.proofs.Common.{ℕ, ◌+◌, ◌<◌, ◌≤◌, ◌≡◌, ◌∙◌, Bool, true, false, arith, refl, sym, ap, List, [], ◌∷◌, Option, Some, None, length, take}
-use Rattle.std.specs.Prelude.{nat_lt, nat_le, ◌==◌, not, ◌&&◌, ◌||◌, is_some, count_by, replicate}
+use Rattle.std.proofs.Common.{ℕ, ◌+◌, ◌<◌, ◌≤◌, ◌≡◌, ◌∙◌, true, false, arith, refl, sym, List, [], length, take}
+use Rattle.std.specs.Prelude.{nat_lt, nat_le, ◌==◌, not, ◌&&◌, is_some, count_by, replicate}
 use Rattle.std.specs.List.{list_all, AllByRecursion}
 use Rattle.std.proofs.lemmas.Bool.{and_right, or_right, lt-ltb, lt-leb, ltb-true, ne_eqb}
 use Rattle.std.proofs.lemmas.List.{get_or-replicate}
 use Rattle.std.proofs.lemmas.List.Elements.{All-from_recursion}
-use Rattle.tomex_rvdec.specs.Parts.{place_of_pool, place_of_unit}
+use Rattle.tomex_rvdec.specs.Parts.{place_of_unit}
 use Rattle.tomex_rvdec.specs.declared.pool.PoolId.{PoolId}
 use Rattle.tomex_rvdec.specs.declared.pool.UnitId.{UnitId}
 use Rattle.tomex_rvexec.specs.Steps.{step_pool, step_unit, step_dest, is_in, is_number}
@@ -21,7 +21,7 @@ use Rattle.tomex_timing.specs.History.{is_of, last_issue, greatest_end}
 use Rattle.tomex_timing.specs.Recurrence.{AreTimed}
 use Rattle.tomex_timing.specs.Search.{history}
 use Rattle.tomex_timing.specs.Station.{is_held, is_free}
-use Rattle.tomex_timing.specs.Window.{Live, live_of, recent, starts_in, sends_in, is_finished_conflict, nothing_yet, IsKept, IsSettled}
+use Rattle.tomex_timing.specs.Window.{live_of, recent, starts_in, sends_in, is_finished_conflict, nothing_yet, IsKept, IsSettled}
 use Rattle.tomex_timing.proofs.Bound.{timed_by}
 use Rattle.tomex_timing.proofs.Histories.{are_timed}
 use Rattle.tomex_timing.proofs.Limits.{pool_in, unit_in}

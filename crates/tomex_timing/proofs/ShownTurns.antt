@@ -1,9 +1,9 @@
 -- One step more: what is held then shows the longer history.
-use Rattle.std.proofs.Common.{ℕ, ◌+◌, ◌*◌, ◌^◌, ◌<◌, ◌≤◌, ◌≡◌, ◌≢◌, ◌∙◌, Bool, true, false, cond, arith, refl, sym, ap, inl, inr, List, [], ◌∷◌, ◌++◌, Option, Some, None, length, take, max}
-use Rattle.std.specs.Prelude.{nat_lt, nat_le, ◌==◌, not, ◌&&◌, ◌||◌, is_some, count_by, slice_index, slice_index_or, slice_set, MatchOption, IfSome}
+use Rattle.std.proofs.Common.{ℕ, ◌+◌, ◌^◌, ◌<◌, ◌≤◌, ◌≡◌, ◌≢◌, ◌∙◌, Bool, true, false, arith, refl, inl, inr, List, [], ◌∷◌, ◌++◌, Option, Some, None, length, take, max}
+use Rattle.std.specs.Prelude.{nat_lt, nat_le, ◌==◌, not, ◌&&◌, ◌||◌, is_some, count_by, slice_index_or, slice_set, MatchOption, IfSome}
 use Rattle.std.specs.Option.{ForSome}
 use Rattle.std.specs.List.{filter, list_all, AllByRecursion}
-use Rattle.std.proofs.lemmas.Bool.{cases_Bool, cases_order, cases_eq, and_parts, eq-eqb, eqb-true, ne_eqb, le-leb, lt-leb, lt-ltb, le-ltb, ltb-true, leb-true, leb-false}
+use Rattle.std.proofs.lemmas.Bool.{cases_Bool, and_parts, eq-eqb, eqb-true, lt-ltb, le-ltb, ltb-true, leb-true, leb-false}
 use Rattle.std.proofs.lemmas.List.{get_or-set_same, get_or-set_other, length-set}
 use Rattle.std.proofs.lemmas.List.Folds.{list_all-append}
 use Rattle.std.proofs.lemmas.List.Sums.{sum_by-cons}
@@ -21,11 +21,11 @@ use Rattle.tomex_timing.specs.declared.times.Done.{Done}
 use Rattle.tomex_timing.specs.declared.times.Times.{Times}
 use Rattle.tomex_timing.specs.declared.window.Facts.{Facts}
 use Rattle.tomex_timing.specs.declared.window.Latest.{Latest}
-use Rattle.tomex_timing.specs.Ahead.{CanKeep, IsFreeFirst, IsIdle, IsNextBy, IsTableAfter, Reserved, RunsOn, TakesBus, TakesStation, accesses_after, accesses_with, bus_line, end_at, end_in, ends_after, ends_with, is_left, is_past, one, station_place, taken_at}
+use Rattle.tomex_timing.specs.Ahead.{CanKeep, IsIdle, IsNextBy, IsTableAfter, Reserved, RunsOn, TakesBus, TakesStation, accesses_after, accesses_with, bus_line, end_at, end_in, ends_after, ends_with, is_left, is_past, one, station_place, taken_at}
 use Rattle.tomex_timing.specs.History.{is_of, last_issue, greatest_end}
 use Rattle.tomex_timing.specs.Recurrence.{AreTimed}
 use Rattle.tomex_timing.specs.Search.{history, times_in}
-use Rattle.tomex_timing.specs.Station.{is_held, is_free}
+use Rattle.tomex_timing.specs.Station.{is_free}
 use Rattle.tomex_timing.specs.Waiting.{marks_among}
 use Rattle.tomex_timing.specs.Window.{facts_of, register_of, HasRegisters, IsFirst, is_finished_conflict, latest_after, Live, live_of, recent, sends_in, starts_in, IsKept}
 use Rattle.tomex_timing.proofs.Limits.{buses_high, pool_in, stations_high, units_high}
@@ -204,7 +204,6 @@ register_low : (o : Option Operand) → IfSome (register_of o) (λ r. r < 32) �
 register_low None h x e = absurd (cc)
 register_low (Some o) h x e = let k : o ≡ x = cc in rw (← k) h
 
-
 -- the step of a run at a place, by what is held before it
 pub record IsStep (row : Row) (steps : List Step) (i : ℕ) (x : Step) (f : Facts) : Type 0 where
   pub good : IsRow row
@@ -243,8 +242,7 @@ held_turn row steps i x f latest table after taken accesses next step shown by t
     let is : IsNextShown row (history row (take i steps)) latest x next = now_shown row steps i x f latest table taken accesses next step shown by in
     let kept = turn_at row steps i x f next.at (recent (last_issue (history row (take i steps))) (history row (take i steps))) latest step.good step.place step.at step.facts step.registers.dest (low_j row steps i x f step) (low_k row steps i x f step) shown.kept is.is in
     let more : history row (take (i + 1) steps) ≡ record { step = x; at = next.at } ∷ history row (take i steps) = history_at row steps i x next.at latest step.good step.place step.at (low_j row steps i x f step) (low_k row steps i x f step) shown.kept is.is in
-    let r = reach_at row steps i x next.at latest step.good (low_j row steps i x f step) (low_k row steps i x f step) shown.kept is.is in
-    (
+    let r = reach_at row steps i x next.at latest step.good (low_j row steps i x f step) (low_k row steps i x f step) shown.kept is.is in (
       rw (more, step.facts) (shown_turn row (history row (take i steps)) x next latest table after taken accesses _ step.good shown (rw step.facts at by) is r (rw (more, step.facts) at kept.0) (rw step.facts at tabled)),
       kept.1,
     )

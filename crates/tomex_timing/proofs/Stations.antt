@@ -11,7 +11,6 @@ use Rattle.tomex_rvexec.specs.Steps.{is_number}
 use Rattle.tomex_timing.specs.Station.{is_held, has_station, is_free}
 use Rattle.tomex_timing.specs.Recurrence.{IsLeast}
 use Rattle.tomex_timing.specs.Search.{first_from, least}
-use Rattle.tomex_timing.specs.Window.{Live, is_held_by, has_station_among, is_free_among}
 use Rattle.tomex_timing.proofs.Least.{fails_more}
 
 -- a bounded search finds the least, or there is none below the bound
@@ -99,7 +98,3 @@ found held station xs n few = elim (least_cases (λ k. list_all (λ d. not (held
 pub number_is : (row : Row) (older : List Done) (pool : PoolId) (t : ℕ) → has_station row older (Some pool) t ≡ true
     → IsLeast (is_free pool older t) (least (is_free pool older t) (stations_of row pool)) × (least (is_free pool older t) (stations_of row pool) < stations_of row pool)
 number_is row older pool t h = found (is_held pool t) (λ d. d.at.station) older (stations_of row pool) (ltb-true _ _ h)
-
-pub number_among : (row : Row) (live : List Live) (pool : PoolId) (t : ℕ) → has_station_among row live (Some pool) t ≡ true
-    → IsLeast (is_free_among pool live t) (least (is_free_among pool live t) (stations_of row pool)) × (least (is_free_among pool live t) (stations_of row pool) < stations_of row pool)
-number_among row live pool t h = found (is_held_by pool t) (λ l. l.station) live (stations_of row pool) (ltb-true _ _ h)

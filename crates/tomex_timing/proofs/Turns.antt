@@ -59,9 +59,6 @@ settled row h live latest good timed kept =
 pub start_kept : (row : Row) → IsKept (history row []) [] nothing_yet
 start_kept row = record { window = refl; ends = λ r l. get_or-replicate 32 r 0 0 l; count = refl; issue = refl; issued = refl; branch = refl; address = refl; end = refl }
 
-pub settled_at : (row : Row) (steps : List Step) (i : ℕ) (live : List Live) (latest : Latest) → IsRow row → IsKept (history row (take i steps)) live latest → IsSettled live latest
-settled_at row steps i live latest good kept = settled row (history row (take i steps)) live latest good (are_timed row (take i steps) good) kept
-
 pub end_bound : (row : Row) (steps : List Step) (i : ℕ) (live : List Live) (latest : Latest) → IsRow row → i ≤ length steps → IsKept (history row (take i steps)) live latest → latest.end ≤ 67 * i
 end_bound row steps i live latest good l kept =
     let b : greatest_end (history row (take i steps)) ≤ 67 * length (take i steps) = history_bound row (take i steps) good in

@@ -1,11 +1,10 @@
 -- The accesses under way, and those of them that are in a step's way.
-use Rattle.std.proofs.Common.{ℕ, ◌≡◌, ◌∙◌, Bool, true, false, refl, sym, List, [], ◌∷◌, ◌++◌, Option, Some, None}
+use Rattle.std.proofs.Common.{ℕ, ◌≡◌, Bool, true, false, refl, List, [], ◌∷◌, None}
 use Rattle.std.specs.Prelude.{nat_le, ◌&&◌}
 use Rattle.std.specs.List.{list_all}
-use Rattle.tomex_rvexec.specs.declared.step.ByteRange.{ByteRange}
 use Rattle.tomex_timing.specs.declared.accesses.Access.{Access}
 use Rattle.tomex_timing.specs.declared.window.Facts.{Facts}
-use Rattle.tomex_timing.specs.Ahead.{ArePast, is_past, access_conflicts}
+use Rattle.tomex_timing.specs.Ahead.{ArePast, is_past}
 
 -- what touches no memory has nothing in its way
 all_past : (f : Facts) (accesses : List Access) (t : ℕ) → f.bytes ≡ None → list_all (is_past f t) accesses ≡ true

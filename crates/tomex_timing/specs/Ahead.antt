@@ -1,6 +1,6 @@
 -- What the evaluator holds of the steps before, in place of a list of them: the reservation table of the cycles
 -- ahead, the ends of the stations' steps, and the accesses under way.
-use Rattle.std.specs.Prelude.{ℕ, ◌+◌, ◌*◌, ◌-◌, ◌^◌, ◌<◌, ◌≤◌, ◌≡◌, ◌==◌, nat_lt, nat_le, Bool, not, ◌&&◌, ◌||◌, if◌then◌else◌, List, [], ◌∷◌, ◌++◌, cond, Option, Some, None, is_some, IfSome, slice_index, slice_index_or, slice_set, replicate, MatchOption, All}
+use Rattle.std.specs.Prelude.{ℕ, ◌+◌, ◌*◌, ◌-◌, ◌^◌, ◌<◌, ◌≤◌, ◌≡◌, ◌==◌, nat_lt, nat_le, Bool, not, ◌&&◌, ◌||◌, if◌then◌else◌, List, [], ◌∷◌, ◌++◌, Option, Some, None, is_some, IfSome, slice_index, slice_index_or, slice_set, replicate, MatchOption, All}
 use Rattle.std.specs.Bool.{MatchBool}
 use Rattle.std.specs.List.{list_all, filter}
 use Rattle.tomex_rvdec.specs.Parts.{place_of_pool, place_of_unit}
@@ -9,7 +9,6 @@ use Rattle.tomex_rvdec.specs.declared.pool.UnitId.{UnitId}
 use Rattle.tomex_rvexec.specs.declared.step.ByteRange.{ByteRange}
 use Rattle.tomex_config.specs.Row.{Row, stations_of, option_of}
 use Rattle.tomex_timing.specs.declared.accesses.Access.{Access}
-use Rattle.tomex_timing.specs.declared.next.Marks.{Marks}
 use Rattle.tomex_timing.specs.declared.next.Next.{Next}
 use Rattle.tomex_timing.specs.declared.times.Times.{Times}
 use Rattle.tomex_timing.specs.declared.window.Facts.{Facts}
@@ -103,7 +102,8 @@ one b = if b then 1 else 0
 pub record IsTableAfter (f : Facts) (at : Times) (before after : Reserved) : Type 0 where
   pub base : after.base ≤ at.issue
   pub starts : (unit : UnitId) (t : ℕ) → at.issue ≤ t
-      → taken_at after (place_of_unit unit) t ≡ taken_at before (place_of_unit unit) t + one (is_of unit f.unit && at.start == t)
+      → taken_at after (place_of_unit unit) t
+      ≡ taken_at before (place_of_unit unit) t + one (is_of unit f.unit && at.start == t)
   pub results : (t : ℕ) → at.issue ≤ t
       → taken_at after bus_line t ≡ taken_at before bus_line t + one (is_some f.unit && is_some f.dest && at.end == t)
 
@@ -118,8 +118,8 @@ end_in ends (Some r) = slice_index ends r
 abbrev pub TakesStation : Row → List ℕ → Option PoolId → ℕ → ℕ → Option ℕ → Type 0
 TakesStation row ends pool from issue station =
     MatchOption pool
-        ((issue ≡ from) × (station ≡ None))
-        (λ p. (n : ℕ) × (station ≡ Some n) × IsFreeFirst ends p (stations_of row p) from issue n)
+    ((issue ≡ from) × (station ≡ None))
+    (λ p. (n : ℕ) × (station ≡ Some n) × IsFreeFirst ends p (stations_of row p) from issue n)
 
 -- what is taken of a line with one's own is one more than what others take of it
 abbrev pub with_own : Reserved → ℕ → ℕ → ℕ
@@ -129,8 +129,8 @@ with_own table line t = taken_at table line t + 1
 abbrev pub TakesBus : Row → Reserved → Option ℕ → ℕ → ℕ → ℕ → Type 0
 TakesBus row table dest finish end buses =
     MatchBool (is_some dest)
-        (IsFirst (finish + 1) (is_left table bus_line row.buses) end × (buses ≡ with_own table bus_line end))
-        ((end ≡ finish) × (buses ≡ 0))
+    (IsFirst (finish + 1) (is_left table bus_line row.buses) end × (buses ≡ with_own table bus_line end))
+    ((end ≡ finish) × (buses ≡ 0))
 
 -- what starts and ends as it issues
 pub record IsIdle (next : Next) : Type 0 where
@@ -144,7 +144,8 @@ pub record IsIdle (next : Next) : Type 0 where
   pub buses : next.buses ≡ 0
 
 -- what runs on a unit of this kind, given the ends of its operands' producers
-pub record RunsOn (row : Row) (table : Reserved) (accesses : List Access) (f : Facts) (j k : ℕ) (next : Next) (unit : UnitId) : Type 0 where
+pub record RunsOn (row : Row) (table : Reserved) (accesses : List Access) (f : Facts) (j k : ℕ) (next : Next)
+    (unit : UnitId) : Type 0 where
   pub operands : next.marks.operands ≡ operands_from next.at.issue j k
   pub ready : next.marks.ready ≡ ready_from next.at.issue next.at.address j k
   pub clear : ArePast f accesses next.marks.ready next.marks.clear
@@ -154,7 +155,8 @@ pub record RunsOn (row : Row) (table : Reserved) (accesses : List Access) (f : F
   pub units : next.units ≡ with_own table (place_of_unit unit) next.at.start
 
 -- the times of a next step, its marks and what it takes, by what is held
-pub record IsNextBy (row : Row) (latest : Latest) (table : Reserved) (ends : List ℕ) (accesses : List Access) (f : Facts) (next : Next) : Type 0 where
+pub record IsNextBy (row : Row) (latest : Latest) (table : Reserved) (ends : List ℕ) (accesses : List Access)
+    (f : Facts) (next : Next) : Type 0 where
   pub from : next.marks.from ≡ issue_from row latest
   pub issue : TakesStation row ends f.pool next.marks.from next.at.issue next.at.station
   pub address : next.at.address ≡ address_among latest f.pool (end_in latest.ends f.j) next.at.issue

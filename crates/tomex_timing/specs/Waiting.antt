@@ -1,6 +1,5 @@
 -- The needs of a run as they are counted: a step's waits are differences of cycles that the evaluator has at hand.
-use Rattle.std.specs.Prelude.{ℕ, ◌+◌, ◌-◌, ◌≤◌, ◌==◌, nat_le, if◌then◌else◌, List, [], ◌∷◌, ◌++◌, Option, Some, None, count_by, is_some, max, replicate, slice_index_or, slice_set}
-use Rattle.std.specs.List.{filter}
+use Rattle.std.specs.Prelude.{ℕ, ◌+◌, ◌-◌, ◌≤◌, ◌==◌, if◌then◌else◌, List, [], ◌∷◌, Option, Some, None, count_by, is_some, max, replicate, slice_index_or, slice_set}
 use Rattle.tomex_rvdec.specs.Parts.{place_of_pool, place_of_unit}
 use Rattle.tomex_rvdec.specs.declared.pool.PoolId.{PoolId}
 use Rattle.tomex_rvdec.specs.declared.pool.UnitId.{UnitId}
@@ -18,7 +17,7 @@ use Rattle.tomex_timing.specs.declared.waiting.Taken.{Taken}
 use Rattle.tomex_timing.specs.declared.window.Facts.{Facts}
 use Rattle.tomex_timing.specs.declared.window.Latest.{Latest}
 use Rattle.tomex_timing.specs.Needs.{no_need, need_of, stations_up_to}
-use Rattle.tomex_timing.specs.Window.{Live, facts_of, live_from, issue_from, conflicts_with, starts_in, sends_in, end_among, ready_from}
+use Rattle.tomex_timing.specs.Window.{Live, facts_of, issue_from, conflicts_with, starts_in, sends_in, end_among, ready_from}
 
 -- the first cycle from this one on that is later than the finish of each conflicting access
 abbrev pub clear_among : Facts → List Live → ℕ → ℕ
@@ -65,10 +64,6 @@ waits_by latest marks at = record {
   unit = at.start - marks.clear;
   bus = at.end - at.finish - 1;
 }
-
--- what is kept after one more step
-abbrev pub live_after : Facts → Times → List Live → List Live
-live_after f at live = filter (λ l. nat_le at.issue l.end) live ++ (live_from f at ∷ [])
 
 -- how many units of a kind are taken in a cycle with a next step's own, and how many buses
 abbrev pub units_taken : List Live → Option UnitId → ℕ → ℕ

@@ -57,7 +57,11 @@ pub(crate) fn past_conflicts(accesses: &[Access], facts: &Facts, from: u64, boun
     };
     let mut cycle = from;
     for access in accesses {
-        cycle = later(cycle, conflicts(access, bytes, facts.is_store), access.finish);
+        cycle = later(
+            cycle,
+            conflicts(access, bytes, facts.is_store),
+            access.finish,
+        );
     }
     cycle
 }

@@ -20,9 +20,9 @@ use tomex_rvexec::Step;
 
 /// The times of a run's steps on a row, in program order.
 ///
-/// The work is linear in the steps: what is kept of those before are the ones that may still be in
-/// the way. A cycle is at most 67 times the number of steps, so fewer than 2^56 of them, more than
-/// a memory holds, keep every cycle within 64 bits.
+/// The work is linear in the steps: of those before only what may still be in the way is kept. A cycle
+/// is at most 67 times the number of steps, so fewer than 2^56 of them, more than a memory holds, keep
+/// every cycle within 64 bits.
 pub fn times<A: Allocator + Clone>(
     alloc: A,
     steps: &[Step],

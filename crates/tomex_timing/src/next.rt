@@ -8,8 +8,8 @@ ghost use Rattle.tomex_timing.specs.History.{cycle_of};
 ghost use Rattle.tomex_timing.specs.Window.{HasRegisters, address_among, is_memory_pool, issue_from, ready_from};
 
 use crate::accesses::past_conflicts;
-use crate::reservation_table::{BUSES, ReservationTable, Room};
 use crate::free_stations::Stations;
+use crate::reservation_table::{BUSES, ReservationTable, Room};
 use crate::times::Times;
 use crate::window::{Facts, Latest, Window};
 use std::alloc::Allocator;
@@ -184,9 +184,10 @@ fn without_unit(from: u64, issue: u64, address: Option<u64>, station: Option<u8>
 #[inline(always)]
 pub(crate) fn next_step<A: Allocator>(row: &Config, window: &Window<A>, facts: &Facts) -> Next
     requires registers { HasRegisters facts.now }
-    requires settled { IsSettledBy window.now.latest window.now.table window.now.stations.ends window.now.accesses.items }
+    requires settled { let w = window.now in IsSettledBy w.latest w.table w.stations.ends w.accesses.items }
     requires small { window.now.latest.end < 2 ^ 63 }
-    ensures { IsNextBy row.now window.now.latest window.now.table window.now.stations.ends window.now.accesses.items facts.now result }
+    ensures { let w = window.now in
+        IsNextBy row.now w.latest w.table w.stations.ends w.accesses.items facts.now result }
 {
     let latest = &window.latest;
     let j = end_of(latest, facts.j);
@@ -200,7 +201,9 @@ pub(crate) fn next_step<A: Allocator>(row: &Config, window: &Window<A>, facts: &
     let operands = issue.max(j.max(k)) + 1;
     let ready = ready_of(issue, address, j, k);
     let clear = past_conflicts(&window.accesses, facts, ready, latest.end);
-    let start = window.table.first(unit.place(), row.units(unit), clear, latest.end);
+    let start = window
+        .table
+        .first(unit.place(), row.units(unit), clear, latest.end);
     let finish = start.cycle + u64::from(row.latency(unit)) - 1;
     let end = end_after(row, &window.table, facts.dest, finish, latest.end);
     Next {

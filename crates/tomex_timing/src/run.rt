@@ -32,7 +32,7 @@ impl<A: Allocator> Model for Run<A> {
 }
 
 impl<A: Allocator> Run<A> {
-    /// The run of these steps. Their facts take 40 bytes a step.
+    /// The run of these steps. Their facts take 48 bytes a step.
     pub fn new(alloc: A, steps: Vec<Step, A>) -> Result<Run<A>, AllocError>
         ensures { IfOk result (λ r. r ≡ steps.items) }
     {

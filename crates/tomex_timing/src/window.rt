@@ -6,15 +6,15 @@ ghost use Rattle.tomex_timing.specs.Ahead.{CanKeep, CanReserve, IsTableAfter, ac
 ghost use Rattle.tomex_timing.specs.Window.{AreFacts, facts_of, register_of, HasRegisters, nothing_yet, latest_after};
 
 use crate::accesses::Access;
-use crate::reservation_table::{BUSES, ReservationTable};
 use crate::free_stations::Stations;
+use crate::reservation_table::{BUSES, ReservationTable};
 use crate::times::Times;
 use std::alloc::{AllocError, Allocator};
 use tomex_rvdec::{PoolId, UnitId};
 use tomex_rvexec::{ByteRange, Operand, Step};
 
 /// What the recurrence reads of a step, taken from its instruction once.
-#[derive(Clone, Copy, Debug, PartialEq, Eq)]
+#[derive(Clone, Copy, Debug)]
 pub(crate) struct Facts {
     pub pool: Option<PoolId>,
     pub unit: Option<UnitId>,
@@ -197,8 +197,10 @@ impl<A: Allocator> Window<A> {
         requires { CanKeep facts.now at.now self.old.latest self.old.table }
         ensures latest { IfOk result (λ _. self.new.latest ≡ latest_after facts.now at.now self.old.latest) }
         ensures table { IfOk result (λ _. IsTableAfter facts.now at.now self.old.table self.new.table) }
-        ensures stations { IfOk result (λ _. self.new.stations.ends ≡ ends_after facts.now at.now self.old.stations.ends) }
-        ensures accesses { IfOk result (λ _. self.new.accesses.items ≡ accesses_after facts.now at.now self.old.accesses.items) }
+        ensures stations { IfOk result
+            (λ _. self.new.stations.ends ≡ ends_after facts.now at.now self.old.stations.ends) }
+        ensures accesses { IfOk result
+            (λ _. self.new.accesses.items ≡ accesses_after facts.now at.now self.old.accesses.items) }
     {
         reserve(&mut self.table, facts, at)?;
         keep_access(&mut self.accesses, facts, at)?;

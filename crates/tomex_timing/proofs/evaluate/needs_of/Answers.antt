@@ -1,6 +1,5 @@
 -- Each turn of the loop keeps what is held, and adds the step's needs.
-use Rattle.std.proofs.Common.{◌≡◌, ◌≤◌, ◌*◌, List, length, arith}
-use Rattle.tomex_rvexec.specs.declared.step.Step.{Step}
+use Rattle.std.proofs.Common.{◌≡◌, ◌≤◌, ◌*◌, length, arith}
 use Rattle.tomex_timing.proofs.HeldNeeds.{held_needs, held_small, length_facts, step_of}
 use Rattle.tomex_timing.proofs.Needed.{needs_none}
 use Rattle.tomex_timing.proofs.NeedTurns.{needs_small}

@@ -1,5 +1,4 @@
 -- No station so far is free in the first cycle, and the soonest one to be free is known.
-use Rattle.std.proofs.Common.{ℕ, ◌+◌, ◌<◌, ◌≤◌, ◌≡◌, ◌⊎◌}
 use Rattle.tomex_timing.proofs.FreeStations.{IsSoonest}
 use Rattle.tomex_timing.proofs.free_stations.Stations.first.Given as goal
 

@@ -1,8 +1,8 @@
 -- Past the bound one is left, so the search ends.
-use Rattle.std.proofs.Common.{rules, ◌≡◌, ◌≤◌, ◌<◌, ◌+◌, true, false, arith, ℕ}
-use Rattle.std.specs.Prelude.{max, nat_lt}
-use Rattle.tomex_timing.specs.Ahead.{Reserved, is_left, taken_at}
-use Rattle.tomex_timing.proofs.Searching.{IsSearching, goes_on, found}
+use Rattle.std.proofs.Common.{rules, ◌≡◌, ◌+◌, true, false, arith}
+use Rattle.std.specs.Prelude.{max}
+use Rattle.tomex_timing.specs.Ahead.{is_left}
+use Rattle.tomex_timing.proofs.Searching.{found}
 use Rattle.tomex_timing.proofs.Reserving.{left_on}
 use Rattle.tomex_timing.proofs.reservation_table.ReservationTable.search.Goals as goal
 
