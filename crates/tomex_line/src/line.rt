@@ -137,20 +137,31 @@ fn grammar<'a>(alloc: Global) -> Result<Command<'a>, AllocError>
     offering(program, plot::grammar(alloc))
 }
 
+/// What the command asks for that the parser found.
 fn line_of<'a>(alloc: Global, matches: &ArgMatches<'a>) -> Result<Line<'a>, LineFault>
     ensures command { IfOk result (λ line. IsCommand (subcommand_rows_of matches.now) line) }
     ensures refused { IfErr result IsRefusal }
 {
     match matches.subcommand() {
-        Some(("run", inner)) => Ok(Line::Run(run::line_of(alloc, inner)?)),
-        Some(("times", inner)) => Ok(Line::Times(times::line_of(alloc, inner)?)),
-        Some(("stalls", inner)) => Ok(Line::Stalls(stalls::line_of(alloc, inner)?)),
-        Some(("pipeline", inner)) => Ok(Line::Pipeline(pipeline::line_of(alloc, inner)?)),
-        Some(("tables", inner)) => Ok(Line::Tables(tables::line_of(alloc, inner)?)),
-        Some(("all", inner)) => Ok(Line::All(all::line_of(alloc, inner)?)),
-        Some(("explore", inner)) => Ok(Line::Explore(explore::line_of(alloc, inner)?)),
-        Some(("front", inner)) => Ok(Line::Front(explore::line_of(alloc, inner)?)),
-        Some(("plot", inner)) => Ok(Line::Plot(explore::line_of(alloc, inner)?)),
+        Some(("run", inner)) => run::line_of(alloc, inner).map(Line::Run),
+        Some(("times", inner)) => times::line_of(alloc, inner).map(Line::Times),
+        Some(("stalls", inner)) => stalls::line_of(alloc, inner).map(Line::Stalls),
+        Some(("pipeline", inner)) => pipeline::line_of(alloc, inner).map(Line::Pipeline),
+        Some(("tables", inner)) => tables::line_of(alloc, inner).map(Line::Tables),
+        _ => study_line_of(alloc, matches),
+    }
+}
+
+/// What a command asks for that explores a study.
+fn study_line_of<'a>(alloc: Global, matches: &ArgMatches<'a>) -> Result<Line<'a>, LineFault>
+    ensures command { IfOk result (λ line. IsCommand (subcommand_rows_of matches.now) line) }
+    ensures refused { IfErr result IsRefusal }
+{
+    match matches.subcommand() {
+        Some(("all", inner)) => all::line_of(alloc, inner).map(Line::All),
+        Some(("explore", inner)) => explore::line_of(alloc, inner).map(Line::Explore),
+        Some(("front", inner)) => explore::line_of(alloc, inner).map(Line::Front),
+        Some(("plot", inner)) => explore::line_of(alloc, inner).map(Line::Plot),
         _ => Err(refused(alloc, "command")),
     }
 }
