@@ -32,7 +32,8 @@ study_app name = with_rule (new_app name) (word_rule (codes "STUDY"))
 
 -- a command on one run of a study: `NAME STUDY CONFIG PROGRAM ..`
 abbrev pub one_run_app : Text → App
-one_run_app name = with_rule (with_rule (study_app name) (numeral_rule (codes "CONFIG") 0 16383)) (word_rule (codes "PROGRAM"))
+one_run_app name =
+    with_rule (with_rule (study_app name) (numeral_rule (codes "CONFIG") 0 16383)) (word_rule (codes "PROGRAM"))
 
 -- `run IMAGE [--base N] [--size N] [--limit N]`
 abbrev pub run_shape : Shape

@@ -3,7 +3,8 @@
 ghost use Rattle.std.specs.Prelude.{◌≡◌, ◌≢◌, ◌≤◌, ◌⊎◌, length, map, IfOk, IfErr, None, string_bytes};
 ghost use Rattle.tomex_image.specs.Loading.{placed, refused};
 ghost use Rattle.tomex_sweep.specs.Program.{refusal_of};
-ghost use Rattle.tomex_report.specs.Study.{AreProgramsOf, FailsToEnd, IsFileRefusal, IsFirstRefusal, IsProgramOf, IsStudyOf, IsStudyRefusal};
+ghost use Rattle.tomex_report.specs.Study.{AreProgramsOf, FailsToEnd, IsFileRefusal, IsFirstRefusal};
+ghost use Rattle.tomex_report.specs.Study.{IsProgramOf, IsStudyOf, IsStudyRefusal};
 
 use std::alloc::{Allocator, Global};
 use tomex_config::grid;
@@ -18,22 +19,21 @@ fn image_of<A: Allocator + Clone>(
     entry: &Entry<A>,
     file: &[u8],
 ) -> Result<Image<A>, StudyError>
-    ensures ok { IfOk result (λ image. placed file.now entry.now.window image × (refused file.now entry.now.window ≡ None)) }
+    ensures ok { IfOk result (λ image. placed file.now entry.now.window image
+        × (refused file.now entry.now.window ≡ None)) }
     ensures err { IfErr result (λ error. (error ≡ StudyError.Memory) ⊎ IsFileRefusal entry.now file.now error) }
 {
     match load(alloc, file, entry.window()) {
         Ok(image) => Ok(image),
         Err(ImageError::Memory) => Err(StudyError::Memory),
-        Err(error) => Err(StudyError::Image(
-            String::from_str(heap, entry.name())?,
-            error,
-        )),
+        Err(error) => Err(StudyError::Image(String::from_str(heap, entry.name())?, error)),
     }
 }
 
 /// The refusal of the entry's file, whose run has no end. The name that it tells is made in `heap`.
 fn unfit<A: Allocator + Clone>(heap: Global, entry: &Entry<A>, error: ProgramError) -> StudyError
-    ensures { (file : _) → FailsToEnd entry.now file (refusal_of error) → (result ≡ StudyError.Memory) ⊎ IsFileRefusal entry.now file result }
+    ensures { (file : _) → FailsToEnd entry.now file (refusal_of error)
+        → (result ≡ StudyError.Memory) ⊎ IsFileRefusal entry.now file result }
 {
     let Ok(name) = String::from_str(heap, entry.name()) else {
         return StudyError::Memory;

@@ -30,7 +30,8 @@ pub fn taking<'a>(
     arg: Arg<'a>,
 ) -> Result<Command<'a>, AllocError>
     requires { arg.global ≡ false }
-    ensures { IfOk result (λ made. IsOkAnd command.entry (λ c. app_of made ≡ with_rule (app_of c) (rule_of arg.entry))) }
+    ensures { IfOk result (λ made. IsOkAnd command.entry (λ c.
+        app_of made ≡ with_rule (app_of c) (rule_of arg.entry))) }
 {
     command?.arg(arg)
 }
