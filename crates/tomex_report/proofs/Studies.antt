@@ -1,6 +1,7 @@
 -- Files that are not what their entries ask for, and programs one after another.
 use Rattle.std.proofs.Common.{◌≡◌, ◌≢◌, ◌⊎◌, Ok, Err, inl, inr, ℕ, zero, suc, List, [], ◌∷◌, ◌++◌, take, Some, None, ◌+◌, ◌<◌, ◌≤◌, ◌∙◌, ap, sym, refl, arith, add-one, length, get_or, map}
 use Rattle.std.specs.Prelude.{slice_get, Bool, true, false, MatchBool}
+use Rattle.std.proofs.lemmas.List.{length-map, take_all}
 use Rattle.std.proofs.lemmas.Option.{slice_get_read, slice_get-map}
 use Rattle.tomex_image.specs.Image.{Loaded}
 use Rattle.tomex_image.specs.Window.{Span}
@@ -54,6 +55,14 @@ pub pushed : (place : ℕ) (entries : List ProgramEntry) (files : List (List ℕ
     → AreProgramsOf (take (place + 1) entries) (take (place + 1) files) after
 pushed place entries files programs after entry file program entry_is file_is older is grown =
     rw (add-one, grown) (one_more place entries files programs entry file program entry_is file_is older is)
+
+-- no program is left
+pub all_programs : {X : Type 0} (seen : X → List ℕ) (place : ℕ) (entries : List ProgramEntry) (files : List X) (programs : List Workload)
+    → length files ≡ length entries → length entries ≤ place
+    → AreProgramsOf (take place entries) (take place (map seen files)) programs → AreProgramsOf entries (map seen files) programs
+all_programs seen place entries files programs long past here =
+    let count = length-map files seen in
+    rw (take_all place entries past, take_all place (map seen files) (omega arith)) at here
 
 -- what is read at a place
 pub item_is : {X : Type 0} (xs : List X) (place : ℕ) (x : X) → place < length xs → x ≡ get_or xs place x → slice_get xs place ≡ Some x
