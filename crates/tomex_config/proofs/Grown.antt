@@ -20,3 +20,7 @@ one_row part values rows k count row made now less all so_far is e =
     ∙ (ap (λ some. vary part values (take k rows) ++ map (part row) some) (take_all count values all)
     ∙ sym (ap (vary part values) (take_more rows k row less ∙ ap (λ r. take k rows ++ (r ∷ [])) (sym is))
     ∙ (flat_map-append (λ r. map (part r) values) (take k rows) (row ∷ []) ∙ ap (λ rest. vary part values (take k rows) ++ rest) (append-nil (map (part row) values))))))
+
+-- all rows
+pub all_rows : {V : Type 0} (part : Row → V → Row) (values : List V) (rows made : List Row) (k : ℕ) → made ≡ vary part values (take k rows) → length rows ≤ k → made ≡ vary part values rows
+all_rows part values rows made k is all = is ∙ ap (vary part values) (take_all k rows all)

@@ -1,8 +1,9 @@
 -- Values within the limits of their axis, as parts of a row.
-use Rattle.std.proofs.Common.{◌≡◌, Bool, true, List, All, length, rules, arith}
+use Rattle.std.proofs.Common.{◌≡◌, ◌<◌, ℕ, get_or, Bool, true, List, All, length, rules, arith}
 use Rattle.std.specs.List.{list_all}
 use Rattle.std.specs.Prelude.{slice_index_or, slice_set}
 use Rattle.std.proofs.lemmas.Grind.{common_steps}
+use Rattle.std.proofs.lemmas.List.Elements.{All-get_or}
 use Rattle.std.proofs.lemmas.List.Sums.{AllPass-from_list_all}
 use Rattle.tomex_rvdec.specs.Parts.{place_of_unit}
 use Rattle.tomex_rvdec.specs.declared.pool.UnitId.{UnitId}
@@ -12,6 +13,9 @@ use Rattle.tomex_config.specs.Row.{is_option, most_units, plain_option}
 
 pub each_passes : {X : Type 0} (p : X → Bool) (xs : List X) → list_all p xs ≡ true → All (λ x. p x ≡ true) xs
 each_passes p xs h = AllPass-from_list_all p xs h
+
+pub passes_at : {X : Type 0} (p : X → Bool) (xs : List X) (k : ℕ) (d : X) → list_all p xs ≡ true → k < length xs → p (get_or xs k d) ≡ true
+passes_at p xs k d h within = All-get_or (λ x. p x ≡ true) xs k d within (each_passes p xs h)
 
 -- an option for any kind has at most 8 units
 pub fits_any : (unit : UnitId) (o : UnitOption) → is_option (most_units unit) o ≡ true → is_option 8 o ≡ true

@@ -27,7 +27,6 @@ pub enum GridError {
 }
 
 /// Each row, once with each number of stations in a pool.
-#[tactic(auto, using(crate::proofs::Ranges::each_passes))]
 fn vary_stations<A: Allocator>(
     alloc: A,
     rows: &[Config],
@@ -47,7 +46,6 @@ fn vary_stations<A: Allocator>(
 }
 
 /// Each row, once with each option for a kind of unit.
-#[tactic(auto, using(crate::proofs::Ranges::each_passes))]
 fn vary_option<A: Allocator>(
     alloc: A,
     rows: &[Config],
@@ -67,7 +65,6 @@ fn vary_option<A: Allocator>(
 }
 
 /// Each row, once with each number of buses.
-#[tactic(auto, using(crate::proofs::Ranges::each_passes))]
 fn vary_buses<A: Allocator>(
     alloc: A,
     rows: &[Config],
@@ -86,7 +83,6 @@ fn vary_buses<A: Allocator>(
 }
 
 /// Each row, once with each width.
-#[tactic(auto, using(crate::proofs::Ranges::each_passes))]
 fn vary_width<A: Allocator>(
     alloc: A,
     rows: &[Config],

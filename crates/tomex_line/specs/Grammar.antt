@@ -1,6 +1,6 @@
 -- The grammar of the command line: what each command takes.
 use Rattle.std.specs.Prelude.{ℕ, [], ◌∷◌, codes, true, false, pos, Some}
-use Rattle.clap.specs.Words.{App, Rule, Shape, Text, new_app, new_rule}
+use Rattle.clap.specs.Words.{App, Rule, Shape, Text, new_app, new_rule, with_rule}
 use Rattle.clap.specs.Simple.{new_shape, on_top}
 use Rattle.clap.specs.declared.builder.action.ArgAction.TheVariants.{SetTrue}
 use Rattle.clap.specs.declared.builder.value_parser.ValueParser.TheVariants as parsers
@@ -25,6 +25,15 @@ option_rule name least greatest default = record (new_rule name) {
 -- a flag `--name`
 abbrev pub flag_rule : Text → Rule
 flag_rule name = record (new_rule name) { long = Some name; action = Some SetTrue }
+
+-- a command on a study: `NAME STUDY ..`
+abbrev pub study_app : Text → App
+study_app name = with_rule (new_app name) (word_rule (codes "STUDY"))
+
+-- a command on one run of a study: `NAME STUDY CONFIG PROGRAM ..`
+abbrev pub one_run_app : Text → App
+one_run_app name =
+    with_rule (with_rule (study_app name) (numeral_rule (codes "CONFIG") 0 16383)) (word_rule (codes "PROGRAM"))
 
 -- `run IMAGE [--base N] [--size N] [--limit N]`
 abbrev pub run_shape : Shape

@@ -18,6 +18,7 @@ pub mod pipeline;
 mod plot;
 pub mod run;
 pub mod stalls;
+mod studied;
 pub mod tables;
 pub mod times;
 mod values;
@@ -25,6 +26,7 @@ mod values;
 use all::AllLine;
 use clap::error::ErrorKind;
 use clap::{ArgMatches, Command};
+use described::offering;
 use explore::ExploreLine;
 use pipeline::PipelineLine;
 use run::RunLine;
@@ -35,7 +37,7 @@ use times::TimesLine;
 use values::refused;
 
 /// What a command line asks for.
-#[derive(Clone, Copy, Debug)]
+#[derive(Clone, Copy)]
 pub enum Line<'a> {
     Run(RunLine<'a>),
     Times(TimesLine<'a>),
@@ -49,7 +51,7 @@ pub enum Line<'a> {
 }
 
 /// A command line that asks for no command.
-#[derive(Debug, Drop)]
+#[derive(Drop)]
 pub enum LineFault {
     /// It asks for help or the version: the text, for the standard output.
     Help(String),
@@ -123,32 +125,43 @@ fn without_commands<'a>(alloc: Global) -> Command<'a>
 fn grammar<'a>(alloc: Global) -> Result<Command<'a>, AllocError>
     ensures { IfOk result (λ c. app_of c ≡ tomex_app) }
 {
-    without_commands(alloc)
-        .subcommand(run::grammar(alloc)?)?
-        .subcommand(times::grammar(alloc)?)?
-        .subcommand(stalls::grammar(alloc)?)?
-        .subcommand(pipeline::grammar(alloc)?)?
-        .subcommand(tables::grammar(alloc)?)?
-        .subcommand(all::grammar(alloc)?)?
-        .subcommand(explore::grammar(alloc)?)?
-        .subcommand(front::grammar(alloc)?)?
-        .subcommand(plot::grammar(alloc)?)
+    let program = Ok(without_commands(alloc));
+    let program = offering(program, run::grammar(alloc));
+    let program = offering(program, times::grammar(alloc));
+    let program = offering(program, stalls::grammar(alloc));
+    let program = offering(program, pipeline::grammar(alloc));
+    let program = offering(program, tables::grammar(alloc));
+    let program = offering(program, all::grammar(alloc));
+    let program = offering(program, explore::grammar(alloc));
+    let program = offering(program, front::grammar(alloc));
+    offering(program, plot::grammar(alloc))
 }
 
+/// What the command asks for that the parser found.
 fn line_of<'a>(alloc: Global, matches: &ArgMatches<'a>) -> Result<Line<'a>, LineFault>
     ensures command { IfOk result (λ line. IsCommand (subcommand_rows_of matches.now) line) }
     ensures refused { IfErr result IsRefusal }
 {
     match matches.subcommand() {
-        Some(("run", inner)) => Ok(Line::Run(run::line_of(alloc, inner)?)),
-        Some(("times", inner)) => Ok(Line::Times(times::line_of(alloc, inner)?)),
-        Some(("stalls", inner)) => Ok(Line::Stalls(stalls::line_of(alloc, inner)?)),
-        Some(("pipeline", inner)) => Ok(Line::Pipeline(pipeline::line_of(alloc, inner)?)),
-        Some(("tables", inner)) => Ok(Line::Tables(tables::line_of(alloc, inner)?)),
-        Some(("all", inner)) => Ok(Line::All(all::line_of(alloc, inner)?)),
-        Some(("explore", inner)) => Ok(Line::Explore(explore::line_of(alloc, inner)?)),
-        Some(("front", inner)) => Ok(Line::Front(explore::line_of(alloc, inner)?)),
-        Some(("plot", inner)) => Ok(Line::Plot(explore::line_of(alloc, inner)?)),
+        Some(("run", inner)) => run::line_of(alloc, inner).map(Line::Run),
+        Some(("times", inner)) => times::line_of(alloc, inner).map(Line::Times),
+        Some(("stalls", inner)) => stalls::line_of(alloc, inner).map(Line::Stalls),
+        Some(("pipeline", inner)) => pipeline::line_of(alloc, inner).map(Line::Pipeline),
+        Some(("tables", inner)) => tables::line_of(alloc, inner).map(Line::Tables),
+        _ => study_line_of(alloc, matches),
+    }
+}
+
+/// What a command asks for that explores a study.
+fn study_line_of<'a>(alloc: Global, matches: &ArgMatches<'a>) -> Result<Line<'a>, LineFault>
+    ensures command { IfOk result (λ line. IsCommand (subcommand_rows_of matches.now) line) }
+    ensures refused { IfErr result IsRefusal }
+{
+    match matches.subcommand() {
+        Some(("all", inner)) => all::line_of(alloc, inner).map(Line::All),
+        Some(("explore", inner)) => explore::line_of(alloc, inner).map(Line::Explore),
+        Some(("front", inner)) => explore::line_of(alloc, inner).map(Line::Front),
+        Some(("plot", inner)) => explore::line_of(alloc, inner).map(Line::Plot),
         _ => Err(refused(alloc, "command")),
     }
 }

@@ -1,23 +1,26 @@
 -- Files that are not what their entries ask for, and programs one after another.
 use Rattle.std.proofs.Common.{◌≡◌, ◌≢◌, ◌⊎◌, Ok, Err, inl, inr, ℕ, zero, suc, List, [], ◌∷◌, ◌++◌, take, Some, None, ◌+◌, ◌<◌, ◌≤◌, ◌∙◌, ap, sym, refl, arith, add-one, length, get_or, map}
-use Rattle.std.specs.Prelude.{slice_get}
+use Rattle.std.specs.Prelude.{slice_get, Bool, true, false, MatchBool}
+use Rattle.std.proofs.lemmas.List.{length-map, take_all}
 use Rattle.std.proofs.lemmas.Option.{slice_get_read, slice_get-map}
 use Rattle.tomex_image.specs.Image.{Loaded}
 use Rattle.tomex_image.specs.Window.{Span}
-use Rattle.tomex_image.specs.Loading.{placed, refused}
-use Rattle.tomex_sweep.specs.Program.{IsUnfit, Workload, refusal_of}
-use Rattle.tomex_sweep.specs.declared.program.ProgramError.{ProgramError}
+use Rattle.tomex_image.specs.Loading.{elf_placed, flat_placed, is_elf, placed}
+use Rattle.tomex_sweep.specs.Program.{Workload}
 use Rattle.tomex_document.specs.Program.{ProgramEntry}
-use Rattle.tomex_report.specs.Study.{AreProgramsOf, FailsToEnd, IsFileRefusal, IsFirstRefusal, IsProgramOf, IsStudyRefusal}
+use Rattle.tomex_report.specs.Study.{AreProgramsOf, IsFileRefusal, IsFirstRefusal, IsProgramOf, IsStudyRefusal}
 use Rattle.tomex_values.specs.declared.error.StudyError.{StudyError}
 use Rattle.tomex_values.specs.declared.error.StudyError.TheVariants.{Syntax, UnknownKey, MissingKey, Kind, Range, TooMany, Files, Image, Fault, TooLong, Memory}
 use Rattle.tomex_document.specs.Document.{Document, document_of}
 use Rattle.tomex_document.proofs.Counted.{document_has_programs}
 
--- an image of the entry's window, whose run is refused within the entry's limit
-pub fails : (entry : ProgramEntry) (file : List ℕ) (window : Span) (limit : ℕ) (image : Loaded) (told error : ProgramError) → window ≡ entry.window → limit ≡ entry.limit → placed file window image → refused file window ≡ None → told ≡ error → IsUnfit image limit told → FailsToEnd entry file (refusal_of error)
-fails entry file window limit image told error in_window within here accepted same refusal =
-    rw (← in_window, ← within, ← same) (image, here, accepted, refusal)
+-- an image of a file has the window that was asked for
+pub in_window : (file : List ℕ) (window : Span) (image : Loaded) → placed file window image → image.window ≡ window
+in_window file window image here = at (is_elf file) here
+  where
+    at : (b : Bool) → MatchBool b (elf_placed file window image) (flat_placed file window image) → image.window ≡ window
+    at true here = here.0
+    at false here = here.0
 
 -- one program more
 pub one_more : (place : ℕ) (entries : List ProgramEntry) (files : List (List ℕ)) (programs : List Workload) (entry : ProgramEntry) (file : List ℕ) (program : Workload)
@@ -52,6 +55,14 @@ pub pushed : (place : ℕ) (entries : List ProgramEntry) (files : List (List ℕ
     → AreProgramsOf (take (place + 1) entries) (take (place + 1) files) after
 pushed place entries files programs after entry file program entry_is file_is older is grown =
     rw (add-one, grown) (one_more place entries files programs entry file program entry_is file_is older is)
+
+-- no program is left
+pub all_programs : {X : Type 0} (seen : X → List ℕ) (place : ℕ) (entries : List ProgramEntry) (files : List X) (programs : List Workload)
+    → length files ≡ length entries → length entries ≤ place
+    → AreProgramsOf (take place entries) (take place (map seen files)) programs → AreProgramsOf entries (map seen files) programs
+all_programs seen place entries files programs long past here =
+    let count = length-map files seen in
+    rw (take_all place entries past, take_all place (map seen files) (omega arith)) at here
 
 -- what is read at a place
 pub item_is : {X : Type 0} (xs : List X) (place : ℕ) (x : X) → place < length xs → x ≡ get_or xs place x → slice_get xs place ≡ Some x

@@ -1,13 +1,49 @@
 //! Whole studies: the document, and the programs that its files hold.
 
-ghost use Rattle.std.specs.Prelude.{◌≡◌, ◌≢◌, ◌≤◌, ◌⊎◌, length, map, IfOk, IfErr, string_bytes};
-ghost use Rattle.tomex_report.specs.Study.{AreProgramsOf, IsFileRefusal, IsFirstRefusal, IsProgramOf, IsStudyOf, IsStudyRefusal};
+ghost use Rattle.std.specs.Prelude.{◌≡◌, ◌≢◌, ◌≤◌, ◌⊎◌, length, map, IfOk, IfErr, None, string_bytes};
+ghost use Rattle.tomex_image.specs.Loading.{placed, refused};
+ghost use Rattle.tomex_sweep.specs.Program.{refusal_of};
+ghost use Rattle.tomex_report.specs.Study.{AreProgramsOf, FailsToEnd, IsFileRefusal, IsFirstRefusal};
+ghost use Rattle.tomex_report.specs.Study.{IsProgramOf, IsStudyOf, IsStudyRefusal};
 
 use std::alloc::{Allocator, Global};
 use tomex_config::grid;
 use tomex_document::{Entry, StudyError, document_of};
-use tomex_image::{ImageError, load};
+use tomex_image::{Image, ImageError, load};
 use tomex_sweep::{Program, ProgramError, Study};
+
+/// The image that the file is in the entry's window. The name that a refusal tells is made in `heap`.
+fn image_of<A: Allocator + Clone>(
+    alloc: A,
+    heap: Global,
+    entry: &Entry<A>,
+    file: &[u8],
+) -> Result<Image<A>, StudyError>
+    ensures ok { IfOk result (λ image. placed file.now entry.now.window image
+        × (refused file.now entry.now.window ≡ None)) }
+    ensures err { IfErr result (λ error. (error ≡ StudyError.Memory) ⊎ IsFileRefusal entry.now file.now error) }
+{
+    match load(alloc, file, entry.window()) {
+        Ok(image) => Ok(image),
+        Err(ImageError::Memory) => Err(StudyError::Memory),
+        Err(error) => Err(StudyError::Image(String::from_str(heap, entry.name())?, error)),
+    }
+}
+
+/// The refusal of the entry's file, whose run has no end. The name that it tells is made in `heap`.
+fn unfit<A: Allocator + Clone>(heap: Global, entry: &Entry<A>, error: ProgramError) -> StudyError
+    ensures { (file : _) → FailsToEnd entry.now file (refusal_of error)
+        → (result ≡ StudyError.Memory) ⊎ IsFileRefusal entry.now file result }
+{
+    let Ok(name) = String::from_str(heap, entry.name()) else {
+        return StudyError::Memory;
+    };
+    match error {
+        ProgramError::Fault(fault) => StudyError::Fault(name, fault),
+        ProgramError::TooLong => StudyError::TooLong(name),
+        ProgramError::Memory => StudyError::Memory,
+    }
+}
 
 /// The program of an entry and its file, which is loaded and run. The name that a refusal tells is
 /// made in `heap`.
@@ -20,21 +56,13 @@ fn program_of<A: Allocator + Clone>(
     ensures ok { IfOk result (λ program. IsProgramOf entry.now file.now program) }
     ensures err { IfErr result (λ error. (error ≡ StudyError.Memory) ⊎ IsFileRefusal entry.now file.now error) }
 {
-    let told = String::from_str(heap, entry.name())?;
-    let (window, limit) = (entry.window(), entry.limit());
-    let image = match load(alloc.clone()?, file, window) {
-        Ok(image) => image,
-        Err(ImageError::Memory) => return Err(StudyError::Memory),
-        Err(error) => return Err(StudyError::Image(told, error)),
-    };
+    let image = image_of(alloc.clone()?, heap, entry, file)?;
     let name = String::from_str(alloc.clone()?, entry.name())?;
     let mut watch = Vec::new(alloc.clone()?);
     watch.extend_from_slice(entry.watch())?;
-    match Program::new(alloc, name, image, limit, watch, entry.weight()) {
+    match Program::new(alloc, name, image, entry.limit(), watch, entry.weight()) {
         Ok(program) => Ok(program),
-        Err(ProgramError::Fault(fault)) => Err(StudyError::Fault(told, fault)),
-        Err(ProgramError::TooLong) => Err(StudyError::TooLong(told)),
-        Err(ProgramError::Memory) => Err(StudyError::Memory),
+        Err(error) => Err(unfit(heap, entry, error)),
     }
 }
 

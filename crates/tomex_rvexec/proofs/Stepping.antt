@@ -1,7 +1,8 @@
 -- Steps of a run, one at a time.
-use Rattle.std.proofs.Common.{◌≡◌, ℕ, suc, ◌+◌, ◌-◌, ◌<◌, List, [], ◌∷◌, ◌++◌, arith, refl, sym, ap, ◌∙◌, append_assoc, Some, Ok, add-one}
+use Rattle.std.proofs.Common.{◌≡◌, ℕ, suc, ◌+◌, ◌-◌, ◌<◌, List, [], ◌∷◌, ◌++◌, arith, refl, sym, ap, ◌∙◌, append_assoc, Some, Ok, Err, add-one}
 use Rattle.tomex_rvexec.specs.declared.outcome.Stepped.{Stepped}
-use Rattle.tomex_rvexec.specs.declared.outcome.Stepped.TheVariants.{Next}
+use Rattle.tomex_rvexec.specs.declared.outcome.Stepped.TheVariants.{Ended, Next}
+use Rattle.tomex_rvexec.specs.declared.outcome.Fault.{Fault}
 use Rattle.tomex_rvexec.specs.Run.{Leads, Answers}
 use Rattle.tomex_rvexec.specs.declared.outcome.EndKind.{EndKind}
 use Rattle.tomex_rvexec.specs.declared.step.Step.{Step}
@@ -22,6 +23,18 @@ pub next_goes : (o : Outcome) (old new : State) (r : Stepped) → r ≡ Next →
 next_goes (Goes s) old new r e h = ap Goes (sym h.1)
 next_goes (Ends k) old new r e h = let f = h.0 in cc
 next_goes (Faults k) old new r e h = let f = h.0 in cc
+
+pub ended_ends : (o : Outcome) (old new : State) (r : Stepped) (kind : EndKind) → r ≡ Ended kind → Answers o old (Ok r) new → o ≡ Ends kind
+ended_ends (Goes s) old new r kind e h = let f = h.0 in cc
+ended_ends (Ends k) old new r kind e h = let f = h.0 in cc
+ended_ends (Faults k) old new r kind e h = let f = h.0 in cc
+
+pub fault_faults : (o : Outcome) (old new : State) (f : Fault) → Answers o old (Err f) new → (o ≡ Faults f.kind) × (f.pc ≡ old.pc)
+fault_faults (Goes s) old new f h = let e = h.0 in absurd (cc)
+fault_faults (Ends k) old new f h = let e = h.0 in absurd (cc)
+fault_faults (Faults k) old new f h =
+    let is : f ≡ record { kind = k; pc = old.pc } = let e = h.0 in cc in
+    (sym (ap (λ (x : Fault). Faults x.kind) is), ap (λ (x : Fault). x.pc) is)
 
 pub leads_on : (old mid new : State) (k : ℕ) → Leads old k mid → step_of mid ≡ Goes new → Leads old (k + 1) new
 leads_on old mid new k l g = rw add-one (mid, l, g)

@@ -15,7 +15,6 @@ use tomex_image::Image;
 /// The steps of a run that ends within the limit, in order; the ECALL or EBREAK is the last.
 ///
 /// Takes the memory's size once, and 20 bytes a step.
-#[tactic(auto, using(crate::proofs::Stepping::goes_on, crate::proofs::Stepping::ends_here))]
 pub fn trace<A: Allocator + Clone>(
     alloc: A,
     image: &Image<A>,
@@ -29,13 +28,13 @@ pub fn trace<A: Allocator + Clone>(
     let mut cpu = Cpu::new(alloc.clone()?, image)?;
     let mut steps = Vec::new(alloc);
     for _done in 0..limit {
-        match cpu.recorded_step() {
-            Ok((step, Stepped::Next)) => steps.push(step)?,
-            Ok((step, Stepped::Ended(_))) => {
-                steps.push(step)?;
-                return Ok(steps);
-            }
+        let (step, stepped) = match cpu.recorded_step() {
+            Ok(done) => done,
             Err(fault) => return Err(RunError::Fault(fault)),
+        };
+        steps.push(step)?;
+        if let Stepped::Ended(_) = stepped {
+            return Ok(steps);
         }
     }
     Err(RunError::TooLong)

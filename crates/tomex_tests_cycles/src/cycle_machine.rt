@@ -221,9 +221,9 @@ fn a_long_wait_is_skipped(rt: HostRuntime) -> Result<(), Fail> {
     let image = image_at_0(&rt, WAITED_FOR.as_slice())?;
     let row = row_of([1; 6], 1, 64, 1, 1)?;
     let mut machine = Machine::new(rt.alloc(), &image, &row)?;
-    assert_eq!(rt; machine.worked(), 0);
+    assert!(rt; machine.worked() == 0);
     assert!(rt; matches!(machine.advance(1000), Progress::Ended));
-    assert_eq!(rt; machine.cycle(), 68);
+    assert!(rt; machine.cycle() == 68);
     holds(
         7 <= machine.worked() && machine.worked() <= 25,
         "too few or too many cycles were made",
@@ -401,7 +401,7 @@ fn a_jump_to_itself_runs_on(rt: HostRuntime) -> Result<(), Fail> {
         assert!(rt; matches!(tick(&mut machine), Progress::Running));
     }
     let tables = machine.tables();
-    assert_eq!(rt; tables.cycle(), 1000001);
+    assert!(rt; tables.cycle() == 1000001);
     let jump = (
         tag(PoolId::Alu, 0),
         0x0000006f,

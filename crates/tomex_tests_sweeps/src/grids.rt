@@ -62,6 +62,27 @@ fn row(alu: u8, mul: u8, div: u8, buses: u8) -> Option<Config> {
     Config::new([alu, mul, div, 1, 1, 1], [PLAIN; 5], buses, 1)
 }
 
+/// Whether the axes are refused for this reason.
+fn is_refused(alloc: Global, axes: &Axes, error: GridError) -> bool {
+    grid(alloc, axes).err() == Some(error)
+}
+
+/// Whether the axes have two rows of these costs.
+fn cost_these(
+    alloc: Global,
+    axes: &Axes,
+    prices: &Prices,
+    costs: [u64; 2],
+) -> Result<bool, GridError> {
+    let rows = grid(alloc, axes)?;
+    for (row, wanted) in rows.iter().zip(costs) {
+        if cost(row, prices) != wanted {
+            return Ok(false);
+        }
+    }
+    Ok(rows.len() == 2)
+}
+
 #[test]
 fn most_rows_and_one_bus_more(rt: HostRuntime) -> Result<(), Fail> {
     let mut axes = single(rt.alloc())?;
@@ -82,7 +103,7 @@ fn most_rows_and_one_bus_more(rt: HostRuntime) -> Result<(), Fail> {
         assert_eq!(rt; (place, rows.get(place).copied()), (place, wanted));
     }
     axes.buses.push(5)?;
-    assert!(rt; grid(rt.alloc(), &axes).err() == Some(GridError::TooMany));
+    assert!(rt; is_refused(rt.alloc(), &axes, GridError::TooMany));
     Ok(())
 }
 
@@ -112,9 +133,9 @@ fn a_value_twice_gives_two_rows(rt: HostRuntime) -> Result<(), Fail> {
 fn refusals_in_order(rt: HostRuntime) -> Result<(), Fail> {
     let mut axes = single(rt.alloc())?;
     axes.bru_units = vec![in rt.alloc(); UnitOption { units: 2, ..PLAIN }]?;
-    assert!(rt; grid(rt.alloc(), &axes).err() == Some(GridError::OutOfRange));
+    assert!(rt; is_refused(rt.alloc(), &axes, GridError::OutOfRange));
     axes.buses = Vec::new(rt.alloc());
-    assert!(rt; grid(rt.alloc(), &axes).err() == Some(GridError::EmptyAxis));
+    assert!(rt; is_refused(rt.alloc(), &axes, GridError::EmptyAxis));
     assert!(rt; !axes.is_too_large());
     Ok(())
 }
@@ -126,11 +147,7 @@ fn costs_of_two_rows(rt: HostRuntime) -> Result<(), Fail> {
     axes.mul_units = vec![in rt.alloc(); UnitOption { price: 50, ..PLAIN }]?;
     axes.buses = vec![in rt.alloc(); 2]?;
     let prices = Prices::new([10, 100, 0, 0, 0, 0], 7, 0);
-    let rows = grid(rt.alloc(), &axes)?;
-    assert!(rt; rows.len() == 2);
-    for (row, want) in rows.iter().zip([184, 174]) {
-        assert!(rt; cost(row, &prices) == want);
-    }
+    assert!(rt; cost_these(rt.alloc(), &axes, &prices, [184, 174])?);
     Ok(())
 }
 
@@ -145,9 +162,9 @@ fn widths_vary_the_fastest(rt: HostRuntime) -> Result<(), Fail> {
         assert!(rt; (row.buses(), row.width()) == want);
     }
     axes.width.push(5)?;
-    assert!(rt; grid(rt.alloc(), &axes).err() == Some(GridError::OutOfRange));
+    assert!(rt; is_refused(rt.alloc(), &axes, GridError::OutOfRange));
     axes.width = Vec::new(rt.alloc());
-    assert!(rt; grid(rt.alloc(), &axes).err() == Some(GridError::EmptyAxis));
+    assert!(rt; is_refused(rt.alloc(), &axes, GridError::EmptyAxis));
     Ok(())
 }
 
@@ -158,11 +175,7 @@ fn widths_cost_their_price(rt: HostRuntime) -> Result<(), Fail> {
     axes.buses = vec![in rt.alloc(); 2]?;
     axes.width = vec![in rt.alloc(); 1, 4]?;
     let prices = Prices::new([10, 100, 0, 0, 0, 0], 7, 1000);
-    let rows = grid(rt.alloc(), &axes)?;
-    assert!(rt; rows.len() == 2);
-    for (row, want) in rows.iter().zip([1174, 4174]) {
-        assert!(rt; cost(row, &prices) == want);
-    }
+    assert!(rt; cost_these(rt.alloc(), &axes, &prices, [1174, 4174])?);
     Ok(())
 }
 

@@ -35,6 +35,23 @@ fn program_of(other: Global, words: &[u32], size: u32) -> Result<Program<Heap>, 
     Ok(Program::new(ample(other)?, name, image, 10_000, watch, 1)?)
 }
 
+/// Rows of 1, 2, 3 and so on alu stations, each with 1, 2, 3 and so on buses.
+fn rows_of(other: Global, most_stations: u8, most_buses: u8) -> Result<Vec<Config, Heap>, Fail> {
+    let plain = UnitOption {
+        units: 1,
+        latency: 1,
+        price: 0,
+    };
+    let mut configs = Vec::new(ample(other)?);
+    for stations in 1..=most_stations {
+        for buses in 1..=most_buses {
+            let row = Config::new([stations, 1, 1, 1, 1, 1], [plain; 5], buses, 1);
+            configs.push(row.ok_or("no row")?)?;
+        }
+    }
+    Ok(configs)
+}
+
 /// The study of both programs, in windows of so many bytes, on rows of 1, 2, 3 and so on alu stations, each of
 /// which costs more than the one before, and of so many buses.
 fn study_of(
@@ -43,21 +60,10 @@ fn study_of(
     most_stations: u8,
     most_buses: u8,
 ) -> Result<Study<Heap>, Fail> {
-    let plain = UnitOption {
-        units: 1,
-        latency: 1,
-        price: 0,
-    };
     let mut programs = Vec::new(ample(other)?);
     programs.push(program_of(other, OVERWRITTEN.as_slice(), sizes[0])?)?;
     programs.push(program_of(other, COUNTED.as_slice(), sizes[1])?)?;
-    let mut configs = Vec::new(ample(other)?);
-    for stations in 1..=most_stations {
-        for buses in 1..=most_buses {
-            let row = Config::new([stations, 1, 1, 1, 1, 1], [plain; 5], buses, 1);
-            configs.push(row.ok_or("no row")?)?;
-        }
-    }
+    let configs = rows_of(other, most_stations, most_buses)?;
     if configs.is_empty() || configs.len() > 16_384 || programs.len() != 2 {
         return Err("no rows")?;
     }
@@ -122,9 +128,9 @@ fn as_many_blocks_for_more_rows(rt: HostRuntime) -> Result<(), Fail> {
     for (sizes, blocks) in [([4096, 4096], 6), ([8192, 4096], 6), ([4096, 8192], 7)] {
         let few = blocks_of(&rt, other, sizes, 9)?;
         let many = blocks_of(&rt, other, sizes, 12)?;
-        assert_eq!(rt; few[0], Some(blocks));
+        assert!(rt; few[0] == Some(blocks));
         assert!(rt; few[1].is_some());
-        assert_eq!(rt; few, many);
+        assert!(rt; few == many);
     }
     Ok(())
 }

@@ -8,13 +8,14 @@ ghost use Rattle.clap.specs.Walk.{rows_of};
 ghost use Rattle.tomex_line.specs.Values.{IsAllAsked};
 
 use super::LineFault;
-use super::described::{Texts, described, taking};
-use super::values::{word, word_of};
+use super::described::Texts;
+use super::studied::on_study;
+use super::values::word_of;
 use clap::{ArgMatches, Command};
 use std::alloc::{AllocError, Global};
 
 /// A front report that was asked for, of rows that are all run to their ends.
-#[derive(Clone, Copy, Debug)]
+#[derive(Clone, Copy)]
 pub struct AllLine<'a> {
     /// The name of the study's file, as written.
     pub study: &'a str,
@@ -54,13 +55,10 @@ const TEXTS: Texts = Texts {
     after_long_help: AFTER_LONG_HELP,
 };
 
-const STUDY_HELP: &str = "The file of the study";
-
 pub(super) fn grammar<'a>(alloc: Global) -> Result<Command<'a>, AllocError>
     ensures { IfOk result (λ c. shape_of c ≡ all_shape) }
 {
-    let command = described(alloc, "all", TEXTS);
-    taking(command, word(alloc, "STUDY", STUDY_HELP))
+    on_study(alloc, "all", TEXTS)
 }
 
 pub(super) fn line_of<'a>(alloc: Global, matches: &ArgMatches<'a>) -> Result<AllLine<'a>, LineFault>

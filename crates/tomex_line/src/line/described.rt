@@ -1,6 +1,6 @@
 //! A command as `clap` reads it: its name and its texts of help, and then what it takes.
-ghost use Rattle.std.specs.Prelude.{◌≡◌, IfOk, false};
-ghost use Rattle.clap.specs.Simple.{app_of, new_app};
+ghost use Rattle.std.specs.Prelude.{◌≡◌, IfOk, IsOkAnd, false, true};
+ghost use Rattle.clap.specs.Simple.{app_of, new_app, shape_of, with_subcommand};
 ghost use Rattle.clap.specs.Words.{rule_of, with_rule};
 
 use clap::{Arg, Command};
@@ -24,10 +24,26 @@ pub fn described<'a>(alloc: Global, name: &'a str, texts: Texts) -> Command<'a>
         .after_long_help(texts.after_long_help)
 }
 
-/// The command with one argument more.
-pub fn taking<'a>(command: Command<'a>, arg: Arg<'a>) -> Result<Command<'a>, AllocError>
+/// The command with one argument more. It takes a result, so that a chain of calls has its one test here.
+pub fn taking<'a>(
+    command: Result<Command<'a>, AllocError>,
+    arg: Arg<'a>,
+) -> Result<Command<'a>, AllocError>
     requires { arg.global ≡ false }
-    ensures { IfOk result (λ made. app_of made ≡ with_rule (app_of command.entry) (rule_of arg.entry)) }
+    ensures { IfOk result (λ made. IsOkAnd command.entry (λ c.
+        app_of made ≡ with_rule (app_of c) (rule_of arg.entry))) }
 {
-    command.arg(arg)
+    command?.arg(arg)
+}
+
+/// The program with one command more, where there was memory for both.
+pub fn offering<'a>(
+    program: Result<Command<'a>, AllocError>,
+    command: Result<Command<'a>, AllocError>,
+) -> Result<Command<'a>, AllocError>
+    requires { IfOk command (λ c. (shape_of c).is_plain ≡ true) }
+    ensures { IfOk result (λ made. IsOkAnd program.entry (λ p. IsOkAnd command.entry (λ c.
+        app_of made ≡ with_subcommand (app_of p) (shape_of c)))) }
+{
+    program?.subcommand(command?)
 }

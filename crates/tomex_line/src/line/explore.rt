@@ -8,8 +8,9 @@ ghost use Rattle.clap.specs.Walk.{rows_of};
 ghost use Rattle.tomex_line.specs.Values.{IsExploreAsked};
 
 use super::LineFault;
-use super::described::{Texts, described, taking};
-use super::values::{Bounds, number, number_of, word, word_of};
+use super::described::{Texts, taking};
+use super::studied::on_study;
+use super::values::{Bounds, number, number_of, word_of};
 use clap::{ArgMatches, Command};
 use std::alloc::{AllocError, Global};
 
@@ -19,7 +20,7 @@ const WORKERS: Bounds = Bounds {
 };
 
 /// A front that was asked for, of rows that are given up where they can't be in it.
-#[derive(Clone, Copy, Debug)]
+#[derive(Clone, Copy)]
 pub struct ExploreLine<'a> {
     /// The name of the study's file, as written.
     pub study: &'a str,
@@ -71,8 +72,6 @@ const TEXTS: Texts = Texts {
     after_long_help: AFTER_LONG_HELP,
 };
 
-const STUDY_HELP: &str = "The file of the study";
-
 const WORKERS_HELP: &str = "How many workers share the configurations, from 1 to 32";
 
 pub(super) fn grammar<'a>(alloc: Global) -> Result<Command<'a>, AllocError>
@@ -89,8 +88,7 @@ pub(super) fn exploring<'a>(
 ) -> Result<Command<'a>, AllocError>
     ensures { IfOk result (λ c. shape_of c ≡ exploring_shape name.entry.now) }
 {
-    let command = described(alloc, name, texts);
-    let command = taking(command, word(alloc, "STUDY", STUDY_HELP))?;
+    let command = on_study(alloc, name, texts);
     taking(
         command,
         number(alloc, "workers", WORKERS, "1", WORKERS_HELP),

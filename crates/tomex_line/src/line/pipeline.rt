@@ -8,8 +8,9 @@ ghost use Rattle.clap.specs.Walk.{rows_of};
 ghost use Rattle.tomex_line.specs.Values.{IsPipelineAsked};
 
 use super::LineFault;
-use super::described::{Texts, described, taking};
-use super::values::{Bounds, CONFIG, flag, flag_of, number, number_of, numeral, word, word_of};
+use super::described::{Texts, taking};
+use super::studied::on_one_run;
+use super::values::{Bounds, CONFIG, flag, flag_of, number, number_of, word_of};
 use clap::{ArgMatches, Command};
 use std::alloc::{AllocError, Global};
 
@@ -20,7 +21,7 @@ const STEP: Bounds = Bounds {
 };
 
 /// A picture of instructions that was asked for.
-#[derive(Clone, Copy, Debug)]
+#[derive(Clone, Copy)]
 pub struct PipelineLine<'a> {
     /// The name of the study's file, as written.
     pub study: &'a str,
@@ -106,12 +107,6 @@ const TEXTS: Texts = Texts {
     after_long_help: AFTER_LONG_HELP,
 };
 
-const STUDY_HELP: &str = "The file of the study";
-
-const CONFIG_HELP: &str = "The number of the configuration, from 0";
-
-const PROGRAM_HELP: &str = "The name of the program in the study";
-
 const FROM_HELP: &str = "The number of the first instruction shown";
 
 const STEPS_HELP: &str = "How many are shown at most";
@@ -121,12 +116,9 @@ const KONATA_HELP: &str = "Write a log for the viewer Konata";
 pub(super) fn grammar<'a>(alloc: Global) -> Result<Command<'a>, AllocError>
     ensures { IfOk result (λ c. shape_of c ≡ pipeline_shape) }
 {
-    let command = described(alloc, "pipeline", TEXTS);
-    let command = taking(command, word(alloc, "STUDY", STUDY_HELP))?;
-    let command = taking(command, numeral(alloc, "CONFIG", CONFIG, CONFIG_HELP))?;
-    let command = taking(command, word(alloc, "PROGRAM", PROGRAM_HELP))?;
-    let command = taking(command, number(alloc, "from", STEP, "1", FROM_HELP))?;
-    let command = taking(command, number(alloc, "steps", STEP, "32", STEPS_HELP))?;
+    let command = on_one_run(alloc, "pipeline", TEXTS);
+    let command = taking(command, number(alloc, "from", STEP, "1", FROM_HELP));
+    let command = taking(command, number(alloc, "steps", STEP, "32", STEPS_HELP));
     taking(command, flag(alloc, "konata", KONATA_HELP))
 }
 

@@ -29,7 +29,7 @@ const LIMIT: Bounds = Bounds {
 };
 
 /// A run that was asked for.
-#[derive(Clone, Copy, Debug)]
+#[derive(Clone, Copy)]
 pub struct RunLine<'a> {
     /// The name of the image's file, as written.
     pub image: &'a str,
@@ -94,10 +94,10 @@ const LIMIT_HELP: &str = "The greatest number of instructions to run, from 1 to 
 pub(super) fn grammar<'a>(alloc: Global) -> Result<Command<'a>, AllocError>
     ensures { IfOk result (λ c. shape_of c ≡ run_shape) }
 {
-    let command = described(alloc, "run", TEXTS);
-    let command = taking(command, word(alloc, "IMAGE", IMAGE_HELP))?;
-    let command = taking(command, number(alloc, "base", BASE, "0", BASE_HELP))?;
-    let command = taking(command, number(alloc, "size", SIZE, "65536", SIZE_HELP))?;
+    let command = Ok(described(alloc, "run", TEXTS));
+    let command = taking(command, word(alloc, "IMAGE", IMAGE_HELP));
+    let command = taking(command, number(alloc, "base", BASE, "0", BASE_HELP));
+    let command = taking(command, number(alloc, "size", SIZE, "65536", SIZE_HELP));
     taking(command, number(alloc, "limit", LIMIT, "262144", LIMIT_HELP))
 }
 

@@ -8,13 +8,14 @@ ghost use Rattle.clap.specs.Walk.{rows_of};
 ghost use Rattle.tomex_line.specs.Values.{IsStallsAsked};
 
 use super::LineFault;
-use super::described::{Texts, described, taking};
-use super::values::{CONFIG, flag, flag_of, number_of, numeral, word, word_of};
+use super::described::{Texts, taking};
+use super::studied::on_one_run;
+use super::values::{CONFIG, flag, flag_of, number_of, word_of};
 use clap::{ArgMatches, Command};
 use std::alloc::{AllocError, Global};
 
 /// A stalls report that was asked for.
-#[derive(Clone, Copy, Debug)]
+#[derive(Clone, Copy)]
 pub struct StallsLine<'a> {
     /// The name of the study's file, as written.
     pub study: &'a str,
@@ -79,21 +80,12 @@ const TEXTS: Texts = Texts {
     after_long_help: AFTER_LONG_HELP,
 };
 
-const STUDY_HELP: &str = "The file of the study";
-
-const CONFIG_HELP: &str = "The number of the configuration, from 0";
-
-const PROGRAM_HELP: &str = "The name of the program in the study";
-
 const BY_PC_HELP: &str = "Tell the waits by place in the program";
 
 pub(super) fn grammar<'a>(alloc: Global) -> Result<Command<'a>, AllocError>
     ensures { IfOk result (λ c. shape_of c ≡ stalls_shape) }
 {
-    let command = described(alloc, "stalls", TEXTS);
-    let command = taking(command, word(alloc, "STUDY", STUDY_HELP))?;
-    let command = taking(command, numeral(alloc, "CONFIG", CONFIG, CONFIG_HELP))?;
-    let command = taking(command, word(alloc, "PROGRAM", PROGRAM_HELP))?;
+    let command = on_one_run(alloc, "stalls", TEXTS);
     taking(command, flag(alloc, "by-pc", BY_PC_HELP))
 }
 

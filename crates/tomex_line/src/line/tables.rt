@@ -8,8 +8,9 @@ ghost use Rattle.clap.specs.Walk.{rows_of};
 ghost use Rattle.tomex_line.specs.Values.{IsTablesAsked};
 
 use super::LineFault;
-use super::described::{Texts, described, taking};
-use super::values::{Bounds, CONFIG, number_of, numeral, word, word_of};
+use super::described::{Texts, taking};
+use super::studied::on_one_run;
+use super::values::{Bounds, CONFIG, number_of, numeral, word_of};
 use clap::{ArgMatches, Command};
 use std::alloc::{AllocError, Global};
 
@@ -20,7 +21,7 @@ const CYCLE: Bounds = Bounds {
 };
 
 /// The tables that were asked for.
-#[derive(Clone, Copy, Debug)]
+#[derive(Clone, Copy)]
 pub struct TablesLine<'a> {
     /// The name of the study's file, as written.
     pub study: &'a str,
@@ -83,21 +84,12 @@ const TEXTS: Texts = Texts {
     after_long_help: AFTER_LONG_HELP,
 };
 
-const STUDY_HELP: &str = "The file of the study";
-
-const CONFIG_HELP: &str = "The number of the configuration, from 0";
-
-const PROGRAM_HELP: &str = "The name of the program in the study";
-
 const CYCLE_HELP: &str = "The cycle after which the tables are shown, 0 for the start";
 
 pub(super) fn grammar<'a>(alloc: Global) -> Result<Command<'a>, AllocError>
     ensures { IfOk result (λ c. shape_of c ≡ tables_shape) }
 {
-    let command = described(alloc, "tables", TEXTS);
-    let command = taking(command, word(alloc, "STUDY", STUDY_HELP))?;
-    let command = taking(command, numeral(alloc, "CONFIG", CONFIG, CONFIG_HELP))?;
-    let command = taking(command, word(alloc, "PROGRAM", PROGRAM_HELP))?;
+    let command = on_one_run(alloc, "tables", TEXTS);
     taking(command, numeral(alloc, "CYCLE", CYCLE, CYCLE_HELP))
 }
 

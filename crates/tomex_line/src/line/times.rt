@@ -8,13 +8,14 @@ ghost use Rattle.clap.specs.Walk.{rows_of};
 ghost use Rattle.tomex_line.specs.Values.{IsTimesAsked};
 
 use super::LineFault;
-use super::described::{Texts, described, taking};
-use super::values::{CONFIG, number_of, numeral, word, word_of};
+use super::described::Texts;
+use super::studied::on_one_run;
+use super::values::{CONFIG, number_of, word_of};
 use clap::{ArgMatches, Command};
 use std::alloc::{AllocError, Global};
 
 /// A times report that was asked for.
-#[derive(Clone, Copy, Debug)]
+#[derive(Clone, Copy)]
 pub struct TimesLine<'a> {
     /// The name of the study's file, as written.
     pub study: &'a str,
@@ -65,19 +66,10 @@ const TEXTS: Texts = Texts {
     after_long_help: AFTER_LONG_HELP,
 };
 
-const STUDY_HELP: &str = "The file of the study";
-
-const CONFIG_HELP: &str = "The number of the configuration, from 0";
-
-const PROGRAM_HELP: &str = "The name of the program in the study";
-
 pub(super) fn grammar<'a>(alloc: Global) -> Result<Command<'a>, AllocError>
     ensures { IfOk result (λ c. shape_of c ≡ times_shape) }
 {
-    let command = described(alloc, "times", TEXTS);
-    let command = taking(command, word(alloc, "STUDY", STUDY_HELP))?;
-    let command = taking(command, numeral(alloc, "CONFIG", CONFIG, CONFIG_HELP))?;
-    taking(command, word(alloc, "PROGRAM", PROGRAM_HELP))
+    on_one_run(alloc, "times", TEXTS)
 }
 
 pub(super) fn line_of<'a>(

@@ -1,17 +1,19 @@
 //! The values of a line: what `clap` is to read, and what it read.
-ghost use Rattle.std.specs.Prelude.{◌≡◌, ◌≤◌, false, IfOk, IfErr};
+ghost use Rattle.std.specs.Prelude.{◌≡◌, ◌≤◌, false, pos, IfOk, IfErr};
 ghost use Rattle.tomex_line.specs.Lines.{IsRefusal};
 ghost use Rattle.tomex_line.specs.Grammar.{word_rule, numeral_rule, option_rule, flag_rule};
 ghost use Rattle.clap.specs.Words.{rule_of, found_of};
 ghost use Rattle.clap.specs.Walk.{rows_of};
+ghost use Rattle.clap.specs.declared.builder.value_parser.ValueParser.TheVariants.{Signed};
 ghost use Rattle.tomex_line.specs.Values.{IsFlag, IsNumber, IsWord};
 
 use super::LineFault;
+use clap::builder::ValueParser;
 use clap::{Arg, ArgAction, ArgMatches, value_parser};
 use std::alloc::Global;
 
 /// The least and the greatest value of a number.
-#[derive(Clone, Copy, Debug)]
+#[derive(Clone, Copy)]
 pub struct Bounds {
     pub least: u32,
     pub greatest: u32,
@@ -22,6 +24,13 @@ pub const CONFIG: Bounds = Bounds {
     least: 0,
     greatest: 16_383,
 };
+
+/// What reads a decimal number within the bounds.
+fn within<'a>(bounds: Bounds) -> ValueParser<'a>
+    ensures { result ≡ Signed (pos bounds.least) (pos bounds.greatest) }
+{
+    value_parser!(u32).range(i64::from(bounds.least)..=i64::from(bounds.greatest))
+}
 
 /// An option `--NAME N` of a decimal number.
 pub fn number<'a>(
@@ -34,11 +43,10 @@ pub fn number<'a>(
     ensures rule { rule_of result ≡ option_rule name.entry.now bounds.least bounds.greatest default.entry.now }
     ensures global { result.global ≡ false }
 {
-    let range = i64::from(bounds.least)..=i64::from(bounds.greatest);
     Arg::new(alloc, name)
         .long(name)
         .value_name("N")
-        .value_parser(value_parser!(u32).range(range))
+        .value_parser(within(bounds))
         .default_value(default)
         .help(help)
 }
@@ -48,10 +56,9 @@ pub fn numeral<'a>(alloc: Global, name: &'a str, bounds: Bounds, help: &'a str) 
     ensures rule { rule_of result ≡ numeral_rule name.entry.now bounds.least bounds.greatest }
     ensures global { result.global ≡ false }
 {
-    let range = i64::from(bounds.least)..=i64::from(bounds.greatest);
     Arg::new(alloc, name)
         .required(true)
-        .value_parser(value_parser!(u32).range(range))
+        .value_parser(within(bounds))
         .help(help)
 }
 

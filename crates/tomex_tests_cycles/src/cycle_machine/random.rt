@@ -3,14 +3,14 @@
 ghost use Rattle.std.specs.Prelude.{◌≤◌};
 
 use super::{cycle_of, end_of, has_ended, holds, image_at_0, tick, unit};
-use std::alloc::Allocator;
+use std::alloc::{Allocator, Global};
 use std::test::Fail;
 use tomex_config::Config;
 use tomex_cycle::{Busy, Field, Machine, Progress, Tables, Tag};
 use tomex_image::Image;
-use tomex_rvexec::{Operand, run, trace};
-use tomex_timing::Done;
+use tomex_rvexec::{End, Operand, Step, run, trace};
 use tomex_timing::evaluate::{times, total};
+use tomex_timing::{Done, Times};
 
 /// Marsaglia's xorshift of 32 bits.
 #[derive(Drop)]
@@ -205,35 +205,21 @@ fn compare_pieces(
     Err("pieces don't end".into())
 }
 
-/// Runs a program on a row, and compares each cycle.
-fn compare(rt: &HostRuntime, words: &[u32], row: &Config, random: &mut Random) -> Result<(), Fail> {
-    let image = image_at_0(rt, words)?;
-    let steps = trace(rt.alloc(), &image, 1000).map_err(|_| "no trace")?;
-    let timed = times(rt.alloc(), steps.as_slice(), row)?;
+/// The steps with their times.
+fn done_of(rt: &HostRuntime, steps: &[Step], timed: &[Times]) -> Result<Vec<Done>, Fail> {
     let mut done = Vec::new(rt.alloc());
-    for (step, at) in steps.iter().zip(timed.as_slice()) {
+    for (step, at) in steps.iter().zip(timed) {
         done.push(Done {
             step: *step,
             at: *at,
         })?;
     }
-    let all = total(timed.as_slice());
-    compare_pieces(rt, &image, row, done.as_slice(), all, random)?;
-    let mut machine = Machine::new(rt.alloc(), &image, row)?;
-    for cycle in 0..5000u64 {
-        if all < cycle {
-            break;
-        }
-        agree(&machine.tables(), done.as_slice(), cycle)?;
-        if cycle < all {
-            let running = matches!(tick(&mut machine), Progress::Running);
-            holds(running == (cycle + 1 < all), "another answer")?;
-        }
-    }
-    let (ended, wanted) = (
-        end_of(machine)?,
-        run(rt.alloc(), &image, 1000).map_err(|_| "no end")?,
-    );
+    Ok(done)
+}
+
+/// Compares the end of a run by tags with that of the run in order.
+fn compare_ends(rt: &HostRuntime, image: &Image, ended: &End<Global>) -> Result<(), Fail> {
+    let wanted = run(rt.alloc(), image, 1000).map_err(|_| "no end")?;
     holds(ended.steps == wanted.steps, "another number of steps")?;
     holds(ended.pc == wanted.pc, "another pc")?;
     holds(ended.regs == wanted.regs, "other registers")?;
@@ -241,6 +227,39 @@ fn compare(rt: &HostRuntime, words: &[u32], row: &Config, random: &mut Random) -
         ended.memory.bytes() == wanted.memory.bytes(),
         "another memory",
     )
+}
+
+/// Compares each cycle up to the last, which is `all`, and then the end.
+fn compare_cycles(
+    rt: &HostRuntime,
+    image: &Image,
+    row: &Config,
+    steps: &[Done],
+    all: u64,
+) -> Result<(), Fail> {
+    let mut machine = Machine::new(rt.alloc(), image, row)?;
+    for cycle in 0..5000u64 {
+        if all < cycle {
+            break;
+        }
+        agree(&machine.tables(), steps, cycle)?;
+        if cycle < all {
+            let running = matches!(tick(&mut machine), Progress::Running);
+            holds(running == (cycle + 1 < all), "another answer")?;
+        }
+    }
+    compare_ends(rt, image, &end_of(machine)?)
+}
+
+/// Runs a program on a row, and compares each cycle.
+fn compare(rt: &HostRuntime, words: &[u32], row: &Config, random: &mut Random) -> Result<(), Fail> {
+    let image = image_at_0(rt, words)?;
+    let steps = trace(rt.alloc(), &image, 1000).map_err(|_| "no trace")?;
+    let timed = times(rt.alloc(), steps.as_slice(), row)?;
+    let done = done_of(rt, steps.as_slice(), timed.as_slice())?;
+    let all = total(timed.as_slice());
+    compare_pieces(rt, &image, row, done.as_slice(), all, random)?;
+    compare_cycles(rt, &image, row, done.as_slice(), all)
 }
 
 #[test]

@@ -1,5 +1,8 @@
-use Rattle.tomex_config.specs.Row.{with_stations}
-use Rattle.tomex_config.proofs.Grown.{one_row, one_value}
+use Rattle.std.proofs.Common.{sym}
+use Rattle.tomex_config.specs.Row.{is_between, with_stations}
+use Rattle.std.proofs.lemmas.List.{append-nil}
+use Rattle.tomex_config.proofs.Ranges.{passes_at}
+use Rattle.tomex_config.proofs.Grown.{all_rows, one_row, one_value}
 use Rattle.tomex_config.proofs.product.vary_stations.Goals as goal
 
 pub loop-count-preserved : goal.loop-count-preserved
@@ -7,3 +10,15 @@ loop-count-preserved g c = one_value (with_stations c.args.pool) c.row-item.resu
 
 pub loop-row-preserved : goal.loop-row-preserved
 loop-row-preserved g c = one_row (with_stations c.args.pool) c.args.counts.now c.args.rows.now c.loop-row.row-index c.loop-count.count-index c.row-item.result c.loop-row.varied.items c.loop-count.varied.items c.loop-row-test.true c.loop-count-test.false c.loop-row.invariant c.row-item.is c.loop-count.invariant
+
+pub with_stations-requires : goal.with_stations-requires
+with_stations-requires g c = passes_at (is_between 1 16) c.args.counts.now c.loop-count.count-index _ c.requires c.loop-count-test.true
+
+pub loop-row-init : goal.loop-row-init
+loop-row-init g c = c.new-varied.ensures.items
+
+pub loop-count-init : goal.loop-count-init
+loop-count-init g c = sym (append-nil c.loop-row.varied.items)
+
+pub returns : goal.returns
+returns g c = all_rows (with_stations c.args.pool) c.args.counts.now c.args.rows.now c.loop-row.varied.items c.loop-row.row-index c.loop-row.invariant c.loop-row-test.false

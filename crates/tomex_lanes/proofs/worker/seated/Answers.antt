@@ -29,3 +29,13 @@ returns-clause-seats g c =
     let past : c.len-count.result ≤ c.loop.counter = c.loop-test.false in
     let beyond : length c.args.lanes.items ≤ c.loop.counter = omega arith in
     (all_dealt _ _ c.loop.own c.loop.workers.items c.push-2.new.self.items _ _ c.in-Some-next.lane _ c.loop.invariant beyond c.in-Some-next.ensures.items c.in_ok-push-2.ensures.items).1
+
+pub returns-clause-lanes : goal.returns-clause-lanes
+returns-clause-lanes g c =
+    let long : c.len-count.result ≡ length c.args.lanes.items = let e = c.len-count.ensures in search rules in
+    let past : c.len-count.result ≤ c.loop.counter = c.loop-test.false in
+    let beyond : length c.args.lanes.items ≤ c.loop.counter = omega arith in
+    (all_dealt _ _ c.loop.own c.loop.workers.items c.push-2.new.self.items _ _ c.in-Some-next.lane _ c.loop.invariant beyond c.in-Some-next.ensures.items c.in_ok-push-2.ensures.items).0
+
+pub split-kept-requires-clause-board : goal.split-kept-requires-clause-board
+split-kept-requires-clause-board g c = c.loop.invariant.board_of

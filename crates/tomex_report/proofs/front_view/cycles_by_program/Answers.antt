@@ -1,5 +1,6 @@
 -- The cycles of one program more.
 use Rattle.std.proofs.Common.{refl}
+use Rattle.std.proofs.lemmas.List.{take_all}
 use Rattle.std.proofs.lemmas.Option.{slice_get_read}
 use Rattle.tomex_report.proofs.Records.{one_more}
 use Rattle.tomex_report.proofs.front_view.cycles_by_program.Goals as goal
@@ -17,3 +18,11 @@ loop-place-preserved g c =
     let item = rw programs at c.program-item.is in
     one_more _ c.args.study.now.programs _ _ _ c.program-item.result _ c.loop-place.invariant within item
     c.in_ok-program_cycles.ensures c.in_ok-push.ensures.items
+
+pub loop-place-init : goal.loop-place-init
+loop-place-init g c = rw c.new-all.ensures.items tt
+
+pub returns : goal.returns
+returns g c =
+    let past = rw c.programs-program-items.ensures.value at c.loop-place-test.false in
+    rw (take_all c.loop-place.place c.args.study.now.programs past) at c.loop-place.invariant

@@ -1,18 +1,39 @@
--- A run that is refused is that of the image which the file is in the entry's window.
-use Rattle.std.proofs.Common.{◌∙◌, inr}
-use Rattle.tomex_report.proofs.Studies.{fails}
+-- The parts of a program are its entry's and its image, and its run is of that image.
+use Rattle.std.proofs.Common.{◌≡◌, ◌∙◌}
+use Rattle.tomex_report.proofs.Studies.{in_window}
 use Rattle.tomex_report.proofs.study.program_of.Goals as goal
 
-pub returns-in-Err-Fault-clause-err : goal.returns-in-Err-Fault-clause-err
-returns-in-Err-Fault-clause-err g c =
-    inr (
-      c.in_ok-told.ensures.ok ∙ c.name.ensures.value,
-      fails c.args.entry.now c.args.file.now _ _ _ _ _ c.window-window.ensures.value c.limit-limit.ensures.value c.in-Ok.ensures.ok.0 c.in-Ok.ensures.ok.1 c.in-Err-Fault.field-0-is c.in-Err-Fault.ensures.unfit,
-    )
+pub returns-in-Err-clause-err : goal.returns-in-Err-clause-err
+returns-in-Err-clause-err g c =
+    c.unfit.ensures c.args.file.now (_, c.in_ok-image.ensures.ok.0, c.in_ok-image.ensures.ok.1, rw c.limit.ensures.value at c.in-Err.ensures.unfit)
 
-pub returns-in-Err-TooLong-clause-err : goal.returns-in-Err-TooLong-clause-err
-returns-in-Err-TooLong-clause-err g c =
-    inr (
-      c.in_ok-told.ensures.ok ∙ c.name.ensures.value,
-      fails c.args.entry.now c.args.file.now _ _ _ _ _ c.window-window.ensures.value c.limit-limit.ensures.value c.in-Ok.ensures.ok.0 c.in-Ok.ensures.ok.1 c.in-Err-TooLong.field-0-is c.in-Err-TooLong.ensures.unfit,
-    )
+pub returns-in-Ok-clause-ok : goal.returns-in-Ok-clause-ok
+returns-in-Ok-clause-ok g c =
+    let program = rw c.in-Ok.ensures.parts at c.in-Ok.ensures.program in
+    rw c.in-Ok.ensures.parts (record {
+      name = c.in_ok-name.ensures.ok ∙ c.name.ensures.value;
+      placed = c.in_ok-image.ensures.ok.0;
+      accepted = c.in_ok-image.ensures.ok.1;
+      limit = c.limit.ensures.value;
+      ends = rw c.limit.ensures.value at program.ends;
+      watch = rw (c.in_ok-extend_from_slice.ensures.items, c.new-watch.ensures.items) c.watch.ensures.value;
+      weight = c.weight.ensures.value;
+    })
+
+pub new-requires-clause-some_steps : goal.new-requires-clause-some_steps
+new-requires-clause-some_steps g c = rw c.limit.ensures.value c.limit.ensures.lawful.least_limit
+
+pub new-requires-clause-few_steps : goal.new-requires-clause-few_steps
+new-requires-clause-few_steps g c = rw c.limit.ensures.value c.limit.ensures.lawful.most_limit
+
+pub new-requires-clause-watch : goal.new-requires-clause-watch
+new-requires-clause-watch g c =
+    let window = in_window c.args.file.now c.args.entry.now.window c.in_ok-image.image c.in_ok-image.ensures.ok.0 in
+    let watch : c.extend_from_slice.new.self.items ≡ c.args.entry.now.watch = rw (c.in_ok-extend_from_slice.ensures.items, c.new-watch.ensures.items) c.watch.ensures.value in
+    rw (window, watch) c.limit.ensures.lawful.watch
+
+pub new-requires-clause-some_weight : goal.new-requires-clause-some_weight
+new-requires-clause-some_weight g c = rw c.weight.ensures.value c.weight.ensures.lawful.least_weight
+
+pub new-requires-clause-most_weight : goal.new-requires-clause-most_weight
+new-requires-clause-most_weight g c = rw c.weight.ensures.value c.weight.ensures.lawful.most_weight

@@ -1,5 +1,5 @@
 -- The files before the one at hand are programs; it is one more, or the first that is refused.
-use Rattle.tomex_report.proofs.Studies.{first_refusal, item_is, pushed, seen_is}
+use Rattle.tomex_report.proofs.Studies.{all_programs, first_refusal, item_is, pushed, seen_is}
 use Rattle.tomex_report.proofs.study.programs_of.Goals as goal
 
 pub returns-in-Err-clause-err : goal.returns-in-Err-clause-err
@@ -18,3 +18,9 @@ loop-place-preserved g c =
     c.loop-place.invariant
     c.in-Ok.ensures.ok
     c.in_ok-push-in-Ok.ensures.items
+
+pub loop-place-init : goal.loop-place-init
+loop-place-init g c = rw c.new-programs.ensures.items tt
+
+pub returns-clause-ok : goal.returns-clause-ok
+returns-clause-ok g c = all_programs _ c.loop-place.place c.args.entries.now c.args.files.now _ c.requires c.loop-place-test.false c.loop-place.invariant

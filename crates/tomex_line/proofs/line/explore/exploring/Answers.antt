@@ -1,10 +1,11 @@
--- The arguments, one after the other.
-use Rattle.std.proofs.Common.{◌∙◌, ap, ap₂}
+-- A command with its last argument.
+use Rattle.std.proofs.Common.{ap}
 use Rattle.std.proofs.lemmas.Result.{IfOk-weaker}
-use Rattle.clap.specs.Words.{App, with_rule}
+use Rattle.clap.specs.Words.{App}
+use Rattle.tomex_line.proofs.Taken.{taken}
 use Rattle.tomex_line.proofs.line.explore.exploring.Goals as goal
 
 pub returns : goal.returns
 returns c =
-    let one = c.in_ok-command.ensures ∙ ap₂ with_rule c.described-command.ensures c.word.ensures.rule in
-    IfOk-weaker c.taking-2.result _ _ (λ made is. ap (λ (a : App). a.top) (is ∙ ap₂ with_rule one c.number.ensures.rule)) c.taking-2.ensures
+    let last = taken _ _ _ _ _ c.taking.ensures c.on_study-command.ensures c.number.ensures.rule in
+    IfOk-weaker c.taking.result _ _ (λ made is. ap (λ (a : App). a.top) is) last

@@ -1,12 +1,11 @@
--- The arguments of `tables`, one after the other.
-use Rattle.std.proofs.Common.{◌∙◌, ap, ap₂}
+-- A command with its last argument.
+use Rattle.std.proofs.Common.{ap}
 use Rattle.std.proofs.lemmas.Result.{IfOk-weaker}
-use Rattle.clap.specs.Words.{App, with_rule}
+use Rattle.clap.specs.Words.{App}
+use Rattle.tomex_line.proofs.Taken.{taken}
 use Rattle.tomex_line.proofs.line.tables.grammar.Goals as goal
 
 pub returns : goal.returns
 returns c =
-    let one = c.in_ok-command.ensures ∙ ap₂ with_rule c.described-command.ensures c.word.ensures.rule in
-    let two = c.in_ok-command-2.ensures ∙ ap₂ with_rule one c.numeral.ensures.rule in
-    let three = c.in_ok-command-3.ensures ∙ ap₂ with_rule two c.word-2.ensures.rule in
-    IfOk-weaker c.taking-4.result _ _ (λ made is. ap (λ (a : App). a.top) (is ∙ ap₂ with_rule three c.numeral-2.ensures.rule)) c.taking-4.ensures
+    let last = taken _ _ _ _ _ c.taking.ensures c.on_one_run-command.ensures c.numeral.ensures.rule in
+    IfOk-weaker c.taking.result _ _ (λ made is. ap (λ (a : App). a.top) is) last
