@@ -89,10 +89,10 @@ pub in_tail : (x y : ℕ) (xs : List ℕ) → is_in xs y ≡ true → is_in (x �
 in_tail x y xs h = rw h (or_right (x == y) true refl)
 
 -- the first of a listing that rises doesn't come again
-pub not_again : (ages : List ℕ) (x : ℕ) (xs : List ℕ) → Rises ages (x ∷ xs) → is_in xs x ≡ false
-not_again ages x xs rises = elim (cases_Bool (is_in xs x)) [
+pub not_again : (issue_numbers : List ℕ) (x : ℕ) (xs : List ℕ) → Rises issue_numbers (x ∷ xs) → is_in xs x ≡ false
+not_again issue_numbers x xs rises = elim (cases_Bool (is_in xs x)) [
   | inr e ↦ e
-  | inl e ↦ let less : slice_index ages x < slice_index ages x = rises.0 x e in absurd (omega arith)
+  | inl e ↦ let less : slice_index issue_numbers x < slice_index issue_numbers x = rises.0 x e in absurd (omega arith)
 ]
 
 count_agree : (f g : ℕ → Bool) (xs : List ℕ) → ((x : ℕ) → is_in xs x ≡ true → f x ≡ g x) → count_by f xs ≡ count_by g xs
@@ -133,21 +133,21 @@ but_same f y = rw (eq-eqb y y refl) (and_false (f y))
     and_false false = refl
 
 -- what passes a test is counted in a listing that has it
-pub count_listed : (f : ℕ → Bool) (ages xs : List ℕ) → Rises ages xs → ((x : ℕ) → is_in xs x ≡ true → x < 128)
+pub count_listed : (f : ℕ → Bool) (issue_numbers xs : List ℕ) → Rises issue_numbers xs → ((x : ℕ) → is_in xs x ≡ true → x < 128)
     → ((x : ℕ) → x < 128 → f x ≡ true → is_in xs x ≡ true) → count_below f 128 ≡ count_by f xs
-count_listed f ages [] rises low listed = count_none f 128 (λ x l. elim (cases_Bool (f x)) [
+count_listed f issue_numbers [] rises low listed = count_none f 128 (λ x l. elim (cases_Bool (f x)) [
   | inr e ↦ e
   | inl e ↦ let z : false ≡ true = listed x l e in absurd (cc)
 ])
-count_listed f ages (y ∷ ys) rises low listed = elim (cases_Bool (f y)) [
+count_listed f issue_numbers (y ∷ ys) rises low listed = elim (cases_Bool (f y)) [
   | inl on ↦
       let small : y < 128 = low y (in_head y ys) in
-      let rest : count_below (but f y) 128 ≡ count_by (but f y) ys = count_listed (but f y) ages ys rises.1 (λ x h. low x (in_tail y x ys h)) (λ x l e. behind x l (and_parts (f x) (not (x == y)) e)) in
-      let same : count_by (but f y) ys ≡ count_by f ys = count_agree (but f y) f ys (λ x h. but_other f y x (λ z. both_ways (is_in ys y) (not_again ages y ys rises) (rw z at h))) in
+      let rest : count_below (but f y) 128 ≡ count_by (but f y) ys = count_listed (but f y) issue_numbers ys rises.1 (λ x h. low x (in_tail y x ys h)) (λ x l e. behind x l (and_parts (f x) (not (x == y)) e)) in
+      let same : count_by (but f y) ys ≡ count_by f ys = count_agree (but f y) f ys (λ x h. but_other f y x (λ z. both_ways (is_in ys y) (not_again issue_numbers y ys rises) (rw z at h))) in
       let more : count_below f 128 ≡ count_below (but f y) 128 + 1 = count_one (but f y) f y 128 small (but_same f y) on (λ x l apart. sym (but_other f y x apart)) in
       let here : count_by f (y ∷ ys) ≡ 1 + count_by f ys = count_on f y ys on in
       omega arith
-  | inr off ↦ count_listed f ages ys rises.1 (λ x h. low x (in_tail y x ys h)) (λ x l e. later x (listed x l e) e off) ∙ sym (count_off f y ys off)
+  | inr off ↦ count_listed f issue_numbers ys rises.1 (λ x h. low x (in_tail y x ys h)) (λ x l e. later x (listed x l e) e off) ∙ sym (count_off f y ys off)
 ]
   where
     behind : (x : ℕ) → x < 128 → (f x ≡ true) × (not (x == y) ≡ true) → is_in ys x ≡ true

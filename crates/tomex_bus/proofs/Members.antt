@@ -120,9 +120,9 @@ skip_to P set k x l none skip so =
     rw e at (up_to P set k (x - k) (λ j from to. none j from (omega arith)) skip so)
 
 -- of the members that were looked at none is less by a measure than the best, one more of which is looked at
-pub best_left : (set rest left x best now : ℕ) (ages : List ℕ) → ((i : ℕ) → i < 128 → has set i ≡ true → (has rest i ≡ true) ⊎ (slice_index ages best ≤ slice_index ages i)) → IsWithout rest x left → slice_index ages now ≤ slice_index ages best → slice_index ages now ≤ slice_index ages x
-    → (i : ℕ) → i < 128 → has set i ≡ true → (has left i ≡ true) ⊎ (slice_index ages now ≤ slice_index ages i)
-best_left set rest left x best now ages looked without less here i l member = elim (cases_Bool (x == i)) [
+pub best_left : (set rest left x best now : ℕ) (issue_numbers : List ℕ) → ((i : ℕ) → i < 128 → has set i ≡ true → (has rest i ≡ true) ⊎ (slice_index issue_numbers best ≤ slice_index issue_numbers i)) → IsWithout rest x left → slice_index issue_numbers now ≤ slice_index issue_numbers best → slice_index issue_numbers now ≤ slice_index issue_numbers x
+    → (i : ℕ) → i < 128 → has set i ≡ true → (has left i ≡ true) ⊎ (slice_index issue_numbers now ≤ slice_index issue_numbers i)
+best_left set rest left x best now issue_numbers looked without less here i l member = elim (cases_Bool (x == i)) [
   | inl k ↦ let same : x ≡ i = eqb-true x i k in inr (rw same at here)
   | inr k ↦ elim (looked i l member) [
     | inl e ↦ inl (without.others i l (λ z. eqb-false x i k (sym z)) ∙ e)

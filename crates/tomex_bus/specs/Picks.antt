@@ -2,24 +2,24 @@
 use Rattle.std.specs.Prelude.{ℕ, true, false, ◌≡◌, ◌<◌, ◌≤◌, min, List, [], ◌∷◌, ⊤, slice_index}
 use Rattle.tomex_bus.specs.Sets.{has, is_in, size_of}
 
--- one is older than each of a list: its age, the number of its issue, is less
+-- one is older than each of a list: it issued before them
 abbrev pub IsOlder : List ℕ → ℕ → List ℕ → Type 0
-IsOlder ages x ys = (y : ℕ) → is_in ys y ≡ true → slice_index ages x < slice_index ages y
+IsOlder issue_numbers x ys = (y : ℕ) → is_in ys y ≡ true → slice_index issue_numbers x < slice_index issue_numbers y
 
 -- the oldest comes first
 abbrev pub Rises : List ℕ → List ℕ → Type 0
-Rises ages [] = ⊤
-Rises ages (x ∷ xs) = IsOlder ages x xs × Rises ages xs
+Rises issue_numbers [] = ⊤
+Rises issue_numbers (x ∷ xs) = IsOlder issue_numbers x xs × Rises issue_numbers xs
 
--- the members of a set, from the oldest on
-pub record IsByAge (set : ℕ) (ages xs : List ℕ) : Type 0 where
+-- the members of a set, in issue order
+pub record IsInIssueOrder (set : ℕ) (issue_numbers xs : List ℕ) : Type 0 where
   pub members : (x : ℕ) → x < 128 → has set x ≡ is_in xs x
   pub low : (x : ℕ) → is_in xs x ≡ true → x < 128
-  pub rises : Rises ages xs
+  pub rises : Rises issue_numbers xs
 
 -- The n oldest of a set, all of it where there are no more: no member that is left issued before one that is picked.
-pub record IsPicked (set : ℕ) (ages : List ℕ) (n picked : ℕ) : Type 0 where
+pub record IsPicked (set : ℕ) (issue_numbers : List ℕ) (n picked : ℕ) : Type 0 where
   pub inside : (x : ℕ) → x < 128 → has picked x ≡ true → has set x ≡ true
   pub oldest : (x y : ℕ) → x < 128 → y < 128 → has picked x ≡ true → has set y ≡ true → has picked y ≡ false
-      → slice_index ages x ≤ slice_index ages y
+      → slice_index issue_numbers x ≤ slice_index issue_numbers y
   pub count : size_of picked ≡ min n (size_of set)

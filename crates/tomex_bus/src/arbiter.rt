@@ -6,20 +6,21 @@ ghost use Rattle.tomex_bus.specs.Picks.{IsPicked};
 
 use crate::sets::{is_single, lowest, with, without, without_lowest};
 
-/// The member of the least age; the ages are by number.
+/// The member that issued first.
 #[inline(always)]
-pub fn oldest(set: u128, ages: &[u32; 128]) -> usize
+pub fn oldest(set: u128, issue_numbers: &[u32; 128]) -> usize
     requires { 0 < set }
     ensures below { result < 128 }
     ensures member { has set result ≡ true }
-    ensures least { (i : ℕ) → i < 128 → has set i ≡ true → slice_index ages.now result ≤ slice_index ages.now i }
+    ensures least { (i : ℕ) → i < 128 → has set i ≡ true
+        → slice_index issue_numbers.now result ≤ slice_index issue_numbers.now i }
 {
     let mut best = lowest(set);
     let mut rest = without_lowest(set);
     'members: while rest != 0 {
         let number = lowest(rest);
         rest = without_lowest(rest);
-        if ages[number] < ages[best] {
+        if issue_numbers[number] < issue_numbers[best] {
             best = number;
         }
     }
@@ -28,10 +29,10 @@ pub fn oldest(set: u128, ages: &[u32; 128]) -> usize
 
 /// The n oldest of the ready ones, one search after the other.
 ///
-/// Mostly no more than one is ready, and `pick` answers: so this takes no registers of its caller.
+/// Mostly at most one is ready, and `pick` answers: so this takes no registers of its caller.
 #[inline(never)]
-fn pick_by_age(ready: u128, ages: &[u32; 128], n: u8) -> u128
-    ensures picked { IsPicked ready ages.now n result }
+fn pick_in_order(ready: u128, issue_numbers: &[u32; 128], n: u8) -> u128
+    ensures picked { IsPicked ready issue_numbers.now n result }
     ensures some { 0 < n → ready ≢ 0 → result ≢ 0 }
 {
     let mut rest = ready;
@@ -40,24 +41,24 @@ fn pick_by_age(ready: u128, ages: &[u32; 128], n: u8) -> u128
         if rest == 0 {
             return picked;
         }
-        let number = oldest(rest, ages);
+        let number = oldest(rest, issue_numbers);
         rest = without(rest, number);
         picked = with(picked, number);
     }
     picked
 }
 
-/// The n oldest of the ready ones, all of them where there are no more than n.
+/// The n oldest of the ready ones, or all of them if there are no more than n.
 ///
-/// Ages are by number: the count of instructions that issued before. Of members of one age, of which a machine has
-/// none, any may be served. It serves units, memory ports and common data buses.
+/// The issue order is given by number: how many instructions had issued before. No two instructions of a machine have
+/// one place in it; if two had, either may be served. It serves units, memory ports and common data buses.
 #[inline(always)]
-pub fn pick(ready: u128, ages: &[u32; 128], n: u8) -> u128
-    ensures picked { IsPicked ready ages.now n result }
+pub fn pick(ready: u128, issue_numbers: &[u32; 128], n: u8) -> u128
+    ensures picked { IsPicked ready issue_numbers.now n result }
     ensures some { 0 < n → ready ≢ 0 → result ≢ 0 }
 {
     if n > 0 && is_single(ready) {
         return ready;
     }
-    pick_by_age(ready, ages, n)
+    pick_in_order(ready, issue_numbers, n)
 }

@@ -39,7 +39,8 @@ pub(crate) fn lowest(set: u64) -> usize
 #[inline(always)]
 pub(crate) fn without_lowest(set: u64) -> u64
     requires { 0 < set }
-    ensures others { (x : ℕ) → has set x ≡ true → ((i : ℕ) → i < x → has set i ≡ false) → IsWithout set x result }
+    ensures others { (x : ℕ) → has set x ≡ true → ((i : ℕ) → i < x → has set i ≡ false)
+        → IsWithout set x result }
     ensures less { result < set }
 {
     set & (set - 1)

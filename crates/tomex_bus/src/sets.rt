@@ -1,6 +1,6 @@
 //! Sets of numbers below 128, a bit each.
 
-ghost use Rattle.std.specs.Prelude.{ℕ, ◌≡◌, ◌<◌, ◌&&◌, ◌||◌, not, true, false};
+ghost use Rattle.std.specs.Prelude.{ℕ, ◌≡◌, ◌<◌, ◌&&◌, ◌||◌, Decides, not, true, false};
 ghost use Rattle.tomex_bus.specs.Sets.{has, IsSingle, IsWith, IsWithout};
 
 use crate::alone::alone;
@@ -16,7 +16,7 @@ pub fn with(set: u128, number: usize) -> u128
     set | alone(number)
 }
 
-/// The set, and the number where it is to be a member: no branch is taken.
+/// The set, with the number too if it is to be a member. No branch is taken.
 #[inline(always)]
 pub fn with_if(set: u128, number: usize, member: bool) -> u128
     requires { number < 128 }
@@ -55,7 +55,8 @@ pub fn lowest(set: u128) -> usize
 #[inline(always)]
 pub fn without_lowest(set: u128) -> u128
     requires { 0 < set }
-    ensures others { (x : ℕ) → has set x ≡ true → ((i : ℕ) → i < x → has set i ≡ false) → IsWithout set x result }
+    ensures others { (x : ℕ) → has set x ≡ true → ((i : ℕ) → i < x → has set i ≡ false)
+        → IsWithout set x result }
     ensures less { result < set }
 {
     let near = lower(set);
@@ -68,8 +69,7 @@ pub fn without_lowest(set: u128) -> u128
 /// Whether there is at most one member.
 #[inline(always)]
 pub fn is_single(set: u128) -> bool
-    ensures single { result ≡ true → IsSingle set }
-    ensures several { result ≡ false → IsSingle set → ⊥ }
+    ensures { Decides result (IsSingle set) }
 {
     set == 0 || without_lowest(set) == 0
 }

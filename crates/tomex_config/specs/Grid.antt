@@ -71,7 +71,8 @@ rows_of axes = do
 abbrev pub lengths : Lists → List ℕ
 lengths axes =
     length axes.alu ∷ length axes.mul ∷ length axes.div ∷ length axes.load ∷ length axes.store ∷ length axes.bru
-    ∷ length axes.alu_units ∷ length axes.mul_units ∷ length axes.div_units ∷ length axes.mem_units ∷ length axes.bru_units
+    ∷ length axes.alu_units ∷ length axes.mul_units ∷ length axes.div_units ∷ length axes.mem_units
+    ∷ length axes.bru_units
     ∷ length axes.buses ∷ length axes.width ∷ []
 
 abbrev pub has_zero : List ℕ → Bool
@@ -83,12 +84,14 @@ has_empty axes = has_zero (lengths axes)
 abbrev pub stations_in_range : Lists → Bool
 stations_in_range axes =
     list_all (is_between 1 16) axes.alu && list_all (is_between 1 16) axes.mul && list_all (is_between 1 16) axes.div
-    && list_all (is_between 1 16) axes.load && list_all (is_between 1 16) axes.store && list_all (is_between 1 16) axes.bru
+    && list_all (is_between 1 16) axes.load && list_all (is_between 1 16) axes.store
+    && list_all (is_between 1 16) axes.bru
 
 -- of branch units there is one
 abbrev pub options_in_range : Lists → Bool
 options_in_range axes =
-    list_all (is_option 8) axes.alu_units && list_all (is_option 8) axes.mul_units && list_all (is_option 8) axes.div_units
+    list_all (is_option 8) axes.alu_units && list_all (is_option 8) axes.mul_units
+    && list_all (is_option 8) axes.div_units
     && list_all (is_option 8) axes.mem_units && list_all (is_option 1) axes.bru_units
 
 abbrev pub rest_in_range : Lists → Bool

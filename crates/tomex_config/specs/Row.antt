@@ -15,6 +15,10 @@ pub record Row : Type 0 where
   pub buses : ℕ
   pub width : ℕ
 
+abbrev pub row_of : List ℕ → List UnitOption → (buses width : ℕ) → Row
+row_of stations units buses width =
+    record { stations = stations; units = units; buses = buses; width = width }
+
 abbrev pub is_between : ℕ → ℕ → ℕ → Bool
 is_between low high n = nat_le low n && nat_le n high
 

@@ -2,7 +2,7 @@
 
 ghost use Rattle.std.specs.Prelude.{◌≡◌, ◌≤◌, ◌↔◌, true, IsSome, IfSome};
 ghost use Rattle.std.specs.List.{list_all};
-ghost use Rattle.tomex_config.specs.Row.{IsRow, is_between, is_option, most_units, plain, stations_of, option_of, with_stations, with_option, with_buses, with_width};
+ghost use Rattle.tomex_config.specs.Row.{IsRow, is_between, is_option, most_units, plain, row_of, stations_of, option_of, with_stations, with_option, with_buses, with_width};
 
 use std::marker::Model;
 use tomex_rvdec::{PoolId, UnitId};
@@ -28,15 +28,15 @@ pub struct Config {
 }
 
 impl Model for Config {
-    ghost use Rattle.tomex_config.specs.Row.{Row, IsRow};
+    ghost use Rattle.tomex_config.specs.Row.{Row, IsRow, row_of};
 
     ghost Value = { Row };
 
-    ghost view = { λ c. record { stations = c.stations; units = c.units; buses = c.buses; width = c.width } };
+    ghost view = { λ c. row_of c.stations c.units c.buses c.width };
 
     ghost inverse = { λ r. record { stations = r.stations; units = r.units; buses = r.buses; width = r.width } };
 
-    ghost invariant = { λ c. IsRow (record { stations = c.stations; units = c.units; buses = c.buses; width = c.width }) };
+    ghost invariant = { λ c. IsRow (row_of c.stations c.units c.buses c.width) };
 }
 
 /// Whether an option is within the limits, of which `most` is that of its units.
@@ -54,8 +54,8 @@ impl Config {
     /// The row of these parts, in the order of `PoolId::ALL` and `UnitId::ALL`. `None` where one
     /// of them is out of the limits.
     pub fn new(stations: [u8; 6], units: [UnitOption; 5], buses: u8, width: u8) -> Option<Config>
-        ensures lawful { IsSome result ↔ IsRow (record { stations = stations; units = units; buses = buses; width = width }) }
-        ensures parts { IfSome result (λ c. c ≡ record { stations = stations; units = units; buses = buses; width = width }) }
+        ensures lawful { IsSome result ↔ IsRow (row_of stations units buses width) }
+        ensures parts { IfSome result (λ c. c ≡ row_of stations units buses width) }
     {
         let are_stations = stations.iter().all(|count| 1 <= *count && *count <= 16);
         let are_units = units.iter().all(|option| is_option(*option, 8));
@@ -126,6 +126,13 @@ impl Config {
         ensures { result ≡ with_width self.now width }
     {
         Config { width, ..*self }
+    }
+
+    /// A law: a configuration is within the limits.
+    pub fn keeps_limits(&self)
+        ensures { IsRow self.now }
+    {
+        let _buses = self.buses;
     }
 
     /// The reservation stations of a pool.

@@ -27,7 +27,7 @@ use Rattle.tomex_cycle.proofs.Fields.{there_test, tag_there, timed_part, issued_
 use Rattle.tomex_cycle.proofs.Places.{place_low, low, station_here, is_vacant, vacant, least_test}
 use Rattle.tomex_cycle.proofs.Totals.{reach, place_there, issued_more}
 use Rattle.tomex_membuf.specs.Addresses.{has_base, is_value}
-use Rattle.tomex_cycle.proofs.ByAge.{first_waiting, next_address, where_base_is_there}
+use Rattle.tomex_cycle.proofs.IssueOrder.{first_waiting, next_address, where_base_is_there}
 use Rattle.tomex_tags.specs.Contents.{address_from, is_memory_op, lacks_address, with_address}
 use Rattle.tomex_tags.specs.Operands.{is_there}
 use Rattle.tomex_tags.specs.Places.{place_at, place_of_tag}
@@ -35,7 +35,7 @@ use Rattle.tomex_tags.specs.Pools.{Pools, AreBusy}
 use Rattle.tomex_tags.specs.declared.station.Station.{Station}
 use Rattle.tomex_timing.specs.declared.tables.Field.{Field}
 use Rattle.tomex_timing.specs.declared.tables.Field.TheVariants.{Value, Waits, Unread}
-use Rattle.tomex_bus.specs.Picks.{IsByAge}
+use Rattle.tomex_bus.specs.Picks.{IsInIssueOrder}
 use Rattle.tomex_cycle.proofs.Orders.{order_is}
 
 abbrev pub or_else : Option ℕ → Option ℕ → Option ℕ
@@ -342,15 +342,15 @@ given_none x y slots none = elim (cases_Bool (x == y)) [
 ]
 
 -- the phase, by the search for the next address
-pub made_none : (next : ℕ) (old : Pools) → AreBusy old.slots old.busy old.ages → ((order : List ℕ) → IsByAge old.busy old.ages order → None ≡ next_address old.slots order) → MakesAddress next old old
+pub made_none : (next : ℕ) (old : Pools) → AreBusy old.slots old.busy old.issue_numbers → ((order : List ℕ) → IsInIssueOrder old.busy old.issue_numbers order → None ≡ next_address old.slots order) → MakesAddress next old old
 made_none next old filled none i row h t e past issued shown =
-    let by : IsByAge old.busy old.ages (order_of t h) = order_is i row (clocks next t t) h old past.lawful past.timed (issued_more t (t + 1) h (omega arith) issued) shown filled in
+    let by : IsInIssueOrder old.busy old.issue_numbers (order_of t h) = order_is i row (clocks next t t) h old past.lawful past.timed (issued_more t (t + 1) h (omega arith) issued) shown filled in
     let waits : first_waiting old.slots (order_of t h) ≡ chosen t h = waiting_is i row t next old h [] h past.lawful past.timed issued shown refl in
     record {
       places = shown.places;
       slots = λ x l. shown.slots x l ∙ sym (addresses_at i row t next x h past.lawful past.timed issued e ∙ sym (unmoved i t next x h old (chosen t h) (rw waits at (none (order_of t h) by)) (shown.slots x l)));
-      ages_count = shown.ages_count;
-      ages = shown.ages;
+      order_count = shown.order_count;
+      issue_numbers = shown.issue_numbers;
     }
   where
     unmoved : (i : Loaded) (t next x : ℕ) (h : List Done) (old : Pools) (o : Option ℕ) → None ≡ where_base_is_there old.slots o → slice_index_or old.slots x None ≡ station_at i (clocks next t t) h x → station_at i (clocks next t t) h x ≡ given_at o x (station_at i (clocks next t t) h x)
@@ -371,10 +371,10 @@ chosen_low : (row : Row) (t x : ℕ) (h : List Done) → IsRow row → AreTimed 
 chosen_low row t x [] good timed e = absurd (cc)
 chosen_low row t x (d ∷ older) good timed e = low_by row t x d older (chosen t older) good timed (λ y f. chosen_low row t y older good timed.1 f) e
 
-pub made_some : (next x : ℕ) (old new : Pools) (o : Option Station) → AreBusy old.slots old.busy old.ages → ((order : List ℕ) → IsByAge old.busy old.ages order → Some x ≡ next_address old.slots order)
-    → o ≡ option_map with_address (slice_index_or old.slots x None) → new.slots ≡ slice_set old.slots x o → new.ages ≡ old.ages → MakesAddress next old new
-made_some next x old new o filled some same slots ages i row h t e past issued shown =
-    let by : IsByAge old.busy old.ages (order_of t h) = order_is i row (clocks next t t) h old past.lawful past.timed (issued_more t (t + 1) h (omega arith) issued) shown filled in
+pub made_some : (next x : ℕ) (old new : Pools) (o : Option Station) → AreBusy old.slots old.busy old.issue_numbers → ((order : List ℕ) → IsInIssueOrder old.busy old.issue_numbers order → Some x ≡ next_address old.slots order)
+    → o ≡ option_map with_address (slice_index_or old.slots x None) → new.slots ≡ slice_set old.slots x o → new.issue_numbers ≡ old.issue_numbers → MakesAddress next old new
+made_some next x old new o filled some same slots issue_numbers i row h t e past issued shown =
+    let by : IsInIssueOrder old.busy old.issue_numbers (order_of t h) = order_is i row (clocks next t t) h old past.lawful past.timed (issued_more t (t + 1) h (omega arith) issued) shown filled in
     let waits : first_waiting old.slots (order_of t h) ≡ chosen t h = waiting_is i row t next old h [] h past.lawful past.timed issued shown refl in
     let c : chosen t h ≡ Some x = found x old.slots (chosen t h) (rw waits at (some (order_of t h) by)) in
     let count : length old.slots ≡ 96 = shown.places in
@@ -382,8 +382,8 @@ made_some next x old new o filled some same slots ages i row h t e past issued s
     record {
       places = ap length slots ∙ (length-set old.slots x o ∙ shown.places);
       slots = λ y l. ap (λ xs. slice_index_or xs y None) slots ∙ (set_at_place old.slots x y o (omega arith) same ∙ (ap (given_at (Some x) y) (shown.slots y l) ∙ sym (addresses_at i row t next y h past.lawful past.timed issued e ∙ rw c refl)));
-      ages_count = ap length ages ∙ shown.ages_count;
-      ages = λ y l. ap (λ xs. slice_index xs y) ages ∙ shown.ages y l;
+      order_count = ap length issue_numbers ∙ shown.order_count;
+      issue_numbers = λ y l. ap (λ xs. slice_index xs y) issue_numbers ∙ shown.issue_numbers y l;
     }
   where
     found : (x : ℕ) (slots : List (Option Station)) (o : Option ℕ) → Some x ≡ where_base_is_there slots o → o ≡ Some x

@@ -9,7 +9,7 @@ use Rattle.tomex_rvexec.specs.Machine.{State}
 use Rattle.tomex_rvexec.specs.Memory.{Bytes}
 use Rattle.tomex_rvexec.specs.Run.{RunEnds}
 use Rattle.tomex_timing.specs.Recurrence.{AreTimed}
-use Rattle.tomex_cycle.specs.Calm.{AllCalm}
+use Rattle.tomex_cycle.specs.Quiet.{AllQuiet}
 use Rattle.tomex_cycle.specs.Ends.{finishes}
 use Rattle.tomex_cycle.specs.Finishes.{AreKnown}
 use Rattle.tomex_cycle.specs.Phases.{IsSnapshot, MakesStarts}
@@ -27,7 +27,7 @@ use Rattle.tomex_tags.specs.declared.register_status.RegStatus.{RegStatus}
 pub cycle_calm : (i : Loaded) (row : Row) (n t next count c : ℕ) (s : State) (kind : EndKind) (fault : Option Fault) (any : Bool) (st0 st1 st4 : Pools) (rg0 rg1 : RegStatus) (ft0 ft1 : Fetch) (m0 m1 : Bytes) (f : Finishes)
     → MakesStarts row next st0 m0 fault st1 m1 → (any ≡ false → st1.slots ≡ st0.slots) → RunEnds i n s kind → next ≡ t + 1 → IsRow row → IsLoaded i.window i.memory i.entry
     → IsSnapshot i row n t count st0 rg0 ft0 m0 → IsSnapshot i row n next c st4 rg1 ft1 m1 → c ≡ count → st4.slots ≡ st1.slots
-    → (any ≡ false) ⊎ NoneWaits st4.slots → AreKnown st4.slots (next + 1) f → f.ready ≡ 0 → AllCalm next (run_to row i c)
+    → (any ≡ false) ⊎ NoneWaits st4.slots → AreKnown st4.slots (next + 1) f → f.ready ≡ 0 → AllQuiet next (run_to row i c)
 cycle_calm i row n t next count c s kind fault any st0 st1 st4 rg0 rg1 ft0 ft1 m0 m1 f starts none ends e good loaded old now same slots how known ready =
     let timed : AreTimed row (run_to row i c) = run_timed row i c good in
     let before : IsSnapshot i row n t c st0 rg0 ft0 m0 = subst (λ (k : ℕ). IsSnapshot i row n t k st0 rg0 ft0 m0) (let z : count ≡ c = omega arith in z) old in

@@ -4,7 +4,7 @@ use Rattle.std.specs.Prelude.{◌==◌, if◌then◌else◌}
 use Rattle.std.proofs.Math.Numerals.{suc-eq-add-one}
 use Rattle.std.proofs.lemmas.Bool.{cases_Bool, eq-eqb}
 use Rattle.tomex_timing.specs.declared.times.Done.{Done}
-use Rattle.tomex_cycle.specs.Events.{GoesOn, IsCounted, Passes, busy_by, events_by, events_in}
+use Rattle.tomex_cycle.specs.Events.{GoesOn, IsCounted, SkipsTo, busy_by, events_by, events_in}
 
 events_next : (h : List Done) (t : ℕ) → events_by h (t + 1) ≡ events_by h t + events_in (t + 1) h
 events_next h t = ap (λ (k : ℕ). events_by h k) (sym (suc-eq-add-one t)) ∙ ap (λ (k : ℕ). events_by h t + events_in k h) (suc-eq-add-one t)
@@ -39,7 +39,7 @@ pub record IsPaid (h : List Done) (to from now before after : ℕ) : Type 0 wher
 pub paid_first : (h : List Done) (to from before : ℕ) → IsPaid h to from from before before
 paid_first h to from before = record { least = omega arith; most = inl (omega arith) }
 
-paid_next : (h : List Done) (to from c w before after : ℕ) → c < to → IsPaid h to from c before after → Passes h to c w → IsPaid h to from w before (after + 1)
+paid_next : (h : List Done) (to from c w before after : ℕ) → c < to → IsPaid h to from c before after → SkipsTo h to c w → IsPaid h to from w before (after + 1)
 paid_next h to from c w before after ahead paid passes =
     let on : c + 1 ≤ w = passes.on in
     let at : c + 1 + (w - (c + 1)) ≡ w = omega arith in

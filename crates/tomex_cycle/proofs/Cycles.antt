@@ -132,7 +132,7 @@ progress_same false over p e f = rw e at f
 
 pub cycle_answer : (i : Loaded) (row : Row) (n next count : ℕ) (s : State) (kind : EndKind) (st : Pools) (rg : RegStatus) (ft : Fetch) (m : Bytes) (over : Bool) (p : Progress)
     → IsSnapshot i row n next count st rg ft m → RunEnds i n s kind → IsRow row → IsLoaded i.window i.memory i.entry
-    → AreBusy st.slots st.busy st.ages → over ≡ is_done ft st.busy → p ≡ (if over then Ended else Running)
+    → AreBusy st.slots st.busy st.issue_numbers → over ≡ is_done ft st.busy → p ≡ (if over then Ended else Running)
     → p ≡ (if nat_lt next (greatest_end (run_to row i (n + 1))) then Running else Ended)
 cycle_answer i row n next count s kind st rg ft m over p shown ends good loaded filled e f =
     progress_same (nat_lt next (greatest_end (run_to row i (n + 1)))) over p (e ∙ done_is row i n next count s kind st rg ft good loaded ends shown.issue filled) f

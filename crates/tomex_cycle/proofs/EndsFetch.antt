@@ -229,7 +229,7 @@ names_are i row t u st rg h good timed issued next shown regs r x l e s here =
     named_in i row t u r st h [] h tag.0 s good timed issued next shown refl (sym (regs.tags r l) ∙ tag.1) (ap (λ y. slice_index_or st.slots y None) tag.2 ∙ here)
 
 -- what ends is busy
-pub ending_low : (st : Pools) (buses next ending : ℕ) → AreEnding st buses next ending → AreBusy st.slots st.busy st.ages → (x : ℕ) → x < 128 → has ending x ≡ true → x < 96
+pub ending_low : (st : Pools) (buses next ending : ℕ) → AreEnding st buses next ending → AreBusy st.slots st.busy st.issue_numbers → (x : ℕ) → x < 128 → has ending x ≡ true → x < 96
 ending_low st buses next ending ends filled x l e = low_of st x filled l (elim (or_cases _ _ (sym (ends.all x l) ∙ e)) [
   | inl k ↦ (and_parts _ _ (sym (ends.are_ready x l) ∙ ends.sent.inside x l k)).0
   | inr k ↦ (and_parts _ _ k).0
@@ -237,7 +237,7 @@ ending_low st buses next ending ends filled x l e = low_of st x filled l (elim (
 
 -- The whole phase.
 
-pub made_ends : (row : Row) (next : ℕ) (old new : Pools) (registers status : RegStatus) (fetch result : Fetch) (picked : ℕ) → AreEnding old row.buses next picked → AreBusy old.slots old.busy old.ages → Follows next old.slots fetch result
+pub made_ends : (row : Row) (next : ℕ) (old new : Pools) (registers status : RegStatus) (fetch result : Fetch) (picked : ℕ) → AreEnding old row.buses next picked → AreBusy old.slots old.busy old.issue_numbers → Follows next old.slots fetch result
     → (AreLow picked → EndsIn (λ x. has picked x) (sent_below old.slots picked 96) old new) → (length old.slots ≡ 96 → AreLow picked → AreNamed old.slots registers → Hears (sent_below old.slots picked 96) registers status)
     → MakesEnds row next old registers fetch new status result
 made_ends row next old new registers status fetch result picked ends filled follows made heard_ i h t e past issued shown regs from_ =
@@ -251,8 +251,8 @@ made_ends row next old new registers status fetch result picked ends filled foll
         slots = λ x l. m.slots x l
             ∙ (ends_same (has picked x) (sent_below old.slots picked 96) (sent_at i next h) (slice_index_or old.slots x None) sent
             ∙ (rw (ended x l, shown.slots x l) (sym (stations_at i row t next x h [] h past.lawful past.timed issued e past.past refl))));
-        ages_count = ap length m.ages ∙ shown.ages_count;
-        ages = λ x l. ap (λ xs. slice_index xs x) m.ages ∙ shown.ages x l;
+        order_count = ap length m.issue_numbers ∙ shown.order_count;
+        issue_numbers = λ x l. ap (λ xs. slice_index xs x) m.issue_numbers ∙ shown.issue_numbers x l;
       },
       registers_at i row t next h (sent_below old.slots picked 96) registers status past.lawful past.timed issued e regs sent (heard_ shown.places low named regs.count regs.status),
       follow_is i row t next h old result past.lawful past.timed issued past.past e shown (rw from_ at follows),

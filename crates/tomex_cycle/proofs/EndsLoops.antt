@@ -32,7 +32,7 @@ reg_field values tags r = field_from (slice_index values r) (slice_index_or tags
 pub record AreEndedBelow (picked : ℕ) (n : ℕ) (old new : Pools) : Type 0 where
   pub places : length new.slots ≡ 96
   pub slots : (x : ℕ) → x < 96 → slice_index_or new.slots x None ≡ after_ends (nat_lt x n && has picked x) (sent_below old.slots picked n) (slice_index_or old.slots x None)
-  pub ages : new.ages ≡ old.ages
+  pub issue_numbers : new.issue_numbers ≡ old.issue_numbers
 
 -- A register that hears a value, or not.
 
@@ -139,7 +139,7 @@ apply_yes picked n old s new l e so made =
       slots = λ x k. m.slots x k ∙ (ap (after_ends (n == x) (only n (sends_of (slice_index_or s.slots n None)))) (so.slots x k)
           ∙ (ends_then (nat_lt x n && has picked x) (n == x) (sent_below old.slots picked n) (only n (sends_of (slice_index_or s.slots n None))) (sent_below old.slots picked (n + 1)) (slice_index_or old.slots x None) (λ y. sent_yes old.slots picked n y (sends_of (slice_index_or s.slots n None)) e sent)
           ∙ ap (λ b. after_ends b (sent_below old.slots picked (n + 1)) (slice_index_or old.slots x None)) (below_yes picked n x e)));
-      ages = m.ages ∙ so.ages;
+      issue_numbers = m.issue_numbers ∙ so.issue_numbers;
     }
 
 pub apply_no : (picked : ℕ) (n : ℕ) (old s : Pools) → has picked n ≡ false → AreEndedBelow picked n old s → AreEndedBelow picked (n + 1) old s
@@ -147,7 +147,7 @@ apply_no picked n old s e so = record {
   places = so.places;
   slots = λ x k. so.slots x k ∙ (ends_same (nat_lt x n && has picked x) (sent_below old.slots picked n) (sent_below old.slots picked (n + 1)) (slice_index_or old.slots x None) (λ y. sent_no old.slots picked n y e)
       ∙ ap (λ b. after_ends b (sent_below old.slots picked (n + 1)) (slice_index_or old.slots x None)) (below_no picked n x e));
-  ages = so.ages;
+  issue_numbers = so.issue_numbers;
 }
 
 pub hear_yes : (picked : ℕ) (n : ℕ) (old s : Pools) (first r new : RegStatus) → n < 96 → has picked n ≡ true → AreEndedBelow picked n old s → Hears (sent_below old.slots picked n) first r → Hears (only n (sends_of (slice_index_or s.slots n None))) r new → Hears (sent_below old.slots picked (n + 1)) first new
@@ -197,7 +197,7 @@ ends_nothing p st l none count = record {
     | inl e ↦ let same : p ≡ x = eqb-true p x e in rw (e, ← same) none
     | inr e ↦ rw (e, none) (sym (none_hears p (slice_index_or st.slots x None)))
   ];
-  ages = refl;
+  issue_numbers = refl;
 }
 
 released_at : (xs : List (Option Station)) (p x : ℕ) → p < length xs → slice_index_or (slice_set xs p None) x None ≡ (if p == x then None else slice_index_or xs x None)
@@ -207,26 +207,26 @@ released_at xs p x l = elim (cases_Bool (p == x)) [
 ]
 
 -- what has nothing to send is released
-pub ends_silent : (p : ℕ) (old new : Pools) (s : Station) → p < 96 → slice_index_or old.slots p None ≡ Some s → dest_of s.instr ≡ None → new.slots ≡ slice_set old.slots p None → new.ages ≡ old.ages → EndsIn (λ x. p == x) (only p (sends_of (slice_index_or old.slots p None))) old new
-ends_silent p old new s l here dest slots ages count = record {
+pub ends_silent : (p : ℕ) (old new : Pools) (s : Station) → p < 96 → slice_index_or old.slots p None ≡ Some s → dest_of s.instr ≡ None → new.slots ≡ slice_set old.slots p None → new.issue_numbers ≡ old.issue_numbers → EndsIn (λ x. p == x) (only p (sends_of (slice_index_or old.slots p None))) old new
+ends_silent p old new s l here dest slots issue_numbers count = record {
   places = ap length slots ∙ (length-set old.slots p None ∙ count);
   slots = λ x k. ap (λ xs. slice_index_or xs x None) slots ∙ (released_at old.slots p x (omega arith) ∙ elim (cases_Bool (p == x)) [
     | inl e ↦ rw e refl
     | inr e ↦ rw (e, here, dest) (sym (none_hears p (slice_index_or old.slots x None)))
   ]);
-  ages = ages;
+  issue_numbers = issue_numbers;
 }
 
 -- what has a destination is released and heard
-pub ends_sending : (p r : ℕ) (old middle new : Pools) (s : Station) → p < 96 → slice_index_or old.slots p None ≡ Some s → dest_of s.instr ≡ Some r → middle.slots ≡ slice_set old.slots p None → middle.ages ≡ old.ages → HaveHeard (only p (Some s.value)) middle new
+pub ends_sending : (p r : ℕ) (old middle new : Pools) (s : Station) → p < 96 → slice_index_or old.slots p None ≡ Some s → dest_of s.instr ≡ Some r → middle.slots ≡ slice_set old.slots p None → middle.issue_numbers ≡ old.issue_numbers → HaveHeard (only p (Some s.value)) middle new
     → EndsIn (λ x. p == x) (only p (sends_of (slice_index_or old.slots p None))) old new
-ends_sending p r old middle new s l here dest slots ages heard_ count = record {
+ends_sending p r old middle new s l here dest slots issue_numbers heard_ count = record {
   places = heard_.places;
   slots = λ x k. heard_.slots x k ∙ (ap (λ xs. option_map (hears (only p (Some s.value))) (slice_index_or xs x None)) slots ∙ (ap (option_map (hears (only p (Some s.value)))) (released_at old.slots p x (omega arith)) ∙ elim (cases_Bool (p == x)) [
     | inl e ↦ rw e refl
     | inr e ↦ rw (e, here, dest) refl
   ]));
-  ages = heard_.ages ∙ ages;
+  issue_numbers = heard_.issue_numbers ∙ issue_numbers;
 }
 
 -- The register of its destination, where its Qi still names the place.
@@ -288,8 +288,8 @@ none_ended sent (Some s) none =
 some_none : (s : Station) (o : Option Station) → o ≡ Some s → o ≡ None → ⊥
 some_none s o e f = cc
 
-standing : (xs : List (Option Station)) (x : ℕ) (s : Station) → length xs ≡ 96 → slice_index_or xs x None ≡ Some s → x < 96
-standing xs x s count e = elim (cases_Bool (nat_lt x 96)) [
+wait_sets : (xs : List (Option Station)) (x : ℕ) (s : Station) → length xs ≡ 96 → slice_index_or xs x None ≡ Some s → x < 96
+wait_sets xs x s count e = elim (cases_Bool (nat_lt x 96)) [
   | inl l ↦ ltb-true x 96 l
   | inr l ↦ let high : 96 ≤ x = ltb-false x 96 l in let none : slice_index_or xs x None ≡ None = get_or_past xs x None (omega arith) in absurd (some_none s (slice_index_or xs x None) e none)
 ]
@@ -301,7 +301,7 @@ same_tag (Some v) u t x e f = absurd (cc)
 -- registers still name who they named
 named_still : (picked k : ℕ) (old s : Pools) (first r : RegStatus) → AreNamed old.slots first → AreEndedBelow picked k old s → length s.slots ≡ 96 → HaveReceived (sent_below old.slots picked k) first r → AreNamed s.slots r
 named_still picked k old s first r named so count heard_ q x l e station here =
-    let low : x < 96 = standing s.slots x station count here in
+    let low : x < 96 = wait_sets s.slots x station count here in
     let before : names first q x ≡ true = named_by (sent_below old.slots picked k) (slice_index first.values q) (slice_index r.values q) (slice_index_or first.tags q None) (slice_index_or r.tags q None) x (heard_.fields q l) e in
     let from = stood (nat_lt x k && has picked x) (sent_below old.slots picked k) (slice_index_or old.slots x None) station (sym (so.slots x low) ∙ here) in
     let dest : dest_of from.0.instr ≡ Some q = named q x l before from.0 from.1 in
@@ -331,7 +331,7 @@ first_applied picked st rg count = record {
   k = 0;
   from = all_left picked;
   high = omega arith;
-  stations = record { places = count; slots = λ x l. none_ended (sent_below st.slots picked 0) (slice_index_or st.slots x None) (λ y. rw (le-ltb y 0 (omega arith)) refl) ∙ sym (ap (λ b. after_ends (b && has picked x) (sent_below st.slots picked 0) (slice_index_or st.slots x None)) (le-ltb x 0 (omega arith))); ages = refl };
+  stations = record { places = count; slots = λ x l. none_ended (sent_below st.slots picked 0) (slice_index_or st.slots x None) (λ y. rw (le-ltb y 0 (omega arith)) refl) ∙ sym (ap (λ b. after_ends (b && has picked x) (sent_below st.slots picked 0) (slice_index_or st.slots x None)) (le-ltb x 0 (omega arith))); issue_numbers = refl };
   registers = λ named n m. record { count = n; status = m; fields = λ r l. none_sent (sent_below st.slots picked 0) (reg_field rg.values rg.tags r) (λ y. rw (le-ltb y 0 (omega arith)) refl) };
 }
 
@@ -365,5 +365,5 @@ pub ended_below : (picked : ℕ) (old new : Pools) → AreEndedBelow picked 96 o
 ended_below picked old new so = record {
   places = so.places;
   slots = λ x l. so.slots x l ∙ ap (λ b. after_ends (b && has picked x) (sent_below old.slots picked 96) (slice_index_or old.slots x None)) (lt-ltb x 96 l);
-  ages = so.ages;
+  issue_numbers = so.issue_numbers;
 }

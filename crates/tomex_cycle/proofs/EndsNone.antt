@@ -41,13 +41,13 @@ none_ended : (old : Pools) → EndsIn (λ x. has 0 x) (sent_below old.slots 0 96
 none_ended old count = record {
   places = count;
   slots = λ x l. sym (ap (λ b. after_ends b (sent_below old.slots 0 96) (slice_index_or old.slots x None)) (none_in x) ∙ sym (hears_none (sent_below old.slots 0 96) (slice_index_or old.slots x None) (none_sent old.slots 96)));
-  ages = refl;
+  issue_numbers = refl;
 }
 
 none_received : (slots : List (Option Station)) (registers : RegStatus) → Hears (sent_below slots 0 96) registers registers
 none_received slots registers count status = record { count = count; status = status; fields = λ r l. heard_none (sent_below slots 0 96) (field_from (slice_index registers.values r) (slice_index_or registers.tags r None)) (none_sent slots 96) }
 
-pub ends_none : (row : Row) (next ending : ℕ) (old : Pools) (registers : RegStatus) (fetch result : Fetch) → AreEnding old row.buses next ending → AreBusy old.slots old.busy old.ages → Follows next old.slots fetch result → ending ≡ 0 → MakesEnds row next old registers fetch old registers result
+pub ends_none : (row : Row) (next ending : ℕ) (old : Pools) (registers : RegStatus) (fetch result : Fetch) → AreEnding old row.buses next ending → AreBusy old.slots old.busy old.issue_numbers → Follows next old.slots fetch result → ending ≡ 0 → MakesEnds row next old registers fetch old registers result
 ends_none row next ending old registers fetch result ends filled follows e =
     made_ends row next old old registers registers fetch result 0 (rw e at ends) filled follows (λ low. none_ended old) (λ count low named. none_received old.slots registers)
 

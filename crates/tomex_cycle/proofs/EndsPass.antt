@@ -23,7 +23,7 @@ use Rattle.tomex_tags.specs.Places.{place_at}
 use Rattle.tomex_tags.specs.Pools.{Pools, AreBusy}
 use Rattle.tomex_tags.specs.declared.station.Station.{Station}
 use Rattle.tomex_bus.specs.Sets.{has}
-use Rattle.tomex_bus.specs.Picks.{IsByAge}
+use Rattle.tomex_bus.specs.Picks.{IsInIssueOrder}
 use Rattle.tomex_cycle.proofs.Serving.{AreServed, Serves, goes_at, picked_goes}
 use Rattle.tomex_cycle.proofs.Orders.{order_is}
 use Rattle.tomex_cycle.proofs.StartsPicked.{all_alone}
@@ -131,7 +131,7 @@ slot_here i row t u p st h newer d older good timed issued next shown e place la
     (small, shown.slots p small ∙ (ap (λ xs. station_at i (clocks u u t) xs p) e ∙ there))
 
 -- the busy steps whose results are ready are served by the recurrence
-send_serves : (i : Loaded) (row : Row) (t u ready : ℕ) (st : Pools) (h newer : List Done) (d : Done) (older : List Done) → IsRow row → AreTimed row h → AreIssuedBy u h → u ≡ t + 1 → ShowsStations i (clocks u u t) h st → AreBusy st.slots st.busy st.ages
+send_serves : (i : Loaded) (row : Row) (t u ready : ℕ) (st : Pools) (h newer : List Done) (d : Done) (older : List Done) → IsRow row → AreTimed row h → AreIssuedBy u h → u ≡ t + 1 → ShowsStations i (clocks u u t) h st → AreBusy st.slots st.busy st.issue_numbers
     → ((x : ℕ) → x < 128 → has ready x ≡ (has st.busy x && can_send u (slice_index_or st.slots x None))) → h ≡ newer ++ (d ∷ older) → Serves t row.buses ready (sends_in u) d older
 send_serves i row t u ready st h newer d older good timed issued next shown filled said e =
     let part : AreTimed row (d ∷ older) = timed_part row newer (d ∷ older) (rw e at timed) in
@@ -149,7 +149,7 @@ send_serves i row t u ready st h newer d older good timed issued next shown fill
           one_sends row t u x d older good part place next late ∙ sym (ap (λ b. b && nat_lt (count_by (sends_in u) older) row.buses) (said x (omega arith) ∙ rw (busy, there.1, before_is u d.at.start d.at.finish l) refl));
     }
 
-all_send : (i : Loaded) (row : Row) (t u ready : ℕ) (st : Pools) (h newer part : List Done) → IsRow row → AreTimed row h → AreIssuedBy u h → u ≡ t + 1 → ShowsStations i (clocks u u t) h st → AreBusy st.slots st.busy st.ages
+all_send : (i : Loaded) (row : Row) (t u ready : ℕ) (st : Pools) (h newer part : List Done) → IsRow row → AreTimed row h → AreIssuedBy u h → u ≡ t + 1 → ShowsStations i (clocks u u t) h st → AreBusy st.slots st.busy st.issue_numbers
     → ((x : ℕ) → x < 128 → has ready x ≡ (has st.busy x && can_send u (slice_index_or st.slots x None))) → h ≡ newer ++ part → AreServed t row.buses ready (sends_in u) part
 all_send i row t u ready st h newer [] good timed issued next shown filled said e = tt
 all_send i row t u ready st h newer (d ∷ older) good timed issued next shown filled said e = (
@@ -195,12 +195,12 @@ and_alone None u = refl
 and_alone (Some s) u = refl
 
 -- the places that end are those whose steps end
-pub ending_is : (i : Loaded) (row : Row) (t u x : ℕ) (st : Pools) (h : List Done) (ending : ℕ) → IsRow row → AreTimed row h → AreIssuedBy u h → u ≡ t + 1 → ShowsStations i (clocks u u t) h st → AreBusy st.slots st.busy st.ages → AreEnding st row.buses u ending → x < 96
+pub ending_is : (i : Loaded) (row : Row) (t u x : ℕ) (st : Pools) (h : List Done) (ending : ℕ) → IsRow row → AreTimed row h → AreIssuedBy u h → u ≡ t + 1 → ShowsStations i (clocks u u t) h st → AreBusy st.slots st.busy st.issue_numbers → AreEnding st row.buses u ending → x < 96
     → has ending x ≡ ends_in u h x
 ending_is i row t u x st h ending good timed issued next shown filled ends l =
     let more : AreIssuedBy (t + 1) h = rw next at issued in
-    let by : IsByAge st.busy st.ages (order_of t h) = order_is i row (clocks u u t) h st good timed more shown filled in
-    let sends : has ends.sending x ≡ goes_at t (sends_in u) h x = picked_goes t row.buses st.busy ends.ready ends.sending st.ages (sends_in u) h by (λ y m k. (and_parts (has st.busy y) (can_send u (slice_index_or st.slots y None)) (sym (ends.are_ready y m) ∙ k)).0) ends.sent
+    let by : IsInIssueOrder st.busy st.issue_numbers (order_of t h) = order_is i row (clocks u u t) h st good timed more shown filled in
+    let sends : has ends.sending x ≡ goes_at t (sends_in u) h x = picked_goes t row.buses st.busy ends.ready ends.sending st.issue_numbers (sends_in u) h by (λ y m k. (and_parts (has st.busy y) (can_send u (slice_index_or st.slots y None)) (sym (ends.are_ready y m) ∙ k)).0) ends.sent
     (all_send i row t u ends.ready st h [] h good timed issued next shown filled ends.are_ready refl) (all_alone row t (sends_in u) h good timed more) x (omega arith) in
     let alone : (has st.busy x && ends_alone u (slice_index_or st.slots x None)) ≡ ends_alone u (station_at i (clocks u u t) h x) = ap (λ b. b && ends_alone u (slice_index_or st.slots x None)) (filled.each x (omega arith)) ∙ (and_alone (slice_index_or st.slots x None) u ∙ ap (ends_alone u) (shown.slots x l)) in
     ends.all x (omega arith) ∙ (rw (sends, alone) (both_end i row t u x h good timed issued next))

@@ -27,8 +27,8 @@ use Rattle.tomex_cycle.proofs.Cycles.{IsUnderWay}
 use Rattle.tomex_cycle.proofs.Shifting.{run_split}
 use Rattle.tomex_cycle.proofs.Orders.{order_is}
 use Rattle.tomex_cycle.proofs.Addresses.{waiting_is}
-use Rattle.tomex_bus.specs.Picks.{IsByAge}
-use Rattle.tomex_cycle.proofs.ByAge.{first_waiting, next_address, where_base_is_there}
+use Rattle.tomex_bus.specs.Picks.{IsInIssueOrder}
+use Rattle.tomex_cycle.proofs.IssueOrder.{first_waiting, next_address, where_base_is_there}
 use Rattle.tomex_cycle.specs.declared.fetch.Fetch.{Fetch}
 use Rattle.tomex_rvexec.specs.Memory.{Bytes}
 use Rattle.tomex_rvexec.specs.declared.outcome.Fault.{Fault}
@@ -115,7 +115,7 @@ member_of set fits some =
     ] in
     (trailing_zeros w128 set, small, here)
 
-pub start_happens : (i : Loaded) (row : Row) (t u : ℕ) (st : Pools) (h : List Done) (starting : ℕ) → IsHistory i row h → AreIssuedBy t h → ShowsStations i (clocks t t t) h st → AreBusy st.slots st.busy st.ages → IsStarting row st u starting → u ≡ t + 1 → starting < 2 ^ 128 → starting ≢ 0 → 0 < events_in u h
+pub start_happens : (i : Loaded) (row : Row) (t u : ℕ) (st : Pools) (h : List Done) (starting : ℕ) → IsHistory i row h → AreIssuedBy t h → ShowsStations i (clocks t t t) h st → AreBusy st.slots st.busy st.issue_numbers → IsStarting row st u starting → u ≡ t + 1 → starting < 2 ^ 128 → starting ≢ 0 → 0 < events_in u h
 start_happens i row t u st h starting past issued shown filled begins e fits some =
     let x = member_of starting fits some in
     starts_happen t u x.0 h (sym (starting_is i row t u x.0 st h starting past.lawful past.timed issued shown filled begins e x.1) ∙ x.2)
@@ -132,7 +132,7 @@ ends_happen u x (d ∷ h) e = elim (cases_Bool (is_number (place_of d) x && (d.a
   | inr k ↦ let more : 0 < events_in u h = ends_happen u x h (rw k at e) in omega arith
 ]
 
-pub end_happens : (i : Loaded) (row : Row) (t u : ℕ) (st : Pools) (h : List Done) (ending : ℕ) → IsHistory i row h → AreIssuedBy u h → ShowsStations i (clocks u u t) h st → AreBusy st.slots st.busy st.ages → AreEnding st row.buses u ending → u ≡ t + 1 → ending < 2 ^ 128 → ending ≢ 0 → 0 < events_in u h
+pub end_happens : (i : Loaded) (row : Row) (t u : ℕ) (st : Pools) (h : List Done) (ending : ℕ) → IsHistory i row h → AreIssuedBy u h → ShowsStations i (clocks u u t) h st → AreBusy st.slots st.busy st.issue_numbers → AreEnding st row.buses u ending → u ≡ t + 1 → ending < 2 ^ 128 → ending ≢ 0 → 0 < events_in u h
 end_happens i row t u st h ending past issued shown filled ends e fits some =
     let x = member_of ending fits some in
     ends_happen u x.0 h (sym (ending_is i row t u x.0 st h ending past.lawful past.timed issued e shown filled ends (ending_low st row.buses u ending ends filled x.0 x.1 x.2)) ∙ x.2)
@@ -225,9 +225,9 @@ chosen_happens i row t u x st h newer (d ∷ older) good timed issued e shown sp
     ]
 
 -- the phase, by the search for the next address
-pub address_happens : (next x : ℕ) (old : Pools) → AreBusy old.slots old.busy old.ages → ((order : List ℕ) → IsByAge old.busy old.ages order → Some x ≡ next_address old.slots order) → AddressHappens next old
+pub address_happens : (next x : ℕ) (old : Pools) → AreBusy old.slots old.busy old.issue_numbers → ((order : List ℕ) → IsInIssueOrder old.busy old.issue_numbers order → Some x ≡ next_address old.slots order) → AddressHappens next old
 address_happens next x old filled some i row h t e past issued shown =
-    let by : IsByAge old.busy old.ages (order_of t h) = order_is i row (clocks next t t) h old past.lawful past.timed (issued_more t (t + 1) h (omega arith) issued) shown filled in
+    let by : IsInIssueOrder old.busy old.issue_numbers (order_of t h) = order_is i row (clocks next t t) h old past.lawful past.timed (issued_more t (t + 1) h (omega arith) issued) shown filled in
     let waits : first_waiting old.slots (order_of t h) ≡ chosen t h = waiting_is i row t next old h [] h past.lawful past.timed issued shown refl in
     let found = here old.slots (chosen t h) (rw waits at (some (order_of t h) by)) in
     chosen_happens i row t next x old h [] h past.lawful past.timed issued e shown refl found.0 found.1

@@ -31,7 +31,7 @@ use Rattle.tomex_timing.proofs.Width.{issue_from}
 use Rattle.tomex_cycle.specs.declared.fetch.Fetch.{Fetch}
 use Rattle.tomex_cycle.specs.Phases.{IsYetToIssue}
 use Rattle.tomex_cycle.specs.Run.{run_to, steps_in}
-use Rattle.tomex_cycle.specs.Views.{Clocks, ShowsRegisters, ShowsStations, clocks, fetch_after, fetch_of, place_of, station_at, station_of, age_at}
+use Rattle.tomex_cycle.specs.Views.{Clocks, ShowsRegisters, ShowsStations, clocks, fetch_after, fetch_of, place_of, station_at, station_of, issue_number_at}
 use Rattle.tomex_cycle.proofs.Addresses.{address_is}
 use Rattle.tomex_cycle.proofs.Cycles.{can_start_later}
 use Rattle.tomex_cycle.proofs.Totals.{reach}
@@ -143,21 +143,21 @@ set_slot xs x y s l = elim (cases_Bool (x == y)) [
   | inr e ↦ rw e (get_or-set_other xs x y (Some s) None (λ z. eqb-false x y e (sym z)))
 ]
 
-age_with : (x y n : ℕ) (d : Done) (h : List Done) (ages : List ℕ) → place_of d ≡ Some x → x < 96 → length ages ≡ 128 → n ≡ length h → slice_index ages y ≡ age_at h y → slice_index (slice_set ages x n) y ≡ age_at (d ∷ h) y
-age_with x y n d h ages place small count same before = elim (cases_Bool (x == y)) [
-  | inl e ↦ let f : x ≡ y = eqb-true x y e in rw (place, e, ← f) (get_or-set_same ages x n 0 (omega arith) ∙ same)
-  | inr e ↦ rw (place, e) (get_or-set_other ages x y n 0 (λ z. eqb-false x y e (sym z)) ∙ before)
+number_with : (x y n : ℕ) (d : Done) (h : List Done) (issue_numbers : List ℕ) → place_of d ≡ Some x → x < 96 → length issue_numbers ≡ 128 → n ≡ length h → slice_index issue_numbers y ≡ issue_number_at h y → slice_index (slice_set issue_numbers x n) y ≡ issue_number_at (d ∷ h) y
+number_with x y n d h issue_numbers place small count same before = elim (cases_Bool (x == y)) [
+  | inl e ↦ let f : x ≡ y = eqb-true x y e in rw (place, e, ← f) (get_or-set_same issue_numbers x n 0 (omega arith) ∙ same)
+  | inr e ↦ rw (place, e) (get_or-set_other issue_numbers x y n 0 (λ z. eqb-false x y e (sym z)) ∙ before)
 ]
 
 pub stations_with : (i : Loaded) (c : Clocks) (x n : ℕ) (d : Done) (h : List Done) (old new : Pools) (s : Station) → ShowsStations i c h old → place_of d ≡ Some x → x < 96 → c.end < d.at.end → n ≡ length h → s ≡ station_of i c d h
-    → new.slots ≡ slice_set old.slots x (Some s) → new.ages ≡ slice_set old.ages x n → ShowsStations i c (d ∷ h) new
-stations_with i c x n d h old new s shown place small late count_is same slots ages =
+    → new.slots ≡ slice_set old.slots x (Some s) → new.issue_numbers ≡ slice_set old.issue_numbers x n → ShowsStations i c (d ∷ h) new
+stations_with i c x n d h old new s shown place small late count_is same slots issue_numbers =
     let count : length old.slots ≡ 96 = shown.places in
     record {
       places = ap length slots ∙ (length-set old.slots x (Some s) ∙ shown.places);
       slots = λ y l. ap (λ xs. slice_index_or xs y None) slots ∙ (set_slot old.slots x y s (omega arith) ∙ (rw (same, shown.slots y l) refl ∙ sym (slot_with i c x y d h place late)));
-      ages_count = ap length ages ∙ (length-set old.ages x n ∙ shown.ages_count);
-      ages = λ y l. ap (λ xs. slice_index xs y) ages ∙ age_with x y n d h old.ages place small shown.ages_count count_is (shown.ages y l);
+      order_count = ap length issue_numbers ∙ (length-set old.issue_numbers x n ∙ shown.order_count);
+      issue_numbers = λ y l. ap (λ xs. slice_index xs y) issue_numbers ∙ number_with x y n d h old.issue_numbers place small shown.order_count count_is (shown.issue_numbers y l);
     }
 
 none_place : (pool : Option PoolId) (station : Option ℕ) → pool ≡ None → tag_at pool station ≡ None
@@ -168,7 +168,7 @@ none_place (Some p) station e = absurd (cc)
 pub stations_same : (i : Loaded) (c : Clocks) (d : Done) (h : List Done) (st : Pools) → ShowsStations i c h st → step_pool d.step ≡ None → ShowsStations i c (d ∷ h) st
 stations_same i c d h st shown none =
     let place : place_of d ≡ None = ap place_at (none_place (step_pool d.step) d.at.station none) in
-    record { places = shown.places; slots = λ x l. shown.slots x l ∙ rw place refl; ages_count = shown.ages_count; ages = λ x l. shown.ages x l ∙ rw place refl }
+    record { places = shown.places; slots = λ x l. shown.slots x l ∙ rw place refl; order_count = shown.order_count; issue_numbers = λ x l. shown.issue_numbers x l ∙ rw place refl }
 
 -- The registers.
 

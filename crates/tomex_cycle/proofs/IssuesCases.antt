@@ -168,10 +168,10 @@ pub some_case : (i : Loaded) (row : Row) (count : ℕ) (st new : Pools) (rg stat
     → ft ≡ At pc → instruction_at i pc ≡ Ok instr → pool_of instr.op ≡ Some p → most ≡ stations_of row p → IsLeast (is_open st.slots p) number → number < most
     → j ≡ operand_in rg (sources_of instr).j → k ≡ operand_in rg (sources_of instr).k → IfSome (sources_of instr).j (λ r. r < 32) → IfSome (sources_of instr).k (λ r. r < 32) → IfSome (dest_of instr) (λ r. r < 32)
     → new.slots ≡ slice_set st.slots (16 * place_of_pool p + number) (Some (issued instr pc j k))
-    → new.ages ≡ slice_set st.ages (16 * place_of_pool p + number) count
+    → new.issue_numbers ≡ slice_set st.issue_numbers (16 * place_of_pool p + number) count
     → status.values ≡ rg.values → status.tags ≡ tags_with rg.tags (dest_of instr) (record { pool = p; number = number })
     → ((x : Step) → x.instr ≡ instr → x.pc ≡ pc → from ≡ fetch_after x (is_branch x) (end_of x)) → IssuesNext i row count st rg ft (Ok true) new status from
-some_case i row count st new rg status ft from pc instr p most number j k at fetched pool stations vacant_here low_number j_is k_is j_low k_low dest_low slots ages values tags after n t u s kind ends l e good loaded slot old =
+some_case i row count st new rg status ft from pc instr p most number j k at fetched pool stations vacant_here low_number j_is k_is j_low k_low dest_low slots issue_numbers values tags after n t u s kind ends l e good loaded slot old =
     let h : List Done = run_to row i count in
     let timed : AreTimed row h = run_timed row i count good in
     let high : stations_of row p ≤ 16 = stations_high row p good in
@@ -189,7 +189,7 @@ some_case i row count st new rg status ft from pc instr p most number j k at fet
     let b : k ≡ field_of t h (k_of x.0) = rw (← x.1.instr_is) at k_is ∙ read_k i t h rg x.0 old.status x.1.come.follows (rw x.1.instr_is k_low) in
     let made : issued instr pc j k ≡ station_of i (clocks u u t) d h = station_same instr x.0.instr pc x.0.pc j _ k _ (sym x.1.instr_is) pc_is a b ∙ sym (station_made i row t u d h p x.1.timed.0 issue here) in
     let f : from ≡ fetch_of i t (d ∷ h) = fetch_made i row t u d h from good x.1.timed issue e (after x.0 x.1.instr_is (sym pc_is)) in
-    let shown : ShowsStations i (clocks u u t) (d ∷ h) new = stations_with i (clocks u u t) (16 * place_of_pool p + number) count d h st new _ old.slots (ap place_at tag) (place_small p number (omega arith)) late (run_count i row n count s kind ends old.few) made slots ages in
+    let shown : ShowsStations i (clocks u u t) (d ∷ h) new = stations_with i (clocks u u t) (16 * place_of_pool p + number) count d h st new _ old.slots (ap place_at tag) (place_small p number (omega arith)) late (run_count i row n count s kind ends old.few) made slots issue_numbers in
     let kept : ShowsRegisters i t (d ∷ h) status = registers_with i t (record { pool = p; number = number }) d h rg status old.status tag late (rw x.1.instr_is dest_low) values (rw x.1.instr_is tags) in
     (true, refl, made_by i row n t u count d h new status from x.1.run x.1.come.less issue e old.issued shown kept f, λ z. absurd (cc))
   where

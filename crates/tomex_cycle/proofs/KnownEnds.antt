@@ -11,11 +11,11 @@ use Rattle.tomex_bus.proofs.Picking.{none_picked}
 use Rattle.tomex_bus.specs.Sets.{has}
 use Rattle.tomex_bus.specs.Wheel.{is_due}
 use Rattle.tomex_bus.proofs.Bits.{agreed, member_some, none_in}
-use Rattle.tomex_tags.proofs.Filing.{of_busy}
+use Rattle.tomex_tags.proofs.Entering.{of_busy}
 use Rattle.tomex_tags.specs.Contents.{hears}
 use Rattle.tomex_tags.specs.Places.{is_served}
 use Rattle.tomex_tags.specs.Pools.{AreBusy, Pools}
-use Rattle.tomex_tags.specs.Standing.{IsSetOf, writes}
+use Rattle.tomex_tags.specs.WaitSets.{IsSetOf, writes}
 use Rattle.tomex_tags.specs.declared.station.Station.{Station}
 use Rattle.tomex_cycle.specs.Ends.{AreDone, AreEnding, IsDoneBranch, after_ends, can_send, ends_alone, finishes, is_done_before, is_done_by}
 use Rattle.tomex_cycle.specs.Finishes.{AreKnown, HaveTurned, LeavesKnown, has_stayed}
@@ -67,13 +67,13 @@ pub with_results : (slots : List (Option Station)) (due writing found : ℕ) →
 with_results slots due writing found of both x l = both x ∙ ap (λ b. has due x && b) (of x l)
 
 -- what ends of what is due has nothing to send
-pub are_ending : (st : Pools) (buses next due found sending silent ending : ℕ) (f g : Finishes) → AreBusy st.slots st.busy st.ages → AreKnown st.slots next f → HaveTurned f g due
-    → ((x : ℕ) → x < 128 → has found x ≡ (has due x && writes (slice_index_or st.slots x None))) → IsPicked f.ready st.ages buses sending
+pub are_ending : (st : Pools) (buses next due found sending silent ending : ℕ) (f g : Finishes) → AreBusy st.slots st.busy st.issue_numbers → AreKnown st.slots next f → HaveTurned f g due
+    → ((x : ℕ) → x < 128 → has found x ≡ (has due x && writes (slice_index_or st.slots x None))) → IsPicked f.ready st.issue_numbers buses sending
     → ((x : ℕ) → x < 128 → has silent x ≡ (has due x && not (has found x))) → ((x : ℕ) → has ending x ≡ (has sending x || has silent x)) → AreEnding st buses next ending
 are_ending st buses next due found sending silent ending f g filled known turned with_result picked but either = record {
   ready = f.ready;
   sending = sending;
-  are_ready = of_busy (can_send next) st.slots st.busy st.ages f.ready refl filled known.ready;
+  are_ready = of_busy (can_send next) st.slots st.busy st.issue_numbers f.ready refl filled known.ready;
   sent = picked;
   all = λ x l. either x ∙ ap (λ b. has sending x || b) (but x l ∙ rw (with_result x l, all_due st.slots next due f g known turned x l, filled.each x l) (alone_is next (slice_index_or st.slots x None) (stayed_past st.slots next x f known)));
 }
@@ -161,8 +161,8 @@ ended_later next a o sending inside e = elim (or_parts sending _ e) [
   | inr k ↦ done_once next a o (and_parts (finishes next o) _ k).0
 ]
 
-pub leaves_known : (st : Pools) (buses next due found sending silent ending : ℕ) (f g h : Finishes) → AreBusy st.slots st.busy st.ages → AreKnown st.slots next f → HaveTurned f g due
-    → ((x : ℕ) → x < 128 → has found x ≡ (has due x && writes (slice_index_or st.slots x None))) → IsPicked f.ready st.ages buses sending
+pub leaves_known : (st : Pools) (buses next due found sending silent ending : ℕ) (f g h : Finishes) → AreBusy st.slots st.busy st.issue_numbers → AreKnown st.slots next f → HaveTurned f g due
+    → ((x : ℕ) → x < 128 → has found x ≡ (has due x && writes (slice_index_or st.slots x None))) → IsPicked f.ready st.issue_numbers buses sending
     → ((x : ℕ) → x < 128 → has silent x ≡ (has due x && not (has found x))) → ((x : ℕ) → has ending x ≡ (has sending x || has silent x))
     → h.wheel ≡ g.wheel → ((x : ℕ) → x < 128 → has h.ready x ≡ (has g.ready x && not (has sending x) || has found x)) → LeavesKnown st.slots next ending h
 leaves_known st buses next due found sending silent ending f g h filled known turned with_result picked but either wheel ready new sent count after =
@@ -257,9 +257,9 @@ nothing_sent sending g none x l = rw (none, none_in x) (stays (has g.ready x))
     stays false = refl
 
 -- where nothing finishes and no result waits, nothing ends
-pub ending_none : (st : Pools) (buses next due : ℕ) (f g : Finishes) → AreBusy st.slots st.busy st.ages → AreKnown st.slots next f → HaveTurned f g due → due ≡ 0 → g.ready ≡ 0 → AreEnding st buses next 0
-ending_none st buses next due f g filled known turned e none = are_ending st buses next due 0 0 0 0 f g filled known turned (nothing_found _ due e) (none_picked f.ready buses st.ages (sym turned.ready ∙ none)) (nothing_found _ due e) (nothing_ends 0 refl)
+pub ending_none : (st : Pools) (buses next due : ℕ) (f g : Finishes) → AreBusy st.slots st.busy st.issue_numbers → AreKnown st.slots next f → HaveTurned f g due → due ≡ 0 → g.ready ≡ 0 → AreEnding st buses next 0
+ending_none st buses next due f g filled known turned e none = are_ending st buses next due 0 0 0 0 f g filled known turned (nothing_found _ due e) (none_picked f.ready buses st.issue_numbers (sym turned.ready ∙ none)) (nothing_found _ due e) (nothing_ends 0 refl)
 
 -- and what is known stays right
-pub leaves_none : (st : Pools) (buses next due : ℕ) (f g : Finishes) → AreBusy st.slots st.busy st.ages → AreKnown st.slots next f → HaveTurned f g due → due ≡ 0 → g.ready ≡ 0 → LeavesKnown st.slots next 0 g
-leaves_none st buses next due f g filled known turned e none = leaves_known st buses next due 0 0 0 0 f g g filled known turned (nothing_found _ due e) (none_picked f.ready buses st.ages (sym turned.ready ∙ none)) (nothing_found _ due e) (nothing_ends 0 refl) refl (nothing_sent 0 g refl)
+pub leaves_none : (st : Pools) (buses next due : ℕ) (f g : Finishes) → AreBusy st.slots st.busy st.issue_numbers → AreKnown st.slots next f → HaveTurned f g due → due ≡ 0 → g.ready ≡ 0 → LeavesKnown st.slots next 0 g
+leaves_none st buses next due f g filled known turned e none = leaves_known st buses next due 0 0 0 0 f g g filled known turned (nothing_found _ due e) (none_picked f.ready buses st.issue_numbers (sym turned.ready ∙ none)) (nothing_found _ due e) (nothing_ends 0 refl) refl (nothing_sent 0 g refl)

@@ -9,7 +9,7 @@ use Rattle.tomex_bus.specs.Wheel.{AreDue, is_due}
 use Rattle.tomex_bus.proofs.Bits.{none_in}
 use Rattle.tomex_tags.specs.Places.{is_served}
 use Rattle.tomex_tags.specs.Pools.{AreBusy, Pools}
-use Rattle.tomex_tags.specs.Standing.{IsSetOf, writes}
+use Rattle.tomex_tags.specs.WaitSets.{IsSetOf, writes}
 use Rattle.tomex_tags.specs.declared.station.Station.{Station}
 use Rattle.tomex_cycle.specs.Ends.{AreDone, finishes}
 use Rattle.tomex_cycle.specs.Finishes.{AreKnown, AreResults, HaveTurned}
@@ -80,12 +80,12 @@ due_writes slots next due x count done results l = elim (cases_Bool (has due x))
 ]
 
 -- they wait for a bus from here on
-pub known_results : (st : Pools) (next due : ℕ) (f g h : Finishes) → AreBusy st.slots st.busy st.ages → AreKnown st.slots next f → HaveTurned f g due → AreResults st.slots next → f.ready ≡ 0 → h.wheel ≡ g.wheel → h.ready ≡ due → AreKnown st.slots (next + 1) h
+pub known_results : (st : Pools) (next due : ℕ) (f g h : Finishes) → AreBusy st.slots st.busy st.issue_numbers → AreKnown st.slots next f → HaveTurned f g due → AreResults st.slots next → f.ready ≡ 0 → h.wheel ≡ g.wheel → h.ready ≡ due → AreKnown st.slots (next + 1) h
 known_results st next due f g h filled known turned results none wheel ready =
     none_over st.slots next 0 h known.places
     (leaves_known st 0 next due due 0 0 0 f g h filled known turned
     (λ x l. due_writes st.slots next due x known.places (all_due st.slots next due f g known turned) results l)
-    (none_picked f.ready 0 st.ages none) (λ x l. rw (none_in x) (silent (has due x))) (nothing_ends 0 refl) wheel
+    (none_picked f.ready 0 st.issue_numbers none) (λ x l. rw (none_in x) (silent (has due x))) (nothing_ends 0 refl) wheel
     (λ x l. rw (ready, turned.ready, none, none_in x) refl))
     refl
   where

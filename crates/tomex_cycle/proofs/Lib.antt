@@ -7,7 +7,7 @@ pub mod Places
 pub mod Fields
 pub mod Accesses
 pub mod Shows
-pub mod ByAge
+pub mod IssueOrder
 pub mod Addresses
 pub mod IssuesNumbers
 pub mod IssuesTest

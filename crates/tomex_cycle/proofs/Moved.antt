@@ -1,11 +1,11 @@
 -- What is noted of a cycle as its phases change something.
 use Rattle.std.proofs.Common.{ℕ, Bool, true, false, ◌≡◌, refl, inl, inr}
 use Rattle.std.specs.Prelude.{◌≢◌, ◌⊎◌, if◌then◌else◌}
-use Rattle.tomex_cycle.specs.declared.happened.Happened.{Happened}
-use Rattle.tomex_cycle.specs.declared.happened.Happened.TheVariants.{Nothing, Starts, More}
+use Rattle.tomex_cycle.specs.declared.activity.Activity.{Activity}
+use Rattle.tomex_cycle.specs.declared.activity.Activity.TheVariants.{Nothing, Starts, More}
 
 -- starts, an address, an issue: each is noted on top of those before it
-abbrev pub noted : (any addressed made : Bool) → Happened
+abbrev pub noted : (any addressed made : Bool) → Activity
 noted any addressed made = if made then More else (if addressed then More else (if any then Starts else Nothing))
 
 -- where something is noted, ends or starts, something has changed

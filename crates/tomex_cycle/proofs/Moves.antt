@@ -12,13 +12,13 @@ use Rattle.tomex_timing.specs.declared.times.Done.{Done}
 use Rattle.tomex_timing.specs.History.{greatest_end}
 use Rattle.tomex_cycle.specs.declared.fetch.Fetch.{Fetch}
 use Rattle.tomex_cycle.specs.declared.progress.Progress.{Progress}
-use Rattle.tomex_cycle.specs.declared.progress.Made.{Made}
-use Rattle.tomex_cycle.specs.declared.progress.Made.TheVariants as made_as
+use Rattle.tomex_cycle.specs.declared.progress.CycleOutcome.{CycleOutcome}
+use Rattle.tomex_cycle.specs.declared.progress.CycleOutcome.TheVariants as made_as
 use Rattle.tomex_cycle.specs.declared.progress.Progress.TheVariants.{Running, Ended, Faulted}
-use Rattle.tomex_cycle.specs.Made.{progress_of}
+use Rattle.tomex_cycle.specs.CycleOutcome.{progress_of}
 use Rattle.tomex_cycle.specs.Ends.{finishes}
-use Rattle.tomex_cycle.specs.Events.{GoesOn, Passes, events_in}
-use Rattle.tomex_cycle.specs.Finishes.{FinishesSoon, IsFree, IsPassed}
+use Rattle.tomex_cycle.specs.Events.{GoesOn, SkipsTo, events_in}
+use Rattle.tomex_cycle.specs.Finishes.{FinishesSoon, IsFree, IsSkipped}
 use Rattle.tomex_cycle.specs.Phases.{IsSnapshot}
 use Rattle.tomex_cycle.specs.Run.{run_of, run_to}
 use Rattle.tomex_cycle.specs.Sound.{IsAfter, IsSound}
@@ -33,13 +33,13 @@ use Rattle.tomex_tags.specs.declared.register_status.RegStatus.{RegStatus}
 use Rattle.tomex_tags.specs.declared.station.Station.{Station}
 
 -- a program that runs on moves, or nothing happens before the next finish
-runs_how : (made : Made) → progress_of made ≡ Running → (made ≡ made_as.Moving) ⊎ (made ≡ made_as.Still)
-runs_how made_as.Moving e = inl refl
-runs_how made_as.Still e = inr refl
+runs_how : (made : CycleOutcome) → progress_of made ≡ Running → (made ≡ made_as.Active) ⊎ (made ≡ made_as.Quiet)
+runs_how made_as.Active e = inl refl
+runs_how made_as.Quiet e = inr refl
 runs_how made_as.Ended e = let z : Ended ≡ Running = e in absurd (cc)
 runs_how (made_as.Faulted fault) e = let z : Faulted fault ≡ Running = e in absurd (cc)
 
-pub moving_not_still : (made : Made) → made ≡ made_as.Moving → made ≡ made_as.Still → ⊥
+pub moving_not_still : (made : CycleOutcome) → made ≡ made_as.Active → made ≡ made_as.Quiet → ⊥
 moving_not_still made e f = cc
 
 shown_finish : (i : Loaded) (row : Row) (n u v more x : ℕ) (s : State) (kind : EndKind) (st : Pools) (rg : RegStatus) (ft : Fetch) (m : Bytes) → RunEnds i n s kind → IsSnapshot i row n u more st rg ft m → x < 96 → finishes v (slice_index_or st.slots x None) ≡ true → 0 < events_in v (run_to row i (n + 1))
@@ -47,10 +47,10 @@ shown_finish i row n u v more x s kind st rg ft m ends shot small e =
     run_happens row i n more v s kind ends shot.issue.few (finish_happens i (clocks u u u) v x (run_to row i more) (ap (finishes v) (sym (shot.issue.slots.slots x small)) ∙ e))
 
 -- one cycle is made, and those after it are passed
-pub go_passes : (i : Loaded) (row : Row) (cycle w to : ℕ) (last : Progress) (made : Made) (count more : ℕ) (st st2 : Pools) (rg rg2 : RegStatus) (ft ft2 : Fetch) (m m2 : Bytes) → IsSound i row cycle last count st rg ft m → last ≡ Running
-    → MakesCycle i row cycle made count more st st2 rg rg2 ft ft2 m m2 → cycle + 1 ≤ w → (cycle + 1 < w → (made ≡ made_as.Still) × IsFree st2.slots (cycle + 1) w)
-    → (made ≡ made_as.Still → w < to → FinishesSoon st2.slots (cycle + 1) w)
-    → EndsWithin i 262144 → Passes (run_of row i) to cycle w
+pub go_passes : (i : Loaded) (row : Row) (cycle w to : ℕ) (last : Progress) (made : CycleOutcome) (count more : ℕ) (st st2 : Pools) (rg rg2 : RegStatus) (ft ft2 : Fetch) (m m2 : Bytes) → IsSound i row cycle last count st rg ft m → last ≡ Running
+    → MakesCycle i row cycle made count more st st2 rg rg2 ft ft2 m m2 → cycle + 1 ≤ w → (cycle + 1 < w → (made ≡ made_as.Quiet) × IsFree st2.slots (cycle + 1) w)
+    → (made ≡ made_as.Quiet → w < to → FinishesSoon st2.slots (cycle + 1) w)
+    → EndsWithin i 262144 → SkipsTo (run_of row i) to cycle w
 go_passes i row cycle w to last made count more st st2 rg rg2 ft ft2 m m2 sound run makes l skips stops within =
     let n : ℕ = within.0 in
     let s : State = within.1 in
@@ -88,7 +88,7 @@ go_passes i row cycle w to last made count more st st2 rg rg2 ft ft2 m m2 sound 
     })
 
 -- in the cycle after those that are passed something finishes
-soon_happens : (i : Loaded) (row : Row) (cycle w : ℕ) (last : Progress) (made : Made) (count more : ℕ) (st st2 : Pools) (rg rg2 : RegStatus) (ft ft2 : Fetch) (m m2 : Bytes) → IsSound i row cycle last count st rg ft m
+soon_happens : (i : Loaded) (row : Row) (cycle w : ℕ) (last : Progress) (made : CycleOutcome) (count more : ℕ) (st st2 : Pools) (rg rg2 : RegStatus) (ft ft2 : Fetch) (m m2 : Bytes) → IsSound i row cycle last count st rg ft m
     → MakesCycle i row cycle made count more st st2 rg rg2 ft ft2 m m2 → cycle + 1 ≤ w → IsFree st2.slots (cycle + 1) w → FinishesSoon st2.slots (cycle + 1) w → EndsWithin i 262144 → 0 < events_in (w + 1) (run_of row i)
 soon_happens i row cycle w last made count more st st2 rg rg2 ft ft2 m m2 sound makes l free soon within =
     let n : ℕ = within.0 in
@@ -101,10 +101,10 @@ soon_happens i row cycle w last made count more st st2 rg rg2 ft ft2 m m2 sound 
     ])
 
 -- after a cycle in which nothing happens
-pub still_goes : (i : Loaded) (row : Row) (cycle to now before after : ℕ) (last : Progress) (made : Made) (count more : ℕ) (st st2 : Pools) (rg rg2 : RegStatus) (ft ft2 : Fetch) (m m2 : Bytes) → IsSound i row cycle last count st rg ft m → last ≡ Running
-    → MakesCycle i row cycle made count more st st2 rg rg2 ft ft2 m m2 → made ≡ made_as.Still → IsPassed st2.slots (cycle + 1) to now (before + 1) after → EndsWithin i 262144 → GoesOn (run_of row i) to cycle now before after
+pub still_goes : (i : Loaded) (row : Row) (cycle to now before after : ℕ) (last : Progress) (made : CycleOutcome) (count more : ℕ) (st st2 : Pools) (rg rg2 : RegStatus) (ft ft2 : Fetch) (m m2 : Bytes) → IsSound i row cycle last count st rg ft m → last ≡ Running
+    → MakesCycle i row cycle made count more st st2 rg rg2 ft ft2 m m2 → made ≡ made_as.Quiet → IsSkipped st2.slots (cycle + 1) to now (before + 1) after → EndsWithin i 262144 → GoesOn (run_of row i) to cycle now before after
 still_goes i row cycle to now before after last made count more st st2 rg rg2 ft ft2 m m2 sound run makes still passed within =
-    let first : Passes (run_of row i) to cycle passed.idle = go_passes i row cycle passed.idle to last made count more st st2 rg rg2 ft ft2 m m2 sound run makes passed.least (λ less. (still, passed.free)) (λ s. passed.stops) within in
+    let first : SkipsTo (run_of row i) to cycle passed.idle = go_passes i row cycle passed.idle to last made count more st st2 rg rg2 ft ft2 m m2 sound run makes passed.least (λ less. (still, passed.free)) (λ s. passed.stops) within in
     elim passed.last [
       | inl here ↦ let e : now ≡ passed.idle = here.0 in inl (here.1, rw e first)
       | inr one ↦
@@ -115,7 +115,7 @@ still_goes i row cycle to now before after last made count more st st2 rg rg2 ft
     ]
 
 -- the count stays below the cycle
-pub passed_low : (slots : List (Option Station)) (cycle to now before after : ℕ) → IsPassed slots cycle to now before after → before ≤ cycle → after ≤ now
+pub passed_low : (slots : List (Option Station)) (cycle to now before after : ℕ) → IsSkipped slots cycle to now before after → before ≤ cycle → after ≤ now
 passed_low slots cycle to now before after passed low =
     let l : cycle ≤ passed.idle = passed.least in
     elim passed.last [

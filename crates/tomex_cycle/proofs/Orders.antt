@@ -1,4 +1,4 @@
--- The busy places by age are those of the steps under way, the oldest first.
+-- The busy places in issue order are those of the steps under way, the oldest first.
 use Rattle.std.proofs.Common.{ℕ, ◌+◌, ◌<◌, ◌≤◌, ◌≡◌, ◌∙◌, ◌^◌, Bool, true, false, arith, refl, List, [], ◌∷◌, ◌++◌, Option, Some, None, ap, sym, inl, inr, append_assoc, length, slice_index}
 use Rattle.std.specs.Prelude.{nat_lt, not, ◌||◌, ◌==◌, is_some}
 use Rattle.std.specs.Int.{w128}
@@ -11,11 +11,11 @@ use Rattle.tomex_rvexec.specs.Steps.{is_number, step_pool}
 use Rattle.tomex_timing.specs.declared.times.Done.{Done}
 use Rattle.tomex_timing.specs.Recurrence.{AreTimed}
 use Rattle.tomex_bus.specs.Sets.{has, is_in}
-use Rattle.tomex_bus.specs.Picks.{IsByAge, Rises}
+use Rattle.tomex_bus.specs.Picks.{IsInIssueOrder, Rises}
 use Rattle.tomex_bus.proofs.Bits.{has_one, none_in}
 use Rattle.tomex_tags.specs.Pools.{AreBusy, Pools}
 use Rattle.tomex_cycle.specs.Run.{AreIssuedBy}
-use Rattle.tomex_cycle.specs.Views.{Clocks, ShowsStations, age_at, holds_place, order_of, place_of, station_at}
+use Rattle.tomex_cycle.specs.Views.{Clocks, ShowsStations, issue_number_at, holds_place, order_of, place_of, station_at}
 use Rattle.tomex_cycle.proofs.Places.{is_vacant, low, place_low, vacant, AreLow}
 
 or_false : (a : Bool) → (a || false) ≡ a
@@ -83,9 +83,9 @@ order_low end (d ∷ older) x few e = low_by end d older x (place_of d) refl few
 
 -- Ages rise along the order.
 
-rises-append : (ages xs : List ℕ) (p : ℕ) → Rises ages xs → ((y : ℕ) → is_in xs y ≡ true → slice_index ages y < slice_index ages p) → Rises ages (xs ++ (p ∷ []))
-rises-append ages [] p rises each = ((λ y e. absurd (cc)), tt)
-rises-append ages (x ∷ xs) p rises each = (
+rises-append : (issue_numbers xs : List ℕ) (p : ℕ) → Rises issue_numbers xs → ((y : ℕ) → is_in xs y ≡ true → slice_index issue_numbers y < slice_index issue_numbers p) → Rises issue_numbers (xs ++ (p ∷ []))
+rises-append issue_numbers [] p rises each = ((λ y e. absurd (cc)), tt)
+rises-append issue_numbers (x ∷ xs) p rises each = (
   (λ y e. elim (cases_Bool (is_in xs y)) [
     | inl k ↦ rises.0 y k
     | inr k ↦ elim (cases_Bool (p == y)) [
@@ -96,7 +96,7 @@ rises-append ages (x ∷ xs) p rises each = (
           absurd (cc)
     ]
   ]),
-  rises-append ages xs p rises.1 (λ y e. each y (rw e (or_true (x == y) true refl))),
+  rises-append issue_numbers xs p rises.1 (λ y e. each y (rw e (or_true (x == y) true refl))),
 )
 
 taken : (t x : ℕ) (newer : List Done) (w : Done) (older : List Done) → holds_place t x w ≡ true → is_vacant t x (newer ++ (w ∷ older)) ≡ true → ⊥
@@ -105,65 +105,65 @@ taken t x [] w older held free =
     cc
 taken t x (n ∷ newer) w older held free = taken t x newer w older held (and_parts (not (holds_place t x n)) (is_vacant t x (newer ++ (w ∷ older))) free).1
 
--- the age of a busy step's place is the number of its elders
-age_here : (row : Row) (end x : ℕ) (newer : List Done) (d : Done) (older : List Done) → IsRow row → AreTimed row (newer ++ (d ∷ older)) → AreIssuedBy (end + 1) (newer ++ (d ∷ older)) → holds_place end x d ≡ true → age_at (newer ++ (d ∷ older)) x ≡ length older
-age_here row end x [] d older good timed issued held = rw (and_parts (is_number (place_of d) x) (nat_lt end d.at.end) held).0 refl
-age_here row end x (n ∷ newer) d older good timed issued held = elim (cases_Bool (is_number (place_of n) x)) [
-  | inr e ↦ rw e (age_here row end x newer d older good timed.1 issued.1 held)
+-- the issue number of a busy step's place is the number of its elders
+number_here : (row : Row) (end x : ℕ) (newer : List Done) (d : Done) (older : List Done) → IsRow row → AreTimed row (newer ++ (d ∷ older)) → AreIssuedBy (end + 1) (newer ++ (d ∷ older)) → holds_place end x d ≡ true → issue_number_at (newer ++ (d ∷ older)) x ≡ length older
+number_here row end x [] d older good timed issued held = rw (and_parts (is_number (place_of d) x) (nat_lt end d.at.end) held).0 refl
+number_here row end x (n ∷ newer) d older good timed issued held = elim (cases_Bool (is_number (place_of n) x)) [
+  | inr e ↦ rw e (number_here row end x newer d older good timed.1 issued.1 held)
   | inl e ↦ absurd (taken end x newer d older held (vacant row n (newer ++ (d ∷ older)) end x good timed issued.0 e))
 ]
 
-pub record AreOlder (ages : List ℕ) (end : ℕ) (part : List Done) : Type 0 where
-  pub rises : Rises ages (order_of end part)
-  pub below : (x : ℕ) → is_in (order_of end part) x ≡ true → slice_index ages x < length part
+pub record AreOlder (issue_numbers : List ℕ) (end : ℕ) (part : List Done) : Type 0 where
+  pub rises : Rises issue_numbers (order_of end part)
+  pub below : (x : ℕ) → is_in (order_of end part) x ≡ true → slice_index issue_numbers x < length part
 
 part_low : (row : Row) (newer : List Done) (d : Done) (older : List Done) → IsRow row → AreTimed row (newer ++ (d ∷ older)) → (n : ℕ) → d.at.station ≡ Some n → n < 16
 part_low row [] d older good timed = (low row (d ∷ older) good timed).0
 part_low row (n ∷ newer) d older good timed = part_low row newer d older good timed.1
 
-below_by : (ages : List ℕ) (end p x : ℕ) (d : Done) (older : List Done) → AreOlder ages end older → slice_index ages p ≡ length older → (is_in (order_of end older) x || ((p == x) || false)) ≡ true → slice_index ages x < length (d ∷ older)
-below_by ages end p x d older before age k = elim (cases_Bool (is_in (order_of end older) x)) [
-  | inl m ↦ let l : slice_index ages x < length older = before.below x m in omega arith
+below_by : (issue_numbers : List ℕ) (end p x : ℕ) (d : Done) (older : List Done) → AreOlder issue_numbers end older → slice_index issue_numbers p ≡ length older → (is_in (order_of end older) x || ((p == x) || false)) ≡ true → slice_index issue_numbers x < length (d ∷ older)
+below_by issue_numbers end p x d older before issue_number k = elim (cases_Bool (is_in (order_of end older) x)) [
+  | inl m ↦ let l : slice_index issue_numbers x < length older = before.below x m in omega arith
   | inr m ↦ elim (cases_Bool (p == x)) [
-    | inl q ↦ let same : p ≡ x = eqb-true p x q in let f : slice_index ages x ≡ length older = rw same at age in omega arith
+    | inl q ↦ let same : p ≡ x = eqb-true p x q in let f : slice_index issue_numbers x ≡ length older = rw same at issue_number in omega arith
     | inr q ↦ let z : false ≡ true = rw (m, q) at k in absurd (cc)
   ]
 ]
 
-ages_rise : (i : Loaded) (row : Row) (c : Clocks) (h newer part : List Done) (st : Pools) → IsRow row → AreTimed row h → AreIssuedBy (c.end + 1) h → ShowsStations i c h st → h ≡ newer ++ part → AreOlder st.ages c.end part
-ages_rise i row c h newer [] st good timed issued shown e = record { rises = tt; below = λ x k. absurd (cc) }
-ages_rise i row c h newer (d ∷ older) st good timed issued shown e =
-    let before : AreOlder st.ages c.end older = ages_rise i row c h (newer ++ (d ∷ [])) older st good timed issued shown (e ∙ sym (append_assoc newer (d ∷ []) older)) in
+order_rises : (i : Loaded) (row : Row) (c : Clocks) (h newer part : List Done) (st : Pools) → IsRow row → AreTimed row h → AreIssuedBy (c.end + 1) h → ShowsStations i c h st → h ≡ newer ++ part → AreOlder st.issue_numbers c.end part
+order_rises i row c h newer [] st good timed issued shown e = record { rises = tt; below = λ x k. absurd (cc) }
+order_rises i row c h newer (d ∷ older) st good timed issued shown e =
+    let before : AreOlder st.issue_numbers c.end older = order_rises i row c h (newer ++ (d ∷ [])) older st good timed issued shown (e ∙ sym (append_assoc newer (d ∷ []) older)) in
     rise_by i row c h newer d older st (place_of d) refl good timed issued shown e before
   where
-    longer : (ages : List ℕ) (end : ℕ) (d : Done) (older : List Done) → order_of end (d ∷ older) ≡ order_of end older → AreOlder ages end older → AreOlder ages end (d ∷ older)
-    longer ages end d older same before = record {
+    longer : (issue_numbers : List ℕ) (end : ℕ) (d : Done) (older : List Done) → order_of end (d ∷ older) ≡ order_of end older → AreOlder issue_numbers end older → AreOlder issue_numbers end (d ∷ older)
+    longer issue_numbers end d older same before = record {
       rises = rw same before.rises;
-      below = λ x k. let l : slice_index ages x < length older = before.below x (rw same at k) in omega arith;
+      below = λ x k. let l : slice_index issue_numbers x < length older = before.below x (rw same at k) in omega arith;
     }
 
-    rise_by : (i : Loaded) (row : Row) (c : Clocks) (h newer : List Done) (d : Done) (older : List Done) (st : Pools) (p : Option ℕ) → place_of d ≡ p → IsRow row → AreTimed row h → AreIssuedBy (c.end + 1) h → ShowsStations i c h st → h ≡ newer ++ (d ∷ older) → AreOlder st.ages c.end older → AreOlder st.ages c.end (d ∷ older)
+    rise_by : (i : Loaded) (row : Row) (c : Clocks) (h newer : List Done) (d : Done) (older : List Done) (st : Pools) (p : Option ℕ) → place_of d ≡ p → IsRow row → AreTimed row h → AreIssuedBy (c.end + 1) h → ShowsStations i c h st → h ≡ newer ++ (d ∷ older) → AreOlder st.issue_numbers c.end older → AreOlder st.issue_numbers c.end (d ∷ older)
     rise_by i row c h newer d older st None f good timed issued shown e before = elim (cases_Bool (nat_lt c.end d.at.end)) [
-      | inl l ↦ longer st.ages c.end d older (rw (l, f) refl) before
-      | inr l ↦ longer st.ages c.end d older (rw l refl) before
+      | inl l ↦ longer st.issue_numbers c.end d older (rw (l, f) refl) before
+      | inr l ↦ longer st.issue_numbers c.end d older (rw l refl) before
     ]
     rise_by i row c h newer d older st (Some p) f good timed issued shown e before = elim (cases_Bool (nat_lt c.end d.at.end)) [
-      | inr l ↦ longer st.ages c.end d older (rw l refl) before
+      | inr l ↦ longer st.issue_numbers c.end d older (rw l refl) before
       | inl l ↦
           let here : AreTimed row (newer ++ (d ∷ older)) = rw e at timed in
           let by : AreIssuedBy (c.end + 1) (newer ++ (d ∷ older)) = rw e at issued in
           let held : holds_place c.end p d ≡ true = rw (f, l, eq-eqb p p refl) refl in
           let small : p < 96 = place_low (step_pool d.step) d.at.station p (part_low row newer d older good here) f in
-          let age : slice_index st.ages p ≡ length older = shown.ages p small ∙ (ap (λ xs. age_at xs p) e ∙ age_here row c.end p newer d older good here by held) in
+          let issue_number : slice_index st.issue_numbers p ≡ length older = shown.issue_numbers p small ∙ (ap (λ xs. issue_number_at xs p) e ∙ number_here row c.end p newer d older good here by held) in
           let order : order_of c.end (d ∷ older) ≡ order_of c.end older ++ (p ∷ []) = rw (l, f) refl in
           record {
-            rises = rw order (rises-append st.ages (order_of c.end older) p before.rises (λ y k. let m : slice_index st.ages y < length older = before.below y k in omega arith));
-            below = λ x k. below_by st.ages c.end p x d older before age (sym (in-append (order_of c.end older) (p ∷ []) x) ∙ (rw order at k));
+            rises = rw order (rises-append st.issue_numbers (order_of c.end older) p before.rises (λ y k. let m : slice_index st.issue_numbers y < length older = before.below y k in omega arith));
+            below = λ x k. below_by st.issue_numbers c.end p x d older before issue_number (sym (in-append (order_of c.end older) (p ∷ []) x) ∙ (rw order at k));
           }
     ]
 
--- the order lists the busy places by age
-pub order_is : (i : Loaded) (row : Row) (c : Clocks) (h : List Done) (st : Pools) → IsRow row → AreTimed row h → AreIssuedBy (c.end + 1) h → ShowsStations i c h st → AreBusy st.slots st.busy st.ages → IsByAge st.busy st.ages (order_of c.end h)
+-- the order lists the busy places in issue order
+pub order_is : (i : Loaded) (row : Row) (c : Clocks) (h : List Done) (st : Pools) → IsRow row → AreTimed row h → AreIssuedBy (c.end + 1) h → ShowsStations i c h st → AreBusy st.slots st.busy st.issue_numbers → IsInIssueOrder st.busy st.issue_numbers (order_of c.end h)
 order_is i row c h st good timed issued shown filled = record {
   members = λ x l. filled.each x l ∙ elim (cases_Bool (nat_lt x 96)) [
     | inl k ↦ ap is_some (shown.slots x (ltb-true x 96 k)) ∙ in_order i c h x
@@ -172,7 +172,7 @@ order_is i row c h st good timed issued shown filled = record {
         ap is_some (get_or_past st.slots x None (let n : length st.slots ≡ 96 = shown.places in omega arith)) ∙ sym (beyond c.end h x (low row h good timed) high)
   ];
   low = λ x e. let k : x < 96 = order_low c.end h x (low row h good timed) e in omega arith;
-  rises = (ages_rise i row c h [] h st good timed issued shown refl).rises;
+  rises = (order_rises i row c h [] h st good timed issued shown refl).rises;
 }
   where
     beyond : (end : ℕ) (h : List Done) (x : ℕ) → AreLow h → 96 ≤ x → is_in (order_of end h) x ≡ false
@@ -183,17 +183,17 @@ order_is i row c h st good timed issued shown filled = record {
 
 -- No station is busy.
 
-pub empty_order : (i : Loaded) (row : Row) (c : Clocks) (h : List Done) (st : Pools) → IsRow row → AreTimed row h → AreIssuedBy (c.end + 1) h → ShowsStations i c h st → AreBusy st.slots st.busy st.ages → st.busy ≡ 0 → order_of c.end h ≡ []
-empty_order i row c h st good timed issued shown filled e = empty (order_of c.end h) st.busy st.ages e (order_is i row c h st good timed issued shown filled)
+pub empty_order : (i : Loaded) (row : Row) (c : Clocks) (h : List Done) (st : Pools) → IsRow row → AreTimed row h → AreIssuedBy (c.end + 1) h → ShowsStations i c h st → AreBusy st.slots st.busy st.issue_numbers → st.busy ≡ 0 → order_of c.end h ≡ []
+empty_order i row c h st good timed issued shown filled e = empty (order_of c.end h) st.busy st.issue_numbers e (order_is i row c h st good timed issued shown filled)
   where
-    empty : (xs : List ℕ) (busy : ℕ) (ages : List ℕ) → busy ≡ 0 → IsByAge busy ages xs → xs ≡ []
-    empty [] busy ages e by = refl
-    empty (x ∷ xs) busy ages e by =
+    empty : (xs : List ℕ) (busy : ℕ) (issue_numbers : List ℕ) → busy ≡ 0 → IsInIssueOrder busy issue_numbers xs → xs ≡ []
+    empty [] busy issue_numbers e by = refl
+    empty (x ∷ xs) busy issue_numbers e by =
         let inside : is_in (x ∷ xs) x ≡ true = rw (eq-eqb x x refl) refl in
         absurd (both_ways (has busy x) (rw e (none_in x)) (by.members x (by.low x inside) ∙ inside))
 
-pub empty_set : (busy : ℕ) (ages : List ℕ) → busy < 2 ^ 128 → IsByAge busy ages [] → busy ≡ 0
-empty_set busy ages small by = elim (cases_order 0 busy) [
+pub empty_set : (busy : ℕ) (issue_numbers : List ℕ) → busy < 2 ^ 128 → IsInIssueOrder busy issue_numbers [] → busy ≡ 0
+empty_set busy issue_numbers small by = elim (cases_order 0 busy) [
   | inl e ↦ sym e
   | inr (inr l) ↦ absurd (omega arith)
   | inr (inl l) ↦

@@ -52,8 +52,8 @@ none_issued row i x e s l =
 none_at : {A : Type 0} (n : ℕ) (xs : List (Option A)) → xs ≡ replicate n None → (x : ℕ) → x < n → slice_index_or xs x None ≡ None
 none_at n xs e x l = rw (e, get_or-replicate) refl
 
-shows_none : (i : Loaded) (st : Pools) → length st.slots ≡ 96 → ((x : ℕ) → x < 96 → slice_index_or st.slots x None ≡ None) → st.ages ≡ replicate 128 0 → ShowsStations i (clocks 0 0 0) [] st
-shows_none i st places slots ages = record { places = places; slots = slots; ages_count = rw ages refl; ages = λ x l. rw ages (get_or-replicate 128 x 0 0 (omega arith)) }
+shows_none : (i : Loaded) (st : Pools) → length st.slots ≡ 96 → ((x : ℕ) → x < 96 → slice_index_or st.slots x None ≡ None) → st.issue_numbers ≡ replicate 128 0 → ShowsStations i (clocks 0 0 0) [] st
+shows_none i st places slots issue_numbers = record { places = places; slots = slots; order_count = rw issue_numbers refl; issue_numbers = λ x l. rw issue_numbers (get_or-replicate 128 x 0 0 (omega arith)) }
 
 slots_count : length (replicate {A = Option Station} 96 None) ≡ 96
 slots_count = refl
@@ -66,14 +66,14 @@ start_count i = refl
 
 -- before the first cycle
 pub start_shown : (i : Loaded) (row : Row) (n : ℕ) (st : Pools) (rg : RegStatus) (ft : Fetch) (m : Bytes)
-    → st.slots ≡ replicate 96 None → st.ages ≡ replicate 128 0 → rg.tags ≡ replicate 32 None → rg.values ≡ (start_of i).regs
+    → st.slots ≡ replicate 96 None → st.issue_numbers ≡ replicate 128 0 → rg.tags ≡ replicate 32 None → rg.values ≡ (start_of i).regs
     → ft ≡ At i.entry → m.base ≡ i.window.base → m.bytes ≡ i.memory → length i.memory ≡ i.window.size → IsSnapshot i row n 0 0 st rg ft m
-start_shown i row n st rg ft m slots ages tags values from base bytes size =
+start_shown i row n st rg ft m slots issue_numbers tags values from base bytes size =
     let e : run_to row i 0 ≡ [] = run_none row i in
     record {
       issue = record {
         few = omega arith;
-        slots = rw e (shows_none i st (ap length slots ∙ slots_count) (none_at 96 st.slots slots) ages);
+        slots = rw e (shows_none i st (ap length slots ∙ slots_count) (none_at 96 st.slots slots) issue_numbers);
         status = rw e (record { count = ap length values ∙ start_count i; status = ap length tags ∙ tags_count; tags = none_at 32 rg.tags tags; values = λ r l q. ap (λ xs. slice_index xs r) values });
         from = rw e from;
         issued = rw e tt;

@@ -19,7 +19,7 @@ use Rattle.tomex_timing.specs.Recurrence.{AreTimed, IsLeast, can_issue, can_addr
 use Rattle.tomex_timing.proofs.Limits.{units_low, buses_low, width_low}
 use Rattle.tomex_timing.proofs.Settled.{count_none}
 use Rattle.tomex_timing.proofs.Width.{none_later}
-use Rattle.tomex_cycle.specs.Calm.{AllCalm, IsCalm}
+use Rattle.tomex_cycle.specs.Quiet.{AllQuiet, IsQuiet}
 use Rattle.tomex_cycle.proofs.Totals.{reach}
 
 -- nothing of the step falls in the cycle but perhaps its start
@@ -66,7 +66,7 @@ still_rests : (v : ℕ) (h : List Done) → AllStill v h → AllAtRest v h
 still_rests v [] still = tt
 still_rests v (d ∷ h) still = (record { issue = still.0.issue; address = still.0.address; finish = still.0.finish; end = still.0.end }, still_rests v h still.1)
 
-pub calm_rests : (v : ℕ) (h : List Done) → AllCalm v h → AllAtRest v h
+pub calm_rests : (v : ℕ) (h : List Done) → AllQuiet v h → AllAtRest v h
 calm_rests v [] calm = tt
 calm_rests v (d ∷ h) calm = (record { issue = calm.0.issue; address = calm.0.address; finish = calm.0.finish; end = calm.0.end }, calm_rests v h calm.1)
 
@@ -77,7 +77,7 @@ last_issue_still : (v : ℕ) (h : List Done) → 0 < v → AllAtRest v h → las
 last_issue_still v [] l still e = omega arith
 last_issue_still v (d ∷ h) l still e = still.0.issue e
 
-pub last_issue_calm : (u : ℕ) (h : List Done) → AllCalm u h → last_issue h ≢ u + 1
+pub last_issue_calm : (u : ℕ) (h : List Done) → AllQuiet u h → last_issue h ≢ u + 1
 last_issue_calm u [] calm e = omega arith
 last_issue_calm u (d ∷ h) calm e = calm.0.apart e
 
@@ -266,11 +266,11 @@ quiet row u (suc n) h good timed l still free k a b =
 -- After a calm cycle.
 
 -- a cycle in which nothing happens is calm
-pub still_calm : (row : Row) (u : ℕ) (h : List Done) → IsRow row → AreTimed row h → 0 < u → AllStill u h → AllCalm u h
+pub still_calm : (row : Row) (u : ℕ) (h : List Done) → IsRow row → AreTimed row h → 0 < u → AllStill u h → AllQuiet u h
 still_calm row u [] good timed l still = tt
 still_calm row u (d ∷ h) good timed l still =
     let now : IsStill u d = still.0 in
-    let older : AllCalm u h = still_calm row u h good timed.1 l still.1 in
+    let older : AllQuiet u h = still_calm row u h good timed.1 l still.1 in
     let issue : d.at.issue ≢ u + 1 = not_least (can_issue row h d.step) d.at.issue u (issue_still row u h d.step l good timed.1 (still_rests u h still.1) (last_issue_calm u h older)) timed.0.issue in (
       record { issue = now.issue; address = now.address; finish = now.finish; end = now.end; apart = issue; later = start_by row u h d.step d.at (step_unit d.step) l good still.1 now.issue now.address issue timed.0.start },
       older,
@@ -284,10 +284,10 @@ calm_finish P u start finish later order due e = elim (cases_Bool (nat_le start 
 ]
 
 -- nothing falls in the next one but such finishes, where all that finishes in it is so, and what is so has a result to send
-pub calm_next : (P : Done → Type 0) (row : Row) (u : ℕ) (h : List Done) → ((d : Done) → P d → is_some (step_dest d.step) ≡ true) → IsRow row → AreTimed row h → 0 < u → AllCalm u h → AllDue P u (u + 1) h → AllByRecursion (IsStillBut P (u + 1)) h
+pub calm_next : (P : Done → Type 0) (row : Row) (u : ℕ) (h : List Done) → ((d : Done) → P d → is_some (step_dest d.step) ≡ true) → IsRow row → AreTimed row h → 0 < u → AllQuiet u h → AllDue P u (u + 1) h → AllByRecursion (IsStillBut P (u + 1)) h
 calm_next P row u [] sends good timed l calm due = tt
 calm_next P row u (d ∷ h) sends good timed l calm due =
-    let now : IsCalm u d = calm.0 in
+    let now : IsQuiet u d = calm.0 in
     let rest : AllAtRest u h = calm_rests u h calm.1 in
     let issue : d.at.issue ≢ u + 1 = now.apart in
     let address : cycle_of d.at.address ≢ u + 1 = address_by u h d.step d.at (is_memory d.step) l rest now.issue timed.0.address in
@@ -297,7 +297,7 @@ calm_next P row u (d ∷ h) sends good timed l calm due =
     (record { issue = issue; address = address; start = now.later; finish = finish; end = end }, calm_next P row u h sends good timed.1 l calm.1 due.1)
 
 -- what had started by the next cycle had by this one
-free_on : (u w : ℕ) (h : List Done) → AllCalm u h → AllFree u w h → AllFree (u + 1) w h
+free_on : (u w : ℕ) (h : List Done) → AllQuiet u h → AllFree u w h → AllFree (u + 1) w h
 free_on u w [] calm free = tt
 free_on u w (d ∷ h) calm free = (
   (λ started. free.0 (elim (cases_Bool (nat_le d.at.start u)) [
@@ -308,7 +308,7 @@ free_on u w (d ∷ h) calm free = (
 )
 
 -- and nothing in those after it, where nothing that had started finishes in them
-pub calm_quiet : (row : Row) (u n : ℕ) (h : List Done) → IsRow row → AreTimed row h → 0 < u → AllCalm u h → ((w : ℕ) → u < w → w ≤ u + n → AllFree u w h) → (k : ℕ) → u < k → k ≤ u + n → AllStill k h
+pub calm_quiet : (row : Row) (u n : ℕ) (h : List Done) → IsRow row → AreTimed row h → 0 < u → AllQuiet u h → ((w : ℕ) → u < w → w ≤ u + n → AllFree u w h) → (k : ℕ) → u < k → k ≤ u + n → AllStill k h
 calm_quiet row u n h good timed l calm free k a b =
     let first : AllStill (u + 1) h = calm_next (λ d. ⊥) row u h (λ d none. absurd none) good timed l calm (free (u + 1) (omega arith) (omega arith)) in
     let at : u + 1 + (n - 1) ≡ u + n = omega arith in

@@ -7,7 +7,7 @@ use Rattle.std.proofs.lemmas.List.Elements.{filter-append}
 use Rattle.std.proofs.lemmas.List.Sums.{sum_by-cons}
 use Rattle.tomex_timing.specs.declared.times.Done.{Done}
 use Rattle.tomex_bus.specs.Sets.{has, is_in}
-use Rattle.tomex_bus.specs.Picks.{IsByAge, IsPicked, Rises}
+use Rattle.tomex_bus.specs.Picks.{IsInIssueOrder, IsPicked, Rises}
 use Rattle.tomex_bus.proofs.Picking.{first_picked}
 use Rattle.tomex_cycle.specs.Views.{holds_place, order_of, place_of}
 use Rattle.tomex_cycle.proofs.Orders.{in-append}
@@ -132,7 +132,7 @@ served t n set goes (d ∷ older) each alone =
           same_by t n set goes d older off (rw (l, e) (filter-append (has set) (order_of t older) (p ∷ []) ∙ rw m (append-nil (filter (has set) (order_of t older))))) alone.0 before
     ]
 
--- Some of a listing are listed by age too.
+-- Some of a listing are listed in issue order too.
 
 in-filter : (q : ℕ → Bool) (xs : List ℕ) (x : ℕ) → is_in (filter q xs) x ≡ (q x && is_in xs x)
 in-filter q [] x = sym (and_none (q x))
@@ -151,25 +151,25 @@ in-filter q (y ∷ xs) x = elim (cases_Bool (q y)) [
   ]
 ]
 
-rises-filter : (q : ℕ → Bool) (ages xs : List ℕ) → Rises ages xs → Rises ages (filter q xs)
-rises-filter q ages [] rises = rises
-rises-filter q ages (x ∷ xs) rises = elim (cases_Bool (q x)) [
-  | inr e ↦ rw e (rises-filter q ages xs rises.1)
-  | inl e ↦ rw e ((λ y k. rises.0 y (and_parts (q y) (is_in xs y) (sym (in-filter q xs y) ∙ k)).1), rises-filter q ages xs rises.1)
+rises-filter : (q : ℕ → Bool) (issue_numbers xs : List ℕ) → Rises issue_numbers xs → Rises issue_numbers (filter q xs)
+rises-filter q issue_numbers [] rises = rises
+rises-filter q issue_numbers (x ∷ xs) rises = elim (cases_Bool (q x)) [
+  | inr e ↦ rw e (rises-filter q issue_numbers xs rises.1)
+  | inl e ↦ rw e ((λ y k. rises.0 y (and_parts (q y) (is_in xs y) (sym (in-filter q xs y) ∙ k)).1), rises-filter q issue_numbers xs rises.1)
 ]
 
-pub some_by_age : (busy set : ℕ) (ages xs : List ℕ) → IsByAge busy ages xs → ((x : ℕ) → x < 128 → has set x ≡ true → has busy x ≡ true) → IsByAge set ages (filter (has set) xs)
-some_by_age busy set ages xs by inside = record {
+pub some_in_order : (busy set : ℕ) (issue_numbers xs : List ℕ) → IsInIssueOrder busy issue_numbers xs → ((x : ℕ) → x < 128 → has set x ≡ true → has busy x ≡ true) → IsInIssueOrder set issue_numbers (filter (has set) xs)
+some_in_order busy set issue_numbers xs by inside = record {
   members = λ x l. elim (cases_Bool (has set x)) [
     | inl e ↦ rw e (sym (in-filter (has set) xs x ∙ rw (e, ← by.members x l) (inside x l e)))
     | inr e ↦ rw e (sym (in-filter (has set) xs x ∙ rw e refl))
   ];
   low = λ x k. by.low x (and_parts (has set x) (is_in xs x) (sym (in-filter (has set) xs x) ∙ k)).1;
-  rises = rises-filter (has set) ages xs by.rises;
+  rises = rises-filter (has set) issue_numbers xs by.rises;
 }
 
 -- what is picked of the ready ones goes
-pub picked_goes : (t n busy set picked : ℕ) (ages : List ℕ) (goes : Done → Bool) (h : List Done) → IsByAge busy ages (order_of t h) → ((x : ℕ) → x < 128 → has set x ≡ true → has busy x ≡ true) → IsPicked set ages n picked → AreServed t n set goes h → AreAlone t goes h
+pub picked_goes : (t n busy set picked : ℕ) (issue_numbers : List ℕ) (goes : Done → Bool) (h : List Done) → IsInIssueOrder busy issue_numbers (order_of t h) → ((x : ℕ) → x < 128 → has set x ≡ true → has busy x ≡ true) → IsPicked set issue_numbers n picked → AreServed t n set goes h → AreAlone t goes h
     → (x : ℕ) → x < 128 → has picked x ≡ goes_at t goes h x
-picked_goes t n busy set picked ages goes h by inside pick each alone x l =
-    first_picked set n picked ages (filter (has set) (order_of t h)) pick (some_by_age busy set ages (order_of t h) by inside) x l ∙ (served t n set goes h each alone).taken x
+picked_goes t n busy set picked issue_numbers goes h by inside pick each alone x l =
+    first_picked set n picked issue_numbers (filter (has set) (order_of t h)) pick (some_in_order busy set issue_numbers (order_of t h) by inside) x l ∙ (served t n set goes h each alone).taken x

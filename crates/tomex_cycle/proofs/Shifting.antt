@@ -159,7 +159,7 @@ shifted row i n u w count s kind st rg ft m good ends l steady old =
     record {
       issue = record {
         few = few;
-        slots = record { places = old.issue.slots.places; slots = λ x small. old.issue.slots.slots x small ∙ stations_alike i u w x h same; ages_count = old.issue.slots.ages_count; ages = old.issue.slots.ages };
+        slots = record { places = old.issue.slots.places; slots = λ x small. old.issue.slots.slots x small ∙ stations_alike i u w x h same; order_count = old.issue.slots.order_count; issue_numbers = old.issue.slots.issue_numbers };
         status = record {
           count = old.issue.status.count;
           status = old.issue.status.status;

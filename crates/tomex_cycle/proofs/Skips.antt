@@ -14,16 +14,16 @@ use Rattle.tomex_timing.specs.Recurrence.{AreTimed}
 use Rattle.tomex_cycle.specs.declared.fetch.Fetch.{Fetch}
 use Rattle.tomex_cycle.specs.declared.progress.Progress.{Progress}
 use Rattle.tomex_cycle.specs.declared.progress.Progress.TheVariants.{Running, Ended}
-use Rattle.tomex_cycle.specs.declared.progress.Made.{Made}
-use Rattle.tomex_cycle.specs.declared.progress.Made.TheVariants as made_as
+use Rattle.tomex_cycle.specs.declared.progress.CycleOutcome.{CycleOutcome}
+use Rattle.tomex_cycle.specs.declared.progress.CycleOutcome.TheVariants as made_as
 use Rattle.tomex_cycle.specs.Events.{events_in}
-use Rattle.tomex_cycle.specs.Finishes.{AreResults, IsFree, IsPassed}
-use Rattle.tomex_cycle.specs.Made.{progress_of}
+use Rattle.tomex_cycle.specs.Finishes.{AreResults, IsFree, IsSkipped}
+use Rattle.tomex_cycle.specs.CycleOutcome.{progress_of}
 use Rattle.tomex_cycle.specs.Phases.{IsSnapshot}
 use Rattle.tomex_cycle.specs.Run.{run_to}
 use Rattle.tomex_cycle.specs.Seen.{Seen, seen_after}
 use Rattle.tomex_cycle.specs.Sound.{IsAfter, IsSound}
-use Rattle.tomex_cycle.specs.Calm.{AllCalm}
+use Rattle.tomex_cycle.specs.Quiet.{AllQuiet}
 use Rattle.tomex_cycle.proofs.Quiet.{AllDue, AllSteady, HasResult, calm_next, calm_quiet, still_calm, still_steady}
 use Rattle.tomex_cycle.proofs.Runs.{rest_to, run_timed}
 use Rattle.tomex_cycle.proofs.Shifting.{AllSteadyAfter, AllStillAfter, shifted}
@@ -42,20 +42,20 @@ over_elsewhere u (d ∷ h) l steady e = elim (cases_Bool (d.at.end == u)) [
 
 -- nothing happens in the cycles after a calm one, up to the next finish
 pub calm_past : (row : Row) (i : Loaded) (n u w count : ℕ) (s : State) (kind : EndKind) (st : Pools) (rg : RegStatus) (ft : Fetch) (m : Bytes) → IsRow row → RunEnds i n s kind → 0 < u → u ≤ w
-    → IsSnapshot i row n u count st rg ft m → AllCalm u (run_to row i count) → IsFree st.slots u w → AllStillAfter u w (run_to row i (n + 1))
+    → IsSnapshot i row n u count st rg ft m → AllQuiet u (run_to row i count) → IsFree st.slots u w → AllStillAfter u w (run_to row i (n + 1))
 calm_past row i n u w count s kind st rg ft m good ends low l now calm free k a b =
     let h : List Done = run_to row i count in
     let few : count ≤ n + 1 = now.issue.few in
     let rest = rest_to row i n count (n + 1) u s kind good ends now.issue.next few (omega arith) in
     let timed : AreTimed row h = run_timed row i count good in
     let whole : AreTimed row (rest.0 ++ h) = rw rest.1.same at (run_timed row i (n + 1) good) in
-    let all : AllCalm u (rest.0 ++ h) = later_calm row u rest.0 h good whole rest.1.later low calm in
+    let all : AllQuiet u (rest.0 ++ h) = later_calm row u rest.0 h good whole rest.1.later low calm in
     let still = calm_quiet row u (w - u) (rest.0 ++ h) good whole low all (λ v from to. later_due (λ d. ⊥) row u v rest.0 h whole rest.1.later (issued_free i row u v st h good timed now.issue.issued from now.issue.slots (λ x small. free x v small (omega arith) (omega arith)))) in
     rw rest.1.same (still k a (omega arith))
 
 -- so the last of them is calm too
 calm_last : (row : Row) (i : Loaded) (n u w count : ℕ) (s : State) (kind : EndKind) (st : Pools) (rg : RegStatus) (ft : Fetch) (m : Bytes) → IsRow row → RunEnds i n s kind → 0 < u → u ≤ w
-    → IsSnapshot i row n u count st rg ft m → AllCalm u (run_to row i count) → IsFree st.slots u w → AllCalm w (run_to row i (n + 1))
+    → IsSnapshot i row n u count st rg ft m → AllQuiet u (run_to row i count) → IsFree st.slots u w → AllQuiet w (run_to row i (n + 1))
 calm_last row i n u w count s kind st rg ft m good ends low l now calm free = elim (cases_order u w) [
   | inl e ↦
       let h : List Done = run_to row i count in
@@ -67,7 +67,7 @@ calm_last row i n u w count s kind st rg ft m good ends low l now calm free = el
 
 -- after a calm cycle nothing happens in the next one but finishes of results, where the stations show no others
 next_steady : (row : Row) (i : Loaded) (n u count : ℕ) (s : State) (kind : EndKind) (st : Pools) (rg : RegStatus) (ft : Fetch) (m : Bytes) → IsRow row → RunEnds i n s kind → 0 < u
-    → IsSnapshot i row n u count st rg ft m → AllCalm u (run_to row i (n + 1)) → AreResults st.slots (u + 1) → AllSteady (u + 1) (run_to row i (n + 1))
+    → IsSnapshot i row n u count st rg ft m → AllQuiet u (run_to row i (n + 1)) → AreResults st.slots (u + 1) → AllSteady (u + 1) (run_to row i (n + 1))
 next_steady row i n u count s kind st rg ft m good ends low now calm results =
     let h : List Done = run_to row i count in
     let rest = rest_to row i n count (n + 1) u s kind good ends now.issue.next now.issue.few (omega arith) in
@@ -98,14 +98,14 @@ steady_sound i row u w now more st rg ft m next l high runs all = record {
 }
 
 -- what a made cycle makes of each run that ends, and what it tells of it
-abbrev pub MakesCycle : Loaded → Row → ℕ → Made → (count more : ℕ) → (st st2 : Pools) → (rg rg2 : RegStatus) → (ft ft2 : Fetch) → (m m2 : Bytes) → Type 0
+abbrev pub MakesCycle : Loaded → Row → ℕ → CycleOutcome → (count more : ℕ) → (st st2 : Pools) → (rg rg2 : RegStatus) → (ft ft2 : Fetch) → (m m2 : Bytes) → Type 0
 MakesCycle i row cycle made count more st st2 rg rg2 ft ft2 m m2 = (n : ℕ) (s : State) (kind : EndKind) (t : ℕ) → RunEnds i n s kind → n < 262144 → cycle + 1 ≡ t + 1 → IsRow row → IsLoaded i.window i.memory i.entry → IsSnapshot i row n t count st rg ft m
     → IsSnapshot i row n (cycle + 1) more st2 rg2 ft2 m2 × (progress_of made ≡ (if nat_lt (cycle + 1) (greatest_end (run_to row i (n + 1))) then Running else Ended))
-    × (made ≡ made_as.Moving → 0 < events_in (cycle + 1) (run_to row i (n + 1))) × (made ≡ made_as.Still → AllCalm (cycle + 1) (run_to row i more))
+    × (made ≡ made_as.Active → 0 < events_in (cycle + 1) (run_to row i (n + 1))) × (made ≡ made_as.Quiet → AllQuiet (cycle + 1) (run_to row i more))
 
 -- a cycle keeps what holds, and so do those that are passed after it
-pub sound_later : (i : Loaded) (row : Row) (cycle w : ℕ) (last now : Progress) (made : Made) (count more : ℕ) (st st2 : Pools) (rg rg2 : RegStatus) (ft ft2 : Fetch) (m m2 : Bytes) → IsSound i row cycle last count st rg ft m → last ≡ Running
-    → MakesCycle i row cycle made count more st st2 rg rg2 ft ft2 m m2 → progress_of made ≡ now → cycle + 1 ≤ w → w ≤ 2 ^ 40 → (cycle + 1 < w → (made ≡ made_as.Still) × IsFree st2.slots (cycle + 1) w)
+pub sound_later : (i : Loaded) (row : Row) (cycle w : ℕ) (last now : Progress) (made : CycleOutcome) (count more : ℕ) (st st2 : Pools) (rg rg2 : RegStatus) (ft ft2 : Fetch) (m m2 : Bytes) → IsSound i row cycle last count st rg ft m → last ≡ Running
+    → MakesCycle i row cycle made count more st st2 rg rg2 ft ft2 m m2 → progress_of made ≡ now → cycle + 1 ≤ w → w ≤ 2 ^ 40 → (cycle + 1 < w → (made ≡ made_as.Quiet) × IsFree st2.slots (cycle + 1) w)
     → IsSound i row w now more st2 rg2 ft2 m2
 sound_later i row cycle w last now made count more st st2 rg rg2 ft ft2 m m2 sound run makes same l high skips =
     let next : IsSound i row (cycle + 1) now more st2 rg2 ft2 m2 = sound_next i row cycle last now count more st st2 rg rg2 ft ft2 m m2 sound run (omega arith) (λ n s kind t ends few e good loaded old. let r = makes n s kind t ends few e good loaded old in (r.0, sym same ∙ r.1)) in
@@ -120,19 +120,19 @@ sound_later i row cycle w last now made count more st st2 rg rg2 ft ft2 m m2 sou
     ]
 
 -- and so does one more, in which nothing happens but finishes of results
-sound_taken : (i : Loaded) (row : Row) (cycle w : ℕ) (last now : Progress) (made : Made) (count more : ℕ) (st st2 : Pools) (rg rg2 : RegStatus) (ft ft2 : Fetch) (m m2 : Bytes) → IsSound i row cycle last count st rg ft m
-    → MakesCycle i row cycle made count more st st2 rg rg2 ft ft2 m m2 → made ≡ made_as.Still → now ≡ Running → cycle + 1 ≤ w → w + 1 ≤ 2 ^ 40 → IsFree st2.slots (cycle + 1) w → AreResults st2.slots (w + 1)
+sound_taken : (i : Loaded) (row : Row) (cycle w : ℕ) (last now : Progress) (made : CycleOutcome) (count more : ℕ) (st st2 : Pools) (rg rg2 : RegStatus) (ft ft2 : Fetch) (m m2 : Bytes) → IsSound i row cycle last count st rg ft m
+    → MakesCycle i row cycle made count more st st2 rg rg2 ft ft2 m m2 → made ≡ made_as.Quiet → now ≡ Running → cycle + 1 ≤ w → w + 1 ≤ 2 ^ 40 → IsFree st2.slots (cycle + 1) w → AreResults st2.slots (w + 1)
     → IsSound i row w now more st2 rg2 ft2 m2 → IsSound i row (w + 1) now more st2 rg2 ft2 m2
 sound_taken i row cycle w last now made count more st st2 rg rg2 ft ft2 m m2 sound makes still runs l high free results next =
     steady_sound i row w (w + 1) now more st2 rg2 ft2 m2 next (omega arith) high runs (λ n s kind few ends v from to.
     let shot = makes n s kind cycle ends few refl sound.lawful sound.loaded (sound.after n s kind few ends).snapshot in
-    let calm : AllCalm w (run_to row i (n + 1)) = calm_last row i n (cycle + 1) w more s kind st2 rg2 ft2 m2 sound.lawful ends (omega arith) l shot.0 (shot.3 still) free in
+    let calm : AllQuiet w (run_to row i (n + 1)) = calm_last row i n (cycle + 1) w more s kind st2 rg2 ft2 m2 sound.lawful ends (omega arith) l shot.0 (shot.3 still) free in
     let at : v ≡ w + 1 = omega arith in
     rw at (next_steady row i n w more s kind st2 rg2 ft2 m2 sound.lawful ends (omega arith) (next.after n s kind few ends).snapshot calm results))
 
 -- so it does as far as no station changes
-pub sound_passed : (i : Loaded) (row : Row) (cycle to w before after : ℕ) (last now : Progress) (made : Made) (count more : ℕ) (st st2 : Pools) (rg rg2 : RegStatus) (ft ft2 : Fetch) (m m2 : Bytes) → IsSound i row cycle last count st rg ft m → last ≡ Running
-    → MakesCycle i row cycle made count more st st2 rg rg2 ft ft2 m m2 → made ≡ made_as.Still → progress_of made ≡ now → w ≤ 2 ^ 40 → IsPassed st2.slots (cycle + 1) to w before after → IsSound i row w now more st2 rg2 ft2 m2
+pub sound_passed : (i : Loaded) (row : Row) (cycle to w before after : ℕ) (last now : Progress) (made : CycleOutcome) (count more : ℕ) (st st2 : Pools) (rg rg2 : RegStatus) (ft ft2 : Fetch) (m m2 : Bytes) → IsSound i row cycle last count st rg ft m → last ≡ Running
+    → MakesCycle i row cycle made count more st st2 rg rg2 ft ft2 m m2 → made ≡ made_as.Quiet → progress_of made ≡ now → w ≤ 2 ^ 40 → IsSkipped st2.slots (cycle + 1) to w before after → IsSound i row w now more st2 rg2 ft2 m2
 sound_passed i row cycle to w before after last now made count more st st2 rg rg2 ft ft2 m m2 sound run makes still same high passed =
     let l : cycle + 1 ≤ passed.idle = passed.least in
     let at : passed.idle ≤ 2 ^ 40 → IsSound i row passed.idle now more st2 rg2 ft2 m2 = λ low. sound_later i row cycle passed.idle last now made count more st st2 rg rg2 ft ft2 m m2 sound run makes same l low (λ less. (still, passed.free)) in

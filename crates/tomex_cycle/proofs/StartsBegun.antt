@@ -13,7 +13,7 @@ use Rattle.tomex_bus.specs.Sets.{has, IsWithout}
 use Rattle.tomex_bus.proofs.Members.{AreFrom, all_left, least_from, least_in, left_from, none_after, none_between, skip_to}
 
 pub none_begun : (row : Row) (next : ℕ) (m : Bytes) (picked : ℕ) (st : Pools) → length st.slots ≡ 96 → HaveBegun row next m picked 0 st st
-none_begun row next m picked st e = record { places = e; slots = λ x l. rw (le-ltb x 0 (omega arith)) refl; ages = refl }
+none_begun row next m picked st e = record { places = e; slots = λ x l. rw (le-ltb x 0 (omega arith)) refl; issue_numbers = refl }
 
 -- tests of places below k + 1
 below_more : (x k : ℕ) (b : Bool) → (x ≡ k → b ≡ false) → (nat_lt x (k + 1) && b) ≡ (nat_lt x k && b)
@@ -31,7 +31,7 @@ pub begun_skip : (row : Row) (next k : ℕ) (m : Bytes) (picked : ℕ) (old now 
 begun_skip row next k m picked old now e before = record {
   places = before.places;
   slots = λ x l. before.slots x l ∙ sym (ap (λ b. begun_if row next m b (slice_index_or old.slots x None)) (below_more x k (has picked x) (λ z. rw z e)));
-  ages = before.ages;
+  issue_numbers = before.issue_numbers;
 }
 
 -- the station of a place that is to start is still as it was
@@ -39,8 +39,8 @@ pub still_old : (row : Row) (next k : ℕ) (m : Bytes) (picked : ℕ) (old now :
 still_old row next k m picked old now l before = before.slots k l ∙ rw (le-ltb k k (omega arith)) refl
 
 pub begun_more : (row : Row) (next k : ℕ) (m : Bytes) (picked : ℕ) (old now new : Pools) (s : Station) → k < 96 → has picked k ≡ true → slice_index_or old.slots k None ≡ Some s
-    → new.slots ≡ slice_set now.slots k (Some (begun row next m s)) → new.ages ≡ now.ages → HaveBegun row next m picked k old now → HaveBegun row next m picked (k + 1) old new
-begun_more row next k m picked old now new s l pick here slots ages before = record {
+    → new.slots ≡ slice_set now.slots k (Some (begun row next m s)) → new.issue_numbers ≡ now.issue_numbers → HaveBegun row next m picked k old now → HaveBegun row next m picked (k + 1) old new
+begun_more row next k m picked old now new s l pick here slots issue_numbers before = record {
   places = ap length slots ∙ (length-set now.slots k (Some (begun row next m s)) ∙ before.places);
   slots = λ x f. ap (λ xs. slice_index_or xs x None) slots ∙ elim (cases_Bool (x == k)) [
     | inl e ↦
@@ -48,7 +48,7 @@ begun_more row next k m picked old now new s l pick here slots ages before = rec
         rw (same, here, pick, lt-ltb k (k + 1) (omega arith)) (get_or-set_same now.slots k (Some (begun row next m s)) None (let n : length now.slots ≡ 96 = before.places in omega arith))
     | inr e ↦ get_or-set_other now.slots k x (Some (begun row next m s)) None (eqb-false _ _ e) ∙ (before.slots x f ∙ sym (ap (λ b. begun_if row next m b (slice_index_or old.slots x None)) (below_other x k (has picked x) (eqb-false _ _ e))))
   ];
-  ages = ages ∙ before.ages;
+  issue_numbers = issue_numbers ∙ before.issue_numbers;
 }
 
 -- no fault where all can start
@@ -59,10 +59,10 @@ no_fault row next k m picked old now fault l pick good can before =
     good s.0 (still_old row next k m picked old now l before ∙ s.1) s.2
 
 pub begun_here : (row : Row) (next k : ℕ) (m : Bytes) (picked : ℕ) (old now new : Pools) → k < 96 → has picked k ≡ true
-    → ((s : Station) → slice_index_or now.slots k None ≡ Some s → CanBegin m s → new.slots ≡ slice_set now.slots k (Some (begun row next m s))) → new.ages ≡ now.ages → AllCanBegin m picked old.slots → HaveBegun row next m picked k old now → HaveBegun row next m picked (k + 1) old new
-begun_here row next k m picked old now new l pick set ages can before =
+    → ((s : Station) → slice_index_or now.slots k None ≡ Some s → CanBegin m s → new.slots ≡ slice_set now.slots k (Some (begun row next m s))) → new.issue_numbers ≡ now.issue_numbers → AllCanBegin m picked old.slots → HaveBegun row next m picked k old now → HaveBegun row next m picked (k + 1) old new
+begun_here row next k m picked old now new l pick set issue_numbers can before =
     let s = can k l pick in
-    begun_more row next k m picked old now new s.0 l pick s.1 (set s.0 (still_old row next k m picked old now l before ∙ s.1) s.2) ages before
+    begun_more row next k m picked old now new s.0 l pick s.1 (set s.0 (still_old row next k m picked old now l before ∙ s.1) s.2) issue_numbers before
 
 pub some_not : {A : Type 0} (o : Option A) → true ≡ is_some o → o ≡ None → ⊥
 some_not None e f = cc
@@ -96,15 +96,15 @@ no_fault_at row next x m picked rest old now fault l member least good low can s
     no_fault row next x m picked old now fault (low x l pick) pick good can (begun_to row next x m picked rest old now l member least so)
 
 pub member_begun : (row : Row) (next x : ℕ) (m : Bytes) (picked rest left : ℕ) (old now new : Pools) → x < 128 → has rest x ≡ true → ((i : ℕ) → i < x → has rest i ≡ false) → IsWithout rest x left
-    → ((s : Station) → slice_index_or now.slots x None ≡ Some s → CanBegin m s → new.slots ≡ slice_set now.slots x (Some (begun row next m s))) → new.ages ≡ now.ages → AreLow picked → AllCanBegin m picked old.slots → IsBegun row next m picked rest old now → IsBegun row next m picked left old new
-member_begun row next x m picked rest left old now new l member least without set ages low can so =
+    → ((s : Station) → slice_index_or now.slots x None ≡ Some s → CanBegin m s → new.slots ≡ slice_set now.slots x (Some (begun row next m s))) → new.issue_numbers ≡ now.issue_numbers → AreLow picked → AllCanBegin m picked old.slots → IsBegun row next m picked rest old now → IsBegun row next m picked left old new
+member_begun row next x m picked rest left old now new l member least without set issue_numbers low can so =
     let pick : has picked x ≡ true = least_in picked rest so.k x so.from l member in
     let below : x < 96 = low x l pick in
     record {
       k = x + 1;
       from = left_from picked rest left so.k x so.from l member least without;
       high = omega arith;
-      begun = begun_here row next x m picked old now new below pick set ages can (begun_to row next x m picked rest old now l member least so);
+      begun = begun_here row next x m picked old now new below pick set issue_numbers can (begun_to row next x m picked rest old now l member least so);
     }
 
 pub all_begun : (row : Row) (next : ℕ) (m : Bytes) (picked rest : ℕ) (old now : Pools) → AreLow picked → rest ≡ 0 → IsBegun row next m picked rest old now → HaveBegun row next m picked 96 old now

@@ -61,7 +61,7 @@ all_inside row u m picked old new can made x l pick s e =
     let f : slice_index_or new.slots x None ≡ Some (begun row u m one.0) = made.slots x l ∙ rw (lt-ltb x 96 l, pick, one.1) refl in
     inside_begun row u m one.0 s (sym f ∙ e) one.2.inside
 
-pub low_of : (st : Pools) (x : ℕ) → AreBusy st.slots st.busy st.ages → x < 128 → has st.busy x ≡ true → x < 96
+pub low_of : (st : Pools) (x : ℕ) → AreBusy st.slots st.busy st.issue_numbers → x < 128 → has st.busy x ≡ true → x < 96
 low_of st x filled l e = elim (cases_Bool (nat_lt x 96)) [
   | inl k ↦ ltb-true x 96 k
   | inr k ↦
@@ -76,7 +76,7 @@ or_cases true b e = inl refl
 or_cases false b e = inr e
 
 -- what starts is busy
-starting_low : (row : Row) (st : Pools) (next starting : ℕ) → IsStarting row st next starting → AreBusy st.slots st.busy st.ages → (x : ℕ) → x < 128 → has starting x ≡ true → x < 96
+starting_low : (row : Row) (st : Pools) (next starting : ℕ) → IsStarting row st next starting → AreBusy st.slots st.busy st.issue_numbers → (x : ℕ) → x < 128 → has starting x ≡ true → x < 96
 starting_low row st next starting begins filled x l e =
     let kind : (unit : UnitId) → has (slice_index begins.kinds (place_of_unit unit)) x ≡ true → has st.busy x ≡ true = λ unit k. (begins.are_ready unit).inside x l ((begins.units unit).inside x l k) in
     low_of st x filled l (elim (or_cases _ _ (sym (five begins.kinds x begins.count) ∙ (sym (begins.all x l) ∙ e))) [
@@ -96,7 +96,7 @@ starting_low row st next starting begins filled x l e =
       ]
     ])
 
-pub start_made : (row : Row) (next : ℕ) (old new : Pools) (m written : Bytes) (fault : Option Fault) (picked : ℕ) → IsStarting row old next picked → AreBusy old.slots old.busy old.ages
+pub start_made : (row : Row) (next : ℕ) (old new : Pools) (m written : Bytes) (fault : Option Fault) (picked : ℕ) → IsStarting row old next picked → AreBusy old.slots old.busy old.issue_numbers
     → (length old.slots ≡ 96 → AreLow picked → AllCanBegin m picked old.slots → HaveBegun row next m picked 96 old new)
     → (length old.slots ≡ 96 → AreLow picked → AllCanBegin m picked old.slots → fault ≡ None)
     → (AreLow picked → AllInside m picked new.slots → HaveStored new.slots picked 96 m written)
@@ -113,7 +113,7 @@ start_made row next old new m written fault picked starting filled begins good w
     let stored : HaveStored new.slots picked 96 m written = writes low (all_inside row next m picked old new can made) in
     let base : m.base ≡ i.window.base = memory.base in (
       good shown.places low can,
-      record { places = made.places; slots = slots; ages_count = ap length made.ages ∙ shown.ages_count; ages = λ x l. ap (λ xs. slice_index xs x) made.ages ∙ shown.ages x l },
+      record { places = made.places; slots = slots; order_count = ap length made.issue_numbers ∙ shown.order_count; issue_numbers = λ x l. ap (λ xs. slice_index xs x) made.issue_numbers ∙ shown.issue_numbers x l },
       record {
         base = stored.base ∙ memory.base;
         size = stored.size ∙ memory.size;

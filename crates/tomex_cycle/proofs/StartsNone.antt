@@ -13,7 +13,7 @@ use Rattle.tomex_tags.specs.Pools.{AreBusy, Pools}
 use Rattle.tomex_tags.specs.declared.station.Station.{Station}
 
 none_begun : (row : Row) (next : ℕ) (m : Bytes) (old : Pools) → length old.slots ≡ 96 → HaveBegun row next m 0 96 old old
-none_begun row next m old count = record { places = count; slots = λ x l. sym (ap (λ b. begun_if row next m b (slice_index_or old.slots x None)) (ap (λ b. nat_lt x 96 && b) (none_in x) ∙ and_right (nat_lt x 96) false refl)); ages = refl }
+none_begun row next m old count = record { places = count; slots = λ x l. sym (ap (λ b. begun_if row next m b (slice_index_or old.slots x None)) (ap (λ b. nat_lt x 96 && b) (none_in x) ∙ and_right (nat_lt x 96) false refl)); issue_numbers = refl }
 
 not_stored : (o : Option Station) (a before : ℕ) → stored_at false o a before ≡ before
 not_stored None a before = refl
@@ -26,6 +26,6 @@ none_written slots byte a (suc k) = none_written slots byte a k ∙ sym (ap (λ 
 none_stored : (slots : List (Option Station)) (m : Bytes) → HaveStored slots 0 96 m m
 none_stored slots m = record { base = refl; size = refl; bytes = λ a from. none_written slots (byte_in m) a 96 }
 
-pub start_none : (row : Row) (next starting : ℕ) (old : Pools) (m : Bytes) → IsStarting row old next starting → AreBusy old.slots old.busy old.ages → starting ≡ 0 → MakesStarts row next old m None old m
+pub start_none : (row : Row) (next starting : ℕ) (old : Pools) (m : Bytes) → IsStarting row old next starting → AreBusy old.slots old.busy old.issue_numbers → starting ≡ 0 → MakesStarts row next old m None old m
 start_none row next starting old m begins filled e =
     start_made row next old old m m None 0 (rw e at begins) filled (λ count low can. none_begun row next m old count) (λ count low can. refl) (λ low inside. none_stored old.slots m)

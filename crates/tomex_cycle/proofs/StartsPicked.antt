@@ -25,14 +25,14 @@ use Rattle.tomex_cycle.proofs.Fields.{there_test, tag_there, timed_part, issued_
 use Rattle.tomex_cycle.proofs.Places.{low, station_here, is_vacant, vacant, least_test}
 use Rattle.tomex_cycle.proofs.Totals.{reach}
 use Rattle.tomex_membuf.proofs.Older.{no_option, share_none}
-use Rattle.tomex_cycle.proofs.ByAge.{no_access}
-use Rattle.tomex_membuf.specs.Order.{is_before, lets}
+use Rattle.tomex_cycle.proofs.IssueOrder.{no_access}
+use Rattle.tomex_membuf.specs.Order.{is_before, lets_pass}
 use Rattle.tomex_tags.specs.Contents.{bytes_in, is_waiting, step_in}
 use Rattle.tomex_tags.specs.Operands.{is_there, value_in}
 use Rattle.tomex_tags.specs.Places.{place_at, place_of_tag}
 use Rattle.tomex_tags.specs.Pools.{Pools, AreBusy}
 use Rattle.tomex_tags.specs.declared.station.Station.{Station}
-use Rattle.tomex_bus.specs.Picks.{IsByAge}
+use Rattle.tomex_bus.specs.Picks.{IsInIssueOrder}
 use Rattle.tomex_cycle.proofs.Serving.{AreAlone, goes_at, AreServed, Serves, picked_goes}
 use Rattle.tomex_bus.specs.Sets.{has}
 use Rattle.tomex_cycle.proofs.Orders.{order_is}
@@ -49,14 +49,14 @@ and_turn true false = refl
 and_turn false true = refl
 and_turn false false = refl
 
-clear-append : (slots : List (Option Station)) (xs : List ℕ) (x : ℕ) (s : Station) (next : ℕ) → is_clear slots (xs ++ (x ∷ [])) s next ≡ (lets (slice_index_or slots x None) s next && is_clear slots xs s next)
+clear-append : (slots : List (Option Station)) (xs : List ℕ) (x : ℕ) (s : Station) (next : ℕ) → is_clear slots (xs ++ (x ∷ [])) s next ≡ (lets_pass (slice_index_or slots x None) s next && is_clear slots xs s next)
 clear-append slots [] x s next = refl
 clear-append slots (y ∷ xs) x s next =
     let before = clear-append slots xs x s next in
-    ap (λ b. lets (slice_index_or slots y None) s next && b) before
-    ∙ (and_swap (lets (slice_index_or slots y None) s next) (lets (slice_index_or slots x None) s next) (is_clear slots xs s next)
-    ∙ (ap (λ b. b && is_clear slots xs s next) (and_turn (lets (slice_index_or slots y None) s next) (lets (slice_index_or slots x None) s next))
-    ∙ sym (and_swap (lets (slice_index_or slots x None) s next) (lets (slice_index_or slots y None) s next) (is_clear slots xs s next))))
+    ap (λ b. lets_pass (slice_index_or slots y None) s next && b) before
+    ∙ (and_swap (lets_pass (slice_index_or slots y None) s next) (lets_pass (slice_index_or slots x None) s next) (is_clear slots xs s next)
+    ∙ (ap (λ b. b && is_clear slots xs s next) (and_turn (lets_pass (slice_index_or slots y None) s next) (lets_pass (slice_index_or slots x None) s next))
+    ∙ sym (and_swap (lets_pass (slice_index_or slots x None) s next) (lets_pass (slice_index_or slots y None) s next) (is_clear slots xs s next))))
 
 -- Readiness.
 
@@ -121,7 +121,7 @@ conflicts_none (d ∷ older) x u e =
     rw one (conflicts_none older x u e)
 
 lets_is : (i : Loaded) (row : Row) (t u : ℕ) (d : Done) (older : List Done) (s : Station) (x : Step) → IsRow row → AreTimed row (d ∷ older) → AreIssuedBy t (d ∷ older) → u ≡ t + 1 → (is_memory d.step ≡ true → cycle_of d.at.address ≤ t)
-    → bytes_in s ≡ bytes_of x → is_store (step_in s) ≡ is_store x → lets (Some (station_of i (clocks t t t) d older)) s u ≡ (not (conflicts d.step x) || nat_lt d.at.finish u)
+    → bytes_in s ≡ bytes_of x → is_store (step_in s) ≡ is_store x → lets_pass (Some (station_of i (clocks t t t) d older)) s u ≡ (not (conflicts d.step x) || nat_lt d.at.finish u)
 lets_is i row t u d older s x good timed issued e l bytes store =
     let order : d.at.start ≤ d.at.finish = (reach row d older good timed).order in
     rw (bytes_are i row t d older timed issued l, bytes, store, before_is d.at.start d.at.finish t u e order) refl
@@ -154,7 +154,7 @@ held_at i row c st h newer d older good timed issued shown e l =
       slot = shown.slots (place_of_tag tag.0) small ∙ (ap (λ xs. station_at i c xs (place_of_tag tag.0)) e ∙ there);
     }
 
--- and in the order of ages
+-- and in issue order
 pub record IsSeen (i : Loaded) (t : ℕ) (st : Pools) (d : Done) (older : List Done) : Type 0 where
   pub x : ℕ
   pub place : place_of d ≡ Some x
@@ -188,7 +188,7 @@ clear_is i row t u st h newer (d ∷ older) s x good timed issued shown e f last
           rw (l, lt-ltb d.at.finish u (omega arith), or_right (not (conflicts d.step x)) true refl) rest
       | inl l ↦
           let at = seen i row t st h newer d older good timed issued shown e l in
-          let one : lets (slice_index_or st.slots at.x None) s u ≡ (not (conflicts d.step x) || nat_lt d.at.finish u) = ap (λ o. lets o s u) (at.slot) ∙ lets_is i row t u d older s x good part by f made bytes store in
+          let one : lets_pass (slice_index_or st.slots at.x None) s u ≡ (not (conflicts d.step x) || nat_lt d.at.finish u) = ap (λ o. lets_pass o s u) (at.slot) ∙ lets_is i row t u d older s x good part by f made bytes store in
           ap (λ xs. is_clear st.slots xs s u) at.order ∙ (clear-append st.slots (order_of t older) at.x s u ∙ rw (one, rest) refl)
     ]
 
@@ -354,7 +354,7 @@ no_pool_unit row d older timed e =
     no_option (step_unit d.step) (unit_with_pool d.step ∙ ap is_some pool)
 
 -- one step of a kind is served by the recurrence
-one_serves : (i : Loaded) (row : Row) (t u : ℕ) (st : Pools) (sets : List ℕ) (unit : UnitId) (h newer : List Done) (d : Done) (older : List Done) → IsRow row → AreTimed row h → AreIssuedBy t h → ShowsStations i (clocks t t t) h st → IsByAge st.busy st.ages (order_of t h) → AreReady st u sets → u ≡ t + 1 → h ≡ newer ++ (d ∷ older)
+one_serves : (i : Loaded) (row : Row) (t u : ℕ) (st : Pools) (sets : List ℕ) (unit : UnitId) (h newer : List Done) (d : Done) (older : List Done) → IsRow row → AreTimed row h → AreIssuedBy t h → ShowsStations i (clocks t t t) h st → IsInIssueOrder st.busy st.issue_numbers (order_of t h) → AreReady st u sets → u ≡ t + 1 → h ≡ newer ++ (d ∷ older)
     → Serves t (option_of row unit).units (slice_index sets (place_of_unit unit)) (starts_of unit u) d older
 one_serves i row t u st sets unit h newer d older good timed issued shown by ready f e =
     let part : AreTimed row (d ∷ older) = timed_part row newer (d ∷ older) (rw e at timed) in
@@ -381,7 +381,7 @@ one_serves i row t u st sets unit h newer d older good timed issued shown by rea
     no_unit : (o : Option UnitId) → o ≡ None → (is_of unit o && (d.at.start == u)) ≡ false
     no_unit o e = rw e refl
 
-all_serve : (i : Loaded) (row : Row) (t u : ℕ) (st : Pools) (sets : List ℕ) (unit : UnitId) (h newer part : List Done) → IsRow row → AreTimed row h → AreIssuedBy t h → ShowsStations i (clocks t t t) h st → IsByAge st.busy st.ages (order_of t h) → AreReady st u sets → u ≡ t + 1 → h ≡ newer ++ part
+all_serve : (i : Loaded) (row : Row) (t u : ℕ) (st : Pools) (sets : List ℕ) (unit : UnitId) (h newer part : List Done) → IsRow row → AreTimed row h → AreIssuedBy t h → ShowsStations i (clocks t t t) h st → IsInIssueOrder st.busy st.issue_numbers (order_of t h) → AreReady st u sets → u ≡ t + 1 → h ≡ newer ++ part
     → AreServed t (option_of row unit).units (slice_index sets (place_of_unit unit)) (starts_of unit u) part
 all_serve i row t u st sets unit h newer [] good timed issued shown by ready f e = tt
 all_serve i row t u st sets unit h newer (d ∷ older) good timed issued shown by ready f e = (
@@ -430,12 +430,12 @@ five (a ∷ b ∷ c ∷ d ∷ e ∷ []) x count = refl
 five _ x count = absurd (omega arith)
 
 -- the places that start are those whose steps start
-pub starting_is : (i : Loaded) (row : Row) (t u x : ℕ) (st : Pools) (h : List Done) (starting : ℕ) → IsRow row → AreTimed row h → AreIssuedBy t h → ShowsStations i (clocks t t t) h st → AreBusy st.slots st.busy st.ages → IsStarting row st u starting → u ≡ t + 1 → x < 128
+pub starting_is : (i : Loaded) (row : Row) (t u x : ℕ) (st : Pools) (h : List Done) (starting : ℕ) → IsRow row → AreTimed row h → AreIssuedBy t h → ShowsStations i (clocks t t t) h st → AreBusy st.slots st.busy st.issue_numbers → IsStarting row st u starting → u ≡ t + 1 → x < 128
     → has starting x ≡ starts_at t u h x
 starting_is i row t u x st h starting good timed issued shown filled begins e l =
     let more : AreIssuedBy (t + 1) h = issued_more t (t + 1) h (omega arith) issued in
-    let by : IsByAge st.busy st.ages (order_of t h) = order_is i row (clocks t t t) h st good timed more shown filled in
+    let by : IsInIssueOrder st.busy st.issue_numbers (order_of t h) = order_is i row (clocks t t t) h st good timed more shown filled in
     let kind : (unit : UnitId) → has (slice_index begins.kinds (place_of_unit unit)) x ≡ goes_at t (starts_of unit u) h x = λ unit.
-    picked_goes t (option_of row unit).units st.busy (slice_index begins.ready (place_of_unit unit)) (slice_index begins.kinds (place_of_unit unit)) st.ages (starts_of unit u) h by (begins.are_ready unit).inside (begins.units unit)
+    picked_goes t (option_of row unit).units st.busy (slice_index begins.ready (place_of_unit unit)) (slice_index begins.kinds (place_of_unit unit)) st.issue_numbers (starts_of unit u) h by (begins.are_ready unit).inside (begins.units unit)
     (all_serve i row t u st begins.ready unit h [] h good timed issued shown by begins.are_ready e refl) (all_alone row t (starts_of unit u) h good timed more) x l in
     begins.all x l ∙ (five begins.kinds x begins.count ∙ (rw (kind units.Alu, kind units.Mul, kind units.Div, kind units.Mem, kind units.Bru) (kinds_at t u h x)))

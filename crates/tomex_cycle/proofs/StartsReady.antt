@@ -5,7 +5,7 @@ use Rattle.std.proofs.lemmas.Bool.{cases_Bool, both_ways, and_parts, eqb-true, e
 use Rattle.tomex_rvexec.specs.Steps.{bytes_at, is_in, is_number}
 use Rattle.tomex_rvexec.proofs.FlowFields.{bytes_of_op}
 use Rattle.tomex_bus.specs.Sets.{has, IsWith, IsWithout}
-use Rattle.tomex_bus.specs.Picks.{IsByAge, IsPicked}
+use Rattle.tomex_bus.specs.Picks.{IsInIssueOrder, IsPicked}
 use Rattle.tomex_config.specs.Row.{Row, option_of}
 use Rattle.tomex_rvdec.specs.Operands.{pool_of, unit_at, unit_of}
 use Rattle.tomex_rvdec.specs.Parts.{place_of_unit}
@@ -18,11 +18,11 @@ use Rattle.tomex_bus.proofs.Bits.{none_in}
 use Rattle.tomex_bus.proofs.Members.{inside_left, none_rest}
 use Rattle.tomex_bus.proofs.Picking.{none_picked, single_picked}
 use Rattle.tomex_membuf.proofs.Older.{no_option}
-use Rattle.tomex_cycle.proofs.ByAge.{no_access}
-use Rattle.tomex_tags.proofs.Filing.{is_standing}
+use Rattle.tomex_cycle.proofs.IssueOrder.{no_access}
+use Rattle.tomex_tags.proofs.Entering.{is_busy_there}
 use Rattle.tomex_tags.specs.Contents.{bytes_from, is_memory_op, is_ready, is_waiting}
 use Rattle.tomex_tags.specs.Pools.{AreBusy, Pools}
-use Rattle.tomex_tags.specs.Standing.{IsSetOf, has_address, waits, waits_for}
+use Rattle.tomex_tags.specs.WaitSets.{IsSetOf, has_address, waits, waits_for}
 use Rattle.tomex_tags.specs.declared.station.Station.{Station}
 use Rattle.tomex_cycle.specs.Starts.{AreReady, AreReadyFor, IsStarting, IsWanted, is_clear, kind_if, kind_of, wanted}
 use Rattle.tomex_cycle.proofs.StartsPicked.{unit_same}
@@ -103,9 +103,9 @@ none_clear st next waiting rest left p clear so small member without wants = rec
 none_waits : (unit : UnitId) → waits_for unit None ≡ false
 none_waits unit = refl
 
-pub all_cleared : (st : Pools) (next waiting rest clear : ℕ) → AreBusy st.slots st.busy st.ages → IsSetOf (waits_for units.Mem) st.slots waiting → AreCleared st next waiting rest clear → rest ≡ 0 → AreReadyFor st next units.Mem clear
+pub all_cleared : (st : Pools) (next waiting rest clear : ℕ) → AreBusy st.slots st.busy st.issue_numbers → IsSetOf (waits_for units.Mem) st.slots waiting → AreCleared st next waiting rest clear → rest ≡ 0 → AreReadyFor st next units.Mem clear
 all_cleared st next waiting rest clear filled of so empty = record {
-  inside = λ x l e. is_standing (waits_for units.Mem) st.slots st.busy st.ages waiting (none_waits units.Mem) filled of x l (so.found x l e);
+  inside = λ x l e. is_busy_there (waits_for units.Mem) st.slots st.busy st.issue_numbers waiting (none_waits units.Mem) filled of x l (so.found x l e);
   wants = λ x l. so.wants x l (none_rest rest x empty);
 }
 
@@ -131,11 +131,11 @@ addressed_one s w =
     rw memory (rw memory at address)
 
 -- all that wait are clear, where each of them is
-pub all_waiting : (st : Pools) (next waiting : ℕ) → AreBusy st.slots st.busy st.ages → IsSetOf (waits_for units.Mem) st.slots waiting
-    → ((place next : ℕ) (s : Station) (older younger : List ℕ) → place < 128 → slice_index_or st.slots place None ≡ Some s → has_address (Some s) ≡ true → IsByAge st.busy st.ages (older ++ (place ∷ younger)) → is_clear st.slots older s next ≡ true)
+pub all_waiting : (st : Pools) (next waiting : ℕ) → AreBusy st.slots st.busy st.issue_numbers → IsSetOf (waits_for units.Mem) st.slots waiting
+    → ((place next : ℕ) (s : Station) (older younger : List ℕ) → place < 128 → slice_index_or st.slots place None ≡ Some s → has_address (Some s) ≡ true → IsInIssueOrder st.busy st.issue_numbers (older ++ (place ∷ younger)) → is_clear st.slots older s next ≡ true)
     → AreReadyFor st next units.Mem waiting
 all_waiting st next waiting filled of clear = record {
-  inside = is_standing (waits_for units.Mem) st.slots st.busy st.ages waiting (none_waits units.Mem) filled of;
+  inside = is_busy_there (waits_for units.Mem) st.slots st.busy st.issue_numbers waiting (none_waits units.Mem) filled of;
   wants = λ x l older younger by. of x l ∙ elim (cases_Bool (waits_for units.Mem (slice_index_or st.slots x None))) [
     | inr e ↦ e ∙ sym (wants_not st.slots older next units.Mem (slice_index_or st.slots x None) e)
     | inl e ↦ e ∙ wants_clear st.slots older next units.Mem (slice_index_or st.slots x None) true e (λ s here. sym (clear x next s older younger l here (addressed_one s (ap (waits_for units.Mem) (sym here) ∙ e)) by))
@@ -166,16 +166,16 @@ wants_unit slots older next unit (Some s) apart = elim (cases_Bool (waits_for un
   | inl e ↦ e ∙ sym (one_kind (is_waiting s) (is_clear slots older s next) (unit_of s.instr.op) unit e ∙ clear_of slots older next unit s apart e)
 ]
 
-pub ready_for : (st : Pools) (next set : ℕ) (unit : UnitId) → AreBusy st.slots st.busy st.ages → IsSetOf (waits_for unit) st.slots set → unit ≢ units.Mem → AreReadyFor st next unit set
+pub ready_for : (st : Pools) (next set : ℕ) (unit : UnitId) → AreBusy st.slots st.busy st.issue_numbers → IsSetOf (waits_for unit) st.slots set → unit ≢ units.Mem → AreReadyFor st next unit set
 ready_for st next set unit filled of apart = record {
-  inside = is_standing (waits_for unit) st.slots st.busy st.ages set (none_waits unit) filled of;
+  inside = is_busy_there (waits_for unit) st.slots st.busy st.issue_numbers set (none_waits unit) filled of;
   wants = λ x l older younger by. of x l ∙ wants_unit st.slots older next unit (slice_index_or st.slots x None) apart;
 }
 
 -- all that wait for a unit of a kind, where at most one operation waits
-pub single_of : (unit : UnitId) (slots : List (Option Station)) (waiting set n : ℕ) (ages : List ℕ) → ((a b : ℕ) → a < 128 → b < 128 → has waiting a ≡ true → has waiting b ≡ true → a ≡ b) → IsSetOf waits slots waiting → 0 < n
-    → ((x : ℕ) → x < 128 → has set x ≡ true → waits_for unit (slice_index_or slots x None) ≡ true) → IsPicked set ages n set
-single_of unit slots waiting set n ages single are some wait = single_picked set n ages some (λ a b l m e f. single a b l m (among a l e) (among b m f))
+pub single_of : (unit : UnitId) (slots : List (Option Station)) (waiting set n : ℕ) (issue_numbers : List ℕ) → ((a b : ℕ) → a < 128 → b < 128 → has waiting a ≡ true → has waiting b ≡ true → a ≡ b) → IsSetOf waits slots waiting → 0 < n
+    → ((x : ℕ) → x < 128 → has set x ≡ true → waits_for unit (slice_index_or slots x None) ≡ true) → IsPicked set issue_numbers n set
+single_of unit slots waiting set n issue_numbers single are some wait = single_picked set n issue_numbers some (λ a b l m e f. single a b l m (among a l e) (among b m f))
   where
     waits_too : (o : Option Station) → waits_for unit o ≡ true → waits o ≡ true
     waits_too None e = e
@@ -193,7 +193,7 @@ found_waiting st next waiting rest clear of so x l e = sym (of x l) ∙ so.found
 -- the oldest of each kind together
 pub are_starting : (row : Row) (st : Pools) (next : ℕ) (ra rb rc rd re a b c d e all : ℕ)
     → AreReadyFor st next units.Alu ra → AreReadyFor st next units.Mul rb → AreReadyFor st next units.Div rc → AreReadyFor st next units.Mem rd → AreReadyFor st next units.Bru re
-    → IsPicked ra st.ages (option_of row units.Alu).units a → IsPicked rb st.ages (option_of row units.Mul).units b → IsPicked rc st.ages (option_of row units.Div).units c → IsPicked rd st.ages (option_of row units.Mem).units d → IsPicked re st.ages (option_of row units.Bru).units e
+    → IsPicked ra st.issue_numbers (option_of row units.Alu).units a → IsPicked rb st.issue_numbers (option_of row units.Mul).units b → IsPicked rc st.issue_numbers (option_of row units.Div).units c → IsPicked rd st.issue_numbers (option_of row units.Mem).units d → IsPicked re st.issue_numbers (option_of row units.Bru).units e
     → ((x : ℕ) → has all x ≡ (has a x || (has b x || (has c x || (has d x || has e x))))) → IsStarting row st next all
 are_starting row st next ra rb rc rd re a b c d e all is_alu is_mul is_div is_mem is_bru alu mul div mem bru together = record {
   ready = ra ∷ rb ∷ rc ∷ rd ∷ re ∷ [];
@@ -215,7 +215,7 @@ are_starting row st next ra rb rc rd re a b c d e all is_alu is_mul is_div is_me
     kinds units.Mem = is_mem
     kinds units.Bru = is_bru
 
-    each : (unit : UnitId) → IsPicked (slice_index (ra ∷ rb ∷ rc ∷ rd ∷ re ∷ []) (place_of_unit unit)) st.ages (option_of row unit).units (slice_index (a ∷ b ∷ c ∷ d ∷ e ∷ []) (place_of_unit unit))
+    each : (unit : UnitId) → IsPicked (slice_index (ra ∷ rb ∷ rc ∷ rd ∷ re ∷ []) (place_of_unit unit)) st.issue_numbers (option_of row unit).units (slice_index (a ∷ b ∷ c ∷ d ∷ e ∷ []) (place_of_unit unit))
     each units.Alu = alu
     each units.Mul = mul
     each units.Div = div
@@ -223,12 +223,12 @@ are_starting row st next ra rb rc rd re a b c d e all is_alu is_mul is_div is_me
     each units.Bru = bru
 
 -- where nothing waits, nothing starts
-pub none_starts : (row : Row) (st : Pools) (next waiting : ℕ) → AreBusy st.slots st.busy st.ages → IsSetOf waits st.slots waiting → waiting ≡ 0 → IsStarting row st next 0
+pub none_starts : (row : Row) (st : Pools) (next waiting : ℕ) → AreBusy st.slots st.busy st.issue_numbers → IsSetOf waits st.slots waiting → waiting ≡ 0 → IsStarting row st next 0
 none_starts row st next waiting filled of empty =
     are_starting row st next 0 0 0 0 0 0 0 0 0 0 0
     (ready_for st next 0 units.Alu filled (none_for units.Alu) (λ e. absurd (cc))) (ready_for st next 0 units.Mul filled (none_for units.Mul) (λ e. absurd (cc))) (ready_for st next 0 units.Div filled (none_for units.Div) (λ e. absurd (cc)))
     (all_cleared st next 0 0 0 filled (none_for units.Mem) (first_cleared st next 0 (none_for units.Mem)) refl) (ready_for st next 0 units.Bru filled (none_for units.Bru) (λ e. absurd (cc)))
-    (none_picked 0 _ st.ages refl) (none_picked 0 _ st.ages refl) (none_picked 0 _ st.ages refl) (none_picked 0 _ st.ages refl) (none_picked 0 _ st.ages refl) (λ x. rw (none_in x) refl)
+    (none_picked 0 _ st.issue_numbers refl) (none_picked 0 _ st.issue_numbers refl) (none_picked 0 _ st.issue_numbers refl) (none_picked 0 _ st.issue_numbers refl) (none_picked 0 _ st.issue_numbers refl) (λ x. rw (none_in x) refl)
   where
     none_too : (unit : UnitId) (o : Option Station) → waits o ≡ false → waits_for unit o ≡ false
     none_too unit None e = refl

@@ -9,7 +9,7 @@ use Rattle.tomex_rvexec.specs.Memory.{Bytes}
 use Rattle.tomex_rvexec.specs.Steps.{bytes_of}
 use Rattle.tomex_cycle.specs.Starts.{AllInside, HaveStored, stored_at, written_by, AreLow}
 use Rattle.tomex_tags.specs.Contents.{step_in}
-use Rattle.tomex_tags.specs.Standing.{IsSetOf, holds_store}
+use Rattle.tomex_tags.specs.WaitSets.{IsSetOf, holds_store}
 use Rattle.tomex_tags.specs.declared.station.Station.{Station}
 use Rattle.tomex_bus.specs.Sets.{has, IsWithout}
 use Rattle.tomex_bus.proofs.Members.{AreFrom, all_left, least_from, least_in, left_from, none_after, none_between, skip_to}

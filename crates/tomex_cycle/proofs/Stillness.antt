@@ -11,7 +11,7 @@ use Rattle.tomex_rvexec.specs.Steps.{address_of, is_branch, is_number, step_pool
 use Rattle.tomex_timing.specs.declared.times.Done.{Done}
 use Rattle.tomex_timing.specs.History.{cycle_of, is_memory, last_address, source_end}
 use Rattle.tomex_timing.specs.Recurrence.{AreTimed, IsTimed, IsLeast, are_conflicts_finished, can_address, can_issue, can_start, has_operands, has_unit}
-use Rattle.tomex_cycle.specs.Calm.{AllCalm, IsCalm}
+use Rattle.tomex_cycle.specs.Quiet.{AllQuiet, IsQuiet}
 use Rattle.tomex_cycle.specs.Ends.{finishes}
 use Rattle.tomex_cycle.specs.Finishes.{AreResults}
 use Rattle.tomex_cycle.specs.Run.{AreIssuedBy}
@@ -27,7 +27,7 @@ use Rattle.tomex_cycle.proofs.StartsPicked.{held_at, ready_is, seen}
 use Rattle.tomex_cycle.proofs.Totals.{issued_more, reach}
 use Rattle.tomex_tags.specs.Contents.{is_waiting}
 use Rattle.tomex_tags.specs.Pools.{Pools}
-use Rattle.tomex_tags.specs.Standing.{waits, writes}
+use Rattle.tomex_tags.specs.WaitSets.{waits, writes}
 use Rattle.tomex_tags.specs.declared.station.Station.{Station}
 
 some_not_none : {A : Type 0} (x : A) → Some x ≡ None → ⊥
@@ -136,7 +136,7 @@ waits_before i row u d older timed issued e = of (step_unit d.step) timed.0.star
         let ops = and_parts (nat_lt (source_end older (j_of d.step)) (u + 1)) (nat_lt (source_end older (k_of d.step)) (u + 1)) r.1 in
         ready_is i row u (u + 1) d older timed issued refl ∙ and_from _ _ (and_from _ _ (and_from _ _ (lt-ltb u d.at.start (omega arith)) ops.0) ops.1) two.1
 
-over_calm : (row : Row) (t u : ℕ) (d : Done) (older : List Done) → IsRow row → AreTimed row (d ∷ older) → d.at.end ≤ t → u ≡ t + 1 → IsCalm u d
+over_calm : (row : Row) (t u : ℕ) (d : Done) (older : List Done) → IsRow row → AreTimed row (d ∷ older) → d.at.end ≤ t → u ≡ t + 1 → IsQuiet u d
 over_calm row t u d older good timed over e =
     let still : IsStill u d = over_still row t u d older good timed over e in
     let start : d.at.start ≤ d.at.end = (reach row d older good timed).start in
@@ -145,7 +145,7 @@ over_calm row t u d older good timed over e =
 
 -- a busy step, where all but starts leave its station as it was, and none waits
 busy_calm : (i : Loaded) (row : Row) (t u : ℕ) (mid new : Pools) (h newer : List Done) (d : Done) (older : List Done) → IsRow row → AreTimed row h → AreIssuedBy t h → u ≡ t + 1 → ShowsStations i (clocks u t t) h mid → ShowsStations i (clocks u u u) h new → new.slots ≡ mid.slots
-    → ((x : ℕ) → x < 96 → finishes u (slice_index_or new.slots x None) ≡ false) → NoneWaits new.slots → h ≡ newer ++ (d ∷ older) → nat_lt t d.at.end ≡ true → IsCalm u d
+    → ((x : ℕ) → x < 96 → finishes u (slice_index_or new.slots x None) ≡ false) → NoneWaits new.slots → h ≡ newer ++ (d ∷ older) → nat_lt t d.at.end ≡ true → IsQuiet u d
 busy_calm i row t u mid new h newer d older good timed issued e before after same free idle split late =
     let here : AreTimed row (newer ++ (d ∷ older)) = rw split at timed in
     let by : AreIssuedBy (t + 1) (newer ++ (d ∷ older)) = rw split at (issued_more t (t + 1) h (omega arith) issued) in
@@ -172,10 +172,10 @@ busy_calm i row t u mid new h newer d older good timed issued e before after sam
     ]
 
 pub issued_calm : (i : Loaded) (row : Row) (t u : ℕ) (mid new : Pools) (h newer part : List Done) → IsRow row → AreTimed row h → AreIssuedBy t h → u ≡ t + 1 → ShowsStations i (clocks u t t) h mid → ShowsStations i (clocks u u u) h new → new.slots ≡ mid.slots
-    → ((x : ℕ) → x < 96 → finishes u (slice_index_or new.slots x None) ≡ false) → NoneWaits new.slots → h ≡ newer ++ part → AllCalm u part
+    → ((x : ℕ) → x < 96 → finishes u (slice_index_or new.slots x None) ≡ false) → NoneWaits new.slots → h ≡ newer ++ part → AllQuiet u part
 issued_calm i row t u mid new h newer [] good timed issued e before after same free idle split = tt
 issued_calm i row t u mid new h newer (d ∷ older) good timed issued e before after same free idle split =
-    let one : IsCalm u d = elim (cases_Bool (nat_lt t d.at.end)) [
+    let one : IsQuiet u d = elim (cases_Bool (nat_lt t d.at.end)) [
       | inl l ↦ busy_calm i row t u mid new h newer d older good timed issued e before after same free idle split l
       | inr l ↦ over_calm row t u d older good (timed_part row newer (d ∷ older) (rw split at timed)) (ltb-false t d.at.end l) e
     ] in
@@ -200,10 +200,10 @@ start_apart row d older u None timed late apart e = let same : d.at.start ≡ d.
 start_apart row d older u (Some k) timed late apart e = let l : d.at.issue < d.at.start = can_start_later row d older k d.at.start timed.0 in omega arith
 
 -- what issues later has nothing before, and doesn't issue in the next cycle
-pub later_calm : (row : Row) (u : ℕ) (newer h : List Done) → IsRow row → AreTimed row (newer ++ h) → AreLater u newer → 0 < u → AllCalm u h → AllCalm u (newer ++ h)
+pub later_calm : (row : Row) (u : ℕ) (newer h : List Done) → IsRow row → AreTimed row (newer ++ h) → AreLater u newer → 0 < u → AllQuiet u h → AllQuiet u (newer ++ h)
 later_calm row u [] h good timed later low calm = calm
 later_calm row u (d ∷ newer) h good timed later low calm =
-    let older : AllCalm u (newer ++ h) = later_calm row u newer h good timed.1 later.1 low calm in
+    let older : AllQuiet u (newer ++ h) = later_calm row u newer h good timed.1 later.1 low calm in
     let l : u < d.at.issue = later.0 in
     let apart : d.at.issue ≢ u + 1 = not_least (can_issue row (newer ++ h) d.step) d.at.issue u (issue_still row u (newer ++ h) d.step low good timed.1 (calm_rests u (newer ++ h) older) (last_issue_calm u (newer ++ h) older)) timed.0.issue in
     let s : d.at.issue ≤ d.at.start = start_after row d (newer ++ h) (step_unit d.step) timed.0.start in

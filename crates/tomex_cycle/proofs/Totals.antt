@@ -28,7 +28,7 @@ use Rattle.tomex_cycle.specs.Views.{clocks, order_of, onto_end, place_of, fetch_
 use Rattle.tomex_rvexec.specs.History.{step_after}
 use Rattle.tomex_rvexec.proofs.FlowEnds.{step_goes_on, step_ends_it}
 use Rattle.tomex_cycle.specs.Phases.{is_done, IsIssuedTo, IsYetToIssue}
-use Rattle.tomex_bus.specs.Picks.{IsByAge}
+use Rattle.tomex_bus.specs.Picks.{IsInIssueOrder}
 use Rattle.tomex_tags.specs.Pools.{AreBusy}
 use Rattle.tomex_cycle.proofs.Orders.{empty_order, empty_set, order_is}
 use Rattle.tomex_cycle.proofs.Runs.{rest_to, run_next, run_none, run_timed, step_is, AreLater, next_done}
@@ -156,7 +156,7 @@ issued_more t u (d ∷ older) l issued = ((let k : d.at.issue ≤ t = issued.0 i
 
 -- the test that the machine makes
 pub done_is : (row : Row) (i : Loaded) (n t count : ℕ) (s : State) (kind : EndKind) (stations : Pools) (registers : RegStatus) (fetch : Fetch) → IsRow row → IsLoaded i.window i.memory i.entry → RunEnds i n s kind
-    → IsIssuedTo i row n t (clocks t t t) count stations registers fetch → AreBusy stations.slots stations.busy stations.ages → is_done fetch stations.busy ≡ not (nat_lt t (greatest_end (run_to row i (n + 1))))
+    → IsIssuedTo i row n t (clocks t t t) count stations registers fetch → AreBusy stations.slots stations.busy stations.issue_numbers → is_done fetch stations.busy ≡ not (nat_lt t (greatest_end (run_to row i (n + 1))))
 done_is row i n t count s kind stations registers (At pc) good loaded ends shown filled = rw (lt-ltb t (greatest_end (run_to row i (n + 1))) (not_stopped row i n t count s kind stations registers (At pc) good loaded ends shown (λ end pc e. cc))) refl
 done_is row i n t count s kind stations registers Waits good loaded ends shown filled = rw (lt-ltb t (greatest_end (run_to row i (n + 1))) (not_stopped row i n t count s kind stations registers Waits good loaded ends shown (λ end pc e. cc))) refl
 done_is row i n t count s kind stations registers (Stopped end pc) good loaded ends shown filled =
@@ -170,7 +170,7 @@ done_is row i n t count s kind stations registers (Stopped end pc) good loaded e
           rw (e, le-ltb t (greatest_end (run_to row i (n + 1))) l) refl
       | inr e ↦
           let l : t < greatest_end (run_to row i (n + 1)) = still_busy row i n t count s kind stations registers (Stopped end pc) good ends shown (λ z.
-          let by : IsByAge stations.busy stations.ages [] = rw z at (order_is i row (clocks t t t) h stations good timed issued shown.slots filled) in
-          eqb-false _ _ e (empty_set stations.busy stations.ages filled.small by)) in
+          let by : IsInIssueOrder stations.busy stations.issue_numbers [] = rw z at (order_is i row (clocks t t t) h stations good timed issued shown.slots filled) in
+          eqb-false _ _ e (empty_set stations.busy stations.issue_numbers filled.small by)) in
           rw (e, lt-ltb t (greatest_end (run_to row i (n + 1))) l) refl
     ]

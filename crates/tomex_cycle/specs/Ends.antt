@@ -6,7 +6,7 @@ use Rattle.tomex_rvexec.specs.Steps.{is_number}
 use Rattle.tomex_timing.specs.Tables.{field_from}
 use Rattle.tomex_bus.specs.Sets.{has}
 use Rattle.tomex_bus.specs.Picks.{IsPicked}
-use Rattle.tomex_tags.specs.Contents.{hears, step_in}
+use Rattle.tomex_tags.specs.Contents.{hears, slot, step_in}
 use Rattle.tomex_tags.specs.Operands.{heard}
 use Rattle.tomex_tags.specs.Pools.{Pools}
 use Rattle.tomex_tags.specs.Registers.{names}
@@ -27,21 +27,22 @@ is_done_before t (Some finish) = nat_lt finish t
 
 -- what has nothing to send ends as it finishes
 abbrev pub ends_alone : ℕ → Option Station → Bool
-ends_alone next None = false
-ends_alone next (Some s) = not (is_some (dest_of s.instr)) && is_done_by next s.finish
+ends_alone cycle None = false
+ends_alone cycle (Some s) = not (is_some (dest_of s.instr)) && is_done_by cycle s.finish
 
 -- a result is ready to be sent
 abbrev pub can_send : ℕ → Option Station → Bool
-can_send next None = false
-can_send next (Some s) = is_some (dest_of s.instr) && is_done_before next s.finish
+can_send cycle None = false
+can_send cycle (Some s) = is_some (dest_of s.instr) && is_done_before cycle s.finish
 
--- of the results that are ready the oldest are sent, as many as there are buses; what has nothing to send ends as it finishes
-pub record AreEnding (st : Pools) (buses next ending : ℕ) : Type 0 where
+-- of the results that are ready the oldest are sent, as many as there are buses; what has nothing to send
+-- ends as it finishes
+pub record AreEnding (st : Pools) (buses cycle ending : ℕ) : Type 0 where
   pub ready : ℕ
   pub sending : ℕ
-  pub are_ready : (x : ℕ) → x < 128 → has ready x ≡ (has st.busy x && can_send next (slice_index_or st.slots x None))
-  pub sent : IsPicked ready st.ages buses sending
-  pub all : (x : ℕ) → x < 128 → has ending x ≡ (has sending x || (has st.busy x && ends_alone next (slice_index_or st.slots x None)))
+  pub are_ready : (x : ℕ) → x < 128 → has ready x ≡ (has st.busy x && can_send cycle (slot st.slots x))
+  pub sent : IsPicked ready st.issue_numbers buses sending
+  pub all : (x : ℕ) → x < 128 → has ending x ≡ (has sending x || (has st.busy x && ends_alone cycle (slot st.slots x)))
 
 abbrev pub after_ends : Bool → (ℕ → Option ℕ) → Option Station → Option Station
 after_ends ended sent s = if ended then None else option_map (hears sent) s
@@ -53,13 +54,13 @@ sends_of (Some s) = if is_some (dest_of s.instr) then Some s.value else None
 
 -- what the picked places below n send
 abbrev pub sent_below : List (Option Station) → ℕ → ℕ → ℕ → Option ℕ
-sent_below slots picked n y = if nat_lt y n && has picked y then sends_of (slice_index_or slots y None) else None
+sent_below slots picked n y = if nat_lt y n && has picked y then sends_of (slot slots y) else None
 
 -- stations after the ends of these places, and what is sent
 pub record AreEnded (ended : ℕ → Bool) (sent : ℕ → Option ℕ) (old new : Pools) : Type 0 where
   pub places : length new.slots ≡ 96
-  pub slots : (x : ℕ) → x < 96 → slice_index_or new.slots x None ≡ after_ends (ended x) sent (slice_index_or old.slots x None)
-  pub ages : new.ages ≡ old.ages
+  pub slots : (x : ℕ) → x < 96 → slot new.slots x ≡ after_ends (ended x) sent (slot old.slots x)
+  pub issue_numbers : new.issue_numbers ≡ old.issue_numbers
 
 abbrev pub EndsIn : (ℕ → Bool) → (ℕ → Option ℕ) → Pools → Pools → Type 0
 EndsIn ended sent old new = length old.slots ≡ 96 → AreEnded ended sent old new
@@ -68,19 +69,21 @@ EndsIn ended sent old new = length old.slots ≡ 96 → AreEnded ended sent old 
 pub record HaveReceived (sent : ℕ → Option ℕ) (old new : RegStatus) : Type 0 where
   pub count : length new.values ≡ 32
   pub status : length new.tags ≡ 32
-  pub fields : (r : ℕ) → r < 32 → field_from (slice_index new.values r) (slice_index_or new.tags r None) ≡ heard sent (field_from (slice_index old.values r) (slice_index_or old.tags r None))
+  pub fields : (r : ℕ) → r < 32
+      → field_from (slice_index new.values r) (slice_index_or new.tags r None)
+      ≡ heard sent (field_from (slice_index old.values r) (slice_index_or old.tags r None))
 
 abbrev pub Hears : (ℕ → Option ℕ) → RegStatus → RegStatus → Type 0
 Hears sent old new = length old.values ≡ 32 → length old.tags ≡ 32 → HaveReceived sent old new
 
 -- the unit is done in the cycle
 abbrev pub finishes : ℕ → Option Station → Bool
-finishes next None = false
-finishes next (Some s) = is_number s.finish next
+finishes cycle None = false
+finishes cycle (Some s) = is_number s.finish cycle
 
 -- the set is of the places whose units are done in the cycle
 abbrev pub AreDone : List (Option Station) → ℕ → ℕ → Type 0
-AreDone slots next due = (x : ℕ) → x < 128 → has due x ≡ finishes next (slice_index_or slots x None)
+AreDone slots cycle due = (x : ℕ) → x < 128 → has due x ≡ finishes cycle (slot slots x)
 
 -- the next pc after what a place holds
 abbrev pub target_in : Option Station → ℕ
@@ -89,19 +92,21 @@ target_in (Some s) = next_pc_of (step_in s)
 
 abbrev pub after_branch : List (Option Station) → Option ℕ → Fetch
 after_branch slots None = from.Waits
-after_branch slots (Some x) = from.At (target_in (slice_index_or slots x None))
+after_branch slots (Some x) = from.At (target_in (slot slots x))
 
 -- the place of a branch that is done in the cycle, if any
 abbrev pub IsDoneBranch : ℕ → List (Option Station) → Option ℕ → Type 0
-IsDoneBranch next slots None = (x : ℕ) → 80 ≤ x → x < 96 → finishes next (slice_index_or slots x None) ≡ false
-IsDoneBranch next slots (Some x) = (80 ≤ x) × (x < 96) × (finishes next (slice_index_or slots x None) ≡ true)
+IsDoneBranch cycle slots None = (x : ℕ) → 80 ≤ x → x < 96 → finishes cycle (slot slots x) ≡ false
+IsDoneBranch cycle slots (Some x) = (80 ≤ x) × (x < 96) × (finishes cycle (slot slots x) ≡ true)
 
 -- a branch that is awaited and done gives the next pc
 abbrev pub Follows : ℕ → List (Option Station) → Fetch → Fetch → Type 0
-Follows next slots (from.At pc) result = result ≡ from.At pc
-Follows next slots from.Waits result = (found : Option ℕ) × IsDoneBranch next slots found × (result ≡ after_branch slots found)
-Follows next slots (from.Stopped kind pc) result = result ≡ from.Stopped kind pc
+Follows cycle slots (from.At pc) result = result ≡ from.At pc
+Follows cycle slots from.Waits result =
+    (found : Option ℕ) × IsDoneBranch cycle slots found × (result ≡ after_branch slots found)
+Follows cycle slots (from.Stopped kind pc) result = result ≡ from.Stopped kind pc
 
 -- each Qi names a station whose destination is that register
 abbrev pub AreNamed : List (Option Station) → RegStatus → Type 0
-AreNamed slots registers = (r x : ℕ) → r < 32 → names registers r x ≡ true → (s : Station) → slice_index_or slots x None ≡ Some s → dest_of s.instr ≡ Some r
+AreNamed slots registers =
+    (r x : ℕ) → r < 32 → names registers r x ≡ true → (s : Station) → slot slots x ≡ Some s → dest_of s.instr ≡ Some r

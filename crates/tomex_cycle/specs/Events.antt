@@ -1,4 +1,5 @@
--- What happens in a cycle: an instruction's issue, address, start, finish and end are one event each, also where they fall in one cycle.
+-- What happens in a cycle: an instruction's issue, address, start, finish and end are one event each, also
+-- where they fall in one cycle.
 use Rattle.std.specs.Prelude.{ℕ, zero, suc, ◌+◌, ◌*◌, ◌≤◌, ◌<◌, ◌≡◌, ◌⊎◌, ◌==◌, if◌then◌else◌, List, [], ◌∷◌}
 use Rattle.tomex_timing.specs.declared.times.Done.{Done}
 use Rattle.tomex_timing.specs.declared.times.Times.{Times}
@@ -10,7 +11,9 @@ falls_in t a = if a == t then 1 else 0
 
 -- how many events of an instruction fall in the cycle
 abbrev pub events_of : ℕ → Times → ℕ
-events_of t at = falls_in t at.issue + falls_in t (cycle_of at.address) + falls_in t at.start + falls_in t at.finish + falls_in t at.end
+events_of t at =
+    falls_in t at.issue + falls_in t (cycle_of at.address) + falls_in t at.start + falls_in t at.finish
+    + falls_in t at.end
 
 -- how many of a run
 abbrev pub events_in : ℕ → List Done → ℕ
@@ -35,11 +38,13 @@ pub record IsCounted (h : List Done) (from to before after : ℕ) : Type 0 where
 
 -- one cycle is made, and those after it are passed: nothing happens in them, and where nothing happens in the
 -- one that is made, the next one is at the bound, or something happens in it
-pub record Passes (h : List Done) (to from now : ℕ) : Type 0 where
+pub record SkipsTo (h : List Done) (to from now : ℕ) : Type 0 where
   pub on : from + 1 ≤ now
   pub idle : (k : ℕ) → from + 1 < k → k ≤ now → events_in k h ≡ 0
   pub pays : (0 < events_in (from + 1) h) ⊎ ((to ≤ now) ⊎ (0 < events_in (now + 1) h))
 
 -- so once, or twice, with what the count of cycles that are made was before and is after it
 abbrev pub GoesOn : List Done → (to from now before after : ℕ) → Type 0
-GoesOn h to from now before after = ((after ≡ before + 1) × Passes h to from now) ⊎ ((between : ℕ) × (between < to) × (after ≡ before + 2) × Passes h to from between × Passes h to between now)
+GoesOn h to from now before after =
+    ((after ≡ before + 1) × SkipsTo h to from now)
+    ⊎ ((between : ℕ) × (between < to) × (after ≡ before + 2) × SkipsTo h to from between × SkipsTo h to between now)

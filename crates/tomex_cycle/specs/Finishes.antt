@@ -3,36 +3,42 @@ use Rattle.std.specs.Prelude.{ℕ, Bool, true, false, not, is_some, ◌≡◌, �
 use Rattle.tomex_rvdec.specs.Operands.{dest_of}
 use Rattle.tomex_bus.specs.Sets.{has}
 use Rattle.tomex_bus.specs.Wheel.{is_due}
-use Rattle.tomex_tags.specs.Standing.{writes}
+use Rattle.tomex_tags.specs.WaitSets.{writes}
 use Rattle.tomex_tags.specs.declared.station.Station.{Station}
 use Rattle.tomex_cycle.specs.declared.finishes.Finishes.{Finishes}
 use Rattle.tomex_cycle.specs.Ends.{after_ends, can_send, finishes, is_done_before}
+use Rattle.tomex_tags.specs.Contents.{slot}
 
 -- none finishes from one cycle to another, with both
 abbrev pub IsFree : List (Option Station) → ℕ → ℕ → Type 0
-IsFree slots from to = (x v : ℕ) → x < 96 → from ≤ v → v ≤ to → finishes v (slice_index_or slots x None) ≡ false
+IsFree slots from to = (x v : ℕ) → x < 96 → from ≤ v → v ≤ to → finishes v (slot slots x) ≡ false
 
 -- all that finishes in the cycle has a result to send, and none is a branch
 abbrev pub AreResults : List (Option Station) → ℕ → Type 0
-AreResults slots v = (x : ℕ) → x < 96 → finishes v (slice_index_or slots x None) ≡ true → (writes (slice_index_or slots x None) ≡ true) × (x < 80)
+AreResults slots v = (x : ℕ) → x < 96 → finishes v (slot slots x) ≡ true → (writes (slot slots x) ≡ true) × (x < 80)
 
 -- a busy station finishes in one cycle, or in the one after another
 abbrev pub FinishesSoon : List (Option Station) → ℕ → ℕ → Type 0
-FinishesSoon slots cycle to = (x : ℕ) × (x < 96) × ((finishes cycle (slice_index_or slots x None) ≡ true) ⊎ (finishes (to + 1) (slice_index_or slots x None) ≡ true))
+FinishesSoon slots cycle to =
+    (x : ℕ) × (x < 96) × ((finishes cycle (slot slots x) ≡ true) ⊎ (finishes (to + 1) (slot slots x) ≡ true))
 
 -- what has nothing to send finished before the cycle, and stands there yet
 abbrev pub has_stayed : ℕ → Option Station → Bool
-has_stayed next None = false
-has_stayed next (Some s) = not (is_some (dest_of s.instr)) && is_done_before next s.finish
+has_stayed cycle None = false
+has_stayed cycle (Some s) = not (is_some (dest_of s.instr)) && is_done_before cycle s.finish
 
 -- the finishes of these stations, as they are known before a cycle ends
-pub record AreKnown (slots : List (Option Station)) (next : ℕ) (known : Finishes) : Type 0 where
+pub record AreKnown (slots : List (Option Station)) (cycle : ℕ) (known : Finishes) : Type 0 where
   pub places : length slots ≡ 96
-  pub ahead : (a x : ℕ) → a < 64 → x < 96 → is_due known.wheel a x ≡ finishes (next + a) (slice_index_or slots x None)
-  pub near : (x v : ℕ) → x < 96 → finishes v (slice_index_or slots x None) ≡ true → v < next + 64
+  pub ahead : (a x : ℕ) → a < 64 → x < 96 → is_due known.wheel a x ≡ finishes (cycle + a) (slot slots x)
+  pub near : (x v : ℕ) → x < 96 → finishes v (slot slots x) ≡ true → v < cycle + 64
   pub low : (a x : ℕ) → is_due known.wheel a x ≡ true → x < 96
-  pub ready : (x : ℕ) → x < 128 → has known.ready x ≡ can_send next (slice_index_or slots x None)
-  pub gone : (x : ℕ) → x < 96 → has_stayed next (slice_index_or slots x None) ≡ false
+  pub ready : (x : ℕ) → x < 128 → has known.ready x ≡ can_send cycle (slot slots x)
+  pub gone : (x : ℕ) → x < 96 → has_stayed cycle (slot slots x) ≡ false
+
+-- what is known of the finishes before a cycle ends is so of these stations too
+abbrev pub KeepsKnown : ℕ → List (Option Station) → List (Option Station) → Type 0
+KeepsKnown cycle old new = (known : Finishes) → AreKnown old cycle known → AreKnown new cycle known
 
 -- what finishes in a cycle is taken out, and the next one is ahead
 pub record HaveTurned (old new : Finishes) (taken : ℕ) : Type 0 where
@@ -41,24 +47,29 @@ pub record HaveTurned (old new : Finishes) (taken : ℕ) : Type 0 where
   pub ready : new.ready ≡ old.ready
 
 -- what was known before a cycle ends, once what finishes in it is taken out
-pub record AreTurned (slots : List (Option Station)) (next due : ℕ) (now : Finishes) : Type 0 where
+pub record AreTurned (slots : List (Option Station)) (cycle due : ℕ) (now : Finishes) : Type 0 where
   pub before : Finishes
-  pub known : AreKnown slots next before
+  pub known : AreKnown slots cycle before
   pub turned : HaveTurned before now due
 
 -- once these places have ended, and all others have heard what was sent, the finishes are known before the next cycle
 abbrev pub LeavesKnown : List (Option Station) → ℕ → ℕ → Finishes → Type 0
-LeavesKnown slots next ending known = (new : List (Option Station)) (sent : ℕ → Option ℕ) → length new ≡ 96 → ((x : ℕ) → x < 96 → slice_index_or new x None ≡ after_ends (has ending x) sent (slice_index_or slots x None)) → AreKnown new (next + 1) known
+LeavesKnown slots cycle ending known =
+    (new : List (Option Station)) (sent : ℕ → Option ℕ) → length new ≡ 96
+    → ((x : ℕ) → x < 96 → slice_index_or new x None ≡ after_ends (has ending x) sent (slot slots x))
+    → AreKnown new (cycle + 1) known
 
 -- how many cycles can be passed: those before the next finish, so far ahead if there is any, but no more than these
 abbrev pub IsIdle : Option ℕ → ℕ → ℕ → Type 0
 IsIdle None most n = n ≡ most
 IsIdle (Some ahead) most n = (n ≤ ahead) × (n < most → n ≡ ahead)
 
--- the cycles up to the next finish are passed, and the one of that finish too where nothing but results finishes in it: it is counted
-pub record IsPassed (slots : List (Option Station)) (cycle to now before after : ℕ) : Type 0 where
+-- the cycles up to the next finish are passed, and the one of that finish too where nothing but results
+-- finishes in it: it is counted
+pub record IsSkipped (slots : List (Option Station)) (cycle to now before after : ℕ) : Type 0 where
   pub idle : ℕ
   pub least : cycle ≤ idle
   pub free : IsFree slots cycle idle
   pub stops : idle < to → FinishesSoon slots cycle idle
-  pub last : ((now ≡ idle) × (after ≡ before)) ⊎ ((now ≡ idle + 1) × (idle < to) × (after ≡ before + 1) × AreResults slots (idle + 1))
+  pub last : ((now ≡ idle) × (after ≡ before))
+      ⊎ ((now ≡ idle + 1) × (idle < to) × (after ≡ before + 1) × AreResults slots (idle + 1))

@@ -7,6 +7,8 @@ pub mod Issue
 pub mod Starts
 pub mod Ends
 pub mod Finishes
-pub mod Made
-pub mod Calm
+pub mod CycleOutcome
+pub mod Quiet
 pub mod Events
+pub mod Inner
+pub mod Advancing

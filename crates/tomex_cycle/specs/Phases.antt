@@ -21,10 +21,12 @@ use Rattle.tomex_tags.specs.declared.register_status.RegStatus.{RegStatus}
 
 -- the step after so many others can't have issued by the cycle
 abbrev pub IsYetToIssue : Loaded → Row → ℕ → ℕ → Type 0
-IsYetToIssue i row count t = (x : Step) → step_after i count ≡ Some x → (s : ℕ) → s ≤ t → can_issue row (run_to row i count) x s ≡ false
+IsYetToIssue i row count t =
+    (x : Step) → step_after i count ≡ Some x → (s : ℕ) → s ≤ t → can_issue row (run_to row i count) x s ≡ false
 
 -- What issue changes, once the issues up to cycle t are made: so many steps of the run, which ends after n others.
-pub record IsIssuedTo (i : Loaded) (row : Row) (n t : ℕ) (c : Clocks) (count : ℕ) (stations : Pools) (registers : RegStatus) (fetch : Fetch) : Type 0 where
+pub record IsIssuedTo (i : Loaded) (row : Row) (n t : ℕ) (c : Clocks) (count : ℕ) (stations : Pools)
+    (registers : RegStatus) (fetch : Fetch) : Type 0 where
   pub few : count ≤ n + 1
   pub slots : ShowsStations i c (run_to row i count) stations
   pub status : ShowsRegisters i c.end (run_to row i count) registers
@@ -33,45 +35,59 @@ pub record IsIssuedTo (i : Loaded) (row : Row) (n t : ℕ) (c : Clocks) (count :
   pub next : count ≤ n → IsYetToIssue i row count t
 
 -- The snapshot after cycle t.
-pub record IsSnapshot (i : Loaded) (row : Row) (n t count : ℕ) (stations : Pools) (registers : RegStatus) (fetch : Fetch) (memory : Bytes) : Type 0 where
+pub record IsSnapshot (i : Loaded) (row : Row) (n t count : ℕ) (stations : Pools) (registers : RegStatus)
+    (fetch : Fetch) (memory : Bytes) : Type 0 where
   pub issue : IsIssuedTo i row n t (clocks t t t) count stations registers fetch
   pub bytes : ShowsMemory i t (run_to row i count) memory
 
--- The phases of the cycle `next`, in their order. Each is stated of whatever history the state before it shows.
+-- The phases of a cycle, in their order. Each is stated of whatever history the state before it shows.
 
 -- starts: what starts in the cycle has its finish and its result, and memory what the stores among them leave
 abbrev pub MakesStarts : Row → ℕ → Pools → Bytes → Option Fault → Pools → Bytes → Type 0
-MakesStarts row next stations memory fault new written = (i : Loaded) (h : List Done) (t : ℕ) → next ≡ t + 1 → IsHistory i row h → AreIssuedBy t h
+MakesStarts row cycle stations memory fault new written =
+    (i : Loaded) (h : List Done) (t : ℕ) → cycle ≡ t + 1 → IsHistory i row h → AreIssuedBy t h
     → ShowsStations i (clocks t t t) h stations → ShowsMemory i t h memory
-    → (fault ≡ None) × ShowsStations i (clocks next t t) h new × ShowsMemory i next h written
+    → (fault ≡ None) × ShowsStations i (clocks cycle t t) h new × ShowsMemory i cycle h written
 
 -- the address of the load or store whose address cycle it is
 abbrev pub MakesAddress : ℕ → Pools → Pools → Type 0
-MakesAddress next stations new = (i : Loaded) (row : Row) (h : List Done) (t : ℕ) → next ≡ t + 1 → IsHistory i row h → AreIssuedBy t h
-    → ShowsStations i (clocks next t t) h stations → ShowsStations i (clocks next next t) h new
+MakesAddress cycle stations new =
+    (i : Loaded) (row : Row) (h : List Done) (t : ℕ) → cycle ≡ t + 1 → IsHistory i row h → AreIssuedBy t h
+    → ShowsStations i (clocks cycle t t) h stations → ShowsStations i (clocks cycle cycle t) h new
 
 -- the issues of the run's next steps whose cycle it is, how many are counted then, and whether there are any
-abbrev pub MakesIssue : Loaded → Row → ℕ → ℕ → Pools → RegStatus → Fetch → Result Bool Fault → ℕ → Pools → RegStatus → Fetch → Type 0
-MakesIssue i row next count stations registers fetch result counted new status from = (n : ℕ) (s : State) (kind : EndKind) (t : ℕ) → RunEnds i n s kind → n < 262144 → next ≡ t + 1 → IsRow row → IsLoaded i.window i.memory i.entry
-    → IsIssuedTo i row n t (clocks next next t) count stations registers fetch
-    → (result ≡ Ok (nat_lt count counted)) × (count ≤ counted) × IsIssuedTo i row n next (clocks next next t) counted new status from
+abbrev pub MakesIssue : Loaded → Row → ℕ → ℕ → Pools → RegStatus → Fetch → Result Bool Fault → ℕ → Pools → RegStatus
+    → Fetch → Type 0
+MakesIssue i row cycle count stations registers fetch result counted new status from =
+    (n : ℕ) (s : State) (kind : EndKind) (t : ℕ) → RunEnds i n s kind → n < 262144 → cycle ≡ t + 1 → IsRow row
+    → IsLoaded i.window i.memory i.entry
+    → IsIssuedTo i row n t (clocks cycle cycle t) count stations registers fetch
+    → (result ≡ Ok (nat_lt count counted)) × (count ≤ counted)
+    × IsIssuedTo i row n cycle (clocks cycle cycle t) counted new status from
 
 -- the broadcasts and ends, and the targets of branches that finish
 abbrev pub MakesEnds : Row → ℕ → Pools → RegStatus → Fetch → Pools → RegStatus → Fetch → Type 0
-MakesEnds row next stations registers fetch new status from = (i : Loaded) (h : List Done) (t : ℕ) → next ≡ t + 1 → IsHistory i row h → AreIssuedBy next h
-    → ShowsStations i (clocks next next t) h stations → ShowsRegisters i t h registers → fetch ≡ fetch_of i t h
-    → ShowsStations i (clocks next next next) h new × ShowsRegisters i next h status × (from ≡ fetch_of i next h)
+MakesEnds row cycle stations registers fetch new status from =
+    (i : Loaded) (h : List Done) (t : ℕ) → cycle ≡ t + 1 → IsHistory i row h → AreIssuedBy cycle h
+    → ShowsStations i (clocks cycle cycle t) h stations → ShowsRegisters i t h registers → fetch ≡ fetch_of i t h
+    → ShowsStations i (clocks cycle cycle cycle) h new × ShowsRegisters i cycle h status × (from ≡ fetch_of i cycle h)
 
 -- Where a phase tells that it did something, there is an event of the cycle.
 
 abbrev pub StartsHappen : Row → ℕ → Pools → Type 0
-StartsHappen row next stations = (i : Loaded) (h : List Done) (t : ℕ) → next ≡ t + 1 → IsHistory i row h → AreIssuedBy t h → ShowsStations i (clocks t t t) h stations → 0 < events_in next h
+StartsHappen row cycle stations =
+    (i : Loaded) (h : List Done) (t : ℕ) → cycle ≡ t + 1 → IsHistory i row h → AreIssuedBy t h
+    → ShowsStations i (clocks t t t) h stations → 0 < events_in cycle h
 
 abbrev pub AddressHappens : ℕ → Pools → Type 0
-AddressHappens next stations = (i : Loaded) (row : Row) (h : List Done) (t : ℕ) → next ≡ t + 1 → IsHistory i row h → AreIssuedBy t h → ShowsStations i (clocks next t t) h stations → 0 < events_in next h
+AddressHappens cycle stations =
+    (i : Loaded) (row : Row) (h : List Done) (t : ℕ) → cycle ≡ t + 1 → IsHistory i row h → AreIssuedBy t h
+    → ShowsStations i (clocks cycle t t) h stations → 0 < events_in cycle h
 
 abbrev pub EndsHappen : Row → ℕ → Pools → Type 0
-EndsHappen row next stations = (i : Loaded) (h : List Done) (t : ℕ) → next ≡ t + 1 → IsHistory i row h → AreIssuedBy next h → ShowsStations i (clocks next next t) h stations → 0 < events_in next h
+EndsHappen row cycle stations =
+    (i : Loaded) (h : List Done) (t : ℕ) → cycle ≡ t + 1 → IsHistory i row h → AreIssuedBy cycle h
+    → ShowsStations i (clocks cycle cycle t) h stations → 0 < events_in cycle h
 
 abbrev pub is_stopped : Fetch → Bool
 is_stopped (At pc) = false

@@ -31,7 +31,8 @@ steps_in (d ∷ older) = d.step ∷ steps_in older
 -- each step follows those older than it, and what doesn't end the program is allowed
 abbrev pub ArePast : Loaded → List Done → Type 0
 ArePast i [] = ⊤
-ArePast i (d ∷ older) = Follows i (steps_in older) d.step × (end_of d.step ≡ None → IsAllowed i d.step) × ArePast i older
+ArePast i (d ∷ older) =
+    Follows i (steps_in older) d.step × (end_of d.step ≡ None → IsAllowed i d.step) × ArePast i older
 
 -- what is known of the steps that were issued
 pub record IsHistory (i : Loaded) (row : Row) (h : List Done) : Type 0 where
@@ -47,4 +48,5 @@ AreIssuedBy t (d ∷ older) = (d.at.issue ≤ t) × AreIssuedBy t older
 -- the byte of memory at an address after the starts of cycle t: the youngest store on it that has started left it
 abbrev pub byte_at : Loaded → ℕ → List Done → ℕ → ℕ
 byte_at i t [] a = byte_in (record { base = i.window.base; bytes = i.memory }) a
-byte_at i t (d ∷ older) a = if overwrites d.step a && nat_le d.at.start t then stored_byte d.step a else byte_at i t older a
+byte_at i t (d ∷ older) a =
+    if overwrites d.step a && nat_le d.at.start t then stored_byte d.step a else byte_at i t older a

@@ -6,7 +6,8 @@ use Rattle.tomex_cycle.specs.declared.progress.Progress.{Progress}
 use Rattle.tomex_cycle.specs.declared.progress.Progress.TheVariants.{Running, Ended, Faulted}
 use Rattle.tomex_cycle.specs.Run.{total}
 
--- a machine, but for the cycles that it has made: its image, its row, the cycle that it has made last, and what that one came to
+-- a machine, but for the count of the cycles that it has made: its image, its row, the cycle that it has reached, and
+-- its status after that one
 pub record Seen : Type 0 where
   pub image : Loaded
   pub row : Row
@@ -33,6 +34,10 @@ seen_after i row k = record {
   cycle = min k (total row i);
   last = if nat_lt k (total row i) then Running else Ended;
 }
+
+-- the machine of an image and a row that has made no cycle
+abbrev pub before_first_cycle : Loaded → Row → Seen
+before_first_cycle i row = record { image = i; row = row; cycle = 0; last = Running }
 
 abbrev pub is_end : Progress → Bool
 is_end Running = false

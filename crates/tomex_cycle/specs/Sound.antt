@@ -8,6 +8,7 @@ use Rattle.tomex_rvexec.specs.Run.{RunEnds}
 use Rattle.tomex_config.specs.Row.{Row, IsRow}
 use Rattle.tomex_timing.specs.History.{greatest_end}
 use Rattle.tomex_cycle.specs.declared.fetch.Fetch.{Fetch}
+use Rattle.tomex_cycle.specs.declared.inner.Inner.{Inner}
 use Rattle.tomex_cycle.specs.declared.progress.Progress.{Progress}
 use Rattle.tomex_cycle.specs.declared.progress.Progress.TheVariants.{Running, Ended}
 use Rattle.tomex_cycle.specs.declared.finishes.Finishes.{Finishes}
@@ -19,16 +20,24 @@ use Rattle.tomex_tags.specs.declared.station.Station.{Station}
 use Rattle.tomex_tags.specs.declared.register_status.RegStatus.{RegStatus}
 
 -- the machine after a cycle of a run that ends after n other steps
-pub record IsAfter (i : Loaded) (row : Row) (n cycle : ℕ) (last : Progress) (count : ℕ) (stations : Pools) (registers : RegStatus) (fetch : Fetch) (memory : Bytes) : Type 0 where
+pub record IsAfter (i : Loaded) (row : Row) (n cycle : ℕ) (last : Progress) (count : ℕ) (stations : Pools)
+    (registers : RegStatus) (fetch : Fetch) (memory : Bytes) : Type 0 where
   pub high : cycle ≤ greatest_end (run_to row i (n + 1))
   pub answer : last ≡ (if nat_lt cycle (greatest_end (run_to row i (n + 1))) then Running else Ended)
   pub snapshot : IsSnapshot i row n cycle count stations registers fetch memory
 
-pub record IsSound (i : Loaded) (row : Row) (cycle : ℕ) (last : Progress) (count : ℕ) (stations : Pools) (registers : RegStatus) (fetch : Fetch) (memory : Bytes) : Type 0 where
+pub record IsSound (i : Loaded) (row : Row) (cycle : ℕ) (last : Progress) (count : ℕ) (stations : Pools)
+    (registers : RegStatus) (fetch : Fetch) (memory : Bytes) : Type 0 where
   pub lawful : IsRow row
   pub loaded : IsLoaded i.window i.memory i.entry
   pub low : cycle ≤ 2 ^ 40
-  pub after : (n : ℕ) (s : State) (kind : EndKind) → n < 262144 → RunEnds i n s kind → IsAfter i row n cycle last count stations registers fetch memory
+  pub after : (n : ℕ) (s : State) (kind : EndKind) → n < 262144 → RunEnds i n s kind
+      → IsAfter i row n cycle last count stations registers fetch memory
+
+-- so it is of the machine with this inner state
+abbrev pub IsSoundWith : {A : Type 0} → Loaded → Row → (cycle : ℕ) → Progress → Inner A → Type 0
+IsSoundWith i row cycle last inner =
+    IsSound i row cycle last inner.count inner.pools inner.registers inner.fetch inner.memory
 
 -- as long as it runs, what is known of the finishes ahead is right
 abbrev pub IsTurning : Progress → List (Option Station) → ℕ → Finishes → Type 0

@@ -1,24 +1,26 @@
 -- Which operations start in a cycle, and what becomes of their stations and of memory.
-use Rattle.std.specs.Prelude.{◌≡◌, ℕ, zero, suc, ◌+◌, ◌-◌, ◌<◌, ◌≤◌, nat_lt, Bool, true, false, ◌&&◌, ◌||◌, if◌then◌else◌, List, [], ◌∷◌, ◌++◌, Option, Some, None, slice_index, slice_index_or, IsSome, length, option_map}
+use Rattle.std.specs.Prelude.{◌≡◌, ℕ, zero, suc, ◌+◌, ◌-◌, ◌<◌, ◌≤◌, nat_lt, Bool, true, false, ◌&&◌, ◌||◌, if◌then◌else◌, List, [], ◌∷◌, ◌++◌, Option, Some, None, slice_index, IsSome, length, option_map}
 use Rattle.tomex_rvdec.specs.Operands.{unit_of}
 use Rattle.tomex_rvdec.specs.Parts.{place_of_unit}
 use Rattle.tomex_rvdec.specs.declared.pool.UnitId.{UnitId}
+use Rattle.tomex_rvexec.specs.declared.outcome.Fault.{Fault}
+use Rattle.tomex_rvexec.specs.declared.outcome.FaultKind.TheVariants.{Access}
 use Rattle.tomex_rvexec.specs.Access.{IsInside}
 use Rattle.tomex_rvexec.specs.Flow.{byte_in, overwrites, result_of, stored_byte}
 use Rattle.tomex_rvexec.specs.Memory.{Bytes}
 use Rattle.tomex_rvexec.specs.Steps.{is_number}
 use Rattle.tomex_config.specs.Row.{Row, option_of}
 use Rattle.tomex_bus.specs.Sets.{has}
-use Rattle.tomex_bus.specs.Picks.{IsByAge, IsPicked}
-use Rattle.tomex_tags.specs.Contents.{is_waiting, step_in}
+use Rattle.tomex_bus.specs.Picks.{IsInIssueOrder, IsPicked}
+use Rattle.tomex_tags.specs.Contents.{is_waiting, slot, step_in}
 use Rattle.tomex_tags.specs.Pools.{Pools}
-use Rattle.tomex_tags.specs.Standing.{waits}
+use Rattle.tomex_tags.specs.WaitSets.{waits, waits_for}
 use Rattle.tomex_tags.specs.declared.station.Station.{Station}
-use Rattle.tomex_membuf.specs.Order.{lets}
+use Rattle.tomex_membuf.specs.Order.{lets_pass}
 
 -- no operation waits for nothing but a unit and older accesses
 abbrev pub NoneWaits : List (Option Station) → Type 0
-NoneWaits slots = (x : ℕ) → x < 96 → waits (slice_index_or slots x None) ≡ false
+NoneWaits slots = (x : ℕ) → x < 96 → waits (slot slots x) ≡ false
 
 abbrev pub kind_of : Option UnitId → Option ℕ
 kind_of None = None
@@ -30,47 +32,61 @@ kind_if false kind = None
 
 -- a station needn't wait for any of those in these places
 abbrev pub is_clear : List (Option Station) → List ℕ → Station → ℕ → Bool
-is_clear slots [] s next = true
-is_clear slots (x ∷ xs) s next = lets (slice_index_or slots x None) s next && is_clear slots xs s next
+is_clear slots [] s cycle = true
+is_clear slots (x ∷ xs) s cycle = lets_pass (slot slots x) s cycle && is_clear slots xs s cycle
 
 -- the kind of unit that is wanted for what stands in a place, behind these older ones, if its operation can start
 abbrev pub wanted : List (Option Station) → List ℕ → ℕ → Option Station → Option ℕ
-wanted slots older next None = None
-wanted slots older next (Some s) = kind_if (is_waiting s && is_clear slots older s next) (kind_of (unit_of s.instr.op))
+wanted slots older cycle None = None
+wanted slots older cycle (Some s) =
+    kind_if (is_waiting s && is_clear slots older s cycle) (kind_of (unit_of s.instr.op))
 
--- whether a kind of unit is wanted for a place, however the busy places are listed by age
+-- whether a kind of unit is wanted for a place, given the busy places in issue order
 abbrev pub IsWanted : Pools → ℕ → UnitId → ℕ → Bool → Type 0
-IsWanted st next unit x is = (older younger : List ℕ) → IsByAge st.busy st.ages (older ++ (x ∷ younger)) → is ≡ is_number (wanted st.slots older next (slice_index_or st.slots x None)) (place_of_unit unit)
+IsWanted st cycle unit x is =
+    (older younger : List ℕ) → IsInIssueOrder st.busy st.issue_numbers (older ++ (x ∷ younger))
+    → is ≡ is_number (wanted st.slots older cycle (slot st.slots x)) (place_of_unit unit)
 
 -- the set of the busy places whose operations can start but for want of a unit of this kind
-pub record AreReadyFor (st : Pools) (next : ℕ) (unit : UnitId) (set : ℕ) : Type 0 where
+pub record AreReadyFor (st : Pools) (cycle : ℕ) (unit : UnitId) (set : ℕ) : Type 0 where
   pub inside : (x : ℕ) → x < 128 → has set x ≡ true → has st.busy x ≡ true
-  pub wants : (x : ℕ) → x < 128 → IsWanted st next unit x (has set x)
+  pub wants : (x : ℕ) → x < 128 → IsWanted st cycle unit x (has set x)
+
+-- the operations in these places wait for nothing but a unit of the kind and older accesses
+abbrev pub AllWaitFor : UnitId → List (Option Station) → ℕ → Type 0
+AllWaitFor unit slots set = (x : ℕ) → x < 128 → has set x ≡ true → waits_for unit (slot slots x) ≡ true
 
 -- and so for each kind
 abbrev pub AreReady : Pools → ℕ → List ℕ → Type 0
-AreReady st next sets = (unit : UnitId) → AreReadyFor st next unit (slice_index sets (place_of_unit unit))
+AreReady st cycle sets = (unit : UnitId) → AreReadyFor st cycle unit (slice_index sets (place_of_unit unit))
 
 abbrev pub is_among : List ℕ → ℕ → Bool
 is_among [] x = false
 is_among (set ∷ sets) x = has set x || is_among sets x
 
 -- of each kind the oldest ready ones start, as many as there are units
-pub record IsStarting (row : Row) (st : Pools) (next starting : ℕ) : Type 0 where
+pub record IsStarting (row : Row) (st : Pools) (cycle starting : ℕ) : Type 0 where
   pub ready : List ℕ
   pub kinds : List ℕ
-  pub are_ready : AreReady st next ready
-  pub units : (unit : UnitId) → IsPicked (slice_index ready (place_of_unit unit)) st.ages (option_of row unit).units (slice_index kinds (place_of_unit unit))
+  pub are_ready : AreReady st cycle ready
+  pub units : (unit : UnitId)
+      → IsPicked (slice_index ready (place_of_unit unit)) st.issue_numbers (option_of row unit).units
+      (slice_index kinds (place_of_unit unit))
   pub count : length kinds ≡ 5
   pub all : (x : ℕ) → x < 128 → has starting x ≡ is_among kinds x
 
 abbrev pub finish_from : Row → ℕ → Option UnitId → Option ℕ
-finish_from row next None = None
-finish_from row next (Some unit) = Some (next + (option_of row unit).latency - 1)
+finish_from row cycle None = None
+finish_from row cycle (Some unit) = Some (cycle + (option_of row unit).latency - 1)
 
--- a station whose operation starts in the cycle `next`, over a memory
+-- a station whose operation starts in the cycle, over a memory
 abbrev pub begun : Row → ℕ → Bytes → Station → Station
-begun row next m s = record s { finish = finish_from row next (unit_of s.instr.op); value = result_of (step_in s) (byte_in m) }
+begun row cycle m s =
+    record s { finish = finish_from row cycle (unit_of s.instr.op); value = result_of (step_in s) (byte_in m) }
+
+-- the fault of a station whose access lies outside memory
+abbrev pub access_fault : Station → Fault
+access_fault s = record { kind = Access; pc = s.pc }
 
 -- the places of stations
 abbrev pub AreLow : ℕ → Type 0
@@ -82,18 +98,24 @@ pub record CanBegin (m : Bytes) (s : Station) : Type 0 where
   pub idle : s.finish ≡ None
   pub unit : IsSome (unit_of s.instr.op)
 
+-- the fault of what stands in a place, whose access lies outside memory
+abbrev pub IsAccessFault : Pools → Bytes → ℕ → Fault → Type 0
+IsAccessFault st m x fault =
+    (s : Station) × (slot st.slots x ≡ Some s) × (CanBegin m s → ⊥) × (fault ≡ access_fault s)
+
 -- so it is of each place that is picked
 abbrev pub AllCanBegin : Bytes → ℕ → List (Option Station) → Type 0
-AllCanBegin m picked slots = (x : ℕ) → x < 96 → has picked x ≡ true → (s : Station) × (slice_index_or slots x None ≡ Some s) × CanBegin m s
+AllCanBegin m picked slots =
+    (x : ℕ) → x < 96 → has picked x ≡ true → (s : Station) × (slot slots x ≡ Some s) × CanBegin m s
 
 abbrev pub begun_if : Row → ℕ → Bytes → Bool → Option Station → Option Station
-begun_if row next m picked o = if picked then option_map (begun row next m) o else o
+begun_if row cycle m picked o = if picked then option_map (begun row cycle m) o else o
 
 -- the operations of the picked places below k have started
-pub record HaveBegun (row : Row) (next : ℕ) (m : Bytes) (picked : ℕ) (k : ℕ) (old new : Pools) : Type 0 where
+pub record HaveBegun (row : Row) (cycle : ℕ) (m : Bytes) (picked : ℕ) (k : ℕ) (old new : Pools) : Type 0 where
   pub places : length new.slots ≡ 96
-  pub slots : (x : ℕ) → x < 96 → slice_index_or new.slots x None ≡ begun_if row next m (nat_lt x k && has picked x) (slice_index_or old.slots x None)
-  pub ages : new.ages ≡ old.ages
+  pub slots : (x : ℕ) → x < 96 → slot new.slots x ≡ begun_if row cycle m (nat_lt x k && has picked x) (slot old.slots x)
+  pub issue_numbers : new.issue_numbers ≡ old.issue_numbers
 
 -- the byte at an address after the store of a place, if it is picked
 abbrev pub stored_at : Bool → Option Station → ℕ → ℕ → ℕ
@@ -103,7 +125,7 @@ stored_at picked (Some s) a before = if picked && overwrites (step_in s) a then 
 -- the byte at an address after the stores of the picked places below k
 abbrev pub written_by : List (Option Station) → ℕ → (ℕ → ℕ) → ℕ → ℕ → ℕ
 written_by slots picked byte zero a = byte a
-written_by slots picked byte (suc k) a = stored_at (has picked k) (slice_index_or slots k None) a (written_by slots picked byte k a)
+written_by slots picked byte (suc k) a = stored_at (has picked k) (slot slots k) a (written_by slots picked byte k a)
 
 -- the stores of the picked places below k are made
 pub record HaveStored (slots : List (Option Station)) (picked : ℕ) (k : ℕ) (old new : Bytes) : Type 0 where
@@ -113,4 +135,5 @@ pub record HaveStored (slots : List (Option Station)) (picked : ℕ) (k : ℕ) (
 
 -- the accesses of the picked places are inside memory
 abbrev pub AllInside : Bytes → ℕ → List (Option Station) → Type 0
-AllInside m picked slots = (x : ℕ) → x < 96 → has picked x ≡ true → (s : Station) → slice_index_or slots x None ≡ Some s → IsInside m (step_in s)
+AllInside m picked slots =
+    (x : ℕ) → x < 96 → has picked x ≡ true → (s : Station) → slot slots x ≡ Some s → IsInside m (step_in s)

@@ -18,6 +18,7 @@ use Rattle.tomex_tags.specs.Places.{place_at}
 use Rattle.tomex_tags.specs.Pools.{Pools}
 use Rattle.tomex_tags.specs.declared.register_status.RegStatus.{RegStatus}
 use Rattle.tomex_tags.specs.declared.station.Station.{Station}
+use Rattle.tomex_tags.specs.Contents.{slot}
 
 -- The cycles up to which, with it, each kind of event has been made. Issues are made by what stands in the history.
 pub record Clocks : Type 0 where
@@ -59,18 +60,19 @@ onto_end xs (Some x) = xs ++ (x ∷ [])
 -- the places of the busy stations, the oldest first
 abbrev pub order_of : ℕ → List Done → List ℕ
 order_of end [] = []
-order_of end (d ∷ older) = if nat_lt end d.at.end then onto_end (order_of end older) (place_of d) else order_of end older
+order_of end (d ∷ older) =
+    if nat_lt end d.at.end then onto_end (order_of end older) (place_of d) else order_of end older
 
 -- how many steps are older than the youngest that took a place
-abbrev pub age_at : List Done → ℕ → ℕ
-age_at [] x = 0
-age_at (d ∷ older) x = if is_number (place_of d) x then length older else age_at older x
+abbrev pub issue_number_at : List Done → ℕ → ℕ
+issue_number_at [] x = 0
+issue_number_at (d ∷ older) x = if is_number (place_of d) x then length older else issue_number_at older x
 
 pub record ShowsStations (i : Loaded) (c : Clocks) (h : List Done) (s : Pools) : Type 0 where
   pub places : length s.slots ≡ 96
-  pub slots : (x : ℕ) → x < 96 → slice_index_or s.slots x None ≡ station_at i c h x
-  pub ages_count : length s.ages ≡ 128
-  pub ages : (x : ℕ) → x < 96 → slice_index s.ages x ≡ age_at h x
+  pub slots : (x : ℕ) → x < 96 → slot s.slots x ≡ station_at i c h x
+  pub order_count : length s.issue_numbers ≡ 128
+  pub issue_numbers : (x : ℕ) → x < 96 → slice_index s.issue_numbers x ≡ issue_number_at h x
 
 -- Qi of each register, and the value of each that waits for nothing
 pub record ShowsRegisters (i : Loaded) (end : ℕ) (h : List Done) (s : RegStatus) : Type 0 where
@@ -102,4 +104,7 @@ stop_of (from.Stopped kind pc) = (kind, pc)
 -- what is sent in a cycle from a place: the result of the step that ends in it, where it has a destination
 abbrev pub sent_at : Loaded → ℕ → List Done → ℕ → Option ℕ
 sent_at i u [] x = None
-sent_at i u (d ∷ older) x = if is_number (place_of d) x && (is_some (step_dest d.step) && (d.at.end == u)) then Some (result_of d.step (byte_after i (steps_in older))) else sent_at i u older x
+sent_at i u (d ∷ older) x =
+    if is_number (place_of d) x && (is_some (step_dest d.step) && (d.at.end == u))
+    then Some (result_of d.step (byte_after i (steps_in older)))
+    else sent_at i u older x

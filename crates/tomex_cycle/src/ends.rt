@@ -1,12 +1,13 @@
 //! The end of a cycle: what ends, what is sent, and where branches lead.
 
-ghost use Rattle.std.specs.Prelude.{ℕ, ◌≡◌, ◌<◌, ◌≤◌, ◌^◌, ◌==◌, None, Some, length, slice_index_or};
+ghost use Rattle.std.specs.Prelude.{◌≡◌, ◌<◌, ◌≤◌, ◌^◌, ◌==◌, None, Some, length};
 ghost use Rattle.tomex_bus.specs.Sets.{has};
 ghost use Rattle.tomex_tags.specs.Operands.{only};
 ghost use Rattle.tomex_tags.specs.Pools.{AreBusy};
 ghost use Rattle.tomex_cycle.specs.Ends.{AreDone, AreEnding, AreNamed, EndsIn, Follows, Hears, IsDoneBranch, sends_of, sent_below, target_in};
 ghost use Rattle.tomex_cycle.specs.Finishes.{AreTurned, LeavesKnown};
 ghost use Rattle.tomex_cycle.specs.Starts.{AreLow};
+ghost use Rattle.tomex_tags.specs.Contents.{slot};
 
 use crate::fetch::Fetch;
 use crate::finishes::Finishes;
@@ -28,18 +29,18 @@ pub struct Over {
 
 /// What is over in the cycle, in which these places finish. From here on what finishes in it is known by
 /// the results that are ready.
-pub fn settle(pools: &Pools, finishes: &mut Finishes, due: u128, buses: u8, next: u64) -> Over
-    requires known { AreTurned pools.now.slots next due finishes.old }
+pub fn settle(pools: &Pools, finishes: &mut Finishes, due: u128, buses: u8, cycle: u64) -> Over
+    requires known { AreTurned pools.now.slots cycle due finishes.old }
     requires some { 1 ≤ buses }
-    ensures due { AreDone pools.now.slots next result.due }
-    ensures ending { AreEnding pools.now buses next result.ending }
-    ensures busy { AreBusy pools.now.slots pools.now.busy pools.now.ages }
-    ensures known { LeavesKnown pools.now.slots next result.ending finishes.new }
+    ensures due { AreDone pools.now.slots cycle result.due }
+    ensures ending { AreEnding pools.now buses cycle result.ending }
+    ensures busy { AreBusy pools.now.slots pools.now.busy pools.now.issue_numbers }
+    ensures known { LeavesKnown pools.now.slots cycle result.ending finishes.new }
     ensures quiet { result.ending ≡ 0 → result.due ≡ 0 → finishes.new.ready ≡ 0 }
     ensures fits { (result.due < 2 ^ 128) × (result.ending < 2 ^ 128) }
 {
     let writing = pools.writing();
-    let sending = pick(finishes.ready, pools.ages(), buses);
+    let sending = pick(finishes.ready, pools.issue_numbers(), buses);
     let results = both(due, writing);
     finishes.send(sending, results);
     Over {
@@ -51,8 +52,10 @@ pub fn settle(pools: &Pools, finishes: &mut Finishes, due: u128, buses: u8, next
 /// Frees a place, and sends what its station has to send.
 fn end_at(pools: &mut Pools, registers: &mut RegStatus, place: usize)
     requires { place < 96 }
-    ensures stations { EndsIn (λ x. place == x) (only place (sends_of (slice_index_or pools.old.slots place None))) pools.old pools.new }
-    ensures registers { AreNamed pools.old.slots registers.old → Hears (only place (sends_of (slice_index_or pools.old.slots place None))) registers.old registers.new }
+    ensures stations { EndsIn (λ x. place == x)
+        (only place (sends_of (slot pools.old.slots place))) pools.old pools.new }
+    ensures registers { AreNamed pools.old.slots registers.old
+        → Hears (only place (sends_of (slot pools.old.slots place))) registers.old registers.new }
 {
     if let Some(station) = pools.at(place) {
         pools.release(place);
@@ -64,8 +67,11 @@ fn end_at(pools: &mut Pools, registers: &mut RegStatus, place: usize)
 
 /// Ends what stands in the picked places.
 pub fn apply(pools: &mut Pools, registers: &mut RegStatus, picked: u128)
-    ensures stations { AreLow picked → EndsIn (λ x. has picked x) (sent_below pools.old.slots picked 96) pools.old pools.new }
-    ensures registers { length pools.old.slots ≡ 96 → AreLow picked → AreNamed pools.old.slots registers.old → Hears (sent_below pools.old.slots picked 96) registers.old registers.new }
+    ensures stations { AreLow picked
+        → EndsIn (λ x. has picked x) (sent_below pools.old.slots picked 96) pools.old pools.new }
+    ensures registers { length pools.old.slots ≡ 96 → AreLow picked
+        → AreNamed pools.old.slots registers.old
+        → Hears (sent_below pools.old.slots picked 96) registers.old registers.new }
 {
     let mut rest = picked;
     'members: while rest != 0 {
@@ -79,9 +85,9 @@ pub fn apply(pools: &mut Pools, registers: &mut RegStatus, picked: u128)
 
 /// The place of the branch that is done in the cycle, if any.
 #[inline(always)]
-fn resolved(pools: &Pools, due: u128, next: u64) -> Option<usize>
-    requires { AreDone pools.now.slots next due }
-    ensures { IsDoneBranch next pools.now.slots result }
+fn resolved(pools: &Pools, due: u128, cycle: u64) -> Option<usize>
+    requires { AreDone pools.now.slots cycle due }
+    ensures { IsDoneBranch cycle pools.now.slots result }
 {
     let branches = both(due, served_by(UnitId::Bru));
     if branches == 0 {
@@ -90,7 +96,7 @@ fn resolved(pools: &Pools, due: u128, next: u64) -> Option<usize>
     Some(lowest(branches))
 }
 
-/// The next pc after what a place holds.
+/// The next pc after what a place holds, 0 if it is free.
 fn target_at(station: Option<Station>) -> u32
     ensures { result ≡ target_in station }
 {
@@ -100,14 +106,14 @@ fn target_at(station: Option<Station>) -> u32
     }
 }
 
-/// Where the next instruction comes from, once the branch that it waits for is done.
+/// Follows the branch that the next instruction waits for, if it is done.
 #[inline(always)]
-pub fn follow(fetch: &mut Fetch, pools: &Pools, due: u128, next: u64)
-    requires { AreDone pools.now.slots next due }
-    ensures { Follows next pools.now.slots fetch.old fetch.new }
+pub fn follow(fetch: &mut Fetch, pools: &Pools, due: u128, cycle: u64)
+    requires { AreDone pools.now.slots cycle due }
+    ensures { Follows cycle pools.now.slots fetch.old fetch.new }
 {
     if let Fetch::Waits = *fetch {
-        if let Some(place) = resolved(pools, due, next) {
+        if let Some(place) = resolved(pools, due, cycle) {
             *fetch = Fetch::At(target_at(pools.at(place)));
         }
     }

@@ -23,7 +23,8 @@ pub enum Fetch {
 impl Fetch {
     /// After an instruction that issues.
     pub fn after(instr: Instr, pc: u32) -> Fetch
-        ensures { (x : Step) → x.instr ≡ instr → x.pc ≡ pc → result ≡ fetch_after x (is_branch x) (end_of x) }
+        ensures { (x : Step) → x.instr ≡ instr → x.pc ≡ pc
+            → result ≡ fetch_after x (is_branch x) (end_of x) }
     {
         match instr.op() {
             Op::Ecall => Fetch::Stopped(EndKind::Ecall, pc),
@@ -34,7 +35,7 @@ impl Fetch {
         }
     }
 
-    /// The kind of the end and its pc, where there is one.
+    /// The kind of the end and its pc. Of a program that hasn't ended it answers EBREAK at 0, which nobody asks for.
     pub fn stop(self) -> (EndKind, u32)
         ensures { result ≡ stop_of self }
     {

@@ -43,7 +43,8 @@ impl Finishes {
     #[inline(always)]
     pub fn send(&mut self, sent: u128, results: u128)
         ensures wheel { self.new.wheel ≡ self.old.wheel }
-        ensures ready { (x : ℕ) → x < 128 → has self.new.ready x ≡ (has self.old.ready x && not (has sent x) || has results x) }
+        ensures ready { (x : ℕ) → x < 128
+            → has self.new.ready x ≡ (has self.old.ready x && not (has sent x) || has results x) }
         ensures fits { self.new.ready < 2 ^ 128 }
     {
         self.ready = union(difference(self.ready, sent), results);

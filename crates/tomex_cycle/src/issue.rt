@@ -1,8 +1,7 @@
 //! The issue of one instruction, and of more in the same cycle.
 
 ghost use Rattle.std.specs.Prelude.{ℕ, ◌≡◌, Ok, false};
-ghost use Rattle.tomex_cycle.specs.declared.finishes.Finishes.{Finishes};
-ghost use Rattle.tomex_cycle.specs.Finishes.{AreKnown};
+ghost use Rattle.tomex_cycle.specs.Finishes.{KeepsKnown};
 ghost use Rattle.tomex_cycle.specs.Issue.{IssuesMore, IssuesNext};
 
 use crate::fetch::Fetch;
@@ -11,7 +10,7 @@ use tomex_config::Config;
 use tomex_rvexec::{Fault, Fetcher};
 use tomex_tags::{Pools, RegStatus, Tag, issue};
 
-/// Issues the next instruction, where no branch and no want of a station is in its way, and answers whether it did.
+/// Issues the next instruction, unless it waits for a branch or for a station. Answers whether it did.
 ///
 /// Inlined, so that the first issue of a cycle stays in the loop that makes the cycles.
 #[inline(always)]
@@ -23,9 +22,10 @@ pub fn issue_next<A: Allocator>(
     fetcher: &mut Fetcher<'_, A>,
     row: &Config,
 ) -> Result<bool, Fault>
-    ensures issues { IssuesNext fetcher.old row.now count pools.old registers.old fetch.old result pools.new registers.new fetch.new }
+    ensures issues { IssuesNext fetcher.old row.now count
+        pools.old registers.old fetch.old result pools.new registers.new fetch.new }
     ensures none { result ≡ Ok false → pools.new ≡ pools.old }
-    ensures known { (f : Finishes) (next : ℕ) → AreKnown pools.old.slots next f → AreKnown pools.new.slots next f }
+    ensures known { (cycle : ℕ) → KeepsKnown cycle pools.old.slots pools.new.slots }
     ensures same { fetcher.new ≡ fetcher.old }
 {
     let pc = match *fetch {
@@ -53,7 +53,7 @@ pub fn issue_next<A: Allocator>(
 }
 
 /// Issues more instructions in a cycle in which one has issued, as many as the row's width leaves, up to
-/// the first that can't, and counts each. One that can't be fetched is told by the next cycle, which begins with it.
+/// the first that can't, and counts each. A fault of fetching is reported by the next cycle, which begins with it.
 ///
 /// On a row of width 1 it is never called. So it isn't put into its caller, the compiler keeps nothing in readiness
 /// for it, and it answers nothing, since each cycle would make room for the answer.
@@ -67,8 +67,9 @@ pub fn issue_more<A: Allocator>(
     fetcher: &mut Fetcher<'_, A>,
     row: &Config,
 )
-    ensures issues { IssuesMore fetcher.old row.now count.old pools.old registers.old fetch.old count.new pools.new registers.new fetch.new }
-    ensures known { (f : Finishes) (next : ℕ) → AreKnown pools.old.slots next f → AreKnown pools.new.slots next f }
+    ensures issues { IssuesMore fetcher.old row.now
+        count.old pools.old registers.old fetch.old count.new pools.new registers.new fetch.new }
+    ensures known { (cycle : ℕ) → KeepsKnown cycle pools.old.slots pools.new.slots }
     ensures same { fetcher.new ≡ fetcher.old }
 {
     let width = row.width();

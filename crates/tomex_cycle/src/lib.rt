@@ -6,20 +6,20 @@
 //! (`tomex_timing`) and the in-order run (`tomex_rvexec`).
 #![tactic(auto)]
 
+mod activity;
 mod ends;
 mod fetch;
 mod finishes;
-mod happened;
 mod inner;
 mod issue;
 mod machine;
-mod passing;
 mod phases;
 mod progress;
-mod shown;
+mod skipping;
 mod starts;
+mod tables;
 
 pub use machine::Machine;
 pub use progress::Progress;
-pub use shown::Tables;
+pub use tables::Tables;
 pub use tomex_timing::{Busy, Field, Tag};

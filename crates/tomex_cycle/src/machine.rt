@@ -1,17 +1,18 @@
 //! The machine.
 
-ghost use Rattle.std.specs.Prelude.{◌≡◌, ◌≢◌, ◌<◌, ◌≤◌, ◌+◌, ◌^◌, max, IfErr, IfOk, true};
+ghost use Rattle.std.specs.Prelude.{◌≡◌, ◌≢◌, ◌<◌, ◌≤◌, ◌+◌, ◌^◌, IfErr, IfOk, true};
 ghost use Rattle.tomex_rvexec.specs.Run.{EndsWithin, IsEnd};
 ghost use Rattle.tomex_timing.specs.Tables.{tables_of};
 ghost use Rattle.tomex_cycle.specs.Run.{run_of};
-ghost use Rattle.tomex_cycle.specs.Seen.{seen, seen_after, is_end};
-ghost use Rattle.tomex_cycle.specs.Events.{GoesOn, IsCounted};
+ghost use Rattle.tomex_cycle.specs.Advancing.{AdvancesTo};
+ghost use Rattle.tomex_cycle.specs.Events.{GoesOn};
+ghost use Rattle.tomex_cycle.specs.Seen.{before_first_cycle, is_end, seen, seen_after};
 
 use crate::finishes::Finishes;
 use crate::inner::{Cycle, Inner};
-use crate::passing::pass_still;
-use crate::progress::{Made, Progress};
-use crate::shown::Tables;
+use crate::progress::{CycleOutcome, Progress};
+use crate::skipping::skip_quiet;
+use crate::tables::Tables;
 use std::alloc::{AllocError, Allocator, Global};
 use std::marker::Model;
 use tomex_config::Config;
@@ -36,24 +37,26 @@ pub struct Machine<'a, A: Allocator = Global> {
 impl<'a, A: Allocator> Model for Machine<'a, A> {
     ghost use Rattle.std.specs.Prelude.{◌≤◌, ◌+◌};
     ghost use Rattle.tomex_cycle.specs.Seen.{Counted};
-    ghost use Rattle.tomex_cycle.specs.Sound.{IsSound, IsTurning};
+    ghost use Rattle.tomex_cycle.specs.Sound.{IsSoundWith, IsTurning};
 
     ghost Value = { Counted };
 
-    ghost view = { λ m. record { image = m.fetcher; row = m.row; cycle = m.cycle; last = m.last; worked = m.inner.worked } };
+    ghost view = { λ m.
+        record { image = m.fetcher; row = m.row; cycle = m.cycle; last = m.last; worked = m.inner.worked } };
 
-    ghost invariant = { λ m. IsSound m.fetcher m.row m.cycle m.last m.inner.count m.inner.pools m.inner.registers m.inner.fetch m.inner.memory × (m.inner.worked ≤ m.cycle) × IsTurning m.last m.inner.pools.slots (m.cycle + 1) m.finishes };
+    ghost invariant = { λ m.
+        IsSoundWith m.fetcher m.row m.cycle m.last m.inner × (m.inner.worked ≤ m.cycle)
+        × IsTurning m.last m.inner.pools.slots (m.cycle + 1) m.finishes };
 }
 
 impl<'a, A: Allocator> Machine<'a, A> {
     /// The machine of an image and a row, before the first cycle.
     pub fn new(alloc: A, image: &'a Image<A>, row: &Config) -> Result<Self, AllocError>
-        ensures start { IfOk result (λ m. seen m ≡ record { image = image.now; row = row.now; cycle = 0; last = Progress.Running }) }
+        ensures start { IfOk result (λ m. seen m ≡ before_first_cycle image.now row.now) }
         ensures worked { IfOk result (λ m. m.worked ≡ 0) }
     {
-        // Read for what the types of the row and the image keep.
-        let _buses = row.buses();
-        let _entry = image.entry();
+        row.keeps_limits();
+        image.fills_its_window();
         Ok(Machine {
             fetcher: Fetcher::new(image),
             row: *row,
@@ -67,13 +70,12 @@ impl<'a, A: Allocator> Machine<'a, A> {
     /// A machine of this image and this row, before the first cycle, made in the memory of this one if that is enough.
     /// If more is refused, this one comes back as it was.
     pub fn restart(self, image: &'a Image<A>, row: &Config) -> Result<Self, Self>
-        ensures start { IfOk result (λ m. seen m ≡ record { image = image.now; row = row.now; cycle = 0; last = Progress.Running }) }
+        ensures start { IfOk result (λ m. seen m ≡ before_first_cycle image.now row.now) }
         ensures worked { IfOk result (λ m. m.worked ≡ 0) }
         ensures err { IfErr result (λ m. m ≡ self.entry) }
     {
-        // Read for what the types of the row and the image keep.
-        let _buses = row.buses();
-        let _entry = image.entry();
+        row.keeps_limits();
+        image.fills_its_window();
         let Machine {
             inner,
             finishes,
@@ -106,19 +108,12 @@ impl<'a, A: Allocator> Machine<'a, A> {
     pub fn tick(&mut self) -> Progress
         requires { self.old.cycle < 2 ^ 40 }
         ensures answer { result ≡ self.new.last }
-        ensures image { self.new.image ≡ self.old.image }
-        ensures row { self.new.row ≡ self.old.row }
-        ensures runs { result ≡ Progress.Running → self.new.cycle ≡ self.old.cycle + 1 }
-        ensures least { self.old.cycle ≤ self.new.cycle }
-        ensures most { self.new.cycle ≤ self.old.cycle + 1 }
-        ensures stays { self.old.last ≢ Progress.Running → self.new ≡ self.old }
-        ensures ends { EndsWithin self.old.image 262144 → seen self.new ≡ seen_after self.old.image self.old.row (self.old.cycle + 1) }
-        ensures counts { EndsWithin self.old.image 262144 → IsCounted (run_of self.old.row self.old.image) self.old.cycle self.new.cycle self.old.worked self.new.worked }
+        ensures advances { AdvancesTo (self.old.cycle + 1) self.old self.new }
     {
         self.advance(self.cycle + 1)
     }
 
-    /// Makes one cycle, and passes those after it in which no station changes, but goes no further than `to`.
+    /// Makes one cycle and skips the quiet ones after it, but goes no further than `to`.
     fn go_on(&mut self, to: u64) -> Progress
         requires running { self.old.last ≡ Progress.Running }
         requires ahead { self.old.cycle < to }
@@ -128,23 +123,26 @@ impl<'a, A: Allocator> Machine<'a, A> {
         ensures row { self.new.row ≡ self.old.row }
         ensures least { self.old.cycle < self.new.cycle }
         ensures most { self.new.cycle ≤ to }
-        ensures ends { EndsWithin self.old.image 262144 → seen self.new ≡ seen_after self.old.image self.old.row self.new.cycle }
-        ensures goes { EndsWithin self.old.image 262144 → GoesOn (run_of self.old.row self.old.image) to self.old.cycle self.new.cycle self.old.worked self.new.worked }
+        ensures ends { EndsWithin self.old.image 262144
+            → seen self.new ≡ seen_after self.old.image self.old.row self.new.cycle }
+        ensures goes { EndsWithin self.old.image 262144
+            → GoesOn (run_of self.old.row self.old.image) to self.old.cycle self.new.cycle
+            self.old.worked self.new.worked }
     {
         let next = self.cycle + 1;
         match self.inner.make_cycle(
-            Cycle::OfPhases,
+            Cycle::ByPhases,
             &mut self.finishes,
             &mut self.fetcher,
             &self.row,
             next,
         ) {
-            Made::Moving => {
+            CycleOutcome::Active => {
                 self.cycle = next;
                 Progress::Running
             }
-            Made::Still => {
-                self.cycle = pass_still(
+            CycleOutcome::Quiet => {
+                self.cycle = skip_quiet(
                     &mut self.inner,
                     &mut self.finishes,
                     &mut self.fetcher,
@@ -162,7 +160,15 @@ impl<'a, A: Allocator> Machine<'a, A> {
         }
     }
 
-    /// Makes cycles, and passes those in which nothing happens, until the cycle is `to` or the machine ends or faults.
+    /// A law: a machine whose program ends is as it is after as many ticks as its cycle says.
+    fn keeps_step(&self)
+        ensures { EndsWithin self.now.image 262144
+            → seen self.now ≡ seen_after self.now.image self.now.row self.now.cycle }
+    {
+        let _cycle = self.cycle;
+    }
+
+    /// Makes cycles, and skips quiet ones, until the cycle is `to` or the machine ends or faults.
     ///
     /// The one place where cycles are made: so the compiler puts what a cycle does into this loop, and what each
     /// caller does is no part of it. It answers nothing, since an answer's place would be kept through the loop.
@@ -170,17 +176,9 @@ impl<'a, A: Allocator> Machine<'a, A> {
     fn run_to(&mut self, to: u64)
         requires running { self.old.last ≡ Progress.Running }
         requires low { to ≤ 2 ^ 40 }
-        ensures image { self.new.image ≡ self.old.image }
-        ensures row { self.new.row ≡ self.old.row }
-        ensures runs { self.new.last ≡ Progress.Running → self.new.cycle ≡ max self.old.cycle to }
-        ensures least { self.old.cycle ≤ self.new.cycle }
-        ensures most { self.new.cycle ≤ max self.old.cycle to }
-        ensures none { to ≤ self.old.cycle → self.new ≡ self.old }
-        ensures ends { EndsWithin self.old.image 262144 → seen self.new ≡ seen_after self.old.image self.old.row (max self.old.cycle to) }
-        ensures counts { EndsWithin self.old.image 262144 → IsCounted (run_of self.old.row self.old.image) self.old.cycle self.new.cycle self.old.worked self.new.worked }
+        ensures { AdvancesTo to self.old self.new }
     {
-        // Read for what the machine's type keeps.
-        let _start = self.cycle();
+        self.keeps_step();
         while self.cycle < to {
             match self.go_on(to) {
                 Progress::Running => {}
@@ -189,19 +187,11 @@ impl<'a, A: Allocator> Machine<'a, A> {
         }
     }
 
-    /// Does what as many ticks do as bring the cycle to `to`, fewer where the machine ends or faults.
+    /// Goes on to cycle `to`, or to the machine's end or fault if that comes first. Quiet cycles are skipped.
     pub fn advance(&mut self, to: u64) -> Progress
         requires { to ≤ 2 ^ 40 }
         ensures answer { result ≡ self.new.last }
-        ensures image { self.new.image ≡ self.old.image }
-        ensures row { self.new.row ≡ self.old.row }
-        ensures runs { result ≡ Progress.Running → self.new.cycle ≡ max self.old.cycle to }
-        ensures least { self.old.cycle ≤ self.new.cycle }
-        ensures most { self.new.cycle ≤ max self.old.cycle to }
-        ensures stays { self.old.last ≢ Progress.Running → self.new ≡ self.old }
-        ensures none { to ≤ self.old.cycle → self.new ≡ self.old }
-        ensures ends { EndsWithin self.old.image 262144 → seen self.new ≡ seen_after self.old.image self.old.row (max self.old.cycle to) }
-        ensures counts { EndsWithin self.old.image 262144 → IsCounted (run_of self.old.row self.old.image) self.old.cycle self.new.cycle self.old.worked self.new.worked }
+        ensures advances { AdvancesTo to self.old self.new }
     {
         if let Progress::Running = self.last {
             self.run_to(to);
@@ -212,12 +202,13 @@ impl<'a, A: Allocator> Machine<'a, A> {
     /// The cycle that was made last.
     pub fn cycle(&self) -> u64
         ensures value { result ≡ self.now.cycle }
-        ensures ends { EndsWithin self.now.image 262144 → seen self.now ≡ seen_after self.now.image self.now.row self.now.cycle }
+        ensures ends { EndsWithin self.now.image 262144
+            → seen self.now ≡ seen_after self.now.image self.now.row self.now.cycle }
     {
         self.cycle
     }
 
-    /// How many cycles were made. In those that were passed nothing happens.
+    /// How many cycles were made. The others were quiet, and skipped.
     pub fn worked(&self) -> u64
         ensures { result ≡ self.now.worked }
     {
@@ -234,7 +225,8 @@ impl<'a, A: Allocator> Machine<'a, A> {
     /// The busy stations and the register status.
     pub fn tables(&self) -> Tables
         ensures cycle { result.cycle ≡ self.now.cycle }
-        ensures ends { EndsWithin self.now.image 262144 → result ≡ tables_of self.now.cycle (run_of self.now.row self.now.image) }
+        ensures ends { EndsWithin self.now.image 262144
+            → result ≡ tables_of self.now.cycle (run_of self.now.row self.now.image) }
     {
         self.inner.tables(self.cycle)
     }

@@ -1,11 +1,11 @@
-//! What a cycle comes to.
+//! The status of a machine, and the outcome of a cycle.
 
 ghost use Rattle.std.specs.Prelude.{◌≡◌, true, false, if◌then◌else◌};
-ghost use Rattle.tomex_cycle.specs.Made.{progress_of};
+ghost use Rattle.tomex_cycle.specs.CycleOutcome.{progress_of};
 
 use tomex_rvexec::Fault;
 
-/// What the last cycle came to.
+/// The status of a machine after its last cycle.
 #[derive(Clone, Copy)]
 pub enum Progress {
     Running,
@@ -14,44 +14,44 @@ pub enum Progress {
     Faulted(Fault),
 }
 
-/// What a cycle comes to.
+/// The outcome of a cycle.
 #[derive(Clone, Copy)]
-pub(crate) enum Made {
-    /// The program runs on, and something may happen in the next cycle.
-    Moving,
-    /// The program runs on, and nothing happens before the next finish.
-    Still,
+pub(crate) enum CycleOutcome {
+    /// The program runs on, and something has happened: the next cycle has to be made.
+    Active,
+    /// The program runs on, and after this cycle nothing happens before the next finish.
+    Quiet,
     /// The program has ended, and so has each of its instructions.
     Ended,
     Faulted(Fault),
 }
 
-impl Made {
-    /// What a cycle without fault comes to.
+impl CycleOutcome {
+    /// The outcome of a cycle without fault.
     #[inline(always)]
-    pub(crate) fn after(over: bool, still: bool) -> Made
+    pub(crate) fn after(over: bool, quiet: bool) -> CycleOutcome
         ensures progress { progress_of result ≡ (if over then Progress.Ended else Progress.Running) }
-        ensures moving { result ≡ Made.Moving → still ≡ false }
-        ensures still { result ≡ Made.Still → still ≡ true }
+        ensures active { result ≡ CycleOutcome.Active → quiet ≡ false }
+        ensures quiet { result ≡ CycleOutcome.Quiet → quiet ≡ true }
     {
         if over {
-            Made::Ended
-        } else if still {
-            Made::Still
+            CycleOutcome::Ended
+        } else if quiet {
+            CycleOutcome::Quiet
         } else {
-            Made::Moving
+            CycleOutcome::Active
         }
     }
 
-    /// What the machine is after the cycle.
+    /// The status of the machine after the cycle.
     #[inline(always)]
     pub(crate) fn progress(self) -> Progress
         ensures { result ≡ progress_of self }
     {
         match self {
-            Made::Moving | Made::Still => Progress::Running,
-            Made::Ended => Progress::Ended,
-            Made::Faulted(fault) => Progress::Faulted(fault),
+            CycleOutcome::Active | CycleOutcome::Quiet => Progress::Running,
+            CycleOutcome::Ended => Progress::Ended,
+            CycleOutcome::Faulted(fault) => Progress::Faulted(fault),
         }
     }
 }

@@ -1,16 +1,16 @@
 //! Which operations start in a cycle, and what they do.
 
-ghost use Rattle.std.specs.Prelude.{ℕ, ◌≡◌, ◌≢◌, ◌<◌, ◌≤◌, ◌+◌, ◌-◌, ◌/◌, ◌^◌, IfSome, IsSome, None, Some, slice_index_or, slice_set, length, true, ◌||◌};
+ghost use Rattle.std.specs.Prelude.{ℕ, ◌≡◌, ◌≢◌, ◌<◌, ◌≤◌, ◌+◌, ◌-◌, ◌/◌, ◌^◌, IfSome, IsSome, None, Some, slice_set, length, true, ◌||◌};
 ghost use Rattle.tomex_bus.specs.Sets.{has};
-ghost use Rattle.tomex_tags.specs.Contents.{started, step_in};
+ghost use Rattle.tomex_tags.specs.Contents.{slot, started, step_in};
 ghost use Rattle.tomex_tags.specs.Places.{pool_at};
 ghost use Rattle.tomex_tags.specs.Pools.{AreBusy};
-ghost use Rattle.tomex_tags.specs.Standing.{IsSetOf, waits_for};
+ghost use Rattle.tomex_tags.specs.WaitSets.{IsSetOf, waits_for};
 ghost use Rattle.tomex_rvdec.specs.Operands.{pool_of, unit_of, unit_of_pool};
 ghost use Rattle.tomex_rvexec.specs.Access.{HasStored, IsInside};
 ghost use Rattle.tomex_rvexec.specs.Flow.{byte_in, result_of};
 ghost use Rattle.tomex_cycle.specs.Finishes.{AreKnown};
-ghost use Rattle.tomex_cycle.specs.Starts.{AllCanBegin, AllInside, AreLow, AreReadyFor, CanBegin, HaveBegun, HaveStored, IsStarting, IsWanted, begun};
+ghost use Rattle.tomex_cycle.specs.Starts.{AllCanBegin, AllInside, AllWaitFor, AreLow, AreReadyFor, CanBegin, HaveBegun, HaveStored, IsAccessFault, IsStarting, IsWanted, access_fault, begun};
 
 use crate::finishes::Finishes;
 use std::alloc::Allocator;
@@ -22,44 +22,44 @@ use tomex_rvdec::{PoolId, UnitId};
 use tomex_rvexec::{Fault, FaultKind, Memory};
 use tomex_tags::{Pools, Station, unit};
 
-/// Whether no older access is in the way of the one in a place, which waits for nothing else but a port.
+/// Whether no older access is in the way of the one in a place, which otherwise waits for a port alone.
 #[inline(always)]
-fn is_clear(pools: &Pools, place: usize, next: u64) -> bool
+fn is_clear(pools: &Pools, place: usize, cycle: u64) -> bool
     requires below { place < 128 }
-    requires waits { waits_for UnitId.Mem (slice_index_or pools.now.slots place None) ≡ true }
-    requires busy { AreBusy pools.now.slots pools.now.busy pools.now.ages }
-    ensures { IsWanted pools.now next UnitId.Mem place result }
+    requires waits { waits_for UnitId.Mem (slot pools.now.slots place) ≡ true }
+    requires busy { AreBusy pools.now.slots pools.now.busy pools.now.issue_numbers }
+    ensures { IsWanted pools.now cycle UnitId.Mem place result }
 {
-    may_access(pools, place, next)
+    may_access(pools, place, cycle)
 }
 
-/// Of the places of loads and stores that wait for nothing else, those that no older access is in the way of.
+/// Of these loads and stores, which wait for nothing else, those that no older access is in the way of.
 ///
 /// Mostly no more than one has its address, and none is asked: so this takes no registers of its caller.
 #[inline(never)]
-fn clear_among(pools: &Pools, waiting: u128, next: u64) -> u128
+fn clear_among(pools: &Pools, waiting: u128, cycle: u64) -> u128
     requires set { IsSetOf (waits_for UnitId.Mem) pools.now.slots waiting }
-    requires busy { AreBusy pools.now.slots pools.now.busy pools.now.ages }
-    ensures ready { AreReadyFor pools.now next UnitId.Mem result }
-    ensures wait { (x : ℕ) → x < 128 → has result x ≡ true → waits_for UnitId.Mem (slice_index_or pools.now.slots x None) ≡ true }
+    requires busy { AreBusy pools.now.slots pools.now.busy pools.now.issue_numbers }
+    ensures ready { AreReadyFor pools.now cycle UnitId.Mem result }
+    ensures wait { AllWaitFor UnitId.Mem pools.now.slots result }
 {
     let mut clear = 0;
     let mut rest = waiting;
     'members: while rest != 0 {
         let place = lowest(rest);
         rest = without_lowest(rest);
-        if is_clear(pools, place, next) {
+        if is_clear(pools, place, cycle) {
             clear = with(clear, place);
         }
     }
     clear
 }
 
-/// The places of the loads and stores whose accesses can start but for want of a port.
-fn accessible(pools: &Pools, next: u64) -> u128
-    ensures ready { AreReadyFor pools.now next UnitId.Mem result }
-    ensures wait { (x : ℕ) → x < 128 → has result x ≡ true → waits_for UnitId.Mem (slice_index_or pools.now.slots x None) ≡ true }
-    ensures busy { AreBusy pools.now.slots pools.now.busy pools.now.ages }
+/// The places of the loads and stores whose accesses can start if a port is left.
+fn accessible(pools: &Pools, cycle: u64) -> u128
+    ensures ready { AreReadyFor pools.now cycle UnitId.Mem result }
+    ensures wait { AllWaitFor UnitId.Mem pools.now.slots result }
+    ensures busy { AreBusy pools.now.slots pools.now.busy pools.now.issue_numbers }
 {
     let waiting = pools.waiting_for(UnitId::Mem);
     if waiting == 0 {
@@ -68,16 +68,16 @@ fn accessible(pools: &Pools, next: u64) -> u128
     if is_alone(pools) {
         return waiting;
     }
-    clear_among(pools, waiting, next)
+    clear_among(pools, waiting, cycle)
 }
 
-/// The places whose operations can start but for want of a unit of this kind, which is no memory port.
+/// The places whose operations can start if a unit of this kind is left, which is no memory port.
 #[inline(always)]
-fn ready(pools: &Pools, next: u64, unit: UnitId) -> u128
+fn ready(pools: &Pools, unit: UnitId) -> u128
     requires { unit ≢ UnitId.Mem }
-    ensures ready { AreReadyFor pools.now next unit result }
+    ensures ready { (cycle : ℕ) → AreReadyFor pools.now cycle unit result }
     ensures wait { IsSetOf (waits_for unit) pools.now.slots result }
-    ensures busy { AreBusy pools.now.slots pools.now.busy pools.now.ages }
+    ensures busy { AreBusy pools.now.slots pools.now.busy pools.now.issue_numbers }
 {
     pools.waiting_for(unit)
 }
@@ -85,42 +85,43 @@ fn ready(pools: &Pools, next: u64, unit: UnitId) -> u128
 /// The members of all the sets.
 #[inline(always)]
 fn together(alu: u128, mul: u128, div: u128, mem: u128, bru: u128) -> u128
-    ensures { (x : ℕ) → has result x ≡ (has alu x || (has mul x || (has div x || (has mem x || has bru x)))) }
+    ensures { (x : ℕ)
+        → has result x ≡ (has alu x || (has mul x || (has div x || (has mem x || has bru x)))) }
 {
     union(alu, union(mul, union(div, union(mem, bru))))
 }
 
 /// The places whose operations start in the cycle: of each kind the oldest that are ready, as many as
 /// there are units.
-pub fn starting(pools: &Pools, row: &Config, next: u64) -> u128
-    ensures starting { IsStarting row.now pools.now next result }
-    ensures busy { AreBusy pools.now.slots pools.now.busy pools.now.ages }
+pub fn starting(pools: &Pools, row: &Config, cycle: u64) -> u128
+    ensures starting { IsStarting row.now pools.now cycle result }
+    ensures busy { AreBusy pools.now.slots pools.now.busy pools.now.issue_numbers }
 {
     let waiting = pools.waiting();
     if waiting == 0 {
         return 0;
     }
-    let alu = ready(pools, next, UnitId::Alu);
-    let mul = ready(pools, next, UnitId::Mul);
-    let div = ready(pools, next, UnitId::Div);
-    let mem = accessible(pools, next);
-    let bru = ready(pools, next, UnitId::Bru);
+    let alu = ready(pools, UnitId::Alu);
+    let mul = ready(pools, UnitId::Mul);
+    let div = ready(pools, UnitId::Div);
+    let mem = accessible(pools, cycle);
+    let bru = ready(pools, UnitId::Bru);
     if is_single(waiting) {
-        // Read for what the row's type keeps: there is a unit of each kind.
-        let _buses = row.buses();
+        // There is a unit of each kind.
+        row.keeps_limits();
         return together(alu, mul, div, mem, bru);
     }
-    let ages = pools.ages();
+    let issue_numbers = pools.issue_numbers();
     together(
-        pick(alu, ages, row.units(UnitId::Alu)),
-        pick(mul, ages, row.units(UnitId::Mul)),
-        pick(div, ages, row.units(UnitId::Div)),
-        pick(mem, ages, row.units(UnitId::Mem)),
-        pick(bru, ages, row.units(UnitId::Bru)),
+        pick(alu, issue_numbers, row.units(UnitId::Alu)),
+        pick(mul, issue_numbers, row.units(UnitId::Mul)),
+        pick(div, issue_numbers, row.units(UnitId::Div)),
+        pick(mem, issue_numbers, row.units(UnitId::Mem)),
+        pick(bru, issue_numbers, row.units(UnitId::Bru)),
     )
 }
 
-/// The result of the operation of the station in a place; `None` where its access lies outside memory.
+/// The result of the operation of the station in a place, or `None` if its access lies outside memory.
 ///
 /// Each pool has 16 places, in the order of the pools. Which one it is is told by comparisons, that of the most
 /// frequent pool first: a processor foresees each of them better than one jump to six targets.
@@ -147,7 +148,7 @@ fn value_at<A: Allocator>(place: usize, station: &Station, memory: &Memory<A>) -
     }
 }
 
-/// The cycles that the operation of the station in a place takes, and its result; `None` where its access
+/// The cycles that the operation of the station in a place takes, and its result, or `None` if its access
 /// lies outside memory.
 #[inline(always)]
 fn outcome<A: Allocator>(
@@ -159,7 +160,8 @@ fn outcome<A: Allocator>(
     requires low { place < 96 }
     requires own { unit_of station.now.instr.op ≡ Some (unit_of_pool (pool_at (place / 16))) }
     requires pool { pool_of station.now.instr.op ≡ Some (pool_at (place / 16)) }
-    ensures value { (next : ℕ) → IfSome result (λ o. started (next + o.0 - 1) o.1 station.now ≡ begun row.now next memory.now station.now) }
+    ensures value { (cycle : ℕ)
+        → IfSome result (λ o. started (cycle + o.0 - 1) o.1 station.now ≡ begun row.now cycle memory.now station.now) }
     ensures range { IfSome result (λ o. (1 ≤ o.0) × (o.0 ≤ 64)) }
     ensures outside { IfSome result (λ o. IsInside memory.now (step_in station.now)) }
     ensures inside { CanBegin memory.now station.now → IsSome result }
@@ -168,24 +170,27 @@ fn outcome<A: Allocator>(
     Some((row.latency(unit(place)), value))
 }
 
-/// Starts the operation of a place, where it hasn't started; a fault where its access lies outside memory.
+/// Starts the operation of a place if it hasn't started. Answers a fault if its access lies outside memory.
 fn begin_at<A: Allocator>(
     pools: &mut Pools,
     finishes: &mut Finishes,
     place: usize,
     memory: &Memory<A>,
     row: &Config,
-    next: u64,
+    cycle: u64,
 ) -> Option<Fault>
-    requires next { next < 2 ^ 41 }
-    requires known { AreKnown pools.old.slots next finishes.old }
-    ensures slots { (s : Station) → slice_index_or pools.old.slots place None ≡ Some s → CanBegin memory.now s → pools.new.slots ≡ slice_set pools.old.slots place (Some (begun row.now next memory.now s)) }
-    ensures good { (s : Station) → slice_index_or pools.old.slots place None ≡ Some s → CanBegin memory.now s → result ≡ None }
-    ensures only { IfSome result (λ f. (s : Station) × (slice_index_or pools.old.slots place None ≡ Some s) × (CanBegin memory.now s → ⊥) × (f ≡ record { kind = FaultKind.Access; pc = s.pc })) }
-    ensures others { (x : ℕ) → x ≢ place → slice_index_or pools.new.slots x None ≡ slice_index_or pools.old.slots x None }
-    ensures fault { (s : Station) → slice_index_or pools.old.slots place None ≡ Some s → s.finish ≡ None → (IsInside memory.now (step_in s) → ⊥) → result ≡ Some (record { kind = FaultKind.Access; pc = s.pc }) }
-    ensures ages { pools.new.ages ≡ pools.old.ages }
-    ensures known { result ≡ None → AreKnown pools.new.slots next finishes.new }
+    requires low { cycle < 2 ^ 41 }
+    requires known { AreKnown pools.old.slots cycle finishes.old }
+    ensures slots { (s : Station) → slot pools.old.slots place ≡ Some s → CanBegin memory.now s
+        → pools.new.slots ≡ slice_set pools.old.slots place (Some (begun row.now cycle memory.now s)) }
+    ensures good { (s : Station) → slot pools.old.slots place ≡ Some s → CanBegin memory.now s
+        → result ≡ None }
+    ensures only { IfSome result (IsAccessFault pools.old memory.now place) }
+    ensures others { (x : ℕ) → x ≢ place → slot pools.new.slots x ≡ slot pools.old.slots x }
+    ensures fault { (s : Station) → slot pools.old.slots place ≡ Some s → s.finish ≡ None
+        → (IsInside memory.now (step_in s) → ⊥) → result ≡ Some (access_fault s) }
+    ensures issue_numbers { pools.new.issue_numbers ≡ pools.old.issue_numbers }
+    ensures known { result ≡ None → AreKnown pools.new.slots cycle finishes.new }
 {
     let Some(station) = pools.at(place) else {
         return None;
@@ -195,7 +200,7 @@ fn begin_at<A: Allocator>(
     }
     match outcome(place, &station, memory, row) {
         Some((latency, value)) => {
-            pools.start(place, next + u64::from(latency) - 1, value);
+            pools.start(place, cycle + u64::from(latency) - 1, value);
             finishes.wheel.put(u32::from(latency) - 1, place);
             None
         }
@@ -213,20 +218,24 @@ pub fn begin<A: Allocator>(
     picked: u128,
     memory: &Memory<A>,
     row: &Config,
-    next: u64,
+    cycle: u64,
 ) -> Option<Fault>
-    requires next { next < 2 ^ 41 }
-    requires known { AreKnown pools.old.slots next finishes.old }
-    ensures begins { length pools.old.slots ≡ 96 → AreLow picked → AllCanBegin memory.now picked pools.old.slots → HaveBegun row.now next memory.now picked 96 pools.old pools.new }
-    ensures good { length pools.old.slots ≡ 96 → AreLow picked → AllCanBegin memory.now picked pools.old.slots → result ≡ None }
-    ensures fault { IfSome result (λ f. (x : ℕ) × (has picked x ≡ true) × (s : Station) × (slice_index_or pools.old.slots x None ≡ Some s) × (CanBegin memory.now s → ⊥) × (f ≡ record { kind = FaultKind.Access; pc = s.pc })) }
-    ensures known { result ≡ None → AreKnown pools.new.slots next finishes.new }
+    requires low { cycle < 2 ^ 41 }
+    requires known { AreKnown pools.old.slots cycle finishes.old }
+    ensures begins { length pools.old.slots ≡ 96 → AreLow picked
+        → AllCanBegin memory.now picked pools.old.slots
+        → HaveBegun row.now cycle memory.now picked 96 pools.old pools.new }
+    ensures good { length pools.old.slots ≡ 96 → AreLow picked
+        → AllCanBegin memory.now picked pools.old.slots → result ≡ None }
+    ensures fault { IfSome result
+        (λ f. (x : ℕ) × (has picked x ≡ true) × IsAccessFault pools.old memory.now x f) }
+    ensures known { result ≡ None → AreKnown pools.new.slots cycle finishes.new }
 {
     let mut rest = picked;
     'members: while rest != 0 {
         let place = lowest(rest);
         rest = without_lowest(rest);
-        let fault = begin_at(pools, finishes, place, memory, row, next);
+        let fault = begin_at(pools, finishes, place, memory, row, cycle);
         if fault.is_some() {
             return fault;
         }
@@ -236,8 +245,9 @@ pub fn begin<A: Allocator>(
 
 /// Makes the store of a place, if there is one.
 fn write_at<A: Allocator>(pools: &Pools, place: usize, memory: &mut Memory<A>)
-    ensures stored { (s : Station) → slice_index_or pools.now.slots place None ≡ Some s → HasStored (step_in s) memory.old memory.new }
-    ensures none { slice_index_or pools.now.slots place None ≡ None → memory.new ≡ memory.old }
+    ensures stored { (s : Station) → slot pools.now.slots place ≡ Some s
+        → HasStored (step_in s) memory.old memory.new }
+    ensures none { slot pools.now.slots place ≡ None → memory.new ≡ memory.old }
 {
     if let Some(station) = pools.at(place) {
         write_bytes(&station, memory);
@@ -246,7 +256,8 @@ fn write_at<A: Allocator>(pools: &Pools, place: usize, memory: &mut Memory<A>)
 
 /// Makes the stores of the picked places.
 pub fn write<A: Allocator>(pools: &Pools, picked: u128, memory: &mut Memory<A>)
-    ensures { AreLow picked → AllInside memory.old picked pools.now.slots → HaveStored pools.now.slots picked 96 memory.old memory.new }
+    ensures { AreLow picked → AllInside memory.old picked pools.now.slots
+        → HaveStored pools.now.slots picked 96 memory.old memory.new }
 {
     let stores = both(picked, pools.stores());
     let mut rest = stores;

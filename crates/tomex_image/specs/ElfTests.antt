@@ -39,15 +39,18 @@ tests_from window len entry segments [] =
     test (nat_eq (length segments) 0) Empty
     ∷ test (not (nat_eq (entry % 4) 0) || not (lies_in window entry 4)) Entry
     ∷ []
-tests_from window len entry segments (h ∷ hs) = header_tests window len segments h ++ tests_from window len entry (with_segment segments h) hs
+tests_from window len entry segments (h ∷ hs) =
+    header_tests window len segments h ++ tests_from window len entry (with_segment segments h) hs
 
 -- the tests of a table of so many headers at an offset of the file, and of the whole
 abbrev pub table_tests : Span → List ℕ → ℕ → ℕ → ℕ → List Test
-table_tests window bytes entry offset count = tests_from window (length bytes) entry [] (headers_from bytes offset count)
+table_tests window bytes entry offset count =
+    tests_from window (length bytes) entry [] (headers_from bytes offset count)
 
 -- all tests of an ELF file
 abbrev pub elf_tests : List ℕ → Span → List Test
-elf_tests bytes window = file_tests bytes ++ table_tests window bytes (entry_of bytes) (header_offset bytes) (header_count bytes)
+elf_tests bytes window =
+    file_tests bytes ++ table_tests window bytes (entry_of bytes) (header_offset bytes) (header_count bytes)
 
 -- what the tests promise of the entry: a word of the window
 abbrev pub IsEntry : Span → ℕ → Type 0

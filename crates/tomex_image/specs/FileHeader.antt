@@ -6,7 +6,9 @@ abbrev pub half_at : List ℕ → ℕ → ℕ
 half_at bytes i = slice_index bytes i + 256 * slice_index bytes (i + 1)
 
 abbrev pub word_at : List ℕ → ℕ → ℕ
-word_at bytes i = slice_index bytes i + 256 * slice_index bytes (i + 1) + 65536 * slice_index bytes (i + 2) + 16777216 * slice_index bytes (i + 3)
+word_at bytes i =
+    slice_index bytes i + 256 * slice_index bytes (i + 1) + 65536 * slice_index bytes (i + 2)
+    + 16777216 * slice_index bytes (i + 3)
 
 -- e_type
 abbrev pub file_type : List ℕ → ℕ
@@ -34,7 +36,9 @@ header_count bytes = half_at bytes 44
 
 -- ELFCLASS32, ELFDATA2LSB, EV_CURRENT, and EM_RISCV
 abbrev pub is_riscv : List ℕ → Bool
-is_riscv bytes = nat_eq (slice_index bytes 4) 1 && nat_eq (slice_index bytes 5) 1 && nat_eq (slice_index bytes 6) 1 && nat_eq (machine bytes) 243
+is_riscv bytes =
+    nat_eq (slice_index bytes 4) 1 && nat_eq (slice_index bytes 5) 1 && nat_eq (slice_index bytes 6) 1
+    && nat_eq (machine bytes) 243
 
 -- ET_EXEC
 abbrev pub is_executable : List ℕ → Bool

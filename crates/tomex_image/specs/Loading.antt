@@ -12,7 +12,9 @@ use Rattle.tomex_image.specs.Window.{Span}
 
 -- the bytes begin with the magic number of ELF files: System V ABI, "ELF Identification"
 abbrev pub is_elf : List ℕ → Bool
-is_elf bytes = nat_lt 3 (length bytes) && nat_eq (slice_index bytes 0) 0x7f && nat_eq (slice_index bytes 1) 0x45 && nat_eq (slice_index bytes 2) 0x4c && nat_eq (slice_index bytes 3) 0x46
+is_elf bytes =
+    nat_lt 3 (length bytes) && nat_eq (slice_index bytes 0) 0x7f && nat_eq (slice_index bytes 1) 0x45
+    && nat_eq (slice_index bytes 2) 0x4c && nat_eq (slice_index bytes 3) 0x46
 
 -- the tests of a flat file
 abbrev pub flat_tests : List ℕ → Span → List Test

@@ -23,7 +23,8 @@ segment_byte bytes h a = if nat_lt a (h.address + h.file_size) then file_byte by
 
 -- the image has the whole segment at its address
 abbrev pub StandsIn : List ℕ → Loaded → ProgramHeader → Type 0
-StandsIn bytes image h = (a : ℕ) → h.address ≤ a → a < h.address + h.memory_size → image_byte image a ≡ segment_byte bytes h a
+StandsIn bytes image h =
+    (a : ℕ) → h.address ≤ a → a < h.address + h.memory_size → image_byte image a ≡ segment_byte bytes h a
 
 -- the address is no byte of the segment
 abbrev pub IsOutside : ℕ → ProgramHeader → Type 0

@@ -40,6 +40,13 @@ impl<A: Allocator> Image<A> {
         }
     }
 
+    /// A law: the image's memory fills its window, and its entry lies inside it.
+    pub fn fills_its_window(&self)
+        ensures { IsLoaded self.now.window self.now.memory self.now.entry }
+    {
+        let _window = self.window;
+    }
+
     /// The window that the image was loaded into.
     pub fn window(&self) -> Window
         ensures value { result ≡ self.now.window }

@@ -26,7 +26,8 @@ fn has_elf_magic(bytes: &[u8]) -> bool
 /// against at most 16 earlier segments, and what is then written is at most twice the window's size.
 pub fn load<A: Allocator>(alloc: A, bytes: &[u8], window: Window) -> Result<Image<A>, ImageError>
     ensures ok { IfOk result (λ i. placed bytes.now window i × (refused bytes.now window ≡ None)) }
-    ensures err { IfErr result (λ e. ((e ≡ ImageError.Memory) × (refused bytes.now window ≡ None)) ⊎ (refused bytes.now window ≡ Some e)) }
+    ensures err { IfErr result
+        (λ e. ((e ≡ ImageError.Memory) × (refused bytes.now window ≡ None)) ⊎ (refused bytes.now window ≡ Some e)) }
 {
     if has_elf_magic(bytes) {
         load_elf(alloc, bytes, window)

@@ -1,5 +1,5 @@
 //! Windows of memory.
-ghost use Rattle.std.specs.Prelude.{◌≡◌, IfSome, IfNone};
+ghost use Rattle.std.specs.Prelude.{◌≡◌, ◌≤◌, ◌+◌, ◌^◌, IfSome, IfNone};
 ghost use Rattle.tomex_image.specs.Window.{IsWindow};
 
 use std::marker::Model;
@@ -59,5 +59,13 @@ impl Window {
         ensures limits { IsWindow self.now.base self.now.size }
     {
         self.size
+    }
+
+    /// The address after the last byte, at most 2^32.
+    pub fn end(&self) -> u64
+        ensures value { result ≡ self.now.base + self.now.size }
+        ensures limit { result ≤ 2 ^ 32 }
+    {
+        u64::from(self.base) + u64::from(self.size)
     }
 }

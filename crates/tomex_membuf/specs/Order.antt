@@ -1,32 +1,50 @@
 -- An access waits for older ones that share a byte with it, one of the two being a store.
-use Rattle.std.specs.Prelude.{ℕ, ◌≡◌, ◌<◌, Bool, true, false, not, nat_lt, ◌&&◌, ◌||◌, List, Option, Some, None, slice_index, slice_index_or}
+use Rattle.std.specs.Prelude.{ℕ, ◌≡◌, ◌<◌, Bool, true, false, not, nat_lt, ◌&&◌, ◌||◌, List, Option, Some, None, slice_index}
 use Rattle.tomex_rvexec.specs.Steps.{is_store}
 use Rattle.tomex_timing.specs.Recurrence.{shares_byte}
+use Rattle.tomex_bus.specs.Sets.{has}
 use Rattle.tomex_tags.specs.declared.station.Station.{Station}
-use Rattle.tomex_tags.specs.Contents.{bytes_in, step_in}
-use Rattle.tomex_tags.specs.Standing.{has_address}
+use Rattle.tomex_tags.specs.Contents.{bytes_in, slot, step_in}
+use Rattle.tomex_tags.specs.Pools.{Pools}
+use Rattle.tomex_tags.specs.WaitSets.{has_address}
 
 -- an operation was finished before the cycle
 abbrev pub is_before : Option ℕ → ℕ → Bool
-is_before None next = false
-is_before (Some finish) next = nat_lt finish next
+is_before None cycle = false
+is_before (Some finish) cycle = nat_lt finish cycle
 
--- two accesses share a byte, one of them being a store
-abbrev pub clash : Station → Station → Bool
-clash other s = shares_byte (bytes_in other) (bytes_in s) && (is_store (step_in other) || is_store (step_in s))
+-- the accesses of two stations, as far as their addresses are computed, share a byte, one of them being a store
+abbrev pub stations_conflict : Station → Station → Bool
+stations_conflict other s = shares_byte (bytes_in other) (bytes_in s) && (is_store (step_in other) || is_store (step_in s))
 
--- a station needn't wait for an older one
-abbrev pub lets : Option Station → Station → ℕ → Bool
-lets None s next = true
-lets (Some other) s next = not (clash other s) || is_before other.finish next
+-- an older station, if there is one, isn't in the way of another
+abbrev pub lets_pass : Option Station → Station → ℕ → Bool
+lets_pass None s cycle = true
+lets_pass (Some other) s cycle = not (stations_conflict other s) || is_before other.finish cycle
 
--- nor for any that issued before the one in its place
+-- a station that issued as number n must wait for the one in a place
+abbrev pub blocks : Pools → ℕ → ℕ → Station → ℕ → Bool
+blocks pools other n s cycle =
+    nat_lt (slice_index pools.issue_numbers other) n && not (lets_pass (slot pools.slots other) s cycle)
+
+-- every older station outside this set isn't in the way of the one in a place
+abbrev pub AreRivals : Pools → ℕ → Station → ℕ → ℕ → Type 0
+AreRivals pools place s cycle rivals =
+    (x : ℕ) → x < 128 → slice_index pools.issue_numbers x < slice_index pools.issue_numbers place → has rivals x ≡ false
+    → lets_pass (slot pools.slots x) s cycle ≡ true
+
+-- no station that issued before the one in a place is in its way
 abbrev pub IsClear : List (Option Station) → List ℕ → ℕ → Station → ℕ → Type 0
-IsClear slots ages place s next =
-    (x : ℕ) → x < 128 → slice_index ages x < slice_index ages place → lets (slice_index_or slots x None) s next ≡ true
+IsClear slots issue_numbers place s cycle =
+    (x : ℕ) → x < 128 → slice_index issue_numbers x < slice_index issue_numbers place → lets_pass (slot slots x) s cycle ≡ true
 
--- at most one station has its address
-abbrev pub IsAlone : List (Option Station) → Type 0
-IsAlone slots =
-    (a b : ℕ) → a < 128 → b < 128 → has_address (slice_index_or slots a None) ≡ true
-    → has_address (slice_index_or slots b None) ≡ true → a ≡ b
+-- so it is of the station in a place, if there is one
+abbrev pub IsClearAt : Pools → ℕ → ℕ → Type 0
+IsClearAt pools place cycle =
+    (s : Station) → slot pools.slots place ≡ Some s → IsClear pools.slots pools.issue_numbers place s cycle
+
+-- at most one station holds a load or store with its address
+abbrev pub HasOneAccess : List (Option Station) → Type 0
+HasOneAccess slots =
+    (a b : ℕ) → a < 128 → b < 128 → has_address (slot slots a) ≡ true
+    → has_address (slot slots b) ≡ true → a ≡ b

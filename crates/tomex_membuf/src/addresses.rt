@@ -1,8 +1,9 @@
 //! Addresses are computed in program order.
 
-ghost use Rattle.std.specs.Prelude.{◌≡◌, None, slice_index_or, IfSome, IsSome};
+ghost use Rattle.std.specs.Prelude.{◌≡◌, None, IfSome, IsSome};
 ghost use Rattle.tomex_tags.specs.Pools.{AreBusy};
 ghost use Rattle.tomex_membuf.specs.Addresses.{has_base, IsNextAddress};
+ghost use Rattle.tomex_tags.specs.Contents.{slot};
 
 use tomex_bus::oldest;
 use tomex_tags::{Field, Pools, Station};
@@ -19,15 +20,15 @@ fn has_base(station: Option<Station>) -> bool
 
 /// The place of the oldest load or store without an address, if its base is there.
 pub fn address_next(pools: &Pools) -> Option<usize>
-    ensures next { IsNextAddress pools.now.slots pools.now.ages result }
-    ensures busy { AreBusy pools.now.slots pools.now.busy pools.now.ages }
-    ensures there { IfSome result (λ x. IsSome (slice_index_or pools.now.slots x None)) }
+    ensures next { IsNextAddress pools.now.slots pools.now.issue_numbers result }
+    ensures busy { AreBusy pools.now.slots pools.now.busy pools.now.issue_numbers }
+    ensures there { IfSome result (λ x. IsSome (slot pools.now.slots x)) }
 {
     let lacking = pools.lacking();
     if lacking == 0 {
         return None;
     }
-    let place = oldest(lacking, pools.ages());
+    let place = oldest(lacking, pools.issue_numbers());
     if has_base(pools.at(place)) {
         Some(place)
     } else {

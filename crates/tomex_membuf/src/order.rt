@@ -1,9 +1,10 @@
 //! Accesses that share a byte are made in program order.
 
-ghost use Rattle.std.specs.Prelude.{ℕ, None, Some, true, false, ◌≡◌, ◌<◌, ◌&&◌, not, nat_lt, slice_index, slice_index_or};
+ghost use Rattle.std.specs.Prelude.{ℕ, Decides, Some, ◌≡◌, ◌<◌};
 ghost use Rattle.tomex_bus.specs.Sets.{has};
 ghost use Rattle.tomex_timing.specs.Recurrence.{shares_byte};
-ghost use Rattle.tomex_membuf.specs.Order.{clash, is_before, IsAlone, IsClear, lets};
+ghost use Rattle.tomex_membuf.specs.Order.{AreRivals, HasOneAccess, IsClear, IsClearAt, blocks, stations_conflict, is_before, lets_pass};
+ghost use Rattle.tomex_tags.specs.Contents.{slot};
 
 use tomex_bus::sets::{both, is_single, lowest, without, without_lowest};
 use tomex_rvexec::ByteRange;
@@ -23,19 +24,19 @@ fn shares_byte(a: Option<ByteRange>, b: Option<ByteRange>) -> bool
 }
 
 #[inline(always)]
-fn is_before(finish: Option<u64>, next: u64) -> bool
-    ensures { result ≡ is_before finish next }
+fn is_before(finish: Option<u64>, cycle: u64) -> bool
+    ensures { result ≡ is_before finish cycle }
 {
     match finish {
-        Some(finish) => finish < next,
+        Some(finish) => finish < cycle,
         None => false,
     }
 }
 
-/// Whether two accesses share a byte, one of them being a store.
+/// Whether the accesses of two stations, as far as their addresses are computed, share a byte, one being a store.
 #[inline(always)]
-fn clash(other: &Station, station: &Station) -> bool
-    ensures { result ≡ clash other.now station.now }
+fn stations_conflict(other: &Station, station: &Station) -> bool
+    ensures { result ≡ stations_conflict other.now station.now }
 {
     match (other.address, station.address) {
         // None is of more than four bytes: how many they are is asked only of two that are near.
@@ -47,36 +48,43 @@ fn clash(other: &Station, station: &Station) -> bool
     }
 }
 
-/// Whether a station needn't wait for an older one.
+/// Whether an older station, if there is one, isn't in the way of another.
 #[inline(always)]
-fn lets(other: Option<Station>, station: &Station, next: u64) -> bool
-    ensures { result ≡ lets other station.now next }
+fn lets_pass(other: Option<Station>, station: &Station, cycle: u64) -> bool
+    ensures { result ≡ lets_pass other station.now cycle }
 {
     match other {
-        Some(other) => { !clash(&other, station) || is_before(other.finish, next) }
+        Some(other) => { !stations_conflict(&other, station) || is_before(other.finish, cycle) }
         None => true,
     }
 }
 
-/// Whether a station must wait for the one in a place, where that one is older.
+/// Whether a station must wait for the one in a place, which it does only if that one is older.
 #[inline(always)]
-fn is_blocked_by(pools: &Pools, other: usize, station: &Station, age: u32, next: u64) -> bool
+fn is_blocked_by(
+    pools: &Pools,
+    other: usize,
+    station: &Station,
+    issue_number: u32,
+    cycle: u64,
+) -> bool
     requires { other < 128 }
-    ensures { result ≡ (nat_lt (slice_index pools.now.ages other) age && not (lets (slice_index_or pools.now.slots other None) station.now next)) }
+    ensures { result ≡ blocks pools.now other issue_number station.now cycle }
 {
-    pools.ages()[other] < age && !lets(pools.at(other), station, next)
+    pools.issue_numbers()[other] < issue_number && !lets_pass(pools.at(other), station, cycle)
 }
 
-/// The places of the other loads and stores with an address, of which an older one can be in the way of
-/// the one in a place: for a load the stores alone.
+/// The places of the other loads and stores with an address, among which are all older ones that can be in the way of
+/// the one in a place. For a load they are those of the stores.
 #[inline(always)]
 fn rivals(pools: &Pools, place: usize) -> u128
     requires { place < 128 }
-    ensures { (s : Station) (next x : ℕ) → slice_index_or pools.now.slots place None ≡ Some s → x < 128 → slice_index pools.now.ages x < slice_index pools.now.ages place → has result x ≡ false → lets (slice_index_or pools.now.slots x None) s next ≡ true }
+    ensures { (s : Station) (cycle : ℕ) → slot pools.now.slots place ≡ Some s
+        → AreRivals pools.now place s cycle result }
 {
     let addressed = pools.addressed();
-    // Read for what the type of the stations keeps: no store stands below the store buffers.
-    let _busy = pools.busy();
+    // No store stands below the store buffers.
+    pools.keeps_places();
     if place >= FIRST_STORE {
         without(addressed, place)
     } else {
@@ -84,41 +92,41 @@ fn rivals(pools: &Pools, place: usize) -> u128
     }
 }
 
-/// Whether a station, which stands in a place, needn't wait for any of its rivals.
-fn passes(pools: &Pools, place: usize, rivals: u128, station: &Station, next: u64) -> bool
+/// Whether the station that stands in a place needn't wait for any of its rivals.
+fn passes(pools: &Pools, place: usize, rivals: u128, station: &Station, cycle: u64) -> bool
     requires low { place < 128 }
-    requires others { (x : ℕ) → x < 128 → slice_index pools.now.ages x < slice_index pools.now.ages place → has rivals x ≡ false → lets (slice_index_or pools.now.slots x None) station.now next ≡ true }
-    ensures clear { result ≡ true → IsClear pools.now.slots pools.now.ages place station.now next }
-    ensures blocked { result ≡ false → IsClear pools.now.slots pools.now.ages place station.now next → ⊥ }
+    requires rivals { AreRivals pools.now place station.now cycle rivals }
+    ensures { Decides result (IsClear pools.now.slots pools.now.issue_numbers place station.now cycle) }
 {
-    let age = pools.ages()[place];
+    let issue_number = pools.issue_numbers()[place];
     let mut rest = rivals;
     'members: while rest != 0 {
         let other = lowest(rest);
         rest = without_lowest(rest);
-        if is_blocked_by(pools, other, station, age, next) {
+        if is_blocked_by(pools, other, station, issue_number, cycle) {
             return false;
         }
     }
     true
 }
 
-/// Whether no load or store that issued before the one in a place, and isn't finished before the cycle, shares a byte
-/// with it, one of the two being a store. What accesses no memory waits for none, and nor does a free place.
+/// Whether no older access is in the way of what stands in a place: true unless an older load or store whose address is
+/// computed, and which isn't finished before the cycle, shares a byte with it, one of the two being a store.
+///
+/// So it is true of a free place, of what is no access, and of an access without its address. Addresses are computed in
+/// program order: once an access has its own, no older one lacks it.
 #[inline(always)]
-pub fn may_access(pools: &Pools, place: usize, next: u64) -> bool
+pub fn may_access(pools: &Pools, place: usize, cycle: u64) -> bool
     requires { place < 128 }
-    ensures clear { (s : Station) → slice_index_or pools.now.slots place None ≡ Some s → result ≡ true → IsClear pools.now.slots pools.now.ages place s next }
-    ensures blocked { (s : Station) → slice_index_or pools.now.slots place None ≡ Some s → result ≡ false → IsClear pools.now.slots pools.now.ages place s next → ⊥ }
-    ensures free { slice_index_or pools.now.slots place None ≡ None → result ≡ true }
+    ensures { Decides result (IsClearAt pools.now place cycle) }
 {
     let rivals = rivals(pools, place);
-    // Mostly there is none, and no station need be read.
+    // Mostly there is none, and no station has to be read.
     if rivals == 0 {
         return true;
     }
     match pools.at(place) {
-        Some(station) => passes(pools, place, rivals, &station, next),
+        Some(station) => passes(pools, place, rivals, &station, cycle),
         None => true,
     }
 }
@@ -126,8 +134,7 @@ pub fn may_access(pools: &Pools, place: usize, next: u64) -> bool
 /// Whether at most one load or store has its address: then no access is in the way of another.
 #[inline(always)]
 pub fn is_alone(pools: &Pools) -> bool
-    ensures alone { result ≡ true → IsAlone pools.now.slots }
-    ensures several { result ≡ false → IsAlone pools.now.slots → ⊥ }
+    ensures { Decides result (HasOneAccess pools.now.slots) }
 {
     is_single(pools.addressed())
 }

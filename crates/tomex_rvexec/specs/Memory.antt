@@ -18,7 +18,8 @@ abbrev pub half_read : List ℕ → ℕ → ℕ
 half_read m i = slice_index m i + 256 * slice_index m (i + 1)
 
 abbrev pub word_read : List ℕ → ℕ → ℕ
-word_read m i = slice_index m i + 256 * slice_index m (i + 1) + 65536 * slice_index m (i + 2) + 16777216 * slice_index m (i + 3)
+word_read m i =
+    slice_index m i + 256 * slice_index m (i + 1) + 65536 * slice_index m (i + 2) + 16777216 * slice_index m (i + 3)
 
 abbrev pub byte_written : List ℕ → ℕ → ℕ → List ℕ
 byte_written m i v = slice_set m i (v % 256)
@@ -27,4 +28,5 @@ abbrev pub half_written : List ℕ → ℕ → ℕ → List ℕ
 half_written m i v = slice_set (slice_set m i (v % 256)) (i + 1) (v / 256 % 256)
 
 abbrev pub word_written : List ℕ → ℕ → ℕ → List ℕ
-word_written m i v = slice_set (slice_set (slice_set (slice_set m i (v % 256)) (i + 1) (v / 256 % 256)) (i + 2) (v / 65536 % 256)) (i + 3) (v / 16777216 % 256)
+word_written m i v =
+    slice_set (slice_set (slice_set (slice_set m i (v % 256)) (i + 1) (v / 256 % 256)) (i + 2) (v / 65536 % 256)) (i + 3) (v / 16777216 % 256)

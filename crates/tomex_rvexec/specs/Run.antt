@@ -1,6 +1,7 @@
 -- Whole runs.
 use Rattle.std.specs.Prelude.{◌≡◌, ℕ, zero, suc, ◌+◌, ◌<◌, ◌/◌, ◌*◌, ◌%◌, ◌^◌, replicate, slice_set, Result, Ok, Err, ⊤}
 use Rattle.tomex_image.specs.Image.{Loaded}
+use Rattle.tomex_image.specs.Window.{Span}
 use Rattle.tomex_rvexec.specs.declared.outcome.EndKind.{EndKind}
 use Rattle.tomex_rvexec.specs.declared.outcome.FaultKind.{FaultKind}
 use Rattle.tomex_rvexec.specs.declared.outcome.Fault.{Fault}
@@ -11,12 +12,16 @@ use Rattle.tomex_rvexec.specs.declared.end.RunError.{RunError}
 use Rattle.tomex_rvexec.specs.declared.end.RunError.TheVariants as errors
 use Rattle.tomex_rvexec.specs.Machine.{State, Outcome, Goes, Ends, Faults, step_of}
 
--- before the first step: all registers zero but the stack's
+-- the stack pointer before the first step: the end of memory, rounded down to a multiple of 16
+abbrev pub initial_sp : Span → ℕ
+initial_sp window = (window.base + window.size) / 16 * 16 % 2 ^ 32
+
+-- before the first step: all registers zero but the stack pointer
 abbrev pub start_of : Loaded → State
 start_of i = record {
   image = i;
   pc = i.entry;
-  regs = slice_set (replicate 32 0) 2 ((i.window.base + i.window.size) / 16 * 16 % 2 ^ 32);
+  regs = slice_set (replicate 32 0) 2 (initial_sp i.window);
   memory = i.memory;
 }
 

@@ -1,6 +1,7 @@
 //! The in-order machine: registers, pc and memory of one program that runs.
 
 ghost use Rattle.std.specs.Prelude.{◌≡◌};
+ghost use Rattle.tomex_rvexec.specs.Run.{initial_sp};
 
 use crate::end::End;
 use crate::fetcher::Fetcher;
@@ -10,7 +11,7 @@ use crate::step::Step;
 use crate::words::{alu, muldiv, taken};
 use std::alloc::{AllocError, Allocator, Global};
 use std::marker::Model;
-use tomex_image::Image;
+use tomex_image::{Image, Window};
 use tomex_rvdec::Op;
 
 mod effects;
@@ -41,13 +42,20 @@ impl<'a, A: Allocator> Model for Cpu<'a, A> {
         × (slice_index c.regs 0 ≡ 0) };
 }
 
+/// The stack pointer before the first step: the end of memory rounded down to a multiple of 16, modulo 2^32.
+pub fn initial_sp(window: Window) -> u32
+    ensures { result ≡ initial_sp window }
+{
+    (window.end() / 16 * 16 % (1 << 32)) as u32
+}
+
 impl<'a, A: Allocator> Cpu<'a, A> {
     ghost use Rattle.std.specs.Prelude.{◌≡◌, IfOk, IfErr, IfSome, IfNone, slice_index, Some, ◌<◌, IsTrue, false};
     ghost use Rattle.tomex_rvexec.specs.Machine.{step_of, coming_of, executes, holds};
     ghost use Rattle.tomex_rvexec.specs.Run.{start_of, Answers};
 
-    /// The machine before the first step: all registers zero but x2, which is the end of memory
-    /// rounded down to a multiple of 16; the pc at the image's entry.
+    /// The machine before the first step: all registers zero but x2, the stack pointer; the pc at the image's
+    /// entry.
     pub fn new(alloc: A, image: &'a Image<A>) -> Result<Self, AllocError>
         ensures { IfOk result (λ c. c ≡ start_of image.now) }
     {
@@ -55,8 +63,7 @@ impl<'a, A: Allocator> Cpu<'a, A> {
         bytes.extend_from_slice(image.memory())?;
         let window = image.window();
         let mut regs = [0; 32];
-        let end = u64::from(window.base()) + u64::from(window.size());
-        regs[2] = (end / 16 * 16 % (1 << 32)) as u32;
+        regs[2] = initial_sp(window);
         Ok(Cpu {
             fetcher: Fetcher::new(image),
             pc: image.entry(),
@@ -91,7 +98,8 @@ impl<'a, A: Allocator> Cpu<'a, A> {
     #[inline(always)]
     #[tactic(auto, unfolding(crate::specs::Machine::step_of))]
     fn coming(&mut self) -> Result<Step, Fault>
-        ensures ok { IfOk result (λ x. (coming_of self.old ≡ Some x) × IsTrue (holds self.old self.old.pc 4)) }
+        ensures ok { IfOk result
+            (λ x. (coming_of self.old ≡ Some x) × IsTrue (holds self.old self.old.pc 4)) }
         ensures err { IfErr result (λ e. Answers (step_of self.old) self.old (Err e) self.old) }
         ensures same { self.new ≡ self.old }
     {
@@ -160,7 +168,8 @@ impl<'a, A: Allocator> Cpu<'a, A> {
     /// One step, with its record.
     #[tactic(auto, unfolding(crate::specs::Machine::step_of))]
     pub(crate) fn recorded_step(&mut self) -> Result<(Step, Stepped), Fault>
-        ensures ok { IfOk result (λ r. (coming_of self.old ≡ Some r.0) × Answers (step_of self.old) self.old (Ok r.1) self.new) }
+        ensures ok { IfOk result
+            (λ r. (coming_of self.old ≡ Some r.0) × Answers (step_of self.old) self.old (Ok r.1) self.new) }
         ensures err { IfErr result (λ e. Answers (step_of self.old) self.old (Err e) self.new) }
     {
         let step = self.coming()?;

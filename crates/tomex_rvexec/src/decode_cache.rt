@@ -37,7 +37,8 @@ impl DecodeCache {
     #[inline(always)]
     pub fn get(&self, pc: u32) -> Option<Instr>
         ensures value { result ≡ kept_at self.now pc }
-        ensures of_image { IfSome result (λ x. (i : Loaded) → IsCacheOf i self.now → instruction_at i pc ≡ Ok x) }
+        ensures of_image { IfSome result
+            (λ x. (i : Loaded) → IsCacheOf i self.now → instruction_at i pc ≡ Ok x) }
     {
         let line = self.lines[pc as usize / 4 % LINES];
         match line {
@@ -48,8 +49,10 @@ impl DecodeCache {
 
     /// Keeps an instruction in the place of the one that its line held.
     pub fn keep(&mut self, pc: u32, instr: Instr)
-        ensures line { self.new.lines ≡ slice_set self.old.lines (line_of pc) (Some (record { pc = pc; instr = instr })) }
-        ensures of_image { (i : Loaded) → IsCacheOf i self.old → instruction_at i pc ≡ Ok instr → IsCacheOf i self.new }
+        ensures line { self.new.lines
+            ≡ slice_set self.old.lines (line_of pc) (Some (record { pc = pc; instr = instr })) }
+        ensures of_image { (i : Loaded) → IsCacheOf i self.old → instruction_at i pc ≡ Ok instr
+            → IsCacheOf i self.new }
     {
         self.lines[pc as usize / 4 % LINES] = Some(Line { pc, instr });
     }

@@ -15,8 +15,7 @@ pub fn instruction_at<A: Allocator>(image: &Image<A>, pc: u32) -> Result<Instr, 
     ensures { result ≡ instruction_at image.now pc }
 {
     let window = image.window();
-    let end = u64::from(window.base()) + u64::from(window.size());
-    if pc < window.base() || u64::from(pc) + 4 > end {
+    if pc < window.base() || u64::from(pc) + 4 > window.end() {
         return Err(FaultKind::Fetch);
     }
     let place = (pc - window.base()) as usize;
@@ -32,7 +31,7 @@ pub fn instruction_at<A: Allocator>(image: &Image<A>, pc: u32) -> Result<Instr, 
 
 /// Fetches and decodes the instructions of an image.
 ///
-/// Those of late are kept decoded. They can't grow stale: fetches read the image as it was loaded,
+/// Recently decoded ones are kept. They can't grow stale: fetches read the image as it was loaded,
 /// and a store never changes it.
 #[derive(Drop)]
 pub struct Fetcher<'a, A: Allocator = Global> {

@@ -87,7 +87,8 @@ pub fn youngest_writer_gives_the_value()
 /// writes no register.
 pub fn step_says_one_thing_of_itself()
     ensures unit { (x : Step) → is_some (step_unit x) ≡ is_some (step_pool x) }
-    ensures memory { (x : Step) → is_some (bytes_of x) ≡ (is_in pools.Load (step_pool x) || is_store x) }
+    ensures memory { (x : Step)
+        → is_some (bytes_of x) ≡ (is_in pools.Load (step_pool x) || is_store x) }
     ensures bytes { (x : Step) → IfSome (bytes_of x) (λ b. b.from < b.to) }
     ensures pool { (x : Step) → step_pool x ≡ None → step_dest x ≡ None }
     ensures store { (x : Step) → is_store x ≡ true → step_dest x ≡ None }
@@ -107,7 +108,8 @@ pub fn history_leaves_one_state()
     ensures zero { (i : Loaded) (steps : List Step) → register_after i steps 0 ≡ 0 }
     ensures j { (i : Loaded) (older : List Step) (x : Step)
         → Follows i older x → IsSome (step_pool x) → j_of x ≡ None → x.vj ≡ 0 }
-    ensures k { (i : Loaded) (older : List Step) (x : Step) → Follows i older x → k_of x ≡ None → x.vk ≡ 0 }
+    ensures k { (i : Loaded) (older : List Step) (x : Step) → Follows i older x → k_of x ≡ None
+        → x.vk ≡ 0 }
 {}
 
 /// A history determines the step that follows it, whose instruction is the one at the history's pc.
@@ -123,7 +125,8 @@ pub fn history_determines_the_next_step()
 #[tactic(auto, using(crate::proofs::FlowEnds::leads_once, crate::proofs::FlowEnds::leads_is, crate::proofs::FlowEnds::leads_before, crate::proofs::FlowEnds::steps_are,))]
 pub fn run_has_one_state_a_step()
     ensures once { (k : ℕ) (old s t : State) → Leads old k s → Leads old k t → s ≡ t }
-    ensures after { (i : Loaded) (k : ℕ) (s : State) → Leads (start_of i) k s → s ≡ state_after i k }
+    ensures after { (i : Loaded) (k : ℕ) (s : State) → Leads (start_of i) k s
+        → s ≡ state_after i k }
     ensures before { (k : ℕ) (i : Loaded) (s : State) (j : ℕ)
         → j ≤ k → Leads (start_of i) k s → Leads (start_of i) j (state_after i j) }
     ensures steps { (i : Loaded) (k : ℕ) (s : State)
@@ -145,7 +148,8 @@ pub fn run_has_one_end()
 /// to the end, the oldest first.
 #[tactic(auto, using(crate::proofs::FlowEnds::ends_within_more, crate::proofs::FlowEnds::same_steps, crate::proofs::FlowEnds::steps_to_end,))]
 pub fn limit_changes_no_run_that_ends()
-    ensures more { (i : Loaded) (limit more : ℕ) → limit ≤ more → EndsWithin i limit → EndsWithin i more }
+    ensures more { (i : Loaded) (limit more : ℕ) → limit ≤ more → EndsWithin i limit
+        → EndsWithin i more }
     ensures same { (i : Loaded) (limit more : ℕ)
         → limit ≤ more → EndsWithin i limit
         → steps_from more (start_of i) ≡ steps_from limit (start_of i) }

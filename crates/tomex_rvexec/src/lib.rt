@@ -22,7 +22,7 @@ mod step;
 mod tracing;
 mod words;
 
-pub use cpu::Cpu;
+pub use cpu::{Cpu, initial_sp};
 pub use end::{End, RunError};
 pub use fetcher::{Fetcher, instruction_at};
 pub use memory::Memory;

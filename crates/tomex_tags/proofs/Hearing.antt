@@ -20,7 +20,7 @@ pub record AreHearing (sent : ℕ → Option ℕ) (rest : ℕ) (old new : Pools)
   pub places : length new.slots ≡ 96
   pub slots : (x : ℕ) → x < 96 → slice_index_or new.slots x None ≡ (if has rest x then slice_index_or old.slots x None else option_map (hears sent) (slice_index_or old.slots x None))
   pub busy : new.busy ≡ old.busy
-  pub ages : new.ages ≡ old.ages
+  pub issue_numbers : new.issue_numbers ≡ old.issue_numbers
 
 -- a station with no operand to come from a place hears nothing that it sends
 there : (from value : ℕ) (f : Field) → comes_from from f ≡ false → heard (only from (Some value)) f ≡ f
@@ -41,7 +41,7 @@ deaf from value (Some s) e =
     let two = neither (comes_from from s.j) (comes_from from s.k) e in
     ap (λ (z : Station). Some z) (sym (rw (there from value s.j two.0, there from value s.k two.1) refl))
 
-pub first_heard : (from value rest : ℕ) (old : Pools) → AreBusy old.slots old.busy old.ages → ((x : ℕ) → x < 96 → awaits from (slice_index_or old.slots x None) ≡ true → has rest x ≡ true) → AreHearing (only from (Some value)) rest old old
+pub first_heard : (from value rest : ℕ) (old : Pools) → AreBusy old.slots old.busy old.issue_numbers → ((x : ℕ) → x < 96 → awaits from (slice_index_or old.slots x None) ≡ true → has rest x ≡ true) → AreHearing (only from (Some value)) rest old old
 first_heard from value rest old filled listen = record {
   places = filled.places;
   slots = λ x l. elim (cases_Bool (has rest x)) [
@@ -52,7 +52,7 @@ first_heard from value rest old filled listen = record {
     ]))
   ];
   busy = refl;
-  ages = refl;
+  issue_numbers = refl;
 }
 
 -- once all have heard it, nothing is to come from the place
@@ -65,8 +65,8 @@ none_listening from value rest old new so empty x l = ap (awaits from) (so.slots
 
 -- what stands in one place more has heard it
 pub heard_more : (sent : ℕ → Option ℕ) (rest left x : ℕ) (old now new : Pools) → AreHearing sent rest old now → x < 96 → has rest x ≡ true → IsWithout rest x left
-    → new.slots ≡ slice_set now.slots x (option_map (hears sent) (slice_index_or now.slots x None)) → new.busy ≡ now.busy → new.ages ≡ now.ages → AreHearing sent left old new
-heard_more sent rest left x old now new so small member without slots busy ages =
+    → new.slots ≡ slice_set now.slots x (option_map (hears sent) (slice_index_or now.slots x None)) → new.busy ≡ now.busy → new.issue_numbers ≡ now.issue_numbers → AreHearing sent left old new
+heard_more sent rest left x old now new so small member without slots busy issue_numbers =
     let count : length now.slots ≡ 96 = so.places in
     record {
       places = ap length slots ∙ (length-set now.slots x (option_map (hears sent) (slice_index_or now.slots x None)) ∙ so.places);
@@ -80,7 +80,7 @@ heard_more sent rest left x old now new so small member without slots busy ages 
             rw (slots, other) (get_or-set_other now.slots x y (option_map (hears sent) (slice_index_or now.slots x None)) None (λ z. eqb-false x y k (sym z)) ∙ so.slots y l)
       ];
       busy = busy ∙ so.busy;
-      ages = ages ∙ so.ages;
+      issue_numbers = issue_numbers ∙ so.issue_numbers;
     }
 
 -- nothing stands past the last place
@@ -89,5 +89,5 @@ heard_past sent rest left x old now so high without = record {
   places = so.places;
   slots = λ y l. let other : has left y ≡ has rest y = without.others y (omega arith) (λ z. absurd (omega arith)) in rw other (so.slots y l);
   busy = so.busy;
-  ages = so.ages;
+  issue_numbers = so.issue_numbers;
 }

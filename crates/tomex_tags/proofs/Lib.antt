@@ -1,6 +1,6 @@
 pub mod Slots
 pub mod Hearing
-pub mod Filing
+pub mod Entering
 pub mod Listening
 pub mod Serving
 pub mod Starting

@@ -18,7 +18,7 @@ use Rattle.tomex_bus.proofs.Bits.{agree, agreed}
 use Rattle.tomex_tags.specs.Contents.{is_memory_op, lacks_address}
 use Rattle.tomex_tags.specs.Places.{is_served, is_store_place, pool_at}
 use Rattle.tomex_tags.specs.Pools.{AreBusy, AreOwn, IsOwn, is_open}
-use Rattle.tomex_tags.specs.Standing.{IsSetOf, has_address, holds_store, waits, waits_for}
+use Rattle.tomex_tags.specs.WaitSets.{IsSetOf, has_address, holds_store, waits, waits_for}
 use Rattle.tomex_tags.specs.declared.station.Station.{Station}
 
 pub are_served : (set : ℕ) (unit : UnitId) → agree (has set) (is_served unit) 128 ≡ true → (x : ℕ) → x < 128 → has set x ≡ is_served unit x
@@ -58,14 +58,14 @@ stores_by : (x : ℕ) (o : Option Station) → x < 96 → IsOwn x o → (is_some
 stores_by x None l own = refl
 stores_by x (Some s) l own = rw (lt-ltb x 96 l, own) refl
 
-none_past : (slots : List (Option Station)) (busy : ℕ) (ages : List ℕ) (x : ℕ) → AreBusy slots busy ages → x < 128 → 96 ≤ x → slice_index_or slots x None ≡ None
-none_past slots busy ages x filled l high = get_or_past slots x None (rw filled.places high)
+none_past : (slots : List (Option Station)) (busy : ℕ) (issue_numbers : List ℕ) (x : ℕ) → AreBusy slots busy issue_numbers → x < 128 → 96 ≤ x → slice_index_or slots x None ≡ None
+none_past slots busy issue_numbers x filled l high = get_or_past slots x None (rw filled.places high)
 
-pub are_stores : (slots : List (Option Station)) (busy places stores : ℕ) (ages : List ℕ) → AreBusy slots busy ages → AreOwn slots → ((x : ℕ) → x < 128 → has places x ≡ is_store_place x) → ((x : ℕ) → has stores x ≡ (has busy x && has places x)) → IsSetOf holds_store slots stores
-are_stores slots busy places stores ages filled own are both x l =
+pub are_stores : (slots : List (Option Station)) (busy places stores : ℕ) (issue_numbers : List ℕ) → AreBusy slots busy issue_numbers → AreOwn slots → ((x : ℕ) → x < 128 → has places x ≡ is_store_place x) → ((x : ℕ) → has stores x ≡ (has busy x && has places x)) → IsSetOf holds_store slots stores
+are_stores slots busy places stores issue_numbers filled own are both x l =
     both x ∙ rw (filled.each x l, are x l) (elim (cases_Bool (nat_lt x 96)) [
       | inl e ↦ let low : x < 96 = ltb-true x 96 e in stores_by x (slice_index_or slots x None) low (own x low)
-      | inr e ↦ rw (none_past slots busy ages x filled l (ltb-false x 96 e)) refl
+      | inr e ↦ rw (none_past slots busy issue_numbers x filled l (ltb-false x 96 e)) refl
     ])
 
 -- a load or store is one in a place of theirs; it has its address where it isn't among those that lack it
@@ -78,40 +78,40 @@ addressed_by x (Some s) l own = rw (served_from (is_of units.Mem (Some (unit_of_
     turned true true = refl
     turned true false = refl
 
-pub are_addressed : (slots : List (Option Station)) (busy served lacking memory found : ℕ) (ages : List ℕ) → AreBusy slots busy ages → AreOwn slots → IsSetOf lacks_address slots lacking → ((x : ℕ) → x < 128 → has served x ≡ is_served units.Mem x)
+pub are_addressed : (slots : List (Option Station)) (busy served lacking memory found : ℕ) (issue_numbers : List ℕ) → AreBusy slots busy issue_numbers → AreOwn slots → IsSetOf lacks_address slots lacking → ((x : ℕ) → x < 128 → has served x ≡ is_served units.Mem x)
     → ((x : ℕ) → has memory x ≡ (has busy x && has served x)) → ((x : ℕ) → x < 128 → has found x ≡ (has memory x && not (has lacking x))) → IsSetOf has_address slots found
-are_addressed slots busy served lacking memory found ages filled own without serves both but x l =
+are_addressed slots busy served lacking memory found issue_numbers filled own without serves both but x l =
     but x l ∙ rw (both x, filled.each x l, serves x l, without x l) (elim (cases_Bool (nat_lt x 96)) [
       | inl e ↦ let low : x < 96 = ltb-true x 96 e in addressed_by x (slice_index_or slots x None) low (own x low)
-      | inr e ↦ rw (none_past slots busy ages x filled l (ltb-false x 96 e)) refl
+      | inr e ↦ rw (none_past slots busy issue_numbers x filled l (ltb-false x 96 e)) refl
     ])
 
 waits_by : (x : ℕ) (unit : UnitId) (o : Option Station) → x < 96 → IsOwn x o → (waits o && is_served unit x) ≡ waits_for unit o
 waits_by x unit None l own = refl
 waits_by x unit (Some s) l own = rw (served_from (is_of unit (Some (unit_of_pool (pool_at (x / 16))))) x unit l, own) refl
 
-pub wait_for : (slots : List (Option Station)) (busy waiting served found : ℕ) (ages : List ℕ) (unit : UnitId) → AreBusy slots busy ages → AreOwn slots → IsSetOf waits slots waiting → ((x : ℕ) → x < 128 → has served x ≡ is_served unit x)
+pub wait_for : (slots : List (Option Station)) (busy waiting served found : ℕ) (issue_numbers : List ℕ) (unit : UnitId) → AreBusy slots busy issue_numbers → AreOwn slots → IsSetOf waits slots waiting → ((x : ℕ) → x < 128 → has served x ≡ is_served unit x)
     → ((x : ℕ) → has found x ≡ (has waiting x && has served x)) → IsSetOf (waits_for unit) slots found
-wait_for slots busy waiting served found ages unit filled own wait serves both x l =
+wait_for slots busy waiting served found issue_numbers unit filled own wait serves both x l =
     both x ∙ rw (wait x l, serves x l) (elim (cases_Bool (nat_lt x 96)) [
       | inl e ↦ let low : x < 96 = ltb-true x 96 e in waits_by x unit (slice_index_or slots x None) low (own x low)
-      | inr e ↦ rw (none_past slots busy ages x filled l (ltb-false x 96 e)) refl
+      | inr e ↦ rw (none_past slots busy issue_numbers x filled l (ltb-false x 96 e)) refl
     ])
 
 -- The least number of a pool whose place is open.
 
-open_is : (slots : List (Option Station)) (busy taken n p : ℕ) (ages : List ℕ) (pool : PoolId) → AreBusy slots busy ages → p ≡ place_of_pool pool → p < 6 → n < 16 → ((x : ℕ) → x < 16 → has taken x ≡ has busy (16 * p + x)) → is_open slots pool n ≡ not (has taken n)
-open_is slots busy taken n p ages pool filled e l m in_pool = rw (in_pool n m, filled.each (16 * p + n) (omega arith), ← e) (turned (slice_index_or slots (16 * p + n) None))
+open_is : (slots : List (Option Station)) (busy taken n p : ℕ) (issue_numbers : List ℕ) (pool : PoolId) → AreBusy slots busy issue_numbers → p ≡ place_of_pool pool → p < 6 → n < 16 → ((x : ℕ) → x < 16 → has taken x ≡ has busy (16 * p + x)) → is_open slots pool n ≡ not (has taken n)
+open_is slots busy taken n p issue_numbers pool filled e l m in_pool = rw (in_pool n m, filled.each (16 * p + n) (omega arith), ← e) (turned (slice_index_or slots (16 * p + n) None))
   where
     turned : (o : Option Station) → is_none o ≡ not (is_some o)
     turned None = refl
     turned (Some s) = refl
 
-pub least_open : (slots : List (Option Station)) (busy taken p n : ℕ) (ages : List ℕ) (pool : PoolId) → AreBusy slots busy ages → p ≡ place_of_pool pool → p < 6 → n < 16 → ((x : ℕ) → x < 16 → has taken x ≡ has busy (16 * p + x)) → has taken n ≡ false → ((i : ℕ) → i < n → has taken i ≡ true) → IsLeast (is_open slots pool) n
-least_open slots busy taken p n ages pool filled e l low in_pool here least = (
-  rw (open_is slots busy taken n p ages pool filled e l low in_pool, here) refl,
-  λ i less. rw (open_is slots busy taken i p ages pool filled e l (omega arith) in_pool, least i less) refl,
+pub least_open : (slots : List (Option Station)) (busy taken p n : ℕ) (issue_numbers : List ℕ) (pool : PoolId) → AreBusy slots busy issue_numbers → p ≡ place_of_pool pool → p < 6 → n < 16 → ((x : ℕ) → x < 16 → has taken x ≡ has busy (16 * p + x)) → has taken n ≡ false → ((i : ℕ) → i < n → has taken i ≡ true) → IsLeast (is_open slots pool) n
+least_open slots busy taken p n issue_numbers pool filled e l low in_pool here least = (
+  rw (open_is slots busy taken n p issue_numbers pool filled e l low in_pool, here) refl,
+  λ i less. rw (open_is slots busy taken i p issue_numbers pool filled e l (omega arith) in_pool, least i less) refl,
 )
 
-pub none_before : (slots : List (Option Station)) (busy taken p least count : ℕ) (ages : List ℕ) (pool : PoolId) → AreBusy slots busy ages → p ≡ place_of_pool pool → p < 6 → least ≤ 16 → ((x : ℕ) → x < 16 → has taken x ≡ has busy (16 * p + x)) → ((i : ℕ) → i < least → has taken i ≡ true) → count ≤ least → (n : ℕ) → n < count → is_open slots pool n ≡ false
-none_before slots busy taken p least count ages pool filled e l few in_pool none high n less = rw (open_is slots busy taken n p ages pool filled e l (omega arith) in_pool, none n (omega arith)) refl
+pub none_before : (slots : List (Option Station)) (busy taken p least count : ℕ) (issue_numbers : List ℕ) (pool : PoolId) → AreBusy slots busy issue_numbers → p ≡ place_of_pool pool → p < 6 → least ≤ 16 → ((x : ℕ) → x < 16 → has taken x ≡ has busy (16 * p + x)) → ((i : ℕ) → i < least → has taken i ≡ true) → count ≤ least → (n : ℕ) → n < count → is_open slots pool n ≡ false
+none_before slots busy taken p least count issue_numbers pool filled e l few in_pool none high n less = rw (open_is slots busy taken n p issue_numbers pool filled e l (omega arith) in_pool, none n (omega arith)) refl

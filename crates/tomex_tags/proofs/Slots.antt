@@ -7,11 +7,11 @@ use Rattle.std.proofs.lemmas.List.Concat.{flat_map-cons}
 use Rattle.std.proofs.lemmas.Nat.Bits.{bit_at-zero}
 use Rattle.std.proofs.lemmas.List.{get_or-replicate, get_or_past, set-get_or}
 use Rattle.tomex_bus.specs.Sets.{has, IsWith, IsWithout}
-use Rattle.tomex_tags.specs.declared.standing.Standing.{Standing}
+use Rattle.tomex_tags.specs.declared.wait_sets.WaitSets.{WaitSets}
 use Rattle.tomex_tags.specs.declared.station.Station.{Station}
 use Rattle.tomex_tags.specs.Pools.{AreFilled, AreSix, AreSixteen, IsOwn, slots_of}
-use Rattle.tomex_tags.specs.Standing.{HasFiled}
-use Rattle.tomex_tags.proofs.Filing.{all_filed, none_stand}
+use Rattle.tomex_tags.specs.WaitSets.{HasEntered}
+use Rattle.tomex_tags.proofs.Entering.{all_entered, none_stand}
 use Rattle.tomex_tags.proofs.Listening.{Listens, listening_set, none_awaits, own_set}
 
 abbrev Pool : Type 0
@@ -81,8 +81,8 @@ changed_in change pools x d six l =
     ∙ ap (λ (o : Option Station). slice_set (slots_of pools) x (option_map change o)) (at_place pools x d six l)
 
 -- a place is written, and the set of the busy ones says so
-pub filled_by : (pools : List Pool) (busy new : ℕ) (ages later : List ℕ) (x : ℕ) (d : Pool) (v : Option Station) (old standing : Standing) (listeners more : List ℕ) → AreFilled pools busy ages old listeners → x < 96 → length later ≡ 128 → new < 2 ^ 128 → ((y : ℕ) → y < 128 → has new y ≡ (if x == y then is_some v else has busy y)) → HasFiled x v old standing → IsOwn x v → Listens x v listeners more → AreFilled (set_in pools x d v) new later standing more
-filled_by pools busy new ages later x d v old standing listeners more filled l count small said filed own listens =
+pub filled_by : (pools : List Pool) (busy new : ℕ) (issue_numbers later : List ℕ) (x : ℕ) (d : Pool) (v : Option Station) (old wait_sets : WaitSets) (listeners more : List ℕ) → AreFilled pools busy issue_numbers old listeners → x < 96 → length later ≡ 128 → new < 2 ^ 128 → ((y : ℕ) → y < 128 → has new y ≡ (if x == y then is_some v else has busy y)) → HasEntered x v old wait_sets → IsOwn x v → Listens x v listeners more → AreFilled (set_in pools x d v) new later wait_sets more
+filled_by pools busy new issue_numbers later x d v old wait_sets listeners more filled l count small said entered own listens =
     let six = filled.six in
     let places : length (slots_of pools) ≡ 96 = filled.filled.places in
     let pool_count : length pools ≡ 6 = six.count in
@@ -93,10 +93,10 @@ filled_by pools busy new ages later x d v old standing listeners more filled l c
       };
       own = rw (set_place pools x d v six l) (own_set (slots_of pools) x v (omega arith) filled.own own);
       listening = rw (set_place pools x d v six l) (listening_set (slots_of pools) x v listeners more (omega arith) filled.listening listens);
-      standing = rw (set_place pools x d v six l) (all_filed (slots_of pools) x v old standing (omega arith) filled.standing filed);
+      wait_sets = rw (set_place pools x d v six l) (all_entered (slots_of pools) x v old wait_sets (omega arith) filled.wait_sets entered);
       filled = record {
         places = ap length (set_place pools x d v six l) ∙ (length-set (slots_of pools) x v ∙ places);
-        ages_count = count;
+        order_count = count;
         small = small;
         each = λ y m. said y m ∙ rw (set_place pools x d v six l) (elim (cases_Bool (x == y)) [
           | inl e ↦ let same : x ≡ y = eqb-true x y e in rw (e, ← same) (sym (ap is_some (get_or-set_same (slots_of pools) x v None (omega arith))))
@@ -134,11 +134,11 @@ no_station x l = elim (cases_order x 96) [
   | inr (inr more) ↦ get_or_past (slots_of idle_pools) x None (omega arith)
 ]
 
-pub idle_filled : (a b c d e f : Pool) (ages listeners : List ℕ) → a ≡ replicate 16 None → b ≡ replicate 16 None → c ≡ replicate 16 None → d ≡ replicate 16 None → e ≡ replicate 16 None → f ≡ replicate 16 None → length ages ≡ 128 → listeners ≡ replicate 96 0 → AreFilled (a ∷ b ∷ c ∷ d ∷ e ∷ f ∷ []) 0 ages (record { lacking = 0; waiting = 0; writing = 0 }) listeners
-idle_filled a b c d e f ages listeners ea eb ec ed ee ef count none = rw (ea, eb, ec, ed, ee, ef, none) (record {
+pub idle_filled : (a b c d e f : Pool) (issue_numbers listeners : List ℕ) → a ≡ replicate 16 None → b ≡ replicate 16 None → c ≡ replicate 16 None → d ≡ replicate 16 None → e ≡ replicate 16 None → f ≡ replicate 16 None → length issue_numbers ≡ 128 → listeners ≡ replicate 96 0 → AreFilled (a ∷ b ∷ c ∷ d ∷ e ∷ f ∷ []) 0 issue_numbers (record { lacking = 0; waiting = 0; writing = 0 }) listeners
+idle_filled a b c d e f issue_numbers listeners ea eb ec ed ee ef count none = rw (ea, eb, ec, ed, ee, ef, none) (record {
   six = record { count = refl; sizes = (refl, (refl, (refl, (refl, (refl, (refl, tt)))))) };
   own = λ x l. rw (no_station x (omega arith)) tt;
   listening = none_awaits (slots_of idle_pools) no_station;
-  standing = none_stand (slots_of idle_pools) no_station;
-  filled = record { places = refl; ages_count = count; small = omega arith; each = λ x l. ap (λ b. b == 1) (bit_at-zero x) ∙ sym (ap is_some (no_station x l)) };
+  wait_sets = none_stand (slots_of idle_pools) no_station;
+  filled = record { places = refl; order_count = count; small = omega arith; each = λ x l. ap (λ b. b == 1) (bit_at-zero x) ∙ sym (ap is_some (no_station x l)) };
 })

@@ -1,5 +1,5 @@
 -- What a busy station holds, and what becomes of it.
-use Rattle.std.specs.Prelude.{ℕ, Bool, true, false, not, ◌&&◌, ◌||◌, Option, Some, None, is_none, is_some}
+use Rattle.std.specs.Prelude.{ℕ, Bool, true, false, not, ◌&&◌, ◌||◌, List, Option, Some, None, is_none, is_some, option_map, slice_index_or, slice_set}
 use Rattle.tomex_rvdec.specs.Operands.{pool_of}
 use Rattle.tomex_rvdec.specs.declared.instr.Instr.{Instr}
 use Rattle.tomex_rvdec.specs.declared.op.Op.{Op}
@@ -14,6 +14,14 @@ use Rattle.tomex_timing.specs.declared.tables.Field.TheVariants.{Value, Waits, U
 use Rattle.tomex_timing.specs.declared.tables.Tag.{Tag}
 use Rattle.tomex_tags.specs.declared.station.Station.{Station}
 use Rattle.tomex_tags.specs.Operands.{heard, is_there, value_in}
+
+-- what stands in a place: none where it is free
+abbrev pub slot : List (Option Station) → ℕ → Option Station
+slot slots place = slice_index_or slots place None
+
+-- stations once the one in a place has changed, if one stands there
+abbrev pub changed : (Station → Station) → ℕ → List (Option Station) → List (Option Station)
+changed change place slots = slice_set slots place (option_map change (slot slots place))
 
 -- loads and stores
 abbrev pub is_memory_op : Op → Bool
@@ -69,7 +77,13 @@ a_from true (Some a) imm = Some a
 
 -- what the tables show of a station
 abbrev pub busy_from : Tag → Station → Busy
-busy_from tag s = record { tag = tag; instr = s.instr; j = s.j; k = s.k; a = a_from (is_memory_op s.instr.op) s.address s.instr.imm }
+busy_from tag s = record {
+  tag = tag;
+  instr = s.instr;
+  j = s.j;
+  k = s.k;
+  a = a_from (is_memory_op s.instr.op) s.address s.instr.imm;
+}
 
 -- what an instruction's issue puts into its station
 abbrev pub issued : Instr → ℕ → Field → Field → Station

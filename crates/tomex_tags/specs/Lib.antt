@@ -1,7 +1,7 @@
 pub mod Places
 pub mod Operands
 pub mod Contents
-pub mod Standing
+pub mod WaitSets
 pub mod Pools
 pub mod Registers
 pub mod Listeners

@@ -17,7 +17,9 @@ place_at None = None
 place_at (Some tag) = Some (place_of_tag tag)
 
 abbrev pub pool_at : ℕ → PoolId
-pool_at n = if n == 0 then pools.Alu else (if n == 1 then pools.Mul else (if n == 2 then pools.Div else (if n == 3 then pools.Load else (if n == 4 then pools.Store else pools.Bru))))
+pool_at n =
+    if n == 0 then pools.Alu else if n == 1 then pools.Mul else if n == 2 then pools.Div
+    else if n == 3 then pools.Load else if n == 4 then pools.Store else pools.Bru
 
 -- the station of a place
 abbrev pub tag_at_place : ℕ → Tag

@@ -24,4 +24,7 @@ names registers r x = is_number (place_at (slice_index_or registers.tags r None)
 
 -- a register takes what a place sends: where its Qi still names the place it is written and Qi is emptied
 abbrev pub received : RegStatus → ℕ → ℕ → ℕ → RegStatus
-received registers r x value = if names registers r x then record { values = slice_set registers.values r value; tags = slice_set registers.tags r None } else registers
+received registers r x value =
+    if names registers r x
+    then record { values = slice_set registers.values r value; tags = slice_set registers.tags r None }
+    else registers

@@ -1,10 +1,10 @@
 //! The issue of an instruction to a free station.
 
-ghost use Rattle.std.specs.Prelude.{◌≡◌, ◌<◌, Some, None, IfSome, slice_index_or, slice_set};
+ghost use Rattle.std.specs.Prelude.{◌≡◌, ◌<◌, Some, None, IfSome, slice_set};
 ghost use Rattle.tomex_rvdec.specs.Operands.{sources_of, dest_of, pool_of};
 ghost use Rattle.tomex_bus.specs.Sets.{IsWith};
 ghost use Rattle.tomex_tags.specs.Places.{place_of_tag};
-ghost use Rattle.tomex_tags.specs.Contents.{issued};
+ghost use Rattle.tomex_tags.specs.Contents.{issued, slot};
 ghost use Rattle.tomex_tags.specs.Registers.{operand_in, tags_with};
 
 use crate::places::place;
@@ -14,7 +14,7 @@ use crate::station::Station;
 use tomex_rvdec::Instr;
 use tomex_timing::Tag;
 
-/// Issues an instruction to the station of a tag, which is free; so many have issued before it.
+/// Issues an instruction to the station of a tag, which is free. `issue_number` instructions have issued before it.
 ///
 /// A source whose register has no Qi gives its value, any other the tag that will send it. From here
 /// on the destination waits for the new tag.
@@ -25,16 +25,19 @@ pub fn issue(
     tag: Tag,
     instr: Instr,
     pc: u32,
-    age: u32,
+    issue_number: u32,
 )
     requires low { tag.number < 16 }
     requires own { pool_of instr.op ≡ Some tag.pool }
-    requires open { slice_index_or pools.old.slots (place_of_tag tag) None ≡ None }
-    ensures slots { pools.new.slots ≡ slice_set pools.old.slots (place_of_tag tag) (Some (issued instr pc (operand_in registers.old (sources_of instr).j) (operand_in registers.old (sources_of instr).k))) }
+    requires open { slot pools.old.slots (place_of_tag tag) ≡ None }
+    ensures slots { pools.new.slots ≡ slice_set pools.old.slots (place_of_tag tag) (Some (issued instr pc
+        (operand_in registers.old (sources_of instr).j) (operand_in registers.old (sources_of instr).k))) }
     ensures busy { IsWith pools.old.busy (place_of_tag tag) pools.new.busy }
-    ensures ages { pools.new.ages ≡ slice_set pools.old.ages (place_of_tag tag) age }
+    ensures issue_numbers { pools.new.issue_numbers
+        ≡ slice_set pools.old.issue_numbers (place_of_tag tag) issue_number }
     ensures values { registers.new.values ≡ registers.old.values }
-    ensures sources { IfSome (sources_of instr).j (λ r. r < 32) × IfSome (sources_of instr).k (λ r. r < 32) }
+    ensures sources { IfSome (sources_of instr).j (λ r. r < 32)
+        × IfSome (sources_of instr).k (λ r. r < 32) }
     ensures dest { IfSome (dest_of instr) (λ r. r < 32) }
     ensures status { registers.new.tags ≡ tags_with registers.old.tags (dest_of instr) tag }
 {
@@ -48,6 +51,6 @@ pub fn issue(
         value: 0,
         finish: None,
     };
-    let dest = pools.take(place(tag), station, age);
+    let dest = pools.take(place(tag), station, issue_number);
     registers.await_result(dest, tag);
 }

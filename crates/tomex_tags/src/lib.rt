@@ -15,9 +15,9 @@ mod listeners;
 mod places;
 mod pools;
 mod register_status;
-mod standing;
 mod station;
 mod stations;
+mod wait_sets;
 
 pub use broadcasting::broadcast;
 pub use issuing::issue;

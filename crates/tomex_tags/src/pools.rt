@@ -5,17 +5,17 @@ ghost use Rattle.tomex_timing.specs.Recurrence.{IsLeast};
 ghost use Rattle.tomex_bus.specs.Sets.{IsWith, IsWithout, has};
 ghost use Rattle.tomex_rvdec.specs.Operands.{dest_of, pool_of, unit_of, unit_of_pool};
 ghost use Rattle.tomex_tags.specs.Places.{pool_at, tag_at_place};
-ghost use Rattle.tomex_tags.specs.Contents.{busy_from, hears, lacks_address, started, with_address};
+ghost use Rattle.tomex_tags.specs.Contents.{busy_from, hears, lacks_address, slot, started, with_address};
 ghost use Rattle.tomex_tags.specs.Listeners.{awaits};
 ghost use Rattle.tomex_tags.specs.Operands.{only};
-ghost use Rattle.tomex_tags.specs.Pools.{AreBusy, AreOwn, HaveHeard, is_open};
-ghost use Rattle.tomex_tags.specs.Standing.{IsSetOf, has_address, holds_store, waits, waits_for, writes};
+ghost use Rattle.tomex_tags.specs.Pools.{AreBusy, AreOwn, ChangesStation, HaveHeard, is_open};
+ghost use Rattle.tomex_tags.specs.WaitSets.{IsSetOf, has_address, holds_store, waits, waits_for, writes};
 
 use crate::listeners::Listeners;
 use crate::places::{STORES, served_by, tag};
-use crate::standing::Standing;
 use crate::station::Station;
 use crate::stations::Stations;
+use crate::wait_sets::WaitSets;
 use std::marker::Model;
 use tomex_bus::places::{in_group, least_absent};
 use tomex_bus::sets::{both, difference, lowest, with, without, without_lowest};
@@ -28,9 +28,9 @@ pub struct Pools {
     pools: [Stations; 6],
     /// The places of the busy stations.
     busy: u128,
-    /// How many instructions had issued before the one in a place.
-    ages: [u32; 128],
-    standing: Standing,
+    /// By place, how many instructions had issued before the one there.
+    issue_numbers: [u32; 128],
+    wait_sets: WaitSets,
     listeners: Listeners,
 }
 
@@ -39,17 +39,17 @@ impl Model for Pools {
 
     ghost Value = { Pools };
 
-    ghost view = { λ p. record { slots = slots_of p.pools; busy = p.busy; ages = p.ages } };
+    ghost view = { λ p. record { slots = slots_of p.pools; busy = p.busy; issue_numbers = p.issue_numbers } };
 
-    ghost invariant = { λ p. AreFilled p.pools p.busy p.ages p.standing p.listeners.sets };
+    ghost invariant = { λ p. AreFilled p.pools p.busy p.issue_numbers p.wait_sets p.listeners.sets };
 }
 
 impl Pools {
-    /// None is busy.
+    /// No station is busy yet.
     pub fn new() -> Pools
         ensures slots { result.slots ≡ replicate 96 None }
         ensures busy { result.busy ≡ 0 }
-        ensures ages { result.ages ≡ replicate 128 0 }
+        ensures issue_numbers { result.issue_numbers ≡ replicate 128 0 }
     {
         Pools {
             pools: [
@@ -61,8 +61,8 @@ impl Pools {
                 Stations::new(),
             ],
             busy: 0,
-            ages: [0; 128],
-            standing: Standing {
+            issue_numbers: [0; 128],
+            wait_sets: WaitSets {
                 lacking: 0,
                 waiting: 0,
                 writing: 0,
@@ -71,11 +71,12 @@ impl Pools {
         }
     }
 
-    /// The station in a place, where it is busy.
+    /// The station in a place, if it is busy.
     #[inline(always)]
     pub fn at(&self, place: usize) -> Option<Station>
-        ensures value { result ≡ slice_index_or self.now.slots place None }
-        ensures own { IfSome result (λ s. unit_of s.instr.op ≡ Some (unit_of_pool (pool_at (place / 16)))) }
+        ensures value { result ≡ slot self.now.slots place }
+        ensures own { IfSome result
+            (λ s. unit_of s.instr.op ≡ Some (unit_of_pool (pool_at (place / 16)))) }
         ensures pool { IfSome result (λ s. pool_of s.instr.op ≡ Some (pool_at (place / 16))) }
         ensures low { IsSome result → place < 96 }
     {
@@ -86,11 +87,20 @@ impl Pools {
         }
     }
 
+    /// A law: the busy places are those with a station, and each station holds an instruction of its own pool.
+    #[inline(always)]
+    pub fn keeps_places(&self)
+        ensures busy { AreBusy self.now.slots self.now.busy self.now.issue_numbers }
+        ensures own { AreOwn self.now.slots }
+    {
+        let _busy = self.busy;
+    }
+
     /// The places of the busy stations.
     #[inline(always)]
     pub fn busy(&self) -> u128
         ensures set { result ≡ self.now.busy }
-        ensures busy { AreBusy self.now.slots result self.now.ages }
+        ensures busy { AreBusy self.now.slots result self.now.issue_numbers }
         ensures own { AreOwn self.now.slots }
     {
         self.busy
@@ -100,20 +110,20 @@ impl Pools {
     #[inline(always)]
     pub fn lacking(&self) -> u128
         ensures set { IsSetOf lacks_address self.now.slots result }
-        ensures busy { AreBusy self.now.slots self.now.busy self.now.ages }
+        ensures busy { AreBusy self.now.slots self.now.busy self.now.issue_numbers }
     {
-        self.standing.lacking
+        self.wait_sets.lacking
     }
 
     /// The places of the loads and stores whose address is computed.
     #[inline(always)]
     pub fn addressed(&self) -> u128
         ensures set { IsSetOf has_address self.now.slots result }
-        ensures busy { AreBusy self.now.slots self.now.busy self.now.ages }
+        ensures busy { AreBusy self.now.slots self.now.busy self.now.issue_numbers }
     {
         difference(
             both(self.busy, served_by(UnitId::Mem)),
-            self.standing.lacking,
+            self.wait_sets.lacking,
         )
     }
 
@@ -121,7 +131,7 @@ impl Pools {
     #[inline(always)]
     pub fn stores(&self) -> u128
         ensures set { IsSetOf holds_store self.now.slots result }
-        ensures busy { AreBusy self.now.slots self.now.busy self.now.ages }
+        ensures busy { AreBusy self.now.slots self.now.busy self.now.issue_numbers }
     {
         both(self.busy, STORES)
     }
@@ -130,75 +140,71 @@ impl Pools {
     #[inline(always)]
     pub fn writing(&self) -> u128
         ensures set { IsSetOf writes self.now.slots result }
-        ensures busy { AreBusy self.now.slots self.now.busy self.now.ages }
+        ensures busy { AreBusy self.now.slots self.now.busy self.now.issue_numbers }
     {
-        self.standing.writing
+        self.wait_sets.writing
     }
 
     /// The places whose operations wait for nothing but a unit and older accesses.
     #[inline(always)]
     pub fn waiting(&self) -> u128
         ensures set { IsSetOf waits self.now.slots result }
-        ensures busy { AreBusy self.now.slots self.now.busy self.now.ages }
+        ensures busy { AreBusy self.now.slots self.now.busy self.now.issue_numbers }
         ensures own { AreOwn self.now.slots }
     {
-        self.standing.waiting
+        self.wait_sets.waiting
     }
 
-    /// How many instructions had issued before the one in each busy place.
-    #[inline(always)]
-    pub fn ages(&self) -> &[u32; 128]
-        ensures { result.now ≡ self.now.ages }
-    {
-        &self.ages
-    }
-
-    /// Of those, the ones whose operations a kind of unit runs.
+    /// Of the places of `waiting`, those whose operations this kind of unit runs.
     #[inline(always)]
     pub fn waiting_for(&self, unit: UnitId) -> u128
         ensures set { IsSetOf (waits_for unit) self.now.slots result }
-        ensures busy { AreBusy self.now.slots self.now.busy self.now.ages }
+        ensures busy { AreBusy self.now.slots self.now.busy self.now.issue_numbers }
     {
         both(self.waiting(), served_by(unit))
     }
 
-    /// Computes the address of the station in a place, if its base is there. Of a free place it changes nothing.
+    /// By place, how many instructions had issued before the one there.
+    #[inline(always)]
+    pub fn issue_numbers(&self) -> &[u32; 128]
+        ensures { result.now ≡ self.now.issue_numbers }
+    {
+        &self.issue_numbers
+    }
+
+    /// Computes the address of the station in a place, if its base is there. A free place stays as it is.
     #[inline(always)]
     pub fn compute_address(&mut self, place: usize)
-        ensures slots { self.new.slots ≡ slice_set self.old.slots place (option_map with_address (slice_index_or self.old.slots place None)) }
-        ensures busy { self.new.busy ≡ self.old.busy }
-        ensures ages { self.new.ages ≡ self.old.ages }
+        ensures { ChangesStation place with_address self.old self.new }
     {
         if let Some(station) = self.at(place) {
             self.pools[place / 16].address(place % 16);
-            self.standing.address(place, &station);
+            self.wait_sets.address(place, &station);
         }
     }
 
     /// The operation of the station in a place starts.
     #[inline(always)]
     pub fn start(&mut self, place: usize, finish: u64, value: u32)
-        requires { IsSome (slice_index_or self.old.slots place None) }
-        ensures slots { self.new.slots ≡ slice_set self.old.slots place (option_map (started finish value) (slice_index_or self.old.slots place None)) }
-        ensures busy { self.new.busy ≡ self.old.busy }
-        ensures ages { self.new.ages ≡ self.old.ages }
+        requires { IsSome (slot self.old.slots place) }
+        ensures { ChangesStation place (started finish value) self.old self.new }
     {
         if place < 96 {
             self.pools[place / 16].start(place % 16, finish, value);
-            self.standing.wait(place, false);
+            self.wait_sets.stop_waiting(place);
         }
     }
 
-    /// A station takes a place that is free; so many instructions had issued before its own. Answers the
-    /// register that it writes.
+    /// A station takes a free place. `issue_number` says how many instructions had issued before its own.
+    /// Answers the register that it writes.
     #[inline(always)]
-    pub(crate) fn take(&mut self, place: usize, station: Station, age: u32) -> Option<u8>
+    pub(crate) fn take(&mut self, place: usize, station: Station, issue_number: u32) -> Option<u8>
         requires place { place < 96 }
-        requires open { slice_index_or self.old.slots place None ≡ None }
+        requires open { slot self.old.slots place ≡ None }
         requires own { pool_of station.instr.op ≡ Some (pool_at (place / 16)) }
         ensures slots { self.new.slots ≡ slice_set self.old.slots place (Some station) }
         ensures busy { IsWith self.old.busy place self.new.busy }
-        ensures ages { self.new.ages ≡ slice_set self.old.ages place age }
+        ensures issue_numbers { self.new.issue_numbers ≡ slice_set self.old.issue_numbers place issue_number }
         ensures dest { result ≡ dest_of station.instr }
         ensures register { IfSome result (λ r. r < 32) }
     {
@@ -206,9 +212,9 @@ impl Pools {
         self.listeners.add(place, station.j);
         self.listeners.add(place, station.k);
         self.busy = with(self.busy, place);
-        self.ages[place] = age;
+        self.issue_numbers[place] = issue_number;
         // Last, for its last test, whether a register is written, is the first one of what an issue does next.
-        self.standing.file(place, &station)
+        self.wait_sets.enter(place, &station)
     }
 
     /// Frees a place.
@@ -217,14 +223,14 @@ impl Pools {
         requires { place < 96 }
         ensures slots { self.new.slots ≡ slice_set self.old.slots place None }
         ensures busy { IsWithout self.old.busy place self.new.busy }
-        ensures ages { self.new.ages ≡ self.old.ages }
+        ensures issue_numbers { self.new.issue_numbers ≡ self.old.issue_numbers }
     {
         self.pools[place / 16].put(place % 16, None);
-        self.standing.clear(place);
+        self.wait_sets.clear(place);
         self.busy = without(self.busy, place);
     }
 
-    /// The least free number of a pool, of so many stations.
+    /// The least number of a free station of a pool that has `count` stations.
     #[inline(always)]
     pub fn free(&self, pool: PoolId, count: u8) -> Option<u8>
         requires { count ≤ 16 }
@@ -238,7 +244,8 @@ impl Pools {
     /// What the tables show of each place.
     pub fn shown(&self) -> [Option<Busy>; 96]
         ensures count { length result ≡ 96 }
-        ensures each { (x : ℕ) → x < 96 → slice_index_or result x None ≡ option_map (busy_from (tag_at_place x)) (slice_index_or self.now.slots x None) }
+        ensures each { (x : ℕ) → x < 96
+            → slice_index_or result x None ≡ option_map (busy_from (tag_at_place x)) (slot self.now.slots x) }
     {
         let mut busy: [Option<Busy>; 96] = [None; 96];
         for place in 0..96 {
@@ -248,7 +255,7 @@ impl Pools {
     }
 
     fn shown_at(&self, place: usize) -> Option<Busy>
-        ensures { result ≡ option_map (busy_from (tag_at_place place)) (slice_index_or self.now.slots place None) }
+        ensures { result ≡ option_map (busy_from (tag_at_place place)) (slot self.now.slots place) }
     {
         match self.at(place) {
             Some(station) => Some(station.shown(tag(place))),
@@ -272,23 +279,22 @@ impl Pools {
         self.forget(from);
     }
 
-    /// Turns each Q of the station in a place that names another into V, where a station is busy there.
+    /// Turns each Q that names a place into V, in the station of another place, if it is busy.
     #[inline(always)]
     fn hear_at(&mut self, place: usize, from: usize, value: u32)
         requires { place < 96 }
-        ensures slots { self.new.slots ≡ slice_set self.old.slots place (option_map (hears (only from (Some value))) (slice_index_or self.old.slots place None)) }
-        ensures busy { self.new.busy ≡ self.old.busy }
-        ensures ages { self.new.ages ≡ self.old.ages }
+        ensures { ChangesStation place (hears (only from (Some value))) self.old self.new }
     {
         let waits = self.pools[place / 16].hear(place % 16, from, value);
-        self.standing.hear(place, waits);
+        self.wait_sets.hear(place, waits);
     }
 
     /// The places of all stations with an operand to come from a place, and perhaps of others.
     #[inline(always)]
     fn listening_to(&self, from: usize) -> u128
-        ensures each { (x : ℕ) → x < 96 → awaits from (slice_index_or self.now.slots x None) ≡ true → has result x ≡ true }
-        ensures busy { AreBusy self.now.slots self.now.busy self.now.ages }
+        ensures each { (x : ℕ) → x < 96 → awaits from (slot self.now.slots x) ≡ true
+            → has result x ≡ true }
+        ensures busy { AreBusy self.now.slots self.now.busy self.now.issue_numbers }
     {
         if from < 96 {
             self.listeners.sets[from]
@@ -300,7 +306,7 @@ impl Pools {
     /// No station has an operand to come from a place any more.
     #[inline(always)]
     fn forget(&mut self, from: usize)
-        requires { (x : ℕ) → x < 96 → awaits from (slice_index_or self.old.slots x None) ≡ false }
+        requires { (x : ℕ) → x < 96 → awaits from (slot self.old.slots x) ≡ false }
         ensures { self.new ≡ self.old }
     {
         if from < 96 {

@@ -1,9 +1,9 @@
 //! The reservation stations of one pool.
 
-ghost use Rattle.std.specs.Prelude.{◌≡◌, ◌<◌, None, Some, option_map, replicate, slice_index_or, slice_set};
-ghost use Rattle.tomex_tags.specs.Contents.{hears, started, with_address};
+ghost use Rattle.std.specs.Prelude.{◌≡◌, ◌<◌, None, Some, option_map, replicate, slice_set};
+ghost use Rattle.tomex_tags.specs.Contents.{changed, hears, slot, started, with_address};
 ghost use Rattle.tomex_tags.specs.Operands.{only};
-ghost use Rattle.tomex_tags.specs.Standing.{waits};
+ghost use Rattle.tomex_tags.specs.WaitSets.{waits};
 
 use crate::station::{Station, heard};
 use arrayvec::ArrayVec;
@@ -28,7 +28,7 @@ impl Model for Stations {
 }
 
 impl Stations {
-    /// None is busy.
+    /// No station is busy yet.
     pub fn new() -> Stations
         ensures { result ≡ replicate 16 None }
     {
@@ -37,11 +37,11 @@ impl Stations {
         }
     }
 
-    /// The station of a number, where it is busy.
+    /// The station of a number, if it is busy.
     #[inline(always)]
     pub fn at(&self, number: usize) -> Option<Station>
         requires { number < 16 }
-        ensures { result ≡ slice_index_or self.now number None }
+        ensures { result ≡ slot self.now number }
     {
         self.stations[number]
     }
@@ -55,11 +55,11 @@ impl Stations {
         self.stations[number] = station;
     }
 
-    /// The address of the station of a number is computed, where it is busy and its base is there.
+    /// Computes the address of the station of a number, if it is busy and its base is there.
     #[inline(always)]
     pub fn address(&mut self, number: usize)
         requires { number < 16 }
-        ensures { self.new ≡ slice_set self.old number (option_map with_address (slice_index_or self.old number None)) }
+        ensures { self.new ≡ changed with_address number self.old }
     {
         if let Some(station) = &mut self.stations[number] {
             if let Field::Value(base) = station.j {
@@ -68,13 +68,14 @@ impl Stations {
         }
     }
 
-    /// The station of a number hears what a place sends, where it is busy. Whether it waits for nothing
-    /// but a unit and older accesses then.
+    /// The station of a number hears what a place sends, if it is busy. Answers whether it then waits for
+    /// nothing but a unit and older accesses.
     #[inline(always)]
     pub fn hear(&mut self, number: usize, from: usize, value: u32) -> bool
         requires { number < 16 }
-        ensures heard { self.new ≡ slice_set self.old number (option_map (hears (only from (Some value))) (slice_index_or self.old number None)) }
-        ensures waits { result ≡ waits (option_map (hears (only from (Some value))) (slice_index_or self.old number None)) }
+        ensures heard { self.new ≡ changed (hears (only from (Some value))) number self.old }
+        ensures waits { result
+            ≡ waits (option_map (hears (only from (Some value))) (slot self.old number)) }
     {
         if let Some(station) = &mut self.stations[number] {
             station.j = heard(station.j, from, value);
@@ -84,11 +85,11 @@ impl Stations {
         false
     }
 
-    /// The operation of the station of a number has started, where it is busy.
+    /// The operation of the station of a number starts, if it is busy.
     #[inline(always)]
     pub fn start(&mut self, number: usize, finish: u64, value: u32)
         requires { number < 16 }
-        ensures { self.new ≡ slice_set self.old number (option_map (started finish value) (slice_index_or self.old number None)) }
+        ensures { self.new ≡ changed (started finish value) number self.old }
     {
         if let Some(station) = &mut self.stations[number] {
             station.finish = Some(finish);

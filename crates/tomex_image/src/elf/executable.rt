@@ -33,7 +33,8 @@ fn segments_in(
     requires { 0 < table.count → table.offset + 32 * table.count ≤ length bytes.now }
     ensures passed { IfOk result (λ v.
         first_failing (table_tests window bytes.now entry table.offset table.count) ≡ None) }
-    ensures found { IfOk result (λ v. v ≡ segments_from [] (headers_from bytes.now table.offset table.count)) }
+    ensures found { IfOk result
+        (λ v. v ≡ segments_from [] (headers_from bytes.now table.offset table.count)) }
     ensures entry { IfOk result (λ v. IsEntry window entry) }
     ensures err { IfErr result (λ e.
         first_failing (table_tests window bytes.now entry table.offset table.count) ≡ Some e) }

@@ -14,7 +14,7 @@ use crate::window::Window;
 pub fn is_within(window: Window, address: u32, count: u32) -> bool
     ensures { result ≡ lies_in window address count }
 {
-    let end = u64::from(window.base()) + u64::from(window.size());
+    let end = window.end();
     window.base() <= address && u64::from(address) + u64::from(count) <= end
 }
 

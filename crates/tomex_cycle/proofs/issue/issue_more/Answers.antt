@@ -16,7 +16,7 @@ issues-preserved g c =
     record {
       on = on_more c.args.fetcher.now c.args.row.now c.args.count.now c.issues.made c.issues.count _ _ _ _ _ _ _ _ _ _ c.issue_next.result c.issues.invariant.on less
           (rw c.issues.invariant.same at c.issue_next.ensures.issues) (one_is c.issue_next.result (sym c.unwrap_or-more.ensures ∙ c.if-not-more.false)) refl;
-      known = λ f next known. c.issue_next.ensures.known f next (c.issues.invariant.known f next known);
+      known = λ next f known. c.issue_next.ensures.known next f (c.issues.invariant.known next f known);
       same = c.issue_next.ensures.same ∙ c.issues.invariant.same;
     }
 
@@ -27,7 +27,7 @@ returns-then-not-more-clause-issues g c =
     (rw c.issues.invariant.same at c.issue_next.ensures.issues) (sym c.unwrap_or-more.ensures ∙ c.if-not-more.true)
 
 pub returns-then-not-more-clause-known : goal.returns-then-not-more-clause-known
-returns-then-not-more-clause-known g c = λ f next known. c.issue_next.ensures.known f next (c.issues.invariant.known f next known)
+returns-then-not-more-clause-known g c = λ next f known. c.issue_next.ensures.known next f (c.issues.invariant.known next f known)
 
 pub returns-clause-issues : goal.returns-clause-issues
 returns-clause-issues g c =

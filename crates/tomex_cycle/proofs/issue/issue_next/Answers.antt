@@ -20,7 +20,7 @@ returns-clause-issues g c =
     some_case c.args.fetcher.now c.args.row.now c.args.count c.args.pools.now c.issue.new.pools c.args.registers.now c.issue.new.registers c.args.fetch.now c.after-2.result c.in-At.pc c.in-Ok.instr c.in-Some.pool c.stations.result c.in-Some-free.number _ _
     c.in-At.is (sym c.fetch.ensures.value ∙ c.in-Ok.is) (sym c.pool.ensures ∙ c.in-Some.is) c.stations.ensures.count c.in-Some-free.ensures.some.0 c.in-Some-free.ensures.some.1
     refl refl c.issue.ensures.sources.0 c.issue.ensures.sources.1 c.issue.ensures.dest
-    c.issue.ensures.slots c.issue.ensures.ages c.issue.ensures.values c.issue.ensures.status c.after-2.ensures
+    c.issue.ensures.slots c.issue.ensures.issue_numbers c.issue.ensures.values c.issue.ensures.status c.after-2.ensures
 
 pub returns-clause-known : goal.returns-clause-known
-returns-clause-known g c = λ f next known. known_taken c.args.pools.now.slots c.issue.new.pools.slots next c.in-Some-free.number c.stations.result c.in-Some.pool _ f c.issue.ensures.slots c.in-Some-free.ensures.some.0.0 c.in-Some-free.ensures.some.1 c.stations.ensures.range.1 refl known
+returns-clause-known g c = λ next f known. known_taken c.args.pools.now.slots c.issue.new.pools.slots next c.in-Some-free.number c.stations.result c.in-Some.pool _ f c.issue.ensures.slots c.in-Some-free.ensures.some.0.0 c.in-Some-free.ensures.some.1 c.stations.ensures.range.1 refl known

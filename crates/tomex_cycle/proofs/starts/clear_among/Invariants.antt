@@ -3,7 +3,7 @@ use Rattle.tomex_cycle.proofs.starts.clear_among.Given as goal
 
 -- all but the rest are looked at
 abbrev pub invariant-members : goal.invariant-members
-invariant-members l = AreCleared l.pools l.next l.waiting l.rest l.clear
+invariant-members l = AreCleared l.pools l.cycle l.waiting l.rest l.clear
 
 abbrev pub decreases-members : goal.decreases-members
 decreases-members l = l.rest

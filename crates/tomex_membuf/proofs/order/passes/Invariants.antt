@@ -3,7 +3,7 @@ use Rattle.tomex_membuf.proofs.order.passes.Given as goal
 
 -- the older ones that were looked at let it
 abbrev pub invariant-members : goal.invariant-members
-invariant-members l = AreLooked l.pools.slots l.pools.ages l.age l.rest l.station l.next
+invariant-members l = AreLooked l.pools.slots l.pools.issue_numbers l.issue_number l.rest l.station l.cycle
 
 abbrev pub decreases-members : goal.decreases-members
 decreases-members l = l.rest

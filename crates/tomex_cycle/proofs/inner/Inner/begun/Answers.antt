@@ -1,13 +1,18 @@
-use Rattle.std.proofs.Common.{ap, ℕ}
+use Rattle.std.proofs.Common.{ap, ℕ, refl}
 use Rattle.tomex_rvexec.specs.Memory.{Bytes}
 use Rattle.tomex_cycle.specs.declared.fetch.Fetch.TheVariants.{At}
 use Rattle.tomex_cycle.proofs.Outer.{start_shown}
 use Rattle.tomex_cycle.proofs.inner.Inner.begun.Goals as goal
 
-pub returns-clause-start : goal.returns-clause-start
-returns-clause-start g c = λ row n. start_shown c.args.image.now row n _ _ _ _ c.new.ensures.slots c.new.ensures.ages c.new-2.ensures.tags
-    (rw (c.from.ensures, c.from-2.ensures, c.base.ensures.value, c.size.ensures.value, c.window-window.ensures.value) at c.new-2.ensures.values)
-    (ap (λ (x : ℕ). At x) c.entry.ensures.value)
-    (ap (λ (m : Bytes). m.base) c.requires)
-    (ap (λ (m : Bytes). m.bytes) c.requires)
-    c.entry.ensures.loaded.filled
+pub returns : goal.returns
+returns g c = record {
+  start = λ row n. start_shown c.args.image.now row n _ _ _ _ c.new.ensures.slots c.new.ensures.issue_numbers c.new-2.ensures.tags
+      (rw (c.initial_sp.ensures, c.window.ensures.value) at c.new-2.ensures.values)
+      (ap (λ (x : ℕ). At x) c.entry.ensures.value)
+      (ap (λ (m : Bytes). m.base) c.requires)
+      (ap (λ (m : Bytes). m.bytes) c.requires)
+      c.entry.ensures.loaded.filled;
+  none = refl;
+  unworked = refl;
+  empty = c.new.ensures.slots;
+}

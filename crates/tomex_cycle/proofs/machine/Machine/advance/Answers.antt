@@ -1,11 +1,21 @@
-use Rattle.std.proofs.Common.{◌∙◌, ap, arith, max}
+use Rattle.std.proofs.Common.{◌∙◌, ap, arith, max, refl}
 use Rattle.tomex_cycle.specs.Seen.{seen}
 use Rattle.tomex_cycle.proofs.Ticks.{now_seen, over_seen}
 use Rattle.tomex_cycle.proofs.machine.Machine.advance.Goals.{in-Running, in_default}
 use Rattle.tomex_cycle.proofs.machine.Machine.advance.Goals as goal
 
-pub returns-clause-ends : goal.returns-clause-ends
-returns-clause-ends g c = λ e. elim c.match-self.branch [
-  | in-Running w ↦ rw w.self-is (w.run_to.ensures.ends e)
-  | in_default w ↦ rw w.self-is (over_seen c.args.self.now.image c.args.self.now.row c.args.self.now.cycle (max c.args.self.now.cycle c.args.to) (seen c.args.self.now) (now_seen _ _ _ _ _ _ _ _ _ _ (ap seen c.self.view_is) c.self.invariant.0 e) (λ runs. w.in_default.not-Running (ap (λ x. x.last) c.self.view_is ∙ runs)) (omega arith))
+pub returns-clause-advances : goal.returns-clause-advances
+returns-clause-advances g c = elim c.match-self.branch [
+  | in-Running w ↦ rw w.self-is w.run_to.ensures
+  | in_default w ↦ rw w.self-is (record {
+    image = refl;
+    row = refl;
+    least = omega arith;
+    most = omega arith;
+    runs = λ runs. absurd (w.in_default.not-Running (ap (λ x. x.last) c.self.view_is ∙ runs));
+    stays = λ stopped. refl;
+    none = λ low. refl;
+    ends = λ e. over_seen c.args.self.now.image c.args.self.now.row c.args.self.now.cycle (max c.args.self.now.cycle c.args.to) (seen c.args.self.now) (now_seen _ _ _ _ _ _ _ _ _ _ (ap seen c.self.view_is) c.self.invariant.0 e) (λ runs. w.in_default.not-Running (ap (λ x. x.last) c.self.view_is ∙ runs)) (omega arith);
+    counts = λ e. record { least = omega arith; most = omega arith };
+  })
 ]

@@ -6,6 +6,6 @@ invariant_of-self c = record {
   six = c.self.invariant.six;
   own = c.self.invariant.own;
   listening = forgotten _ c.self.inside.listeners.sets c.args.from c.self.invariant.listening c.if-from-lt96.true (rw (← c.self.view_is) at c.requires);
-  standing = c.self.invariant.standing;
+  wait_sets = c.self.invariant.wait_sets;
   filled = c.self.invariant.filled;
 }

@@ -10,7 +10,7 @@ pub members-preserved-then-place-lt96 : goal.members-preserved-then-place-lt96
 members-preserved-then-place-lt96 c =
     let without = c.without_lowest-rest.ensures.others c.lowest-place.result c.lowest-place.ensures.member c.lowest-place.ensures.least in
     heard_more (only c.args.from (Some c.args.value)) c.members.rest c.without_lowest-rest.result c.lowest-place.result c.args.self.now c.members.self c.hear_at.new.self c.members.invariant c.if-place-lt96.true c.lowest-place.ensures.member without
-    c.hear_at.ensures.slots c.hear_at.ensures.busy c.hear_at.ensures.ages
+    c.hear_at.ensures.slots c.hear_at.ensures.busy c.hear_at.ensures.issue_numbers
 
 pub members-preserved : goal.members-preserved
 members-preserved c =

@@ -1,6 +1,6 @@
 use Rattle.std.proofs.Common.{refl}
 use Rattle.tomex_cycle.proofs.KnownResults.{are_results, known_results, others_finish}
-use Rattle.tomex_cycle.proofs.passing.take_results.Goals as goal
+use Rattle.tomex_cycle.proofs.skipping.take_results.Goals as goal
 
 pub returns-clause-results : goal.returns-clause-results
 returns-clause-results c = λ yes next known.

@@ -5,7 +5,7 @@ use Rattle.tomex_timing.specs.declared.times.Done.{Done}
 use Rattle.tomex_timing.specs.History.{cycle_of}
 
 -- the step may start in the cycle, nothing else of it falls there, and it neither issues nor starts in the next one
-pub record IsCalm (u : ℕ) (d : Done) : Type 0 where
+pub record IsQuiet (u : ℕ) (d : Done) : Type 0 where
   pub issue : d.at.issue ≢ u
   pub address : cycle_of d.at.address ≢ u
   pub finish : d.at.finish ≢ u
@@ -13,5 +13,5 @@ pub record IsCalm (u : ℕ) (d : Done) : Type 0 where
   pub apart : d.at.issue ≢ u + 1
   pub later : d.at.start ≢ u + 1
 
-abbrev pub AllCalm : ℕ → List Done → Type 0
-AllCalm u h = AllByRecursion (IsCalm u) h
+abbrev pub AllQuiet : ℕ → List Done → Type 0
+AllQuiet u h = AllByRecursion (IsQuiet u) h

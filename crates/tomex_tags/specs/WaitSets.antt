@@ -1,14 +1,14 @@
 -- What busy stations wait for: sets of their places.
-use Rattle.std.specs.Prelude.{ℕ, ◌<◌, ◌≡◌, ◌==◌, Bool, false, ◌&&◌, if◌then◌else◌, List, Option, Some, None, is_some, slice_index_or}
+use Rattle.std.specs.Prelude.{ℕ, ◌<◌, ◌≡◌, ◌==◌, Bool, false, ◌&&◌, if◌then◌else◌, List, Option, Some, None, is_some}
 use Rattle.tomex_bus.specs.Sets.{has}
 use Rattle.tomex_rvdec.specs.Operands.{dest_of, pool_of, unit_of}
 use Rattle.tomex_rvdec.specs.declared.pool.PoolId.TheVariants as pools
 use Rattle.tomex_rvexec.specs.Steps.{is_in}
 use Rattle.tomex_rvdec.specs.declared.pool.UnitId.{UnitId}
 use Rattle.tomex_timing.specs.History.{is_of}
-use Rattle.tomex_tags.specs.declared.standing.Standing.{Standing}
+use Rattle.tomex_tags.specs.declared.wait_sets.WaitSets.{WaitSets}
 use Rattle.tomex_tags.specs.declared.station.Station.{Station}
-use Rattle.tomex_tags.specs.Contents.{is_memory_op, is_waiting, lacks_address}
+use Rattle.tomex_tags.specs.Contents.{is_memory_op, is_waiting, lacks_address, slot}
 
 -- a load or store whose address is computed
 abbrev pub has_address : Option Station → Bool
@@ -37,31 +37,31 @@ writes (Some s) = is_some (dest_of s.instr)
 
 -- a set is of the places whose stations pass a test
 abbrev pub IsSetOf : (Option Station → Bool) → List (Option Station) → ℕ → Type 0
-IsSetOf test slots set = (x : ℕ) → x < 128 → has set x ≡ test (slice_index_or slots x None)
+IsSetOf test slots set = (x : ℕ) → x < 128 → has set x ≡ test (slot slots x)
 
 -- the sets are of what stands in the places
-pub record AreStanding (slots : List (Option Station)) (sets : Standing) : Type 0 where
+pub record AreWaitSets (slots : List (Option Station)) (sets : WaitSets) : Type 0 where
   pub lacking : IsSetOf lacks_address slots sets.lacking
   pub waiting : IsSetOf waits slots sets.waiting
   pub writing : IsSetOf writes slots sets.writing
 
 -- a set once a place is a member or none
-abbrev pub IsFiled : ℕ → Bool → ℕ → ℕ → Type 0
-IsFiled x member old new = (y : ℕ) → y < 128 → has new y ≡ (if x == y then member else has old y)
+abbrev pub IsWithMember : ℕ → Bool → ℕ → ℕ → Type 0
+IsWithMember x member old new = (y : ℕ) → y < 128 → has new y ≡ (if x == y then member else has old y)
 
 -- the sets once this stands in a place
-pub record HasFiled (x : ℕ) (station : Option Station) (old new : Standing) : Type 0 where
-  pub lacking : IsFiled x (lacks_address station) old.lacking new.lacking
-  pub waiting : IsFiled x (waits station) old.waiting new.waiting
-  pub writing : IsFiled x (writes station) old.writing new.writing
+pub record HasEntered (x : ℕ) (station : Option Station) (old new : WaitSets) : Type 0 where
+  pub lacking : IsWithMember x (lacks_address station) old.lacking new.lacking
+  pub waiting : IsWithMember x (waits station) old.waiting new.waiting
+  pub writing : IsWithMember x (writes station) old.writing new.writing
 
 -- a place is in none of the sets
-pub record IsOut (x : ℕ) (sets : Standing) : Type 0 where
+pub record IsOut (x : ℕ) (sets : WaitSets) : Type 0 where
   pub lacking : has sets.lacking x ≡ false
   pub waiting : has sets.waiting x ≡ false
   pub writing : has sets.writing x ≡ false
 
 -- all but the set of those that wait is as before
-pub record IsKept (old new : Standing) : Type 0 where
+pub record KeepsOthers (old new : WaitSets) : Type 0 where
   pub lacking : new.lacking ≡ old.lacking
   pub writing : new.writing ≡ old.writing

@@ -1,7 +1,7 @@
-//! Passing the cycles after one in which nothing happens.
+//! Skipping the quiet cycles.
 
 ghost use Rattle.std.specs.Prelude.{ℕ, ◌≡◌, ◌<◌, ◌≤◌, ◌+◌, ◌-◌, ◌^◌, true, false};
-ghost use Rattle.tomex_cycle.specs.Finishes.{AreKnown, AreResults, FinishesSoon, IsFree, IsIdle, IsPassed};
+ghost use Rattle.tomex_cycle.specs.Finishes.{AreKnown, AreResults, FinishesSoon, IsFree, IsIdle, IsSkipped};
 
 use crate::finishes::Finishes;
 use crate::inner::{Cycle, Inner};
@@ -12,20 +12,20 @@ use tomex_rvdec::UnitId;
 use tomex_rvexec::Fetcher;
 use tomex_tags::{Pools, served_by};
 
-/// How many cycles can be passed before the next finish, so far ahead if there is any, but no more than `most`.
-fn idle(next: Option<u32>, most: u64) -> u64
+/// How many cycles can be skipped before the next finish, so far ahead if there is any, but no more than `most`.
+fn idle(ahead: Option<u32>, most: u64) -> u64
     ensures most { result ≤ most }
-    ensures idle { IsIdle next most result }
+    ensures idle { IsIdle ahead most result }
 {
-    match next {
+    match ahead {
         Some(ahead) if u64::from(ahead) < most => u64::from(ahead),
         _ => most,
     }
 }
 
-/// Passes the cycles after one that was just made in which nothing finishes, but goes no further than
-/// `to`; answers the cycle that it comes to.
-fn pass_idle(finishes: &mut Finishes, pools: &Pools, cycle: u64, to: u64) -> u64
+/// Skips the cycles after one that was just made in which nothing finishes, but goes no further than `to`. Answers
+/// the cycle that it comes to.
+fn skip_idle(finishes: &mut Finishes, pools: &Pools, cycle: u64, to: u64) -> u64
     requires ahead { cycle ≤ to }
     requires known { AreKnown pools.now.slots (cycle + 1) finishes.old }
     requires quiet { finishes.old.ready ≡ 0 }
@@ -41,14 +41,16 @@ fn pass_idle(finishes: &mut Finishes, pools: &Pools, cycle: u64, to: u64) -> u64
     cycle + idle
 }
 
-/// Takes what finishes in the next cycle as results that are ready after it, where nothing else finishes in
-/// it: no branch, and nothing that ends as it finishes.
+/// Takes what finishes in the next cycle as results that are ready after it, if nothing else finishes in it: no
+/// branch, and nothing that ends as it finishes. Answers whether that was so.
 #[inline(always)]
 fn take_results(finishes: &mut Finishes, pools: &Pools) -> bool
     requires { finishes.old.ready ≡ 0 }
     ensures none { result ≡ false → finishes.new ≡ finishes.old }
-    ensures others { result ≡ false → (next : ℕ) → AreKnown pools.now.slots next finishes.old → AreResults pools.now.slots next → ⊥ }
-    ensures results { result ≡ true → (next : ℕ) → AreKnown pools.now.slots next finishes.old → AreResults pools.now.slots next × AreKnown pools.now.slots (next + 1) finishes.new }
+    ensures others { result ≡ false → (cycle : ℕ) → AreKnown pools.now.slots cycle finishes.old
+        → AreResults pools.now.slots cycle → ⊥ }
+    ensures results { result ≡ true → (cycle : ℕ) → AreKnown pools.now.slots cycle finishes.old
+        → AreResults pools.now.slots cycle × AreKnown pools.now.slots (cycle + 1) finishes.new }
 {
     let results = difference(pools.writing(), served_by(UnitId::Bru));
     let others = difference(finishes.wheel.first(), results);
@@ -59,10 +61,10 @@ fn take_results(finishes: &mut Finishes, pools: &Pools) -> bool
     true
 }
 
-/// Passes the cycles after one that was just made, as far as no station changes in them, but goes no further
-/// than `to`; answers the cycle that it comes to. The last of them is made where results finish in it.
+/// Skips the cycles after one that was just made, as far as no station changes in them, but goes no further than
+/// `to`. Answers the cycle that it comes to. The last of them is made if results finish in it.
 #[inline(always)]
-pub(crate) fn pass_still<A: Allocator, B: Allocator>(
+pub(crate) fn skip_quiet<A: Allocator, B: Allocator>(
     inner: &mut Inner<A>,
     finishes: &mut Finishes,
     fetcher: &mut Fetcher<'_, B>,
@@ -71,21 +73,21 @@ pub(crate) fn pass_still<A: Allocator, B: Allocator>(
     to: u64,
 ) -> u64
     requires ahead { cycle ≤ to }
-    requires few { inner.old.worked < 2 ^ 41 }
+    requires fits { inner.old.worked < 2 ^ 41 }
     requires low { to < 2 ^ 41 }
     requires known { AreKnown inner.old.pools.slots (cycle + 1) finishes.old }
     requires quiet { finishes.old.ready ≡ 0 }
     ensures least { cycle ≤ result }
     ensures most { result ≤ to }
-    ensures passed { IsPassed inner.old.pools.slots cycle to result inner.old.worked inner.new.worked }
+    ensures skipped { IsSkipped inner.old.pools.slots cycle to result inner.old.worked inner.new.worked }
     ensures known { AreKnown inner.old.pools.slots (result + 1) finishes.new }
-    ensures inner { inner.new ≡ record { pools = inner.old.pools; registers = inner.old.registers; memory = inner.old.memory; fetch = inner.old.fetch; count = inner.old.count; worked = inner.new.worked; happened = inner.old.happened } }
+    ensures inner { inner.new ≡ record inner.old { worked = inner.new.worked } }
     ensures same { fetcher.new ≡ fetcher.old }
 {
     let pools = inner.pools();
-    let idle = pass_idle(finishes, pools, cycle, to);
+    let idle = skip_idle(finishes, pools, cycle, to);
     if idle < to && take_results(finishes, pools) {
-        inner.make_cycle(Cycle::OfResults, finishes, fetcher, row, idle + 1);
+        inner.make_cycle(Cycle::CountOnly, finishes, fetcher, row, idle + 1);
         return idle + 1;
     }
     idle

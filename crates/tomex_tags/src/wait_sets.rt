@@ -1,10 +1,10 @@
-//! What the busy stations wait for.
+//! What the busy stations wait for, as sets of their places.
 
 ghost use Rattle.std.specs.Prelude.{◌≡◌, ◌<◌, IfSome, None, Some, false, true};
 ghost use Rattle.tomex_rvdec.specs.Operands.{dest_of};
 ghost use Rattle.tomex_bus.specs.Sets.{has};
 ghost use Rattle.tomex_tags.specs.Contents.{lacks_address, with_address};
-ghost use Rattle.tomex_tags.specs.Standing.{HasFiled, IsFiled, IsKept, IsOut, waits};
+ghost use Rattle.tomex_tags.specs.WaitSets.{HasEntered, IsWithMember, KeepsOthers, IsOut, waits};
 
 use crate::station::Station;
 use tomex_bus::sets::{with, with_if, without};
@@ -12,9 +12,9 @@ use tomex_timing::Field;
 
 /// Sets of the busy places, by what their stations wait for.
 ///
-/// They follow from the stations, and spare a walk over all that are busy.
+/// They follow from the stations, and save going over all that are busy.
 #[derive(Clone, Copy)]
-pub struct Standing {
+pub struct WaitSets {
     /// Loads and stores whose address isn't computed yet.
     pub lacking: u128,
     /// Stations whose operations wait for nothing but a unit and older accesses.
@@ -23,38 +23,25 @@ pub struct Standing {
     pub writing: u128,
 }
 
-/// The set with a place as a member, or not.
-#[inline(always)]
-fn filed(set: u128, place: usize, member: bool) -> u128
-    requires { place < 128 }
-    ensures { IsFiled place member set result }
-{
-    if member {
-        with(set, place)
-    } else {
-        without(set, place)
-    }
-}
-
-/// A place comes to the set, or doesn't.
+/// A place becomes a member of the set, or doesn't.
 #[inline(always)]
 fn join(set: &mut u128, place: usize, member: bool)
     requires low { place < 128 }
     requires out { has set.old place ≡ false }
-    ensures { IsFiled place member set.old set.new }
+    ensures { IsWithMember place member set.old set.new }
 {
     if member {
         *set = with(*set, place);
     }
 }
 
-impl Standing {
-    /// A station stands in a place, in which nothing stood; answers the register that its instruction writes.
+impl WaitSets {
+    /// A station takes a place that was free. Answers the register that its instruction writes.
     #[inline(always)]
-    pub fn file(&mut self, place: usize, station: &Station) -> Option<u8>
+    pub fn enter(&mut self, place: usize, station: &Station) -> Option<u8>
         requires low { place < 128 }
         requires out { IsOut place self.old }
-        ensures filed { HasFiled place (Some station.now) self.old self.new }
+        ensures entered { HasEntered place (Some station.now) self.old self.new }
         ensures dest { result ≡ dest_of station.now.instr }
         ensures register { IfSome result (λ r. r < 32) }
     {
@@ -65,14 +52,16 @@ impl Standing {
         dest
     }
 
-    /// The station in a place gets its address, where its base is there; all else of it is as before.
+    /// The station in a place gets its address, if its base is there. All else of it is as before.
     #[inline(always)]
     pub fn address(&mut self, place: usize, station: &Station)
         requires low { place < 128 }
         requires lacking { has self.old.lacking place ≡ lacks_address (Some station.now) }
         requires waiting { has self.old.waiting place ≡ waits (Some station.now) }
-        ensures lacking { IsFiled place (lacks_address (Some (with_address station.now))) self.old.lacking self.new.lacking }
-        ensures waiting { IsFiled place (waits (Some (with_address station.now))) self.old.waiting self.new.waiting }
+        ensures lacking { IsWithMember place (lacks_address (Some (with_address station.now)))
+            self.old.lacking self.new.lacking }
+        ensures waiting { IsWithMember place (waits (Some (with_address station.now)))
+            self.old.waiting self.new.waiting }
         ensures others { self.new.writing ≡ self.old.writing }
     {
         if let Field::Value(_) = station.j {
@@ -83,32 +72,32 @@ impl Standing {
         }
     }
 
-    /// Whether the station in a place waits for no more; all else of it is as before.
+    /// The operation of the station in a place has started: it waits no longer.
     #[inline(always)]
-    pub fn wait(&mut self, place: usize, waits: bool)
+    pub fn stop_waiting(&mut self, place: usize)
         requires { place < 128 }
-        ensures waiting { IsFiled place waits self.old.waiting self.new.waiting }
-        ensures others { IsKept self.old self.new }
+        ensures waiting { IsWithMember place false self.old.waiting self.new.waiting }
+        ensures others { KeepsOthers self.old self.new }
     {
-        self.waiting = filed(self.waiting, place, waits);
+        self.waiting = without(self.waiting, place);
     }
 
-    /// The station in a place has heard a result: where it waited for nothing before, it does so still.
+    /// The station in a place has heard a result. If it lacked no operand before, it lacks none now.
     #[inline(always)]
     pub fn hear(&mut self, place: usize, waits: bool)
         requires low { place < 128 }
         requires still { has self.old.waiting place ≡ true → waits ≡ true }
-        ensures waiting { IsFiled place waits self.old.waiting self.new.waiting }
-        ensures others { IsKept self.old self.new }
+        ensures waiting { IsWithMember place waits self.old.waiting self.new.waiting }
+        ensures others { KeepsOthers self.old self.new }
     {
         self.waiting = with_if(self.waiting, place, waits);
     }
 
-    /// Nothing stands in a place any more.
+    /// A place is free again.
     #[inline(always)]
     pub fn clear(&mut self, place: usize)
         requires { place < 128 }
-        ensures { HasFiled place None self.old self.new }
+        ensures { HasEntered place None self.old self.new }
     {
         self.lacking = without(self.lacking, place);
         self.waiting = without(self.waiting, place);

@@ -1,6 +1,6 @@
 use Rattle.std.proofs.Common.{refl}
 use Rattle.tomex_cycle.proofs.KnownIdle.{clear_idle, free_to, known_later}
-use Rattle.tomex_cycle.proofs.passing.pass_idle.Goals as goal
+use Rattle.tomex_cycle.proofs.skipping.skip_idle.Goals as goal
 
 pub returns-clause-free : goal.returns-clause-free
 returns-clause-free c = free_to c.args.pools.now.slots c.args.cycle c.idle-idle.result c.args.finishes.now c.requires.known c.requires.quiet (clear_idle c.next.result c.args.finishes.now.wheel _ c.idle-idle.result c.next.ensures c.idle-idle.ensures.idle)

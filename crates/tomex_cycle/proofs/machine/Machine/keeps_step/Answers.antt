@@ -1,0 +1,7 @@
+use Rattle.std.proofs.Common.{ap}
+use Rattle.tomex_cycle.specs.Seen.{seen}
+use Rattle.tomex_cycle.proofs.Ticks.{now_seen}
+use Rattle.tomex_cycle.proofs.machine.Machine.keeps_step.Goals as goal
+
+pub returns : goal.returns
+returns g c = now_seen _ _ _ _ _ _ _ _ _ _ (ap seen c.self.view_is) c.self.invariant.0

@@ -1,0 +1,44 @@
+//! What has happened in a cycle, as far as it says whether those after it can be skipped.
+
+ghost use Rattle.std.specs.Prelude.{◌≡◌, ◌≢◌, ◌⊎◌, true, false, if◌then◌else◌};
+ghost use Rattle.tomex_cycle.specs.Starts.{NoneWaits};
+
+use tomex_tags::Pools;
+
+/// What has happened in the cycle that is being made, before anything ends in it.
+#[derive(Clone, Copy)]
+pub(crate) enum Activity {
+    Nothing,
+    /// Operations have started, and no more.
+    Starts,
+    /// An address is computed, or an instruction has issued.
+    More,
+}
+
+impl Activity {
+    /// Notes that so much has happened, if it has.
+    #[inline(always)]
+    pub(crate) fn raise_to(&mut self, activity: Activity, happens: bool)
+        ensures { self.new ≡ (if happens then activity else self.old) }
+    {
+        if happens {
+            *self = activity;
+        }
+    }
+}
+
+/// Whether nothing happens after a cycle before the next finish: it has computed no address, issued nothing and
+/// ended nothing, and if it has started operations, none is left that waits for a unit.
+#[inline(always)]
+pub(crate) fn is_quiet_after(activity: Activity, ended: bool, pools: &Pools) -> bool
+    ensures quiet { result ≡ true
+        → (activity ≢ Activity.More) × (ended ≡ false) × ((activity ≡ Activity.Nothing) ⊎ NoneWaits pools.now.slots) }
+    ensures active { result ≡ false
+        → (activity ≡ Activity.More) ⊎ ((ended ≡ true) ⊎ (activity ≡ Activity.Starts)) }
+{
+    match activity {
+        Activity::Nothing => !ended,
+        Activity::Starts => !ended && pools.waiting() == 0,
+        Activity::More => false,
+    }
+}
