@@ -15,7 +15,9 @@ distinct_costs costs = with_costs [] costs
 
 -- all of rising costs where there are at most 64, else 64 of them, evenly spread
 abbrev pub floors_among : List ℕ → List ℕ
-floors_among rising = if nat_le (length rising) 64 then rising else map (λ k. slice_index rising (k * length rising / 64)) (range_with_len 0 64)
+floors_among rising =
+    if nat_le (length rising) 64 then rising
+    else map (λ k. slice_index rising (k * length rising / 64)) (range_with_len 0 64)
 
 -- the floors of the bands, in the order of the bands
 unfoldable pub floors_of : List ℕ → List ℕ
@@ -23,9 +25,11 @@ floors_of costs = floors_among (distinct_costs costs)
 
 -- the band of a cost: the first, and so the least, floor that is no less
 abbrev pub IsBandOf : List ℕ → ℕ → ℕ → Type 0
-IsBandOf floors cost k = (k < length floors) × (cost ≤ slice_index floors k) × ((j : ℕ) → j < k → slice_index floors j < cost)
+IsBandOf floors cost k =
+    (k < length floors) × (cost ≤ slice_index floors k) × ((j : ℕ) → j < k → slice_index floors j < cost)
 
 -- the bands below m that may judge a row of this cost, the last one first: their floor is at most the cost
 abbrev pub judges_below : ℕ → List ℕ → ℕ → List ℕ
 judges_below zero floors cost = []
-judges_below (suc k) floors cost = if nat_le (slice_index floors k) cost then k ∷ judges_below k floors cost else judges_below k floors cost
+judges_below (suc k) floors cost =
+    if nat_le (slice_index floors k) cost then k ∷ judges_below k floors cost else judges_below k floors cost

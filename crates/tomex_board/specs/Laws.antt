@@ -14,15 +14,21 @@ use Rattle.tomex_board.specs.Rule.{IsLawful}
 
 -- at every moment the words of the rows say lawful marks
 abbrev pub MarksAreLawful : Type 0
-MarksAreLawful = (costs cycles : List ℕ) (s : State ℕ View) → IsLawful costs cycles s → AreLawful costs cycles (map mark_of (take (length costs) s.words))
+MarksAreLawful =
+    (costs cycles : List ℕ) (s : State ℕ View) → IsLawful costs cycles s
+    → AreLawful costs cycles (map mark_of (take (length costs) s.words))
 
 -- what any seat noted isn't open, so no later claim of it is true
 abbrev pub NotedIsNotOpen : Type 0
-NotedIsNotOpen = (costs cycles : List ℕ) (s : State ℕ View) (a : ℕ) (v : View) (i : ℕ) → IsLawful costs cycles s → get_elem? s.views a ≡ some v → IsNoted v i → slice_index s.words i ≢ mark_word Open
+NotedIsNotOpen =
+    (costs cycles : List ℕ) (s : State ℕ View) (a : ℕ) (v : View) (i : ℕ) → IsLawful costs cycles s
+    → get_elem? s.views a ≡ some v → IsNoted v i → slice_index s.words i ≢ mark_word Open
 
 -- a row is in the hand of one seat only
 abbrev pub HandsAreApart : Type 0
-HandsAreApart = (costs cycles : List ℕ) (s : State ℕ View) (a b : ℕ) (v w : View) (i : ℕ) → IsLawful costs cycles s → get_elem? s.views a ≡ some v → get_elem? s.views b ≡ some w → Has v.hand i → Has w.hand i → a ≡ b
+HandsAreApart =
+    (costs cycles : List ℕ) (s : State ℕ View) (a b : ℕ) (v w : View) (i : ℕ) → IsLawful costs cycles s
+    → get_elem? s.views a ≡ some v → get_elem? s.views b ≡ some w → Has v.hand i → Has w.hand i → a ≡ b
 
 -- no two marks have one word
 abbrev pub WordsSayMarks : Type 0
@@ -34,16 +40,24 @@ JoinTakesLesserBest = (v w : View) (k : ℕ) → best k (joined_view v w) ≡ mi
 
 -- the distinct costs are the costs and no others
 abbrev pub CostsAreKept : Type 0
-CostsAreKept = (costs : List ℕ) (c : ℕ) → (Has costs c → Has (distinct_costs costs) c) × (Has (distinct_costs costs) c → Has costs c)
+CostsAreKept =
+    (costs : List ℕ) (c : ℕ)
+    → (Has costs c → Has (distinct_costs costs) c) × (Has (distinct_costs costs) c → Has costs c)
 
 -- and rise, so that each stands there once
 abbrev pub DistinctCostsRise : Type 0
-DistinctCostsRise = (costs : List ℕ) (j k : ℕ) → j < k → k < length (distinct_costs costs) → slice_index (distinct_costs costs) j < slice_index (distinct_costs costs) k
+DistinctCostsRise =
+    (costs : List ℕ) (j k : ℕ) → j < k → k < length (distinct_costs costs)
+    → slice_index (distinct_costs costs) j < slice_index (distinct_costs costs) k
 
 -- floors rise
 abbrev pub FloorsRise : Type 0
-FloorsRise = (costs : List ℕ) (j k : ℕ) → j < k → k < length (floors_of costs) → slice_index (floors_of costs) j < slice_index (floors_of costs) k
+FloorsRise =
+    (costs : List ℕ) (j k : ℕ) → j < k → k < length (floors_of costs)
+    → slice_index (floors_of costs) j < slice_index (floors_of costs) k
 
 -- so the band of a cost has the least floor that is no less
 abbrev pub BandIsLeast : Type 0
-BandIsLeast = (costs : List ℕ) (cost j k : ℕ) → IsBandOf (floors_of costs) cost k → j < length (floors_of costs) → cost ≤ slice_index (floors_of costs) j → slice_index (floors_of costs) k ≤ slice_index (floors_of costs) j
+BandIsLeast =
+    (costs : List ℕ) (cost j k : ℕ) → IsBandOf (floors_of costs) cost k → j < length (floors_of costs)
+    → cost ≤ slice_index (floors_of costs) j → slice_index (floors_of costs) k ≤ slice_index (floors_of costs) j

@@ -22,7 +22,8 @@ pub record IsLeastBest (floors : List ℕ) (cost : ℕ) (v : View) (w : ℕ) : T
 
 -- the bound's word is that least word, and was published
 abbrev pub IsLeastBound : List ℕ → ℕ → View → Bound → Type 0
-IsLeastBound floors cost v b = IsLeastBest floors cost v (band_word b.cycles b.row) × (band_word b.cycles b.row ≢ nothing_yet)
+IsLeastBound floors cost v b =
+    IsLeastBest floors cost v (band_word b.cycles b.row) × (band_word b.cycles b.row ≢ nothing_yet)
 
 -- nothing was published in these bands
 abbrev pub AreEmpty : List ℕ → ℕ → View → Type 0

@@ -8,4 +8,5 @@ use Rattle.tomex_board.specs.declared.mark.Mark.TheVariants.{Finished, Dropped}
 pub record AreLawful (costs cycles : List ℕ) (marks : List Mark) : Type 0 where
   pub finished : (i y : ℕ) → slice_get marks i ≡ Some (Finished y) → y ≡ slice_index cycles i
   pub dropped : (i j : ℕ) → slice_get marks i ≡ Some (Dropped j)
-      → (slice_get marks j ≡ Some (Finished (slice_index cycles j))) × (slice_index costs j ≤ slice_index costs i) × (slice_index cycles j < slice_index cycles i)
+      → (slice_get marks j ≡ Some (Finished (slice_index cycles j))) × (slice_index costs j ≤ slice_index costs i)
+      × (slice_index cycles j < slice_index cycles i)

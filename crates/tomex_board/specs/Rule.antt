@@ -24,7 +24,8 @@ Drops costs cycles words i w =
 -- the word may stand at the row i
 abbrev pub FitsRow : List ℕ → List ℕ → List ℕ → ℕ → ℕ → Type 0
 FitsRow costs cycles words i w =
-    (w ≡ mark_word Open) ⊎ ((w ≡ mark_word Taken) ⊎ ((w ≡ mark_word (Finished (slice_index cycles i))) ⊎ Drops costs cycles words i w))
+    (w ≡ mark_word Open)
+    ⊎ ((w ≡ mark_word Taken) ⊎ ((w ≡ mark_word (Finished (slice_index cycles i))) ⊎ Drops costs cycles words i w))
 
 -- the word may stand in the band k: it is empty, or names a finished row with its cycles, whose cost
 -- is at most the floor
@@ -38,7 +39,8 @@ FitsBand costs cycles words k w =
 pub record IsTrueOf (costs words : List ℕ) (v : View) : Type 0 where
   pub hand : (i : ℕ) → Has v.hand i → (i < length costs) × (slice_index words i ≡ mark_word Taken)
   pub seen : (i : ℕ) → Has v.seen i → (i < length costs) × (slice_index words i ≢ mark_word Open)
-  pub marks : (i : ℕ) (m : Mark) → Has v.marks (i, m) → (i < length costs) × (2 ≤ mark_word m) × (slice_index words i ≡ mark_word m)
+  pub marks : (i : ℕ) (m : Mark) → Has v.marks (i, m)
+      → (i < length costs) × (2 ≤ mark_word m) × (slice_index words i ≡ mark_word m)
   pub bests : (k w : ℕ) → Has v.bests (k, w) → (k < 64) × (slice_index words (length costs + k) ≤ w)
 
 -- the row is in the hand of a seat that has a number
@@ -53,9 +55,11 @@ pub record IsLawful (costs cycles : List ℕ) (s : State ℕ View) : Type 0 wher
   pub bands : (k : ℕ) → k < 64 → FitsBand costs cycles s.words k (slice_index s.words (length costs + k))
   pub known : (a : ℕ) (v : View) → get_elem? s.views a ≡ some v → IsTrueOf costs s.words v
   -- a row is in one hand only
-  pub alone : (a b : ℕ) (v w : View) (i : ℕ) → get_elem? s.views a ≡ some v → get_elem? s.views b ≡ some w → Has v.hand i → Has w.hand i → a ≡ b
+  pub alone : (a b : ℕ) (v w : View) (i : ℕ) → get_elem? s.views a ≡ some v → get_elem? s.views b ≡ some w
+      → Has v.hand i → Has w.hand i → a ≡ b
   -- numbers are below 32, and no two seats have one, those that were dropped neither
   pub few : (a : ℕ) (v : View) (x : ℕ) → get_elem? s.views a ≡ some v → Has v.share x → x < 32
-  pub apart : (a b : ℕ) (v w : View) (x : ℕ) → get_elem? s.views a ≡ some v → get_elem? s.views b ≡ some w → Has v.share x → Has w.share x → a ≡ b
+  pub apart : (a b : ℕ) (v w : View) (x : ℕ) → get_elem? s.views a ≡ some v → get_elem? s.views b ≡ some w
+      → Has v.share x → Has w.share x → a ≡ b
   -- a taken row is in the hand of a seat with a number
   pub held : (i : ℕ) → i < length costs → slice_index s.words i ≡ mark_word Taken → IsHeld s.views i

@@ -24,7 +24,8 @@ pub record IsClaim (costs : List ℕ) (st : Step ℕ) (before : Seated) (found :
   pub to : st.second ≡ mark_word Taken
   pub slots : after.1 ≡ before.1
   pub taken : found ≡ mark_word Open → (after.0 ≡ after_claim st.word before.0) × ¬ IsNoted before.0 st.word
-  pub missed : found ≢ mark_word Open → (m : Mark) × (m ≢ Open) × (found ≡ mark_word m) × (after.0 ≡ after_failed_claim st.word m before.0)
+  pub missed : found ≢ mark_word Open
+      → (m : Mark) × (m ≢ Open) × (found ≡ mark_word m) × (after.0 ≡ after_failed_claim st.word m before.0)
 
 -- compare_exchange of the word of a row in hand from taken to finished, with the row's cycles
 pub record IsFinish (costs cycles : List ℕ) (st : Step ℕ) (before : Seated) (found : ℕ) (after : Seated) : Type 0 where
@@ -59,7 +60,8 @@ pub record IsLook (costs cycles : List ℕ) (st : Step ℕ) (before : Seated) (f
   pub is_best : best band after.0 ≡ found
   pub empty : found ≡ nothing_yet → after.0 ≡ after_seeing band found before.0
   pub named : found ≢ nothing_yet → (row : ℕ) × (row < length costs) × (found ≡ band_word (slice_index cycles row) row)
-      × (slice_index costs row ≤ slice_index (floors_of costs) band) × (after.0 ≡ after_seeing_row band row (slice_index cycles row) before.0)
+      × (slice_index costs row ≤ slice_index (floors_of costs) band)
+      × (after.0 ≡ after_seeing_row band row (slice_index cycles row) before.0)
 
 -- compare_exchange of the word of a row in hand from taken to dropped, for a row that is noted as
 -- finished, no dearer and strictly faster

@@ -6,7 +6,7 @@ use Rattle.tomex_board.specs.declared.mark.Mark.TheVariants.{Open, Taken, Finish
 use Rattle.tomex_board.specs.declared.view.View.{View}
 use Rattle.tomex_board.specs.Words.{band_word, nothing_yet}
 
--- the list has the value; "one entry more" is one case more
+-- the list has the value
 abbrev pub Has : {X : Type 0} → List X → X → Type 0
 Has [] x = ⊥
 Has (y ∷ ys) x = (y ≡ x) ⊎ Has ys x
@@ -22,7 +22,7 @@ least_of [] = 0
 least_of (x ∷ []) = x
 least_of (x ∷ y ∷ ys) = min x (least_of (y ∷ ys))
 
--- the seat noted the row as not open: it is in its hand, was seen so, or its closed mark was
+-- the seat knows that the row isn't open: it holds it, has seen it so, or has seen its closed mark
 abbrev pub IsNoted : View → ℕ → Type 0
 IsNoted v i = Has v.hand i ⊎ (Has v.seen i ⊎ ((m : Mark) × Has v.marks (i, m)))
 
@@ -31,11 +31,11 @@ abbrev pub least_in : ℕ → List (ℕ × ℕ) → ℕ
 least_in k [] = nothing_yet
 least_in k (x ∷ xs) = if x.0 == k then min x.1 (least_in k xs) else least_in k xs
 
--- the best word of a band that the seat saw
+-- the least word of a band that the seat has seen published
 abbrev pub best : ℕ → View → ℕ
 best k v = least_in k v.bests
 
--- what was noted stays noted, and no best word rises
+-- what was known stays known, and the least word of no band rises
 pub record Grows (v w : View) : Type 0 where
   pub noted : (i : ℕ) → IsNoted v i → IsNoted w i
   pub marks : (i : ℕ) (m : Mark) → Has v.marks (i, m) → Has w.marks (i, m)
@@ -78,7 +78,12 @@ after_seeing k w v = record v { bests = (k, w) ∷ v.bests }
 
 -- the word of a row was seen in the band k, and the row is noted as finished with these cycles
 abbrev pub after_seeing_row : ℕ → ℕ → ℕ → View → View
-after_seeing_row k row cycles v = record v { seen = row ∷ v.seen; marks = (row, Finished cycles) ∷ v.marks; bests = (k, band_word cycles row) ∷ v.bests }
+after_seeing_row k row cycles v =
+    record v {
+      seen = row ∷ v.seen;
+      marks = (row, Finished cycles) ∷ v.marks;
+      bests = (k, band_word cycles row) ∷ v.bests;
+    }
 
 -- the new seat of a split: the same notes, an empty hand, and the least of the numbers
 abbrev pub given_view : View → View
@@ -90,7 +95,13 @@ kept_view v = record v { share = without (least_of v.share) v.share }
 
 -- two seats that became one: the hand of the first, and the notes and numbers of both
 abbrev pub joined_view : View → View → View
-joined_view v w = record { hand = v.hand; seen = v.seen ++ w.seen; marks = v.marks ++ w.marks; bests = v.bests ++ w.bests; share = v.share ++ w.share }
+joined_view v w = record {
+  hand = v.hand;
+  seen = v.seen ++ w.seen;
+  marks = v.marks ++ w.marks;
+  bests = v.bests ++ w.bests;
+  share = v.share ++ w.share;
+}
 
 -- what is left of a seat that was joined to another
 abbrev pub spent_view : View

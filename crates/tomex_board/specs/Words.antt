@@ -13,7 +13,8 @@ mark_word (Dropped row) = 4 * row + 3
 
 -- the mark that a word says
 abbrev pub mark_of : ℕ → Mark
-mark_of w = if w % 4 == 2 then Finished (w / 4) else if w % 4 == 3 then Dropped (w / 4) else if w == 0 then Open else Taken
+mark_of w =
+    if w % 4 == 2 then Finished (w / 4) else if w % 4 == 3 then Dropped (w / 4) else if w == 0 then Open else Taken
 
 -- the word by which a finished row is published: its cycles and its number
 abbrev pub band_word : ℕ → ℕ → ℕ

@@ -119,7 +119,8 @@ impl<J: Plan, A: Allocator> Board<J, A> {
         requires board { seat.board ≡ self.now }
         requires two { HasTwo seat.view.share }
         ensures board { (result.0.board ≡ self.now) × (result.1.board ≡ self.now) }
-        ensures views { (result.0.view ≡ kept_view seat.view) × (result.1.view ≡ given_view seat.view) }
+        ensures views { (result.0.view ≡ kept_view seat.view)
+            × (result.1.view ≡ given_view seat.view) }
     {
         let inner = self.table.shared.split_seat::<SplitSeat>(&mut seat.inner);
         (

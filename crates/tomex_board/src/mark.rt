@@ -5,7 +5,7 @@
 pub enum Mark {
     /// Nobody has claimed it.
     Open,
-    /// A seat has it in hand, or had it when it was dropped.
+    /// A seat has it in hand, or had it when the seat was discarded.
     Taken,
     /// It was run to its end, in so many cycles.
     Finished(u64),

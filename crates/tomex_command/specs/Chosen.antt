@@ -26,14 +26,16 @@ IsUnchosen study config name NoSuchProgram = IsWithoutProgram study config name
 IsUnchosen study config name _ = ⊥
 
 -- the row and the program of the study of a file
-pub record IsChosenIn (file : List ℕ → Told) (study : List ℕ) (config : ℕ) (name : List ℕ) (row : Row) (program : Workload) : Type 0 where
+pub record IsChosenIn (file : List ℕ → Told) (study : List ℕ) (config : ℕ) (name : List ℕ) (row : Row)
+    (program : Workload) : Type 0 where
   pub space : DesignSpace
   pub of_files : IsStudyIn file study space
   pub chosen : IsChosen space config name row program
 
 -- the study of a file has not both, for this reason
 abbrev pub IsUnchosenIn : (List ℕ → Told) → List ℕ → ℕ → List ℕ → Failure → Type 0
-IsUnchosenIn file study config name failure = (space : DesignSpace) × IsStudyIn file study space × IsUnchosen space config name failure
+IsUnchosenIn file study config name failure =
+    (space : DesignSpace) × IsStudyIn file study space × IsUnchosen space config name failure
 
 -- when each failure comes: the whole study first, then the row, then the program
 abbrev pub IsChoiceFailure : (List ℕ → Told) → List ℕ → ℕ → List ℕ → Failure → Type 0

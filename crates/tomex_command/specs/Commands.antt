@@ -66,7 +66,8 @@ pub record IsToldOnly (words : List (List ℕ)) (status : ℕ) (out-old out err-
   pub said : IsSaid fault status err-old err
 
 -- the line that the words ask for was carried out
-pub record HasDone (words : List (List ℕ)) (file : List ℕ → Told) (status : ℕ) (out-old out err-old err : Seen) : Type 0 where
+pub record HasDone (words : List (List ℕ)) (file : List ℕ → Told) (status : ℕ)
+    (out-old out err-old err : Seen) : Type 0 where
   pub line : Line
   pub asked : IsAsked words line
   pub carried_out : IsCarriedOut file line out-old out
@@ -74,7 +75,8 @@ pub record HasDone (words : List (List ℕ)) (file : List ℕ → Told) (status 
   pub nothing_told : err ≡ err-old
 
 -- the line that the words ask for failed, and that was told
-pub record HasFailed (words : List (List ℕ)) (file : List ℕ → Told) (status : ℕ) (out-old out err-old err : Seen) : Type 0 where
+pub record HasFailed (words : List (List ℕ)) (file : List ℕ → Told) (status : ℕ)
+    (out-old out err-old err : Seen) : Type 0 where
   pub line : Line
   pub asked : IsAsked words line
   pub failure : Failure

@@ -26,7 +26,8 @@ register_lines r (v ∷ vs) = register_line r v ++ register_lines (r + 1) vs
 
 -- `ebreak at 0000000c after 4` and a line feed
 abbrev pub end_line : EndKind → ℕ → ℕ → List ℕ
-end_line kind pc steps = name_of_end kind ++ (codes " at " ++ (hex8 pc ++ (codes " after " ++ (decimal steps ++ codes "\n"))))
+end_line kind pc steps =
+    name_of_end kind ++ (codes " at " ++ (hex8 pc ++ (codes " after " ++ (decimal steps ++ codes "\n"))))
 
 abbrev pub text_of : EndKind → ℕ → State → List ℕ
 text_of kind steps s = register_lines 0 s.regs ++ end_line kind s.pc steps

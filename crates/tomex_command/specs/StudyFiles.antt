@@ -52,6 +52,7 @@ pub record IsWithoutFile (file : List ℕ → Told) (name : List ℕ) (missing :
 abbrev pub IsStudyFailure : (List ℕ → Told) → List ℕ → Failure → Type 0
 IsStudyFailure file name (CannotRead missing) =
     IsUnread file name (CannotRead missing) ⊎ IsWithoutFile file name (string_bytes missing)
-IsStudyFailure file name (Study error) = error ≢ studies.Memory → IsRefusedDocument file name error ⊎ IsRefusedStudy file name error
+IsStudyFailure file name (Study error) =
+    error ≢ studies.Memory → IsRefusedDocument file name error ⊎ IsRefusedStudy file name error
 IsStudyFailure file name Memory = Unit {0}
 IsStudyFailure file name _ = ⊥

@@ -40,12 +40,14 @@ IsFailureTold failure status old new =
 
 -- a fault is told with its status, and the output takes nothing but help: all of it, unless it fails
 abbrev pub IsTold : LineFault → ℕ → Seen → Seen → Type 0
-IsTold (Help text) status old new = ((status ≡ 0) × IsWhole (string_bytes text) old new) ⊎ ((status ≡ 3) × IsCut (string_bytes text) old new)
+IsTold (Help text) status old new =
+    ((status ≡ 0) × IsWhole (string_bytes text) old new) ⊎ ((status ≡ 3) × IsCut (string_bytes text) old new)
 IsTold (Usage text) status old new = (status ≡ 2) × (new ≡ old)
 IsTold faults.Memory status old new = (status ≡ 3) × (new ≡ old)
 
 -- what the standard error gets where a line asks for no command
 abbrev pub IsSaid : LineFault → ℕ → Seen → Seen → Type 0
-IsSaid (Help text) status old new = ((status ≡ 0) × (new ≡ old)) ⊎ ((status ≡ 3) × IsWritten (line_of (codes "cannot write")) old new)
+IsSaid (Help text) status old new =
+    ((status ≡ 0) × (new ≡ old)) ⊎ ((status ≡ 3) × IsWritten (line_of (codes "cannot write")) old new)
 IsSaid (Usage text) status old new = IsWritten (string_bytes text) old new
 IsSaid _ status old new = IsWritten (line_of (codes "out of memory")) old new

@@ -87,9 +87,9 @@ fn carry_out<
     out: &mut O,
 ) -> Result<(), Failure>
     ensures done { OnOk result (IsCarriedOut (F.file files.now) line.entry
-        (record { taken = O.taken out.old; faults = O.faults out.old }) (record { taken = O.taken out.new; faults = O.faults out.new })) }
+        (O.seen out.old) (O.seen out.new)) }
     ensures left { IfErr result (λ failure. IsLeft (F.file files.now) line.entry failure
-        (record { taken = O.taken out.old; faults = O.faults out.old }) (record { taken = O.taken out.new; faults = O.faults out.new })) }
+        (O.seen out.old) (O.seen out.new)) }
 {
     let text = text_of(rt, alloc, heap, line, files, meter)?;
     match write_all_of(out, text.as_slice()) {
@@ -123,13 +123,14 @@ pub fn command<
     err: &mut E,
 ) -> u8
     ensures end { IsEnd (map string_bytes words.now) (F.file files.now) result
-        (record { taken = O.taken out.old; faults = O.faults out.old }) (record { taken = O.taken out.new; faults = O.faults out.new })
-        (record { taken = E.taken err.old; faults = E.faults err.old }) (record { taken = E.taken err.new; faults = E.faults err.new }) }
+        (O.seen out.old) (O.seen out.new)
+        (E.seen err.old) (E.seen err.new) }
     ensures statuses { result ≤ 3 }
 
     // A refused input or line writes nothing to the standard output; only a whole text is done.
-    ensures refused { (result ≡ 1) ⊎ (result ≡ 2) → O.taken out.new ≡ O.taken out.old }
-    ensures done { result ≡ 0 → O.faults out.new ≡ O.faults out.old }
+    ensures refused { (result ≡ 1) ⊎ (result ≡ 2)
+        → (O.seen out.new).taken ≡ (O.seen out.old).taken }
+    ensures done { result ≡ 0 → (O.seen out.new).faults ≡ (O.seen out.old).faults }
 {
     match read_line(heap, words) {
         Ok(line) => match carry_out(rt, alloc, heap, line, files, meter, out) {

@@ -71,7 +71,8 @@ fn text_of_registers<A: Allocator>(alloc: A, registers: &[u32]) -> Result<String
 
 /// The lines of the registers and of the end.
 fn text_of_end<A: Allocator>(alloc: A, end: &End<A>) -> Result<String<A>, AllocError>
-    ensures { IfOk result (λ t. string_bytes t ≡ register_lines 0 end.now.regs ++ end_line end.now.kind end.now.pc end.now.steps) }
+    ensures { IfOk result
+        (λ t. string_bytes t ≡ register_lines 0 end.now.regs ++ end_line end.now.kind end.now.pc end.now.steps) }
 {
     let mut text = text_of_registers(alloc, end.regs.as_slice())?;
     let (kind, pc, steps) = (end.kind, end.pc, end.steps);

@@ -10,24 +10,21 @@ use tomex_streams::{Sink, shown, write_all_of};
 
 /// Writes a text as far as the sink takes it.
 fn say<W: Sink>(sink: &mut W, text: &[u8])
-    ensures { IsWritten text.now
-        (record { taken = W.taken sink.old; faults = W.faults sink.old }) (record { taken = W.taken sink.new; faults = W.faults sink.new }) }
+    ensures { IsWritten text.now (W.seen sink.old) (W.seen sink.new) }
 {
     let _ = write_all_of(sink, text);
 }
 
 /// Says that memory was wanting.
 fn say_out_of_memory<E: Sink>(err: &mut E)
-    ensures { IsWritten (line_of (codes "out of memory"))
-        (record { taken = E.taken err.old; faults = E.faults err.old }) (record { taken = E.taken err.new; faults = E.faults err.new }) }
+    ensures { IsWritten (line_of (codes "out of memory")) (E.seen err.old) (E.seen err.new) }
 {
     say(err, "tomex: out of memory\n".as_bytes());
 }
 
 /// Says that the standard output failed.
 fn say_cannot_write<E: Sink>(err: &mut E)
-    ensures { IsWritten (line_of (codes "cannot write"))
-        (record { taken = E.taken err.old; faults = E.faults err.old }) (record { taken = E.taken err.new; faults = E.faults err.new }) }
+    ensures { IsWritten (line_of (codes "cannot write")) (E.seen err.old) (E.seen err.new) }
 {
     say(err, "tomex: cannot write\n".as_bytes());
 }
@@ -35,10 +32,8 @@ fn say_cannot_write<E: Sink>(err: &mut E)
 /// Tells why a line asks for no command, and answers the exit status: help on the output, all else on
 /// the error stream. A failed write to the error stream changes no status.
 pub fn tell_line_fault<O: Sink, E: Sink>(fault: &LineFault, out: &mut O, err: &mut E) -> u8
-    ensures told { IsTold fault.now result
-        (record { taken = O.taken out.old; faults = O.faults out.old }) (record { taken = O.taken out.new; faults = O.faults out.new }) }
-    ensures said { IsSaid fault.now result
-        (record { taken = E.taken err.old; faults = E.faults err.old }) (record { taken = E.taken err.new; faults = E.faults err.new }) }
+    ensures told { IsTold fault.now result (O.seen out.old) (O.seen out.new) }
+    ensures said { IsSaid fault.now result (E.seen err.old) (E.seen err.new) }
 {
     match fault {
         LineFault::Help(text) => {
@@ -87,8 +82,7 @@ fn line_of(heap: Global, failure: &Failure) -> Result<String, AllocError>
 /// Tells a failure on the standard error, and gives its status. A line that can't be written
 /// changes no status; one that there is no memory for becomes `out of memory`.
 pub fn tell<E: Sink>(heap: Global, failure: &Failure, err: &mut E) -> u8
-    ensures { IsFailureTold failure.now result
-        (record { taken = E.taken err.old; faults = E.faults err.old }) (record { taken = E.taken err.new; faults = E.faults err.new }) }
+    ensures { IsFailureTold failure.now result (E.seen err.old) (E.seen err.new) }
 {
     match line_of(heap, failure) {
         Ok(line) => {

@@ -21,10 +21,23 @@ pub record Counts : Type 0 where
   pub buses : List ℕ
   pub width : List ℕ
 
--- the place of the axes
+abbrev pub counts_of : (alu mul div load store bru buses width : List ℕ) → Counts
+counts_of alu mul div load store bru buses width = record {
+  alu = alu;
+  mul = mul;
+  div = div;
+  load = load;
+  store = store;
+  bru = bru;
+  buses = buses;
+  width = width;
+}
+
+-- the counts that the table of axes gives
 unfoldable pub axis_counts : Members → Reading Counts
 axis_counts members = do
-  _ ← known_keys place.Axes (key.Alu ∷ key.Mul ∷ key.Div ∷ key.Load ∷ key.Store ∷ key.Bru ∷ key.Buses ∷ key.Width ∷ []) members
+  _ ← known_keys place.Axes
+      (key.Alu ∷ key.Mul ∷ key.Div ∷ key.Load ∷ key.Store ∷ key.Bru ∷ key.Buses ∷ key.Width ∷ []) members
   alu ← counts_at place.Axes key.Alu 16 members
   mul ← counts_at place.Axes key.Mul 16 members
   div ← counts_at place.Axes key.Div 16 members

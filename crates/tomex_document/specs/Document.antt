@@ -34,7 +34,8 @@ members_of bytes = if is_utf8 bytes then members_or (parse_document bytes) else 
 
 -- the weight of a program, the price of the width or an axis of widths is said
 abbrev pub is_wide : List ProgramEntry → Members → Members → Bool
-is_wide programs prices axes = list_any (λ entry. entry.weighed) programs || (has_key key.Width prices || has_key key.Width axes)
+is_wide programs prices axes =
+    list_any (λ entry. entry.weighed) programs || (has_key key.Width prices || has_key key.Width axes)
 
 -- the keys at the top, and then place by place
 unfoldable pub outline_of : Members → Reading Document

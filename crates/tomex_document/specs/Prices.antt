@@ -16,7 +16,8 @@ price_at key members = number_at place.Prices key (between 0 1000000) 0 members
 -- the place of the prices
 unfoldable pub prices_of : Members → Reading PriceList
 prices_of members = do
-  _ ← known_keys place.Prices (key.Alu ∷ key.Mul ∷ key.Div ∷ key.Load ∷ key.Store ∷ key.Bru ∷ key.Bus ∷ key.Width ∷ []) members
+  _ ← known_keys place.Prices
+      (key.Alu ∷ key.Mul ∷ key.Div ∷ key.Load ∷ key.Store ∷ key.Bru ∷ key.Bus ∷ key.Width ∷ []) members
   alu ← price_at key.Alu members
   mul ← price_at key.Mul members
   div ← price_at key.Div members

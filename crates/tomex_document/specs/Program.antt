@@ -28,6 +28,17 @@ pub record ProgramEntry : Type 0 where
   -- the study says the weight
   pub weighed : Bool
 
+abbrev pub entry_of : (name file : List ℕ) → Span → (limit : ℕ) → List WatchRange → (weight : ℕ) → Bool → ProgramEntry
+entry_of name file window limit watch weight weighed = record {
+  name = name;
+  file = file;
+  window = window;
+  limit = limit;
+  watch = watch;
+  weight = weight;
+  weighed = weighed;
+}
+
 -- a to z, 0 to 9, _ and -
 abbrev pub is_name_byte : ℕ → Bool
 is_name_byte b = (nat_le 97 b && nat_le b 122) || (nat_le 48 b && nat_le b 57) || (b == 95) || (b == 45)
@@ -109,7 +120,8 @@ program_from number earlier (Some members) = program_of (place.Program number) e
 abbrev pub programs_of : ℕ → List ProgramEntry → Items → Reading (List ProgramEntry)
 programs_of number earlier no_items = Ok earlier
 programs_of number earlier (item value values) =
-    program_from number earlier (as_table value) >>= (λ program. programs_of (number + 1) (earlier ++ program ∷ []) values)
+    program_from number earlier (as_table value)
+    >>= (λ program. programs_of (number + 1) (earlier ++ program ∷ []) values)
 
 -- at most 8 of them
 abbrev pub few_programs : Items → Reading Items

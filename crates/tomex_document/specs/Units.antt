@@ -1,5 +1,5 @@
 -- The options for each kind of functional unit.
-use Rattle.std.specs.Prelude.{ℕ, ◌+◌, List, [], ◌∷◌, Option, Some, None, Ok, Err}
+use Rattle.std.specs.Prelude.{ℕ, ◌+◌, List, [], ◌∷◌, Option, Some, None, Ok, Err, option_map}
 use Rattle.toml.specs.Data.{Items, no_items, item, Members, as_table}
 use Rattle.tomex_rvdec.specs.declared.pool.UnitId.{UnitId}
 use Rattle.tomex_config.specs.declared.row.UnitOption.{UnitOption}
@@ -22,7 +22,17 @@ pub record UnitTables : Type 0 where
   pub mem : Option Items
   pub bru : Option Items
 
--- the place of the unit, without those of its options
+-- slices of tables, as documents see them
+abbrev pub tables_of : {S : Type 0} → (S → Items) → (alu mul div mem bru : Option S) → UnitTables
+tables_of seen alu mul div mem bru = record {
+  alu = option_map seen alu;
+  mul = option_map seen mul;
+  div = option_map seen div;
+  mem = option_map seen mem;
+  bru = option_map seen bru;
+}
+
+-- the tables of options that the table of units gives
 unfoldable pub unit_tables : Members → Reading UnitTables
 unit_tables members = do
   _ ← known_keys place.Unit (key.Alu ∷ key.Mul ∷ key.Div ∷ key.Mem ∷ key.Bru ∷ []) members
@@ -51,7 +61,8 @@ option_from unit number (Some members) = option_of (place.Option unit number) (m
 abbrev pub options_from : UnitId → ℕ → Items → Reading (List UnitOption)
 options_from unit number no_items = Ok []
 options_from unit number (item value values) =
-    option_from unit number (as_table value) >>= (λ option. options_from unit (number + 1) values >>= (λ options. Ok (option ∷ options)))
+    option_from unit number (as_table value)
+    >>= (λ option. options_from unit (number + 1) values >>= (λ options. Ok (option ∷ options)))
 
 -- the options of a kind; where it isn't there one plain option
 abbrev pub options_of : UnitId → Option Items → Reading (List UnitOption)

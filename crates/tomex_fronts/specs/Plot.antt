@@ -51,7 +51,8 @@ mark_at axes CyclesLine value = codes "<path d=\"M112 " ++ (decimal (y_of axes v
 mark_at axes CostNumber value =
     codes "<text x=\"" ++ (decimal (x_of axes value) ++ (codes "\" y=\"402\">" ++ (decimal value ++ codes "</text>\n")))
 mark_at axes CyclesNumber value =
-    codes "<text x=\"104\" y=\"" ++ (decimal (y_of axes value + 4) ++ (codes "\">" ++ (decimal value ++ codes "</text>\n")))
+    codes "<text x=\"104\" y=\""
+    ++ (decimal (y_of axes value + 4) ++ (codes "\">" ++ (decimal value ++ codes "</text>\n")))
 
 -- the same where there is a value
 abbrev pub mark_if : Axes → Mark → Option ℕ → List ℕ
@@ -160,7 +161,8 @@ cycles_label = codes "<text x=\"104\" y=\"48\" font-size=\"14\">cycles</text>\n<
 
 unfoldable pub scales_text : Axes → List ℕ
 scales_text axes =
-    centred ++ (marks_of axes CostNumber ++ (cost_label ++ (ending_there ++ (marks_of axes CyclesNumber ++ cycles_label))))
+    centred
+    ++ (marks_of axes CostNumber ++ (cost_label ++ (ending_there ++ (marks_of axes CyclesNumber ++ cycles_label))))
 
 -- the staircase as a line, the points, and their rows' numbers
 unfoldable pub rows_text : Axes → List ℕ → List FrontRow → List ℕ

@@ -37,7 +37,8 @@ impl Model for Column {
 
     ghost view = { λ c. record { name = string_bytes c.name; numbers = c.numbers.items } };
 
-    ghost invariant = { λ c. c.width ≡ width_of (record { name = string_bytes c.name; numbers = c.numbers.items }) };
+    ghost invariant = { λ c. c.width
+        ≡ width_of (record { name = string_bytes c.name; numbers = c.numbers.items }) };
 }
 
 impl Column {

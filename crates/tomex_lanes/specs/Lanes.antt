@@ -3,7 +3,8 @@ use Rattle.std.specs.Prelude.{ℕ, zero, suc, ◌+◌, ◌-◌, ◌%◌, ◌<◌
 use Rattle.std.specs.List.{flat_map}
 use Rattle.tomex_lanes.specs.Rows.{rows_of}
 
--- a worker's number, how many rows there are over all workers, the list of its own, and the lists of the workers that it
+-- a worker's number, how many rows there are over all workers, the list of its own, and the lists of the
+-- workers that it
 -- steals from, the first one first
 pub record Dealt : Type 0 where
   pub worker : ℕ
@@ -22,12 +23,18 @@ IsListed l row = Contains l.rows row ⊎ ((rows : List ℕ) × Contains l.others
 -- the lists of the n workers after one, and round
 abbrev pub others_of : ℕ → ℕ → ℕ → ℕ → List (List ℕ)
 others_of workers worker count zero = []
-others_of workers worker count (suc n) = others_of workers worker count n ++ rows_of workers ((worker + suc n) % workers) count ∷ []
+others_of workers worker count (suc n) =
+    others_of workers worker count n ++ rows_of workers ((worker + suc n) % workers) count ∷ []
 
 -- a worker's lane, with the lists of the n workers after it
 abbrev pub lane_of : ℕ → ℕ → ℕ → ℕ → Dealt
 lane_of workers worker count n =
-    record { worker = worker; count = count; rows = rows_of workers worker count; others = others_of workers worker count n }
+    record {
+      worker = worker;
+      count = count;
+      rows = rows_of workers worker count;
+      others = others_of workers worker count n;
+    }
 
 -- a lane with one list more to steal from
 abbrev pub with_other : Dealt → List ℕ → Dealt
@@ -40,4 +47,6 @@ dealt workers count (suc n) = dealt workers count n ++ lane_of workers n count (
 
 -- each row is on the list of a worker
 abbrev pub EachRowIsDealt : Type 0
-EachRowIsDealt = (workers count row : ℕ) → 1 ≤ workers → row < count → Contains (flat_map (λ l. l.rows) (dealt workers count workers)) row
+EachRowIsDealt =
+    (workers count row : ℕ) → 1 ≤ workers → row < count
+    → Contains (flat_map (λ l. l.rows) (dealt workers count workers)) row

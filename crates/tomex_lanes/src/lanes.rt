@@ -15,7 +15,9 @@ fn connect<A: Allocator>(
 ) -> Result<(), AllocError>
     requires places { (to < length lanes.old.items) × (from < length lanes.old.items) }
     requires count { All (λ l. l.count ≡ count) lanes.old.items }
-    ensures { (thief victim : Dealt) → slice_get lanes.old.items to ≡ Some thief → slice_get lanes.old.items from ≡ Some victim → OnOk result (lanes.new.items ≡ slice_set lanes.old.items to (with_other thief victim.rows)) }
+    ensures { (thief victim : Dealt) → slice_get lanes.old.items to ≡ Some thief
+        → slice_get lanes.old.items from ≡ Some victim
+        → OnOk result (lanes.new.items ≡ slice_set lanes.old.items to (with_other thief victim.rows)) }
 {
     let victim = lanes[from].victim()?;
     lanes[to].add_victim(victim)

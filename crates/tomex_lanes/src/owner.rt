@@ -22,8 +22,10 @@ const TRIES: usize = 32;
 /// Adds a row at the end of the list.
 fn add<A: Allocator>(owner: &mut Owner<A>, row: usize) -> Result<(), AllocError>
     requires { (worker_view owner.old).filling ≡ true }
-    ensures same { (worker_deque owner.new ≡ worker_deque owner.old) × (worker_flavor owner.new ≡ worker_flavor owner.old) }
-    ensures added { IfOk result (λ _. worker_view owner.new ≡ known true ((worker_view owner.old).rows ++ row ∷ [])) }
+    ensures same { (worker_deque owner.new ≡ worker_deque owner.old)
+        × (worker_flavor owner.new ≡ worker_flavor owner.old) }
+    ensures added { IfOk result
+        (λ _. worker_view owner.new ≡ known true ((worker_view owner.old).rows ++ row ∷ [])) }
 {
     match owner.push_as::<Added>(row) {
         Ok(()) => Ok(()),
@@ -33,9 +35,11 @@ fn add<A: Allocator>(owner: &mut Owner<A>, row: usize) -> Result<(), AllocError>
 
 /// A pass for a thief. From now on nobody adds rows.
 pub(crate) fn share<A: Allocator>(owner: &mut Owner<A>) -> RowPass<A>
-    ensures same { (worker_deque owner.new ≡ worker_deque owner.old) × (worker_flavor owner.new ≡ worker_flavor owner.old) }
+    ensures same { (worker_deque owner.new ≡ worker_deque owner.old)
+        × (worker_flavor owner.new ≡ worker_flavor owner.old) }
     ensures pass { IsPassOf (worker_deque owner.old) result }
-    ensures known { (worker_view owner.new ≡ known false (worker_view owner.old).rows) × (view result ≡ known false (worker_view owner.old).rows) }
+    ensures known { (worker_view owner.new ≡ known false (worker_view owner.old).rows)
+        × (view result ≡ known false (worker_view owner.old).rows) }
 {
     owner.another::<Shared>()
 }
@@ -43,7 +47,9 @@ pub(crate) fn share<A: Allocator>(owner: &mut Owner<A>) -> RowPass<A>
 /// Takes the first row that is left.
 pub(crate) fn take<A: Allocator>(owner: &mut Owner<A>) -> Option<usize>
     requires { worker_flavor owner.old ≡ 0 }
-    ensures same { (worker_deque owner.new ≡ worker_deque owner.old) × (worker_flavor owner.new ≡ worker_flavor owner.old) × (worker_view owner.new ≡ worker_view owner.old) }
+    ensures same { (worker_deque owner.new ≡ worker_deque owner.old)
+        × (worker_flavor owner.new ≡ worker_flavor owner.old)
+        × (worker_view owner.new ≡ worker_view owner.old) }
     ensures row { IfSome result (λ row. Contains (worker_view owner.old).rows row) }
 {
     owner.pop_as::<Taken>()
@@ -73,7 +79,8 @@ pub(crate) fn filled<A: Allocator + Clone + Drop>(
     count: usize,
 ) -> Result<Owner<A>, AllocError>
     requires { 0 < workers }
-    ensures { IfOk result (λ o. (worker_flavor o ≡ 0) × (worker_view o ≡ known true (rows_of workers worker count))) }
+    ensures { IfOk result
+        (λ o. (worker_flavor o ≡ 0) × (worker_view o ≡ known true (rows_of workers worker count))) }
 {
     let mut owner = Owner::fifo_as(alloc, count.div_ceil(workers))?;
     for row in 0..count {

@@ -11,18 +11,28 @@ use Rattle.tomex_line.specs.Values.{IsRunAsked, IsTimesAsked, IsStallsAsked, IsP
 
 -- the command of that name with these values
 abbrev pub IsCommand : Option (Text × List Row) → Line → Type 0
-IsCommand found (Run line) = (rows : List Row) × (found ≡ Some (codes "run", rows)) × IsRunAsked rows line.image.now line.base line.size line.limit
-IsCommand found (Times line) = (rows : List Row) × (found ≡ Some (codes "times", rows)) × IsTimesAsked rows line.study.now line.config line.program.now
+IsCommand found (Run line) =
+    (rows : List Row) × (found ≡ Some (codes "run", rows))
+    × IsRunAsked rows line.image.now line.base line.size line.limit
+IsCommand found (Times line) =
+    (rows : List Row) × (found ≡ Some (codes "times", rows))
+    × IsTimesAsked rows line.study.now line.config line.program.now
 IsCommand found (Stalls line) =
-    (rows : List Row) × (found ≡ Some (codes "stalls", rows)) × IsStallsAsked rows line.study.now line.config line.program.now line.by_pc
+    (rows : List Row) × (found ≡ Some (codes "stalls", rows))
+    × IsStallsAsked rows line.study.now line.config line.program.now line.by_pc
 IsCommand found (Pipeline line) =
     (rows : List Row) × (found ≡ Some (codes "pipeline", rows))
     × IsPipelineAsked rows line.study.now line.config line.program.now line.from line.steps line.konata
-IsCommand found (Tables line) = (rows : List Row) × (found ≡ Some (codes "tables", rows)) × IsTablesAsked rows line.study.now line.config line.program.now line.cycle
+IsCommand found (Tables line) =
+    (rows : List Row) × (found ≡ Some (codes "tables", rows))
+    × IsTablesAsked rows line.study.now line.config line.program.now line.cycle
 IsCommand found (All line) = (rows : List Row) × (found ≡ Some (codes "all", rows)) × IsAllAsked rows line.study.now
-IsCommand found (Explore line) = (rows : List Row) × (found ≡ Some (codes "explore", rows)) × IsExploreAsked rows line.study.now line.workers
-IsCommand found (Front line) = (rows : List Row) × (found ≡ Some (codes "front", rows)) × IsExploreAsked rows line.study.now line.workers
-IsCommand found (Plot line) = (rows : List Row) × (found ≡ Some (codes "plot", rows)) × IsExploreAsked rows line.study.now line.workers
+IsCommand found (Explore line) =
+    (rows : List Row) × (found ≡ Some (codes "explore", rows)) × IsExploreAsked rows line.study.now line.workers
+IsCommand found (Front line) =
+    (rows : List Row) × (found ≡ Some (codes "front", rows)) × IsExploreAsked rows line.study.now line.workers
+IsCommand found (Plot line) =
+    (rows : List Row) × (found ≡ Some (codes "plot", rows)) × IsExploreAsked rows line.study.now line.workers
 
 -- the words ask for this
 abbrev pub IsAsked : List Text → Line → Type 0

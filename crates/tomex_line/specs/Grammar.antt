@@ -11,7 +11,8 @@ word_rule name = record (new_rule name) { required = true }
 
 -- a number that a command needs, in its place
 abbrev pub numeral_rule : Text → ℕ → ℕ → Rule
-numeral_rule name least greatest = record (new_rule name) { required = true; parser = Some (parsers.Signed (pos least) (pos greatest)) }
+numeral_rule name least greatest =
+    record (new_rule name) { required = true; parser = Some (parsers.Signed (pos least) (pos greatest)) }
 
 -- an option `--name N`, and the number where it isn't given
 abbrev pub option_rule : Text → ℕ → ℕ → Text → Rule
@@ -53,7 +54,8 @@ times_shape = record (new_shape (codes "times")) {
 -- `stalls STUDY CONFIG PROGRAM [--by-pc]`
 abbrev pub stalls_shape : Shape
 stalls_shape = record (new_shape (codes "stalls")) {
-  rules = word_rule (codes "STUDY") ∷ numeral_rule (codes "CONFIG") 0 16383 ∷ word_rule (codes "PROGRAM") ∷ flag_rule (codes "by-pc") ∷ [];
+  rules = word_rule (codes "STUDY") ∷ numeral_rule (codes "CONFIG") 0 16383 ∷ word_rule (codes "PROGRAM")
+      ∷ flag_rule (codes "by-pc") ∷ [];
 }
 
 -- `pipeline STUDY CONFIG PROGRAM [--from N] [--steps N] [--konata]`
@@ -68,7 +70,8 @@ pipeline_shape = record (new_shape (codes "pipeline")) {
 -- `tables STUDY CONFIG PROGRAM CYCLE`
 abbrev pub tables_shape : Shape
 tables_shape = record (new_shape (codes "tables")) {
-  rules = word_rule (codes "STUDY") ∷ numeral_rule (codes "CONFIG") 0 16383 ∷ word_rule (codes "PROGRAM") ∷ numeral_rule (codes "CYCLE") 0 17563648 ∷ [];
+  rules = word_rule (codes "STUDY") ∷ numeral_rule (codes "CONFIG") 0 16383 ∷ word_rule (codes "PROGRAM")
+      ∷ numeral_rule (codes "CYCLE") 0 17563648 ∷ [];
 }
 
 -- `all STUDY`

@@ -16,7 +16,8 @@ status_of Memory = 3
 -- memory may also be wanting for the text itself
 abbrev pub StandsFor : Error → LineFault → Type 0
 StandsFor error (Help text) = (kind_of error ≡ DisplayHelp) ⊎ (kind_of error ≡ DisplayVersion)
-StandsFor error (Usage text) = (kind_of error ≢ DisplayHelp) × (kind_of error ≢ DisplayVersion) × (kind_of error ≢ OutOfMemory)
+StandsFor error (Usage text) =
+    (kind_of error ≢ DisplayHelp) × (kind_of error ≢ DisplayVersion) × (kind_of error ≢ OutOfMemory)
 StandsFor error Memory = Unit {0}
 
 -- a line is refused, or memory: it did not ask for help

@@ -33,14 +33,16 @@ pub record IsTimesAsked (rows : List Row) (study : List ℕ) (config : ℕ) (pro
   pub is_program : IsWord rows (codes "PROGRAM") program
 
 -- the values of `stalls`
-pub record IsStallsAsked (rows : List Row) (study : List ℕ) (config : ℕ) (program : List ℕ) (by_pc : Bool) : Type 0 where
+pub record IsStallsAsked (rows : List Row) (study : List ℕ) (config : ℕ) (program : List ℕ)
+    (by_pc : Bool) : Type 0 where
   pub is_study : IsWord rows (codes "STUDY") study
   pub is_config : IsNumber rows (codes "CONFIG") config
   pub is_program : IsWord rows (codes "PROGRAM") program
   pub is_by_pc : IsFlag rows (codes "by-pc") by_pc
 
 -- the values of `pipeline`
-pub record IsPipelineAsked (rows : List Row) (study : List ℕ) (config : ℕ) (program : List ℕ) (from steps : ℕ) (konata : Bool) : Type 0 where
+pub record IsPipelineAsked (rows : List Row) (study : List ℕ) (config : ℕ) (program : List ℕ) (from steps : ℕ)
+    (konata : Bool) : Type 0 where
   pub is_study : IsWord rows (codes "STUDY") study
   pub is_config : IsNumber rows (codes "CONFIG") config
   pub is_program : IsWord rows (codes "PROGRAM") program

@@ -5,7 +5,8 @@ use Rattle.tomex_plateaus.specs.declared.plateau.Plateau.{Plateau}
 use Rattle.tomex_plateaus.specs.declared.plateaus.TheConstants.{MOST}
 use Rattle.tomex_plateaus.specs.Plateaus.{IsPlateauOf}
 
--- the steps of the program's run, and its plateaus, of which the one at a place is the oldest where there are as many as are kept
+-- the steps of the program's run, and its plateaus, of which the one at a place is the oldest where there are
+-- as many as are kept
 pub record Kept : Type 0 where
   pub steps : List Step
   pub found : List Plateau

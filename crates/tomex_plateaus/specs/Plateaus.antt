@@ -52,7 +52,8 @@ total_known row found = option_map (λ p. p.total) (find (lies_on row) (reverse 
 -- one by its row's own count. A row's counts are at most 16.
 abbrev pub counts_for : Need → ℕ → Interval
 counts_for need count =
-    if need.stalls == 0 then record { least = min need.peak 255; most = 255 } else record { least = count; most = count }
+    if need.stalls == 0 then record { least = min need.peak 255; most = 255 }
+    else record { least = count; most = count }
 
 -- and where it uses no unit of a kind, any latency will do
 abbrev pub latencies_for : Need → ℕ → Interval

@@ -12,7 +12,8 @@ use Rattle.tomex_sweep.specs.Program.{Workload}
 use Rattle.tomex_sweep.specs.declared.watch.WatchRange.{WatchRange}
 use Rattle.tomex_report.specs.declared.ends.ProgramEnd.{ProgramEnd}
 
--- the state in which a program ends: the step that ends it leaves it as it is, so it is the one after the most steps that a program may make
+-- the state in which a program ends: the step that ends it leaves it as it is, so it is the one after the
+-- most steps that a program may make
 unfoldable pub last_state : Loaded → State
 last_state i = state_after i 262144
 

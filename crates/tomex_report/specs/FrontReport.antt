@@ -25,12 +25,15 @@ if_wide false text = []
 
 -- the columns of a row's number, cost, cycles and stations
 abbrev pub station_columns : List (List ℕ)
-station_columns = codes "row" ∷ codes "cost" ∷ codes "cycles" ∷ codes "alu" ∷ codes "mul" ∷ codes "div" ∷ codes "load" ∷ codes "store" ∷ codes "bru" ∷ []
+station_columns =
+    codes "row" ∷ codes "cost" ∷ codes "cycles" ∷ codes "alu" ∷ codes "mul" ∷ codes "div" ∷ codes "load"
+    ∷ codes "store" ∷ codes "bru" ∷ []
 
 -- the columns of a row's units
 abbrev pub unit_columns : List (List ℕ)
 unit_columns =
-    codes "alu_units" ∷ codes "alu_latency" ∷ codes "mul_units" ∷ codes "mul_latency" ∷ codes "div_units" ∷ codes "div_latency"
+    codes "alu_units" ∷ codes "alu_latency" ∷ codes "mul_units" ∷ codes "mul_latency" ∷ codes "div_units"
+    ∷ codes "div_latency"
     ∷ codes "mem_units" ∷ codes "mem_latency" ∷ codes "bru_units" ∷ codes "bru_latency" ∷ []
 
 -- the columns of a row
@@ -40,7 +43,8 @@ row_columns wide = station_columns ++ (unit_columns ++ (codes "buses" ∷ if_wid
 -- the columns of a program
 abbrev pub program_columns : Bool → List (List ℕ)
 program_columns wide =
-    codes "program" ∷ (if_wide wide (codes "weight") ++ (codes "steps" ∷ codes "program_cycles" ∷ codes "end" ∷ codes "regs" ∷ codes "watch" ∷ []))
+    codes "program"
+    ∷ (if_wide wide (codes "weight") ++ (codes "steps" ∷ codes "program_cycles" ∷ codes "end" ∷ codes "regs" ∷ codes "watch" ∷ []))
 
 -- a unit option's number of units and latency
 abbrev pub unit_fields : Row → UnitId → List (List ℕ)
@@ -64,7 +68,9 @@ joined (x ∷ xs) = x ++ flat_map (λ y. 32 ∷ y) xs
 -- the registers from this one on that aren't zero, as `x3=00000023`
 abbrev pub nonzero_from : ℕ → List ℕ → List (List ℕ)
 nonzero_from r [] = []
-nonzero_from r (v ∷ vs) = if v == 0 then nonzero_from (suc r) vs else (codes "x" ++ (decimal r ++ (codes "=" ++ hex8 v))) ∷ nonzero_from (suc r) vs
+nonzero_from r (v ∷ vs) =
+    if v == 0 then nonzero_from (suc r) vs
+    else (codes "x" ++ (decimal r ++ (codes "=" ++ hex8 v))) ∷ nonzero_from (suc r) vs
 
 -- a range and its bytes, as `00000100:00030000`
 abbrev pub watch_text : ℕ → List ℕ → WatchRange → List ℕ
@@ -78,18 +84,21 @@ end_text _ = []
 abbrev pub watch_texts : List WatchRange → List ℕ → List (List ℕ)
 watch_texts [] bytes = []
 watch_texts (range ∷ ranges) bytes =
-    (hex8 range.address ++ (codes ":" ++ flat_map hex2 (take range.length bytes))) ∷ watch_texts ranges (drop range.length bytes)
+    (hex8 range.address ++ (codes ":" ++ flat_map hex2 (take range.length bytes)))
+    ∷ watch_texts ranges (drop range.length bytes)
 
 -- what an end of a program that watches these ranges is shown as
 abbrev pub end_fields : {A : Type 0} → List WatchRange → ProgramEnd A → List (List ℕ)
 end_fields ranges e =
-    decimal e.steps ∷ decimal e.total ∷ name_of_end e.kind ∷ joined (nonzero_from 0 e.regs) ∷ joined (watch_texts ranges e.watched.items) ∷ []
+    decimal e.steps ∷ decimal e.total ∷ name_of_end e.kind ∷ joined (nonzero_from 0 e.regs)
+    ∷ joined (watch_texts ranges e.watched.items) ∷ []
 
 -- what a program comes to on a row
 unfoldable pub program_fields : Bool → Row → Workload → List (List ℕ)
 program_fields wide row p =
     let s = last_state p.image in
-    p.name ∷ (if_wide wide (decimal p.weight) ++ (decimal (count_of p.image) ∷ decimal (total row p.image) ∷ end_text (step_of s)
+    p.name
+    ∷ (if_wide wide (decimal p.weight) ++ (decimal (count_of p.image) ∷ decimal (total row p.image) ∷ end_text (step_of s)
     ∷ joined (nonzero_from 0 s.regs) ∷ joined (map (watch_text p.image.window.base s.memory) p.watch) ∷ []))
 
 -- a program's record on a front row

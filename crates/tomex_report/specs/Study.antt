@@ -27,7 +27,8 @@ pub record IsProgramOf (entry : ProgramEntry) (file : List ℕ) (program : Workl
 -- each file is what its entry asks for, in order
 abbrev pub AreProgramsOf : List ProgramEntry → List (List ℕ) → List Workload → Type 0
 AreProgramsOf [] [] [] = ⊤
-AreProgramsOf (entry ∷ entries) (file ∷ files) (program ∷ programs) = IsProgramOf entry file program × AreProgramsOf entries files programs
+AreProgramsOf (entry ∷ entries) (file ∷ files) (program ∷ programs) =
+    IsProgramOf entry file program × AreProgramsOf entries files programs
 AreProgramsOf _ _ _ = ⊥
 
 -- the study that the bytes and the files stand for
@@ -42,12 +43,15 @@ pub record IsStudyOf (bytes : List ℕ) (files : List (List ℕ)) (study : Desig
 
 -- the file is an image of the entry's window, whose run is refused so
 abbrev pub FailsToEnd : ProgramEntry → List ℕ → RunError → Type 0
-FailsToEnd entry file error = (i : Loaded) × placed file entry.window i × (refused file entry.window ≡ None) × IsRefusal i entry.limit error
+FailsToEnd entry file error =
+    (i : Loaded) × placed file entry.window i × (refused file entry.window ≡ None) × IsRefusal i entry.limit error
 
 -- the file is not what the entry asks for, for this reason
 abbrev pub IsFileRefusal : ProgramEntry → List ℕ → StudyError → Type 0
-IsFileRefusal entry file (Image name error) = (string_bytes name ≡ entry.name) × (error ≢ images.Memory) × (refused file entry.window ≡ Some error)
-IsFileRefusal entry file (Fault name fault) = (string_bytes name ≡ entry.name) × FailsToEnd entry file (runs.Fault fault)
+IsFileRefusal entry file (Image name error) =
+    (string_bytes name ≡ entry.name) × (error ≢ images.Memory) × (refused file entry.window ≡ Some error)
+IsFileRefusal entry file (Fault name fault) =
+    (string_bytes name ≡ entry.name) × FailsToEnd entry file (runs.Fault fault)
 IsFileRefusal entry file (TooLong name) = (string_bytes name ≡ entry.name) × FailsToEnd entry file runs.TooLong
 IsFileRefusal entry file _ = ⊥
 

@@ -52,4 +52,6 @@ register_lines r (qi ∷ rest) = register_line r qi ++ register_lines (r + 1) re
 
 -- `cycle 3` and a line feed, and the lines of the stations and of the registers in their orders
 abbrev pub tables_text_of : Tables → List ℕ
-tables_text_of t = codes "cycle " ++ (decimal t.cycle ++ (codes "\n" ++ (flat_map station_line t.busy ++ register_lines 0 t.registers)))
+tables_text_of t =
+    codes "cycle "
+    ++ (decimal t.cycle ++ (codes "\n" ++ (flat_map station_line t.busy ++ register_lines 0 t.registers)))

@@ -13,7 +13,9 @@ use Rattle.tomex_timing.specs.declared.times.Times.{Times}
 use Rattle.tomex_records.specs.Csv.{record_text}
 
 abbrev pub header : List (List ℕ)
-header = codes "step" ∷ codes "pc" ∷ codes "instr" ∷ codes "issue" ∷ codes "addr" ∷ codes "start" ∷ codes "finish" ∷ codes "end" ∷ codes "station" ∷ []
+header =
+    codes "step" ∷ codes "pc" ∷ codes "instr" ∷ codes "issue" ∷ codes "addr" ∷ codes "start" ∷ codes "finish"
+    ∷ codes "end" ∷ codes "station" ∷ []
 
 -- a cycle, or `-` where there is none
 abbrev pub cycle_text : Option ℕ → List ℕ
@@ -34,15 +36,19 @@ fields_of_step number step at =
 
 -- the records of the steps from a number on
 abbrev pub step_records : ℕ → List Step → List Times → List ℕ
-step_records number (step ∷ steps) (at ∷ times) = record_text (fields_of_step number step at) ++ step_records (number + 1) steps times
+step_records number (step ∷ steps) (at ∷ times) =
+    record_text (fields_of_step number step at) ++ step_records (number + 1) steps times
 step_records number _ _ = []
 
 abbrev pub total_fields : ℕ → List (List ℕ)
-total_fields total = codes "total" ∷ codes "-" ∷ codes "-" ∷ codes "-" ∷ codes "-" ∷ codes "-" ∷ codes "-" ∷ decimal total ∷ codes "-" ∷ []
+total_fields total =
+    codes "total" ∷ codes "-" ∷ codes "-" ∷ codes "-" ∷ codes "-" ∷ codes "-" ∷ codes "-" ∷ decimal total ∷ codes "-"
+    ∷ []
 
 -- the report of steps that have these times
 abbrev pub report_of_times : List Step → List Times → List ℕ
-report_of_times steps times = record_text header ++ (step_records 1 steps times ++ record_text (total_fields (total_of times)))
+report_of_times steps times =
+    record_text header ++ (step_records 1 steps times ++ record_text (total_fields (total_of times)))
 
 -- the report of a run's steps on a row
 abbrev pub times_report_of : Row → List Step → List ℕ

@@ -104,7 +104,8 @@ pub fn answer<R: Threads + Wait + Sync, A: Allocator + Clone + Send + Sync + Dro
 ) -> Result<Vec<u8, A>, AnswerError>
     requires some_workers { 1 ≤ workers }
     requires few_workers { workers ≤ 32 }
-    ensures ok { IfOk result (λ text. IsAnswer study.now (map (λ f. f.items) files.now) text.items) }
+    ensures ok { IfOk result
+        (λ text. IsAnswer study.now (map (λ f. f.items) files.now) text.items) }
     ensures err { IfErr result (λ e. IsAnswerRefusal study.now (map (λ f. f.items) files.now) e) }
 {
     let read = studied(&alloc, heap, study, files)?;
@@ -130,7 +131,8 @@ pub fn answer_table<
 ) -> Result<Vec<u8, A>, AnswerError>
     requires some_workers { 1 ≤ workers }
     requires few_workers { workers ≤ 32 }
-    ensures ok { IfOk result (λ text. IsShown Table study.now (map (λ f. f.items) files.now) text.items) }
+    ensures ok { IfOk result
+        (λ text. IsShown Table study.now (map (λ f. f.items) files.now) text.items) }
     ensures err { IfErr result (λ e. IsAnswerRefusal study.now (map (λ f. f.items) files.now) e) }
 {
     let read = studied(&alloc, heap, study, files)?;
@@ -156,7 +158,8 @@ pub fn answer_picture<
 ) -> Result<Vec<u8, A>, AnswerError>
     requires some_workers { 1 ≤ workers }
     requires few_workers { workers ≤ 32 }
-    ensures ok { IfOk result (λ text. IsShown Picture study.now (map (λ f. f.items) files.now) text.items) }
+    ensures ok { IfOk result
+        (λ text. IsShown Picture study.now (map (λ f. f.items) files.now) text.items) }
     ensures err { IfErr result (λ e. IsAnswerRefusal study.now (map (λ f. f.items) files.now) e) }
 {
     let read = studied(&alloc, heap, study, files)?;
@@ -197,7 +200,8 @@ pub fn answer_all_under<R: Threads + Sync, A: Allocator + Clone + Send + Sync + 
     files: &[Vec<u8, A>],
     gate: &G,
 ) -> Result<Vec<u8, A>, AnswerError>
-    ensures ok { IfOk result (λ text. IsAnswer study.now (map (λ f. f.items) files.now) text.items) }
+    ensures ok { IfOk result
+        (λ text. IsAnswer study.now (map (λ f. f.items) files.now) text.items) }
     ensures err { IfErr result (λ e. IsAnswerRefusal study.now (map (λ f. f.items) files.now) e) }
     ensures no_worker { IfErr result (λ e. e ≢ Sweep Worker) }
 {
@@ -216,7 +220,8 @@ pub fn answer_all<R: Threads + Sync, A: Allocator + Clone + Send + Sync + Drop>(
     study: &[u8],
     files: &[Vec<u8, A>],
 ) -> Result<Vec<u8, A>, AnswerError>
-    ensures ok { IfOk result (λ text. IsAnswer study.now (map (λ f. f.items) files.now) text.items) }
+    ensures ok { IfOk result
+        (λ text. IsAnswer study.now (map (λ f. f.items) files.now) text.items) }
     ensures err { IfErr result (λ e. IsAnswerRefusal study.now (map (λ f. f.items) files.now) e) }
     ensures no_worker { IfErr result (λ e. e ≢ Sweep Worker) }
 {

@@ -30,7 +30,8 @@ fn joined(heap: Global, texts: &[String]) -> Result<String, AllocError>
 
 /// A register and its value.
 fn register_text(heap: Global, register: usize, value: u32) -> Result<String, AllocError>
-    ensures { IfOk result (λ s. string_bytes s ≡ codes "x" ++ (decimal register ++ (codes "=" ++ hex8 value))) }
+    ensures { IfOk result
+        (λ s. string_bytes s ≡ codes "x" ++ (decimal register ++ (codes "=" ++ hex8 value))) }
 {
     format!(in heap; "x{register}={value:08x}")
 }
@@ -58,7 +59,8 @@ pub fn registers_text(heap: Global, registers: &[u32]) -> Result<String, AllocEr
 
 /// A range and its bytes.
 fn range_text(heap: Global, range: WatchRange, bytes: &[u8]) -> Result<String, AllocError>
-    ensures { IfOk result (λ s. string_bytes s ≡ hex8 range.address ++ (codes ":" ++ flat_map hex2 bytes.now)) }
+    ensures { IfOk result
+        (λ s. string_bytes s ≡ hex8 range.address ++ (codes ":" ++ flat_map hex2 bytes.now)) }
 {
     let address = range.address;
     let mut text = format!(in heap; "{address:08x}:")?;

@@ -49,7 +49,8 @@ pub fn cycles_by_program<A: Allocator + Clone>(
     ends: &[RowEnds<A>],
 ) -> Result<Vec<Vec<u64, A>, A>, AllocError>
     requires { AllZip (λ r e. AreEndsOf study.now r e) front.now ends.now }
-    ensures { IfOk result (λ v. AllZip (λ p c. c.items ≡ cycles_on study.now front.now p) study.now.programs v.items) }
+    ensures { IfOk result
+        (λ v. AllZip (λ p c. c.items ≡ cycles_on study.now front.now p) study.now.programs v.items) }
 {
     let mut all = Vec::new(alloc.clone()?);
     for (place, program) in study.programs().iter().enumerate() {

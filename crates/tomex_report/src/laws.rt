@@ -11,6 +11,8 @@ ghost use Rattle.tomex_report.specs.Ends.{count_of, last_state};
 /// defined by the most steps that any program may make.
 #[tactic(auto, using(crate::proofs::Ended::count_within, crate::proofs::Ended::state_within))]
 pub fn limit_changes_no_end()
-    ensures steps { (p : Workload) → IsProgram p → count_of p.image ≡ length (steps_from p.limit (start_of p.image)) }
-    ensures state { (p : Workload) → IsProgram p → last_state p.image ≡ state_after p.image p.limit }
+    ensures steps { (p : Workload) → IsProgram p
+        → count_of p.image ≡ length (steps_from p.limit (start_of p.image)) }
+    ensures state { (p : Workload) → IsProgram p
+        → last_state p.image ≡ state_after p.image p.limit }
 {}

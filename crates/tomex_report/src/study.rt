@@ -21,7 +21,8 @@ fn image_of<A: Allocator + Clone>(
 ) -> Result<Image<A>, StudyError>
     ensures ok { IfOk result (λ image. placed file.now entry.now.window image
         × (refused file.now entry.now.window ≡ None)) }
-    ensures err { IfErr result (λ error. (error ≡ StudyError.Memory) ⊎ IsFileRefusal entry.now file.now error) }
+    ensures err { IfErr result
+        (λ error. (error ≡ StudyError.Memory) ⊎ IsFileRefusal entry.now file.now error) }
 {
     match load(alloc, file, entry.window()) {
         Ok(image) => Ok(image),
@@ -54,7 +55,8 @@ fn program_of<A: Allocator + Clone>(
     file: &[u8],
 ) -> Result<Program<A>, StudyError>
     ensures ok { IfOk result (λ program. IsProgramOf entry.now file.now program) }
-    ensures err { IfErr result (λ error. (error ≡ StudyError.Memory) ⊎ IsFileRefusal entry.now file.now error) }
+    ensures err { IfErr result
+        (λ error. (error ≡ StudyError.Memory) ⊎ IsFileRefusal entry.now file.now error) }
 {
     let image = image_of(alloc.clone()?, heap, entry, file)?;
     let name = String::from_str(alloc.clone()?, entry.name())?;
@@ -74,8 +76,10 @@ fn programs_of<A: Allocator + Clone>(
     files: &[Vec<u8, A>],
 ) -> Result<Vec<Program<A>, A>, StudyError>
     requires { length files.now ≡ length entries.now }
-    ensures ok { IfOk result (λ v. AreProgramsOf entries.now (map (λ f. f.items) files.now) v.items) }
-    ensures err { IfErr result (λ error. (error ≡ StudyError.Memory) ⊎ IsFirstRefusal entries.now (map (λ f. f.items) files.now) error) }
+    ensures ok { IfOk result
+        (λ v. AreProgramsOf entries.now (map (λ f. f.items) files.now) v.items) }
+    ensures err { IfErr result
+        (λ error. (error ≡ StudyError.Memory) ⊎ IsFirstRefusal entries.now (map (λ f. f.items) files.now) error) }
 {
     let mut programs = Vec::new(alloc.clone()?);
     for (place, entry) in entries.iter().enumerate() {
@@ -99,7 +103,8 @@ pub fn read_study<A: Allocator + Clone>(
     files: &[Vec<u8, A>],
 ) -> Result<Study<A>, StudyError>
     ensures ok { IfOk result (λ s. IsStudyOf study.now (map (λ f. f.items) files.now) s) }
-    ensures err { IfErr result (λ error. IsStudyRefusal study.now (map (λ f. f.items) files.now) error) }
+    ensures err { IfErr result
+        (λ error. IsStudyRefusal study.now (map (λ f. f.items) files.now) error) }
 {
     let outline = document_of(alloc.clone()?, heap, study)?;
     if files.len() != outline.programs.len() {

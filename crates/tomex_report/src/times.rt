@@ -162,7 +162,8 @@ pub fn times_report<A: Allocator + Clone>(
     program: &Program<A>,
     row: &Config,
 ) -> Result<Vec<u8, A>, AllocError>
-    ensures { IfOk result (λ text. text.items ≡ times_report_of row.now (steps_from program.now.limit (start_of program.now.image))) }
+    ensures { IfOk result
+        (λ text. text.items ≡ times_report_of row.now (steps_from program.now.limit (start_of program.now.image))) }
 {
     // A program ends within its limit, so only memory can be wanting.
     let Ok(steps) = trace(alloc.clone()?, program.image(), program.limit()) else {

@@ -42,4 +42,5 @@ abbrev pub imm_u : ℕ → ℕ
 imm_u w = field w 31 12 * 2 ^ 12
 
 abbrev pub imm_j : ℕ → ℕ
-imm_j w = sign_extended 21 (field w 31 31 * 2 ^ 20 + field w 19 12 * 2 ^ 12 + field w 20 20 * 2 ^ 11 + field w 30 21 * 2)
+imm_j w =
+    sign_extended 21 (field w 31 31 * 2 ^ 20 + field w 19 12 * 2 ^ 12 + field w 20 20 * 2 ^ 11 + field w 30 21 * 2)

@@ -71,12 +71,20 @@ offset_text imm = signed_decimal (cast_signed w32 imm)
 
 -- a space and the operands of a form
 abbrev pub operands_text : Form → Instruction → List ℕ
-operands_text forms.Register x = codes " " ++ (register_text x.rd ++ (codes "," ++ (register_text x.rs1 ++ (codes "," ++ register_text x.rs2))))
-operands_text forms.Immediate x = codes " " ++ (register_text x.rd ++ (codes "," ++ (register_text x.rs1 ++ (codes "," ++ offset_text x.imm))))
-operands_text forms.Offset x = codes " " ++ (register_text x.rd ++ (codes "," ++ (offset_text x.imm ++ (codes "(" ++ (register_text x.rs1 ++ codes ")")))))
-operands_text forms.Shift x = codes " " ++ (register_text x.rd ++ (codes "," ++ (register_text x.rs1 ++ (codes "," ++ decimal x.imm))))
-operands_text forms.Store x = codes " " ++ (register_text x.rs2 ++ (codes "," ++ (offset_text x.imm ++ (codes "(" ++ (register_text x.rs1 ++ codes ")")))))
-operands_text forms.Branch x = codes " " ++ (register_text x.rs1 ++ (codes "," ++ (register_text x.rs2 ++ (codes "," ++ offset_text x.imm))))
+operands_text forms.Register x =
+    codes " " ++ (register_text x.rd ++ (codes "," ++ (register_text x.rs1 ++ (codes "," ++ register_text x.rs2))))
+operands_text forms.Immediate x =
+    codes " " ++ (register_text x.rd ++ (codes "," ++ (register_text x.rs1 ++ (codes "," ++ offset_text x.imm))))
+operands_text forms.Offset x =
+    codes " "
+    ++ (register_text x.rd ++ (codes "," ++ (offset_text x.imm ++ (codes "(" ++ (register_text x.rs1 ++ codes ")")))))
+operands_text forms.Shift x =
+    codes " " ++ (register_text x.rd ++ (codes "," ++ (register_text x.rs1 ++ (codes "," ++ decimal x.imm))))
+operands_text forms.Store x =
+    codes " "
+    ++ (register_text x.rs2 ++ (codes "," ++ (offset_text x.imm ++ (codes "(" ++ (register_text x.rs1 ++ codes ")")))))
+operands_text forms.Branch x =
+    codes " " ++ (register_text x.rs1 ++ (codes "," ++ (register_text x.rs2 ++ (codes "," ++ offset_text x.imm))))
 operands_text forms.Upper x = codes " " ++ (register_text x.rd ++ (codes "," ++ decimal (x.imm / 2 ^ 12)))
 operands_text forms.Jump x = codes " " ++ (register_text x.rd ++ (codes "," ++ offset_text x.imm))
 operands_text forms.Fence x = codes ""

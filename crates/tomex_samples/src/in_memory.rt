@@ -30,9 +30,7 @@ impl Narrow {
 }
 
 impl Sink for Narrow {
-    ghost taken = { λ sink. Some sink.bytes.items };
-
-    ghost faults = { λ sink. sink.faults };
+    ghost seen = { λ sink. record { taken = Some sink.bytes.items; faults = sink.faults } };
 
     fn put(&mut self, piece: &[u8]) -> Result<usize, PutFault> {
         let count = piece.len().min(self.room).min(self.step);

@@ -1,7 +1,7 @@
 //! Where a text goes: a sink takes bytes a piece at a time, and may take less than it is given or fail.
-ghost use Rattle.std.specs.Prelude.{◌≡◌, ◌<◌, ◌≤◌, ℕ, List, length, take, Option, IfOk, IfErr, OnOk, OnErr};
+ghost use Rattle.std.specs.Prelude.{◌≡◌, ◌<◌, ◌≤◌, length, take, IfOk, IfErr, OnOk, OnErr};
 ghost use Rattle.std.specs.Io.KnownBytes.{Appends, Keeps};
-ghost use Rattle.tomex_streams.specs.Sinks.{Rises};
+ghost use Rattle.tomex_streams.specs.Sinks.{Rises, Seen};
 
 use std::io::Write;
 
@@ -11,30 +11,28 @@ pub struct PutFault;
 
 /// What takes bytes.
 ///
-/// A contract sees a sink as the bytes that it took, where it tells them, and as a count of its faults:
+/// A contract sees a sink as the bytes that it took, if it tells them, and as a count of its faults:
 /// the puts that failed, or that took nothing of a piece that was not empty. The count is a number of 64
 /// bits in the sink itself, so it stops at its greatest value. Hence `Rises` has a premise: the count went
 /// up unless it stood at that value. No sink can get there, since a put takes longer than a nanosecond
 /// and 2^64 of them would take centuries.
 pub trait Sink {
-    /// The bytes that it took so far, where it tells them.
-    ghost taken: { Self → Option (List ℕ) };
-
-    /// How many puts were faults.
-    ghost faults: { Self → ℕ };
+    /// The bytes that it took so far, if it tells them, and how many puts were faults.
+    ghost seen: { Self → Seen };
 
     /// Takes a first part of the piece, and answers how many bytes of it.
     fn put(&mut self, piece: &[u8]) -> Result<usize, PutFault>
         ensures within { IfOk result (λ count. count ≤ length piece.now) }
-        ensures ok { IfOk result (λ count. Appends (taken self.old) (taken self.new) (take count piece.now)) }
-        ensures err { OnErr result (Keeps (taken self.old) (taken self.new)) }
+        ensures ok { IfOk result
+            (λ count. Appends (seen self.old).taken (seen self.new).taken (take count piece.now)) }
+        ensures err { OnErr result (Keeps (seen self.old).taken (seen self.new).taken) }
 
         // A put that failed or took nothing is counted, and no other is.
-        ensures failed { OnErr result (Rises (faults self.old) (faults self.new)) }
+        ensures failed { OnErr result (Rises (seen self.old).faults (seen self.new).faults) }
         ensures nothing { IfOk result (λ count. count ≡ 0 → 0 < length piece.now
-            → Rises (faults self.old) (faults self.new)) }
+            → Rises (seen self.old).faults (seen self.new).faults) }
         ensures fine { IfOk result (λ count. (count ≡ 0 → length piece.now ≡ 0)
-            → faults self.new ≡ faults self.old) };
+            → (seen self.new).faults ≡ (seen self.old).faults) };
 }
 
 /// A write stopped: the sink took this many first bytes, and no more.
@@ -45,13 +43,14 @@ pub struct WriteFault {
 
 /// Writes all of the bytes, piece by piece. It stops at the first put that fails or takes nothing.
 pub fn write_all_of<W: Sink>(sink: &mut W, bytes: &[u8]) -> Result<(), WriteFault>
-    ensures all { OnOk result (Appends (W.taken sink.old) (W.taken sink.new) bytes.now) }
-    ensures first { IfErr result (λ fault. Appends (W.taken sink.old) (W.taken sink.new) (take fault.written bytes.now)) }
+    ensures all { OnOk result (Appends (W.seen sink.old).taken (W.seen sink.new).taken bytes.now) }
+    ensures first { IfErr result
+        (λ fault. Appends (W.seen sink.old).taken (W.seen sink.new).taken (take fault.written bytes.now)) }
     ensures short { IfErr result (λ fault. fault.written < length bytes.now) }
 
     // It fails by a fault of the sink, and by nothing else.
-    ensures fault { OnErr result (Rises (W.faults sink.old) (W.faults sink.new)) }
-    ensures no_fault { OnOk result (W.faults sink.new ≡ W.faults sink.old) }
+    ensures fault { OnErr result (Rises (W.seen sink.old).faults (W.seen sink.new).faults) }
+    ensures no_fault { OnOk result ((W.seen sink.new).faults ≡ (W.seen sink.old).faults) }
 {
     let mut written = 0;
     while written < bytes.len() {
@@ -84,9 +83,7 @@ impl<W: Write + Drop> Stream<W> {
 }
 
 impl<W: Write + Drop> Sink for Stream<W> {
-    ghost taken = { λ stream. W.contents stream.writer };
-
-    ghost faults = { λ stream. stream.faults };
+    ghost seen = { λ stream. record { taken = W.contents stream.writer; faults = stream.faults } };
 
     fn put(&mut self, piece: &[u8]) -> Result<usize, PutFault> {
         match self.writer.write(piece) {

@@ -16,7 +16,8 @@ pub record AreTotals (programs : List Workload) (row : Row) (totals : List (Opti
 
 -- and of one program: where there is one, the program at that place takes so many cycles on the row
 abbrev pub IsTotalAt : List Workload → Row → ℕ → Option ℕ → Type 0
-IsTotalAt programs row place known = (p : Workload) → slice_get programs place ≡ Some p → IfSome known (λ n. total row p.image ≡ n)
+IsTotalAt programs row place known =
+    (p : Workload) → slice_get programs place ≡ Some p → IfSome known (λ n. total row p.image ≡ n)
 
 -- such totals on a study's row of that number
 abbrev pub AreTotalsOn : DesignSpace → ℕ → List (Option ℕ) → Type 0

@@ -1,4 +1,5 @@
--- What contracts cite: watched ranges, programs that end, and studies; what their rows take, marks of rows, and the front.
+-- What contracts cite: watched ranges, programs that end, and studies; what their rows take, marks of rows,
+-- and the front.
 pub mod Watch
 pub mod Program
 pub mod Study

@@ -24,6 +24,7 @@ AreNumbered rows = IsDistinct (λ a b. a.row == b.row) rows
 
 -- the rows that none of them dominates, and nothing else, by cost, then number
 pub record IsFront (rows front : List FrontRow) : Type 0 where
-  pub order : (j k : ℕ) (d : FrontRow) → j < k → k < length front → ComesBefore (slice_index_or front j d) (slice_index_or front k d)
+  pub order : (j k : ℕ) (d : FrontRow) → j < k → k < length front
+      → ComesBefore (slice_index_or front j d) (slice_index_or front k d)
   pub only : (r : FrontRow) → Contains front r → IsUndominated rows r
   pub all : (r : FrontRow) → IsUndominated rows r → Contains front r

@@ -21,15 +21,18 @@ stop_at programs row made =
 -- at a look the run has made 1,024 cycles more, and neither these nor what has come of the row's cycles is above those
 abbrev pub IsNearer : Going → Going → Stop → Type 0
 IsNearer old new stop = (n : ℕ) → stop ≡ Look n
-    → (new.reached ≡ old.reached + 1024) × (new.reached < cycles_on old.programs old.row) × (n ≤ cycles_on old.programs old.row)
+    → (new.reached ≡ old.reached + 1024) × (new.reached < cycles_on old.programs old.row)
+    × (n ≤ cycles_on old.programs old.row)
 
 -- the machine runs the program at a place on this row
 abbrev pub Runs : List Workload → Row → ℕ → Seen → Type 0
-Runs programs row place machine = (p : Workload) × (slice_get programs place ≡ Some p) × (machine.image ≡ p.image) × (machine.row ≡ row)
+Runs programs row place machine =
+    (p : Workload) × (slice_get programs place ≡ Some p) × (machine.image ≡ p.image) × (machine.row ≡ row)
 
 -- so many programs are done, these are the sums of their totals, plain and weighed, and the machine is that of the next
 -- one; no more cycles are made than to the next look
-pub record IsGoing (programs : List Workload) (row : Row) (reached place done counted : ℕ) (machine : Seen) : Type 0 where
+pub record IsGoing (programs : List Workload) (row : Row) (reached place done counted : ℕ)
+    (machine : Seen) : Type 0 where
   pub ends : All IsProgram programs
   pub lawful : IsRow row
   pub few : length programs ≤ 8

@@ -39,7 +39,8 @@ fn explore_as<
     requires some_workers { 1 ≤ workers }
     requires few_workers { workers ≤ 32 }
     requires plan { IsPlanOf study.now J.costs J.cycles }
-    ensures marks { IfOk result (λ o. AreJudged study.now.costs (cycles_of study.now) o.marks.items) }
+    ensures marks { IfOk result
+        (λ o. AreJudged study.now.costs (cycles_of study.now) o.marks.items) }
     ensures front { IfOk result (λ o. o.front.items ≡ front_of_study study.now) }
     ensures gathered { IfOk result (λ o. o.gathered ≡ 0) }
 {
@@ -78,7 +79,8 @@ pub fn explore_on<
 ) -> Result<Outcome<A>, SweepError>
     requires some_workers { 1 ≤ workers }
     requires few_workers { workers ≤ 32 }
-    ensures marks { IfOk result (λ o. AreJudged study.now.costs (cycles_of study.now) o.marks.items) }
+    ensures marks { IfOk result
+        (λ o. AreJudged study.now.costs (cycles_of study.now) o.marks.items) }
     ensures front { IfOk result (λ o. o.front.items ≡ front_of_study study.now) }
     ensures gathered { IfOk result (λ o. o.gathered ≡ 0) }
 {
@@ -102,7 +104,8 @@ pub fn explore<R: Threads + Wait + Sync, A: Allocator + Clone + Send + Sync + Dr
 ) -> Result<Outcome<A>, SweepError>
     requires some_workers { 1 ≤ workers }
     requires few_workers { workers ≤ 32 }
-    ensures marks { IfOk result (λ o. AreJudged study.now.costs (cycles_of study.now) o.marks.items) }
+    ensures marks { IfOk result
+        (λ o. AreJudged study.now.costs (cycles_of study.now) o.marks.items) }
     ensures front { IfOk result (λ o. o.front.items ≡ front_of_study study.now) }
     ensures gathered { IfOk result (λ o. o.gathered ≡ 0) }
 {

@@ -38,7 +38,8 @@ pub fn each_row_is_lawful(rows: &[Config])
 /// row's cycles are defined by the most steps that any program may make.
 #[tactic(auto, using(crate::proofs::Totals::total_within))]
 pub fn limit_changes_no_total()
-    ensures { (p : Workload) (row : Row) → IsProgram p → total row p.image ≡ total_of (times_in row (steps_from p.limit (start_of p.image))) }
+    ensures { (p : Workload) (row : Row) → IsProgram p
+        → total row p.image ≡ total_of (times_in row (steps_from p.limit (start_of p.image))) }
 {}
 
 /// The front of numbered rows is the rows that none of them dominates, by cost, then number, and no
@@ -46,5 +47,6 @@ pub fn limit_changes_no_total()
 #[tactic(auto, using(crate::proofs::Relations::front_is_front, crate::proofs::Relations::front_is_one))]
 pub fn front_is_the_undominated_rows()
     ensures is { (rows : List FrontRow) → AreNumbered rows → IsFront rows (front_of rows) }
-    ensures only { (rows front : List FrontRow) → AreNumbered rows → IsFront rows front → front ≡ front_of rows }
+    ensures only { (rows front : List FrontRow) → AreNumbered rows → IsFront rows front
+        → front ≡ front_of rows }
 {}

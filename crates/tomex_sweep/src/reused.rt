@@ -44,9 +44,11 @@ impl<'s, A: Allocator> Reused<'s, A> {
         row: &'s Config,
         known: Option<u64>,
     ) -> Reused<'s, A>
-        requires fresh { seen machine ≡ record { image = image.now; row = row.now; cycle = 0; last = Progress.Running } }
+        requires fresh { seen machine
+            ≡ record { image = image.now; row = row.now; cycle = 0; last = Progress.Running } }
         requires known { IfSome known (λ n. total row.now image.now ≡ n) }
-        ensures { seen result ≡ record { image = image.now; row = row.now; cycle = 0; last = Progress.Running } }
+        ensures { seen result
+            ≡ record { image = image.now; row = row.now; cycle = 0; last = Progress.Running } }
     {
         Reused {
             image,
@@ -80,7 +82,8 @@ impl<'s, A: Allocator> Reused<'s, A> {
     /// The run of this image on this row, which is spared since it has this total.
     fn spare(&mut self, image: &'s Image<A>, row: &'s Config, known: u64)
         requires { total row.now image.now ≡ known }
-        ensures { seen self.new ≡ record { image = image.now; row = row.now; cycle = 0; last = Progress.Running } }
+        ensures { seen self.new
+            ≡ record { image = image.now; row = row.now; cycle = 0; last = Progress.Running } }
     {
         self.image = image;
         self.row = row;
@@ -113,7 +116,8 @@ impl<'s, A: Allocator> Reused<'s, A> {
     /// Goes on to a cycle, or to the end of the run before it.
     pub(crate) fn advance(&mut self, to: u64)
         requires { to ≤ 2 ^ 40 }
-        ensures { EndsWithin self.old.image 262144 → seen self.new ≡ seen_after self.old.image self.old.row (max self.old.cycle to) }
+        ensures { EndsWithin self.old.image 262144
+            → seen self.new ≡ seen_after self.old.image self.old.row (max self.old.cycle to) }
     {
         if let Some(spared) = self.spared {
             self.spared = Some(spared.advanced(to));

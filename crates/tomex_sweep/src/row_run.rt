@@ -60,7 +60,8 @@ impl<'s, A: Allocator> RowRun<'s, A> {
         requires few { length programs.now ≤ 8 }
         requires ends { All IsProgram programs.now }
         requires totals { AreTotals programs.now row.now totals }
-        ensures { IfOk result (λ r. r ≡ record { programs = programs.now; row = row.now; reached = 0 }) }
+        ensures { IfOk result
+            (λ r. r ≡ record { programs = programs.now; row = row.now; reached = 0 }) }
     {
         // Read for what the row's type keeps, which the proof needs.
         let _buses = row.buses();
@@ -109,7 +110,8 @@ impl<'s, A: Allocator> RowRun<'s, A> {
     /// or to its end. A run that is over stays so. What it answers are cycles by the programs' weights.
     pub(crate) fn go_on(&mut self) -> Result<Stop, AllocError>
         ensures parts { (self.new.programs ≡ self.old.programs) × (self.new.row ≡ self.old.row) }
-        ensures stop { IfOk result (λ p. p ≡ stop_at self.old.programs self.old.row (self.old.reached + 1024)) }
+        ensures stop { IfOk result
+            (λ p. p ≡ stop_at self.old.programs self.old.row (self.old.reached + 1024)) }
         ensures look { IfOk result (λ p. IsNearer self.old self.new p) }
     {
         let next = self.reached + STRIDE;

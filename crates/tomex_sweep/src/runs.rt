@@ -41,7 +41,8 @@ impl<'s, A: Allocator + Clone> Runs<'s, A> {
         requires few { length programs.now ≤ 8 }
         requires ends { All IsProgram programs.now }
         requires totals { AreTotals programs.now row.now totals }
-        ensures { IfOk result (λ r. r.now ≡ record { programs = programs.now; row = row.now; reached = 0 }) }
+        ensures { IfOk result
+            (λ r. r.now ≡ record { programs = programs.now; row = row.now; reached = 0 }) }
     {
         match &mut self.last {
             Some(run) => {

@@ -18,9 +18,7 @@ impl WatchRange {
         ensures { result ≡ is_watchable window self }
     {
         let end = u64::from(self.address) + u64::from(self.length);
-        1 <= self.length
-            && window.base() <= self.address
-            && end <= u64::from(window.base()) + u64::from(window.size())
+        1 <= self.length && window.base() <= self.address && end <= window.end()
     }
 }
 

@@ -56,7 +56,7 @@ fn close_row<'s, J: Plan, A: Allocator + Clone>(
     }
 }
 
-/// For how many of so many programs no total is known.
+/// For how many of the programs no total is known.
 fn count_unknown(programs: usize, totals: &[Option<u64>; 8]) -> usize
     ensures { result ≡ count_by (λ t. not (is_some t)) (take programs totals.now) }
 {
@@ -67,7 +67,8 @@ fn count_unknown(programs: usize, totals: &[Option<u64>; 8]) -> usize
         .count()
 }
 
-/// Runs a row that the seat has in hand, but for the programs whose totals are known or are learnt first, and closes it.
+/// Runs a row that the seat has in hand, but for the programs whose totals are known or are learnt first, and closes
+/// it.
 fn run_row<'s, J: Plan, A: Allocator + Clone, G: Gate>(
     runs: &mut Runs<'s, A>,
     knowledge: &mut Knowledge<'s, A>,
@@ -96,7 +97,8 @@ fn run_row<'s, J: Plan, A: Allocator + Clone, G: Gate>(
     close_row(runs, study, board, seat, row, totals)
 }
 
-/// Claims a row, and where the claim is true runs and closes it. Either way it isn't open then.
+/// Claims a row, and runs and closes it if the claim succeeds. On Ok the seat holds nothing, and knows that the row isn't
+/// open: it may be another worker's.
 fn try_row<'s, J: Plan, A: Allocator + Clone, G: Gate>(
     runs: &mut Runs<'s, A>,
     knowledge: &mut Knowledge<'s, A>,
@@ -126,7 +128,7 @@ fn try_row<'s, J: Plan, A: Allocator + Clone, G: Gate>(
     run_row(runs, knowledge, study, board, seat, worker, row, gate)
 }
 
-/// Takes rows as long as there are any, but at most as many as there are rows, and tries each.
+/// Takes rows as long as there are any, but at most as many as the study has, and tries each.
 fn try_taken<'s, J: Plan, A: Allocator + Clone, G: Gate>(
     runs: &mut Runs<'s, A>,
     knowledge: &mut Knowledge<'s, A>,

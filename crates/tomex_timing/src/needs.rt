@@ -49,7 +49,8 @@ impl Need {
 
 /// Notes what a step takes of its pool, and how long it waits for it.
 fn note_station(needs: &mut [Need; 6], pool: Option<PoolId>, taken: u64, waited: u64)
-    requires needs { (p : PoolId) → (slice_index_or needs.old (place_of_pool p) no_need).stalls ≤ 2 ^ 63 }
+    requires needs { (p : PoolId)
+        → (slice_index_or needs.old (place_of_pool p) no_need).stalls ≤ 2 ^ 63 }
     requires waited { waited ≤ 2 ^ 62 }
     ensures { needs.new ≡ stations_after pool taken waited needs.old }
 {
@@ -61,7 +62,8 @@ fn note_station(needs: &mut [Need; 6], pool: Option<PoolId>, taken: u64, waited:
 
 /// The same of its kind of unit.
 fn note_unit(needs: &mut [Need; 5], unit: Option<UnitId>, taken: u64, waited: u64)
-    requires needs { (u : UnitId) → (slice_index_or needs.old (place_of_unit u) no_need).stalls ≤ 2 ^ 63 }
+    requires needs { (u : UnitId)
+        → (slice_index_or needs.old (place_of_unit u) no_need).stalls ≤ 2 ^ 63 }
     requires waited { waited ≤ 2 ^ 62 }
     ensures { needs.new ≡ units_after unit taken waited needs.old }
 {

@@ -155,7 +155,8 @@ fn without_unit(from: u64, issue: u64, address: Option<u64>, station: Option<u8>
       end = issue;
       station = station;
     } }
-    ensures marks { result.marks ≡ record { from = from; operands = issue; ready = issue; clear = issue } }
+    ensures marks { result.marks
+        ≡ record { from = from; operands = issue; ready = issue; clear = issue } }
     ensures units { result.units ≡ 0 }
     ensures buses { result.buses ≡ 0 }
 {

@@ -162,7 +162,8 @@ fn keep_access<A: Allocator>(
     facts: &Facts,
     at: &Times,
 ) -> Result<(), AllocError>
-    ensures { IfOk result (λ _. accesses.new.items ≡ accesses_after facts.now at.now accesses.old.items) }
+    ensures { IfOk result
+        (λ _. accesses.new.items ≡ accesses_after facts.now at.now accesses.old.items) }
 {
     if let Some(bytes) = facts.bytes {
         accesses.retain(|access| access.finish >= at.issue);
@@ -195,8 +196,10 @@ impl<A: Allocator> Window<A> {
     #[inline(always)]
     pub fn keep(&mut self, facts: &Facts, at: &Times) -> Result<(), AllocError>
         requires { CanKeep facts.now at.now self.old.latest self.old.table }
-        ensures latest { IfOk result (λ _. self.new.latest ≡ latest_after facts.now at.now self.old.latest) }
-        ensures table { IfOk result (λ _. IsTableAfter facts.now at.now self.old.table self.new.table) }
+        ensures latest { IfOk result
+            (λ _. self.new.latest ≡ latest_after facts.now at.now self.old.latest) }
+        ensures table { IfOk result
+            (λ _. IsTableAfter facts.now at.now self.old.table self.new.table) }
         ensures stations { IfOk result
             (λ _. self.new.stations.ends ≡ ends_after facts.now at.now self.old.stations.ends) }
         ensures accesses { IfOk result

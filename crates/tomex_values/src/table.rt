@@ -39,7 +39,8 @@ fn is_one_of(keys: &[Key], name: &str) -> bool
 }
 
 fn any_other(table: &Table, keys: &[Key]) -> bool
-    ensures { result ≡ list_any (λ k. not (is_one_of keys.now (string_bytes k))) (map.keys table.now) }
+    ensures { result
+        ≡ list_any (λ k. not (is_one_of keys.now (string_bytes k))) (map.keys table.now) }
 {
     table.keys().any(|name| !is_one_of(keys, name.as_str()))
 }

@@ -13,7 +13,8 @@ pub fn steps_of<A: Allocator + Clone>(
     alloc: A,
     program: &Program<A>,
 ) -> Result<Vec<Step, A>, AllocError>
-    ensures steps { IfOk result (λ steps. steps.items ≡ steps_from program.now.limit (start_of program.now.image)) }
+    ensures steps { IfOk result
+        (λ steps. steps.items ≡ steps_from program.now.limit (start_of program.now.image)) }
     ensures few { IfOk result (λ steps. length steps.items ≤ 262144) }
 {
     match trace(alloc, program.image(), program.limit()) {

@@ -26,8 +26,10 @@ pub fn text_of_all<
     files: &F,
     meter: &M,
 ) -> Result<Vec<u8, A>, Failure>
-    ensures text { IfOk result (λ text. IsFrontOf Report (F.file files.now) line.entry.study.now text.items) }
-    ensures failure { IfErr result (λ failure. IsAllFailure (F.file files.now) line.entry.study.now failure) }
+    ensures text { IfOk result
+        (λ text. IsFrontOf Report (F.file files.now) line.entry.study.now text.items) }
+    ensures failure { IfErr result
+        (λ failure. IsAllFailure (F.file files.now) line.entry.study.now failure) }
 {
     let sources = sources_in(alloc.clone()?, heap, files, line.study)?;
     let (study, contents) = (sources.study.as_slice(), sources.files.as_slice());

@@ -20,7 +20,8 @@ pub fn chosen_in<'s, A: Allocator>(
     config: u32,
     program: &str,
 ) -> Result<Chosen<'s, A>, Failure>
-    ensures chosen { IfOk result (λ chosen. IsChosen study.now config program.now chosen.row.now chosen.program.now) }
+    ensures chosen { IfOk result
+        (λ chosen. IsChosen study.now config program.now chosen.row.now chosen.program.now) }
     ensures unchosen { IfErr result (λ failure. IsUnchosen study.now config program.now failure) }
 {
     let row = study.row(config as usize).ok_or(Failure::NoSuchRow)?;

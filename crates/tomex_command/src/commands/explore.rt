@@ -54,8 +54,10 @@ pub fn text_of_front<
     meter: &M,
     view: FrontView,
 ) -> Result<Vec<u8, A>, Failure>
-    ensures text { IfOk result (λ text. IsFrontOf view (F.file files.now) line.entry.study.now text.items) }
-    ensures failure { IfErr result (λ failure. IsExploreFailure (F.file files.now) line.entry.study.now failure) }
+    ensures text { IfOk result
+        (λ text. IsFrontOf view (F.file files.now) line.entry.study.now text.items) }
+    ensures failure { IfErr result
+        (λ failure. IsExploreFailure (F.file files.now) line.entry.study.now failure) }
 {
     let sources = sources_in(alloc.clone()?, heap, files, line.study)?;
     let workers = line.workers as usize;

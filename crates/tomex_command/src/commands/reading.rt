@@ -31,8 +31,10 @@ pub fn read_all<F: Files, A: Allocator + Clone>(
     files: &F,
     names: &[String<A>],
 ) -> Result<Vec<Vec<u8, A>, A>, Failure>
-    ensures read { IfOk result (λ contents. AreRead (F.file files.now) (map string_bytes names.now) (map (λ bytes. bytes.items) contents.items)) }
-    ensures unread { IfErr result (λ failure. AreUnread (F.file files.now) (map string_bytes names.now) failure) }
+    ensures read { IfOk result
+        (λ contents. AreRead (F.file files.now) (map string_bytes names.now) (map (λ bytes. bytes.items) contents.items)) }
+    ensures unread { IfErr result
+        (λ failure. AreUnread (F.file files.now) (map string_bytes names.now) failure) }
 {
     let mut contents = Vec::new(alloc.clone()?);
     for name in names {

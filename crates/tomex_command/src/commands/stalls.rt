@@ -18,7 +18,8 @@ pub fn text_of_stalls<F: Files, A: Allocator + Clone>(
     files: &F,
 ) -> Result<Vec<u8, A>, Failure>
     ensures text { IfOk result (λ text. IsStallsOf (F.file files.now) line.entry text.items) }
-    ensures failure { IfErr result (λ failure. IsStallsFailure (F.file files.now) line.entry failure) }
+    ensures failure { IfErr result
+        (λ failure. IsStallsFailure (F.file files.now) line.entry failure) }
 {
     let study = study_in(alloc.clone()?, heap, files, line.study)?;
     let chosen = chosen_in(&study, line.config, line.program)?;

@@ -19,8 +19,10 @@ fn text_after<A: Allocator + Clone>(
     chosen: &Chosen<'_, A>,
     cycle: u32,
 ) -> Result<Vec<u8, A>, Failure>
-    ensures text { IfOk result (λ text. IsTextAfter chosen.now.row.now chosen.now.program.now cycle text.items) }
-    ensures failure { IfErr result (λ failure. IsUnshown chosen.now.row.now chosen.now.program.now cycle failure) }
+    ensures text { IfOk result
+        (λ text. IsTextAfter chosen.now.row.now chosen.now.program.now cycle text.items) }
+    ensures failure { IfErr result
+        (λ failure. IsUnshown chosen.now.row.now chosen.now.program.now cycle failure) }
 {
     let cycle = u64::from(cycle);
     let mut machine = Machine::new(alloc.clone()?, chosen.program.image(), chosen.row)?;
@@ -39,7 +41,8 @@ pub fn text_of_tables<F: Files, A: Allocator + Clone>(
     files: &F,
 ) -> Result<Vec<u8, A>, Failure>
     ensures text { IfOk result (λ text. IsTablesOf (F.file files.now) line.entry text.items) }
-    ensures failure { IfErr result (λ failure. IsTablesFailure (F.file files.now) line.entry failure) }
+    ensures failure { IfErr result
+        (λ failure. IsTablesFailure (F.file files.now) line.entry failure) }
 {
     let study = study_in(alloc.clone()?, heap, files, line.study)?;
     let chosen = chosen_in(&study, line.config, line.program)?;

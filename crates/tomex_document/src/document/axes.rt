@@ -4,7 +4,7 @@ ghost use Rattle.std.specs.Prelude.{◌≡◌};
 ghost use Rattle.toml.specs.View.{table_view};
 ghost use Rattle.tomex_config.specs.Grid.{lists_of};
 ghost use Rattle.tomex_values.specs.Readings.{Gives};
-ghost use Rattle.tomex_document.specs.Axes.{axis_counts, axes_of};
+ghost use Rattle.tomex_document.specs.Axes.{axis_counts, axes_of, counts_of};
 
 use super::units::{options_of, unit_tables};
 use std::alloc::Allocator;
@@ -26,10 +26,11 @@ struct Counts<A: Allocator> {
     width: Vec<u8, A>,
 }
 
-/// The place of the axes.
+/// The counts that the table of axes gives.
 #[tactic(auto, unfolding(crate::specs::Axes::axis_counts))]
 fn axis_counts<A: Allocator + Clone>(alloc: A, table: &Table) -> Result<Counts<A>, StudyError>
-    ensures { Gives (λ c. record { alu = c.alu.items; mul = c.mul.items; div = c.div.items; load = c.load.items; store = c.store.items; bru = c.bru.items; buses = c.buses.items; width = c.width.items }) result (axis_counts (table_view table.now)) }
+    ensures { Gives (λ c. counts_of c.alu.items c.mul.items c.div.items c.load.items c.store.items c.bru.items
+        c.buses.items c.width.items) result (axis_counts (table_view table.now)) }
 {
     let keys = [
         Key::Alu,

@@ -1,7 +1,7 @@
 //! A program of a study, as the study names it.
 
 ghost use Rattle.std.specs.Prelude.{◌≡◌, ◌≢◌, ◌≤◌, [], string_bytes, true};
-ghost use Rattle.tomex_document.specs.Program.{IsProgramEntry, is_name};
+ghost use Rattle.tomex_document.specs.Program.{IsProgramEntry, entry_of, is_name};
 ghost use Rattle.tomex_sweep.specs.Watch.{IsWatch};
 
 use std::alloc::{Allocator, Global};
@@ -25,13 +25,15 @@ pub struct Entry<A: Allocator = Global> {
 
 impl<A: Allocator> Model for Entry<A> {
     ghost use Rattle.std.specs.Prelude.{string_bytes};
-    ghost use Rattle.tomex_document.specs.Program.{ProgramEntry, IsProgramEntry};
+    ghost use Rattle.tomex_document.specs.Program.{ProgramEntry, IsProgramEntry, entry_of};
 
     ghost Value = { ProgramEntry };
 
-    ghost view = { λ e. record { name = string_bytes e.name; file = string_bytes e.file; window = e.window; limit = e.limit; watch = e.watch.items; weight = e.weight; weighed = e.weighed } };
+    ghost view = { λ e.
+        entry_of (string_bytes e.name) (string_bytes e.file) e.window e.limit e.watch.items e.weight e.weighed };
 
-    ghost invariant = { λ e. IsProgramEntry (record { name = string_bytes e.name; file = string_bytes e.file; window = e.window; limit = e.limit; watch = e.watch.items; weight = e.weight; weighed = e.weighed }) };
+    ghost invariant = { λ e. IsProgramEntry
+        (entry_of (string_bytes e.name) (string_bytes e.file) e.window e.limit e.watch.items e.weight e.weighed) };
 }
 
 impl<A: Allocator> Entry<A> {
@@ -52,7 +54,8 @@ impl<A: Allocator> Entry<A> {
         requires watch { IsWatch window watch.items }
         requires least_weight { 1 ≤ weight }
         requires most_weight { weight ≤ 1000 }
-        ensures { result ≡ record { name = string_bytes name; file = string_bytes file; window = window; limit = limit; watch = watch.items; weight = weight; weighed = weighed } }
+        ensures { result
+            ≡ entry_of (string_bytes name) (string_bytes file) window limit watch.items weight weighed }
     {
         // Read for what the window's type keeps, which the proof needs.
         let _size = window.size();

@@ -4,7 +4,7 @@ ghost use Rattle.std.specs.Prelude.{◌≡◌, option_map};
 ghost use Rattle.toml.specs.View.{table_view, items_view};
 ghost use Rattle.tomex_config.specs.Row.{most_units};
 ghost use Rattle.tomex_values.specs.Readings.{Gives, Reads};
-ghost use Rattle.tomex_document.specs.Units.{unit_tables, option_of, options_from, options_of};
+ghost use Rattle.tomex_document.specs.Units.{unit_tables, option_of, options_from, options_of, tables_of};
 
 use std::alloc::Allocator;
 use tomex_config::UnitOption;
@@ -22,10 +22,11 @@ pub struct UnitTables<'a> {
     pub bru: Option<&'a [Value]>,
 }
 
-/// The place of the unit, without those of its options.
+/// The tables of options that the table of units gives.
 #[tactic(auto, unfolding(crate::specs::Units::unit_tables))]
 pub fn unit_tables<'a>(table: &'a Table) -> Result<UnitTables<'a>, StudyError>
-    ensures { Reads (λ k. record { alu = option_map (λ s. items_view s.now) k.alu; mul = option_map (λ s. items_view s.now) k.mul; div = option_map (λ s. items_view s.now) k.div; mem = option_map (λ s. items_view s.now) k.mem; bru = option_map (λ s. items_view s.now) k.bru }) result (unit_tables (table_view table.now)) }
+    ensures { Reads (λ k. tables_of (λ s. items_view s.now) k.alu k.mul k.div k.mem k.bru)
+        result (unit_tables (table_view table.now)) }
 {
     let keys = [Key::Alu, Key::Mul, Key::Div, Key::Mem, Key::Bru];
     known_keys(table, Place::Unit, keys.as_slice())?;

@@ -62,7 +62,8 @@ pub(super) fn grammar<'a>(alloc: Global) -> Result<Command<'a>, AllocError>
 }
 
 pub(super) fn line_of<'a>(alloc: Global, matches: &ArgMatches<'a>) -> Result<AllLine<'a>, LineFault>
-    ensures line { IfOk result (λ line. IsAllAsked (rows_of (found_of matches.now)) line.study.now) }
+    ensures line { IfOk result
+        (λ line. IsAllAsked (rows_of (found_of matches.now)) line.study.now) }
     ensures refused { IfErr result IsRefusal }
 {
     Ok(AllLine {

@@ -99,7 +99,8 @@ pub(super) fn line_of<'a>(
     alloc: Global,
     matches: &ArgMatches<'a>,
 ) -> Result<ExploreLine<'a>, LineFault>
-    ensures line { IfOk result (λ line. IsExploreAsked (rows_of (found_of matches.now)) line.study.now line.workers) }
+    ensures line { IfOk result
+        (λ line. IsExploreAsked (rows_of (found_of matches.now)) line.study.now line.workers) }
     ensures refused { IfErr result IsRefusal }
 {
     Ok(ExploreLine {

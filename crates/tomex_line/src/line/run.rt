@@ -102,7 +102,8 @@ pub(super) fn grammar<'a>(alloc: Global) -> Result<Command<'a>, AllocError>
 }
 
 pub(super) fn line_of<'a>(alloc: Global, matches: &ArgMatches<'a>) -> Result<RunLine<'a>, LineFault>
-    ensures line { IfOk result (λ line. IsRunAsked (rows_of (found_of matches.now)) line.image.now line.base line.size line.limit) }
+    ensures line { IfOk result
+        (λ line. IsRunAsked (rows_of (found_of matches.now)) line.image.now line.base line.size line.limit) }
     ensures refused { IfErr result IsRefusal }
 {
     Ok(RunLine {

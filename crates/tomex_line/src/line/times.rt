@@ -76,7 +76,8 @@ pub(super) fn line_of<'a>(
     alloc: Global,
     matches: &ArgMatches<'a>,
 ) -> Result<TimesLine<'a>, LineFault>
-    ensures line { IfOk result (λ line. IsTimesAsked (rows_of (found_of matches.now)) line.study.now line.config line.program.now) }
+    ensures line { IfOk result
+        (λ line. IsTimesAsked (rows_of (found_of matches.now)) line.study.now line.config line.program.now) }
     ensures refused { IfErr result IsRefusal }
 {
     Ok(TimesLine {

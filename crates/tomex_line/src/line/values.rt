@@ -40,7 +40,8 @@ pub fn number<'a>(
     default: &'a str,
     help: &'a str,
 ) -> Arg<'a>
-    ensures rule { rule_of result ≡ option_rule name.entry.now bounds.least bounds.greatest default.entry.now }
+    ensures rule { rule_of result
+        ≡ option_rule name.entry.now bounds.least bounds.greatest default.entry.now }
     ensures global { result.global ≡ false }
 {
     Arg::new(alloc, name)
@@ -99,7 +100,8 @@ pub fn number_of(
     name: &str,
     bounds: Bounds,
 ) -> Result<u32, LineFault>
-    ensures number { IfOk result (λ number. IsNumber (rows_of (found_of matches.now)) name.now number) }
+    ensures number { IfOk result
+        (λ number. IsNumber (rows_of (found_of matches.now)) name.now number) }
     ensures within { IfOk result (λ number. (bounds.least ≤ number) × (number ≤ bounds.greatest)) }
     ensures refused { IfErr result IsRefusal }
 {

@@ -10,7 +10,7 @@ pub record HasWritten (written : ℕ) (bytes : List ℕ) (taken-before taken : O
   pub fine : faults ≡ faults-before
 
 abbrev pub invariant-loop-written : goal.invariant-loop-written
-invariant-loop-written g l = HasWritten l.written l.bytes (g.W.Sink.taken l.fn.sink) (g.W.Sink.taken l.sink) (g.W.Sink.faults l.fn.sink) (g.W.Sink.faults l.sink)
+invariant-loop-written g l = HasWritten l.written l.bytes (g.W.Sink.seen l.fn.sink).taken (g.W.Sink.seen l.sink).taken (g.W.Sink.seen l.fn.sink).faults (g.W.Sink.seen l.sink).faults
 
 abbrev pub decreases-loop-written : goal.decreases-loop-written
 decreases-loop-written g l = length l.bytes - l.written
