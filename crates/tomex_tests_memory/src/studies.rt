@@ -182,8 +182,8 @@ fn of_their_parts(rt: HostRuntime) -> Result<(), Fail> {
     let axes = axes_in(&ample(other)?)?;
     assert!(rt; matches!(refusals(other, &Grid { axes: &axes })?, Some(granted) if granted > 2));
     let row = Config::new([1; 6], [PLAIN; 5], 1, 1).ok_or("no row")?;
-    // The bytes that the run changes, its steps, and a cost.
-    assert!(rt; refusals(other, &Parts { other, row })? == Some(3));
+    // The bytes that the run changes, its steps, the facts of each, and a cost.
+    assert!(rt; refusals(other, &Parts { other, row })? == Some(4));
     assert!(rt; matches!(refusals(other, &Times { other, row })?, Some(granted) if granted > 1));
     Ok(())
 }
