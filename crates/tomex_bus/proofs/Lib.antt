@@ -1,8 +1,4 @@
-pub mod Powers
-pub mod Bits
-pub mod Members
-pub mod Split
-pub mod Counting
+pub mod Listings
 pub mod Picking
 pub mod Turning
 mod Rows

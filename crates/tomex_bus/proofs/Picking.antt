@@ -1,12 +1,24 @@
 -- Turns of the search for the oldest, and what is picked of a listing in issue order.
-use Rattle.std.proofs.Common.{ℕ, zero, suc, ◌+◌, Bool, true, false, ◌≡◌, ◌≤◌, ◌<◌, ◌∙◌, arith, inl, inr, ap, refl, sym, List, [], ◌∷◌, take, slice_index, length}
+use Rattle.std.proofs.Common.{ℕ, zero, suc, ◌+◌, Bool, true, false, ◌≡◌, ◌≤◌, ◌<◌, ◌∙◌, ◌⊎◌, arith, inl, inr, ap, refl, sym, List, [], ◌∷◌, take, slice_index, length}
 use Rattle.std.specs.Prelude.{◌==◌, ◌≢◌, min, count_by}
 use Rattle.std.proofs.lemmas.Bool.{cases_Bool, both_ways, eqb-true, eqb-false}
 use Rattle.std.proofs.lemmas.List.Sums.{sum_by-cons}
-use Rattle.tomex_bus.proofs.Bits.{none_in}
-use Rattle.tomex_bus.proofs.Counting.{count_all, count_listed, count_single, in_head, in_tail, none_counted, size_none, size_with, size_without, some_counted}
-use Rattle.tomex_bus.specs.Sets.{has, is_in, size_of, IsWith, IsWithout}
-use Rattle.tomex_bus.specs.Picks.{IsInIssueOrder, IsPicked, Rises}
+use Rattle.tomex_sets.specs.Sets.{has, size_of, IsWith, IsWithout}
+use Rattle.tomex_sets.proofs.Bits.{none_in}
+use Rattle.tomex_sets.proofs.Counting.{count_single, size_none, size_with, size_without}
+use Rattle.tomex_bus.specs.Picks.{IsInIssueOrder, IsPicked, Rises, is_listed}
+use Rattle.tomex_bus.proofs.Listings.{count_all, count_listed, in_head, in_tail, none_counted, some_counted}
+
+-- of the members that were looked at none is less by a measure than the best, one more of which is looked at
+pub best_left : (set rest left x best now : ℕ) (issue_numbers : List ℕ) → ((i : ℕ) → i < 128 → has set i ≡ true → (has rest i ≡ true) ⊎ (slice_index issue_numbers best ≤ slice_index issue_numbers i)) → IsWithout rest x left → slice_index issue_numbers now ≤ slice_index issue_numbers best → slice_index issue_numbers now ≤ slice_index issue_numbers x
+    → (i : ℕ) → i < 128 → has set i ≡ true → (has left i ≡ true) ⊎ (slice_index issue_numbers now ≤ slice_index issue_numbers i)
+best_left set rest left x best now issue_numbers looked without less here i l member = elim (cases_Bool (x == i)) [
+  | inl k ↦ let same : x ≡ i = eqb-true x i k in inr (rw same at here)
+  | inr k ↦ elim (looked i l member) [
+    | inl e ↦ inl (without.others i l (λ z. eqb-false x i k (sym z)) ∙ e)
+    | inr least ↦ inr (omega arith)
+  ]
+]
 
 -- so many turns are made: what is left of the ready ones is younger than what is picked
 pub record AreMade (ready : ℕ) (issue_numbers : List ℕ) (turn rest picked : ℕ) : Type 0 where
@@ -119,7 +131,7 @@ taken_some ready (suc turn) rest picked first some none apart = some (omega arit
 
 -- Of a listing in issue order the first n are picked.
 
-take_inside : (n x : ℕ) (xs : List ℕ) → is_in (take n xs) x ≡ true → is_in xs x ≡ true
+take_inside : (n x : ℕ) (xs : List ℕ) → is_listed (take n xs) x ≡ true → is_listed xs x ≡ true
 take_inside zero x xs e = absurd (cc)
 take_inside (suc n) x [] e = absurd (cc)
 take_inside (suc n) x (y ∷ ys) e = elim (cases_Bool (y == x)) [
@@ -128,8 +140,8 @@ take_inside (suc n) x (y ∷ ys) e = elim (cases_Bool (y == x)) [
 ]
 
 first_taken : (p : ℕ → Bool) (issue_numbers : List ℕ) (n : ℕ) (xs : List ℕ) → Rises issue_numbers xs
-    → ((x y : ℕ) → is_in xs x ≡ true → is_in xs y ≡ true → p x ≡ true → p y ≡ false → slice_index issue_numbers x ≤ slice_index issue_numbers y)
-    → count_by p xs ≡ min n (length xs) → (x : ℕ) → is_in xs x ≡ true → p x ≡ is_in (take n xs) x
+    → ((x y : ℕ) → is_listed xs x ≡ true → is_listed xs y ≡ true → p x ≡ true → p y ≡ false → slice_index issue_numbers x ≤ slice_index issue_numbers y)
+    → count_by p xs ≡ min n (length xs) → (x : ℕ) → is_listed xs x ≡ true → p x ≡ is_listed (take n xs) x
 first_taken p issue_numbers n [] rises oldest count x h = absurd (cc)
 first_taken p issue_numbers zero (y ∷ ys) rises oldest count x h = none_counted p (y ∷ ys) x (count ∙ omega arith) h
 first_taken p issue_numbers (suc n) (y ∷ ys) rises oldest count x h = elim (cases_Bool (p y)) [
@@ -150,13 +162,13 @@ first_taken p issue_numbers (suc n) (y ∷ ys) rises oldest count x h = elim (ca
       absurd (omega arith)
 ]
 
-pub first_picked : (set n picked : ℕ) (issue_numbers xs : List ℕ) → IsPicked set issue_numbers n picked → IsInIssueOrder set issue_numbers xs → (x : ℕ) → x < 128 → has picked x ≡ is_in (take n xs) x
+pub first_picked : (set n picked : ℕ) (issue_numbers xs : List ℕ) → IsPicked set issue_numbers n picked → IsInIssueOrder set issue_numbers xs → (x : ℕ) → x < 128 → has picked x ≡ is_listed (take n xs) x
 first_picked set n picked issue_numbers xs pick by x l =
     let size : size_of set ≡ length xs = count_listed (has set) issue_numbers xs by.rises by.low (λ y m e. sym (by.members y m) ∙ e)
     ∙ count_all (has set) xs (λ y h. by.members y (by.low y h) ∙ h) in
     let some : size_of picked ≡ count_by (has picked) xs = count_listed (has picked) issue_numbers xs by.rises by.low (λ y m e. sym (by.members y m) ∙ pick.inside y m e) in
     let count : size_of picked ≡ min n (size_of set) = pick.count in
-    elim (cases_Bool (is_in xs x)) [
+    elim (cases_Bool (is_listed xs x)) [
       | inl h ↦
           first_taken (has picked) issue_numbers n xs by.rises
           (λ a b i j e f. pick.oldest a b (by.low a i) (by.low b j) e (by.members b (by.low b j) ∙ j) f)
@@ -164,11 +176,11 @@ first_picked set n picked issue_numbers xs pick by x l =
       | inr h ↦ outside h
     ]
   where
-    outside : is_in xs x ≡ false → has picked x ≡ is_in (take n xs) x
+    outside : is_listed xs x ≡ false → has picked x ≡ is_listed (take n xs) x
     outside h = elim (cases_Bool (has picked x)) [
-      | inl e ↦ absurd (both_ways (is_in xs x) h (sym (by.members x l) ∙ pick.inside x l e))
-      | inr e ↦ e ∙ sym (elim (cases_Bool (is_in (take n xs) x)) [
-        | inl k ↦ absurd (both_ways (is_in xs x) h (take_inside n x xs k))
+      | inl e ↦ absurd (both_ways (is_listed xs x) h (sym (by.members x l) ∙ pick.inside x l e))
+      | inr e ↦ e ∙ sym (elim (cases_Bool (is_listed (take n xs) x)) [
+        | inl k ↦ absurd (both_ways (is_listed xs x) h (take_inside n x xs k))
         | inr k ↦ k
       ])
     ]

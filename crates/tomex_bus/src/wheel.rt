@@ -3,9 +3,8 @@
 ghost use Rattle.std.specs.Prelude.{◌<◌, ◌≤◌};
 ghost use Rattle.tomex_bus.specs.Wheel.{AreDue, HasGiven, HasPassed, HasPut, IsClearTo, IsEmpty, IsNext, Lacks};
 
-use crate::places::{lowest, with_place, without_place};
-use crate::sets::with;
 use std::marker::Model;
+use tomex_sets::{small, with};
 
 /// Numbers that fall due in one of the 64 cycles ahead, the first of which is 0 ahead.
 ///
@@ -53,7 +52,7 @@ impl Wheel {
     {
         let place = ((self.head + ahead) % 64) as usize;
         self.sets[place] = with(self.sets[place], number);
-        self.filled = with_place(self.filled, place);
+        self.filled = small::with(self.filled, place);
     }
 
     /// How far ahead the next cycle is in which anything is due.
@@ -63,10 +62,10 @@ impl Wheel {
     {
         let later = self.filled >> self.head;
         if later != 0 {
-            return Some(lowest(later) as u32);
+            return Some(small::lowest(later) as u32);
         }
         if self.filled != 0 {
-            return Some(64 - self.head + lowest(self.filled) as u32);
+            return Some(64 - self.head + small::lowest(self.filled) as u32);
         }
         None
     }
@@ -98,7 +97,7 @@ impl Wheel {
         let due = self.sets[place];
         if due != 0 {
             self.sets[place] = 0;
-            self.filled = without_place(self.filled, place);
+            self.filled = small::without(self.filled, place);
         }
         due
     }

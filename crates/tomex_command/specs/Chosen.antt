@@ -1,44 +1,44 @@
--- The row and the program that a line chooses of a study, by a number and a name.
+-- The configuration and the program that a line chooses of a study, by a number and a name.
 use Rattle.std.specs.Prelude.{◌≡◌, ℕ, List, slice_get, Some, None}
-use Rattle.tomex_config.specs.Row.{Row}
-use Rattle.tomex_sweep.specs.Program.{Workload}
-use Rattle.tomex_sweep.specs.Study.{DesignSpace, program_named}
+use Rattle.tomex_config.specs.Configuration.{Configuration}
+use Rattle.tomex_study.specs.Program.{Workload}
+use Rattle.tomex_study.specs.Study.{DesignSpace, program_named}
 use Rattle.tomex_command.specs.declared.failure.Failure.{Failure}
 use Rattle.tomex_command.specs.declared.failure.Failure.TheVariants.{NoSuchRow, NoSuchProgram}
 use Rattle.tomex_streams.specs.Files.{Told}
 use Rattle.tomex_command.specs.StudyFiles.{IsStudyIn, IsStudyFailure}
 
--- the row of that number, and the program of that name
-pub record IsChosen (study : DesignSpace) (config : ℕ) (name : List ℕ) (row : Row) (program : Workload) : Type 0 where
-  pub row_is : slice_get study.rows config ≡ Some row
+-- the configuration of that number, and the program of that name
+pub record IsChosen (study : DesignSpace) (number : ℕ) (name : List ℕ) (config : Configuration) (program : Workload) : Type 0 where
+  pub config_is : slice_get study.rows number ≡ Some config
   pub program_is : program_named name study.programs ≡ Some program
 
--- there is the row, and no program of that name
-pub record IsWithoutProgram (study : DesignSpace) (config : ℕ) (name : List ℕ) : Type 0 where
-  pub row : Row
-  pub row_is : slice_get study.rows config ≡ Some row
+-- there is the configuration, and no program of that name
+pub record IsWithoutProgram (study : DesignSpace) (number : ℕ) (name : List ℕ) : Type 0 where
+  pub config : Configuration
+  pub config_is : slice_get study.rows number ≡ Some config
   pub program_is : program_named name study.programs ≡ None
 
--- why a study has not both: the row is looked for first
+-- why a study has not both: the configuration is looked for first
 abbrev pub IsUnchosen : DesignSpace → ℕ → List ℕ → Failure → Type 0
-IsUnchosen study config name NoSuchRow = slice_get study.rows config ≡ None
-IsUnchosen study config name NoSuchProgram = IsWithoutProgram study config name
-IsUnchosen study config name _ = ⊥
+IsUnchosen study number name NoSuchRow = slice_get study.rows number ≡ None
+IsUnchosen study number name NoSuchProgram = IsWithoutProgram study number name
+IsUnchosen study number name _ = ⊥
 
--- the row and the program of the study of a file
-pub record IsChosenIn (file : List ℕ → Told) (study : List ℕ) (config : ℕ) (name : List ℕ) (row : Row)
+-- the configuration and the program of the study of a file
+pub record IsChosenIn (file : List ℕ → Told) (study : List ℕ) (number : ℕ) (name : List ℕ) (config : Configuration)
     (program : Workload) : Type 0 where
   pub space : DesignSpace
   pub of_files : IsStudyIn file study space
-  pub chosen : IsChosen space config name row program
+  pub chosen : IsChosen space number name config program
 
 -- the study of a file has not both, for this reason
 abbrev pub IsUnchosenIn : (List ℕ → Told) → List ℕ → ℕ → List ℕ → Failure → Type 0
-IsUnchosenIn file study config name failure =
-    (space : DesignSpace) × IsStudyIn file study space × IsUnchosen space config name failure
+IsUnchosenIn file study number name failure =
+    (space : DesignSpace) × IsStudyIn file study space × IsUnchosen space number name failure
 
--- when each failure comes: the whole study first, then the row, then the program
+-- when each failure comes: the whole study first, then the configuration, then the program
 abbrev pub IsChoiceFailure : (List ℕ → Told) → List ℕ → ℕ → List ℕ → Failure → Type 0
-IsChoiceFailure file study config name NoSuchRow = IsUnchosenIn file study config name NoSuchRow
-IsChoiceFailure file study config name NoSuchProgram = IsUnchosenIn file study config name NoSuchProgram
-IsChoiceFailure file study config name failure = IsStudyFailure file study failure
+IsChoiceFailure file study number name NoSuchRow = IsUnchosenIn file study number name NoSuchRow
+IsChoiceFailure file study number name NoSuchProgram = IsUnchosenIn file study number name NoSuchProgram
+IsChoiceFailure file study number name failure = IsStudyFailure file study failure

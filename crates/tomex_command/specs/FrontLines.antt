@@ -1,6 +1,6 @@
 -- What a line that asks for the front of a study comes to, by `all`, or by `explore`, `front` and `plot`.
 use Rattle.std.specs.Prelude.{List, ℕ}
-use Rattle.tomex_sweep.specs.Study.{DesignSpace}
+use Rattle.tomex_study.specs.Study.{DesignSpace}
 use Rattle.tomex_report.specs.Answer.{IsShown}
 use Rattle.tomex_report.specs.declared.front_view.FrontView.{FrontView}
 use Rattle.tomex_command.specs.declared.failure.Failure.{Failure}

@@ -3,9 +3,9 @@ use Rattle.std.specs.Prelude.{◌≡◌, ℕ, Bool, true, false, List}
 use Rattle.tomex_rvexec.specs.Run.{start_of}
 use Rattle.tomex_rvexec.specs.Trace.{steps_from}
 use Rattle.tomex_rvexec.specs.declared.step.Step.{Step}
-use Rattle.tomex_config.specs.Row.{Row}
+use Rattle.tomex_config.specs.Configuration.{Configuration}
 use Rattle.tomex_konata.specs.Konata.{IsLogOf}
-use Rattle.tomex_sweep.specs.Program.{Workload}
+use Rattle.tomex_study.specs.Program.{Workload}
 use Rattle.tomex_views.specs.Chart.{IsPictureOf, IsUnpictured}
 use Rattle.tomex_views.specs.declared.picture_error.PictureError.{PictureError}
 use Rattle.tomex_views.specs.declared.picture_error.PictureError.TheVariants as errors
@@ -16,25 +16,25 @@ use Rattle.tomex_command.specs.Chosen.{IsChosenIn, IsChoiceFailure}
 use Rattle.tomex_streams.specs.Files.{Told}
 
 -- what is asked for: the log of so many steps from one on, or their picture
-abbrev pub IsShown : Bool → Row → List Step → ℕ → ℕ → List ℕ → Type 0
-IsShown true row steps from count text = IsLogOf row steps from count text
-IsShown false row steps from count text = IsPictureOf row steps from count text
+abbrev pub IsShown : Bool → Configuration → List Step → ℕ → ℕ → List ℕ → Type 0
+IsShown true config steps from count text = IsLogOf config steps from count text
+IsShown false config steps from count text = IsPictureOf config steps from count text
 
--- the study of the line's files has the row and the program, and the text shows their steps
+-- the study of the line's files has the configuration and the program, and the text shows their steps
 pub record IsPipelineOf (file : List ℕ → Told) (line : PipelineLine) (text : List ℕ) : Type 0 where
-  pub row : Row
+  pub config : Configuration
   pub program : Workload
-  pub chosen : IsChosenIn file line.study.now line.config line.program.now row program
-  pub shown : IsShown line.konata row (steps_from program.limit (start_of program.image)) line.from line.steps text
+  pub chosen : IsChosenIn file line.study.now line.config line.program.now config program
+  pub shown : IsShown line.konata config (steps_from program.limit (start_of program.image)) line.from line.steps text
 
 -- it has them, and there is no picture of their steps, for this reason
 pub record IsUndrawn (file : List ℕ → Told) (line : PipelineLine) (error : PictureError) : Type 0 where
-  pub row : Row
+  pub config : Configuration
   pub program : Workload
-  pub chosen : IsChosenIn file line.study.now line.config line.program.now row program
-  pub undrawn : IsUnpictured row (steps_from program.limit (start_of program.image)) line.from line.steps error
+  pub chosen : IsChosenIn file line.study.now line.config line.program.now config program
+  pub undrawn : IsUnpictured config (steps_from program.limit (start_of program.image)) line.from line.steps error
 
--- when each failure comes: those of the study, then of the row, then of the program, then of the step, then of the size
+-- when each failure comes: those of the study, then of the configuration, then of the program, then of the step, then of the size
 -- of a picture; a log may have any
 abbrev pub IsPipelineFailure : (List ℕ → Told) → PipelineLine → Failure → Type 0
 IsPipelineFailure file line NoSuchStep = IsUndrawn file line errors.NoSuchStep

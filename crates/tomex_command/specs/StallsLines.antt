@@ -3,8 +3,8 @@ use Rattle.std.specs.Prelude.{ℕ, Bool, true, false, List}
 use Rattle.tomex_rvexec.specs.Run.{start_of}
 use Rattle.tomex_rvexec.specs.Trace.{steps_from}
 use Rattle.tomex_rvexec.specs.declared.step.Step.{Step}
-use Rattle.tomex_config.specs.Row.{Row}
-use Rattle.tomex_sweep.specs.Program.{Workload}
+use Rattle.tomex_config.specs.Configuration.{Configuration}
+use Rattle.tomex_study.specs.Program.{Workload}
 use Rattle.tomex_views.specs.ByPlace.{IsReportByPlace}
 use Rattle.tomex_views.specs.StallsReport.{IsStallsReport}
 use Rattle.tomex_command.specs.declared.failure.Failure.{Failure}
@@ -13,17 +13,17 @@ use Rattle.tomex_command.specs.Chosen.{IsChosenIn, IsChoiceFailure}
 use Rattle.tomex_streams.specs.Files.{Told}
 
 -- the report that is asked for: by place in the program, or by part
-abbrev pub IsReportAsked : Bool → Row → List Step → List ℕ → Type 0
-IsReportAsked true row steps text = IsReportByPlace row steps text
-IsReportAsked false row steps text = IsStallsReport row steps text
+abbrev pub IsReportAsked : Bool → Configuration → List Step → List ℕ → Type 0
+IsReportAsked true config steps text = IsReportByPlace config steps text
+IsReportAsked false config steps text = IsStallsReport config steps text
 
--- the study of the line's files has the row and the program, and the text is their report
+-- the study of the line's files has the configuration and the program, and the text is their report
 pub record IsStallsOf (file : List ℕ → Told) (line : StallsLine) (text : List ℕ) : Type 0 where
-  pub row : Row
+  pub config : Configuration
   pub program : Workload
-  pub chosen : IsChosenIn file line.study.now line.config line.program.now row program
-  pub report : IsReportAsked line.by_pc row (steps_from program.limit (start_of program.image)) text
+  pub chosen : IsChosenIn file line.study.now line.config line.program.now config program
+  pub report : IsReportAsked line.by_pc config (steps_from program.limit (start_of program.image)) text
 
--- when each failure comes: those of the study, then of the row, then of the program
+-- when each failure comes: those of the study, then of the configuration, then of the program
 abbrev pub IsStallsFailure : (List ℕ → Told) → StallsLine → Failure → Type 0
 IsStallsFailure file line failure = IsChoiceFailure file line.study.now line.config line.program.now failure

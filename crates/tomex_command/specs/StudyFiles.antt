@@ -1,6 +1,6 @@
 -- The study that a file of some name stands for, with the files that it names itself.
 use Rattle.std.specs.Prelude.{◌≡◌, ◌≢◌, ◌⊎◌, ℕ, List, Ok, Err, string_bytes}
-use Rattle.tomex_sweep.specs.Study.{DesignSpace}
+use Rattle.tomex_study.specs.Study.{DesignSpace}
 use Rattle.tomex_document.specs.Document.{file_names_of}
 use Rattle.tomex_report.specs.Study.{IsStudyOf, IsStudyRefusal}
 use Rattle.tomex_values.specs.declared.error.StudyError.{StudyError}

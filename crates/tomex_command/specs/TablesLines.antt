@@ -1,9 +1,9 @@
 -- What a line that asks for the tables after a cycle comes to.
 use Rattle.std.specs.Prelude.{◌≡◌, ◌<◌, ◌≤◌, ℕ, List}
-use Rattle.tomex_config.specs.Row.{Row}
+use Rattle.tomex_config.specs.Configuration.{Configuration}
 use Rattle.tomex_timing.specs.Tables.{tables_of}
 use Rattle.tomex_cycle.specs.Run.{run_of, total}
-use Rattle.tomex_sweep.specs.Program.{Workload}
+use Rattle.tomex_study.specs.Program.{Workload}
 use Rattle.tomex_report.specs.TablesText.{tables_text_of}
 use Rattle.tomex_command.specs.declared.failure.Failure.{Failure}
 use Rattle.tomex_command.specs.declared.failure.Failure.TheVariants.{CyclePastEnd, Memory}
@@ -11,32 +11,32 @@ use Rattle.tomex_line.specs.declared.line.tables.TablesLine.{TablesLine}
 use Rattle.tomex_command.specs.Chosen.{IsChosenIn, IsChoiceFailure}
 use Rattle.tomex_streams.specs.Files.{Told}
 
--- the cycle is none past the end of the program's run on the row, and the text is that of the tables after it
-pub record IsTextAfter (row : Row) (program : Workload) (cycle : ℕ) (text : List ℕ) : Type 0 where
-  pub reached : cycle ≤ total row program.image
-  pub tables : text ≡ tables_text_of (tables_of cycle (run_of row program.image))
+-- the cycle is none past the end of the program's run on the configuration, and the text is that of the tables after it
+pub record IsTextAfter (config : Configuration) (program : Workload) (cycle : ℕ) (text : List ℕ) : Type 0 where
+  pub reached : cycle ≤ total config program.image
+  pub tables : text ≡ tables_text_of (tables_of cycle (run_of config program.image))
 
 -- why a run's tables are not shown: it ends before the cycle, or memory was refused
-abbrev pub IsUnshown : Row → Workload → ℕ → Failure → Type 0
-IsUnshown row program cycle CyclePastEnd = total row program.image < cycle
-IsUnshown row program cycle Memory = Unit {0}
-IsUnshown row program cycle _ = ⊥
+abbrev pub IsUnshown : Configuration → Workload → ℕ → Failure → Type 0
+IsUnshown config program cycle CyclePastEnd = total config program.image < cycle
+IsUnshown config program cycle Memory = Unit {0}
+IsUnshown config program cycle _ = ⊥
 
--- the study of the line's files has the row and the program, and the text is that of their tables
+-- the study of the line's files has the configuration and the program, and the text is that of their tables
 pub record IsTablesOf (file : List ℕ → Told) (line : TablesLine) (text : List ℕ) : Type 0 where
-  pub row : Row
+  pub config : Configuration
   pub program : Workload
-  pub chosen : IsChosenIn file line.study.now line.config line.program.now row program
-  pub shown : IsTextAfter row program line.cycle text
+  pub chosen : IsChosenIn file line.study.now line.config line.program.now config program
+  pub shown : IsTextAfter config program line.cycle text
 
--- it has them, and the program's run on the row ends before the cycle
+-- it has them, and the program's run on the configuration ends before the cycle
 pub record IsPastEnd (file : List ℕ → Told) (line : TablesLine) : Type 0 where
-  pub row : Row
+  pub config : Configuration
   pub program : Workload
-  pub chosen : IsChosenIn file line.study.now line.config line.program.now row program
-  pub past : total row program.image < line.cycle
+  pub chosen : IsChosenIn file line.study.now line.config line.program.now config program
+  pub past : total config program.image < line.cycle
 
--- when each failure comes: those of the study, then of the row, then of the program, then of the cycle
+-- when each failure comes: those of the study, then of the configuration, then of the program, then of the cycle
 abbrev pub IsTablesFailure : (List ℕ → Told) → TablesLine → Failure → Type 0
 IsTablesFailure file line CyclePastEnd = IsPastEnd file line
 IsTablesFailure file line failure = IsChoiceFailure file line.study.now line.config line.program.now failure

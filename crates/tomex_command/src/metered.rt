@@ -6,7 +6,7 @@ use std::sync::atomic::{AtomicU64, Ordering};
 use tomex_streams::Meter;
 use tomex_sweep::Gate;
 
-/// Counts the runs that begin. As many rows as there are workers may have begun and not be over yet.
+/// Counts the runs that begin. As many configurations as there are workers may have begun and not be over yet.
 #[derive(Drop)]
 pub struct Metered<'a, M: Meter> {
     meter: &'a M,

@@ -1,12 +1,12 @@
--- How many rows a grid has: as many as the product of the lengths of its axes.
+-- How many configurations a grid has: as many as the product of the lengths of its axes.
 use Rattle.std.proofs.Common.{◌≡◌, ◌*◌, ◌≤◌, ℕ, false, List, [], ◌∷◌, length, map, refl, arith, length-append}
 use Rattle.std.specs.List.{flat_map}
-use Rattle.tomex_config.specs.Row.{Row, plain}
+use Rattle.tomex_config.specs.Configuration.{Configuration, plain}
 use Rattle.tomex_config.specs.Grid.{Lists, rows_of, lengths, product, has_empty, is_above_limit, is_too_large}
 use Rattle.tomex_config.proofs.Lengths.{product_positive}
 use Rattle.tomex_config.proofs.Varied.{Axis, counts, options, chosen, all_axes}
 
-length-flat_map-same : {V : Type 0} (follows : V → List Row) (n : ℕ) → ((value : V) → length (follows value) ≡ n)
+length-flat_map-same : {V : Type 0} (follows : V → List Configuration) (n : ℕ) → ((value : V) → length (follows value) ≡ n)
     → (values : List V) → length (flat_map follows values) ≡ length values * n
 length-flat_map-same follows n same [] = omega arith
 length-flat_map-same follows n same (value ∷ values) =
@@ -16,13 +16,13 @@ axis_length : Axis → ℕ
 axis_length (counts part values) = length values
 axis_length (options part values) = length values
 
-length-chosen : (axes : List Axis) (row : Row) → length (chosen axes row) ≡ product (map axis_length axes)
+length-chosen : (axes : List Axis) (config : Configuration) → length (chosen axes config) ≡ product (map axis_length axes)
 unfolding axis_length
-length-chosen [] row = refl
-length-chosen (counts part values ∷ axes) row =
-    length-flat_map-same (λ value. chosen axes (part row value)) (product (map axis_length axes)) (λ value. length-chosen axes (part row value)) values
-length-chosen (options part values ∷ axes) row =
-    length-flat_map-same (λ value. chosen axes (part row value)) (product (map axis_length axes)) (λ value. length-chosen axes (part row value)) values
+length-chosen [] config = refl
+length-chosen (counts part values ∷ axes) config =
+    length-flat_map-same (λ value. chosen axes (part config value)) (product (map axis_length axes)) (λ value. length-chosen axes (part config value)) values
+length-chosen (options part values ∷ axes) config =
+    length-flat_map-same (λ value. chosen axes (part config value)) (product (map axis_length axes)) (λ value. length-chosen axes (part config value)) values
 
 length-rows_of : (axes : Lists) → length (rows_of axes) ≡ product (lengths axes)
 unfolding rows_of axis_length

@@ -3,4 +3,4 @@ pub mod Grown
 pub mod Lengths
 pub mod Varied
 pub mod Counted
-pub mod Rows
+pub mod Worked

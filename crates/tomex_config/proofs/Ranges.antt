@@ -1,4 +1,4 @@
--- Values within the limits of their axis, as parts of a row.
+-- Values within the limits of their axis, as parts of a configuration.
 use Rattle.std.proofs.Common.{◌≡◌, ◌<◌, ℕ, get_or, Bool, true, List, All, length, rules, arith}
 use Rattle.std.specs.List.{list_all}
 use Rattle.std.specs.Prelude.{slice_index_or, slice_set}
@@ -8,8 +8,8 @@ use Rattle.std.proofs.lemmas.List.Sums.{AllPass-from_list_all}
 use Rattle.tomex_rvdec.specs.Parts.{place_of_unit}
 use Rattle.tomex_rvdec.specs.declared.pool.UnitId.{UnitId}
 use Rattle.tomex_rvdec.specs.declared.pool.UnitId.TheVariants.{Alu, Mul, Div, Mem, Bru}
-use Rattle.tomex_config.specs.declared.row.UnitOption.{UnitOption}
-use Rattle.tomex_config.specs.Row.{is_option, most_units, plain_option}
+use Rattle.tomex_config.specs.declared.config.UnitOption.{UnitOption}
+use Rattle.tomex_config.specs.Configuration.{is_option, most_units, plain_option}
 
 pub each_passes : {X : Type 0} (p : X → Bool) (xs : List X) → list_all p xs ≡ true → All (λ x. p x ≡ true) xs
 each_passes p xs h = AllPass-from_list_all p xs h

@@ -1,11 +1,11 @@
--- What a row costs.
+-- What a configuration costs.
 use Rattle.std.specs.Prelude.{◌≡◌, ℕ, ◌+◌, ◌*◌, Bool, true, nat_le, List, [], ◌∷◌, length, slice_index, sum_by, All}
 use Rattle.tomex_rvdec.specs.Parts.{place_of_pool}
 use Rattle.tomex_rvdec.specs.declared.pool.PoolId.{PoolId}
 use Rattle.tomex_rvdec.specs.declared.pool.PoolId.TheVariants as pools
 use Rattle.tomex_rvdec.specs.declared.pool.UnitId.{UnitId}
 use Rattle.tomex_rvdec.specs.declared.pool.UnitId.TheVariants as units
-use Rattle.tomex_config.specs.Row.{Row, stations_of, option_of}
+use Rattle.tomex_config.specs.Configuration.{Configuration, stations_of, option_of}
 
 -- the price of a station of each pool, in their order, that of a bus, and that of each instruction that
 -- may issue in a cycle
@@ -32,14 +32,14 @@ all_pools = pools.Alu ∷ pools.Mul ∷ pools.Div ∷ pools.Load ∷ pools.Store
 abbrev pub all_units : List UnitId
 all_units = units.Alu ∷ units.Mul ∷ units.Div ∷ units.Mem ∷ units.Bru ∷ []
 
-abbrev pub stations_cost : Row → PriceList → ℕ
-stations_cost row prices = sum_by (λ pool. stations_of row pool * price_of prices pool) all_pools
+abbrev pub stations_cost : Configuration → PriceList → ℕ
+stations_cost config prices = sum_by (λ pool. stations_of config pool * price_of prices pool) all_pools
 
-abbrev pub options_cost : Row → ℕ
-options_cost row = sum_by (λ unit. (option_of row unit).price) all_units
+abbrev pub options_cost : Configuration → ℕ
+options_cost config = sum_by (λ unit. (option_of config unit).price) all_units
 
 -- each pool's stations times its price, the prices of the chosen options, the buses times the
 -- price of a bus, and the width times its price
-abbrev pub cost_of : Row → PriceList → ℕ
-cost_of row prices =
-    stations_cost row prices + options_cost row + row.buses * prices.bus + row.width * prices.width
+abbrev pub cost_of : Configuration → PriceList → ℕ
+cost_of config prices =
+    stations_cost config prices + options_cost config + config.buses * prices.bus + config.width * prices.width

@@ -1,8 +1,8 @@
 -- The grid of some axes: the product of their lists, or why there is none.
 use Rattle.std.specs.Prelude.{◌≡◌, ℕ, ◌*◌, ◌&&◌, ◌==◌, nat_lt, not, Bool, List, [], ◌∷◌, length, if◌then◌else◌, Result, Ok, Err}
 use Rattle.std.specs.List.{flat_map, list_all, list_any}
-use Rattle.tomex_config.specs.Row.{Row, is_between, is_option}
-use Rattle.tomex_config.specs.declared.row.UnitOption.{UnitOption}
+use Rattle.tomex_config.specs.Configuration.{Configuration, is_between, is_option}
+use Rattle.tomex_config.specs.declared.config.UnitOption.{UnitOption}
 use Rattle.tomex_config.specs.declared.axis.Axes.{Axes}
 use Rattle.tomex_config.specs.declared.product.GridError.{GridError}
 use Rattle.tomex_config.specs.declared.product.GridError.TheVariants.{EmptyAxis, OutOfRange, TooMany, Memory}
@@ -46,7 +46,7 @@ abbrev ◌>>=◌ : {X Y : Type 0} → List X → (X → List Y) → List Y
 values >>= follows = flat_map follows values
 
 -- the product of the lists: each choice of a value from each, the last list fastest
-unfoldable pub rows_of : Lists → List Row
+unfoldable pub rows_of : Lists → List Configuration
 rows_of axes = do
   alu ← axes.alu
   mul ← axes.mul
@@ -107,12 +107,12 @@ product (n ∷ ns) = n * product ns
 unfoldable pub is_above_limit : List ℕ → Bool
 is_above_limit lengths = nat_lt 16384 (product lengths)
 
--- more rows than a study may have
+-- more configurations than a study may have
 abbrev pub is_too_large : Lists → Bool
 is_too_large axes = is_above_limit (lengths axes)
 
--- the rows of the axes, or the first of these faults
-unfoldable pub grid_of : Lists → Result (List Row) GridError
+-- the configurations of the axes, or the first of these faults
+unfoldable pub grid_of : Lists → Result (List Configuration) GridError
 grid_of axes =
     if has_empty axes then Err EmptyAxis
     else if not (in_range axes) then Err OutOfRange
@@ -120,10 +120,10 @@ grid_of axes =
     else Ok (rows_of axes)
 
 -- the grid was returned, or memory ran out
-abbrev pub Fails : GridError → Result (List Row) GridError → Type 0
+abbrev pub Fails : GridError → Result (List Configuration) GridError → Type 0
 Fails Memory grid = Unit {0}
 Fails error grid = grid ≡ Err error
 
-abbrev pub Gives : {X : Type 0} → (X → List Row) → Result X GridError → Result (List Row) GridError → Type 0
+abbrev pub Gives : {X : Type 0} → (X → List Configuration) → Result X GridError → Result (List Configuration) GridError → Type 0
 Gives view (Ok rows) grid = grid ≡ Ok (view rows)
 Gives view (Err error) grid = Fails error grid

@@ -1,4 +1,4 @@
-pub mod Row
+pub mod Configuration
 pub mod Cost
 pub mod Grid
 pub mod Vary

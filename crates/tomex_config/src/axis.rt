@@ -1,14 +1,14 @@
-//! The axes of a grid: the values that each part of a row takes.
+//! The axes of a grid: the values that each part of a configuration takes.
 
 ghost use Rattle.std.specs.Prelude.{◌≡◌, ◌==◌, nat_lt, false};
 ghost use Rattle.std.specs.List.{list_all};
-ghost use Rattle.tomex_config.specs.Row.{is_between, is_option};
+ghost use Rattle.tomex_config.specs.Configuration.{is_between, is_option};
 ghost use Rattle.tomex_config.specs.Grid.{lists_of, lengths, has_zero, product, has_empty, stations_in_range, options_in_range, rest_in_range, in_range, is_above_limit, is_too_large};
 
-use crate::row::{UnitOption, is_option};
+use crate::config::{UnitOption, is_option};
 use std::alloc::{Allocator, Global};
 
-/// A list of values for each part of a row: the stations of the six pools, the options for the
+/// A list of values for each part of a configuration: the stations of the six pools, the options for the
 /// five kinds of unit, the buses, and the issue width. The values may be out of the limits, and a
 /// value may stand twice.
 #[derive(Debug, Drop)]
@@ -28,7 +28,7 @@ pub struct Axes<A: Allocator = Global> {
     pub width: Vec<u8, A>,
 }
 
-/// The most rows that a grid has.
+/// The most configurations that a grid has.
 const MOST_ROWS: usize = 16_384;
 
 /// Whether one of the lengths is 0.
@@ -137,7 +137,7 @@ impl<A: Allocator> Axes<A> {
         has_zero(self.lengths().as_slice())
     }
 
-    /// Whether each value is within the limits of a row.
+    /// Whether each value is within the limits of a configuration.
     #[tactic(auto, unfolding(crate::specs::Grid::in_range))]
     pub fn is_in_range(&self) -> bool
         ensures { result ≡ in_range (lists_of self.now) }
@@ -145,7 +145,7 @@ impl<A: Allocator> Axes<A> {
         self.are_stations_in_range() && self.are_options_in_range() && self.are_rest_in_range()
     }
 
-    /// Whether there are more than 16,384 rows. It takes no memory, and may be asked of any axes.
+    /// Whether there are more than 16,384 configurations. It takes no memory, and may be asked of any axes.
     pub fn is_too_large(&self) -> bool
         ensures { result ≡ is_too_large (lists_of self.now) }
     {

@@ -1,5 +1,5 @@
-//! Configurations of a Tomasulo machine, called rows: their parts, what they cost, and the grid of
-//! all rows that the axes of a study span.
+//! Configurations of a Tomasulo machine: their parts, what they cost, and the grid of
+//! all configurations that the axes of a study span.
 //!
 //! Source of the parts: R. M. Tomasulo, "An Efficient Algorithm for Exploiting Multiple Arithmetic
 //! Units", 1967, and the chapter on Tomasulo's algorithm in Hennessy and Patterson's "Computer
@@ -7,11 +7,11 @@
 #![tactic(auto)]
 
 mod axis;
+mod config;
 mod price;
 mod product;
-mod row;
 
 pub use axis::Axes;
+pub use config::{Config, UnitOption};
 pub use price::{Prices, cost};
 pub use product::{GridError, grid};
-pub use row::{Config, UnitOption};

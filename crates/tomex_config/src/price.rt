@@ -1,11 +1,11 @@
-//! What a row costs.
+//! What a configuration costs.
 
 ghost use Rattle.std.specs.Prelude.{◌≡◌, ◌≤◌, ◌*◌, true};
 ghost use Rattle.std.specs.List.{list_all};
-ghost use Rattle.tomex_config.specs.Row.{stations_of, option_of};
+ghost use Rattle.tomex_config.specs.Configuration.{stations_of, option_of};
 ghost use Rattle.tomex_config.specs.Cost.{is_price, price_of, stations_cost, options_cost, cost_of};
 
-use crate::row::Config;
+use crate::config::Config;
 use std::marker::Model;
 use tomex_rvdec::{PoolId, UnitId};
 
@@ -72,52 +72,52 @@ impl Prices {
 }
 
 /// What the stations of one pool cost.
-fn pool_cost(row: &Config, prices: &Prices, pool: PoolId) -> u64
-    ensures cost { result ≡ stations_of row.now pool * price_of prices.now pool }
+fn pool_cost(config: &Config, prices: &Prices, pool: PoolId) -> u64
+    ensures cost { result ≡ stations_of config.now pool * price_of prices.now pool }
     ensures bound { result ≤ 16000000 }
 {
-    u64::from(row.stations(pool)) * u64::from(prices.station(pool))
+    u64::from(config.stations(pool)) * u64::from(prices.station(pool))
 }
 
 /// What the stations of all pools cost.
-fn stations_cost(row: &Config, prices: &Prices) -> u64
-    ensures cost { result ≡ stations_cost row.now prices.now }
+fn stations_cost(config: &Config, prices: &Prices) -> u64
+    ensures cost { result ≡ stations_cost config.now prices.now }
     ensures bound { result ≤ 96000000 }
 {
     let mut total = 0;
     for pool in PoolId::ALL {
-        total += pool_cost(row, prices, pool);
+        total += pool_cost(config, prices, pool);
     }
     total
 }
 
 /// What the chosen option for one kind of unit costs.
-fn option_cost(row: &Config, unit: UnitId) -> u64
-    ensures cost { result ≡ (option_of row.now unit).price }
+fn option_cost(config: &Config, unit: UnitId) -> u64
+    ensures cost { result ≡ (option_of config.now unit).price }
     ensures bound { result ≤ 1000000 }
 {
-    u64::from(row.option(unit).price)
+    u64::from(config.option(unit).price)
 }
 
 /// What the chosen options cost.
-fn options_cost(row: &Config) -> u64
-    ensures cost { result ≡ options_cost row.now }
+fn options_cost(config: &Config) -> u64
+    ensures cost { result ≡ options_cost config.now }
     ensures bound { result ≤ 5000000 }
 {
     let mut total = 0;
     for unit in UnitId::ALL {
-        total += option_cost(row, unit);
+        total += option_cost(config, unit);
     }
     total
 }
 
-/// What a row costs: its stations, its buses and its width at these prices, and its options at their
+/// What a configuration costs: its stations, its buses and its width at these prices, and its options at their
 /// own.
-pub fn cost(row: &Config, prices: &Prices) -> u64
-    ensures cost { result ≡ cost_of row.now prices.now }
+pub fn cost(config: &Config, prices: &Prices) -> u64
+    ensures cost { result ≡ cost_of config.now prices.now }
     ensures bound { result ≤ 113000000 }
 {
-    let buses = u64::from(row.buses()) * u64::from(prices.bus());
-    let width = u64::from(row.width()) * u64::from(prices.width());
-    stations_cost(row, prices) + options_cost(row) + buses + width
+    let buses = u64::from(config.buses()) * u64::from(prices.bus());
+    let width = u64::from(config.width()) * u64::from(prices.width());
+    stations_cost(config, prices) + options_cost(config) + buses + width
 }

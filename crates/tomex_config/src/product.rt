@@ -1,13 +1,13 @@
-//! The rows of a grid: the product of its axes, made one axis after another.
+//! The configurations of a grid: the product of its axes, made one axis after another.
 
 ghost use Rattle.std.specs.Prelude.{◌≡◌, ◌≤◌, length, IfOk, true};
 ghost use Rattle.std.specs.List.{list_all};
-ghost use Rattle.tomex_config.specs.Row.{is_between, is_option, most_units, with_stations, with_option, with_buses, with_width};
+ghost use Rattle.tomex_config.specs.Configuration.{is_between, is_option, most_units, with_stations, with_option, with_buses, with_width};
 ghost use Rattle.tomex_config.specs.Grid.{lists_of, stations_in_range, options_in_range, rest_in_range, in_range, rows_of, grid_of, Gives};
 ghost use Rattle.tomex_config.specs.Vary.{vary, station_rows, option_rows, bus_rows};
 
 use crate::axis::Axes;
-use crate::row::{Config, UnitOption};
+use crate::config::{Config, UnitOption};
 use std::alloc::{AllocError, Allocator};
 use thiserror::Error;
 use tomex_rvdec::{PoolId, UnitId};
@@ -19,14 +19,14 @@ pub enum GridError {
     EmptyAxis,
     #[error("a value is out of range")]
     OutOfRange,
-    /// There are more than 16,384 rows.
+    /// There are more than 16,384 configurations.
     #[error("too many configurations")]
     TooMany,
     #[error("out of memory")]
     Memory,
 }
 
-/// Each row, once with each number of stations in a pool.
+/// Each configuration, once with each number of stations in a pool.
 fn vary_stations<A: Allocator>(
     alloc: A,
     rows: &[Config],
@@ -37,15 +37,15 @@ fn vary_stations<A: Allocator>(
     ensures { IfOk result (λ v. v.items ≡ vary (with_stations pool) counts.now rows.now) }
 {
     let mut varied = Vec::new(alloc);
-    for row in rows {
+    for config in rows {
         for count in counts {
-            varied.push(row.with_stations(pool, *count))?;
+            varied.push(config.with_stations(pool, *count))?;
         }
     }
     Ok(varied)
 }
 
-/// Each row, once with each option for a kind of unit.
+/// Each configuration, once with each option for a kind of unit.
 fn vary_option<A: Allocator>(
     alloc: A,
     rows: &[Config],
@@ -56,15 +56,15 @@ fn vary_option<A: Allocator>(
     ensures { IfOk result (λ v. v.items ≡ vary (with_option unit) options.now rows.now) }
 {
     let mut varied = Vec::new(alloc);
-    for row in rows {
+    for config in rows {
         for option in options {
-            varied.push(row.with_option(unit, *option))?;
+            varied.push(config.with_option(unit, *option))?;
         }
     }
     Ok(varied)
 }
 
-/// Each row, once with each number of buses.
+/// Each configuration, once with each number of buses.
 fn vary_buses<A: Allocator>(
     alloc: A,
     rows: &[Config],
@@ -74,15 +74,15 @@ fn vary_buses<A: Allocator>(
     ensures { IfOk result (λ v. v.items ≡ vary with_buses buses.now rows.now) }
 {
     let mut varied = Vec::new(alloc);
-    for row in rows {
+    for config in rows {
         for count in buses {
-            varied.push(row.with_buses(*count))?;
+            varied.push(config.with_buses(*count))?;
         }
     }
     Ok(varied)
 }
 
-/// Each row, once with each width.
+/// Each configuration, once with each width.
 fn vary_width<A: Allocator>(
     alloc: A,
     rows: &[Config],
@@ -92,15 +92,15 @@ fn vary_width<A: Allocator>(
     ensures { IfOk result (λ v. v.items ≡ vary with_width widths.now rows.now) }
 {
     let mut varied = Vec::new(alloc);
-    for row in rows {
+    for config in rows {
         for width in widths {
-            varied.push(row.with_width(*width))?;
+            varied.push(config.with_width(*width))?;
         }
     }
     Ok(varied)
 }
 
-/// A row for each choice of stations.
+/// A configuration for each choice of stations.
 fn station_rows<A: Allocator + Clone>(
     alloc: A,
     axes: &Axes<A>,
@@ -117,7 +117,7 @@ fn station_rows<A: Allocator + Clone>(
     vary_stations(alloc, &rows, PoolId::Bru, &axes.bru)
 }
 
-/// A row for each choice of stations and options.
+/// A configuration for each choice of stations and options.
 fn option_rows<A: Allocator + Clone>(alloc: A, axes: &Axes<A>) -> Result<Vec<Config, A>, AllocError>
     requires stations { stations_in_range (lists_of axes.now) ≡ true }
     requires options { options_in_range (lists_of axes.now) ≡ true }
@@ -131,7 +131,7 @@ fn option_rows<A: Allocator + Clone>(alloc: A, axes: &Axes<A>) -> Result<Vec<Con
     vary_option(alloc, &rows, UnitId::Bru, &axes.bru_units)
 }
 
-/// A row for each choice of stations, options and buses.
+/// A configuration for each choice of stations, options and buses.
 fn bus_rows<A: Allocator + Clone>(alloc: A, axes: &Axes<A>) -> Result<Vec<Config, A>, AllocError>
     requires stations { stations_in_range (lists_of axes.now) ≡ true }
     requires options { options_in_range (lists_of axes.now) ≡ true }
@@ -142,7 +142,7 @@ fn bus_rows<A: Allocator + Clone>(alloc: A, axes: &Axes<A>) -> Result<Vec<Config
     vary_buses(alloc, &rows, &axes.buses)
 }
 
-/// A row for each choice of all parts.
+/// A configuration for each choice of all parts.
 #[tactic(auto, unfolding(crate::specs::Grid::in_range))]
 fn rows_of<A: Allocator + Clone>(alloc: A, axes: &Axes<A>) -> Result<Vec<Config, A>, AllocError>
     requires { in_range (lists_of axes.now) ≡ true }
@@ -152,8 +152,8 @@ fn rows_of<A: Allocator + Clone>(alloc: A, axes: &Axes<A>) -> Result<Vec<Config,
     vary_width(alloc, &rows, &axes.width)
 }
 
-/// The rows of the axes: each choice of a value from each list is a row, and the last axis varies
-/// fastest. There are at most 16,384. A value that stands twice gives two rows.
+/// The configurations of the axes: each choice of a value from each list is a configuration, and the last axis varies
+/// fastest. There are at most 16,384. A value that stands twice gives two configurations.
 #[tactic(auto, using(crate::proofs::Counted::row_count), unfolding(crate::specs::Grid::grid_of))]
 pub fn grid<A: Allocator + Clone>(alloc: A, axes: &Axes<A>) -> Result<Vec<Config, A>, GridError>
     ensures exact { Gives (λ v. v.items) result (grid_of (lists_of axes.now)) }

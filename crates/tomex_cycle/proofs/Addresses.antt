@@ -6,7 +6,7 @@ use Rattle.std.proofs.lemmas.Bool.{cases_Bool, ltb-true, lt-ltb, leb-true, leb-f
 use Rattle.std.proofs.lemmas.List.{get_or-set_same, get_or-set_other, length-set}
 use Rattle.tomex_rvexec.specs.Steps.{step_pool}
 use Rattle.tomex_cycle.specs.Phases.{MakesAddress}
-use Rattle.tomex_config.specs.Row.{Row, IsRow}
+use Rattle.tomex_config.specs.Configuration.{Configuration, IsWithinLimits}
 use Rattle.tomex_timing.specs.declared.times.Done.{Done}
 use Rattle.tomex_timing.specs.History.{cycle_of, is_memory, last_address}
 use Rattle.tomex_timing.specs.Recurrence.{AreTimed, IsTimed, IsLeast, can_address}
@@ -55,13 +55,13 @@ address_least : (d : Done) (older : List Done) (memory : Bool) → memory ≡ tr
 address_least d older true e h = h
 address_least d older false e h = absurd (cc)
 
-pub address_is : (row : Row) (d : Done) (older : List Done) → IsTimed row older d.step d.at → is_memory d.step ≡ true → IsLeast (can_address older d.step d.at.issue) (cycle_of d.at.address)
-address_is row d older timed e = address_least d older (is_memory d.step) e timed.address
+pub address_is : (config : Configuration) (d : Done) (older : List Done) → IsTimed config older d.step d.at → is_memory d.step ≡ true → IsLeast (can_address older d.step d.at.issue) (cycle_of d.at.address)
+address_is config d older timed e = address_least d older (is_memory d.step) e timed.address
 
 -- addresses are computed in program order
-pub address_rises : (row : Row) (d : Done) (older : List Done) → IsTimed row older d.step d.at → is_memory d.step ≡ true → last_address older < cycle_of d.at.address
-address_rises row d older timed e =
-    let l = address_is row d older timed e in
+pub address_rises : (config : Configuration) (d : Done) (older : List Done) → IsTimed config older d.step d.at → is_memory d.step ≡ true → last_address older < cycle_of d.at.address
+address_rises config d older timed e =
+    let l = address_is config d older timed e in
     let two = and_parts _ (nat_lt (last_address older) (cycle_of d.at.address)) l.0 in
     ltb-true _ _ two.1
 
@@ -74,20 +74,20 @@ or_none None b e = (refl, e)
 or_none (Some x) b e = absurd (cc)
 
 -- where none waits all addresses are made
-pub none_waits : (row : Row) (t : ℕ) (h : List Done) → IsRow row → AreTimed row h → AreIssuedBy t h → chosen t h ≡ None → last_address h ≤ t
-none_waits row t [] good timed issued e = omega arith
-none_waits row t (d ∷ older) good timed issued e =
+pub none_waits : (config : Configuration) (t : ℕ) (h : List Done) → IsWithinLimits config → AreTimed config h → AreIssuedBy t h → chosen t h ≡ None → last_address h ≤ t
+none_waits config t [] good timed issued e = omega arith
+none_waits config t (d ∷ older) good timed issued e =
     let two = or_none (chosen t older) (if waits_for_address t d then place_of d else None) e in
     elim (cases_Bool (is_memory d.step)) [
-      | inr m ↦ rw m (none_waits row t older good timed.1 issued.1 two.0)
+      | inr m ↦ rw m (none_waits config t older good timed.1 issued.1 two.0)
       | inl m ↦ rw m (elim (cases_Bool (nat_le (cycle_of d.at.address) t)) [
         | inl l ↦ leb-true _ _ l
         | inr l ↦
             let k : t < cycle_of d.at.address = leb-false _ _ l in
-            let r : cycle_of d.at.address ≤ d.at.end = (reach row d older good timed).address in
+            let r : cycle_of d.at.address ≤ d.at.end = (reach config d older good timed).address in
             let busy : waits_for_address t d ≡ true = rw (lt-ltb t d.at.end (omega arith), m, l) refl in
             let f : place_of d ≡ None = rw busy at two.1 in
-            absurd (some_none_of 0 (place_of d) (place_there row d older timed.0 (let i : d.at.issue ≤ t = issued.0 in omega arith)) f)
+            absurd (some_none_of 0 (place_of d) (place_there config d older timed.0 (let i : d.at.issue ≤ t = issued.0 in omega arith)) f)
       ])
     ]
 
@@ -105,14 +105,14 @@ and_true : (a : Bool) → a ≡ ((true && a) && true)
 and_true true = refl
 and_true false = refl
 
-some_waits_by : (row : Row) (t y : ℕ) (d : Done) (older : List Done) (o : Option ℕ) → IsTimed row older d.step d.at → chosen t older ≡ o → ((z : ℕ) → chosen t older ≡ Some z → t < last_address older) → or_else o (if waits_for_address t d then place_of d else None) ≡ Some y → t < last_address (d ∷ older)
-some_waits_by row t y d older (Some z) timed e before f =
+some_waits_by : (config : Configuration) (t y : ℕ) (d : Done) (older : List Done) (o : Option ℕ) → IsTimed config older d.step d.at → chosen t older ≡ o → ((z : ℕ) → chosen t older ≡ Some z → t < last_address older) → or_else o (if waits_for_address t d then place_of d else None) ≡ Some y → t < last_address (d ∷ older)
+some_waits_by config t y d older (Some z) timed e before f =
     let l : t < last_address older = before z e in
     elim (cases_Bool (is_memory d.step)) [
       | inr m ↦ rw m l
-      | inl m ↦ let k : last_address older < cycle_of d.at.address = address_rises row d older timed m in rw m (omega arith)
+      | inl m ↦ let k : last_address older < cycle_of d.at.address = address_rises config d older timed m in rw m (omega arith)
     ]
-some_waits_by row t y d older None timed e before f = elim (cases_Bool (waits_for_address t d)) [
+some_waits_by config t y d older None timed e before f = elim (cases_Bool (waits_for_address t d)) [
   | inr w ↦ let g : None ≡ Some y = rw w at f in absurd (cc)
   | inl w ↦
       let a = and_parts (nat_lt t d.at.end) (is_memory d.step && not (nat_le (cycle_of d.at.address) t)) w in
@@ -122,9 +122,9 @@ some_waits_by row t y d older None timed e before f = elim (cases_Bool (waits_fo
 ]
 
 -- and where one waits the last address is still to come
-pub some_waits : (row : Row) (t y : ℕ) (h : List Done) → AreTimed row h → chosen t h ≡ Some y → t < last_address h
-some_waits row t y [] timed e = absurd (cc)
-some_waits row t y (d ∷ older) timed e = some_waits_by row t y d older (chosen t older) timed.0 refl (λ z f. some_waits row t z older timed.1 f) e
+pub some_waits : (config : Configuration) (t y : ℕ) (h : List Done) → AreTimed config h → chosen t h ≡ Some y → t < last_address h
+some_waits config t y [] timed e = absurd (cc)
+some_waits config t y (d ∷ older) timed e = some_waits_by config t y d older (chosen t older) timed.0 refl (λ z f. some_waits config t z older timed.1 f) e
 
 pub holds_by : (t y : ℕ) (d : Done) → place_of d ≡ Some y → waits_for_address t d ≡ true → holds_place t y d ≡ true
 holds_by t y d e w =
@@ -166,11 +166,11 @@ pub memory_j : (x : Step) → is_memory x ≡ true → j_of x ≡ Some (operand 
 memory_j x e = ap (option_map (operand x.vj)) (memory_j_op x.instr.op x.instr.rs1 x.instr.rs2 e)
 
 -- the address test of the next cycle, where no older address is to come
-pub test_is : (row : Row) (t u : ℕ) (d : Done) (older : List Done) → IsTimed row older d.step d.at → AreTimed row older → AreIssuedBy t (d ∷ older) → u ≡ t + 1 → is_memory d.step ≡ true → last_address older ≤ t → t < cycle_of d.at.address
+pub test_is : (config : Configuration) (t u : ℕ) (d : Done) (older : List Done) → IsTimed config older d.step d.at → AreTimed config older → AreIssuedBy t (d ∷ older) → u ≡ t + 1 → is_memory d.step ≡ true → last_address older ≤ t → t < cycle_of d.at.address
     → is_there (field_of t older (j_of d.step)) ≡ (cycle_of d.at.address == u)
-test_is row t u d older timed before issued e m last late =
-    let test : can_address older d.step d.at.issue u ≡ (cycle_of d.at.address == u) = least_test (can_address older d.step d.at.issue) (cycle_of d.at.address) u (address_is row d older timed m) (omega arith) in
-    let there : is_there (field_of t older (j_of d.step)) ≡ nat_lt (source_end older (j_of d.step)) (t + 1) = there_test row t older (j_of d.step) before issued.1 in
+test_is config t u d older timed before issued e m last late =
+    let test : can_address older d.step d.at.issue u ≡ (cycle_of d.at.address == u) = least_test (can_address older d.step d.at.issue) (cycle_of d.at.address) u (address_is config d older timed m) (omega arith) in
+    let there : is_there (field_of t older (j_of d.step)) ≡ nat_lt (source_end older (j_of d.step)) (t + 1) = there_test config t older (j_of d.step) before issued.1 in
     let i : d.at.issue ≤ t = issued.0 in
     there ∙ (rw (← e) (and_true (nat_lt (source_end older (j_of d.step)) u)) ∙ rw (lt-ltb d.at.issue u (omega arith), lt-ltb (last_address older) u (omega arith)) at test)
 
@@ -251,34 +251,34 @@ free_by t x d None s free = elim (cases_Bool (waits_for_address t d)) [
 ]
 
 -- a busy step's station, where an older step waits or none does
-held_by : (i : Loaded) (row : Row) (t u x : ℕ) (d : Done) (older : List Done) (o : Option ℕ) → IsRow row → AreTimed row (d ∷ older) → AreIssuedBy t (d ∷ older) → u ≡ t + 1 → holds_place t x d ≡ true → chosen t older ≡ o
+held_by : (i : Loaded) (config : Configuration) (t u x : ℕ) (d : Done) (older : List Done) (o : Option ℕ) → IsWithinLimits config → AreTimed config (d ∷ older) → AreIssuedBy t (d ∷ older) → u ≡ t + 1 → holds_place t x d ≡ true → chosen t older ≡ o
     → Some (station_of i (clocks u u t) d older) ≡ given_at (or_else o (if waits_for_address t d then place_of d else None)) x (Some (station_of i (clocks u t t) d older))
-held_by i row t u x d older (Some y) good timed issued e held c =
-    let free : is_vacant t x older ≡ true = vacant row d older t x good timed (let l : d.at.issue ≤ t = issued.0 in omega arith) (and_parts (is_number (place_of d) x) (nat_lt t d.at.end) held).0 in
+held_by i config t u x d older (Some y) good timed issued e held c =
+    let free : is_vacant t x older ≡ true = vacant config d older t x good timed (let l : d.at.issue ≤ t = issued.0 in omega arith) (and_parts (is_number (place_of d) x) (nat_lt t d.at.end) held).0 in
     let other : Some y ≡ Some x → ⊥ = λ z. chosen_held t x older (c ∙ z) free in
-    let last : t < last_address older = some_waits row t y older timed.1 c in
+    let last : t < last_address older = some_waits config t y older timed.1 c in
     let same : a_by u d ≡ a_by t d = elim (cases_Bool (is_memory d.step)) [
       | inr m ↦ rw m refl
-      | inl m ↦ let k : last_address older < cycle_of d.at.address = address_rises row d older timed.0 m in a_none u d (omega arith) ∙ sym (a_none t d (omega arith))
+      | inl m ↦ let k : last_address older < cycle_of d.at.address = address_rises config d older timed.0 m in a_none u d (omega arith) ∙ sym (a_none t d (omega arith))
     ] in
     ap (λ (k : Station). Some k) (with_a i u t d older same) ∙ sym (given_other (Some y) x (Some (station_of i (clocks u t t) d older)) other)
-held_by i row t u x d older None good timed issued e held c = elim (cases_Bool (waits_for_address t d)) [
+held_by i config t u x d older None good timed issued e held c = elim (cases_Bool (waits_for_address t d)) [
   | inr w ↦ rw w (ap (λ (k : Station). Some k) (with_a i u t d older (idle_same t u d x held e w)))
   | inl w ↦
       let a = and_parts (nat_lt t d.at.end) (is_memory d.step && not (nat_le (cycle_of d.at.address) t)) w in
       let b = and_parts (is_memory d.step) (not (nat_le (cycle_of d.at.address) t)) a.1 in
       let late : t < cycle_of d.at.address = not_le (cycle_of d.at.address) t b.1 in
-      let last : last_address older ≤ t = none_waits row t older good timed.1 issued.1 c in
-      let there = test_is row t u d older timed.0 timed.1 issued e b.0 last late in
+      let last : last_address older ≤ t = none_waits config t older good timed.1 issued.1 c in
+      let there = test_is config t u d older timed.0 timed.1 issued e b.0 last late in
       rw (w, given_here (place_of d) x (Some (station_of i (clocks u t t) d older)) (place_by d t x held)) (ap (λ (k : Station). Some k) (given i u t d older there late e b.0))
 ]
 
 -- the chosen place gets its address, and no other
-pub addresses_at : (i : Loaded) (row : Row) (t u x : ℕ) (h : List Done) → IsRow row → AreTimed row h → AreIssuedBy t h → u ≡ t + 1 → station_at i (clocks u u t) h x ≡ given_at (chosen t h) x (station_at i (clocks u t t) h x)
-addresses_at i row t u x [] good timed issued e = refl
-addresses_at i row t u x (d ∷ older) good timed issued e = elim (cases_Bool (holds_place t x d)) [
-  | inl held ↦ rw held (held_by i row t u x d older (chosen t older) good timed issued e held refl)
-  | inr free ↦ rw free (addresses_at i row t u x older good timed.1 issued.1 e ∙ free_by t x d (chosen t older) (station_at i (clocks u t t) older x) free)
+pub addresses_at : (i : Loaded) (config : Configuration) (t u x : ℕ) (h : List Done) → IsWithinLimits config → AreTimed config h → AreIssuedBy t h → u ≡ t + 1 → station_at i (clocks u u t) h x ≡ given_at (chosen t h) x (station_at i (clocks u t t) h x)
+addresses_at i config t u x [] good timed issued e = refl
+addresses_at i config t u x (d ∷ older) good timed issued e = elim (cases_Bool (holds_place t x d)) [
+  | inl held ↦ rw held (held_by i config t u x d older (chosen t older) good timed issued e held refl)
+  | inr free ↦ rw free (addresses_at i config t u x older good timed.1 issued.1 e ∙ free_by t x d (chosen t older) (station_at i (clocks u t t) older x) free)
 ]
 
 first-append : (slots : List (Option Station)) (xs : List ℕ) (x : ℕ) → first_waiting slots (xs ++ (x ∷ [])) ≡ or_else (first_waiting slots xs) (if lacks_address (slice_index_or slots x None) then Some x else None)
@@ -297,23 +297,23 @@ pub order_here : (t x : ℕ) (d : Done) (older : List Done) → place_of d ≡ S
 order_here t x d older e l = rw (l, e) refl
 
 -- the pass over the order finds what the history says
-pub waiting_is : (i : Loaded) (row : Row) (t u : ℕ) (st : Pools) (h newer part : List Done) → IsRow row → AreTimed row h → AreIssuedBy t h → ShowsStations i (clocks u t t) h st → h ≡ newer ++ part → first_waiting st.slots (order_of t part) ≡ chosen t part
-waiting_is i row t u st h newer [] good timed issued shown e = refl
-waiting_is i row t u st h newer (d ∷ older) good timed issued shown e =
-    let before : first_waiting st.slots (order_of t older) ≡ chosen t older = waiting_is i row t u st h (newer ++ (d ∷ [])) older good timed issued shown (e ∙ sym (append_assoc newer (d ∷ []) older)) in
-    let here : AreTimed row (newer ++ (d ∷ older)) = rw e at timed in
+pub waiting_is : (i : Loaded) (config : Configuration) (t u : ℕ) (st : Pools) (h newer part : List Done) → IsWithinLimits config → AreTimed config h → AreIssuedBy t h → ShowsStations i (clocks u t t) h st → h ≡ newer ++ part → first_waiting st.slots (order_of t part) ≡ chosen t part
+waiting_is i config t u st h newer [] good timed issued shown e = refl
+waiting_is i config t u st h newer (d ∷ older) good timed issued shown e =
+    let before : first_waiting st.slots (order_of t older) ≡ chosen t older = waiting_is i config t u st h (newer ++ (d ∷ [])) older good timed issued shown (e ∙ sym (append_assoc newer (d ∷ []) older)) in
+    let here : AreTimed config (newer ++ (d ∷ older)) = rw e at timed in
     let by : AreIssuedBy t (newer ++ (d ∷ older)) = rw e at issued in
     elim (cases_Bool (nat_lt t d.at.end)) [
       | inr l ↦ rw l (before ∙ sym (or_else_none (chosen t older)))
       | inl l ↦
           let k : t < d.at.end = ltb-true _ _ l in
-          let part : AreTimed row (d ∷ older) = timed_part row newer (d ∷ older) here in
+          let part : AreTimed config (d ∷ older) = timed_part config newer (d ∷ older) here in
           let at : d.at.issue ≤ t = (issued_part t newer (d ∷ older) by).0 in
-          let tag = tag_there row d older t part.0 at k in
+          let tag = tag_there config d older t part.0 at k in
           let place : place_of d ≡ Some (place_of_tag tag.0) = ap place_at tag.1 in
           let held : holds_place t (place_of_tag tag.0) d ≡ true = rw (place, l, eq-eqb (place_of_tag tag.0) (place_of_tag tag.0) refl) refl in
-          let small : place_of_tag tag.0 < 96 = place_low (step_pool d.step) d.at.station (place_of_tag tag.0) (low row (d ∷ older) good part).0 place in
-          let there : station_at i (clocks u t t) (newer ++ (d ∷ older)) (place_of_tag tag.0) ≡ Some (station_of i (clocks u t t) d older) = station_here i row (clocks u t t) newer d older (place_of_tag tag.0) good here (issued_more t (t + 1) (newer ++ (d ∷ older)) (omega arith) by) held in
+          let small : place_of_tag tag.0 < 96 = place_low (step_pool d.step) d.at.station (place_of_tag tag.0) (low config (d ∷ older) good part).0 place in
+          let there : station_at i (clocks u t t) (newer ++ (d ∷ older)) (place_of_tag tag.0) ≡ Some (station_of i (clocks u t t) d older) = station_here i config (clocks u t t) newer d older (place_of_tag tag.0) good here (issued_more t (t + 1) (newer ++ (d ∷ older)) (omega arith) by) held in
           let slot : slice_index_or st.slots (place_of_tag tag.0) None ≡ Some (station_of i (clocks u t t) d older) = shown.slots (place_of_tag tag.0) small ∙ (ap (λ xs. station_at i (clocks u t t) xs (place_of_tag tag.0)) e ∙ there) in
           let same : lacks_address (slice_index_or st.slots (place_of_tag tag.0) None) ≡ waits_for_address t d = rw (slot, l) (lacks_by (is_memory d.step) (nat_le (cycle_of d.at.address) t) (address_of d.step)) in
           ap (first_waiting st.slots) (order_here t (place_of_tag tag.0) d older place l) ∙ (first-append st.slots (order_of t older) (place_of_tag tag.0) ∙ rw (before, same, place) refl)
@@ -343,12 +343,12 @@ given_none x y slots none = elim (cases_Bool (x == y)) [
 
 -- the phase, by the search for the next address
 pub made_none : (next : ℕ) (old : Pools) → AreBusy old.slots old.busy old.issue_numbers → ((order : List ℕ) → IsInIssueOrder old.busy old.issue_numbers order → None ≡ next_address old.slots order) → MakesAddress next old old
-made_none next old filled none i row h t e past issued shown =
-    let by : IsInIssueOrder old.busy old.issue_numbers (order_of t h) = order_is i row (clocks next t t) h old past.lawful past.timed (issued_more t (t + 1) h (omega arith) issued) shown filled in
-    let waits : first_waiting old.slots (order_of t h) ≡ chosen t h = waiting_is i row t next old h [] h past.lawful past.timed issued shown refl in
+made_none next old filled none i config h t e past issued shown =
+    let by : IsInIssueOrder old.busy old.issue_numbers (order_of t h) = order_is i config (clocks next t t) h old past.lawful past.timed (issued_more t (t + 1) h (omega arith) issued) shown filled in
+    let waits : first_waiting old.slots (order_of t h) ≡ chosen t h = waiting_is i config t next old h [] h past.lawful past.timed issued shown refl in
     record {
       places = shown.places;
-      slots = λ x l. shown.slots x l ∙ sym (addresses_at i row t next x h past.lawful past.timed issued e ∙ sym (unmoved i t next x h old (chosen t h) (rw waits at (none (order_of t h) by)) (shown.slots x l)));
+      slots = λ x l. shown.slots x l ∙ sym (addresses_at i config t next x h past.lawful past.timed issued e ∙ sym (unmoved i t next x h old (chosen t h) (rw waits at (none (order_of t h) by)) (shown.slots x l)));
       order_count = shown.order_count;
       issue_numbers = shown.issue_numbers;
     }
@@ -360,28 +360,28 @@ made_none next old filled none i row h t e past issued shown =
       | inr k ↦ rw (← same) (given_none y x old.slots k)
     ]
 
-low_by : (row : Row) (t x : ℕ) (d : Done) (older : List Done) (o : Option ℕ) → IsRow row → AreTimed row (d ∷ older) → ((y : ℕ) → o ≡ Some y → y < 96) → or_else o (if waits_for_address t d then place_of d else None) ≡ Some x → x < 96
-low_by row t x d older (Some y) good timed before e = let f : y ≡ x = cc in rw (← f) (before y refl)
-low_by row t x d older None good timed before e = elim (cases_Bool (waits_for_address t d)) [
+low_by : (config : Configuration) (t x : ℕ) (d : Done) (older : List Done) (o : Option ℕ) → IsWithinLimits config → AreTimed config (d ∷ older) → ((y : ℕ) → o ≡ Some y → y < 96) → or_else o (if waits_for_address t d then place_of d else None) ≡ Some x → x < 96
+low_by config t x d older (Some y) good timed before e = let f : y ≡ x = cc in rw (← f) (before y refl)
+low_by config t x d older None good timed before e = elim (cases_Bool (waits_for_address t d)) [
   | inr w ↦ let z : None ≡ Some x = rw w at e in absurd (cc)
-  | inl w ↦ let f : place_of d ≡ Some x = rw w at e in place_low (step_pool d.step) d.at.station x (low row (d ∷ older) good timed).0 f
+  | inl w ↦ let f : place_of d ≡ Some x = rw w at e in place_low (step_pool d.step) d.at.station x (low config (d ∷ older) good timed).0 f
 ]
 
-chosen_low : (row : Row) (t x : ℕ) (h : List Done) → IsRow row → AreTimed row h → chosen t h ≡ Some x → x < 96
-chosen_low row t x [] good timed e = absurd (cc)
-chosen_low row t x (d ∷ older) good timed e = low_by row t x d older (chosen t older) good timed (λ y f. chosen_low row t y older good timed.1 f) e
+chosen_low : (config : Configuration) (t x : ℕ) (h : List Done) → IsWithinLimits config → AreTimed config h → chosen t h ≡ Some x → x < 96
+chosen_low config t x [] good timed e = absurd (cc)
+chosen_low config t x (d ∷ older) good timed e = low_by config t x d older (chosen t older) good timed (λ y f. chosen_low config t y older good timed.1 f) e
 
 pub made_some : (next x : ℕ) (old new : Pools) (o : Option Station) → AreBusy old.slots old.busy old.issue_numbers → ((order : List ℕ) → IsInIssueOrder old.busy old.issue_numbers order → Some x ≡ next_address old.slots order)
     → o ≡ option_map with_address (slice_index_or old.slots x None) → new.slots ≡ slice_set old.slots x o → new.issue_numbers ≡ old.issue_numbers → MakesAddress next old new
-made_some next x old new o filled some same slots issue_numbers i row h t e past issued shown =
-    let by : IsInIssueOrder old.busy old.issue_numbers (order_of t h) = order_is i row (clocks next t t) h old past.lawful past.timed (issued_more t (t + 1) h (omega arith) issued) shown filled in
-    let waits : first_waiting old.slots (order_of t h) ≡ chosen t h = waiting_is i row t next old h [] h past.lawful past.timed issued shown refl in
+made_some next x old new o filled some same slots issue_numbers i config h t e past issued shown =
+    let by : IsInIssueOrder old.busy old.issue_numbers (order_of t h) = order_is i config (clocks next t t) h old past.lawful past.timed (issued_more t (t + 1) h (omega arith) issued) shown filled in
+    let waits : first_waiting old.slots (order_of t h) ≡ chosen t h = waiting_is i config t next old h [] h past.lawful past.timed issued shown refl in
     let c : chosen t h ≡ Some x = found x old.slots (chosen t h) (rw waits at (some (order_of t h) by)) in
     let count : length old.slots ≡ 96 = shown.places in
-    let small : x < 96 = chosen_low row t x h past.lawful past.timed c in
+    let small : x < 96 = chosen_low config t x h past.lawful past.timed c in
     record {
       places = ap length slots ∙ (length-set old.slots x o ∙ shown.places);
-      slots = λ y l. ap (λ xs. slice_index_or xs y None) slots ∙ (set_at_place old.slots x y o (omega arith) same ∙ (ap (given_at (Some x) y) (shown.slots y l) ∙ sym (addresses_at i row t next y h past.lawful past.timed issued e ∙ rw c refl)));
+      slots = λ y l. ap (λ xs. slice_index_or xs y None) slots ∙ (set_at_place old.slots x y o (omega arith) same ∙ (ap (given_at (Some x) y) (shown.slots y l) ∙ sym (addresses_at i config t next y h past.lawful past.timed issued e ∙ rw c refl)));
       order_count = ap length issue_numbers ∙ shown.order_count;
       issue_numbers = λ y l. ap (λ xs. slice_index xs y) issue_numbers ∙ shown.issue_numbers y l;
     }

@@ -2,7 +2,7 @@
 use Rattle.std.proofs.Common.{ℕ, ◌+◌, ◌<◌, ◌≡◌, ◌∙◌, Bool, false, arith, refl, [], Option, None, inl, inr, slice_index_or, subst}
 use Rattle.std.specs.Prelude.{◌⊎◌}
 use Rattle.tomex_image.specs.Image.{Loaded, IsLoaded}
-use Rattle.tomex_config.specs.Row.{Row, IsRow}
+use Rattle.tomex_config.specs.Configuration.{Configuration, IsWithinLimits}
 use Rattle.tomex_rvexec.specs.declared.outcome.EndKind.{EndKind}
 use Rattle.tomex_rvexec.specs.declared.outcome.Fault.{Fault}
 use Rattle.tomex_rvexec.specs.Machine.{State}
@@ -24,19 +24,19 @@ use Rattle.tomex_cycle.proofs.Stillness.{issued_calm, issued_still}
 use Rattle.tomex_tags.specs.Pools.{Pools}
 use Rattle.tomex_tags.specs.declared.register_status.RegStatus.{RegStatus}
 
-pub cycle_calm : (i : Loaded) (row : Row) (n t next count c : ℕ) (s : State) (kind : EndKind) (fault : Option Fault) (any : Bool) (st0 st1 st4 : Pools) (rg0 rg1 : RegStatus) (ft0 ft1 : Fetch) (m0 m1 : Bytes) (f : Finishes)
-    → MakesStarts row next st0 m0 fault st1 m1 → (any ≡ false → st1.slots ≡ st0.slots) → RunEnds i n s kind → next ≡ t + 1 → IsRow row → IsLoaded i.window i.memory i.entry
-    → IsSnapshot i row n t count st0 rg0 ft0 m0 → IsSnapshot i row n next c st4 rg1 ft1 m1 → c ≡ count → st4.slots ≡ st1.slots
-    → (any ≡ false) ⊎ NoneWaits st4.slots → AreKnown st4.slots (next + 1) f → f.ready ≡ 0 → AllQuiet next (run_to row i c)
-cycle_calm i row n t next count c s kind fault any st0 st1 st4 rg0 rg1 ft0 ft1 m0 m1 f starts none ends e good loaded old now same slots how known ready =
-    let timed : AreTimed row (run_to row i c) = run_timed row i c good in
-    let before : IsSnapshot i row n t c st0 rg0 ft0 m0 = subst (λ (k : ℕ). IsSnapshot i row n t k st0 rg0 ft0 m0) (let z : count ≡ c = omega arith in z) old in
+pub cycle_calm : (i : Loaded) (config : Configuration) (n t next count c : ℕ) (s : State) (kind : EndKind) (fault : Option Fault) (any : Bool) (st0 st1 st4 : Pools) (rg0 rg1 : RegStatus) (ft0 ft1 : Fetch) (m0 m1 : Bytes) (f : Finishes)
+    → MakesStarts config next st0 m0 fault st1 m1 → (any ≡ false → st1.slots ≡ st0.slots) → RunEnds i n s kind → next ≡ t + 1 → IsWithinLimits config → IsLoaded i.window i.memory i.entry
+    → IsSnapshot i config n t count st0 rg0 ft0 m0 → IsSnapshot i config n next c st4 rg1 ft1 m1 → c ≡ count → st4.slots ≡ st1.slots
+    → (any ≡ false) ⊎ NoneWaits st4.slots → AreKnown st4.slots (next + 1) f → f.ready ≡ 0 → AllQuiet next (run_to config i c)
+cycle_calm i config n t next count c s kind fault any st0 st1 st4 rg0 rg1 ft0 ft1 m0 m1 f starts none ends e good loaded old now same slots how known ready =
+    let timed : AreTimed config (run_to config i c) = run_timed config i c good in
+    let before : IsSnapshot i config n t c st0 rg0 ft0 m0 = subst (λ (k : ℕ). IsSnapshot i config n t k st0 rg0 ft0 m0) (let z : count ≡ c = omega arith in z) old in
     let low : 0 < next = omega arith in
     let all = free_to st4.slots next 0 f known ready (λ a x l. absurd (omega arith)) in
     let free : (x : ℕ) → x < 96 → finishes next (slice_index_or st4.slots x None) ≡ false = λ x l. all x next l (omega arith) (omega arith) in
     elim how [
-      | inl still ↦ still_calm row next (run_to row i c) good timed low (issued_still i row t next st0 st4 (run_to row i c) [] (run_to row i c) good timed before.issue.issued e before.issue.slots now.issue.slots (slots ∙ none still) free refl)
+      | inl still ↦ still_calm config next (run_to config i c) good timed low (issued_still i config t next st0 st4 (run_to config i c) [] (run_to config i c) good timed before.issue.issued e before.issue.slots now.issue.slots (slots ∙ none still) free refl)
       | inr idle ↦
-          let begun = starts i (run_to row i c) t e (run_history row i n c s kind good loaded ends before.issue.few) before.issue.issued before.issue.slots before.bytes in
-          issued_calm i row t next st1 st4 (run_to row i c) [] (run_to row i c) good timed before.issue.issued e begun.1 now.issue.slots slots free idle refl
+          let begun = starts i (run_to config i c) t e (run_history config i n c s kind good loaded ends before.issue.few) before.issue.issued before.issue.slots before.bytes in
+          issued_calm i config t next st1 st4 (run_to config i c) [] (run_to config i c) good timed before.issue.issued e begun.1 now.issue.slots slots free idle refl
     ]

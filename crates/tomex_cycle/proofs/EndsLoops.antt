@@ -16,8 +16,8 @@ use Rattle.tomex_tags.specs.Places.{place_at, place_of_tag}
 use Rattle.tomex_tags.specs.Pools.{Pools, HaveHeard}
 use Rattle.tomex_tags.specs.declared.register_status.RegStatus.{RegStatus}
 use Rattle.tomex_tags.specs.declared.station.Station.{Station}
-use Rattle.tomex_bus.specs.Sets.{has, IsWithout}
-use Rattle.tomex_bus.proofs.Members.{AreFrom, all_left, least_from, least_in, left_from, none_after, none_between, skip_to}
+use Rattle.tomex_sets.specs.Sets.{has, IsWithout}
+use Rattle.tomex_sets.proofs.Members.{AreFrom, all_left, least_from, least_in, left_from, none_after, none_between, skip_to}
 use Rattle.tomex_tags.specs.Registers.{names, received}
 use Rattle.tomex_rvdec.specs.Operands.{dest_of}
 use Rattle.tomex_cycle.specs.Starts.{AreLow}

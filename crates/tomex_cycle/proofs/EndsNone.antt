@@ -2,12 +2,12 @@
 use Rattle.std.proofs.Common.{ℕ, ◌+◌, ◌≡◌, arith, ◌∙◌, false, refl, List, Option, Some, None, ap, sym, length, slice_index, slice_index_or, option_map}
 use Rattle.std.specs.Prelude.{nat_lt, ◌&&◌, if◌then◌else◌}
 use Rattle.std.proofs.lemmas.Bool.{and_right}
-use Rattle.tomex_config.specs.Row.{Row}
+use Rattle.tomex_config.specs.Configuration.{Configuration}
 use Rattle.tomex_timing.specs.Tables.{field_from}
 use Rattle.tomex_timing.specs.declared.tables.Field.{Field}
 use Rattle.tomex_timing.specs.declared.tables.Field.TheVariants.{Value, Waits, Unread}
-use Rattle.tomex_bus.specs.Sets.{has}
-use Rattle.tomex_bus.proofs.Bits.{none_in}
+use Rattle.tomex_sets.specs.Sets.{has}
+use Rattle.tomex_sets.proofs.Bits.{none_in}
 use Rattle.tomex_cycle.specs.declared.fetch.Fetch.{Fetch}
 use Rattle.tomex_cycle.specs.declared.fetch.Fetch.TheVariants as from
 use Rattle.tomex_cycle.specs.Ends.{AreDone, AreEnding, EndsIn, Follows, Hears, after_ends, sends_of, sent_below}
@@ -47,9 +47,9 @@ none_ended old count = record {
 none_received : (slots : List (Option Station)) (registers : RegStatus) → Hears (sent_below slots 0 96) registers registers
 none_received slots registers count status = record { count = count; status = status; fields = λ r l. heard_none (sent_below slots 0 96) (field_from (slice_index registers.values r) (slice_index_or registers.tags r None)) (none_sent slots 96) }
 
-pub ends_none : (row : Row) (next ending : ℕ) (old : Pools) (registers : RegStatus) (fetch result : Fetch) → AreEnding old row.buses next ending → AreBusy old.slots old.busy old.issue_numbers → Follows next old.slots fetch result → ending ≡ 0 → MakesEnds row next old registers fetch old registers result
-ends_none row next ending old registers fetch result ends filled follows e =
-    made_ends row next old old registers registers fetch result 0 (rw e at ends) filled follows (λ low. none_ended old) (λ count low named. none_received old.slots registers)
+pub ends_none : (config : Configuration) (next ending : ℕ) (old : Pools) (registers : RegStatus) (fetch result : Fetch) → AreEnding old config.buses next ending → AreBusy old.slots old.busy old.issue_numbers → Follows next old.slots fetch result → ending ≡ 0 → MakesEnds config next old registers fetch old registers result
+ends_none config next ending old registers fetch result ends filled follows e =
+    made_ends config next old old registers registers fetch result 0 (rw e at ends) filled follows (λ low. none_ended old) (λ count low named. none_received old.slots registers)
 
 pub none_over : (slots : List (Option Station)) (next ending : ℕ) (f : Finishes) → length slots ≡ 96 → LeavesKnown slots next ending f → ending ≡ 0 → AreKnown slots (next + 1) f
 none_over slots next ending f count leaves e = leaves slots (λ y. None) count (λ x l. rw (e, none_in x) (hears_none (λ y. None) (slice_index_or slots x None) (λ y. refl)))

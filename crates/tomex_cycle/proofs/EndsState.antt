@@ -3,7 +3,7 @@ use Rattle.std.proofs.Common.{ℕ, ◌+◌, ◌<◌, ◌≤◌, ◌≡◌, ◌�
 use Rattle.std.specs.Prelude.{nat_lt, if◌then◌else◌, ◌&&◌, ◌==◌, is_some}
 use Rattle.std.proofs.lemmas.Bool.{cases_Bool, cases_order, ltb-true, ltb-false, lt-ltb, le-ltb, le-leb, eqb-true, eqb-false, ne_eqb}
 use Rattle.tomex_image.specs.Image.{Loaded}
-use Rattle.tomex_config.specs.Row.{Row, IsRow}
+use Rattle.tomex_config.specs.Configuration.{Configuration, IsWithinLimits}
 use Rattle.tomex_rvdec.specs.declared.op.Form.{Form}
 use Rattle.tomex_rvdec.specs.declared.op.Form.TheVariants as forms
 use Rattle.tomex_rvdec.specs.Meaning.{form_of}
@@ -32,7 +32,7 @@ use Rattle.tomex_tags.specs.Contents.{hears}
 use Rattle.tomex_tags.specs.Operands.{heard}
 use Rattle.tomex_tags.specs.declared.register_status.RegStatus.{RegStatus}
 use Rattle.tomex_tags.specs.declared.station.Station.{Station}
-use Rattle.tomex_bus.specs.Sets.{has}
+use Rattle.tomex_sets.specs.Sets.{has}
 
 and_false : (a : Bool) → (a && false) ≡ false
 and_false true = refl
@@ -54,19 +54,19 @@ sends_none : (i : Loaded) (t u : ℕ) (d : Done) (older : List Done) → is_some
 sends_none i t u d older dest = rw dest refl
 
 -- what the places that end have to send is what is sent
-pub sent_is : (i : Loaded) (row : Row) (t u x : ℕ) (h : List Done) → IsRow row → AreTimed row h → AreIssuedBy u h → u ≡ t + 1 → (if ends_in u h x then sends_of (station_at i (clocks u u t) h x) else None) ≡ sent_at i u h x
-sent_is i row t u x [] good timed issued e = refl
-sent_is i row t u x (d ∷ older) good timed issued e =
-    let rest : (if ends_in u older x then sends_of (station_at i (clocks u u t) older x) else None) ≡ sent_at i u older x = sent_is i row t u x older good timed.1 issued.1 e in
+pub sent_is : (i : Loaded) (config : Configuration) (t u x : ℕ) (h : List Done) → IsWithinLimits config → AreTimed config h → AreIssuedBy u h → u ≡ t + 1 → (if ends_in u h x then sends_of (station_at i (clocks u u t) h x) else None) ≡ sent_at i u h x
+sent_is i config t u x [] good timed issued e = refl
+sent_is i config t u x (d ∷ older) good timed issued e =
+    let rest : (if ends_in u older x then sends_of (station_at i (clocks u u t) older x) else None) ≡ sent_at i u older x = sent_is i config t u x older good timed.1 issued.1 e in
     let l : d.at.issue ≤ u = issued.0 in
     elim (cases_Bool (is_number (place_of d) x)) [
       | inr at ↦ rw at rest
       | inl at ↦
-          let free : is_vacant t x older ≡ true = vacant row d older t x good timed (omega arith) at in
+          let free : is_vacant t x older ≡ true = vacant config d older t x good timed (omega arith) at in
           elim (cases_Bool (d.at.end == u)) [
             | inl k ↦
                 let end : d.at.end ≡ u = eqb-true _ _ k in
-                let r : d.at.start ≤ d.at.end = (reach row d older good timed).start in
+                let r : d.at.start ≤ d.at.end = (reach config d older good timed).start in
                 elim (cases_Bool (is_some (step_dest d.step))) [
                   | inl dest ↦ rw (at, k, lt-ltb t d.at.end (omega arith), dest, le-leb d.at.start u (omega arith)) refl
                   | inr dest ↦ rw (at, k, lt-ltb t d.at.end (omega arith), dest) (sym (silent i t u x older e free))
@@ -76,20 +76,20 @@ sent_is i row t u x (d ∷ older) good timed issued e =
     ]
 
 -- nothing is sent from beyond the places
-sent_high : (i : Loaded) (row : Row) (u x : ℕ) (h : List Done) → IsRow row → AreTimed row h → 96 ≤ x → sent_at i u h x ≡ None
-sent_high i row u x [] good timed l = refl
-sent_high i row u x (d ∷ older) good timed l = elim (cases_Bool (is_number (place_of d) x)) [
-  | inr at ↦ rw at (sent_high i row u x older good timed.1 l)
+sent_high : (i : Loaded) (config : Configuration) (u x : ℕ) (h : List Done) → IsWithinLimits config → AreTimed config h → 96 ≤ x → sent_at i u h x ≡ None
+sent_high i config u x [] good timed l = refl
+sent_high i config u x (d ∷ older) good timed l = elim (cases_Bool (is_number (place_of d) x)) [
+  | inr at ↦ rw at (sent_high i config u x older good timed.1 l)
   | inl at ↦
-      let small : x < 96 = place_low (step_pool d.step) d.at.station x (low row (d ∷ older) good timed).0 (number_is_some (place_of d) x at) in
+      let small : x < 96 = place_low (step_pool d.step) d.at.station x (low config (d ∷ older) good timed).0 (number_is_some (place_of d) x at) in
       absurd (omega arith)
 ]
 
-pub sent_all : (i : Loaded) (row : Row) (t u : ℕ) (h : List Done) (slots : List (Option Station)) (picked : ℕ) → IsRow row → AreTimed row h → AreIssuedBy u h → u ≡ t + 1
+pub sent_all : (i : Loaded) (config : Configuration) (t u : ℕ) (h : List Done) (slots : List (Option Station)) (picked : ℕ) → IsWithinLimits config → AreTimed config h → AreIssuedBy u h → u ≡ t + 1
     → ((x : ℕ) → x < 96 → slice_index_or slots x None ≡ station_at i (clocks u u t) h x) → ((x : ℕ) → x < 96 → has picked x ≡ ends_in u h x) → (y : ℕ) → sent_at i u h y ≡ sent_below slots picked 96 y
-sent_all i row t u h slots picked good timed issued e shown ends y = elim (cases_Bool (nat_lt y 96)) [
-  | inl l ↦ let k : y < 96 = ltb-true y 96 l in rw (l, ends y k, shown y k) (sym (sent_is i row t u y h good timed issued e))
-  | inr l ↦ let k : 96 ≤ y = ltb-false y 96 l in rw l (sent_high i row u y h good timed k)
+sent_all i config t u h slots picked good timed issued e shown ends y = elim (cases_Bool (nat_lt y 96)) [
+  | inl l ↦ let k : y < 96 = ltb-true y 96 l in rw (l, ends y k, shown y k) (sym (sent_is i config t u y h good timed issued e))
+  | inr l ↦ let k : 96 ≤ y = ltb-false y 96 l in rw l (sent_high i config u y h good timed k)
 ]
 
 -- Operands hear what is sent.
@@ -121,29 +121,29 @@ k_cases x = elim (k_reads (form_of x.instr.op) x.instr.rs1 x.instr.rs2) [
   | inr e ↦ inr (ap (option_map (operand x.vk)) e)
 ]
 
-field_hears : (i : Loaded) (row : Row) (t u v r : ℕ) (newer older : List Done) (o : Option Operand) → IsRow row → AreTimed row (newer ++ older) → AreIssuedBy u (newer ++ older) → u ≡ t + 1 → v ≡ register_after i (steps_in older) r → (o ≡ None) ⊎ (o ≡ Some (operand v r))
+field_hears : (i : Loaded) (config : Configuration) (t u v r : ℕ) (newer older : List Done) (o : Option Operand) → IsWithinLimits config → AreTimed config (newer ++ older) → AreIssuedBy u (newer ++ older) → u ≡ t + 1 → v ≡ register_after i (steps_in older) r → (o ≡ None) ⊎ (o ≡ Some (operand v r))
     → heard (sent_at i u (newer ++ older)) (field_of t older o) ≡ field_of u older o
-field_hears i row t u v r newer older o good timed issued e value (inl none) = rw none refl
-field_hears i row t u v r newer older o good timed issued e value (inr some) = rw some (heard_is i row t u newer older (operand v r) good timed issued e value)
+field_hears i config t u v r newer older o good timed issued e value (inl none) = rw none refl
+field_hears i config t u v r newer older o good timed issued e value (inr some) = rw some (heard_is i config t u newer older (operand v r) good timed issued e value)
 
-station_hears : (i : Loaded) (row : Row) (t u : ℕ) (newer : List Done) (d : Done) (older : List Done) → IsRow row → AreTimed row ((newer ++ (d ∷ [])) ++ older) → AreIssuedBy u ((newer ++ (d ∷ [])) ++ older) → u ≡ t + 1 → Follows i (steps_in older) d.step
+station_hears : (i : Loaded) (config : Configuration) (t u : ℕ) (newer : List Done) (d : Done) (older : List Done) → IsWithinLimits config → AreTimed config ((newer ++ (d ∷ [])) ++ older) → AreIssuedBy u ((newer ++ (d ∷ [])) ++ older) → u ≡ t + 1 → Follows i (steps_in older) d.step
     → station_of i (clocks u u u) d older ≡ hears (sent_at i u ((newer ++ (d ∷ [])) ++ older)) (station_of i (clocks u u t) d older)
-station_hears i row t u newer d older good timed issued e follows =
-    let j : heard (sent_at i u ((newer ++ (d ∷ [])) ++ older)) (field_of t older (j_of d.step)) ≡ field_of u older (j_of d.step) = field_hears i row t u d.step.vj d.step.instr.rs1 (newer ++ (d ∷ [])) older (j_of d.step) good timed issued e follows.vj (j_cases d.step) in
-    let k : heard (sent_at i u ((newer ++ (d ∷ [])) ++ older)) (field_of t older (k_of d.step)) ≡ field_of u older (k_of d.step) = field_hears i row t u d.step.vk d.step.instr.rs2 (newer ++ (d ∷ [])) older (k_of d.step) good timed issued e follows.vk (k_cases d.step) in
+station_hears i config t u newer d older good timed issued e follows =
+    let j : heard (sent_at i u ((newer ++ (d ∷ [])) ++ older)) (field_of t older (j_of d.step)) ≡ field_of u older (j_of d.step) = field_hears i config t u d.step.vj d.step.instr.rs1 (newer ++ (d ∷ [])) older (j_of d.step) good timed issued e follows.vj (j_cases d.step) in
+    let k : heard (sent_at i u ((newer ++ (d ∷ [])) ++ older)) (field_of t older (k_of d.step)) ≡ field_of u older (k_of d.step) = field_hears i config t u d.step.vk d.step.instr.rs2 (newer ++ (d ∷ [])) older (k_of d.step) good timed issued e follows.vk (k_cases d.step) in
     let a : Field → Station = λ x. record (station_of i (clocks u u t) d older) { j = x; k = field_of u older (k_of d.step) } in
     let b : Field → Station = λ x. record (station_of i (clocks u u t) d older) { j = heard (sent_at i u ((newer ++ (d ∷ [])) ++ older)) (field_of t older (j_of d.step)); k = x } in
     ap a (sym j) ∙ ap b (sym k)
 
 -- The stations after the cycle.
 
-pub stations_at : (i : Loaded) (row : Row) (t u x : ℕ) (h newer part : List Done) → IsRow row → AreTimed row h → AreIssuedBy u h → u ≡ t + 1 → ArePast i part → h ≡ newer ++ part
+pub stations_at : (i : Loaded) (config : Configuration) (t u x : ℕ) (h newer part : List Done) → IsWithinLimits config → AreTimed config h → AreIssuedBy u h → u ≡ t + 1 → ArePast i part → h ≡ newer ++ part
     → station_at i (clocks u u u) part x ≡ after_ends (ends_in u part x) (sent_at i u h) (station_at i (clocks u u t) part x)
-stations_at i row t u x h newer [] good timed issued e past split = refl
-stations_at i row t u x h newer (d ∷ older) good timed issued e past split =
+stations_at i config t u x h newer [] good timed issued e past split = refl
+stations_at i config t u x h newer (d ∷ older) good timed issued e past split =
     let whole : h ≡ (newer ++ (d ∷ [])) ++ older = split ∙ sym (append_assoc newer (d ∷ []) older) in
-    let rest : station_at i (clocks u u u) older x ≡ after_ends (ends_in u older x) (sent_at i u h) (station_at i (clocks u u t) older x) = stations_at i row t u x h (newer ++ (d ∷ [])) older good timed issued e past.2 whole in
-    let part : AreTimed row (d ∷ older) = timed_part row newer (d ∷ older) (rw split at timed) in
+    let rest : station_at i (clocks u u u) older x ≡ after_ends (ends_in u older x) (sent_at i u h) (station_at i (clocks u u t) older x) = stations_at i config t u x h (newer ++ (d ∷ [])) older good timed issued e past.2 whole in
+    let part : AreTimed config (d ∷ older) = timed_part config newer (d ∷ older) (rw split at timed) in
     let l : d.at.issue ≤ u = (issued_part u newer (d ∷ older) (rw split at issued)).0 in
     elim (cases_Bool (is_number (place_of d) x)) [
       | inr at ↦ rw at rest
@@ -156,12 +156,12 @@ stations_at i row t u x h newer (d ∷ older) good timed issued e past split =
             elim (cases_Bool (d.at.end == u)) [
               | inl now ↦
                   let end : d.at.end ≡ u = eqb-true _ _ now in
-                  rw (at, now, le-ltb u d.at.end (omega arith)) (vacant_none i (clocks u u u) older x (vacant row d older u x good part (omega arith) at))
+                  rw (at, now, le-ltb u d.at.end (omega arith)) (vacant_none i (clocks u u u) older x (vacant config d older u x good part (omega arith) at))
               | inr now ↦
                   let other : d.at.end ≡ u → ⊥ = eqb-false _ _ now in
                   let after : u < d.at.end = later t u d.at.end e late other in
-                  rw (at, now, k, lt-ltb u d.at.end after, idle_ends t u x older e (vacant row d older t x good part (omega arith) at))
-                  (ap (λ (s : Station). Some s) (rw whole (station_hears i row t u newer d older good (rw whole at timed) (rw whole at issued) e past.0)))
+                  rw (at, now, k, lt-ltb u d.at.end after, idle_ends t u x older e (vacant config d older t x good part (omega arith) at))
+                  (ap (λ (s : Station). Some s) (rw whole (station_hears i config t u newer d older good (rw whole at timed) (rw whole at issued) e past.0)))
             ]
       ]
     ]
@@ -183,12 +183,12 @@ heard_alike f k (Value v) e = refl
 heard_alike f k Unread e = refl
 heard_alike f k (Waits tag) e = rw (e _) refl
 
-pub registers_at : (i : Loaded) (row : Row) (t u : ℕ) (h : List Done) (sent : ℕ → Option ℕ) (old new : RegStatus) → IsRow row → AreTimed row h → AreIssuedBy u h → u ≡ t + 1 → ShowsRegisters i t h old → ((y : ℕ) → sent_at i u h y ≡ sent y) → HaveReceived sent old new → ShowsRegisters i u h new
-registers_at i row t u h sent old new good timed issued e shown same made =
+pub registers_at : (i : Loaded) (config : Configuration) (t u : ℕ) (h : List Done) (sent : ℕ → Option ℕ) (old new : RegStatus) → IsWithinLimits config → AreTimed config h → AreIssuedBy u h → u ≡ t + 1 → ShowsRegisters i t h old → ((y : ℕ) → sent_at i u h y ≡ sent y) → HaveReceived sent old new → ShowsRegisters i u h new
+registers_at i config t u h sent old new good timed issued e shown same made =
     let each : (r : ℕ) → r < 32 → field_from (slice_index new.values r) (slice_index_or new.tags r None) ≡ field_from (register_after i (steps_in h) r) (producer u h r) = λ r l.
     made.fields r l ∙ (heard_alike sent (sent_at i u h) (field_from (slice_index old.values r) (slice_index_or old.tags r None)) same
     ∙ (ap (heard (sent_at i u h)) (field_by (slice_index old.values r) (register_after i (steps_in h) r) (slice_index_or old.tags r None) (producer t h r) (shown.tags r l) (shown.values r l))
-    ∙ heard_is i row t u [] h (operand (register_after i (steps_in h) r) r) good timed issued e refl)) in
+    ∙ heard_is i config t u [] h (operand (register_after i (steps_in h) r) r) good timed issued e refl)) in
     record {
       count = made.count;
       status = made.status;

@@ -3,7 +3,7 @@ use Rattle.std.proofs.Common.{ℕ, ◌+◌, ◌<◌, ◌≤◌, ◌≡◌, ◌�
 use Rattle.std.specs.Prelude.{nat_lt, if◌then◌else◌, ◌&&◌, ◌==◌, not, is_some, is_none, MatchOption}
 use Rattle.std.proofs.lemmas.Bool.{cases_Bool, ltb-true, ltb-false, lt-ltb, le-ltb, both_ways, and_parts, eqb-true, eqb-false, eq-eqb}
 use Rattle.tomex_image.specs.Image.{Loaded}
-use Rattle.tomex_config.specs.Row.{Row, IsRow}
+use Rattle.tomex_config.specs.Configuration.{Configuration, IsWithinLimits}
 use Rattle.tomex_rvdec.specs.declared.pool.PoolId.{PoolId}
 use Rattle.tomex_rvdec.specs.declared.pool.UnitId.{UnitId}
 use Rattle.tomex_rvdec.specs.Operands.{unit_at}
@@ -33,17 +33,17 @@ tag_from : (tag : Option Tag) → is_some (place_at tag) ≡ true → (t : Tag) 
 tag_from None e = absurd (cc)
 tag_from (Some t) e = (t, refl)
 
-pub tag_there : (row : Row) (d : Done) (older : List Done) (t : ℕ) → IsTimed row older d.step d.at → d.at.issue ≤ t → t < d.at.end → (tag : Tag) × (tag_of d ≡ Some tag)
-tag_there row d older t timed l k = tag_from (tag_of d) (place_there row d older timed (omega arith))
+pub tag_there : (config : Configuration) (d : Done) (older : List Done) (t : ℕ) → IsTimed config older d.step d.at → d.at.issue ≤ t → t < d.at.end → (tag : Tag) × (tag_of d ≡ Some tag)
+tag_there config d older t timed l k = tag_from (tag_of d) (place_there config d older timed (omega arith))
 
-none_test : (row : Row) (t : ℕ) (h : List Done) (r : ℕ) → AreTimed row h → AreIssuedBy t h → is_none (producer t h r) ≡ nat_lt (writer_end h r) (t + 1)
-none_test row t [] r timed issued = rw (lt-ltb 0 (t + 1) (omega arith)) refl
-none_test row t (d ∷ older) r timed issued = elim (cases_Bool (is_number (step_dest d.step) r)) [
-  | inr e ↦ rw e (none_test row t older r timed.1 issued.1)
+none_test : (config : Configuration) (t : ℕ) (h : List Done) (r : ℕ) → AreTimed config h → AreIssuedBy t h → is_none (producer t h r) ≡ nat_lt (writer_end h r) (t + 1)
+none_test config t [] r timed issued = rw (lt-ltb 0 (t + 1) (omega arith)) refl
+none_test config t (d ∷ older) r timed issued = elim (cases_Bool (is_number (step_dest d.step) r)) [
+  | inr e ↦ rw e (none_test config t older r timed.1 issued.1)
   | inl e ↦ elim (cases_Bool (nat_lt t d.at.end)) [
     | inl l ↦
         let k : t < d.at.end = ltb-true _ _ l in
-        let tag = tag_there row d older t timed.0 issued.0 k in
+        let tag = tag_there config d older t timed.0 issued.0 k in
         rw (e, l, tag.1, le-ltb d.at.end (t + 1) (omega arith)) refl
     | inr l ↦
         let k : d.at.end ≤ t = ltb-false _ _ l in
@@ -56,9 +56,9 @@ there_from v None = refl
 there_from v (Some tag) = refl
 
 -- an operand is there after cycle t just where its producer has ended before the next one: the recurrence's test
-pub there_test : (row : Row) (t : ℕ) (h : List Done) (o : Option Operand) → AreTimed row h → AreIssuedBy t h → is_there (field_of t h o) ≡ nat_lt (source_end h o) (t + 1)
-there_test row t h None timed issued = rw (lt-ltb 0 (t + 1) (omega arith)) refl
-there_test row t h (Some o) timed issued = there_from o.value (producer t h o.register) ∙ none_test row t h o.register timed issued
+pub there_test : (config : Configuration) (t : ℕ) (h : List Done) (o : Option Operand) → AreTimed config h → AreIssuedBy t h → is_there (field_of t h o) ≡ nat_lt (source_end h o) (t + 1)
+there_test config t h None timed issued = rw (lt-ltb 0 (t + 1) (omega arith)) refl
+there_test config t h (Some o) timed issued = there_from o.value (producer t h o.register) ∙ none_test config t h o.register timed issued
 
 -- who holds no place sends nothing from it
 pub silent : (i : Loaded) (t u x : ℕ) (h : List Done) → u ≡ t + 1 → is_vacant t x h ≡ true → sent_at i u h x ≡ None
@@ -78,21 +78,21 @@ silent i t u x (d ∷ older) e free = elim (cases_Bool (is_number (place_of d) x
 abbrev sends : Loaded → ℕ → Done → List Done → Option ℕ
 sends i u w older = if w.at.end == u then Some (result_of w.step (byte_after i (steps_in older))) else None
 
-sent_here : (i : Loaded) (row : Row) (t u x : ℕ) (w : Done) (older : List Done) → IsRow row → AreTimed row (w ∷ older) → w.at.issue ≤ u → u ≡ t + 1 → is_some (step_dest w.step) ≡ true → is_number (place_of w) x ≡ true → sent_at i u (w ∷ older) x ≡ sends i u w older
-sent_here i row t u x w older good timed l e dest at = elim (cases_Bool (w.at.end == u)) [
+sent_here : (i : Loaded) (config : Configuration) (t u x : ℕ) (w : Done) (older : List Done) → IsWithinLimits config → AreTimed config (w ∷ older) → w.at.issue ≤ u → u ≡ t + 1 → is_some (step_dest w.step) ≡ true → is_number (place_of w) x ≡ true → sent_at i u (w ∷ older) x ≡ sends i u w older
+sent_here i config t u x w older good timed l e dest at = elim (cases_Bool (w.at.end == u)) [
   | inl k ↦ rw (at, dest, k) refl
-  | inr k ↦ rw (at, dest, k) (silent i t u x older e (vacant row w older t x good timed (omega arith) at))
+  | inr k ↦ rw (at, dest, k) (silent i t u x older e (vacant config w older t x good timed (omega arith) at))
 ]
 
 some_false : {A : Type 0} (x : A) (b : Bool) → b ≡ true → b ≡ false → ⊥
 some_false x b e f = both_ways b f e
 
 -- and nothing younger is sent from it
-pub sent_newer : (i : Loaded) (row : Row) (t u x : ℕ) (newer h : List Done) → IsRow row → AreTimed row (newer ++ h) → AreIssuedBy u (newer ++ h) → u ≡ t + 1 → ((n : Done) (between : List Done) → is_vacant t x (between ++ h) ≡ true → ⊥) → sent_at i u (newer ++ h) x ≡ sent_at i u h x
-sent_newer i row t u x [] h good timed issued e held = refl
-sent_newer i row t u x (n ∷ newer) h good timed issued e held = elim (cases_Bool (is_number (place_of n) x)) [
-  | inl at ↦ absurd (held n newer (vacant row n (newer ++ h) t x good timed (let l : n.at.issue ≤ u = issued.0 in omega arith) at))
-  | inr at ↦ rw at (sent_newer i row t u x newer h good timed.1 issued.1 e held)
+pub sent_newer : (i : Loaded) (config : Configuration) (t u x : ℕ) (newer h : List Done) → IsWithinLimits config → AreTimed config (newer ++ h) → AreIssuedBy u (newer ++ h) → u ≡ t + 1 → ((n : Done) (between : List Done) → is_vacant t x (between ++ h) ≡ true → ⊥) → sent_at i u (newer ++ h) x ≡ sent_at i u h x
+sent_newer i config t u x [] h good timed issued e held = refl
+sent_newer i config t u x (n ∷ newer) h good timed issued e held = elim (cases_Bool (is_number (place_of n) x)) [
+  | inl at ↦ absurd (held n newer (vacant config n (newer ++ h) t x good timed (let l : n.at.issue ≤ u = issued.0 in omega arith) at))
+  | inr at ↦ rw at (sent_newer i config t u x newer h good timed.1 issued.1 e held)
 ]
 
 -- what a broadcast makes of an operand that waits for w
@@ -109,15 +109,15 @@ pool_cases None = inl refl
 pool_cases (Some p) = inr refl
 
 -- what writes a register ends after its issue
-pub dest_later : (row : Row) (d : Done) (older : List Done) → IsRow row → AreTimed row (d ∷ older) → is_some (step_dest d.step) ≡ true → d.at.issue < d.at.end
-dest_later row d older good timed dest = elim (pool_cases (step_pool d.step)) [
+pub dest_later : (config : Configuration) (d : Done) (older : List Done) → IsWithinLimits config → AreTimed config (d ∷ older) → is_some (step_dest d.step) ≡ true → d.at.issue < d.at.end
+dest_later config d older good timed dest = elim (pool_cases (step_pool d.step)) [
   | inl e ↦
       let z : step_dest d.step ≡ None = dest_needs_pool d.step e in
       let f : is_some {T = ℕ} None ≡ true = rw z at dest in
       absurd (cc)
   | inr e ↦
-      let r = reach row d older good timed in
-      let l : d.at.issue < d.at.start = unit_later (step_pool d.step) d.at.issue d.at.start (λ u. can_start row older d.step u d.at.issue (cycle_of d.at.address)) (can_start_later row d older) e timed.0.start in
+      let r = reach config d older good timed in
+      let l : d.at.issue < d.at.start = unit_later (step_pool d.step) d.at.issue d.at.start (λ u. can_start config older d.step u d.at.issue (cycle_of d.at.address)) (can_start_later config d older) e timed.0.start in
       let k : d.at.start ≤ d.at.end = r.start in
       omega arith
 ]
@@ -150,22 +150,22 @@ not_vacant t x [] w older held free =
     absurd (cc)
 not_vacant t x (n ∷ newer) w older held free = not_vacant t x newer w older held (and_parts (not (holds_place t x n)) (is_vacant t x (newer ++ (w ∷ older))) free).1
 
-pub timed_part : (row : Row) (newer h : List Done) → AreTimed row (newer ++ h) → AreTimed row h
-timed_part row [] h timed = timed
-timed_part row (d ∷ newer) h timed = timed_part row newer h timed.1
+pub timed_part : (config : Configuration) (newer h : List Done) → AreTimed config (newer ++ h) → AreTimed config h
+timed_part config [] h timed = timed
+timed_part config (d ∷ newer) h timed = timed_part config newer h timed.1
 
 pub issued_part : (t : ℕ) (newer h : List Done) → AreIssuedBy t (newer ++ h) → AreIssuedBy t h
 issued_part t [] h issued = issued
 issued_part t (d ∷ newer) h issued = issued_part t newer h issued.1
 
 -- what is sent from the place of w, which holds it
-pub sent_by : (i : Loaded) (row : Row) (t u x : ℕ) (newer : List Done) (w : Done) (older : List Done) → IsRow row → AreTimed row (newer ++ (w ∷ older)) → AreIssuedBy u (newer ++ (w ∷ older)) → u ≡ t + 1 → is_some (step_dest w.step) ≡ true → holds_place t x w ≡ true
+pub sent_by : (i : Loaded) (config : Configuration) (t u x : ℕ) (newer : List Done) (w : Done) (older : List Done) → IsWithinLimits config → AreTimed config (newer ++ (w ∷ older)) → AreIssuedBy u (newer ++ (w ∷ older)) → u ≡ t + 1 → is_some (step_dest w.step) ≡ true → holds_place t x w ≡ true
     → sent_at i u (newer ++ (w ∷ older)) x ≡ sends i u w older
-sent_by i row t u x newer w older good timed issued e dest held =
+sent_by i config t u x newer w older good timed issued e dest held =
     let at : is_number (place_of w) x ≡ true = (and_parts (is_number (place_of w) x) (nat_lt t w.at.end) held).0 in
     let l : w.at.issue ≤ u = (issued_part u newer (w ∷ older) issued).0 in
-    sent_newer i row t u x newer (w ∷ older) good timed issued e (λ n between free. not_vacant t x between w older held free)
-    ∙ sent_here i row t u x w older good (timed_part row newer (w ∷ older) timed) l e dest at
+    sent_newer i config t u x newer (w ∷ older) good timed issued e (λ n between free. not_vacant t x between w older held free)
+    ∙ sent_here i config t u x w older good (timed_part config newer (w ∷ older) timed) l e dest at
 
 waits_of : (v : ℕ) (w : Done) (t : ℕ) (tag : Tag) → tag_of w ≡ Some tag → t < w.at.end → field_from v (unsent_tag t w) ≡ Waits tag
 waits_of v w t tag e l = rw (lt-ltb t w.at.end l, e) refl
@@ -176,17 +176,17 @@ value_of v w t l = rw (le-ltb t w.at.end l) refl
 place_is : (w : Done) (tag : Tag) (t : ℕ) → tag_of w ≡ Some tag → t < w.at.end → holds_place t (place_of_tag tag) w ≡ true
 place_is w tag t e l = rw (e, lt-ltb t w.at.end l, eq-eqb (place_of_tag tag) (place_of_tag tag) refl) refl
 
-heard_from : (i : Loaded) (row : Row) (t u v : ℕ) (newer : List Done) (w : Done) (older : List Done) → IsRow row → AreTimed row (newer ++ (w ∷ older)) → AreIssuedBy u (newer ++ (w ∷ older)) → u ≡ t + 1 → is_some (step_dest w.step) ≡ true → v ≡ result_of w.step (byte_after i (steps_in older))
+heard_from : (i : Loaded) (config : Configuration) (t u v : ℕ) (newer : List Done) (w : Done) (older : List Done) → IsWithinLimits config → AreTimed config (newer ++ (w ∷ older)) → AreIssuedBy u (newer ++ (w ∷ older)) → u ≡ t + 1 → is_some (step_dest w.step) ≡ true → v ≡ result_of w.step (byte_after i (steps_in older))
     → heard (sent_at i u (newer ++ (w ∷ older))) (field_from v (unsent_tag t w)) ≡ field_from v (unsent_tag u w)
-heard_from i row t u v newer w older good timed issued e dest value = elim (cases_Bool (nat_lt t w.at.end)) [
+heard_from i config t u v newer w older good timed issued e dest value = elim (cases_Bool (nat_lt t w.at.end)) [
   | inr l ↦
       let k : w.at.end ≤ t = ltb-false _ _ l in
       rw (value_of v w t k, value_of v w u (omega arith)) refl
   | inl l ↦
       let k : t < w.at.end = ltb-true _ _ l in
-      let late : w.at.issue < w.at.end = dest_later row w older good (timed_part row newer (w ∷ older) timed) dest in
-      let tag = tag_from (tag_of w) (place_there row w older (timed_part row newer (w ∷ older) timed).0 late) in
-      let sent : sent_at i u (newer ++ (w ∷ older)) (place_of_tag tag.0) ≡ sends i u w older = sent_by i row t u (place_of_tag tag.0) newer w older good timed issued e dest (place_is w tag.0 t tag.1 k) in
+      let late : w.at.issue < w.at.end = dest_later config w older good (timed_part config newer (w ∷ older) timed) dest in
+      let tag = tag_from (tag_of w) (place_there config w older (timed_part config newer (w ∷ older) timed).0 late) in
+      let sent : sent_at i u (newer ++ (w ∷ older)) (place_of_tag tag.0) ≡ sends i u w older = sent_by i config t u (place_of_tag tag.0) newer w older good timed issued e dest (place_is w tag.0 t tag.1 k) in
       elim (cases_Bool (w.at.end == u)) [
         | inl m ↦
             let n : w.at.end ≡ u = eqb-true _ _ m in
@@ -199,16 +199,16 @@ heard_from i row t u v newer w older good timed issued e dest value = elim (case
       ]
 ]
 
-heard_by : (i : Loaded) (row : Row) (t u : ℕ) (newer older : List Done) (o : Operand) → IsRow row → AreTimed row (newer ++ older) → AreIssuedBy u (newer ++ older) → u ≡ t + 1 → o.value ≡ register_after i (steps_in older) o.register → Writer i o.register older
+heard_by : (i : Loaded) (config : Configuration) (t u : ℕ) (newer older : List Done) (o : Operand) → IsWithinLimits config → AreTimed config (newer ++ older) → AreIssuedBy u (newer ++ older) → u ≡ t + 1 → o.value ≡ register_after i (steps_in older) o.register → Writer i o.register older
     → heard (sent_at i u (newer ++ older)) (field_of t older (Some o)) ≡ field_of u older (Some o)
-heard_by i row t u newer older o good timed issued e value (nobody none) = rw (none t, none u) refl
-heard_by i row t u newer older o good timed issued e value (writes between w behind split dest from result) =
+heard_by i config t u newer older o good timed issued e value (nobody none) = rw (none t, none u) refl
+heard_by i config t u newer older o good timed issued e value (writes between w behind split dest from result) =
     let whole : newer ++ older ≡ (newer ++ between) ++ (w ∷ behind) = ap (λ xs. newer ++ xs) split ∙ sym (append_assoc newer between (w ∷ behind)) in
     let one : heard (sent_at i u ((newer ++ between) ++ (w ∷ behind))) (field_from o.value (unsent_tag t w)) ≡ field_from o.value (unsent_tag u w)
-    = heard_from i row t u o.value (newer ++ between) w behind good (rw (← whole) timed) (rw (← whole) issued) e dest (value ∙ result) in
+    = heard_from i config t u o.value (newer ++ between) w behind good (rw (← whole) timed) (rw (← whole) issued) e dest (value ∙ result) in
     rw (from t, from u, whole) one
 
 -- the broadcasts of a cycle make each operand what it is after that cycle
-pub heard_is : (i : Loaded) (row : Row) (t u : ℕ) (newer older : List Done) (o : Operand) → IsRow row → AreTimed row (newer ++ older) → AreIssuedBy u (newer ++ older) → u ≡ t + 1 → o.value ≡ register_after i (steps_in older) o.register
+pub heard_is : (i : Loaded) (config : Configuration) (t u : ℕ) (newer older : List Done) (o : Operand) → IsWithinLimits config → AreTimed config (newer ++ older) → AreIssuedBy u (newer ++ older) → u ≡ t + 1 → o.value ≡ register_after i (steps_in older) o.register
     → heard (sent_at i u (newer ++ older)) (field_of t older (Some o)) ≡ field_of u older (Some o)
-heard_is i row t u newer older o good timed issued e value = heard_by i row t u newer older o good timed issued e value (writer_is i o.register older)
+heard_is i config t u newer older o good timed issued e value = heard_by i config t u newer older o good timed issued e value (writer_is i o.register older)

@@ -6,7 +6,7 @@ use Rattle.std.proofs.lemmas.Nat.Bits.{bit_at-trailing_zeros, bit_at_above}
 use Rattle.std.proofs.lemmas.List.{get_or_past}
 use Rattle.std.proofs.lemmas.Bool.{cases_Bool, both_ways, and_parts, eq-eqb, eqb-true, ne_eqb, ltb-true, ltb-false}
 use Rattle.tomex_image.specs.Image.{Loaded, IsLoaded}
-use Rattle.tomex_config.specs.Row.{Row, IsRow}
+use Rattle.tomex_config.specs.Configuration.{Configuration, IsWithinLimits}
 use Rattle.tomex_rvexec.specs.declared.outcome.EndKind.{EndKind}
 use Rattle.tomex_rvexec.specs.Machine.{State}
 use Rattle.tomex_rvexec.specs.Run.{RunEnds}
@@ -18,8 +18,8 @@ use Rattle.tomex_timing.specs.declared.times.Times.{Times}
 use Rattle.tomex_timing.specs.History.{cycle_of, greatest_end, is_memory, last_address}
 use Rattle.tomex_timing.specs.Recurrence.{AreTimed}
 use Rattle.tomex_timing.specs.Tables.{field_of}
-use Rattle.tomex_bus.specs.Sets.{has}
-use Rattle.tomex_bus.proofs.Bits.{has_one, has_none}
+use Rattle.tomex_sets.specs.Sets.{has}
+use Rattle.tomex_sets.proofs.Bits.{has_one, has_none}
 use Rattle.tomex_cycle.specs.Ends.{AreDone, AreEnding, finishes}
 use Rattle.tomex_cycle.specs.Events.{events_in, events_of}
 use Rattle.tomex_cycle.specs.Phases.{AddressHappens, EndsHappen, IsSnapshot, IsYetToIssue, MakesStarts, StartsHappen}
@@ -115,10 +115,10 @@ member_of set fits some =
     ] in
     (trailing_zeros w128 set, small, here)
 
-pub start_happens : (i : Loaded) (row : Row) (t u : ℕ) (st : Pools) (h : List Done) (starting : ℕ) → IsHistory i row h → AreIssuedBy t h → ShowsStations i (clocks t t t) h st → AreBusy st.slots st.busy st.issue_numbers → IsStarting row st u starting → u ≡ t + 1 → starting < 2 ^ 128 → starting ≢ 0 → 0 < events_in u h
-start_happens i row t u st h starting past issued shown filled begins e fits some =
+pub start_happens : (i : Loaded) (config : Configuration) (t u : ℕ) (st : Pools) (h : List Done) (starting : ℕ) → IsHistory i config h → AreIssuedBy t h → ShowsStations i (clocks t t t) h st → AreBusy st.slots st.busy st.issue_numbers → IsStarting config st u starting → u ≡ t + 1 → starting < 2 ^ 128 → starting ≢ 0 → 0 < events_in u h
+start_happens i config t u st h starting past issued shown filled begins e fits some =
     let x = member_of starting fits some in
-    starts_happen t u x.0 h (sym (starting_is i row t u x.0 st h starting past.lawful past.timed issued shown filled begins e x.1) ∙ x.2)
+    starts_happen t u x.0 h (sym (starting_is i config t u x.0 st h starting past.lawful past.timed issued shown filled begins e x.1) ∙ x.2)
 
 -- Ends.
 
@@ -132,10 +132,10 @@ ends_happen u x (d ∷ h) e = elim (cases_Bool (is_number (place_of d) x && (d.a
   | inr k ↦ let more : 0 < events_in u h = ends_happen u x h (rw k at e) in omega arith
 ]
 
-pub end_happens : (i : Loaded) (row : Row) (t u : ℕ) (st : Pools) (h : List Done) (ending : ℕ) → IsHistory i row h → AreIssuedBy u h → ShowsStations i (clocks u u t) h st → AreBusy st.slots st.busy st.issue_numbers → AreEnding st row.buses u ending → u ≡ t + 1 → ending < 2 ^ 128 → ending ≢ 0 → 0 < events_in u h
-end_happens i row t u st h ending past issued shown filled ends e fits some =
+pub end_happens : (i : Loaded) (config : Configuration) (t u : ℕ) (st : Pools) (h : List Done) (ending : ℕ) → IsHistory i config h → AreIssuedBy u h → ShowsStations i (clocks u u t) h st → AreBusy st.slots st.busy st.issue_numbers → AreEnding st config.buses u ending → u ≡ t + 1 → ending < 2 ^ 128 → ending ≢ 0 → 0 < events_in u h
+end_happens i config t u st h ending past issued shown filled ends e fits some =
     let x = member_of ending fits some in
-    ends_happen u x.0 h (sym (ending_is i row t u x.0 st h ending past.lawful past.timed issued e shown filled ends (ending_low st row.buses u ending ends filled x.0 x.1 x.2)) ∙ x.2)
+    ends_happen u x.0 h (sym (ending_is i config t u x.0 st h ending past.lawful past.timed issued e shown filled ends (ending_low st config.buses u ending ends filled x.0 x.1 x.2)) ∙ x.2)
 
 -- Finishes.
 
@@ -170,10 +170,10 @@ due_happens i t u st h due shown done fits some =
 
 -- Issues.
 
-pub issue_happens : (i : Loaded) (row : Row) (n t u count more : ℕ) (s : State) (kind : EndKind) → IsRow row → RunEnds i n s kind → u ≡ t + 1 → (count ≤ n → IsYetToIssue i row count t) → count ≤ more → more ≤ n + 1 → more ≢ count → AreIssuedBy u (run_to row i more) → 0 < events_in u (run_to row i more)
-issue_happens i row n t u count more s kind good ends e yet l few apart issued =
-    let rest = rest_to row i n count more t s kind good ends yet l few in
-    rw rest.1.same (some_issue t u rest.0 (run_to row i count) e rest.1.later (rw rest.1.same at issued) (let c : more ≡ length rest.0 + count = rest.1.count in omega arith))
+pub issue_happens : (i : Loaded) (config : Configuration) (n t u count more : ℕ) (s : State) (kind : EndKind) → IsWithinLimits config → RunEnds i n s kind → u ≡ t + 1 → (count ≤ n → IsYetToIssue i config count t) → count ≤ more → more ≤ n + 1 → more ≢ count → AreIssuedBy u (run_to config i more) → 0 < events_in u (run_to config i more)
+issue_happens i config n t u count more s kind good ends e yet l few apart issued =
+    let rest = rest_to config i n count more t s kind good ends yet l few in
+    rw rest.1.same (some_issue t u rest.0 (run_to config i count) e rest.1.later (rw rest.1.same at issued) (let c : more ≡ length rest.0 + count = rest.1.count in omega arith))
   where
     some_issue : (t u : ℕ) (newer h : List Done) → u ≡ t + 1 → Rattle.tomex_cycle.proofs.Runs.AreLater t newer → AreIssuedBy u (newer ++ h) → 0 < length newer → 0 < events_in u (newer ++ h)
     some_issue t u [] h e later issued l = absurd (omega arith)
@@ -190,11 +190,11 @@ there_by (Value v) e = refl
 there_by (Waits tag) e = absurd (cc)
 there_by Unread e = refl
 
-pub chosen_happens : (i : Loaded) (row : Row) (t u x : ℕ) (st : Pools) (h newer part : List Done) → IsRow row → AreTimed row h → AreIssuedBy t h → u ≡ t + 1 → ShowsStations i (clocks u t t) h st → h ≡ newer ++ part
+pub chosen_happens : (i : Loaded) (config : Configuration) (t u x : ℕ) (st : Pools) (h newer part : List Done) → IsWithinLimits config → AreTimed config h → AreIssuedBy t h → u ≡ t + 1 → ShowsStations i (clocks u t t) h st → h ≡ newer ++ part
     → chosen t part ≡ Some x → has_base (slice_index_or st.slots x None) ≡ true → 0 < events_in u part
-chosen_happens i row t u x st h newer [] good timed issued e shown split c base = absurd (cc)
-chosen_happens i row t u x st h newer (d ∷ older) good timed issued e shown split c base =
-    elder (chosen t older) refl c (λ k. chosen_happens i row t u x st h (newer ++ (d ∷ [])) older good timed issued e shown (split ∙ sym (append_assoc newer (d ∷ []) older)) k base)
+chosen_happens i config t u x st h newer [] good timed issued e shown split c base = absurd (cc)
+chosen_happens i config t u x st h newer (d ∷ older) good timed issued e shown split c base =
+    elder (chosen t older) refl c (λ k. chosen_happens i config t u x st h (newer ++ (d ∷ [])) older good timed issued e shown (split ∙ sym (append_assoc newer (d ∷ []) older)) k base)
   where
     elder : (o : Option ℕ) → chosen t older ≡ o → Rattle.tomex_cycle.proofs.Addresses.or_else o (if waits_for_address t d then place_of d else None) ≡ Some x → (chosen t older ≡ Some x → 0 < events_in u older) → 0 < events_in u (d ∷ older)
     elder (Some z) f c again =
@@ -208,15 +208,15 @@ chosen_happens i row t u x st h newer (d ∷ older) good timed issued e shown sp
           let a = and_parts (nat_lt t d.at.end) (is_memory d.step && not (nat_le (cycle_of d.at.address) t)) w in
           let b = and_parts (is_memory d.step) (not (nat_le (cycle_of d.at.address) t)) a.1 in
           let late : t < cycle_of d.at.address = not_le (cycle_of d.at.address) t b.1 in
-          let here : AreTimed row (newer ++ (d ∷ older)) = rw split at timed in
+          let here : AreTimed config (newer ++ (d ∷ older)) = rw split at timed in
           let by : AreIssuedBy t (newer ++ (d ∷ older)) = rw split at issued in
-          let part : AreTimed row (d ∷ older) = timed_part row newer (d ∷ older) here in
+          let part : AreTimed config (d ∷ older) = timed_part config newer (d ∷ older) here in
           let mine : AreIssuedBy t (d ∷ older) = issued_part t newer (d ∷ older) by in
-          let last : last_address older ≤ t = none_waits row t older good part.1 mine.1 f in
-          let test = test_is row t u d older part.0 part.1 mine e b.0 last late in
+          let last : last_address older ≤ t = none_waits config t older good part.1 mine.1 f in
+          let test = test_is config t u d older part.0 part.1 mine e b.0 last late in
           let held : holds_place t x d ≡ true = holds_by t x d place w in
-          let small : x < 96 = place_low (step_pool d.step) d.at.station x (low row (d ∷ older) good part).0 place in
-          let there : station_at i (clocks u t t) (newer ++ (d ∷ older)) x ≡ Some (station_of i (clocks u t t) d older) = station_here i row (clocks u t t) newer d older x good here (issued_more t (t + 1) (newer ++ (d ∷ older)) (omega arith) by) held in
+          let small : x < 96 = place_low (step_pool d.step) d.at.station x (low config (d ∷ older) good part).0 place in
+          let there : station_at i (clocks u t t) (newer ++ (d ∷ older)) x ≡ Some (station_of i (clocks u t t) d older) = station_here i config (clocks u t t) newer d older x good here (issued_more t (t + 1) (newer ++ (d ∷ older)) (omega arith) by) held in
           let slot : slice_index_or st.slots x None ≡ Some (station_of i (clocks u t t) d older) = shown.slots x small ∙ (ap (λ xs. station_at i (clocks u t t) xs x) split ∙ there) in
           let value : is_value (field_of t older (j_of d.step)) ≡ true = ap has_base (sym slot) ∙ base in
           let at : cycle_of d.at.address ≡ u = eqb-true _ _ (sym test ∙ there_by (field_of t older (j_of d.step)) value) in
@@ -226,11 +226,11 @@ chosen_happens i row t u x st h newer (d ∷ older) good timed issued e shown sp
 
 -- the phase, by the search for the next address
 pub address_happens : (next x : ℕ) (old : Pools) → AreBusy old.slots old.busy old.issue_numbers → ((order : List ℕ) → IsInIssueOrder old.busy old.issue_numbers order → Some x ≡ next_address old.slots order) → AddressHappens next old
-address_happens next x old filled some i row h t e past issued shown =
-    let by : IsInIssueOrder old.busy old.issue_numbers (order_of t h) = order_is i row (clocks next t t) h old past.lawful past.timed (issued_more t (t + 1) h (omega arith) issued) shown filled in
-    let waits : first_waiting old.slots (order_of t h) ≡ chosen t h = waiting_is i row t next old h [] h past.lawful past.timed issued shown refl in
+address_happens next x old filled some i config h t e past issued shown =
+    let by : IsInIssueOrder old.busy old.issue_numbers (order_of t h) = order_is i config (clocks next t t) h old past.lawful past.timed (issued_more t (t + 1) h (omega arith) issued) shown filled in
+    let waits : first_waiting old.slots (order_of t h) ≡ chosen t h = waiting_is i config t next old h [] h past.lawful past.timed issued shown refl in
     let found = here old.slots (chosen t h) (rw waits at (some (order_of t h) by)) in
-    chosen_happens i row t next x old h [] h past.lawful past.timed issued e shown refl found.0 found.1
+    chosen_happens i config t next x old h [] h past.lawful past.timed issued e shown refl found.0 found.1
   where
     here : (slots : List (Option Station)) (o : Option ℕ) → Some x ≡ where_base_is_there slots o → (o ≡ Some x) × (has_base (slice_index_or slots x None) ≡ true)
     here slots None e = absurd (cc)
@@ -243,30 +243,30 @@ address_happens next x old filled some i row h t e past issued shown =
     ]
 
 -- what happens in a part of a run happens in the run
-pub run_happens : (row : Row) (i : Loaded) (n k u : ℕ) (s : State) (kind : EndKind) → RunEnds i n s kind → k ≤ n + 1 → 0 < events_in u (run_to row i k) → 0 < events_in u (run_to row i (n + 1))
-run_happens row i n k u s kind ends l some =
-    let part = run_split row i n k (n + 1) s kind ends l (omega arith) in
-    let more : events_in u (run_to row i k) ≤ events_in u (part.0 ++ run_to row i k) = events_older u part.0 (run_to row i k) in
+pub run_happens : (config : Configuration) (i : Loaded) (n k u : ℕ) (s : State) (kind : EndKind) → RunEnds i n s kind → k ≤ n + 1 → 0 < events_in u (run_to config i k) → 0 < events_in u (run_to config i (n + 1))
+run_happens config i n k u s kind ends l some =
+    let part = run_split config i n k (n + 1) s kind ends l (omega arith) in
+    let more : events_in u (run_to config i k) ≤ events_in u (part.0 ++ run_to config i k) = events_older u part.0 (run_to config i k) in
     rw part.1 (omega arith)
 
 -- a cycle whose phases tell of something has an event
-pub cycle_happens : (i : Loaded) (row : Row) (n t next count c : ℕ) (s : State) (kind : EndKind) (fault : Option Fault) (any addressed ended : Bool)
+pub cycle_happens : (i : Loaded) (config : Configuration) (n t next count c : ℕ) (s : State) (kind : EndKind) (fault : Option Fault) (any addressed ended : Bool)
     (st0 st1 st3 : Pools) (rg0 rg1 : RegStatus) (ft0 ft1 : Fetch) (m0 m1 : Bytes)
-    → MakesStarts row next st0 m0 fault st1 m1 → (any ≡ true → StartsHappen row next st0) → (addressed ≡ true → AddressHappens next st1) → (ended ≡ true → EndsHappen row next st3)
-    → IsUnderWay i row n t next count c fault st3 rg1 ft1 m1 → RunEnds i n s kind → next ≡ t + 1 → IsRow row → IsLoaded i.window i.memory i.entry → IsSnapshot i row n t count st0 rg0 ft0 m0
-    → (any ≡ true) ⊎ ((addressed ≡ true) ⊎ ((c ≢ count) ⊎ (ended ≡ true))) → 0 < events_in next (run_to row i (n + 1))
-cycle_happens i row n t next count c s kind fault any addressed ended st0 st1 st3 rg0 rg1 ft0 ft1 m0 m1 starts a b d on ends e good loaded old which =
+    → MakesStarts config next st0 m0 fault st1 m1 → (any ≡ true → StartsHappen config next st0) → (addressed ≡ true → AddressHappens next st1) → (ended ≡ true → EndsHappen config next st3)
+    → IsUnderWay i config n t next count c fault st3 rg1 ft1 m1 → RunEnds i n s kind → next ≡ t + 1 → IsWithinLimits config → IsLoaded i.window i.memory i.entry → IsSnapshot i config n t count st0 rg0 ft0 m0
+    → (any ≡ true) ⊎ ((addressed ≡ true) ⊎ ((c ≢ count) ⊎ (ended ≡ true))) → 0 < events_in next (run_to config i (n + 1))
+cycle_happens i config n t next count c s kind fault any addressed ended st0 st1 st3 rg0 rg1 ft0 ft1 m0 m1 starts a b d on ends e good loaded old which =
     let few : count ≤ n + 1 = old.issue.few in
-    let h0 : IsHistory i row (run_to row i count) = run_history row i n count s kind good loaded ends few in
+    let h0 : IsHistory i config (run_to config i count) = run_history config i n count s kind good loaded ends few in
     elim which [
-      | inl k ↦ run_happens row i n count next s kind ends few (a k i (run_to row i count) t e h0 old.issue.issued old.issue.slots)
+      | inl k ↦ run_happens config i n count next s kind ends few (a k i (run_to config i count) t e h0 old.issue.issued old.issue.slots)
       | inr other ↦ elim other [
         | inl k ↦
-            let made = starts i (run_to row i count) t e h0 old.issue.issued old.issue.slots old.bytes in
-            run_happens row i n count next s kind ends few (b k i row (run_to row i count) t e h0 old.issue.issued made.1)
+            let made = starts i (run_to config i count) t e h0 old.issue.issued old.issue.slots old.bytes in
+            run_happens config i n count next s kind ends few (b k i config (run_to config i count) t e h0 old.issue.issued made.1)
         | inr other ↦ elim other [
-          | inl k ↦ run_happens row i n c next s kind ends on.after.few (issue_happens i row n t next count c s kind good ends e old.issue.next on.low on.after.few k on.after.issued)
-          | inr k ↦ run_happens row i n c next s kind ends on.after.few (d k i (run_to row i c) t e (run_history row i n c s kind good loaded ends on.after.few) on.after.issued on.after.slots)
+          | inl k ↦ run_happens config i n c next s kind ends on.after.few (issue_happens i config n t next count c s kind good ends e old.issue.next on.low on.after.few k on.after.issued)
+          | inr k ↦ run_happens config i n c next s kind ends on.after.few (d k i (run_to config i c) t e (run_history config i n c s kind good loaded ends on.after.few) on.after.issued on.after.slots)
         ]
       ]
     ]

@@ -2,8 +2,8 @@
 use Rattle.std.proofs.Common.{ℕ, ◌<◌, ◌≤◌, ◌≡◌, ◌∙◌, Bool, true, false, arith, refl, ap, sym, inl, inr, List, [], ◌∷◌, ◌++◌, Option, Some, None, slice_index, slice_index_or}
 use Rattle.std.specs.Prelude.{◌==◌, Decides, if◌then◌else◌, is_some}
 use Rattle.std.proofs.lemmas.Bool.{cases_Bool, both_ways, eq-eqb, eqb-true, or_right}
-use Rattle.tomex_bus.specs.Sets.{has, is_in}
-use Rattle.tomex_bus.specs.Picks.{IsInIssueOrder, Rises}
+use Rattle.tomex_sets.specs.Sets.{has}
+use Rattle.tomex_bus.specs.Picks.{IsInIssueOrder, Rises, is_listed}
 use Rattle.tomex_tags.specs.declared.station.Station.{Station}
 use Rattle.tomex_tags.specs.Contents.{bytes_in, lacks_address}
 use Rattle.tomex_tags.specs.Pools.{AreBusy}
@@ -15,14 +15,14 @@ use Rattle.tomex_cycle.specs.Starts.{is_clear}
 
 -- Lists that rise.
 
-in_here : (x : ℕ) (xs : List ℕ) → is_in (x ∷ xs) x ≡ true
+in_here : (x : ℕ) (xs : List ℕ) → is_listed (x ∷ xs) x ≡ true
 in_here x xs = rw (eq-eqb x x refl) refl
 
-in_behind : (x y : ℕ) (xs : List ℕ) → is_in xs y ≡ true → is_in (x ∷ xs) y ≡ true
+in_behind : (x y : ℕ) (xs : List ℕ) → is_listed xs y ≡ true → is_listed (x ∷ xs) y ≡ true
 in_behind x y xs h = rw h (or_right (x == y) true refl)
 
 -- the middle of a list that rises is older than what is behind it, and younger than what is before
-pub older_in : (issue_numbers older younger : List ℕ) (x y : ℕ) → Rises issue_numbers (older ++ (x ∷ younger)) → is_in (older ++ (x ∷ younger)) y ≡ true → slice_index issue_numbers y < slice_index issue_numbers x → is_in older y ≡ true
+pub older_in : (issue_numbers older younger : List ℕ) (x y : ℕ) → Rises issue_numbers (older ++ (x ∷ younger)) → is_listed (older ++ (x ∷ younger)) y ≡ true → slice_index issue_numbers y < slice_index issue_numbers x → is_listed older y ≡ true
 older_in issue_numbers [] younger x y rises h l = elim (cases_Bool (x == y)) [
   | inl e ↦ let same : x ≡ y = eqb-true x y e in let k : slice_index issue_numbers x < slice_index issue_numbers x = rw (← same) at l in absurd (omega arith)
   | inr e ↦ let k : slice_index issue_numbers x < slice_index issue_numbers y = rises.0 y (rw e at h) in absurd (omega arith)
@@ -32,18 +32,18 @@ older_in issue_numbers (z ∷ older) younger x y rises h l = elim (cases_Bool (z
   | inr e ↦ rw e (older_in issue_numbers older younger x y rises.1 (rw e at h) l)
 ]
 
-middle_in : (older younger : List ℕ) (x : ℕ) → is_in (older ++ (x ∷ younger)) x ≡ true
+middle_in : (older younger : List ℕ) (x : ℕ) → is_listed (older ++ (x ∷ younger)) x ≡ true
 middle_in [] younger x = in_here x younger
 middle_in (z ∷ older) younger x = in_behind z x (older ++ (x ∷ younger)) (middle_in older younger x)
 
-pub older_before : (issue_numbers older younger : List ℕ) (x y : ℕ) → Rises issue_numbers (older ++ (x ∷ younger)) → is_in older y ≡ true → slice_index issue_numbers y < slice_index issue_numbers x
+pub older_before : (issue_numbers older younger : List ℕ) (x y : ℕ) → Rises issue_numbers (older ++ (x ∷ younger)) → is_listed older y ≡ true → slice_index issue_numbers y < slice_index issue_numbers x
 older_before issue_numbers [] younger x y rises h = absurd (cc)
 older_before issue_numbers (z ∷ older) younger x y rises h = elim (cases_Bool (z == y)) [
   | inl e ↦ let same : z ≡ y = eqb-true z y e in rw (← same) (rises.0 x (middle_in older younger x))
   | inr e ↦ older_before issue_numbers older younger x y rises.1 (rw e at h)
 ]
 
-part_in : (older younger : List ℕ) (x y : ℕ) → is_in older y ≡ true → is_in (older ++ (x ∷ younger)) y ≡ true
+part_in : (older younger : List ℕ) (x y : ℕ) → is_listed older y ≡ true → is_listed (older ++ (x ∷ younger)) y ≡ true
 part_in [] younger x y h = absurd (cc)
 part_in (z ∷ older) younger x y h = elim (cases_Bool (z == y)) [
   | inl e ↦ rw e refl
@@ -52,11 +52,11 @@ part_in (z ∷ older) younger x y h = elim (cases_Bool (z == y)) [
 
 -- Older accesses.
 
-all_clear : (slots : List (Option Station)) (xs : List ℕ) (s : Station) (next : ℕ) → ((x : ℕ) → is_in xs x ≡ true → lets_pass (slice_index_or slots x None) s next ≡ true) → is_clear slots xs s next ≡ true
+all_clear : (slots : List (Option Station)) (xs : List ℕ) (s : Station) (next : ℕ) → ((x : ℕ) → is_listed xs x ≡ true → lets_pass (slice_index_or slots x None) s next ≡ true) → is_clear slots xs s next ≡ true
 all_clear slots [] s next each = refl
 all_clear slots (x ∷ xs) s next each = rw (each x (in_here x xs), all_clear slots xs s next (λ y h. each y (in_behind x y xs h))) refl
 
-not_clear : (slots : List (Option Station)) (xs : List ℕ) (s : Station) (next y : ℕ) → is_in xs y ≡ true → lets_pass (slice_index_or slots y None) s next ≡ false → is_clear slots xs s next ≡ false
+not_clear : (slots : List (Option Station)) (xs : List ℕ) (s : Station) (next y : ℕ) → is_listed xs y ≡ true → lets_pass (slice_index_or slots y None) s next ≡ false → is_clear slots xs s next ≡ false
 not_clear slots [] s next y h e = absurd (cc)
 not_clear slots (x ∷ xs) s next y h e = elim (cases_Bool (x == y)) [
   | inl k ↦ let same : x ≡ y = eqb-true x y k in rw (same, e) refl
@@ -66,7 +66,7 @@ not_clear slots (x ∷ xs) s next y h e = elim (cases_Bool (x == y)) [
   ]
 ]
 
-let_by : (slots : List (Option Station)) (xs : List ℕ) (s : Station) (next x : ℕ) → is_clear slots xs s next ≡ true → is_in xs x ≡ true → lets_pass (slice_index_or slots x None) s next ≡ true
+let_by : (slots : List (Option Station)) (xs : List ℕ) (s : Station) (next x : ℕ) → is_clear slots xs s next ≡ true → is_listed xs x ≡ true → lets_pass (slice_index_or slots x None) s next ≡ true
 let_by slots xs s next x clear h = elim (cases_Bool (lets_pass (slice_index_or slots x None) s next)) [
   | inl e ↦ e
   | inr e ↦ absurd (both_ways (is_clear slots xs s next) (not_clear slots xs s next x h e) clear)
@@ -78,7 +78,7 @@ lets_free (Some other) s next e = let z : true ≡ false = e in absurd (cc)
 
 clear_by : (slots : List (Option Station)) (busy : ℕ) (issue_numbers older younger : List ℕ) (place : ℕ) (s : Station) (next : ℕ) → IsInIssueOrder busy issue_numbers (older ++ (place ∷ younger)) → IsClear slots issue_numbers place s next → is_clear slots older s next ≡ true
 clear_by slots busy issue_numbers older younger place s next by each = all_clear slots older s next (λ x h.
-    let inside : is_in (older ++ (place ∷ younger)) x ≡ true = part_in older younger place x h in
+    let inside : is_listed (older ++ (place ∷ younger)) x ≡ true = part_in older younger place x h in
     each x (by.low x inside) (older_before issue_numbers older younger place x by.rises h))
 
 clear_all : (slots : List (Option Station)) (busy : ℕ) (issue_numbers older younger : List ℕ) (place : ℕ) (s : Station) (next : ℕ) → AreBusy slots busy issue_numbers → IsInIssueOrder busy issue_numbers (older ++ (place ∷ younger)) → is_clear slots older s next ≡ true → IsClear slots issue_numbers place s next
@@ -127,12 +127,12 @@ where_base_is_there slots (Some x) = if has_base (slice_index_or slots x None) t
 abbrev pub next_address : List (Option Station) → List ℕ → Option ℕ
 next_address slots order = where_base_is_there slots (first_waiting slots order)
 
-none_waits : (slots : List (Option Station)) (xs : List ℕ) → ((x : ℕ) → is_in xs x ≡ true → lacks_address (slice_index_or slots x None) ≡ false) → first_waiting slots xs ≡ None
+none_waits : (slots : List (Option Station)) (xs : List ℕ) → ((x : ℕ) → is_listed xs x ≡ true → lacks_address (slice_index_or slots x None) ≡ false) → first_waiting slots xs ≡ None
 none_waits slots [] each = refl
 none_waits slots (x ∷ xs) each = rw (each x (in_here x xs)) (none_waits slots xs (λ y h. each y (in_behind x y xs h)))
 
-oldest_waits : (slots : List (Option Station)) (issue_numbers xs : List ℕ) (x : ℕ) → Rises issue_numbers xs → is_in xs x ≡ true → lacks_address (slice_index_or slots x None) ≡ true
-    → ((y : ℕ) → is_in xs y ≡ true → lacks_address (slice_index_or slots y None) ≡ true → slice_index issue_numbers x ≤ slice_index issue_numbers y) → first_waiting slots xs ≡ Some x
+oldest_waits : (slots : List (Option Station)) (issue_numbers xs : List ℕ) (x : ℕ) → Rises issue_numbers xs → is_listed xs x ≡ true → lacks_address (slice_index_or slots x None) ≡ true
+    → ((y : ℕ) → is_listed xs y ≡ true → lacks_address (slice_index_or slots y None) ≡ true → slice_index issue_numbers x ≤ slice_index issue_numbers y) → first_waiting slots xs ≡ Some x
 oldest_waits slots issue_numbers [] x rises h e least = absurd (cc)
 oldest_waits slots issue_numbers (z ∷ zs) x rises h e least = elim (cases_Bool (z == x)) [
   | inl k ↦ let same : z ≡ x = eqb-true z x k in rw (same, e) refl

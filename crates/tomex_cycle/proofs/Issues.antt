@@ -4,7 +4,7 @@ use Rattle.std.specs.Prelude.{nat_lt, nat_le, ◌&&◌, ◌==◌, if◌then◌el
 use Rattle.std.proofs.lemmas.Bool.{cases_Bool, ltb-true, lt-ltb, lt-leb, and_parts, eqb-true, eqb-false}
 use Rattle.std.proofs.lemmas.List.{get_or-set_same, get_or-set_other, length-set}
 use Rattle.tomex_image.specs.Image.{Loaded}
-use Rattle.tomex_config.specs.Row.{Row, IsRow}
+use Rattle.tomex_config.specs.Configuration.{Configuration, IsWithinLimits}
 use Rattle.tomex_rvdec.specs.declared.op.Form.{Form}
 use Rattle.tomex_rvdec.specs.declared.op.Form.TheVariants as forms
 use Rattle.tomex_rvdec.specs.declared.pool.PoolId.{PoolId}
@@ -48,11 +48,11 @@ starts_from : (pool : Option PoolId) (issue start : ℕ) (p : PoolId) (P : UnitI
 starts_from None issue start p P e later timed = absurd (cc)
 starts_from (Some q) issue start p P e later timed = later _ start timed.0
 
-starts_after : (row : Row) (d : Done) (older : List Done) (p : PoolId) → IsTimed row older d.step d.at → step_pool d.step ≡ Some p → d.at.issue < d.at.start
-starts_after row d older p timed e = starts_from (step_pool d.step) d.at.issue d.at.start p (λ u. can_start row older d.step u d.at.issue (cycle_of d.at.address)) e (can_start_later row d older) timed.start
+starts_after : (config : Configuration) (d : Done) (older : List Done) (p : PoolId) → IsTimed config older d.step d.at → step_pool d.step ≡ Some p → d.at.issue < d.at.start
+starts_after config d older p timed e = starts_from (step_pool d.step) d.at.issue d.at.start p (λ u. can_start config older d.step u d.at.issue (cycle_of d.at.address)) e (can_start_later config d older) timed.start
 
-address_after : (row : Row) (d : Done) (older : List Done) → IsTimed row older d.step d.at → is_memory d.step ≡ true → d.at.issue < cycle_of d.at.address
-address_after row d older timed e = ltb-true d.at.issue (cycle_of d.at.address) (and_parts _ _ (and_parts _ _ (address_is row d older timed e).0).0).0
+address_after : (config : Configuration) (d : Done) (older : List Done) → IsTimed config older d.step d.at → is_memory d.step ≡ true → d.at.issue < cycle_of d.at.address
+address_after config d older timed e = ltb-true d.at.issue (cycle_of d.at.address) (and_parts _ _ (and_parts _ _ (address_is config d older timed e).0).0).0
 
 -- Operands.
 
@@ -107,13 +107,13 @@ made_from : (instr : Instruction) (pc : ℕ) (j k : Field) (start u finish value
     → ◌≡◌ {A = Station} (record { instr = instr; pc = pc; j = j; k = k; address = address; finish = if nat_le start u then Some finish else None; value = if nat_le start u then value else 0 }) (issued instr pc j k)
 made_from instr pc j k start u finish value address l e = rw (lt-leb start u l, e) refl
 
-pub station_made : (i : Loaded) (row : Row) (t u : ℕ) (d : Done) (h : List Done) (p : PoolId) → IsTimed row h d.step d.at → d.at.issue ≡ u → step_pool d.step ≡ Some p
+pub station_made : (i : Loaded) (config : Configuration) (t u : ℕ) (d : Done) (h : List Done) (p : PoolId) → IsTimed config h d.step d.at → d.at.issue ≡ u → step_pool d.step ≡ Some p
     → station_of i (clocks u u t) d h ≡ issued d.step.instr d.step.pc (field_of t h (j_of d.step)) (field_of t h (k_of d.step))
-station_made i row t u d h p timed at pool =
-    let after : d.at.issue < d.at.start = starts_after row d h p timed pool in
+station_made i config t u d h p timed at pool =
+    let after : d.at.issue < d.at.start = starts_after config d h p timed pool in
     made_from d.step.instr d.step.pc (field_of t h (j_of d.step)) (field_of t h (k_of d.step)) d.at.start u d.at.finish (result_of d.step (byte_after i (steps_in h)))
     (if is_memory d.step && nat_le (cycle_of d.at.address) u then Some (address_of d.step) else None) (omega arith)
-    (none_yet (is_memory d.step) (cycle_of d.at.address) u (address_of d.step) (λ m. let k : d.at.issue < cycle_of d.at.address = address_after row d h timed m in omega arith))
+    (none_yet (is_memory d.step) (cycle_of d.at.address) u (address_of d.step) (λ m. let k : d.at.issue < cycle_of d.at.address = address_after config d h timed m in omega arith))
 
 -- its tag
 tag_from : (pool : Option PoolId) (station : Option ℕ) (p : PoolId) (n issue : ℕ) (older : List Done) → pool ≡ Some p → IsLeast (is_free p older issue) n → MatchOption pool (station ≡ None) (λ p. (n : ℕ) × (station ≡ Some n) × IsLeast (is_free p older issue) n) → tag_at pool station ≡ Some (record { pool = p; number = n })
@@ -125,8 +125,8 @@ tag_from (Some q) station p n issue older e least is =
     let f : station ≡ Some is.0 = is.1 in
     rw (f, s, same) refl
 
-pub tag_made : (row : Row) (d : Done) (h : List Done) (p : PoolId) (n u : ℕ) → IsTimed row h d.step d.at → d.at.issue ≡ u → step_pool d.step ≡ Some p → IsLeast (is_free p h u) n → tag_of d ≡ Some (record { pool = p; number = n })
-tag_made row d h p n u timed at pool least = tag_from (step_pool d.step) d.at.station p n d.at.issue h pool (rw at least) timed.station
+pub tag_made : (config : Configuration) (d : Done) (h : List Done) (p : PoolId) (n u : ℕ) → IsTimed config h d.step d.at → d.at.issue ≡ u → step_pool d.step ≡ Some p → IsLeast (is_free p h u) n → tag_of d ≡ Some (record { pool = p; number = n })
+tag_made config d h p n u timed at pool least = tag_from (step_pool d.step) d.at.station p n d.at.issue h pool (rw at least) timed.station
 
 -- The stations.
 
@@ -215,20 +215,20 @@ branch_late : (b : Bool) (t finish : ℕ) → (b ≡ true → t < finish) → b 
 branch_late false t finish l = refl
 branch_late true t finish l = rw (lt-ltb t finish (l refl)) refl
 
-pub fetch_made : (i : Loaded) (row : Row) (t u : ℕ) (d : Done) (h : List Done) (ft : Fetch) → IsRow row → AreTimed row (d ∷ h) → d.at.issue ≡ u → u ≡ t + 1 → ft ≡ fetch_after d.step (is_branch d.step) (end_of d.step) → ft ≡ fetch_of i t (d ∷ h)
-fetch_made i row t u d h ft good timed at e is =
+pub fetch_made : (i : Loaded) (config : Configuration) (t u : ℕ) (d : Done) (h : List Done) (ft : Fetch) → IsWithinLimits config → AreTimed config (d ∷ h) → d.at.issue ≡ u → u ≡ t + 1 → ft ≡ fetch_after d.step (is_branch d.step) (end_of d.step) → ft ≡ fetch_of i t (d ∷ h)
+fetch_made i config t u d h ft good timed at e is =
     let late : is_branch d.step ≡ true → t < d.at.finish = λ b. (
     let q = branch_pool (step_pool d.step) pools.Bru b in
-    let after : d.at.issue < d.at.start = starts_after row d h q.0 timed.0 q.1 in
-    let r : d.at.start ≤ d.at.finish = (reach row d h good timed).order in
+    let after : d.at.issue < d.at.start = starts_after config d h q.0 timed.0 q.1 in
+    let r : d.at.start ≤ d.at.finish = (reach config d h good timed).order in
     omega arith) in
     is ∙ ap (λ (w : Bool). fetch_after d.step w (end_of d.step)) (branch_late (is_branch d.step) t d.at.finish late)
 
 -- What comes after it.
 
 -- nothing issues before what is older
-pub yet_after : (i : Loaded) (row : Row) (count t u : ℕ) (d : Done) (h : List Done) → run_to row i (count + 1) ≡ d ∷ h → d.at.issue ≡ u → u ≡ t + 1 → IsYetToIssue i row (count + 1) t
-yet_after i row count t u d h run at e x is s l = rw run (elim (cases_Bool (can_issue row (d ∷ h) x s)) [
+pub yet_after : (i : Loaded) (config : Configuration) (count t u : ℕ) (d : Done) (h : List Done) → run_to config i (count + 1) ≡ d ∷ h → d.at.issue ≡ u → u ≡ t + 1 → IsYetToIssue i config (count + 1) t
+yet_after i config count t u d h run at e x is s l = rw run (elim (cases_Bool (can_issue config (d ∷ h) x s)) [
   | inr never ↦ never
-  | inl can ↦ let k : d.at.issue ≤ s = issue_from row (d ∷ h) x s can in absurd (omega arith)
+  | inl can ↦ let k : d.at.issue ≤ s = issue_from config (d ∷ h) x s can in absurd (omega arith)
 ])

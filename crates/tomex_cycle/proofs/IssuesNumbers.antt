@@ -5,7 +5,7 @@ use Rattle.std.specs.List.{list_all}
 use Rattle.std.proofs.lemmas.Bool.{cases_Bool, cases_order, ltb-true, lt-ltb, le-ltb, leb-true, leb-false, le-leb, lt-leb, and_parts, eqb-true, eq-eqb, ne_eqb, both_ways}
 use Rattle.std.proofs.lemmas.List.Sums.{sum_by-cons}
 use Rattle.tomex_image.specs.Image.{Loaded}
-use Rattle.tomex_config.specs.Row.{Row, stations_of}
+use Rattle.tomex_config.specs.Configuration.{Configuration, stations_of}
 use Rattle.tomex_rvdec.specs.declared.pool.PoolId.{PoolId}
 use Rattle.tomex_rvdec.specs.Parts.{place_of_pool}
 use Rattle.tomex_rvexec.specs.Steps.{is_in, is_number, step_pool}
@@ -50,20 +50,20 @@ count_later p t u (d ∷ h) l =
     let b : one (is_held p u d) ≤ one (is_held p t d) = one_le (is_held p u d) (is_held p t d) (held_later p t u d l) in
     rw (sum_by-cons, sum_by-cons) (omega arith)
 
-room_of : (row : Row) (older : List Done) (p : PoolId) (pool : Option PoolId) (t : ℕ) → is_in p pool ≡ true → has_station row older pool t ≡ true → count_by (is_held p t) older < stations_of row p
-room_of row older p None t e has = absurd (cc)
-room_of row older p (Some q) t e has = rw (same_pool p q e) at (ltb-true (count_by (is_held q t) older) (stations_of row q) has)
+room_of : (config : Configuration) (older : List Done) (p : PoolId) (pool : Option PoolId) (t : ℕ) → is_in p pool ≡ true → has_station config older pool t ≡ true → count_by (is_held p t) older < stations_of config p
+room_of config older p None t e has = absurd (cc)
+room_of config older p (Some q) t e has = rw (same_pool p q e) at (ltb-true (count_by (is_held q t) older) (stations_of config q) has)
 
 -- a pool's stations are enough for those that are held
-pub held_most : (row : Row) (p : PoolId) (u : ℕ) (h : List Done) → AreTimed row h → AreIssuedBy u h → count_by (is_held p u) h ≤ stations_of row p
-held_most row p u [] timed issued = omega arith
-held_most row p u (d ∷ older) timed issued = elim (cases_Bool (is_held p u d)) [
+pub held_most : (config : Configuration) (p : PoolId) (u : ℕ) (h : List Done) → AreTimed config h → AreIssuedBy u h → count_by (is_held p u) h ≤ stations_of config p
+held_most config p u [] timed issued = omega arith
+held_most config p u (d ∷ older) timed issued = elim (cases_Bool (is_held p u d)) [
   | inr e ↦
-      let k : count_by (is_held p u) older ≤ stations_of row p = held_most row p u older timed.1 issued.1 in
+      let k : count_by (is_held p u) older ≤ stations_of config p = held_most config p u older timed.1 issued.1 in
       rw (sum_by-cons, e) (omega arith)
   | inl e ↦
-      let has : has_station row older (step_pool d.step) d.at.issue ≡ true = issue_station row older d.step d.at.issue timed.0.issue.0 in
-      let f : count_by (is_held p d.at.issue) older < stations_of row p = room_of row older p (step_pool d.step) d.at.issue (and_parts (is_in p (step_pool d.step)) (nat_le u d.at.end) e).0 has in
+      let has : has_station config older (step_pool d.step) d.at.issue ≡ true = issue_station config older d.step d.at.issue timed.0.issue.0 in
+      let f : count_by (is_held p d.at.issue) older < stations_of config p = room_of config older p (step_pool d.step) d.at.issue (and_parts (is_in p (step_pool d.step)) (nat_le u d.at.end) e).0 has in
       let m : count_by (is_held p u) older ≤ count_by (is_held p d.at.issue) older = count_later p d.at.issue u older issued.0 in
       rw (sum_by-cons, e) (omega arith)
 ]
@@ -163,22 +163,22 @@ taken_free : (older : List Done) (pool : Option PoolId) (station : Option ℕ) (
 taken_free older None station issue k p e f is = absurd (cc)
 taken_free older (Some q) station issue k p e f is = rw (same_pool p q e, number_same station is.0 k is.1 f) at is.2.0
 
-taken_low : (row : Row) (older : List Done) (pool : Option PoolId) (station : Option ℕ) (issue : ℕ) (p : PoolId) → is_in p pool ≡ true → has_station row older pool issue ≡ true
-    → MatchOption pool (station ≡ None) (λ p. (n : ℕ) × (station ≡ Some n) × IsLeast (is_free p older issue) n) → lower station (stations_of row p) ≡ true
-taken_low row older None station issue p e has is = absurd (cc)
-taken_low row older (Some q) station issue p e has is =
-    let found = number_is row older q issue has in
-    let same : is.0 ≡ least (is_free q older issue) (stations_of row q) = least_same (is_free q older issue) _ _ is.2 found.0 in
-    let few : least (is_free q older issue) (stations_of row q) < stations_of row q = found.1 in
-    let f : stations_of row q ≡ stations_of row p = ap (stations_of row) (same_pool p q e) in
+taken_low : (config : Configuration) (older : List Done) (pool : Option PoolId) (station : Option ℕ) (issue : ℕ) (p : PoolId) → is_in p pool ≡ true → has_station config older pool issue ≡ true
+    → MatchOption pool (station ≡ None) (λ p. (n : ℕ) × (station ≡ Some n) × IsLeast (is_free p older issue) n) → lower station (stations_of config p) ≡ true
+taken_low config older None station issue p e has is = absurd (cc)
+taken_low config older (Some q) station issue p e has is =
+    let found = number_is config older q issue has in
+    let same : is.0 ≡ least (is_free q older issue) (stations_of config q) = least_same (is_free q older issue) _ _ is.2 found.0 in
+    let few : least (is_free q older issue) (stations_of config q) < stations_of config q = found.1 in
+    let f : stations_of config q ≡ stations_of config p = ap (stations_of config) (same_pool p q e) in
     let s : station ≡ Some is.0 = is.1 in
-    rw (s, lt-ltb is.0 (stations_of row p) (omega arith)) refl
+    rw (s, lt-ltb is.0 (stations_of config p) (omega arith)) refl
 
-one_each : (row : Row) (p : PoolId) (u k : ℕ) (h : List Done) → AreTimed row h → AreIssuedBy u h → count_by (numbered p u k) h ≤ 1
-one_each row p u k [] timed issued = omega arith
-one_each row p u k (d ∷ older) timed issued = elim (cases_Bool (numbered p u k d)) [
+one_each : (config : Configuration) (p : PoolId) (u k : ℕ) (h : List Done) → AreTimed config h → AreIssuedBy u h → count_by (numbered p u k) h ≤ 1
+one_each config p u k [] timed issued = omega arith
+one_each config p u k (d ∷ older) timed issued = elim (cases_Bool (numbered p u k d)) [
   | inr e ↦
-      let a : count_by (numbered p u k) older ≤ 1 = one_each row p u k older timed.1 issued.1 in
+      let a : count_by (numbered p u k) older ≤ 1 = one_each config p u k older timed.1 issued.1 in
       rw (sum_by-cons, e) (omega arith)
   | inl e ↦
       let two = and_parts (is_held p u d) (is_number d.at.station k) e in
@@ -188,23 +188,23 @@ one_each row p u k (d ∷ older) timed issued = elim (cases_Bool (numbered p u k
       rw (sum_by-cons, e) (omega arith)
 ]
 
-all_below : (row : Row) (p : PoolId) (u : ℕ) (h : List Done) → AreTimed row h → count_by (is_held p u) h ≤ count_by (below p u (stations_of row p)) h
-all_below row p u [] timed = omega arith
-all_below row p u (d ∷ older) timed =
-    let a : count_by (is_held p u) older ≤ count_by (below p u (stations_of row p)) older = all_below row p u older timed.1 in
+all_below : (config : Configuration) (p : PoolId) (u : ℕ) (h : List Done) → AreTimed config h → count_by (is_held p u) h ≤ count_by (below p u (stations_of config p)) h
+all_below config p u [] timed = omega arith
+all_below config p u (d ∷ older) timed =
+    let a : count_by (is_held p u) older ≤ count_by (below p u (stations_of config p)) older = all_below config p u older timed.1 in
     elim (cases_Bool (is_held p u d)) [
       | inr e ↦ rw (sum_by-cons, sum_by-cons, e) (omega arith)
       | inl e ↦
-          let has : has_station row older (step_pool d.step) d.at.issue ≡ true = issue_station row older d.step d.at.issue timed.0.issue.0 in
-          let f : lower d.at.station (stations_of row p) ≡ true = taken_low row older (step_pool d.step) d.at.station d.at.issue p (and_parts (is_in p (step_pool d.step)) (nat_le u d.at.end) e).0 has timed.0.station in
+          let has : has_station config older (step_pool d.step) d.at.issue ≡ true = issue_station config older d.step d.at.issue timed.0.issue.0 in
+          let f : lower d.at.station (stations_of config p) ≡ true = taken_low config older (step_pool d.step) d.at.station d.at.issue p (and_parts (is_in p (step_pool d.step)) (nat_le u d.at.end) e).0 has timed.0.station in
           rw (sum_by-cons, sum_by-cons, e, f) (omega arith)
     ]
 
 -- where a number of the pool is free, fewer stations are held than there are
-pub room : (row : Row) (p : PoolId) (u n : ℕ) (h : List Done) → AreTimed row h → AreIssuedBy u h → n < stations_of row p → is_free p h u n ≡ true → count_by (is_held p u) h < stations_of row p
-room row p u n h timed issued l free =
-    let a : count_by (is_held p u) h ≤ count_by (below p u (stations_of row p)) h = all_below row p u h timed in
-    let b : count_by (below p u (stations_of row p)) h < stations_of row p = less_below p u (stations_of row p) n h (λ k. one_each row p u k h timed issued) l (none_counted (numbered p u n) h free) in
+pub room : (config : Configuration) (p : PoolId) (u n : ℕ) (h : List Done) → AreTimed config h → AreIssuedBy u h → n < stations_of config p → is_free p h u n ≡ true → count_by (is_held p u) h < stations_of config p
+room config p u n h timed issued l free =
+    let a : count_by (is_held p u) h ≤ count_by (below p u (stations_of config p)) h = all_below config p u h timed in
+    let b : count_by (below p u (stations_of config p)) h < stations_of config p = less_below p u (stations_of config p) n h (λ k. one_each config p u k h timed issued) l (none_counted (numbered p u n) h free) in
     omega arith
 
 -- A number is free just where no station stands in its place.

@@ -3,7 +3,7 @@ use Rattle.std.proofs.Common.{ℕ, ◌+◌, ◌<◌, ◌≤◌, ◌≡◌, ◌�
 use Rattle.std.specs.Prelude.{nat_lt, ◌&&◌, ◌||◌, not, Ok}
 use Rattle.std.proofs.lemmas.Bool.{cases_Bool, cases_order, ltb-true, ltb-false, lt-ltb, le-ltb, and_parts}
 use Rattle.tomex_image.specs.Image.{Loaded, IsLoaded}
-use Rattle.tomex_config.specs.Row.{Row, IsRow}
+use Rattle.tomex_config.specs.Configuration.{Configuration, IsWithinLimits}
 use Rattle.tomex_rvexec.specs.declared.outcome.EndKind.{EndKind}
 use Rattle.tomex_rvexec.specs.declared.step.Step.{Step}
 use Rattle.tomex_rvexec.specs.Fetch.{instruction_at}
@@ -42,8 +42,8 @@ finished_later t u (d ∷ h) l e =
     let two = and_parts (not (is_branch d.step) || nat_lt d.at.finish t) (are_branches_finished h t) e in
     rw (done_later (is_branch d.step) t u d.at.finish l two.0, finished_later t u h l two.1) refl
 
-finished_from : (row : Row) (older : List Done) (x : Step) (t : ℕ) → can_issue row older x t ≡ true → are_branches_finished older t ≡ true
-finished_from row older x t e = (and_parts _ (are_branches_finished older t) (and_parts _ _ e).0).1
+finished_from : (config : Configuration) (older : List Done) (x : Step) (t : ℕ) → can_issue config older x t ≡ true → are_branches_finished older t ≡ true
+finished_from config older x t e = (and_parts _ (are_branches_finished older t) (and_parts _ _ e).0).1
 
 finished_test : (b : Bool) (t u finish : ℕ) → u ≡ t + 1 → ((not b || nat_lt finish u) && true) ≡ not (b && nat_lt t finish)
 finished_test false t u finish e = refl
@@ -53,26 +53,26 @@ finished_test true t u finish e = elim (cases_Bool (nat_lt t finish)) [
 ]
 
 -- only the youngest step can be a branch that hasn't finished
-pub branches_is : (row : Row) (t u : ℕ) (h : List Done) → AreTimed row h → AreIssuedBy u h → u ≡ t + 1 → are_branches_finished h u ≡ not (is_waiting t h)
-branches_is row t u [] timed issued e = refl
-branches_is row t u (d ∷ older) timed issued e =
-    let before : are_branches_finished older u ≡ true = finished_later d.at.issue u older issued.0 (finished_from row older d.step d.at.issue timed.0.issue.0) in
+pub branches_is : (config : Configuration) (t u : ℕ) (h : List Done) → AreTimed config h → AreIssuedBy u h → u ≡ t + 1 → are_branches_finished h u ≡ not (is_waiting t h)
+branches_is config t u [] timed issued e = refl
+branches_is config t u (d ∷ older) timed issued e =
+    let before : are_branches_finished older u ≡ true = finished_later d.at.issue u older issued.0 (finished_from config older d.step d.at.issue timed.0.issue.0) in
     rw before (finished_test (is_branch d.step) t u d.at.finish e)
 
-can_from : (row : Row) (h : List Done) (x : Step) (u : ℕ) (b s : Bool) → 0 < u → has_slot row h u ≡ true → are_branches_finished h u ≡ b → has_station row h (step_pool x) u ≡ s → can_issue row h x u ≡ (b && s)
-can_from row h x u b s l slot e f = rw (lt-ltb 0 u l, slot, e, f) refl
+can_from : (config : Configuration) (h : List Done) (x : Step) (u : ℕ) (b s : Bool) → 0 < u → has_slot config h u ≡ true → are_branches_finished h u ≡ b → has_station config h (step_pool x) u ≡ s → can_issue config h x u ≡ (b && s)
+can_from config h x u b s l slot e f = rw (lt-ltb 0 u l, slot, e, f) refl
 
 -- the test for issue in the cycle, where the width leaves one
-pub can_is : (row : Row) (h : List Done) (x : Step) (t u : ℕ) → AreTimed row h → AreIssuedBy u h → u ≡ t + 1 → has_slot row h u ≡ true → can_issue row h x u ≡ (not (is_waiting t h) && has_station row h (step_pool x) u)
-can_is row h x t u timed issued e slot = can_from row h x u _ _ (omega arith) slot (branches_is row t u h timed issued e) refl
+pub can_is : (config : Configuration) (h : List Done) (x : Step) (t u : ℕ) → AreTimed config h → AreIssuedBy u h → u ≡ t + 1 → has_slot config h u ≡ true → can_issue config h x u ≡ (not (is_waiting t h) && has_station config h (step_pool x) u)
+can_is config h x t u timed issued e slot = can_from config h x u _ _ (omega arith) slot (branches_is config t u h timed issued e) refl
 
 -- what couldn't issue by t and can in the next cycle issues then
-pub issues_at : (row : Row) (h : List Done) (x : Step) (t u : ℕ) → IsRow row → AreTimed row h → u ≡ t + 1 → ((s : ℕ) → s ≤ t → can_issue row h x s ≡ false) → can_issue row h x u ≡ true → (times_of row h x).issue ≡ u
-issues_at row h x t u good timed e never can = least_same (can_issue row h x) _ u (times_are row h x good timed).issue (can, λ s l. never s (omega arith))
+pub issues_at : (config : Configuration) (h : List Done) (x : Step) (t u : ℕ) → IsWithinLimits config → AreTimed config h → u ≡ t + 1 → ((s : ℕ) → s ≤ t → can_issue config h x s ≡ false) → can_issue config h x u ≡ true → (times_of config h x).issue ≡ u
+issues_at config h x t u good timed e never can = least_same (can_issue config h x) _ u (times_are config h x good timed).issue (can, λ s l. never s (omega arith))
 
 -- and what can't doesn't by then
-pub yet_more : (i : Loaded) (row : Row) (count t u : ℕ) → IsYetToIssue i row count t → ((x : Step) → step_after i count ≡ Some x → can_issue row (run_to row i count) x u ≡ false) → u ≡ t + 1 → IsYetToIssue i row count u
-yet_more i row count t u yet never e x is s l = elim (cases_order s u) [
+pub yet_more : (i : Loaded) (config : Configuration) (count t u : ℕ) → IsYetToIssue i config count t → ((x : Step) → step_after i count ≡ Some x → can_issue config (run_to config i count) x u ≡ false) → u ≡ t + 1 → IsYetToIssue i config count u
+yet_more i config count t u yet never e x is s l = elim (cases_order s u) [
   | inl same ↦ rw same (never x is)
   | inr (inl less) ↦ yet x is s (omega arith)
   | inr (inr more) ↦ absurd (omega arith)
@@ -102,12 +102,12 @@ at_stopped : (f : Fetch) (pc p : ℕ) (kind : EndKind) → f ≡ At pc → f ≡
 at_stopped f pc p kind e g = cc
 
 -- while fetch has an address steps are left
-pub left : (row : Row) (i : Loaded) (n t count pc : ℕ) (s : State) (kind : EndKind) → RunEnds i n s kind → count ≤ n + 1 → fetch_of i t (run_to row i count) ≡ At pc → count ≤ n
-left row i n t count pc s kind ends few e = elim (cases_order count (n + 1)) [
+pub left : (config : Configuration) (i : Loaded) (n t count pc : ℕ) (s : State) (kind : EndKind) → RunEnds i n s kind → count ≤ n + 1 → fetch_of i t (run_to config i count) ≡ At pc → count ≤ n
+left config i n t count pc s kind ends few e = elim (cases_order count (n + 1)) [
   | inl k ↦
-      let z = stops row i n t s kind ends in
-      let f : fetch_of i t (run_to row i count) ≡ Stopped kind z.0.pc = rw k z.2 in
-      absurd (at_stopped (fetch_of i t (run_to row i count)) pc z.0.pc kind e f)
+      let z = stops config i n t s kind ends in
+      let f : fetch_of i t (run_to config i count) ≡ Stopped kind z.0.pc = rw k z.2 in
+      absurd (at_stopped (fetch_of i t (run_to config i count)) pc z.0.pc kind e f)
   | inr (inl less) ↦ omega arith
   | inr (inr more) ↦ absurd (omega arith)
 ]
@@ -118,19 +118,19 @@ fetched_by i older x pc follows e =
     (same, rw same (rw (follows.fetch, follows.instr) refl))
 
 -- the step that comes, and what is fetched
-pub record IsComing (i : Loaded) (row : Row) (n t count pc : ℕ) (x : Step) : Type 0 where
+pub record IsComing (i : Loaded) (config : Configuration) (n t count pc : ℕ) (x : Step) : Type 0 where
   pub less : count ≤ n
   pub is : step_after i count ≡ Some x
-  pub follows : Follows i (steps_in (run_to row i count)) x
+  pub follows : Follows i (steps_in (run_to config i count)) x
   pub at : pc ≡ x.pc
   pub fetched : instruction_at i pc ≡ Ok x.instr
-  pub goes : is_waiting t (run_to row i count) ≡ false
+  pub goes : is_waiting t (run_to config i count) ≡ false
 
-pub coming : (row : Row) (i : Loaded) (n t count pc : ℕ) (s : State) (kind : EndKind) → IsLoaded i.window i.memory i.entry → RunEnds i n s kind → count ≤ n + 1 → fetch_of i t (run_to row i count) ≡ At pc → (x : Step) × IsComing i row n t count pc x
-coming row i n t count pc s kind loaded ends few e =
-    let less : count ≤ n = left row i n t count pc s kind ends few e in
+pub coming : (config : Configuration) (i : Loaded) (n t count pc : ℕ) (s : State) (kind : EndKind) → IsLoaded i.window i.memory i.entry → RunEnds i n s kind → count ≤ n + 1 → fetch_of i t (run_to config i count) ≡ At pc → (x : Step) × IsComing i config n t count pc x
+coming config i n t count pc s kind loaded ends few e =
+    let less : count ≤ n = left config i n t count pc s kind ends few e in
     let x = step_is i n count s kind ends less in
-    let follows : Follows i (steps_in (run_to row i count)) x.0 = rw (steps_are row i count) (step_follows i n count s kind x.0 loaded ends less x.1) in
-    let at = at_is i t pc (run_to row i count) e in
-    let f = fetched_by i (steps_in (run_to row i count)) x.0 pc follows at.0 in
+    let follows : Follows i (steps_in (run_to config i count)) x.0 = rw (steps_are config i count) (step_follows i n count s kind x.0 loaded ends less x.1) in
+    let at = at_is i t pc (run_to config i count) e in
+    let f = fetched_by i (steps_in (run_to config i count)) x.0 pc follows at.0 in
     (x.0, record { less = less; is = x.1; follows = follows; at = f.0; fetched = f.1; goes = at.1 })

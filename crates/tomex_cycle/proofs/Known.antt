@@ -7,15 +7,16 @@ use Rattle.tomex_rvdec.specs.Operands.{dest_of}
 use Rattle.tomex_rvdec.specs.Parts.{place_of_pool}
 use Rattle.tomex_rvdec.specs.declared.pool.PoolId.{PoolId}
 use Rattle.tomex_rvexec.specs.Steps.{is_number}
-use Rattle.tomex_bus.specs.Sets.{has}
+use Rattle.tomex_sets.specs.Sets.{has}
 use Rattle.tomex_bus.specs.Wheel.{HasPut, IsEmpty, Lacks, is_due}
-use Rattle.tomex_bus.proofs.Bits.{none_in}
+use Rattle.tomex_sets.proofs.Bits.{none_in}
 use Rattle.tomex_tags.specs.Contents.{with_address}
 use Rattle.tomex_tags.specs.Pools.{is_open}
 use Rattle.tomex_tags.specs.declared.station.Station.{Station}
 use Rattle.tomex_timing.specs.declared.tables.Field.{Field}
 use Rattle.tomex_timing.specs.declared.tables.Field.TheVariants.{Value, Waits, Unread}
-use Rattle.tomex_cycle.specs.Ends.{can_send, finishes, is_done_before}
+use Rattle.tomex_cycle.specs.Ends.{can_send, finishes}
+use Rattle.tomex_membuf.specs.Order.{is_finished_before}
 use Rattle.tomex_cycle.specs.Finishes.{AreKnown, has_stayed}
 use Rattle.tomex_cycle.specs.declared.finishes.Finishes.{Finishes}
 use Rattle.tomex_cycle.proofs.Places.{pool_low}
@@ -52,10 +53,10 @@ none_finishes : (v : ℕ) (s : Station) → s.finish ≡ None → finishes v (So
 none_finishes v s e = ap (λ (z : Option ℕ). is_number z v) e
 
 none_sends : (next : ℕ) (s : Station) → s.finish ≡ None → can_send next (Some s) ≡ false
-none_sends next s e = ap (λ (z : Option ℕ). is_some (dest_of s.instr) && is_done_before next z) e ∙ and_right (is_some (dest_of s.instr)) false refl
+none_sends next s e = ap (λ (z : Option ℕ). is_some (dest_of s.instr) && is_finished_before z next) e ∙ and_right (is_some (dest_of s.instr)) false refl
 
 none_stays : (next : ℕ) (s : Station) → s.finish ≡ None → has_stayed next (Some s) ≡ false
-none_stays next s e = ap (λ (z : Option ℕ). not (is_some (dest_of s.instr)) && is_done_before next z) e ∙ and_right (not (is_some (dest_of s.instr))) false refl
+none_stays next s e = ap (λ (z : Option ℕ). not (is_some (dest_of s.instr)) && is_finished_before z next) e ∙ and_right (not (is_some (dest_of s.instr))) false refl
 
 -- an instruction issues to a place in which nothing stands
 pub known_issued : (slots : List (Option Station)) (x next : ℕ) (s : Station) (f : Finishes) → x < length slots → AreKnown slots next f → slice_index_or slots x None ≡ None → s.finish ≡ None → AreKnown (slice_set slots x (Some s)) next f
@@ -148,7 +149,7 @@ known_started slots x next latency s t f g l m known at idle fin some few put re
     or_false true = refl
     or_false false = refl
 
-    late : (b : Bool) → (b && is_done_before next t.finish) ≡ false
+    late : (b : Bool) → (b && is_finished_before t.finish next) ≡ false
     late b = rw (fin, le-ltb (next + latency - 1) next (omega arith)) (and_right b false refl)
 
 -- Before the first cycle.

@@ -8,16 +8,17 @@ use Rattle.tomex_rvdec.specs.declared.pool.UnitId.TheVariants as units
 use Rattle.tomex_rvexec.specs.Steps.{is_number}
 use Rattle.tomex_bus.specs.Picks.{IsPicked}
 use Rattle.tomex_bus.proofs.Picking.{none_picked}
-use Rattle.tomex_bus.specs.Sets.{has}
+use Rattle.tomex_sets.specs.Sets.{has}
 use Rattle.tomex_bus.specs.Wheel.{is_due}
-use Rattle.tomex_bus.proofs.Bits.{agreed, member_some, none_in}
+use Rattle.tomex_sets.proofs.Bits.{agreed, member_some, none_in}
 use Rattle.tomex_tags.proofs.Entering.{of_busy}
 use Rattle.tomex_tags.specs.Contents.{hears}
 use Rattle.tomex_tags.specs.Places.{is_served}
 use Rattle.tomex_tags.specs.Pools.{AreBusy, Pools}
 use Rattle.tomex_tags.specs.WaitSets.{IsSetOf, writes}
 use Rattle.tomex_tags.specs.declared.station.Station.{Station}
-use Rattle.tomex_cycle.specs.Ends.{AreDone, AreEnding, IsDoneBranch, after_ends, can_send, ends_alone, finishes, is_done_before, is_done_by}
+use Rattle.tomex_cycle.specs.Ends.{AreDone, AreEnding, IsDoneBranch, after_ends, can_send, ends_alone, finishes, is_finished_by}
+use Rattle.tomex_membuf.specs.Order.{is_finished_before}
 use Rattle.tomex_cycle.specs.Finishes.{AreKnown, HaveTurned, LeavesKnown, has_stayed}
 use Rattle.tomex_cycle.specs.declared.finishes.Finishes.{Finishes}
 use Rattle.tomex_cycle.proofs.Happens.{member_of}
@@ -36,7 +37,7 @@ all_due slots next due f g known turned x l = turned.due x ∙ elim (cases_Bool 
       ])
 ]
 
-alone_test : (next : ℕ) (finish : Option ℕ) (d : Bool) → (not d && is_done_before next finish) ≡ false → (is_number finish next && not (is_number finish next && d)) ≡ (not d && is_done_by next finish)
+alone_test : (next : ℕ) (finish : Option ℕ) (d : Bool) → (not d && is_finished_before finish next) ≡ false → (is_number finish next && not (is_number finish next && d)) ≡ (not d && is_finished_by finish next)
 alone_test next None d e = sym (and_right (not d) false refl)
 alone_test next (Some v) true e = off (v == next)
   where
@@ -87,7 +88,7 @@ after_test : (test : Option Station → Bool) (sent : ℕ → Option ℕ) (ended
 after_test test sent true o none same = none
 after_test test sent false o none same = heard_same test sent o same
 
-later_test : (next a : ℕ) (finish : Option ℕ) (b : Bool) → (b && is_done_before next finish) ≡ true → is_number finish (next + a) ≡ false
+later_test : (next a : ℕ) (finish : Option ℕ) (b : Bool) → (b && is_finished_before finish next) ≡ true → is_number finish (next + a) ≡ false
 later_test next a None b e = refl
 later_test next a (Some v) b e = let l : v < next = ltb-true v next (and_parts b (nat_lt v next) e).1 in ne_eqb v (next + a) (λ z. absurd (omega arith))
 
@@ -109,7 +110,7 @@ or_parts : (a b : Bool) → (a || b) ≡ true → (a ≡ true) ⊎ (b ≡ true)
 or_parts true b e = inl refl
 or_parts false b e = inr e
 
-before_next : (next : ℕ) (finish : Option ℕ) → is_done_before (next + 1) finish ≡ (is_done_before next finish || is_number finish next)
+before_next : (next : ℕ) (finish : Option ℕ) → is_finished_before finish (next + 1) ≡ (is_finished_before finish next || is_number finish next)
 before_next next None = refl
 before_next next (Some v) = elim (cases_Bool (nat_lt v next)) [
   | inl e ↦ let l : v < next = ltb-true v next e in rw (e, lt-ltb v (next + 1) (omega arith)) refl
@@ -133,14 +134,14 @@ ready_test false before done true inside apart = let z : false ≡ true = inside
 ready_test false before true false inside apart = sym (and_right (not (true && not (true && false))) false refl)
 ready_test false before false false inside apart = refl
 
-apart_test : (next : ℕ) (finish : Option ℕ) → is_done_before next finish ≡ true → is_number finish next ≡ false
+apart_test : (next : ℕ) (finish : Option ℕ) → is_finished_before finish next ≡ true → is_number finish next ≡ false
 apart_test next None e = refl
 apart_test next (Some v) e = let l : v < next = ltb-true v next e in ne_eqb v next (λ z. absurd (omega arith))
 
 ready_is : (next : ℕ) (o : Option Station) (sending : Bool) → (sending ≡ true → can_send next o ≡ true) → ((can_send next o && not sending) || (finishes next o && writes o)) ≡ (not (sending || (finishes next o && not (finishes next o && writes o))) && can_send (next + 1) o)
 ready_is next None true inside = let z : false ≡ true = inside refl in absurd (cc)
 ready_is next None false inside = refl
-ready_is next (Some s) sending inside = rw (before_next next s.finish) (ready_test (is_some (dest_of s.instr)) (is_done_before next s.finish) (is_number s.finish next) sending inside (apart_test next s.finish))
+ready_is next (Some s) sending inside = rw (before_next next s.finish) (ready_test (is_some (dest_of s.instr)) (is_finished_before s.finish next) (is_number s.finish next) sending inside (apart_test next s.finish))
 
 gone_test : (r before done sending : Bool) → (not r && before) ≡ false → (not (sending || (done && not (done && r))) && (not r && (before || done))) ≡ false
 gone_test true before done sending e = and_right (not (sending || (done && not (done && true)))) false refl
@@ -152,7 +153,7 @@ gone_test false false false false e = refl
 
 gone_is : (next : ℕ) (o : Option Station) (sending : Bool) → has_stayed next o ≡ false → (not (sending || (finishes next o && not (finishes next o && writes o))) && has_stayed (next + 1) o) ≡ false
 gone_is next None sending e = and_right (not (sending || false)) false refl
-gone_is next (Some s) sending e = rw (before_next next s.finish) (gone_test (is_some (dest_of s.instr)) (is_done_before next s.finish) (is_number s.finish next) sending e)
+gone_is next (Some s) sending e = rw (before_next next s.finish) (gone_test (is_some (dest_of s.instr)) (is_finished_before s.finish next) (is_number s.finish next) sending e)
 
 -- what ends doesn't finish later
 ended_later : (next a : ℕ) (o : Option Station) (sending : Bool) → (sending ≡ true → can_send next o ≡ true) → (sending || (finishes next o && not (finishes next o && writes o))) ≡ true → finishes (next + 1 + a) o ≡ false

@@ -6,9 +6,10 @@ use Rattle.std.proofs.lemmas.List.{get_or_past}
 use Rattle.tomex_rvdec.specs.Operands.{dest_of}
 use Rattle.tomex_rvexec.specs.Steps.{is_number}
 use Rattle.tomex_bus.specs.Wheel.{HasPassed, IsClearTo, IsNext, is_due}
-use Rattle.tomex_bus.proofs.Bits.{none_in}
+use Rattle.tomex_sets.proofs.Bits.{none_in}
 use Rattle.tomex_tags.specs.declared.station.Station.{Station}
-use Rattle.tomex_cycle.specs.Ends.{can_send, finishes, is_done_before}
+use Rattle.tomex_cycle.specs.Ends.{can_send, finishes}
+use Rattle.tomex_membuf.specs.Order.{is_finished_before}
 use Rattle.tomex_cycle.specs.Finishes.{AreKnown, FinishesSoon, IsFree, IsIdle, has_stayed}
 use Rattle.tomex_cycle.specs.declared.finishes.Finishes.{Finishes}
 use Rattle.tomex_cycle.proofs.Known.{all_ahead}
@@ -27,7 +28,7 @@ free_to slots cycle k f known none clear x v l from to = elim (cases_Bool (finis
   ]
 ]
   where
-    of_finish : (finish : Option ℕ) (r : Bool) → is_number finish cycle ≡ true → (r && is_done_before (cycle + 1) finish) ≡ false → (not r && is_done_before (cycle + 1) finish) ≡ false → ⊥
+    of_finish : (finish : Option ℕ) (r : Bool) → is_number finish cycle ≡ true → (r && is_finished_before finish (cycle + 1)) ≡ false → (not r && is_finished_before finish (cycle + 1)) ≡ false → ⊥
     of_finish None r e a b = both_ways false refl e
     of_finish (Some w) true e a b = let same : w ≡ cycle = eqb-true w cycle e in both_ways (nat_lt w (cycle + 1)) a (lt-ltb w (cycle + 1) (omega arith))
     of_finish (Some w) false e a b = let same : w ≡ cycle = eqb-true w cycle e in both_ways (nat_lt w (cycle + 1)) b (lt-ltb w (cycle + 1) (omega arith))
@@ -36,7 +37,7 @@ free_to slots cycle k f known none clear x v l from to = elim (cases_Bool (finis
     done_now None e a b = both_ways false refl e
     done_now (Some s) e a b = of_finish s.finish (is_some (dest_of s.instr)) e a b
 
-before_later : (cycle w : ℕ) (r : Bool) (finish : Option ℕ) → cycle + 1 ≤ w → (r && is_done_before (cycle + 1) finish) ≡ false → ((v : ℕ) → cycle ≤ v → v ≤ w - 1 → is_number finish v ≡ false) → (r && is_done_before w finish) ≡ false
+before_later : (cycle w : ℕ) (r : Bool) (finish : Option ℕ) → cycle + 1 ≤ w → (r && is_finished_before finish (cycle + 1)) ≡ false → ((v : ℕ) → cycle ≤ v → v ≤ w - 1 → is_number finish v ≡ false) → (r && is_finished_before finish w) ≡ false
 before_later cycle w r None l e free = e
 before_later cycle w false (Some v) l e free = refl
 before_later cycle w true (Some v) l e free = elim (cases_Bool (nat_lt v w)) [

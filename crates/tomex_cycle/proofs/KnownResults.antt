@@ -4,9 +4,9 @@ use Rattle.std.specs.Prelude.{nat_le, nat_lt, ◌≢◌, ◌&&◌, not}
 use Rattle.std.proofs.lemmas.Bool.{and_parts, both_ways, cases_Bool, le-leb, leb-true, lt-ltb, ltb-true, ltb-false}
 use Rattle.std.proofs.lemmas.List.{get_or_past}
 use Rattle.tomex_rvdec.specs.declared.pool.UnitId.TheVariants as units
-use Rattle.tomex_bus.specs.Sets.{has}
+use Rattle.tomex_sets.specs.Sets.{has}
 use Rattle.tomex_bus.specs.Wheel.{AreDue, is_due}
-use Rattle.tomex_bus.proofs.Bits.{none_in}
+use Rattle.tomex_sets.proofs.Bits.{none_in}
 use Rattle.tomex_tags.specs.Places.{is_served}
 use Rattle.tomex_tags.specs.Pools.{AreBusy, Pools}
 use Rattle.tomex_tags.specs.WaitSets.{IsSetOf, writes}

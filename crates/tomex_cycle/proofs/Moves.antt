@@ -3,7 +3,7 @@ use Rattle.std.proofs.Common.{ℕ, ◌+◌, ◌<◌, ◌≤◌, ◌≡◌, ◌�
 use Rattle.std.specs.Prelude.{nat_lt, ◌⊎◌, if◌then◌else◌}
 use Rattle.std.proofs.lemmas.Bool.{both_ways, cases_Bool, ltb-true, ltb-false}
 use Rattle.tomex_image.specs.Image.{Loaded}
-use Rattle.tomex_config.specs.Row.{Row}
+use Rattle.tomex_config.specs.Configuration.{Configuration}
 use Rattle.tomex_rvexec.specs.declared.outcome.EndKind.{EndKind}
 use Rattle.tomex_rvexec.specs.Machine.{State}
 use Rattle.tomex_rvexec.specs.Memory.{Bytes}
@@ -42,31 +42,31 @@ runs_how (made_as.Faulted fault) e = let z : Faulted fault ≡ Running = e in ab
 pub moving_not_still : (made : CycleOutcome) → made ≡ made_as.Active → made ≡ made_as.Quiet → ⊥
 moving_not_still made e f = cc
 
-shown_finish : (i : Loaded) (row : Row) (n u v more x : ℕ) (s : State) (kind : EndKind) (st : Pools) (rg : RegStatus) (ft : Fetch) (m : Bytes) → RunEnds i n s kind → IsSnapshot i row n u more st rg ft m → x < 96 → finishes v (slice_index_or st.slots x None) ≡ true → 0 < events_in v (run_to row i (n + 1))
-shown_finish i row n u v more x s kind st rg ft m ends shot small e =
-    run_happens row i n more v s kind ends shot.issue.few (finish_happens i (clocks u u u) v x (run_to row i more) (ap (finishes v) (sym (shot.issue.slots.slots x small)) ∙ e))
+shown_finish : (i : Loaded) (config : Configuration) (n u v more x : ℕ) (s : State) (kind : EndKind) (st : Pools) (rg : RegStatus) (ft : Fetch) (m : Bytes) → RunEnds i n s kind → IsSnapshot i config n u more st rg ft m → x < 96 → finishes v (slice_index_or st.slots x None) ≡ true → 0 < events_in v (run_to config i (n + 1))
+shown_finish i config n u v more x s kind st rg ft m ends shot small e =
+    run_happens config i n more v s kind ends shot.issue.few (finish_happens i (clocks u u u) v x (run_to config i more) (ap (finishes v) (sym (shot.issue.slots.slots x small)) ∙ e))
 
 -- one cycle is made, and those after it are passed
-pub go_passes : (i : Loaded) (row : Row) (cycle w to : ℕ) (last : Progress) (made : CycleOutcome) (count more : ℕ) (st st2 : Pools) (rg rg2 : RegStatus) (ft ft2 : Fetch) (m m2 : Bytes) → IsSound i row cycle last count st rg ft m → last ≡ Running
-    → MakesCycle i row cycle made count more st st2 rg rg2 ft ft2 m m2 → cycle + 1 ≤ w → (cycle + 1 < w → (made ≡ made_as.Quiet) × IsFree st2.slots (cycle + 1) w)
+pub go_passes : (i : Loaded) (config : Configuration) (cycle w to : ℕ) (last : Progress) (made : CycleOutcome) (count more : ℕ) (st st2 : Pools) (rg rg2 : RegStatus) (ft ft2 : Fetch) (m m2 : Bytes) → IsSound i config cycle last count st rg ft m → last ≡ Running
+    → MakesCycle i config cycle made count more st st2 rg rg2 ft ft2 m m2 → cycle + 1 ≤ w → (cycle + 1 < w → (made ≡ made_as.Quiet) × IsFree st2.slots (cycle + 1) w)
     → (made ≡ made_as.Quiet → w < to → FinishesSoon st2.slots (cycle + 1) w)
-    → EndsWithin i 262144 → SkipsTo (run_of row i) to cycle w
-go_passes i row cycle w to last made count more st st2 rg rg2 ft ft2 m m2 sound run makes l skips stops within =
+    → EndsWithin i 262144 → SkipsTo (run_of config i) to cycle w
+go_passes i config cycle w to last made count more st st2 rg rg2 ft ft2 m m2 sound run makes l skips stops within =
     let n : ℕ = within.0 in
     let s : State = within.1 in
     let kind : EndKind = within.2 in
     let ends : RunEnds i n s kind = within.4 in
     let few : n < 262144 = within.3 in
-    let h : List Done = run_to row i (n + 1) in
-    let before : IsAfter i row n cycle last count st rg ft m = sound.after n s kind few ends in
+    let h : List Done = run_to config i (n + 1) in
+    let before : IsAfter i config n cycle last count st rg ft m = sound.after n s kind few ends in
     let shot = makes n s kind cycle ends few refl sound.lawful sound.loaded before.snapshot in
     let low : cycle < greatest_end h = running_low cycle (greatest_end h) last before.answer run in
-    let now : IsSnapshot i row n (cycle + 1) more st2 rg2 ft2 m2 = shot.0 in
-    rw (run_whole row i n s kind ends few) (record {
+    let now : IsSnapshot i config n (cycle + 1) more st2 rg2 ft2 m2 = shot.0 in
+    rw (run_whole config i n s kind ends few) (record {
       on = l;
       idle = λ k a b.
           let skip = skips (omega arith) in
-          let still : AllStillAfter (cycle + 1) w h = calm_past row i n (cycle + 1) w more s kind st2 rg2 ft2 m2 sound.lawful ends (omega arith) l now (shot.3 skip.0) skip.1 in
+          let still : AllStillAfter (cycle + 1) w h = calm_past config i n (cycle + 1) w more s kind st2 rg2 ft2 m2 sound.lawful ends (omega arith) l now (shot.3 skip.0) skip.1 in
           still_none k h (still k a b);
       pays = elim (cases_Bool (nat_lt (cycle + 1) (greatest_end h))) [
         | inr over ↦ let high : greatest_end h ≤ cycle + 1 = ltb-false _ _ over in inl (over_happens (cycle + 1) h (omega arith) (omega arith))
@@ -79,8 +79,8 @@ go_passes i row cycle w to last made count more st st2 rg rg2 ft ft2 m m2 sound 
                 | inl short ↦
                     let f = stops still (ltb-true _ _ short) in
                     elim f.2 [
-                      | inl here ↦ inl (shown_finish i row n (cycle + 1) (cycle + 1) more f.0 s kind st2 rg2 ft2 m2 ends now f.1 here)
-                      | inr next ↦ inr (inr (shown_finish i row n (cycle + 1) (w + 1) more f.0 s kind st2 rg2 ft2 m2 ends now f.1 next))
+                      | inl here ↦ inl (shown_finish i config n (cycle + 1) (cycle + 1) more f.0 s kind st2 rg2 ft2 m2 ends now f.1 here)
+                      | inr next ↦ inr (inr (shown_finish i config n (cycle + 1) (w + 1) more f.0 s kind st2 rg2 ft2 m2 ends now f.1 next))
                     ]
               ]
             ]
@@ -88,29 +88,29 @@ go_passes i row cycle w to last made count more st st2 rg rg2 ft ft2 m m2 sound 
     })
 
 -- in the cycle after those that are passed something finishes
-soon_happens : (i : Loaded) (row : Row) (cycle w : ℕ) (last : Progress) (made : CycleOutcome) (count more : ℕ) (st st2 : Pools) (rg rg2 : RegStatus) (ft ft2 : Fetch) (m m2 : Bytes) → IsSound i row cycle last count st rg ft m
-    → MakesCycle i row cycle made count more st st2 rg rg2 ft ft2 m m2 → cycle + 1 ≤ w → IsFree st2.slots (cycle + 1) w → FinishesSoon st2.slots (cycle + 1) w → EndsWithin i 262144 → 0 < events_in (w + 1) (run_of row i)
-soon_happens i row cycle w last made count more st st2 rg rg2 ft ft2 m m2 sound makes l free soon within =
+soon_happens : (i : Loaded) (config : Configuration) (cycle w : ℕ) (last : Progress) (made : CycleOutcome) (count more : ℕ) (st st2 : Pools) (rg rg2 : RegStatus) (ft ft2 : Fetch) (m m2 : Bytes) → IsSound i config cycle last count st rg ft m
+    → MakesCycle i config cycle made count more st st2 rg rg2 ft ft2 m m2 → cycle + 1 ≤ w → IsFree st2.slots (cycle + 1) w → FinishesSoon st2.slots (cycle + 1) w → EndsWithin i 262144 → 0 < events_in (w + 1) (run_of config i)
+soon_happens i config cycle w last made count more st st2 rg rg2 ft ft2 m m2 sound makes l free soon within =
     let n : ℕ = within.0 in
     let s : State = within.1 in
     let kind : EndKind = within.2 in
     let shot = makes n s kind cycle within.4 within.3 refl sound.lawful sound.loaded (sound.after n s kind within.3 within.4).snapshot in
-    rw (run_whole row i n s kind within.4 within.3) (elim soon.2 [
+    rw (run_whole config i n s kind within.4 within.3) (elim soon.2 [
       | inl here ↦ absurd (both_ways (finishes (cycle + 1) (slice_index_or st2.slots soon.0 None)) (free soon.0 (cycle + 1) soon.1 (omega arith) l) here)
-      | inr next ↦ shown_finish i row n (cycle + 1) (w + 1) more soon.0 s kind st2 rg2 ft2 m2 within.4 shot.0 soon.1 next
+      | inr next ↦ shown_finish i config n (cycle + 1) (w + 1) more soon.0 s kind st2 rg2 ft2 m2 within.4 shot.0 soon.1 next
     ])
 
 -- after a cycle in which nothing happens
-pub still_goes : (i : Loaded) (row : Row) (cycle to now before after : ℕ) (last : Progress) (made : CycleOutcome) (count more : ℕ) (st st2 : Pools) (rg rg2 : RegStatus) (ft ft2 : Fetch) (m m2 : Bytes) → IsSound i row cycle last count st rg ft m → last ≡ Running
-    → MakesCycle i row cycle made count more st st2 rg rg2 ft ft2 m m2 → made ≡ made_as.Quiet → IsSkipped st2.slots (cycle + 1) to now (before + 1) after → EndsWithin i 262144 → GoesOn (run_of row i) to cycle now before after
-still_goes i row cycle to now before after last made count more st st2 rg rg2 ft ft2 m m2 sound run makes still passed within =
-    let first : SkipsTo (run_of row i) to cycle passed.idle = go_passes i row cycle passed.idle to last made count more st st2 rg rg2 ft ft2 m m2 sound run makes passed.least (λ less. (still, passed.free)) (λ s. passed.stops) within in
+pub still_goes : (i : Loaded) (config : Configuration) (cycle to now before after : ℕ) (last : Progress) (made : CycleOutcome) (count more : ℕ) (st st2 : Pools) (rg rg2 : RegStatus) (ft ft2 : Fetch) (m m2 : Bytes) → IsSound i config cycle last count st rg ft m → last ≡ Running
+    → MakesCycle i config cycle made count more st st2 rg rg2 ft ft2 m m2 → made ≡ made_as.Quiet → IsSkipped st2.slots (cycle + 1) to now (before + 1) after → EndsWithin i 262144 → GoesOn (run_of config i) to cycle now before after
+still_goes i config cycle to now before after last made count more st st2 rg rg2 ft ft2 m m2 sound run makes still passed within =
+    let first : SkipsTo (run_of config i) to cycle passed.idle = go_passes i config cycle passed.idle to last made count more st st2 rg rg2 ft ft2 m m2 sound run makes passed.least (λ less. (still, passed.free)) (λ s. passed.stops) within in
     elim passed.last [
       | inl here ↦ let e : now ≡ passed.idle = here.0 in inl (here.1, rw e first)
       | inr one ↦
           let e : now ≡ passed.idle + 1 = one.0 in
           let k : after ≡ before + 1 + 1 = one.2 in
-          let some = soon_happens i row cycle passed.idle last made count more st st2 rg rg2 ft ft2 m m2 sound makes passed.least passed.free (passed.stops one.1) within in
+          let some = soon_happens i config cycle passed.idle last made count more st st2 rg rg2 ft ft2 m m2 sound makes passed.least passed.free (passed.stops one.1) within in
           inr (passed.idle, one.1, omega arith, first, rw e (record { on = omega arith; idle = λ v a b. absurd (omega arith); pays = inl some }))
     ]
 

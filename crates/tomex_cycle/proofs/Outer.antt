@@ -5,7 +5,7 @@ use Rattle.std.specs.List.{filter_map, range_with_len}
 use Rattle.std.proofs.lemmas.Bool.{cases_Bool, cases_order, lt-ltb, le-ltb, lt-leb, le-leb}
 use Rattle.std.proofs.lemmas.List.{get_or-replicate}
 use Rattle.tomex_image.specs.Image.{Loaded, IsLoaded}
-use Rattle.tomex_config.specs.Row.{Row, IsRow}
+use Rattle.tomex_config.specs.Configuration.{Configuration, IsWithinLimits}
 use Rattle.tomex_rvexec.specs.declared.outcome.EndKind.{EndKind}
 use Rattle.tomex_rvexec.specs.declared.step.Step.{Step}
 use Rattle.tomex_rvexec.specs.History.{step_after}
@@ -44,8 +44,8 @@ use Rattle.tomex_tags.specs.Pools.{Pools}
 use Rattle.tomex_tags.specs.declared.register_status.RegStatus.{RegStatus}
 use Rattle.tomex_tags.specs.declared.station.Station.{Station}
 
-none_issued : (row : Row) (i : Loaded) → IsYetToIssue i row 0 0
-none_issued row i x e s l =
+none_issued : (config : Configuration) (i : Loaded) → IsYetToIssue i config 0 0
+none_issued config i x e s l =
     let z : s ≡ 0 = omega arith in
     rw z refl
 
@@ -65,11 +65,11 @@ start_count : (i : Loaded) → length (start_of i).regs ≡ 32
 start_count i = refl
 
 -- before the first cycle
-pub start_shown : (i : Loaded) (row : Row) (n : ℕ) (st : Pools) (rg : RegStatus) (ft : Fetch) (m : Bytes)
+pub start_shown : (i : Loaded) (config : Configuration) (n : ℕ) (st : Pools) (rg : RegStatus) (ft : Fetch) (m : Bytes)
     → st.slots ≡ replicate 96 None → st.issue_numbers ≡ replicate 128 0 → rg.tags ≡ replicate 32 None → rg.values ≡ (start_of i).regs
-    → ft ≡ At i.entry → m.base ≡ i.window.base → m.bytes ≡ i.memory → length i.memory ≡ i.window.size → IsSnapshot i row n 0 0 st rg ft m
-start_shown i row n st rg ft m slots issue_numbers tags values from base bytes size =
-    let e : run_to row i 0 ≡ [] = run_none row i in
+    → ft ≡ At i.entry → m.base ≡ i.window.base → m.bytes ≡ i.memory → length i.memory ≡ i.window.size → IsSnapshot i config n 0 0 st rg ft m
+start_shown i config n st rg ft m slots issue_numbers tags values from base bytes size =
+    let e : run_to config i 0 ≡ [] = run_none config i in
     record {
       issue = record {
         few = omega arith;
@@ -77,20 +77,20 @@ start_shown i row n st rg ft m slots issue_numbers tags values from base bytes s
         status = rw e (record { count = ap length values ∙ start_count i; status = ap length tags ∙ tags_count; tags = none_at 32 rg.tags tags; values = λ r l q. ap (λ xs. slice_index xs r) values });
         from = rw e from;
         issued = rw e tt;
-        next = λ l. none_issued row i;
+        next = λ l. none_issued config i;
       };
       bytes = rw e (record { base = base; size = ap length bytes ∙ size; bytes = λ a low high. rw (base, bytes) refl });
     }
 
-pub sound_start : (i : Loaded) (row : Row) (count : ℕ) (st : Pools) (rg : RegStatus) (ft : Fetch) (m : Bytes) → IsRow row → IsLoaded i.window i.memory i.entry
-    → ((r : Row) (n : ℕ) → IsSnapshot i r n 0 count st rg ft m) → count ≡ 0 → IsSound i row 0 Running count st rg ft m
-sound_start i row count st rg ft m good loaded seen none = record {
+pub sound_start : (i : Loaded) (config : Configuration) (count : ℕ) (st : Pools) (rg : RegStatus) (ft : Fetch) (m : Bytes) → IsWithinLimits config → IsLoaded i.window i.memory i.entry
+    → ((r : Configuration) (n : ℕ) → IsSnapshot i r n 0 count st rg ft m) → count ≡ 0 → IsSound i config 0 Running count st rg ft m
+sound_start i config count st rg ft m good loaded seen none = record {
   lawful = good;
   loaded = loaded;
   low = omega arith;
   after = λ n s kind l ends.
-      let k : 0 < greatest_end (run_to row i (n + 1)) = more_left row i n count 0 s kind good ends (omega arith) (seen row n).issue.next in
-      record { high = omega arith; answer = rw (lt-ltb 0 (greatest_end (run_to row i (n + 1))) k) refl; snapshot = seen row n };
+      let k : 0 < greatest_end (run_to config i (n + 1)) = more_left config i n count 0 s kind good ends (omega arith) (seen config n).issue.next in
+      record { high = omega arith; answer = rw (lt-ltb 0 (greatest_end (run_to config i (n + 1))) k) refl; snapshot = seen config n };
 }
 
 -- what issues later isn't in the tables
@@ -119,29 +119,29 @@ tables_later t newer h later =
     ap f a ∙ ap g b
 
 -- the tables of the whole run are those of what has issued
-pub tables_whole : (row : Row) (i : Loaded) (n count t : ℕ) (s : State) (kind : EndKind) → IsRow row → RunEnds i n s kind → n < 262144 → count ≤ n + 1 → (count ≤ n → IsYetToIssue i row count t) → tables_of t (run_of row i) ≡ tables_of t (run_to row i count)
-tables_whole row i n count t s kind good ends l few next =
-    let rest = rest_to row i n count (n + 1) t s kind good ends next few (omega arith) in
-    let e : run_of row i ≡ rest.0 ++ run_to row i count = run_whole row i n s kind ends l ∙ rest.1.same in
-    ap (tables_of t) e ∙ tables_later t rest.0 (run_to row i count) rest.1.later
+pub tables_whole : (config : Configuration) (i : Loaded) (n count t : ℕ) (s : State) (kind : EndKind) → IsWithinLimits config → RunEnds i n s kind → n < 262144 → count ≤ n + 1 → (count ≤ n → IsYetToIssue i config count t) → tables_of t (run_of config i) ≡ tables_of t (run_to config i count)
+tables_whole config i n count t s kind good ends l few next =
+    let rest = rest_to config i n count (n + 1) t s kind good ends next few (omega arith) in
+    let e : run_of config i ≡ rest.0 ++ run_to config i count = run_whole config i n s kind ends l ∙ rest.1.same in
+    ap (tables_of t) e ∙ tables_later t rest.0 (run_to config i count) rest.1.later
 
 -- the machine's tables, pointwise
-pub whole_tables : (row : Row) (i : Loaded) (cycle : ℕ) (last : Progress) (count : ℕ) (st : Pools) (rg : RegStatus) (ft : Fetch) (m : Bytes) (tables : Tables)
-    → ((i : Loaded) (h : List Done) (row : Row) → IsHistory i row h → AreIssuedBy cycle h → ShowsStations i (clocks cycle cycle cycle) h st → ShowsRegisters i cycle h rg → tables ≡ tables_of cycle h)
-    → IsSound i row cycle last count st rg ft m → EndsWithin i 262144 → tables ≡ tables_of cycle (run_of row i)
-whole_tables row i cycle last count st rg ft m tables made sound ends =
-    let after : IsAfter i row ends.0 cycle last count st rg ft m = sound.after ends.0 ends.1 ends.2 ends.3 ends.4 in
-    let shot : IsIssuedTo i row ends.0 cycle (clocks cycle cycle cycle) count st rg ft = after.snapshot.issue in
-    let h : IsHistory i row (run_to row i count) = run_history row i ends.0 count ends.1 ends.2 sound.lawful sound.loaded ends.4 shot.few in
-    made i (run_to row i count) row h shot.issued shot.slots shot.status ∙ sym (tables_whole row i ends.0 count cycle ends.1 ends.2 sound.lawful ends.4 ends.3 shot.few shot.next)
+pub whole_tables : (config : Configuration) (i : Loaded) (cycle : ℕ) (last : Progress) (count : ℕ) (st : Pools) (rg : RegStatus) (ft : Fetch) (m : Bytes) (tables : Tables)
+    → ((i : Loaded) (h : List Done) (config : Configuration) → IsHistory i config h → AreIssuedBy cycle h → ShowsStations i (clocks cycle cycle cycle) h st → ShowsRegisters i cycle h rg → tables ≡ tables_of cycle h)
+    → IsSound i config cycle last count st rg ft m → EndsWithin i 262144 → tables ≡ tables_of cycle (run_of config i)
+whole_tables config i cycle last count st rg ft m tables made sound ends =
+    let after : IsAfter i config ends.0 cycle last count st rg ft m = sound.after ends.0 ends.1 ends.2 ends.3 ends.4 in
+    let shot : IsIssuedTo i config ends.0 cycle (clocks cycle cycle cycle) count st rg ft = after.snapshot.issue in
+    let h : IsHistory i config (run_to config i count) = run_history config i ends.0 count ends.1 ends.2 sound.lawful sound.loaded ends.4 shot.few in
+    made i (run_to config i count) config h shot.issued shot.slots shot.status ∙ sym (tables_whole config i ends.0 count cycle ends.1 ends.2 sound.lawful ends.4 ends.3 shot.few shot.next)
 
-pub tables_seen : (row : Row) (i : Loaded) (cycle : ℕ) (last : Progress) (seen : Seen) (count : ℕ) (st : Pools) (rg : RegStatus) (ft : Fetch) (m : Bytes) (tables : Tables)
-    → ◌≡◌ {A = Seen} (record { image = i; row = row; cycle = cycle; last = last }) seen
-    → ((i : Loaded) (h : List Done) (row : Row) → IsHistory i row h → AreIssuedBy cycle h → ShowsStations i (clocks cycle cycle cycle) h st → ShowsRegisters i cycle h rg → tables ≡ tables_of cycle h)
-    → IsSound i row cycle last count st rg ft m → EndsWithin seen.image 262144 → tables ≡ tables_of seen.cycle (run_of seen.row seen.image)
-tables_seen row i cycle last seen count st rg ft m tables e made sound =
-    let P : Seen → Type 0 = λ x. EndsWithin x.image 262144 → tables ≡ tables_of x.cycle (run_of x.row x.image) in
-    subst P e (λ ends. whole_tables row i cycle last count st rg ft m tables made sound ends)
+pub tables_seen : (config : Configuration) (i : Loaded) (cycle : ℕ) (last : Progress) (seen : Seen) (count : ℕ) (st : Pools) (rg : RegStatus) (ft : Fetch) (m : Bytes) (tables : Tables)
+    → ◌≡◌ {A = Seen} (record { image = i; config = config; cycle = cycle; status = last }) seen
+    → ((i : Loaded) (h : List Done) (config : Configuration) → IsHistory i config h → AreIssuedBy cycle h → ShowsStations i (clocks cycle cycle cycle) h st → ShowsRegisters i cycle h rg → tables ≡ tables_of cycle h)
+    → IsSound i config cycle last count st rg ft m → EndsWithin seen.image 262144 → tables ≡ tables_of seen.cycle (run_of seen.config seen.image)
+tables_seen config i cycle last seen count st rg ft m tables e made sound =
+    let P : Seen → Type 0 = λ x. EndsWithin x.image 262144 → tables ≡ tables_of x.cycle (run_of x.config x.image) in
+    subst P e (λ ends. whole_tables config i cycle last count st rg ft m tables made sound ends)
 
 no_writer : (t : ℕ) (h : List Done) (r : ℕ) → greatest_end h ≤ t → producer t h r ≡ None
 no_writer t [] r l = refl
@@ -173,29 +173,29 @@ pub record IsOver (i : Loaded) (n : ℕ) (s : State) (kind : EndKind) (count : �
   pub base : m.base ≡ s.image.window.base
   pub bytes : m.bytes ≡ s.memory
 
-all_issued : (row : Row) (i : Loaded) (n t count : ℕ) (s : State) (kind : EndKind) (st : Pools) (rg : RegStatus) (ft : Fetch) → IsRow row → RunEnds i n s kind → IsIssuedTo i row n t (clocks t t t) count st rg ft → greatest_end (run_to row i (n + 1)) ≤ t → count ≡ n + 1
-all_issued row i n t count s kind st rg ft good ends shot l = elim (cases_order count (n + 1)) [
+all_issued : (config : Configuration) (i : Loaded) (n t count : ℕ) (s : State) (kind : EndKind) (st : Pools) (rg : RegStatus) (ft : Fetch) → IsWithinLimits config → RunEnds i n s kind → IsIssuedTo i config n t (clocks t t t) count st rg ft → greatest_end (run_to config i (n + 1)) ≤ t → count ≡ n + 1
+all_issued config i n t count s kind st rg ft good ends shot l = elim (cases_order count (n + 1)) [
   | inl e ↦ e
-  | inr (inl less) ↦ let k : t < greatest_end (run_to row i (n + 1)) = more_left row i n count t s kind good ends (omega arith) shot.next in absurd (omega arith)
+  | inr (inl less) ↦ let k : t < greatest_end (run_to config i (n + 1)) = more_left config i n count t s kind good ends (omega arith) shot.next in absurd (omega arith)
   | inr (inr more) ↦ let k : count ≤ n + 1 = shot.few in absurd (omega arith)
 ]
 
-steps_last : (row : Row) (i : Loaded) (n : ℕ) (x : Step) → step_after i n ≡ Some x → steps_in (run_to row i (n + 1)) ≡ x ∷ first_steps i n
-steps_last row i n x e = steps_are row i (n + 1) ∙ step_joins i n x e
+steps_last : (config : Configuration) (i : Loaded) (n : ℕ) (x : Step) → step_after i n ≡ Some x → steps_in (run_to config i (n + 1)) ≡ x ∷ first_steps i n
+steps_last config i n x e = steps_are config i (n + 1) ∙ step_joins i n x e
 
-over_at : (row : Row) (i : Loaded) (n t : ℕ) (s : State) (kind : EndKind) (st : Pools) (rg : RegStatus) (ft : Fetch) (m : Bytes) → IsRow row → IsLoaded i.window i.memory i.entry → RunEnds i n s kind → IsSnapshot i row n t (n + 1) st rg ft m → greatest_end (run_to row i (n + 1)) ≤ t → IsOver i n s kind (n + 1) rg ft m
-over_at row i n t s kind st rg ft m good loaded ends shot l =
-    let h : List Done = run_to row i (n + 1) in
-    let last = stops row i n t s kind ends in
+over_at : (config : Configuration) (i : Loaded) (n t : ℕ) (s : State) (kind : EndKind) (st : Pools) (rg : RegStatus) (ft : Fetch) (m : Bytes) → IsWithinLimits config → IsLoaded i.window i.memory i.entry → RunEnds i n s kind → IsSnapshot i config n t (n + 1) st rg ft m → greatest_end (run_to config i (n + 1)) ≤ t → IsOver i n s kind (n + 1) rg ft m
+over_at config i n t s kind st rg ft m good loaded ends shot l =
+    let h : List Done = run_to config i (n + 1) in
+    let last = stops config i n t s kind ends in
     let kind_is = step_ends_it i n s kind last.0 ends last.1 in
-    let steps : steps_in (run_to row i (n + 1)) ≡ last.0 ∷ first_steps i n = steps_last row i n last.0 last.1 in
+    let steps : steps_in (run_to config i (n + 1)) ≡ last.0 ∷ first_steps i n = steps_last config i n last.0 last.1 in
     let leaves : Leaves i (first_steps i n) s = end_is i n s kind loaded ends in
     let state : IsState s = run_state i n s loaded ends.leads in
     let follows : Follows i (first_steps i n) last.0 = step_follows i n n s kind last.0 loaded ends (omega arith) last.1 in
     let pc : last.0.pc ≡ s.pc = follows.pc ∙ sym leaves.pc in
     let no_dest : step_dest last.0 ≡ None = end_writes_no_register last.0 kind kind_is in
     let no_store : is_store last.0 ≡ false = end_writes_no_byte last.0 kind kind_is in
-    let by = timed_by row h good (run_timed row i (n + 1) good) in
+    let by = timed_by config h good (run_timed config i (n + 1) good) in
     let fetch : ft ≡ Stopped kind last.0.pc = shot.issue.from ∙ last.2 in
     let size : length m.bytes ≡ i.window.size = shot.bytes.size in
     let base : m.base ≡ i.window.base = shot.bytes.base in
@@ -207,11 +207,11 @@ over_at row i n t s kind st rg ft m good loaded ends shot l =
       bytes = same_memory i (first_steps i n) s m.bytes leaves state size (λ a low high. rw base at (shot.bytes.bytes a low high) ∙ (bytes_ended i t (greatest_end h) a h by l ∙ (ap (λ xs. byte_after i xs a) steps ∙ bytes_kept i last.0 (first_steps i n) a no_store)));
     }
 
-pub is_over_at : (row : Row) (i : Loaded) (n t count : ℕ) (s : State) (kind : EndKind) (st : Pools) (rg : RegStatus) (ft : Fetch) (m : Bytes) → IsRow row → IsLoaded i.window i.memory i.entry → RunEnds i n s kind → IsSnapshot i row n t count st rg ft m → greatest_end (run_to row i (n + 1)) ≤ t → IsOver i n s kind count rg ft m
-is_over_at row i n t count s kind st rg ft m good loaded ends shot l =
-    let e : count ≡ n + 1 = all_issued row i n t count s kind st rg ft good ends shot.issue l in
-    let P : ℕ → Type 0 = λ x. IsSnapshot i row n t x st rg ft m → IsOver i n s kind x rg ft m in
-    subst P (sym e) (λ seen. over_at row i n t s kind st rg ft m good loaded ends seen l) shot
+pub is_over_at : (config : Configuration) (i : Loaded) (n t count : ℕ) (s : State) (kind : EndKind) (st : Pools) (rg : RegStatus) (ft : Fetch) (m : Bytes) → IsWithinLimits config → IsLoaded i.window i.memory i.entry → RunEnds i n s kind → IsSnapshot i config n t count st rg ft m → greatest_end (run_to config i (n + 1)) ≤ t → IsOver i n s kind count rg ft m
+is_over_at config i n t count s kind st rg ft m good loaded ends shot l =
+    let e : count ≡ n + 1 = all_issued config i n t count s kind st rg ft good ends shot.issue l in
+    let P : ℕ → Type 0 = λ x. IsSnapshot i config n t x st rg ft m → IsOver i n s kind x rg ft m in
+    subst P (sym e) (λ seen. over_at config i n t s kind st rg ft m good loaded ends seen l) shot
 
 pub stopped_same : (kind k : EndKind) (pc p : ℕ) (ft : Fetch) → ft ≡ Stopped kind pc → ft ≡ Stopped k p → (k ≡ kind) × (p ≡ pc)
 stopped_same kind k pc p ft e f = (cc, cc)

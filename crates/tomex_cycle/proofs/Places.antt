@@ -5,7 +5,7 @@ use Rattle.std.specs.List.{list_all}
 use Rattle.std.proofs.lemmas.Bool.{cases_Bool, cases_order, ltb-true, le-leb, both_ways, and_parts, eqb-true, eq-eqb, ne_eqb, and_right}
 use Rattle.std.proofs.lemmas.List.{append-nil}
 use Rattle.tomex_image.specs.Image.{Loaded}
-use Rattle.tomex_config.specs.Row.{Row, IsRow, stations_of}
+use Rattle.tomex_config.specs.Configuration.{Configuration, IsWithinLimits, stations_of}
 use Rattle.tomex_rvdec.specs.declared.pool.PoolId.{PoolId}
 use Rattle.tomex_rvdec.specs.declared.pool.PoolId.TheVariants as pools
 use Rattle.tomex_rvdec.specs.Parts.{place_of_pool}
@@ -44,21 +44,21 @@ abbrev pub AreLow : List Done → Type 0
 AreLow [] = ⊤
 AreLow (d ∷ older) = IsLow d × AreLow older
 
-station_low : (row : Row) (older : List Done) (pool : Option PoolId) (station : Option ℕ) (issue : ℕ) → IsRow row → has_station row older pool issue ≡ true
+station_low : (config : Configuration) (older : List Done) (pool : Option PoolId) (station : Option ℕ) (issue : ℕ) → IsWithinLimits config → has_station config older pool issue ≡ true
     → MatchOption pool (station ≡ None) (λ p. (n : ℕ) × (station ≡ Some n) × IsLeast (is_free p older issue) n) → (n : ℕ) → station ≡ Some n → n < 16
-station_low row older None station issue good has is n e = let f : station ≡ None = is in absurd (cc)
-station_low row older (Some p) station issue good has is n e =
-    let found = number_is row older p issue has in
-    let same : is.0 ≡ least (is_free p older issue) (stations_of row p) = least_same (is_free p older issue) _ _ is.2 found.0 in
+station_low config older None station issue good has is n e = let f : station ≡ None = is in absurd (cc)
+station_low config older (Some p) station issue good has is n e =
+    let found = number_is config older p issue has in
+    let same : is.0 ≡ least (is_free p older issue) (stations_of config p) = least_same (is_free p older issue) _ _ is.2 found.0 in
     let f : station ≡ Some is.0 = is.1 in
     let g : n ≡ is.0 = cc in
-    let l : least (is_free p older issue) (stations_of row p) < stations_of row p = found.1 in
-    let m : stations_of row p ≤ 16 = stations_high row p good in
+    let l : least (is_free p older issue) (stations_of config p) < stations_of config p = found.1 in
+    let m : stations_of config p ≤ 16 = stations_high config p good in
     omega arith
 
-pub low : (row : Row) (h : List Done) → IsRow row → AreTimed row h → AreLow h
-low row [] good timed = tt
-low row (d ∷ older) good timed = (station_low row older (step_pool d.step) d.at.station d.at.issue good (issue_station row older d.step d.at.issue timed.0.issue.0) timed.0.station, low row older good timed.1)
+pub low : (config : Configuration) (h : List Done) → IsWithinLimits config → AreTimed config h → AreLow h
+low config [] good timed = tt
+low config (d ∷ older) good timed = (station_low config older (step_pool d.step) d.at.station d.at.issue good (issue_station config older d.step d.at.issue timed.0.issue.0) timed.0.station, low config older good timed.1)
 
 pub pool_low : (p : PoolId) → place_of_pool p < 6
 pool_low pools.Alu = omega arith
@@ -118,10 +118,10 @@ free_here older (Some q) station issue n p a b is =
     rw (← s, ← g) is.2.0
 
 -- a step's place is vacant of older ones as long as it is the step's
-pub vacant : (row : Row) (d : Done) (older : List Done) (end x : ℕ) → IsRow row → AreTimed row (d ∷ older) → d.at.issue ≤ end + 1 → is_number (place_of d) x ≡ true → is_vacant end x older ≡ true
-vacant row d older end x good timed l e =
+pub vacant : (config : Configuration) (d : Done) (older : List Done) (end x : ℕ) → IsWithinLimits config → AreTimed config (d ∷ older) → d.at.issue ≤ end + 1 → is_number (place_of d) x ≡ true → is_vacant end x older ≡ true
+vacant config d older end x good timed l e =
     let at : IsPlace (step_pool d.step) d.at.station x = place_parts (step_pool d.step) d.at.station x e in
-    let all = low row (d ∷ older) good timed in
+    let all = low config (d ∷ older) good timed in
     vacant_all at.p at.n x d.at.issue end older all.1 (all.0 at.n at.station_is) at.sum l (free_here older (step_pool d.step) d.at.station d.at.issue at.n at.p at.pool_is at.station_is timed.0.station)
 
 pub vacant_none : (i : Loaded) (c : Clocks) (h : List Done) (x : ℕ) → is_vacant c.end x h ≡ true → station_at i c h x ≡ None
@@ -141,16 +141,16 @@ some_is_none : {A : Type 0} (x : A) → Some x ≡ None → ⊥
 some_is_none x e = cc
 
 -- the station of a step that holds a place stands there, whatever is younger
-pub station_here : (i : Loaded) (row : Row) (c : Clocks) (newer : List Done) (d : Done) (older : List Done) (x : ℕ) → IsRow row → AreTimed row (newer ++ (d ∷ older)) → AreIssuedBy (c.end + 1) (newer ++ (d ∷ older)) → holds_place c.end x d ≡ true
+pub station_here : (i : Loaded) (config : Configuration) (c : Clocks) (newer : List Done) (d : Done) (older : List Done) (x : ℕ) → IsWithinLimits config → AreTimed config (newer ++ (d ∷ older)) → AreIssuedBy (c.end + 1) (newer ++ (d ∷ older)) → holds_place c.end x d ≡ true
     → station_at i c (newer ++ (d ∷ older)) x ≡ Some (station_of i c d older)
-station_here i row c [] d older x good timed issued e = holds_here i c d older x e
-station_here i row c (n ∷ newer) d older x good timed issued e = elim (cases_Bool (holds_place c.end x n)) [
-  | inr h ↦ rw h (station_here i row c newer d older x good timed.1 issued.1 e)
+station_here i config c [] d older x good timed issued e = holds_here i c d older x e
+station_here i config c (n ∷ newer) d older x good timed issued e = elim (cases_Bool (holds_place c.end x n)) [
+  | inr h ↦ rw h (station_here i config c newer d older x good timed.1 issued.1 e)
   | inl h ↦
       let two = and_parts (is_number (place_of n) x) (nat_lt c.end n.at.end) h in
-      let free : is_vacant c.end x (newer ++ (d ∷ older)) ≡ true = vacant row n (newer ++ (d ∷ older)) c.end x good timed issued.0 two.0 in
+      let free : is_vacant c.end x (newer ++ (d ∷ older)) ≡ true = vacant config n (newer ++ (d ∷ older)) c.end x good timed issued.0 two.0 in
       let z : station_at i c (newer ++ (d ∷ older)) x ≡ None = vacant_none i c (newer ++ (d ∷ older)) x free in
-      let f = station_here i row c newer d older x good timed.1 issued.1 e in
+      let f = station_here i config c newer d older x good timed.1 issued.1 e in
       absurd (some_is_none (station_of i c d older) (sym f ∙ z))
 ]
 

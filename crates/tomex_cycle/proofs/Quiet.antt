@@ -5,7 +5,7 @@ use Rattle.std.specs.Bool.{MatchBool}
 use Rattle.std.specs.List.{AllByRecursion}
 use Rattle.std.proofs.lemmas.Bool.{cases_Bool, cases_order, both_ways, lt-ltb, ltb-true, le-leb, lt-leb, leb-true, leb-false, ne_eqb, and_parts, and_from, and_right}
 use Rattle.std.proofs.lemmas.List.Sums.{sum_by-cons}
-use Rattle.tomex_config.specs.Row.{Row, IsRow, option_of}
+use Rattle.tomex_config.specs.Configuration.{Configuration, IsWithinLimits, option_of}
 use Rattle.tomex_rvdec.specs.declared.pool.PoolId.{PoolId}
 use Rattle.tomex_rvdec.specs.declared.pool.UnitId.{UnitId}
 use Rattle.tomex_rvexec.specs.Steps.{step_pool, step_unit, step_dest, j_of, k_of, is_branch, is_in, is_number}
@@ -128,29 +128,29 @@ holders_still v pool (d ∷ h) still =
     let one : is_held pool (v + 1) d ≡ is_held pool v d = ap (λ b. is_in pool (step_pool d.step) && b) (held_still v d.at.end still.0.end) in
     sum_by-cons _ d h ∙ (rw (one, holders_still v pool h still.1) refl ∙ sym (sum_by-cons (λ (e : Done). if is_held pool v e then 1 else 0) d h))
 
-station_still : (row : Row) (v : ℕ) (h : List Done) (pool : Option PoolId) → AllAtRest v h → has_station row h pool (v + 1) ≡ true → has_station row h pool v ≡ true
-station_still row v h None still e = refl
-station_still row v h (Some pool) still e = rw (holders_still v pool h still) at e
+station_still : (config : Configuration) (v : ℕ) (h : List Done) (pool : Option PoolId) → AllAtRest v h → has_station config h pool (v + 1) ≡ true → has_station config h pool v ≡ true
+station_still config v h None still e = refl
+station_still config v h (Some pool) still e = rw (holders_still v pool h still) at e
 
-unit_still : (row : Row) (v : ℕ) (h : List Done) (unit : UnitId) → IsRow row → AllStill v h → has_unit row h unit v ≡ true
-unit_still row v h unit good still =
+unit_still : (config : Configuration) (v : ℕ) (h : List Done) (unit : UnitId) → IsWithinLimits config → AllStill v h → has_unit config h unit v ≡ true
+unit_still config v h unit good still =
     rw (count_none (λ (d : Done). is_of unit (step_unit d.step) && d.at.start == v) (IsStill v) (λ d s. and_right (is_of unit (step_unit d.step)) (d.at.start == v) (ne_eqb d.at.start v s.start)) h still)
-    (lt-ltb 0 (option_of row unit).units (units_low row unit good))
+    (lt-ltb 0 (option_of config unit).units (units_low config unit good))
 
-bus_still : (row : Row) (v : ℕ) (h : List Done) → IsRow row → AllAtRest v h → has_bus row h v ≡ true
-bus_still row v h good still =
+bus_still : (config : Configuration) (v : ℕ) (h : List Done) → IsWithinLimits config → AllAtRest v h → has_bus config h v ≡ true
+bus_still config v h good still =
     rw (count_none (λ (d : Done). is_some (step_dest d.step) && d.at.end == v) (IsAtRest v) (λ d s. and_right (is_some (step_dest d.step)) (d.at.end == v) (ne_eqb d.at.end v s.end)) h still)
-    (lt-ltb 0 row.buses (buses_low row good))
+    (lt-ltb 0 config.buses (buses_low config good))
 
 -- What passes a test of the next cycle passes it in a cycle in which nothing happens.
 
 -- where none has issued in either of the two, all slots of this one are left
-slot_still : (row : Row) (v : ℕ) (h : List Done) → 0 < v → IsRow row → AreTimed row h → AllAtRest v h → last_issue h ≢ v + 1 → has_slot row h (v + 1) ≡ true → has_slot row h v ≡ true
-slot_still row v h l good timed still apart e =
+slot_still : (config : Configuration) (v : ℕ) (h : List Done) → 0 < v → IsWithinLimits config → AreTimed config h → AllAtRest v h → last_issue h ≢ v + 1 → has_slot config h (v + 1) ≡ true → has_slot config h v ≡ true
+slot_still config v h l good timed still apart e =
     let by : last_issue h ≤ v + 1 = leb-true (last_issue h) (v + 1) (and_parts _ _ e).0 in
     let here : last_issue h ≢ v = last_issue_still v h l still in
     let earlier : last_issue h < v = before (last_issue h) v by here apart in
-    and_from _ _ (le-leb (last_issue h) v (omega arith)) (rw (none_later row h v timed earlier) (lt-ltb 0 row.width (width_low row good)))
+    and_from _ _ (le-leb (last_issue h) v (omega arith)) (rw (none_later config h v timed earlier) (lt-ltb 0 config.width (width_low config good)))
   where
     before : (a v : ℕ) → a ≤ v + 1 → a ≢ v → a ≢ v + 1 → a < v
     before a v by here apart = elim (cases_order a v) [
@@ -159,12 +159,12 @@ slot_still row v h l good timed still apart e =
       | inr (inr k) ↦ absurd (apart (omega arith))
     ]
 
-pub issue_still : (row : Row) (v : ℕ) (h : List Done) (s : Step) → 0 < v → IsRow row → AreTimed row h → AllAtRest v h → last_issue h ≢ v + 1 → can_issue row h s (v + 1) ≡ true → can_issue row h s v ≡ true
-issue_still row v h s l good timed still apart e =
-    let a = and_parts (nat_lt 0 (v + 1) && has_slot row h (v + 1) && are_branches_finished h (v + 1)) (has_station row h (step_pool s) (v + 1)) e in
-    let b = and_parts (nat_lt 0 (v + 1) && has_slot row h (v + 1)) (are_branches_finished h (v + 1)) a.0 in
-    let c = and_parts (nat_lt 0 (v + 1)) (has_slot row h (v + 1)) b.0 in
-    and_from _ _ (and_from _ _ (and_from _ _ (lt-ltb 0 v l) (slot_still row v h l good timed still apart c.1)) (branches_still v h still b.1)) (station_still row v h (step_pool s) still a.1)
+pub issue_still : (config : Configuration) (v : ℕ) (h : List Done) (s : Step) → 0 < v → IsWithinLimits config → AreTimed config h → AllAtRest v h → last_issue h ≢ v + 1 → can_issue config h s (v + 1) ≡ true → can_issue config h s v ≡ true
+issue_still config v h s l good timed still apart e =
+    let a = and_parts (nat_lt 0 (v + 1) && has_slot config h (v + 1) && are_branches_finished h (v + 1)) (has_station config h (step_pool s) (v + 1)) e in
+    let b = and_parts (nat_lt 0 (v + 1) && has_slot config h (v + 1)) (are_branches_finished h (v + 1)) a.0 in
+    let c = and_parts (nat_lt 0 (v + 1)) (has_slot config h (v + 1)) b.0 in
+    and_from _ _ (and_from _ _ (and_from _ _ (lt-ltb 0 v l) (slot_still config v h l good timed still apart c.1)) (branches_still v h still b.1)) (station_still config v h (step_pool s) still a.1)
 
 address_still : (v : ℕ) (h : List Done) (s : Step) (issue : ℕ) → 0 < v → AllAtRest v h → issue ≢ v → can_address h s issue (v + 1) ≡ true → can_address h s issue v ≡ true
 address_still v h s issue l still apart e =
@@ -172,21 +172,21 @@ address_still v h s issue l still apart e =
     let b = and_parts (nat_lt issue (v + 1)) (nat_lt (source_end h (j_of s)) (v + 1)) a.0 in
     and_from _ _ (and_from _ _ (less issue v b.0 apart) (less (source_end h (j_of s)) v b.1 (source_still v h (j_of s) l still))) (less (last_address h) v a.1 (last_address_still v h l still))
 
-start_still : (row : Row) (v : ℕ) (h : List Done) (s : Step) (unit : UnitId) (issue address : ℕ) → 0 < v → IsRow row → AllStill v h → issue ≢ v → address ≢ v → can_start row h s unit issue address (v + 1) ≡ true → can_start row h s unit issue address v ≡ true
-start_still row v h s unit issue address l good still i a e =
-    let p = and_parts (nat_lt issue (v + 1) && nat_lt address (v + 1) && has_operands h s (v + 1) && are_conflicts_finished h s (v + 1)) (has_unit row h unit (v + 1)) e in
+start_still : (config : Configuration) (v : ℕ) (h : List Done) (s : Step) (unit : UnitId) (issue address : ℕ) → 0 < v → IsWithinLimits config → AllStill v h → issue ≢ v → address ≢ v → can_start config h s unit issue address (v + 1) ≡ true → can_start config h s unit issue address v ≡ true
+start_still config v h s unit issue address l good still i a e =
+    let p = and_parts (nat_lt issue (v + 1) && nat_lt address (v + 1) && has_operands h s (v + 1) && are_conflicts_finished h s (v + 1)) (has_unit config h unit (v + 1)) e in
     let q = and_parts (nat_lt issue (v + 1) && nat_lt address (v + 1) && has_operands h s (v + 1)) (are_conflicts_finished h s (v + 1)) p.0 in
     let r = and_parts (nat_lt issue (v + 1) && nat_lt address (v + 1)) (has_operands h s (v + 1)) q.0 in
     let two = and_parts (nat_lt issue (v + 1)) (nat_lt address (v + 1)) r.0 in
     let ops = and_parts (nat_lt (source_end h (j_of s)) (v + 1)) (nat_lt (source_end h (k_of s)) (v + 1)) r.1 in
     and_from _ _ (and_from _ _ (and_from _ _ (and_from _ _ (less issue v two.0 i) (less address v two.1 a))
     (and_from _ _ (less (source_end h (j_of s)) v ops.0 (source_still v h (j_of s) l (still_rests v h still))) (less (source_end h (k_of s)) v ops.1 (source_still v h (k_of s) l (still_rests v h still)))))
-    (conflicts_still v h s (still_rests v h still) q.1)) (unit_still row v h unit good still)
+    (conflicts_still v h s (still_rests v h still) q.1)) (unit_still config v h unit good still)
 
-end_still : (row : Row) (v : ℕ) (h : List Done) (finish : ℕ) → IsRow row → AllAtRest v h → finish ≢ v → can_end row h finish (v + 1) ≡ true → can_end row h finish v ≡ true
-end_still row v h finish good still apart e =
-    let two = and_parts (nat_lt finish (v + 1)) (has_bus row h (v + 1)) e in
-    and_from _ _ (less finish v two.0 apart) (bus_still row v h good still)
+end_still : (config : Configuration) (v : ℕ) (h : List Done) (finish : ℕ) → IsWithinLimits config → AllAtRest v h → finish ≢ v → can_end config h finish (v + 1) ≡ true → can_end config h finish v ≡ true
+end_still config v h finish good still apart e =
+    let two = and_parts (nat_lt finish (v + 1)) (has_bus config h (v + 1)) e in
+    and_from _ _ (less finish v two.0 apart) (bus_still config v h good still)
 
 -- so the least cycle that passes it isn't the next one
 pub not_least : (p : ℕ → Bool) (a v : ℕ) → (p (v + 1) ≡ true → p v ≡ true) → IsLeast p a → a ≢ v + 1
@@ -209,16 +209,16 @@ AllFree u w h = AllDue (λ d. ⊥) u w h
 abbrev pub AllStillTo : ℕ → ℕ → List Done → Type 0
 AllStillTo u v h = (k : ℕ) → u ≤ k → k ≤ v → AllStill k h
 
-start_by : (row : Row) (v : ℕ) (h : List Done) (x : Step) (at : Times) (unit : Option UnitId) → 0 < v → IsRow row → AllStill v h → at.issue ≢ v → cycle_of at.address ≢ v → at.issue ≢ v + 1
-    → MatchOption unit (at.start ≡ at.issue) (λ u. IsLeast (can_start row h x u at.issue (cycle_of at.address)) at.start) → at.start ≢ v + 1
-start_by row v h x at None l good still i a next timed e = let f : at.start ≡ at.issue = timed in next (omega arith)
-start_by row v h x at (Some unit) l good still i a next timed e = not_least (can_start row h x unit at.issue (cycle_of at.address)) at.start v (start_still row v h x unit at.issue (cycle_of at.address) l good still i a) timed e
+start_by : (config : Configuration) (v : ℕ) (h : List Done) (x : Step) (at : Times) (unit : Option UnitId) → 0 < v → IsWithinLimits config → AllStill v h → at.issue ≢ v → cycle_of at.address ≢ v → at.issue ≢ v + 1
+    → MatchOption unit (at.start ≡ at.issue) (λ u. IsLeast (can_start config h x u at.issue (cycle_of at.address)) at.start) → at.start ≢ v + 1
+start_by config v h x at None l good still i a next timed e = let f : at.start ≡ at.issue = timed in next (omega arith)
+start_by config v h x at (Some unit) l good still i a next timed e = not_least (can_start config h x unit at.issue (cycle_of at.address)) at.start v (start_still config v h x unit at.issue (cycle_of at.address) l good still i a) timed e
 
-end_by : (row : Row) (v : ℕ) (h : List Done) (at : Times) (unit : Option UnitId) (dest : Bool) → IsRow row → AllAtRest v h → at.finish ≢ v → at.issue ≢ v + 1 → (dest ≡ false → at.finish ≢ v + 1)
-    → MatchOption unit (at.end ≡ at.issue) (λ u. MatchBool dest (IsLeast (can_end row h at.finish) at.end) (at.end ≡ at.finish)) → at.end ≢ v + 1
-end_by row v h at None dest good still f i g timed e = let k : at.end ≡ at.issue = timed in i (omega arith)
-end_by row v h at (Some unit) true good still f i g timed e = not_least (can_end row h at.finish) at.end v (end_still row v h at.finish good still f) timed e
-end_by row v h at (Some unit) false good still f i g timed e = let k : at.end ≡ at.finish = timed in g refl (omega arith)
+end_by : (config : Configuration) (v : ℕ) (h : List Done) (at : Times) (unit : Option UnitId) (dest : Bool) → IsWithinLimits config → AllAtRest v h → at.finish ≢ v → at.issue ≢ v + 1 → (dest ≡ false → at.finish ≢ v + 1)
+    → MatchOption unit (at.end ≡ at.issue) (λ u. MatchBool dest (IsLeast (can_end config h at.finish) at.end) (at.end ≡ at.finish)) → at.end ≢ v + 1
+end_by config v h at None dest good still f i g timed e = let k : at.end ≡ at.issue = timed in i (omega arith)
+end_by config v h at (Some unit) true good still f i g timed e = not_least (can_end config h at.finish) at.end v (end_still config v h at.finish good still f) timed e
+end_by config v h at (Some unit) false good still f i g timed e = let k : at.end ≡ at.finish = timed in g refl (omega arith)
 
 address_by : (v : ℕ) (h : List Done) (x : Step) (at : Times) (memory : Bool) → 0 < v → AllAtRest v h → at.issue ≢ v → MatchBool memory (IsLeast (can_address h x at.issue) (cycle_of at.address)) (at.address ≡ None) → cycle_of at.address ≢ v + 1
 address_by v h x at true l still i timed e = not_least (can_address h x at.issue) (cycle_of at.address) v (address_still v h x at.issue l still i) timed e
@@ -233,46 +233,46 @@ finish_by u v start finish l never next order free e = elim (cases_Bool (nat_le 
       never start (omega arith) (let z : start ≡ v + 1 → ⊥ = next in elim (cases_order start (v + 1)) [ inl same ↦ absurd (z same) | inr (inl m) ↦ omega arith | inr (inr m) ↦ omega arith ]) refl
 ]
 
-pub still_next : (row : Row) (u v : ℕ) (h : List Done) → IsRow row → AreTimed row h → 0 < u → u ≤ v → AllStillTo u v h → AllFree u (v + 1) h → AllStill (v + 1) h
-still_next row u v [] good timed l m still free = tt
-still_next row u v (d ∷ h) good timed l m still free =
-    let older : AllStill (v + 1) h = still_next row u v h good timed.1 l m (λ k a b. (still k a b).1) free.1 in
+pub still_next : (config : Configuration) (u v : ℕ) (h : List Done) → IsWithinLimits config → AreTimed config h → 0 < u → u ≤ v → AllStillTo u v h → AllFree u (v + 1) h → AllStill (v + 1) h
+still_next config u v [] good timed l m still free = tt
+still_next config u v (d ∷ h) good timed l m still free =
+    let older : AllStill (v + 1) h = still_next config u v h good timed.1 l m (λ k a b. (still k a b).1) free.1 in
     let now : IsStill v d = (still v m (omega arith)).0 in
     let before : AllStill v h = (still v m (omega arith)).1 in
     let rest : AllAtRest v h = still_rests v h before in
     let low : 0 < v = omega arith in
     let apart : last_issue h ≢ v + 1 = last_issue_still (v + 1) h (omega arith) (still_rests (v + 1) h older) in
-    let issue : d.at.issue ≢ v + 1 = not_least (can_issue row h d.step) d.at.issue v (issue_still row v h d.step low good timed.1 rest apart) timed.0.issue in
+    let issue : d.at.issue ≢ v + 1 = not_least (can_issue config h d.step) d.at.issue v (issue_still config v h d.step low good timed.1 rest apart) timed.0.issue in
     let address : cycle_of d.at.address ≢ v + 1 = address_by v h d.step d.at (is_memory d.step) low rest now.issue timed.0.address in
-    let start : d.at.start ≢ v + 1 = start_by row v h d.step d.at (step_unit d.step) low good before now.issue now.address issue timed.0.start in
-    let order : d.at.start ≤ d.at.finish = (reach row d h good timed).order in
+    let start : d.at.start ≢ v + 1 = start_by config v h d.step d.at (step_unit d.step) low good before now.issue now.address issue timed.0.start in
+    let order : d.at.start ≤ d.at.finish = (reach config d h good timed).order in
     let finish : d.at.finish ≢ v + 1 = finish_by u v d.at.start d.at.finish m (λ k a b. (still k a b).0.start) start order free.0 in
-    let end : d.at.end ≢ v + 1 = end_by row v h d.at (step_unit d.step) (is_some (step_dest d.step)) good rest now.finish issue (λ silent. finish) timed.0.end in
+    let end : d.at.end ≢ v + 1 = end_by config v h d.at (step_unit d.step) (is_some (step_dest d.step)) good rest now.finish issue (λ silent. finish) timed.0.end in
     (record { issue = issue; address = address; start = start; finish = finish; end = end }, older)
 
 -- where nothing happens in the cycle u, and nothing that had started finishes in the next ones, nothing happens in them
-pub quiet : (row : Row) (u n : ℕ) (h : List Done) → IsRow row → AreTimed row h → 0 < u → AllStill u h → ((w : ℕ) → u < w → w ≤ u + n → AllFree u w h) → AllStillTo u (u + n) h
-quiet row u zero h good timed l still free k a b = let e : k ≡ u = omega arith in rw e still
-quiet row u (suc n) h good timed l still free k a b =
-    let before : AllStillTo u (u + n) h = quiet row u n h good timed l still (λ w c d. free w c (omega arith)) in
+pub quiet : (config : Configuration) (u n : ℕ) (h : List Done) → IsWithinLimits config → AreTimed config h → 0 < u → AllStill u h → ((w : ℕ) → u < w → w ≤ u + n → AllFree u w h) → AllStillTo u (u + n) h
+quiet config u zero h good timed l still free k a b = let e : k ≡ u = omega arith in rw e still
+quiet config u (suc n) h good timed l still free k a b =
+    let before : AllStillTo u (u + n) h = quiet config u n h good timed l still (λ w c d. free w c (omega arith)) in
     elim (cases_Bool (nat_le k (u + n))) [
       | inl e ↦ before k a (leb-true k (u + n) e)
       | inr e ↦
           let more : u + n < k = leb-false k (u + n) e in
           let at : k ≡ u + n + 1 = omega arith in
-          rw at (still_next row u (u + n) h good timed l (omega arith) before (free (u + n + 1) (omega arith) (omega arith)))
+          rw at (still_next config u (u + n) h good timed l (omega arith) before (free (u + n + 1) (omega arith) (omega arith)))
     ]
 
 -- After a calm cycle.
 
 -- a cycle in which nothing happens is calm
-pub still_calm : (row : Row) (u : ℕ) (h : List Done) → IsRow row → AreTimed row h → 0 < u → AllStill u h → AllQuiet u h
-still_calm row u [] good timed l still = tt
-still_calm row u (d ∷ h) good timed l still =
+pub still_calm : (config : Configuration) (u : ℕ) (h : List Done) → IsWithinLimits config → AreTimed config h → 0 < u → AllStill u h → AllQuiet u h
+still_calm config u [] good timed l still = tt
+still_calm config u (d ∷ h) good timed l still =
     let now : IsStill u d = still.0 in
-    let older : AllQuiet u h = still_calm row u h good timed.1 l still.1 in
-    let issue : d.at.issue ≢ u + 1 = not_least (can_issue row h d.step) d.at.issue u (issue_still row u h d.step l good timed.1 (still_rests u h still.1) (last_issue_calm u h older)) timed.0.issue in (
-      record { issue = now.issue; address = now.address; finish = now.finish; end = now.end; apart = issue; later = start_by row u h d.step d.at (step_unit d.step) l good still.1 now.issue now.address issue timed.0.start },
+    let older : AllQuiet u h = still_calm config u h good timed.1 l still.1 in
+    let issue : d.at.issue ≢ u + 1 = not_least (can_issue config h d.step) d.at.issue u (issue_still config u h d.step l good timed.1 (still_rests u h still.1) (last_issue_calm u h older)) timed.0.issue in (
+      record { issue = now.issue; address = now.address; finish = now.finish; end = now.end; apart = issue; later = start_by config u h d.step d.at (step_unit d.step) l good still.1 now.issue now.address issue timed.0.start },
       older,
     )
 
@@ -284,17 +284,17 @@ calm_finish P u start finish later order due e = elim (cases_Bool (nat_le start 
 ]
 
 -- nothing falls in the next one but such finishes, where all that finishes in it is so, and what is so has a result to send
-pub calm_next : (P : Done → Type 0) (row : Row) (u : ℕ) (h : List Done) → ((d : Done) → P d → is_some (step_dest d.step) ≡ true) → IsRow row → AreTimed row h → 0 < u → AllQuiet u h → AllDue P u (u + 1) h → AllByRecursion (IsStillBut P (u + 1)) h
-calm_next P row u [] sends good timed l calm due = tt
-calm_next P row u (d ∷ h) sends good timed l calm due =
+pub calm_next : (P : Done → Type 0) (config : Configuration) (u : ℕ) (h : List Done) → ((d : Done) → P d → is_some (step_dest d.step) ≡ true) → IsWithinLimits config → AreTimed config h → 0 < u → AllQuiet u h → AllDue P u (u + 1) h → AllByRecursion (IsStillBut P (u + 1)) h
+calm_next P config u [] sends good timed l calm due = tt
+calm_next P config u (d ∷ h) sends good timed l calm due =
     let now : IsQuiet u d = calm.0 in
     let rest : AllAtRest u h = calm_rests u h calm.1 in
     let issue : d.at.issue ≢ u + 1 = now.apart in
     let address : cycle_of d.at.address ≢ u + 1 = address_by u h d.step d.at (is_memory d.step) l rest now.issue timed.0.address in
-    let order : d.at.start ≤ d.at.finish = (reach row d h good timed).order in
+    let order : d.at.start ≤ d.at.finish = (reach config d h good timed).order in
     let finish : d.at.finish ≡ u + 1 → P d = calm_finish (P d) u d.at.start d.at.finish now.later order due.0 in
-    let end : d.at.end ≢ u + 1 = end_by row u h d.at (step_unit d.step) (is_some (step_dest d.step)) good rest now.finish issue (λ silent e. both_ways (is_some (step_dest d.step)) silent (sends d (finish e))) timed.0.end in
-    (record { issue = issue; address = address; start = now.later; finish = finish; end = end }, calm_next P row u h sends good timed.1 l calm.1 due.1)
+    let end : d.at.end ≢ u + 1 = end_by config u h d.at (step_unit d.step) (is_some (step_dest d.step)) good rest now.finish issue (λ silent e. both_ways (is_some (step_dest d.step)) silent (sends d (finish e))) timed.0.end in
+    (record { issue = issue; address = address; start = now.later; finish = finish; end = end }, calm_next P config u h sends good timed.1 l calm.1 due.1)
 
 -- what had started by the next cycle had by this one
 free_on : (u w : ℕ) (h : List Done) → AllQuiet u h → AllFree u w h → AllFree (u + 1) w h
@@ -308,8 +308,8 @@ free_on u w (d ∷ h) calm free = (
 )
 
 -- and nothing in those after it, where nothing that had started finishes in them
-pub calm_quiet : (row : Row) (u n : ℕ) (h : List Done) → IsRow row → AreTimed row h → 0 < u → AllQuiet u h → ((w : ℕ) → u < w → w ≤ u + n → AllFree u w h) → (k : ℕ) → u < k → k ≤ u + n → AllStill k h
-calm_quiet row u n h good timed l calm free k a b =
-    let first : AllStill (u + 1) h = calm_next (λ d. ⊥) row u h (λ d none. absurd none) good timed l calm (free (u + 1) (omega arith) (omega arith)) in
+pub calm_quiet : (config : Configuration) (u n : ℕ) (h : List Done) → IsWithinLimits config → AreTimed config h → 0 < u → AllQuiet u h → ((w : ℕ) → u < w → w ≤ u + n → AllFree u w h) → (k : ℕ) → u < k → k ≤ u + n → AllStill k h
+calm_quiet config u n h good timed l calm free k a b =
+    let first : AllStill (u + 1) h = calm_next (λ d. ⊥) config u h (λ d none. absurd none) good timed l calm (free (u + 1) (omega arith) (omega arith)) in
     let at : u + 1 + (n - 1) ≡ u + n = omega arith in
-    quiet row (u + 1) (n - 1) h good timed (omega arith) first (λ w c d. free_on u w h calm (free w (omega arith) (omega arith))) k (omega arith) (omega arith)
+    quiet config (u + 1) (n - 1) h good timed (omega arith) first (λ w c d. free_on u w h calm (free w (omega arith) (omega arith))) k (omega arith) (omega arith)

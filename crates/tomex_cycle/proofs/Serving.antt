@@ -6,8 +6,8 @@ use Rattle.std.proofs.lemmas.List.{length-append, take-append-le, take_all}
 use Rattle.std.proofs.lemmas.List.Elements.{filter-append}
 use Rattle.std.proofs.lemmas.List.Sums.{sum_by-cons}
 use Rattle.tomex_timing.specs.declared.times.Done.{Done}
-use Rattle.tomex_bus.specs.Sets.{has, is_in}
-use Rattle.tomex_bus.specs.Picks.{IsInIssueOrder, IsPicked, Rises}
+use Rattle.tomex_sets.specs.Sets.{has}
+use Rattle.tomex_bus.specs.Picks.{IsInIssueOrder, IsPicked, Rises, is_listed}
 use Rattle.tomex_bus.proofs.Picking.{first_picked}
 use Rattle.tomex_cycle.specs.Views.{holds_place, order_of, place_of}
 use Rattle.tomex_cycle.proofs.Orders.{in-append}
@@ -40,23 +40,23 @@ or_false false = refl
 -- the first n of the ready ones, as far as a part of the history goes
 pub record IsServed (t n set : ℕ) (goes : Done → Bool) (part : List Done) : Type 0 where
   pub count : count_by goes part ≡ min n (length (filter (has set) (order_of t part)))
-  pub taken : (x : ℕ) → is_in (take n (filter (has set) (order_of t part))) x ≡ goes_at t goes part x
+  pub taken : (x : ℕ) → is_listed (take n (filter (has set) (order_of t part))) x ≡ goes_at t goes part x
 
 -- who doesn't go changes nothing
 same_by : (t n set : ℕ) (goes : Done → Bool) (d : Done) (older : List Done) → goes d ≡ false → filter (has set) (order_of t (d ∷ older)) ≡ filter (has set) (order_of t older) → ((x : ℕ) → holds_place t x d ≡ true → goes_at t goes older x ≡ false) → IsServed t n set goes older → IsServed t n set goes (d ∷ older)
 same_by t n set goes d older stays same alone before = record {
   count = count_off goes d older stays ∙ (before.count ∙ ap (λ (xs : List ℕ). min n (length xs)) (sym same));
-  taken = λ x. ap (λ (xs : List ℕ). is_in (take n xs) x) same ∙ (before.taken x ∙ elim (cases_Bool (holds_place t x d)) [
+  taken = λ x. ap (λ (xs : List ℕ). is_listed (take n xs) x) same ∙ (before.taken x ∙ elim (cases_Bool (holds_place t x d)) [
     | inr h ↦ rw h refl
     | inl h ↦ rw (h, stays) (alone x h)
   ]);
 }
 
-one_more : (xs : List ℕ) (p n x : ℕ) → length xs < n → is_in (take n (xs ++ (p ∷ []))) x ≡ (is_in (take n xs) x || (p == x))
+one_more : (xs : List ℕ) (p n x : ℕ) → length xs < n → is_listed (take n (xs ++ (p ∷ []))) x ≡ (is_listed (take n xs) x || (p == x))
 one_more xs p n x l =
     let whole : take n (xs ++ (p ∷ [])) ≡ xs ++ (p ∷ []) = take_all n (xs ++ (p ∷ [])) (rw length-append (omega arith)) in
     let before : take n xs ≡ xs = take_all n xs (omega arith) in
-    rw (whole, before) (in-append xs (p ∷ []) x ∙ ap (λ b. is_in xs x || b) (or_false (p == x)))
+    rw (whole, before) (in-append xs (p ∷ []) x ∙ ap (λ b. is_listed xs x || b) (or_false (p == x)))
 
 no_more : (xs : List ℕ) (p n : ℕ) → n ≤ length xs → take n (xs ++ (p ∷ [])) ≡ take n xs
 no_more xs p n l = take-append-le n xs (p ∷ []) l
@@ -87,8 +87,8 @@ ready_by t n set p goes d older place late member serves alone before =
             taken = λ x. rw (order, e) (one_more xs p n x few ∙ elim (cases_Bool (p == x)) [
               | inl k ↦
                   let same : p ≡ x = eqb-true p x k in
-                  or_one (is_in (take n xs) x) (p == x) k ∙ sym (rw (← same, held) on)
-              | inr k ↦ rw (k, holds_other x k) (or_false (is_in (take n xs) x) ∙ (ap (λ (ys : List ℕ). is_in (take n ys) x) (sym e) ∙ before.taken x))
+                  or_one (is_listed (take n xs) x) (p == x) k ∙ sym (rw (← same, held) on)
+              | inr k ↦ rw (k, holds_other x k) (or_false (is_listed (take n xs) x) ∙ (ap (λ (ys : List ℕ). is_listed (take n ys) x) (sym e) ∙ before.taken x))
             ]);
           }
       | inr l ↦
@@ -97,7 +97,7 @@ ready_by t n set p goes d older place late member serves alone before =
           let off : goes d ≡ false = ready ∙ le-ltb (count_by goes older) n (omega arith) in
           record {
             count = count_off goes d older off ∙ (rw (order, e, length-append) (omega arith));
-            taken = λ x. rw (order, e, no_more xs p n full) (ap (λ (ys : List ℕ). is_in (take n ys) x) (sym e) ∙ (before.taken x ∙ elim (cases_Bool (holds_place t x d)) [
+            taken = λ x. rw (order, e, no_more xs p n full) (ap (λ (ys : List ℕ). is_listed (take n ys) x) (sym e) ∙ (before.taken x ∙ elim (cases_Bool (holds_place t x d)) [
               | inr h ↦ rw h refl
               | inl h ↦ rw (h, off) (alone x h)
             ]));
@@ -112,7 +112,7 @@ AreAlone t goes (d ∷ older) = ((x : ℕ) → holds_place t x d ≡ true → go
 served : (t n set : ℕ) (goes : Done → Bool) (part : List Done) → AreServed t n set goes part → AreAlone t goes part → IsServed t n set goes part
 served t n set goes [] each alone = record { count = omega arith; taken = λ x. none_taken n x }
   where
-    none_taken : (n x : ℕ) → is_in (take n []) x ≡ false
+    none_taken : (n x : ℕ) → is_listed (take n []) x ≡ false
     none_taken zero x = refl
     none_taken (suc n) x = refl
 served t n set goes (d ∷ older) each alone =
@@ -134,7 +134,7 @@ served t n set goes (d ∷ older) each alone =
 
 -- Some of a listing are listed in issue order too.
 
-in-filter : (q : ℕ → Bool) (xs : List ℕ) (x : ℕ) → is_in (filter q xs) x ≡ (q x && is_in xs x)
+in-filter : (q : ℕ → Bool) (xs : List ℕ) (x : ℕ) → is_listed (filter q xs) x ≡ (q x && is_listed xs x)
 in-filter q [] x = sym (and_none (q x))
   where
     and_none : (a : Bool) → (a && false) ≡ false
@@ -155,7 +155,7 @@ rises-filter : (q : ℕ → Bool) (issue_numbers xs : List ℕ) → Rises issue_
 rises-filter q issue_numbers [] rises = rises
 rises-filter q issue_numbers (x ∷ xs) rises = elim (cases_Bool (q x)) [
   | inr e ↦ rw e (rises-filter q issue_numbers xs rises.1)
-  | inl e ↦ rw e ((λ y k. rises.0 y (and_parts (q y) (is_in xs y) (sym (in-filter q xs y) ∙ k)).1), rises-filter q issue_numbers xs rises.1)
+  | inl e ↦ rw e ((λ y k. rises.0 y (and_parts (q y) (is_listed xs y) (sym (in-filter q xs y) ∙ k)).1), rises-filter q issue_numbers xs rises.1)
 ]
 
 pub some_in_order : (busy set : ℕ) (issue_numbers xs : List ℕ) → IsInIssueOrder busy issue_numbers xs → ((x : ℕ) → x < 128 → has set x ≡ true → has busy x ≡ true) → IsInIssueOrder set issue_numbers (filter (has set) xs)
@@ -164,7 +164,7 @@ some_in_order busy set issue_numbers xs by inside = record {
     | inl e ↦ rw e (sym (in-filter (has set) xs x ∙ rw (e, ← by.members x l) (inside x l e)))
     | inr e ↦ rw e (sym (in-filter (has set) xs x ∙ rw e refl))
   ];
-  low = λ x k. by.low x (and_parts (has set x) (is_in xs x) (sym (in-filter (has set) xs x) ∙ k)).1;
+  low = λ x k. by.low x (and_parts (has set x) (is_listed xs x) (sym (in-filter (has set) xs x) ∙ k)).1;
   rises = rises-filter (has set) issue_numbers xs by.rises;
 }
 

@@ -4,7 +4,7 @@ use Rattle.std.specs.Prelude.{◌≢◌, nat_lt, nat_le, ◌&&◌}
 use Rattle.std.specs.List.{AllByRecursion}
 use Rattle.std.proofs.lemmas.Bool.{both_ways, cases_Bool, le-ltb, ltb-true, ltb-false, le-leb, leb-true, leb-false}
 use Rattle.tomex_image.specs.Image.{Loaded}
-use Rattle.tomex_config.specs.Row.{Row, IsRow}
+use Rattle.tomex_config.specs.Configuration.{Configuration, IsWithinLimits}
 use Rattle.tomex_rvexec.specs.declared.outcome.EndKind.{EndKind}
 use Rattle.tomex_rvexec.specs.declared.step.Operand.{Operand}
 use Rattle.tomex_rvexec.specs.Flow.{end_of}
@@ -114,48 +114,48 @@ fetch_alike i u w (d ∷ older) same = elim (cases_Bool (is_branch d.step)) [
 ]
 
 -- a run's beginning is a part of the run
-pub run_part : (row : Row) (i : Loaded) (n k j : ℕ) (s : State) (kind : EndKind) → RunEnds i n s kind → j + k ≤ n + 1 → (newer : List Done) × (run_to row i (j + k) ≡ newer ++ run_to row i k)
-run_part row i n k zero s kind ends l = let e : 0 + k ≡ k = omega arith in ([], rw e refl)
-run_part row i n k (suc j) s kind ends l =
-    let before = run_part row i n k j s kind ends (omega arith) in
+pub run_part : (config : Configuration) (i : Loaded) (n k j : ℕ) (s : State) (kind : EndKind) → RunEnds i n s kind → j + k ≤ n + 1 → (newer : List Done) × (run_to config i (j + k) ≡ newer ++ run_to config i k)
+run_part config i n k zero s kind ends l = let e : 0 + k ≡ k = omega arith in ([], rw e refl)
+run_part config i n k (suc j) s kind ends l =
+    let before = run_part config i n k j s kind ends (omega arith) in
     let x = step_is i n (j + k) s kind ends (omega arith) in
     let e : suc j + k ≡ j + k + 1 = omega arith in
-    let g : run_to row i (j + k + 1) ≡ next_done row (run_to row i (j + k)) x.0 ∷ run_to row i (j + k) = run_next row i (j + k) x.0 x.1 in
-    let same : run_to row i (j + k) ≡ before.0 ++ run_to row i k = before.1 in
-    (next_done row (run_to row i (j + k)) x.0 ∷ before.0, rw (e, g) (ap (λ xs. next_done row (run_to row i (j + k)) x.0 ∷ xs) same))
+    let g : run_to config i (j + k + 1) ≡ next_done config (run_to config i (j + k)) x.0 ∷ run_to config i (j + k) = run_next config i (j + k) x.0 x.1 in
+    let same : run_to config i (j + k) ≡ before.0 ++ run_to config i k = before.1 in
+    (next_done config (run_to config i (j + k)) x.0 ∷ before.0, rw (e, g) (ap (λ xs. next_done config (run_to config i (j + k)) x.0 ∷ xs) same))
 
-pub run_split : (row : Row) (i : Loaded) (n k m : ℕ) (s : State) (kind : EndKind) → RunEnds i n s kind → k ≤ m → m ≤ n + 1 → (newer : List Done) × (run_to row i m ≡ newer ++ run_to row i k)
-run_split row i n k m s kind ends l high =
+pub run_split : (config : Configuration) (i : Loaded) (n k m : ℕ) (s : State) (kind : EndKind) → RunEnds i n s kind → k ≤ m → m ≤ n + 1 → (newer : List Done) × (run_to config i m ≡ newer ++ run_to config i k)
+run_split config i n k m s kind ends l high =
     let e : m - k + k ≡ m = omega arith in
-    subst (λ (x : ℕ). (newer : List Done) × (run_to row i x ≡ newer ++ run_to row i k)) e (run_part row i n k (m - k) s kind ends (omega arith))
+    subst (λ (x : ℕ). (newer : List Done) × (run_to config i x ≡ newer ++ run_to config i k)) e (run_part config i n k (m - k) s kind ends (omega arith))
 
 steady_tail : (k : ℕ) (newer h : List Done) → AllSteady k (newer ++ h) → AllSteady k h
 steady_tail k [] h steady = steady
 steady_tail k (d ∷ newer) h steady = steady_tail k newer h steady.1
 
-steady_part : (row : Row) (i : Loaded) (n m k : ℕ) (s : State) (kind : EndKind) → RunEnds i n s kind → m ≤ n + 1 → AllSteady k (run_to row i (n + 1)) → AllSteady k (run_to row i m)
-steady_part row i n m k s kind ends l steady =
-    let part = run_split row i n m (n + 1) s kind ends l (omega arith) in
-    steady_tail k part.0 (run_to row i m) (rw part.1 at steady)
+steady_part : (config : Configuration) (i : Loaded) (n m k : ℕ) (s : State) (kind : EndKind) → RunEnds i n s kind → m ≤ n + 1 → AllSteady k (run_to config i (n + 1)) → AllSteady k (run_to config i m)
+steady_part config i n m k s kind ends l steady =
+    let part = run_split config i n m (n + 1) s kind ends l (omega arith) in
+    steady_tail k part.0 (run_to config i m) (rw part.1 at steady)
 
 -- the next step doesn't issue there either
-yet_later : (row : Row) (i : Loaded) (n count u w : ℕ) (s : State) (kind : EndKind) → IsRow row → RunEnds i n s kind → count ≤ n → u ≤ w → IsYetToIssue i row count u → AllSteadyAfter u w (run_to row i (n + 1)) → IsYetToIssue i row count w
-yet_later row i n count u w s kind good ends l m yet steady x e v low =
-    let h : List Done = run_to row i count in
-    let late : u < (times_of row h x).issue = not_by row h x u good (run_timed row i count good) (yet x e) in
-    let never : (k : ℕ) → u < k → k ≤ w → (times_of row h x).issue ≢ k = λ k a b. (rw (run_next row i count x e) at (steady_part row i n (count + 1) k s kind ends (omega arith) (steady k a b))).0.issue in
-    let past : w < (times_of row h x).issue = elim (cases_Bool (nat_lt w (times_of row h x).issue)) [
+yet_later : (config : Configuration) (i : Loaded) (n count u w : ℕ) (s : State) (kind : EndKind) → IsWithinLimits config → RunEnds i n s kind → count ≤ n → u ≤ w → IsYetToIssue i config count u → AllSteadyAfter u w (run_to config i (n + 1)) → IsYetToIssue i config count w
+yet_later config i n count u w s kind good ends l m yet steady x e v low =
+    let h : List Done = run_to config i count in
+    let late : u < (times_of config h x).issue = not_by config h x u good (run_timed config i count good) (yet x e) in
+    let never : (k : ℕ) → u < k → k ≤ w → (times_of config h x).issue ≢ k = λ k a b. (rw (run_next config i count x e) at (steady_part config i n (count + 1) k s kind ends (omega arith) (steady k a b))).0.issue in
+    let past : w < (times_of config h x).issue = elim (cases_Bool (nat_lt w (times_of config h x).issue)) [
       | inl f ↦ ltb-true _ _ f
-      | inr f ↦ absurd (never (times_of row h x).issue late (ltb-false w (times_of row h x).issue f) refl)
+      | inr f ↦ absurd (never (times_of config h x).issue late (ltb-false w (times_of config h x).issue f) refl)
     ] in
-    (times_are row h x good (run_timed row i count good)).issue.1 v (omega arith)
+    (times_are config h x good (run_timed config i count good)).issue.1 v (omega arith)
 
 -- the snapshot after the cycle u is that after w
-pub shifted : (row : Row) (i : Loaded) (n u w count : ℕ) (s : State) (kind : EndKind) (st : Pools) (rg : RegStatus) (ft : Fetch) (m : Bytes) → IsRow row → RunEnds i n s kind → u ≤ w → AllSteadyAfter u w (run_to row i (n + 1)) → IsSnapshot i row n u count st rg ft m → IsSnapshot i row n w count st rg ft m
-shifted row i n u w count s kind st rg ft m good ends l steady old =
-    let h : List Done = run_to row i count in
+pub shifted : (config : Configuration) (i : Loaded) (n u w count : ℕ) (s : State) (kind : EndKind) (st : Pools) (rg : RegStatus) (ft : Fetch) (m : Bytes) → IsWithinLimits config → RunEnds i n s kind → u ≤ w → AllSteadyAfter u w (run_to config i (n + 1)) → IsSnapshot i config n u count st rg ft m → IsSnapshot i config n w count st rg ft m
+shifted config i n u w count s kind st rg ft m good ends l steady old =
+    let h : List Done = run_to config i count in
     let few : count ≤ n + 1 = old.issue.few in
-    let same : AllAlike u w h = all_alike u w h l (λ k a b. steady_part row i n count k s kind ends few (steady k a b)) in
+    let same : AllAlike u w h = all_alike u w h l (λ k a b. steady_part config i n count k s kind ends few (steady k a b)) in
     record {
       issue = record {
         few = few;
@@ -168,7 +168,7 @@ shifted row i n u w count s kind st rg ft m good ends l steady old =
         };
         from = old.issue.from ∙ fetch_alike i u w h same;
         issued = issued_more u w h l old.issue.issued;
-        next = λ less. yet_later row i n count u w s kind good ends less l (old.issue.next less) steady;
+        next = λ less. yet_later config i n count u w s kind good ends less l (old.issue.next less) steady;
       };
       bytes = record { base = old.bytes.base; size = old.bytes.size; bytes = λ a from to. old.bytes.bytes a from to ∙ byte_alike i u w a h same };
     }

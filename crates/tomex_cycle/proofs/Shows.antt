@@ -6,7 +6,7 @@ use Rattle.std.proofs.lemmas.List.{ext_get_or}
 use Rattle.std.proofs.lemmas.List.FromFn.{get_or-map-range_with_len, length-map-range_with_len}
 use Rattle.std.proofs.lemmas.Bool.{cases_Bool, cases_order, ltb-true, ltb-false, le-leb, lt-leb}
 use Rattle.tomex_image.specs.Image.{Loaded}
-use Rattle.tomex_config.specs.Row.{Row}
+use Rattle.tomex_config.specs.Configuration.{Configuration}
 use Rattle.tomex_rvexec.specs.Steps.{is_in, is_number, step_pool, step_dest, address_of}
 use Rattle.tomex_timing.specs.declared.tables.Busy.{Busy}
 use Rattle.tomex_timing.specs.declared.tables.Tag.{Tag}
@@ -100,14 +100,14 @@ filter_map-map f g (x ∷ xs) = rw (filter_map-map f g xs) refl
 list_by : {A : Type 0} (n : ℕ) (xs : List (Option A)) (f : ℕ → Option A) → length xs ≡ n → ((x : ℕ) → x < n → slice_index_or xs x None ≡ f x) → xs ≡ map f (range_with_len 0 n)
 list_by n xs f count each = ext_get_or None xs (map f (range_with_len 0 n)) (count ∙ sym (length-map-range_with_len f 0 n)) (λ x l. let k : x < n = omega arith in each x k ∙ sym (get_or-map-range_with_len f 0 n x x None k (omega arith)))
 
-pub tables_is : (i : Loaded) (row : Row) (t : ℕ) (h : List Done) (st : Pools) (rg : RegStatus) (busy : List (Option Busy)) (tables : Tables) → IsHistory i row h → AreIssuedBy t h → ShowsStations i (clocks t t t) h st → ShowsRegisters i t h rg
+pub tables_is : (i : Loaded) (config : Configuration) (t : ℕ) (h : List Done) (st : Pools) (rg : RegStatus) (busy : List (Option Busy)) (tables : Tables) → IsHistory i config h → AreIssuedBy t h → ShowsStations i (clocks t t t) h st → ShowsRegisters i t h rg
     → length busy ≡ 96 → ((x : ℕ) → x < 96 → slice_index_or busy x None ≡ option_map (busy_from (tag_at_place x)) (slice_index_or st.slots x None))
     → tables.cycle ≡ t → tables.busy ≡ filter_map (λ b. b) busy → tables.registers ≡ rg.tags → tables ≡ tables_of t h
-tables_is i row t h st rg busy tables past issued slots status count each cycle shows registers =
+tables_is i config t h st rg busy tables past issued slots status count each cycle shows registers =
     let f : ℕ → Option Busy = λ x. shown t h (tag_at_place x) in
     let a : busy ≡ map f (range_with_len 0 96) = list_by 96 busy f count (λ x l.
     let p : place_of_tag (tag_at_place x) ≡ x = place_back x l in
-    let s : shown t h (tag_at_place x) ≡ option_map (busy_from (tag_at_place x)) (station_at i (clocks t t t) h (place_of_tag (tag_at_place x))) = shown_is i t (tag_at_place x) h (omega arith) (low row h past.lawful past.timed) issued in
+    let s : shown t h (tag_at_place x) ≡ option_map (busy_from (tag_at_place x)) (station_at i (clocks t t t) h (place_of_tag (tag_at_place x))) = shown_is i t (tag_at_place x) h (omega arith) (low config h past.lawful past.timed) issued in
     each x l ∙ (ap (option_map (busy_from (tag_at_place x))) (slots.slots x l) ∙ sym (rw p at s))) in
     let b : tables.busy ≡ filter_map (shown t h) all_tags = shows ∙ (ap (filter_map (λ (x : Option Busy). x)) a ∙ (filter_map-map f (λ x. x) (range_with_len 0 96) ∙ sym (filter_map-map tag_at_place (shown t h) (range_with_len 0 96)))) in
     let c : tables.registers ≡ map (qi_of t h) (range_with_len 0 32) = registers ∙ list_by 32 rg.tags (qi_of t h) status.status (λ r l. status.tags r l ∙ sym (qi_is t h r issued)) in

@@ -4,9 +4,9 @@ use Rattle.std.specs.Prelude.{◌==◌, ◌≢◌, ◌&&◌, ◌||◌, not, is_n
 use Rattle.std.proofs.lemmas.Bool.{cases_Bool, both_ways, and_parts, eqb-true, eqb-false}
 use Rattle.tomex_rvexec.specs.Steps.{bytes_at, is_in, is_number}
 use Rattle.tomex_rvexec.proofs.FlowFields.{bytes_of_op}
-use Rattle.tomex_bus.specs.Sets.{has, IsWith, IsWithout}
+use Rattle.tomex_sets.specs.Sets.{has, IsWith, IsWithout}
 use Rattle.tomex_bus.specs.Picks.{IsInIssueOrder, IsPicked}
-use Rattle.tomex_config.specs.Row.{Row, option_of}
+use Rattle.tomex_config.specs.Configuration.{Configuration, option_of}
 use Rattle.tomex_rvdec.specs.Operands.{pool_of, unit_at, unit_of}
 use Rattle.tomex_rvdec.specs.Parts.{place_of_unit}
 use Rattle.tomex_rvdec.specs.declared.pool.PoolId.{PoolId}
@@ -14,8 +14,8 @@ use Rattle.tomex_rvdec.specs.declared.pool.PoolId.TheVariants as pools
 use Rattle.tomex_rvdec.specs.declared.pool.UnitId.{UnitId}
 use Rattle.tomex_rvdec.specs.declared.pool.UnitId.TheVariants as units
 use Rattle.tomex_timing.specs.History.{is_of}
-use Rattle.tomex_bus.proofs.Bits.{none_in}
-use Rattle.tomex_bus.proofs.Members.{inside_left, none_rest}
+use Rattle.tomex_sets.proofs.Bits.{none_in}
+use Rattle.tomex_sets.proofs.Members.{inside_left, none_rest}
 use Rattle.tomex_bus.proofs.Picking.{none_picked, single_picked}
 use Rattle.tomex_membuf.proofs.Older.{no_option}
 use Rattle.tomex_cycle.proofs.IssueOrder.{no_access}
@@ -191,11 +191,11 @@ pub found_waiting : (st : Pools) (next waiting rest clear : ℕ) → IsSetOf (wa
 found_waiting st next waiting rest clear of so x l e = sym (of x l) ∙ so.found x l e
 
 -- the oldest of each kind together
-pub are_starting : (row : Row) (st : Pools) (next : ℕ) (ra rb rc rd re a b c d e all : ℕ)
+pub are_starting : (config : Configuration) (st : Pools) (next : ℕ) (ra rb rc rd re a b c d e all : ℕ)
     → AreReadyFor st next units.Alu ra → AreReadyFor st next units.Mul rb → AreReadyFor st next units.Div rc → AreReadyFor st next units.Mem rd → AreReadyFor st next units.Bru re
-    → IsPicked ra st.issue_numbers (option_of row units.Alu).units a → IsPicked rb st.issue_numbers (option_of row units.Mul).units b → IsPicked rc st.issue_numbers (option_of row units.Div).units c → IsPicked rd st.issue_numbers (option_of row units.Mem).units d → IsPicked re st.issue_numbers (option_of row units.Bru).units e
-    → ((x : ℕ) → has all x ≡ (has a x || (has b x || (has c x || (has d x || has e x))))) → IsStarting row st next all
-are_starting row st next ra rb rc rd re a b c d e all is_alu is_mul is_div is_mem is_bru alu mul div mem bru together = record {
+    → IsPicked ra st.issue_numbers (option_of config units.Alu).units a → IsPicked rb st.issue_numbers (option_of config units.Mul).units b → IsPicked rc st.issue_numbers (option_of config units.Div).units c → IsPicked rd st.issue_numbers (option_of config units.Mem).units d → IsPicked re st.issue_numbers (option_of config units.Bru).units e
+    → ((x : ℕ) → has all x ≡ (has a x || (has b x || (has c x || (has d x || has e x))))) → IsStarting config st next all
+are_starting config st next ra rb rc rd re a b c d e all is_alu is_mul is_div is_mem is_bru alu mul div mem bru together = record {
   ready = ra ∷ rb ∷ rc ∷ rd ∷ re ∷ [];
   kinds = a ∷ b ∷ c ∷ d ∷ e ∷ [];
   are_ready = kinds;
@@ -215,7 +215,7 @@ are_starting row st next ra rb rc rd re a b c d e all is_alu is_mul is_div is_me
     kinds units.Mem = is_mem
     kinds units.Bru = is_bru
 
-    each : (unit : UnitId) → IsPicked (slice_index (ra ∷ rb ∷ rc ∷ rd ∷ re ∷ []) (place_of_unit unit)) st.issue_numbers (option_of row unit).units (slice_index (a ∷ b ∷ c ∷ d ∷ e ∷ []) (place_of_unit unit))
+    each : (unit : UnitId) → IsPicked (slice_index (ra ∷ rb ∷ rc ∷ rd ∷ re ∷ []) (place_of_unit unit)) st.issue_numbers (option_of config unit).units (slice_index (a ∷ b ∷ c ∷ d ∷ e ∷ []) (place_of_unit unit))
     each units.Alu = alu
     each units.Mul = mul
     each units.Div = div
@@ -223,9 +223,9 @@ are_starting row st next ra rb rc rd re a b c d e all is_alu is_mul is_div is_me
     each units.Bru = bru
 
 -- where nothing waits, nothing starts
-pub none_starts : (row : Row) (st : Pools) (next waiting : ℕ) → AreBusy st.slots st.busy st.issue_numbers → IsSetOf waits st.slots waiting → waiting ≡ 0 → IsStarting row st next 0
-none_starts row st next waiting filled of empty =
-    are_starting row st next 0 0 0 0 0 0 0 0 0 0 0
+pub none_starts : (config : Configuration) (st : Pools) (next waiting : ℕ) → AreBusy st.slots st.busy st.issue_numbers → IsSetOf waits st.slots waiting → waiting ≡ 0 → IsStarting config st next 0
+none_starts config st next waiting filled of empty =
+    are_starting config st next 0 0 0 0 0 0 0 0 0 0 0
     (ready_for st next 0 units.Alu filled (none_for units.Alu) (λ e. absurd (cc))) (ready_for st next 0 units.Mul filled (none_for units.Mul) (λ e. absurd (cc))) (ready_for st next 0 units.Div filled (none_for units.Div) (λ e. absurd (cc)))
     (all_cleared st next 0 0 0 filled (none_for units.Mem) (first_cleared st next 0 (none_for units.Mem)) refl) (ready_for st next 0 units.Bru filled (none_for units.Bru) (λ e. absurd (cc)))
     (none_picked 0 _ st.issue_numbers refl) (none_picked 0 _ st.issue_numbers refl) (none_picked 0 _ st.issue_numbers refl) (none_picked 0 _ st.issue_numbers refl) (none_picked 0 _ st.issue_numbers refl) (λ x. rw (none_in x) refl)

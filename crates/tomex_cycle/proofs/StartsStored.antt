@@ -11,8 +11,8 @@ use Rattle.tomex_cycle.specs.Starts.{AllInside, HaveStored, stored_at, written_b
 use Rattle.tomex_tags.specs.Contents.{step_in}
 use Rattle.tomex_tags.specs.WaitSets.{IsSetOf, holds_store}
 use Rattle.tomex_tags.specs.declared.station.Station.{Station}
-use Rattle.tomex_bus.specs.Sets.{has, IsWithout}
-use Rattle.tomex_bus.proofs.Members.{AreFrom, all_left, least_from, least_in, left_from, none_after, none_between, skip_to}
+use Rattle.tomex_sets.specs.Sets.{has, IsWithout}
+use Rattle.tomex_sets.proofs.Members.{AreFrom, all_left, least_from, least_in, left_from, none_after, none_between, skip_to}
 
 -- The stores of the picked places, one after the other.
 

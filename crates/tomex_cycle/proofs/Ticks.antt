@@ -3,7 +3,7 @@ use Rattle.std.proofs.Common.{ℕ, ◌+◌, ◌<◌, ◌≤◌, ◌≡◌, ◌�
 use Rattle.std.specs.Prelude.{nat_lt, if◌then◌else◌}
 use Rattle.std.proofs.lemmas.Bool.{cases_Bool, ltb-true, ltb-false, le-ltb}
 use Rattle.tomex_image.specs.Image.{Loaded, IsLoaded}
-use Rattle.tomex_config.specs.Row.{Row, IsRow}
+use Rattle.tomex_config.specs.Configuration.{Configuration, IsWithinLimits}
 use Rattle.tomex_rvexec.specs.declared.outcome.EndKind.{EndKind}
 use Rattle.tomex_rvexec.specs.Machine.{State}
 use Rattle.tomex_rvexec.specs.Memory.{Bytes}
@@ -20,8 +20,8 @@ use Rattle.tomex_cycle.proofs.Runs.{run_whole}
 use Rattle.tomex_tags.specs.Pools.{Pools}
 use Rattle.tomex_tags.specs.declared.register_status.RegStatus.{RegStatus}
 
-pub total_is : (row : Row) (i : Loaded) (n : ℕ) (s : State) (kind : EndKind) → RunEnds i n s kind → n < 262144 → total row i ≡ greatest_end (run_to row i (n + 1))
-total_is row i n s kind ends l = ap greatest_end (run_whole row i n s kind ends l)
+pub total_is : (config : Configuration) (i : Loaded) (n : ℕ) (s : State) (kind : EndKind) → RunEnds i n s kind → n < 262144 → total config i ≡ greatest_end (run_to config i (n + 1))
+total_is config i n s kind ends l = ap greatest_end (run_whole config i n s kind ends l)
 
 -- while the answer is Running the total lies ahead
 pub running_low : (cycle all : ℕ) (last : Progress) → last ≡ (if nat_lt cycle all then Running else Ended) → last ≡ Running → cycle < all
@@ -36,62 +36,62 @@ other_high cycle all last e f = elim (cases_Bool (nat_lt cycle all)) [
   | inr l ↦ ltb-false _ _ l
 ]
 
-same_seen : (i : Loaded) (row : Row) (a b : ℕ) (x y : Progress) → a ≡ b → x ≡ y → ◌≡◌ {A = Seen} (record { image = i; row = row; cycle = a; last = x }) (record { image = i; row = row; cycle = b; last = y })
-same_seen i row a b x y e f =
-    let g : ℕ → Seen = λ k. record { image = i; row = row; cycle = k; last = x } in
-    let h : Progress → Seen = λ k. record { image = i; row = row; cycle = b; last = k } in
+same_seen : (i : Loaded) (config : Configuration) (a b : ℕ) (x y : Progress) → a ≡ b → x ≡ y → ◌≡◌ {A = Seen} (record { image = i; config = config; cycle = a; status = x }) (record { image = i; config = config; cycle = b; status = y })
+same_seen i config a b x y e f =
+    let g : ℕ → Seen = λ k. record { image = i; config = config; cycle = k; status = x } in
+    let h : Progress → Seen = λ k. record { image = i; config = config; cycle = b; status = k } in
     ap g e ∙ ap h f
 
 -- the machine is as it is after as many ticks as its cycle says
-pub seen_is : (i : Loaded) (row : Row) (cycle : ℕ) (last : Progress) (count : ℕ) (st : Pools) (rg : RegStatus) (ft : Fetch) (m : Bytes) → IsSound i row cycle last count st rg ft m → EndsWithin i 262144
-    → ◌≡◌ {A = Seen} (record { image = i; row = row; cycle = cycle; last = last }) (seen_after i row cycle)
-seen_is i row cycle last count st rg ft m sound ends =
-    let after : IsAfter i row ends.0 cycle last count st rg ft m = sound.after ends.0 ends.1 ends.2 ends.3 ends.4 in
-    let e : total row i ≡ greatest_end (run_to row i (ends.0 + 1)) = total_is row i ends.0 ends.1 ends.2 ends.4 ends.3 in
-    let high : cycle ≤ greatest_end (run_to row i (ends.0 + 1)) = after.high in
-    same_seen i row cycle (min cycle (total row i)) last (if nat_lt cycle (total row i) then Running else Ended) (omega arith) (rw e after.answer)
+pub seen_is : (i : Loaded) (config : Configuration) (cycle : ℕ) (last : Progress) (count : ℕ) (st : Pools) (rg : RegStatus) (ft : Fetch) (m : Bytes) → IsSound i config cycle last count st rg ft m → EndsWithin i 262144
+    → ◌≡◌ {A = Seen} (record { image = i; config = config; cycle = cycle; status = last }) (seen_after i config cycle)
+seen_is i config cycle last count st rg ft m sound ends =
+    let after : IsAfter i config ends.0 cycle last count st rg ft m = sound.after ends.0 ends.1 ends.2 ends.3 ends.4 in
+    let e : total config i ≡ greatest_end (run_to config i (ends.0 + 1)) = total_is config i ends.0 ends.1 ends.2 ends.4 ends.3 in
+    let high : cycle ≤ greatest_end (run_to config i (ends.0 + 1)) = after.high in
+    same_seen i config cycle (min cycle (total config i)) last (if nat_lt cycle (total config i) then Running else Ended) (omega arith) (rw e after.answer)
 
 -- a cycle keeps what holds
-pub sound_next : (i : Loaded) (row : Row) (cycle : ℕ) (last now : Progress) (count more : ℕ) (st st2 : Pools) (rg rg2 : RegStatus) (ft ft2 : Fetch) (m m2 : Bytes) → IsSound i row cycle last count st rg ft m → last ≡ Running → cycle < 2 ^ 40
-    → ((n : ℕ) (s : State) (kind : EndKind) (t : ℕ) → RunEnds i n s kind → n < 262144 → cycle + 1 ≡ t + 1 → IsRow row → IsLoaded i.window i.memory i.entry → IsSnapshot i row n t count st rg ft m
-    → IsSnapshot i row n (cycle + 1) more st2 rg2 ft2 m2 × (now ≡ (if nat_lt (cycle + 1) (greatest_end (run_to row i (n + 1))) then Running else Ended)))
-    → IsSound i row (cycle + 1) now more st2 rg2 ft2 m2
-sound_next i row cycle last now count more st st2 rg rg2 ft ft2 m m2 sound run low made = record {
+pub sound_next : (i : Loaded) (config : Configuration) (cycle : ℕ) (last now : Progress) (count more : ℕ) (st st2 : Pools) (rg rg2 : RegStatus) (ft ft2 : Fetch) (m m2 : Bytes) → IsSound i config cycle last count st rg ft m → last ≡ Running → cycle < 2 ^ 40
+    → ((n : ℕ) (s : State) (kind : EndKind) (t : ℕ) → RunEnds i n s kind → n < 262144 → cycle + 1 ≡ t + 1 → IsWithinLimits config → IsLoaded i.window i.memory i.entry → IsSnapshot i config n t count st rg ft m
+    → IsSnapshot i config n (cycle + 1) more st2 rg2 ft2 m2 × (now ≡ (if nat_lt (cycle + 1) (greatest_end (run_to config i (n + 1))) then Running else Ended)))
+    → IsSound i config (cycle + 1) now more st2 rg2 ft2 m2
+sound_next i config cycle last now count more st st2 rg rg2 ft ft2 m m2 sound run low made = record {
   lawful = sound.lawful;
   loaded = sound.loaded;
   low = omega arith;
   after = λ n s kind l ends.
-      let before : IsAfter i row n cycle last count st rg ft m = sound.after n s kind l ends in
-      let k : cycle < greatest_end (run_to row i (n + 1)) = running_low cycle _ last before.answer run in
+      let before : IsAfter i config n cycle last count st rg ft m = sound.after n s kind l ends in
+      let k : cycle < greatest_end (run_to config i (n + 1)) = running_low cycle _ last before.answer run in
       let next = made n s kind cycle ends l refl sound.lawful sound.loaded before.snapshot in
       record { high = omega arith; answer = next.1; snapshot = next.0 };
 }
 
 -- the same, of a value that is seen
-pub now_seen : (i : Loaded) (row : Row) (cycle : ℕ) (last : Progress) (seen : Seen) (count : ℕ) (st : Pools) (rg : RegStatus) (ft : Fetch) (m : Bytes)
-    → ◌≡◌ {A = Seen} (record { image = i; row = row; cycle = cycle; last = last }) seen → IsSound i row cycle last count st rg ft m → EndsWithin seen.image 262144
-    → seen ≡ seen_after seen.image seen.row seen.cycle
-now_seen i row cycle last seen count st rg ft m e sound =
-    let P : Seen → Type 0 = λ x. EndsWithin x.image 262144 → x ≡ seen_after x.image x.row x.cycle in
-    subst P e (λ ends. seen_is i row cycle last count st rg ft m sound ends)
+pub now_seen : (i : Loaded) (config : Configuration) (cycle : ℕ) (last : Progress) (seen : Seen) (count : ℕ) (st : Pools) (rg : RegStatus) (ft : Fetch) (m : Bytes)
+    → ◌≡◌ {A = Seen} (record { image = i; config = config; cycle = cycle; status = last }) seen → IsSound i config cycle last count st rg ft m → EndsWithin seen.image 262144
+    → seen ≡ seen_after seen.image seen.config seen.cycle
+now_seen i config cycle last seen count st rg ft m e sound =
+    let P : Seen → Type 0 = λ x. EndsWithin x.image 262144 → x ≡ seen_after x.image x.config x.cycle in
+    subst P e (λ ends. seen_is i config cycle last count st rg ft m sound ends)
 
 -- a machine that has ended is as it is after any more ticks
-pub over_seen : (i : Loaded) (row : Row) (k to : ℕ) (seen : Seen) → seen ≡ seen_after i row k → (seen.last ≡ Running → ⊥) → k ≤ to → seen ≡ seen_after i row to
-over_seen i row k to seen e over l =
-    let last : seen.last ≡ (if nat_lt k (total row i) then Running else Ended) = ap (λ (x : Seen). x.last) e in
-    let low : total row i ≤ k = other_high k (total row i) seen.last last over in
-    e ∙ same_seen i row (min k (total row i)) (min to (total row i)) (if nat_lt k (total row i) then Running else Ended) (if nat_lt to (total row i) then Running else Ended) (omega arith) (rw (le-ltb k (total row i) low, le-ltb to (total row i) (omega arith)) refl)
+pub over_seen : (i : Loaded) (config : Configuration) (k to : ℕ) (seen : Seen) → seen ≡ seen_after i config k → (seen.status ≡ Running → ⊥) → k ≤ to → seen ≡ seen_after i config to
+over_seen i config k to seen e over l =
+    let last : seen.status ≡ (if nat_lt k (total config i) then Running else Ended) = ap (λ (x : Seen). x.status) e in
+    let low : total config i ≤ k = other_high k (total config i) seen.status last over in
+    e ∙ same_seen i config (min k (total config i)) (min to (total config i)) (if nat_lt k (total config i) then Running else Ended) (if nat_lt to (total config i) then Running else Ended) (omega arith) (rw (le-ltb k (total config i) low, le-ltb to (total config i) (omega arith)) refl)
 
 end_is_not_running : (last : Progress) → is_end last ≡ true → last ≡ Running → ⊥
 end_is_not_running last e f = let g : is_end Running ≡ true = rw f at e in absurd (cc)
 
 -- a machine that has ended hands out the end of the run
-pub finish_seen : (P : Loaded → Type 0) (i : Loaded) (row : Row) (cycle : ℕ) (last : Progress) (seen : Seen) (count : ℕ) (st : Pools) (rg : RegStatus) (ft : Fetch) (m : Bytes)
-    → ◌≡◌ {A = Seen} (record { image = i; row = row; cycle = cycle; last = last }) seen
-    → ((i : Loaded) (row : Row) (n : ℕ) (s : State) (kind : EndKind) (t : ℕ) → RunEnds i n s kind → n < 262144 → IsRow row → IsLoaded i.window i.memory i.entry → IsSnapshot i row n t count st rg ft m → greatest_end (run_to row i (n + 1)) ≤ t → P i)
-    → IsSound i row cycle last count st rg ft m → is_end seen.last ≡ true → EndsWithin seen.image 262144 → P seen.image
-finish_seen P i row cycle last seen count st rg ft m e made sound =
-    let Q : Seen → Type 0 = λ x. is_end x.last ≡ true → EndsWithin x.image 262144 → P x.image in
+pub finish_seen : (P : Loaded → Type 0) (i : Loaded) (config : Configuration) (cycle : ℕ) (last : Progress) (seen : Seen) (count : ℕ) (st : Pools) (rg : RegStatus) (ft : Fetch) (m : Bytes)
+    → ◌≡◌ {A = Seen} (record { image = i; config = config; cycle = cycle; status = last }) seen
+    → ((i : Loaded) (config : Configuration) (n : ℕ) (s : State) (kind : EndKind) (t : ℕ) → RunEnds i n s kind → n < 262144 → IsWithinLimits config → IsLoaded i.window i.memory i.entry → IsSnapshot i config n t count st rg ft m → greatest_end (run_to config i (n + 1)) ≤ t → P i)
+    → IsSound i config cycle last count st rg ft m → is_end seen.status ≡ true → EndsWithin seen.image 262144 → P seen.image
+finish_seen P i config cycle last seen count st rg ft m e made sound =
+    let Q : Seen → Type 0 = λ x. is_end x.status ≡ true → EndsWithin x.image 262144 → P x.image in
     subst Q e (λ over ends.
-    let after : IsAfter i row ends.0 cycle last count st rg ft m = sound.after ends.0 ends.1 ends.2 ends.3 ends.4 in
-    made i row ends.0 ends.1 ends.2 cycle ends.4 ends.3 sound.lawful sound.loaded after.snapshot (other_high cycle _ last after.answer (end_is_not_running last over)))
+    let after : IsAfter i config ends.0 cycle last count st rg ft m = sound.after ends.0 ends.1 ends.2 ends.3 ends.4 in
+    made i config ends.0 ends.1 ends.2 cycle ends.4 ends.3 sound.lawful sound.loaded after.snapshot (other_high cycle _ last after.answer (end_is_not_running last over)))

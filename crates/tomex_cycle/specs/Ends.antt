@@ -4,8 +4,9 @@ use Rattle.tomex_rvdec.specs.Operands.{dest_of}
 use Rattle.tomex_rvexec.specs.Flow.{next_pc_of}
 use Rattle.tomex_rvexec.specs.Steps.{is_number}
 use Rattle.tomex_timing.specs.Tables.{field_from}
-use Rattle.tomex_bus.specs.Sets.{has}
+use Rattle.tomex_sets.specs.Sets.{has}
 use Rattle.tomex_bus.specs.Picks.{IsPicked}
+use Rattle.tomex_membuf.specs.Order.{is_finished_before}
 use Rattle.tomex_tags.specs.Contents.{hears, slot, step_in}
 use Rattle.tomex_tags.specs.Operands.{heard}
 use Rattle.tomex_tags.specs.Pools.{Pools}
@@ -15,25 +16,20 @@ use Rattle.tomex_tags.specs.declared.station.Station.{Station}
 use Rattle.tomex_cycle.specs.declared.fetch.Fetch.{Fetch}
 use Rattle.tomex_cycle.specs.declared.fetch.Fetch.TheVariants as from
 
--- the unit was done by the end of the cycle
-abbrev pub is_done_by : ℕ → Option ℕ → Bool
-is_done_by t None = false
-is_done_by t (Some finish) = nat_le finish t
-
--- the unit was done before the cycle
-abbrev pub is_done_before : ℕ → Option ℕ → Bool
-is_done_before t None = false
-is_done_before t (Some finish) = nat_lt finish t
+-- an operation is finished by the end of the cycle
+abbrev pub is_finished_by : Option ℕ → ℕ → Bool
+is_finished_by None cycle = false
+is_finished_by (Some finish) cycle = nat_le finish cycle
 
 -- what has nothing to send ends as it finishes
 abbrev pub ends_alone : ℕ → Option Station → Bool
 ends_alone cycle None = false
-ends_alone cycle (Some s) = not (is_some (dest_of s.instr)) && is_done_by cycle s.finish
+ends_alone cycle (Some s) = not (is_some (dest_of s.instr)) && is_finished_by s.finish cycle
 
 -- a result is ready to be sent
 abbrev pub can_send : ℕ → Option Station → Bool
 can_send cycle None = false
-can_send cycle (Some s) = is_some (dest_of s.instr) && is_done_before cycle s.finish
+can_send cycle (Some s) = is_some (dest_of s.instr) && is_finished_before s.finish cycle
 
 -- of the results that are ready the oldest are sent, as many as there are buses; what has nothing to send
 -- ends as it finishes

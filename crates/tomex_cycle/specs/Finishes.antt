@@ -1,12 +1,13 @@
 -- In which cycles the operations of the busy stations finish.
 use Rattle.std.specs.Prelude.{ℕ, Bool, true, false, not, is_some, ◌≡◌, ◌≤◌, ◌<◌, ◌+◌, ◌&&◌, ◌⊎◌, List, Option, Some, None, length, slice_index_or}
 use Rattle.tomex_rvdec.specs.Operands.{dest_of}
-use Rattle.tomex_bus.specs.Sets.{has}
+use Rattle.tomex_sets.specs.Sets.{has}
 use Rattle.tomex_bus.specs.Wheel.{is_due}
 use Rattle.tomex_tags.specs.WaitSets.{writes}
 use Rattle.tomex_tags.specs.declared.station.Station.{Station}
 use Rattle.tomex_cycle.specs.declared.finishes.Finishes.{Finishes}
-use Rattle.tomex_cycle.specs.Ends.{after_ends, can_send, finishes, is_done_before}
+use Rattle.tomex_cycle.specs.Ends.{after_ends, can_send, finishes}
+use Rattle.tomex_membuf.specs.Order.{is_finished_before}
 use Rattle.tomex_tags.specs.Contents.{slot}
 
 -- none finishes from one cycle to another, with both
@@ -25,7 +26,7 @@ FinishesSoon slots cycle to =
 -- what has nothing to send finished before the cycle, and stands there yet
 abbrev pub has_stayed : ℕ → Option Station → Bool
 has_stayed cycle None = false
-has_stayed cycle (Some s) = not (is_some (dest_of s.instr)) && is_done_before cycle s.finish
+has_stayed cycle (Some s) = not (is_some (dest_of s.instr)) && is_finished_before s.finish cycle
 
 -- the finishes of these stations, as they are known before a cycle ends
 pub record AreKnown (slots : List (Option Station)) (cycle : ℕ) (known : Finishes) : Type 0 where

@@ -1,10 +1,11 @@
 -- The inner state of a machine: where it stands in a run, and what a cycle makes of it.
-use Rattle.std.specs.Prelude.{ℕ, ◌≡◌, ◌+◌, ◌<◌, None, nat_lt, if◌then◌else◌, replicate}
+use Rattle.std.specs.Prelude.{ℕ, ◌≡◌, ◌+◌, ◌<◌, ◌≤◌, None, nat_lt, if◌then◌else◌, replicate}
 use Rattle.tomex_image.specs.Image.{Loaded, IsLoaded}
 use Rattle.tomex_rvexec.specs.declared.outcome.EndKind.{EndKind}
 use Rattle.tomex_rvexec.specs.Machine.{State}
-use Rattle.tomex_rvexec.specs.Run.{RunEnds}
-use Rattle.tomex_config.specs.Row.{Row, IsRow}
+use Rattle.tomex_rvexec.specs.declared.end.End.{End}
+use Rattle.tomex_rvexec.specs.Run.{IsEnd, RunEnds}
+use Rattle.tomex_config.specs.Configuration.{Configuration, IsWithinLimits}
 use Rattle.tomex_timing.specs.History.{greatest_end}
 use Rattle.tomex_cycle.specs.declared.inner.Inner.{Inner}
 use Rattle.tomex_cycle.specs.declared.progress.CycleOutcome.{CycleOutcome}
@@ -14,27 +15,35 @@ use Rattle.tomex_cycle.specs.CycleOutcome.{progress_of}
 use Rattle.tomex_cycle.specs.Events.{events_in}
 use Rattle.tomex_cycle.specs.Phases.{IsSnapshot}
 use Rattle.tomex_cycle.specs.Quiet.{AllQuiet}
-use Rattle.tomex_cycle.specs.Run.{run_to}
+use Rattle.tomex_cycle.specs.Run.{most_steps, run_to}
 
 -- the inner state is the one after cycle t of a run whose last step has n others before it
-abbrev pub IsAt : {A : Type 0} → Loaded → Row → (n t : ℕ) → Inner A → Type 0
-IsAt i row n t inner = IsSnapshot i row n t inner.count inner.pools inner.registers inner.fetch inner.memory
+abbrev pub IsAt : {A : Type 0} → Loaded → Configuration → (n t : ℕ) → Inner A → Type 0
+IsAt i config n t inner = IsSnapshot i config n t inner.count inner.pools inner.registers inner.fetch inner.memory
 
--- the inner state is the one before the first cycle of an image, on any row
+-- the inner state is the one before the first cycle of an image, on any configuration
 pub record IsFresh {A : Type 0} (i : Loaded) (inner : Inner A) : Type 0 where
-  pub start : (row : Row) (n : ℕ) → IsAt i row n 0 inner
+  pub start : (config : Configuration) (n : ℕ) → IsAt i config n 0 inner
   pub none : inner.count ≡ 0
   pub unworked : inner.worked ≡ 0
   pub empty : inner.pools.slots ≡ replicate 96 None
 
 -- If the inner state is that of a run that ends, after the cycle before this one, it becomes the one after this cycle.
--- The outcome is Ended just if no step of the run ends later; if it is Active, something happens in this cycle; if it is
--- Quiet, this cycle is quiet, so that nothing happens after it before the next finish.
-abbrev pub MakesCycle : {A : Type 0} → Loaded → Row → (cycle : ℕ) → Inner A → CycleOutcome → Inner A → Type 0
-MakesCycle i row cycle old outcome new =
-    (n : ℕ) (s : State) (kind : EndKind) (t : ℕ) → RunEnds i n s kind → n < 262144 → cycle ≡ t + 1 → IsRow row
-    → IsLoaded i.window i.memory i.entry → IsAt i row n t old
-    → IsAt i row n cycle new
-    × (progress_of outcome ≡ (if nat_lt cycle (greatest_end (run_to row i (n + 1))) then Running else Ended))
-    × (outcome ≡ Active → 0 < events_in cycle (run_to row i (n + 1)))
-    × (outcome ≡ Quiet → AllQuiet cycle (run_to row i new.count))
+-- The outcome is Ended just if no step of the run ends later; if it is Active, something happens in this cycle; if it
+-- is Quiet, this cycle is quiet, so that nothing happens after it before the next finish.
+abbrev pub MakesCycle : {A : Type 0}
+    → Loaded → Configuration → (cycle : ℕ) → Inner A → CycleOutcome → Inner A → Type 0
+MakesCycle i config cycle old outcome new =
+    (n : ℕ) (s : State) (kind : EndKind) (t : ℕ) → RunEnds i n s kind → n < most_steps → cycle ≡ t + 1
+    → IsWithinLimits config → IsLoaded i.window i.memory i.entry → IsAt i config n t old
+    → IsAt i config n cycle new
+    × (progress_of outcome ≡ (if nat_lt cycle (greatest_end (run_to config i (n + 1))) then Running else Ended))
+    × (outcome ≡ Active → 0 < events_in cycle (run_to config i (n + 1)))
+    × (outcome ≡ Quiet → AllQuiet cycle (run_to config i new.count))
+
+-- after the last cycle of a run that ends, this is the end that the inner state gives
+abbrev pub GivesEnd : {A : Type 0} → Inner A → End A → Type 0
+GivesEnd inner end =
+    (i : Loaded) (config : Configuration) (n : ℕ) (s : State) (kind : EndKind) (t : ℕ)
+    → RunEnds i n s kind → n < most_steps → IsWithinLimits config → IsLoaded i.window i.memory i.entry
+    → IsAt i config n t inner → greatest_end (run_to config i (n + 1)) ≤ t → IsEnd i most_steps end

@@ -8,85 +8,86 @@ use Rattle.tomex_rvexec.specs.History.{step_after}
 use Rattle.tomex_rvexec.specs.Machine.{State}
 use Rattle.tomex_rvexec.specs.Memory.{Bytes}
 use Rattle.tomex_rvexec.specs.Run.{RunEnds}
-use Rattle.tomex_config.specs.Row.{Row, IsRow}
+use Rattle.tomex_config.specs.Configuration.{Configuration, IsWithinLimits}
 use Rattle.tomex_timing.specs.declared.times.Done.{Done}
 use Rattle.tomex_timing.specs.Recurrence.{can_issue}
 use Rattle.tomex_cycle.specs.declared.fetch.Fetch.{Fetch}
 use Rattle.tomex_cycle.specs.declared.fetch.Fetch.TheVariants.{At, Waits, Stopped}
 use Rattle.tomex_cycle.specs.Events.{events_in}
-use Rattle.tomex_cycle.specs.Run.{AreIssuedBy, IsHistory, run_to}
+use Rattle.tomex_cycle.specs.Run.{AreIssuedBy, IsHistory, most_steps, run_to}
 use Rattle.tomex_cycle.specs.Views.{Clocks, clocks, ShowsMemory, ShowsRegisters, ShowsStations, fetch_of}
 use Rattle.tomex_tags.specs.Pools.{Pools}
 use Rattle.tomex_tags.specs.declared.register_status.RegStatus.{RegStatus}
 
 -- the step after so many others can't have issued by the cycle
-abbrev pub IsYetToIssue : Loaded → Row → ℕ → ℕ → Type 0
-IsYetToIssue i row count t =
-    (x : Step) → step_after i count ≡ Some x → (s : ℕ) → s ≤ t → can_issue row (run_to row i count) x s ≡ false
+abbrev pub IsYetToIssue : Loaded → Configuration → ℕ → ℕ → Type 0
+IsYetToIssue i config count t =
+    (x : Step) → step_after i count ≡ Some x → (s : ℕ) → s ≤ t → can_issue config (run_to config i count) x s ≡ false
 
 -- What issue changes, once the issues up to cycle t are made: so many steps of the run, which ends after n others.
-pub record IsIssuedTo (i : Loaded) (row : Row) (n t : ℕ) (c : Clocks) (count : ℕ) (stations : Pools)
+pub record IsIssuedTo (i : Loaded) (config : Configuration) (n t : ℕ) (c : Clocks) (count : ℕ) (stations : Pools)
     (registers : RegStatus) (fetch : Fetch) : Type 0 where
   pub few : count ≤ n + 1
-  pub slots : ShowsStations i c (run_to row i count) stations
-  pub status : ShowsRegisters i c.end (run_to row i count) registers
-  pub from : fetch ≡ fetch_of i c.end (run_to row i count)
-  pub issued : AreIssuedBy t (run_to row i count)
-  pub next : count ≤ n → IsYetToIssue i row count t
+  pub slots : ShowsStations i c (run_to config i count) stations
+  pub status : ShowsRegisters i c.end (run_to config i count) registers
+  pub from : fetch ≡ fetch_of i c.end (run_to config i count)
+  pub issued : AreIssuedBy t (run_to config i count)
+  pub next : count ≤ n → IsYetToIssue i config count t
 
 -- The snapshot after cycle t.
-pub record IsSnapshot (i : Loaded) (row : Row) (n t count : ℕ) (stations : Pools) (registers : RegStatus)
+pub record IsSnapshot (i : Loaded) (config : Configuration) (n t count : ℕ) (stations : Pools) (registers : RegStatus)
     (fetch : Fetch) (memory : Bytes) : Type 0 where
-  pub issue : IsIssuedTo i row n t (clocks t t t) count stations registers fetch
-  pub bytes : ShowsMemory i t (run_to row i count) memory
+  pub issue : IsIssuedTo i config n t (clocks t t t) count stations registers fetch
+  pub bytes : ShowsMemory i t (run_to config i count) memory
 
 -- The phases of a cycle, in their order. Each is stated of whatever history the state before it shows.
 
 -- starts: what starts in the cycle has its finish and its result, and memory what the stores among them leave
-abbrev pub MakesStarts : Row → ℕ → Pools → Bytes → Option Fault → Pools → Bytes → Type 0
-MakesStarts row cycle stations memory fault new written =
-    (i : Loaded) (h : List Done) (t : ℕ) → cycle ≡ t + 1 → IsHistory i row h → AreIssuedBy t h
+abbrev pub MakesStarts : Configuration → ℕ → Pools → Bytes → Option Fault → Pools → Bytes → Type 0
+MakesStarts config cycle stations memory fault new written =
+    (i : Loaded) (h : List Done) (t : ℕ) → cycle ≡ t + 1 → IsHistory i config h → AreIssuedBy t h
     → ShowsStations i (clocks t t t) h stations → ShowsMemory i t h memory
     → (fault ≡ None) × ShowsStations i (clocks cycle t t) h new × ShowsMemory i cycle h written
 
 -- the address of the load or store whose address cycle it is
 abbrev pub MakesAddress : ℕ → Pools → Pools → Type 0
 MakesAddress cycle stations new =
-    (i : Loaded) (row : Row) (h : List Done) (t : ℕ) → cycle ≡ t + 1 → IsHistory i row h → AreIssuedBy t h
-    → ShowsStations i (clocks cycle t t) h stations → ShowsStations i (clocks cycle cycle t) h new
+    (i : Loaded) (config : Configuration) (h : List Done) (t : ℕ) → cycle ≡ t + 1
+    → IsHistory i config h → AreIssuedBy t h → ShowsStations i (clocks cycle t t) h stations
+    → ShowsStations i (clocks cycle cycle t) h new
 
 -- the issues of the run's next steps whose cycle it is, how many are counted then, and whether there are any
-abbrev pub MakesIssue : Loaded → Row → ℕ → ℕ → Pools → RegStatus → Fetch → Result Bool Fault → ℕ → Pools → RegStatus
-    → Fetch → Type 0
-MakesIssue i row cycle count stations registers fetch result counted new status from =
-    (n : ℕ) (s : State) (kind : EndKind) (t : ℕ) → RunEnds i n s kind → n < 262144 → cycle ≡ t + 1 → IsRow row
-    → IsLoaded i.window i.memory i.entry
-    → IsIssuedTo i row n t (clocks cycle cycle t) count stations registers fetch
+abbrev pub MakesIssue : Loaded → Configuration → ℕ → ℕ → Pools → RegStatus → Fetch
+    → Result Bool Fault → ℕ → Pools → RegStatus → Fetch → Type 0
+MakesIssue i config cycle count stations registers fetch result counted new status from =
+    (n : ℕ) (s : State) (kind : EndKind) (t : ℕ) → RunEnds i n s kind → n < most_steps → cycle ≡ t + 1
+    → IsWithinLimits config → IsLoaded i.window i.memory i.entry
+    → IsIssuedTo i config n t (clocks cycle cycle t) count stations registers fetch
     → (result ≡ Ok (nat_lt count counted)) × (count ≤ counted)
-    × IsIssuedTo i row n cycle (clocks cycle cycle t) counted new status from
+    × IsIssuedTo i config n cycle (clocks cycle cycle t) counted new status from
 
 -- the broadcasts and ends, and the targets of branches that finish
-abbrev pub MakesEnds : Row → ℕ → Pools → RegStatus → Fetch → Pools → RegStatus → Fetch → Type 0
-MakesEnds row cycle stations registers fetch new status from =
-    (i : Loaded) (h : List Done) (t : ℕ) → cycle ≡ t + 1 → IsHistory i row h → AreIssuedBy cycle h
+abbrev pub MakesEnds : Configuration → ℕ → Pools → RegStatus → Fetch → Pools → RegStatus → Fetch → Type 0
+MakesEnds config cycle stations registers fetch new status from =
+    (i : Loaded) (h : List Done) (t : ℕ) → cycle ≡ t + 1 → IsHistory i config h → AreIssuedBy cycle h
     → ShowsStations i (clocks cycle cycle t) h stations → ShowsRegisters i t h registers → fetch ≡ fetch_of i t h
     → ShowsStations i (clocks cycle cycle cycle) h new × ShowsRegisters i cycle h status × (from ≡ fetch_of i cycle h)
 
 -- Where a phase tells that it did something, there is an event of the cycle.
 
-abbrev pub StartsHappen : Row → ℕ → Pools → Type 0
-StartsHappen row cycle stations =
-    (i : Loaded) (h : List Done) (t : ℕ) → cycle ≡ t + 1 → IsHistory i row h → AreIssuedBy t h
+abbrev pub StartsHappen : Configuration → ℕ → Pools → Type 0
+StartsHappen config cycle stations =
+    (i : Loaded) (h : List Done) (t : ℕ) → cycle ≡ t + 1 → IsHistory i config h → AreIssuedBy t h
     → ShowsStations i (clocks t t t) h stations → 0 < events_in cycle h
 
 abbrev pub AddressHappens : ℕ → Pools → Type 0
 AddressHappens cycle stations =
-    (i : Loaded) (row : Row) (h : List Done) (t : ℕ) → cycle ≡ t + 1 → IsHistory i row h → AreIssuedBy t h
-    → ShowsStations i (clocks cycle t t) h stations → 0 < events_in cycle h
+    (i : Loaded) (config : Configuration) (h : List Done) (t : ℕ) → cycle ≡ t + 1
+    → IsHistory i config h → AreIssuedBy t h → ShowsStations i (clocks cycle t t) h stations → 0 < events_in cycle h
 
-abbrev pub EndsHappen : Row → ℕ → Pools → Type 0
-EndsHappen row cycle stations =
-    (i : Loaded) (h : List Done) (t : ℕ) → cycle ≡ t + 1 → IsHistory i row h → AreIssuedBy cycle h
+abbrev pub EndsHappen : Configuration → ℕ → Pools → Type 0
+EndsHappen config cycle stations =
+    (i : Loaded) (h : List Done) (t : ℕ) → cycle ≡ t + 1 → IsHistory i config h → AreIssuedBy cycle h
     → ShowsStations i (clocks cycle cycle t) h stations → 0 < events_in cycle h
 
 abbrev pub is_stopped : Fetch → Bool

@@ -1,28 +1,35 @@
--- The run of an image on a row: its steps with their times, the youngest first.
+-- The run of an image on a configuration: its steps with their times, the youngest first.
 use Rattle.std.specs.Prelude.{◌≡◌, ℕ, ◌≤◌, nat_le, ◌&&◌, if◌then◌else◌, List, [], ◌∷◌, None, ⊤}
 use Rattle.tomex_image.specs.Image.{Loaded}
 use Rattle.tomex_rvexec.specs.declared.step.Step.{Step}
 use Rattle.tomex_rvexec.specs.Flow.{IsAllowed, byte_in, end_of, overwrites, stored_byte}
 use Rattle.tomex_rvexec.specs.History.{Follows, history as first_steps}
-use Rattle.tomex_rvexec.specs.Run.{start_of}
+use Rattle.tomex_rvexec.specs.Run.{EndsWithin, start_of}
 use Rattle.tomex_rvexec.specs.Trace.{steps_from}
-use Rattle.tomex_config.specs.Row.{Row, IsRow}
+use Rattle.tomex_config.specs.Configuration.{Configuration, IsWithinLimits}
 use Rattle.tomex_timing.specs.declared.times.Done.{Done}
 use Rattle.tomex_timing.specs.History.{greatest_end}
 use Rattle.tomex_timing.specs.Recurrence.{AreTimed}
 use Rattle.tomex_timing.specs.Search.{timed_of, history}
 
 -- the whole run of a program that ends within 262144 steps
-unfoldable pub run_of : Row → Loaded → List Done
-run_of row i = history row (steps_from 262144 (start_of i))
+unfoldable pub run_of : Configuration → Loaded → List Done
+run_of config i = history config (steps_from 262144 (start_of i))
 
 -- the cycles that it takes
-abbrev pub total : Row → Loaded → ℕ
-total row i = greatest_end (run_of row i)
+abbrev pub total : Configuration → Loaded → ℕ
+total config i = greatest_end (run_of config i)
+
+-- what contracts say of a machine they say of programs that end within so many steps
+abbrev pub most_steps : ℕ
+most_steps = 262144
+
+abbrev pub EndsInTime : Loaded → Type 0
+EndsInTime i = EndsWithin i most_steps
 
 -- the first k steps of a run
-unfoldable pub run_to : Row → Loaded → ℕ → List Done
-run_to row i k = timed_of row (first_steps i k)
+unfoldable pub run_to : Configuration → Loaded → ℕ → List Done
+run_to config i k = timed_of config (first_steps i k)
 
 abbrev pub steps_in : List Done → List Step
 steps_in [] = []
@@ -35,9 +42,9 @@ ArePast i (d ∷ older) =
     Follows i (steps_in older) d.step × (end_of d.step ≡ None → IsAllowed i d.step) × ArePast i older
 
 -- what is known of the steps that were issued
-pub record IsHistory (i : Loaded) (row : Row) (h : List Done) : Type 0 where
-  pub lawful : IsRow row
-  pub timed : AreTimed row h
+pub record IsHistory (i : Loaded) (config : Configuration) (h : List Done) : Type 0 where
+  pub lawful : IsWithinLimits config
+  pub timed : AreTimed config h
   pub past : ArePast i h
 
 -- each was issued by the cycle

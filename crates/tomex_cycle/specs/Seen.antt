@@ -1,43 +1,45 @@
 -- What contracts see of a machine.
-use Rattle.std.specs.Prelude.{ℕ, Bool, true, false, nat_lt, if◌then◌else◌, min}
+use Rattle.std.specs.Prelude.{ℕ, ◌≡◌, Bool, true, false, nat_lt, if◌then◌else◌, min}
 use Rattle.tomex_image.specs.Image.{Loaded}
-use Rattle.tomex_config.specs.Row.{Row}
+use Rattle.tomex_config.specs.Configuration.{Configuration}
 use Rattle.tomex_cycle.specs.declared.progress.Progress.{Progress}
 use Rattle.tomex_cycle.specs.declared.progress.Progress.TheVariants.{Running, Ended, Faulted}
-use Rattle.tomex_cycle.specs.Run.{total}
+use Rattle.tomex_cycle.specs.Run.{EndsInTime, total}
 
--- a machine, but for the count of the cycles that it has made: its image, its row, the cycle that it has reached, and
--- its status after that one
+-- the cycle is the one that the machine has reached, and the status is the one after it
+pub record Machine : Type 0 where
+  pub image : Loaded
+  pub config : Configuration
+  pub cycle : ℕ
+  pub status : Progress
+  pub cycles_made : ℕ
+
+-- a machine but for how many cycles it has made: skipped ones are not made
 pub record Seen : Type 0 where
   pub image : Loaded
-  pub row : Row
+  pub config : Configuration
   pub cycle : ℕ
-  pub last : Progress
+  pub status : Progress
 
--- and how many cycles it has made
-pub record Counted : Type 0 where
-  pub image : Loaded
-  pub row : Row
-  pub cycle : ℕ
-  pub last : Progress
-  pub worked : ℕ
+abbrev pub seen : Machine → Seen
+seen m = record { image = m.image; config = m.config; cycle = m.cycle; status = m.status }
 
--- but for that count
-abbrev pub seen : Counted → Seen
-seen m = record { image = m.image; row = m.row; cycle = m.cycle; last = m.last }
-
--- the machine of an image and a row as it is after k ticks, where the program ends
-abbrev pub seen_after : Loaded → Row → ℕ → Seen
-seen_after i row k = record {
+-- the machine of an image and a configuration as it is after k ticks, where the program ends
+abbrev pub seen_after : Loaded → Configuration → ℕ → Seen
+seen_after i config k = record {
   image = i;
-  row = row;
-  cycle = min k (total row i);
-  last = if nat_lt k (total row i) then Running else Ended;
+  config = config;
+  cycle = min k (total config i);
+  status = if nat_lt k (total config i) then Running else Ended;
 }
 
--- the machine of an image and a row that has made no cycle
-abbrev pub before_first_cycle : Loaded → Row → Seen
-before_first_cycle i row = record { image = i; row = row; cycle = 0; last = Running }
+-- if its program ends, the machine is as it is after as many ticks as its cycle says
+abbrev pub IsInStep : Machine → Type 0
+IsInStep m = EndsInTime m.image → seen m ≡ seen_after m.image m.config m.cycle
+
+-- the machine of an image and a configuration that has made no cycle
+abbrev pub before_first_cycle : Loaded → Configuration → Seen
+before_first_cycle i config = record { image = i; config = config; cycle = 0; status = Running }
 
 abbrev pub is_end : Progress → Bool
 is_end Running = false

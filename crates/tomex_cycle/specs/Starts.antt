@@ -9,8 +9,8 @@ use Rattle.tomex_rvexec.specs.Access.{IsInside}
 use Rattle.tomex_rvexec.specs.Flow.{byte_in, overwrites, result_of, stored_byte}
 use Rattle.tomex_rvexec.specs.Memory.{Bytes}
 use Rattle.tomex_rvexec.specs.Steps.{is_number}
-use Rattle.tomex_config.specs.Row.{Row, option_of}
-use Rattle.tomex_bus.specs.Sets.{has}
+use Rattle.tomex_config.specs.Configuration.{Configuration, option_of}
+use Rattle.tomex_sets.specs.Sets.{has}
 use Rattle.tomex_bus.specs.Picks.{IsInIssueOrder, IsPicked}
 use Rattle.tomex_tags.specs.Contents.{is_waiting, slot, step_in}
 use Rattle.tomex_tags.specs.Pools.{Pools}
@@ -65,24 +65,24 @@ is_among [] x = false
 is_among (set ∷ sets) x = has set x || is_among sets x
 
 -- of each kind the oldest ready ones start, as many as there are units
-pub record IsStarting (row : Row) (st : Pools) (cycle starting : ℕ) : Type 0 where
+pub record IsStarting (config : Configuration) (st : Pools) (cycle starting : ℕ) : Type 0 where
   pub ready : List ℕ
   pub kinds : List ℕ
   pub are_ready : AreReady st cycle ready
   pub units : (unit : UnitId)
-      → IsPicked (slice_index ready (place_of_unit unit)) st.issue_numbers (option_of row unit).units
+      → IsPicked (slice_index ready (place_of_unit unit)) st.issue_numbers (option_of config unit).units
       (slice_index kinds (place_of_unit unit))
   pub count : length kinds ≡ 5
   pub all : (x : ℕ) → x < 128 → has starting x ≡ is_among kinds x
 
-abbrev pub finish_from : Row → ℕ → Option UnitId → Option ℕ
-finish_from row cycle None = None
-finish_from row cycle (Some unit) = Some (cycle + (option_of row unit).latency - 1)
+abbrev pub finish_from : Configuration → ℕ → Option UnitId → Option ℕ
+finish_from config cycle None = None
+finish_from config cycle (Some unit) = Some (cycle + (option_of config unit).latency - 1)
 
 -- a station whose operation starts in the cycle, over a memory
-abbrev pub begun : Row → ℕ → Bytes → Station → Station
-begun row cycle m s =
-    record s { finish = finish_from row cycle (unit_of s.instr.op); value = result_of (step_in s) (byte_in m) }
+abbrev pub begun : Configuration → ℕ → Bytes → Station → Station
+begun config cycle m s =
+    record s { finish = finish_from config cycle (unit_of s.instr.op); value = result_of (step_in s) (byte_in m) }
 
 -- the fault of a station whose access lies outside memory
 abbrev pub access_fault : Station → Fault
@@ -108,19 +108,21 @@ abbrev pub AllCanBegin : Bytes → ℕ → List (Option Station) → Type 0
 AllCanBegin m picked slots =
     (x : ℕ) → x < 96 → has picked x ≡ true → (s : Station) × (slot slots x ≡ Some s) × CanBegin m s
 
-abbrev pub begun_if : Row → ℕ → Bytes → Bool → Option Station → Option Station
-begun_if row cycle m picked o = if picked then option_map (begun row cycle m) o else o
+abbrev pub begun_if : Configuration → ℕ → Bytes → Bool → Option Station → Option Station
+begun_if config cycle m picked o = if picked then option_map (begun config cycle m) o else o
 
 -- the operations of the picked places below k have started
-pub record HaveBegun (row : Row) (cycle : ℕ) (m : Bytes) (picked : ℕ) (k : ℕ) (old new : Pools) : Type 0 where
+pub record HaveBegun (config : Configuration) (cycle : ℕ) (m : Bytes) (picked k : ℕ) (old new : Pools) : Type 0 where
   pub places : length new.slots ≡ 96
-  pub slots : (x : ℕ) → x < 96 → slot new.slots x ≡ begun_if row cycle m (nat_lt x k && has picked x) (slot old.slots x)
+  pub slots : (x : ℕ) → x < 96
+      → slot new.slots x ≡ begun_if config cycle m (nat_lt x k && has picked x) (slot old.slots x)
   pub issue_numbers : new.issue_numbers ≡ old.issue_numbers
 
 -- the byte at an address after the store of a place, if it is picked
 abbrev pub stored_at : Bool → Option Station → ℕ → ℕ → ℕ
 stored_at picked None a before = before
-stored_at picked (Some s) a before = if picked && overwrites (step_in s) a then stored_byte (step_in s) a else before
+stored_at picked (Some s) a before =
+    if picked && overwrites (step_in s) a then stored_byte (step_in s) a else before
 
 -- the byte at an address after the stores of the picked places below k
 abbrev pub written_by : List (Option Station) → ℕ → (ℕ → ℕ) → ℕ → ℕ → ℕ

@@ -31,8 +31,8 @@ impl Activity {
 /// ended nothing, and if it has started operations, none is left that waits for a unit.
 #[inline(always)]
 pub(crate) fn is_quiet_after(activity: Activity, ended: bool, pools: &Pools) -> bool
-    ensures quiet { result ≡ true
-        → (activity ≢ Activity.More) × (ended ≡ false) × ((activity ≡ Activity.Nothing) ⊎ NoneWaits pools.now.slots) }
+    ensures quiet { result ≡ true → (activity ≢ Activity.More) × (ended ≡ false)
+        × ((activity ≡ Activity.Nothing) ⊎ NoneWaits pools.now.slots) }
     ensures active { result ≡ false
         → (activity ≡ Activity.More) ⊎ ((ended ≡ true) ⊎ (activity ≡ Activity.Starts)) }
 {

@@ -1,7 +1,7 @@
 //! The end of a cycle: what ends, what is sent, and where branches lead.
 
 ghost use Rattle.std.specs.Prelude.{◌≡◌, ◌<◌, ◌≤◌, ◌^◌, ◌==◌, None, Some, length};
-ghost use Rattle.tomex_bus.specs.Sets.{has};
+ghost use Rattle.tomex_sets.specs.Sets.{has};
 ghost use Rattle.tomex_tags.specs.Operands.{only};
 ghost use Rattle.tomex_tags.specs.Pools.{AreBusy};
 ghost use Rattle.tomex_cycle.specs.Ends.{AreDone, AreEnding, AreNamed, EndsIn, Follows, Hears, IsDoneBranch, sends_of, sent_below, target_in};
@@ -12,9 +12,9 @@ ghost use Rattle.tomex_tags.specs.Contents.{slot};
 use crate::fetch::Fetch;
 use crate::finishes::Finishes;
 use tomex_bus::pick;
-use tomex_bus::sets::{both, difference, lowest, union, without_lowest};
 use tomex_rvdec::UnitId;
 use tomex_rvexec::next_pc;
+use tomex_sets::{both, difference, lowest, union, without_lowest};
 use tomex_tags::{Pools, RegStatus, Station, broadcast, served_by};
 
 /// What is over in a cycle.

@@ -1,12 +1,12 @@
 //! In which cycles the operations of the busy stations finish.
 
 ghost use Rattle.std.specs.Prelude.{ℕ, ◌≡◌, ◌<◌, ◌^◌, ◌&&◌, ◌||◌, not};
-ghost use Rattle.tomex_bus.specs.Sets.{has};
+ghost use Rattle.tomex_sets.specs.Sets.{has};
 ghost use Rattle.tomex_bus.specs.Wheel.{IsEmpty};
 ghost use Rattle.tomex_cycle.specs.Finishes.{HaveTurned};
 
 use tomex_bus::Wheel;
-use tomex_bus::sets::{difference, union};
+use tomex_sets::{difference, union};
 
 /// The finishes ahead, and the results that wait for a common data bus.
 #[derive(Drop)]

@@ -1,22 +1,15 @@
 //! What a cycle changes, and the one call that changes it: it makes a cycle and counts it.
 
 ghost use Rattle.std.specs.Prelude.{ℕ, List, ◌≡◌, ◌≤◌, ◌<◌, ◌+◌, ◌^◌, IfErr, IfOk, if◌then◌else◌};
-ghost use Rattle.tomex_image.specs.Image.{IsLoaded};
-ghost use Rattle.tomex_config.specs.Row.{IsRow};
-ghost use Rattle.tomex_rvexec.specs.declared.outcome.EndKind.{EndKind};
-ghost use Rattle.tomex_rvexec.specs.Machine.{State};
-ghost use Rattle.tomex_rvexec.specs.Run.{RunEnds};
-ghost use Rattle.tomex_timing.specs.History.{greatest_end};
 ghost use Rattle.tomex_image.specs.Image.{Loaded};
-ghost use Rattle.tomex_rvexec.specs.Run.{IsEnd};
 ghost use Rattle.tomex_timing.specs.Tables.{tables_of};
 ghost use Rattle.tomex_timing.specs.declared.times.Done.{Done};
-ghost use Rattle.tomex_cycle.specs.Run.{run_to, AreIssuedBy, IsHistory};
+ghost use Rattle.tomex_cycle.specs.Run.{AreIssuedBy, IsHistory};
 ghost use Rattle.tomex_cycle.specs.Views.{clocks, ShowsStations, ShowsRegisters};
 ghost use Rattle.tomex_cycle.specs.Phases.{is_done};
 ghost use Rattle.tomex_cycle.specs.Finishes.{AreKnown};
 ghost use Rattle.tomex_cycle.specs.CycleOutcome.{progress_of};
-ghost use Rattle.tomex_cycle.specs.Inner.{IsAt, IsFresh, MakesCycle};
+ghost use Rattle.tomex_cycle.specs.Inner.{GivesEnd, IsFresh, MakesCycle};
 ghost use Rattle.tomex_cycle.specs.declared.progress.Progress.{Progress};
 
 use crate::activity::{Activity, is_quiet_after};
@@ -68,7 +61,7 @@ impl<A: Allocator> Inner<A> {
         how: Cycle,
         finishes: &mut Finishes,
         fetcher: &mut Fetcher<'_, B>,
-        row: &Config,
+        config: &Config,
         cycle: u64,
     ) -> CycleOutcome
         requires low { cycle < 2 ^ 41 }
@@ -76,13 +69,14 @@ impl<A: Allocator> Inner<A> {
         requires known { how ≡ Cycle.ByPhases → AreKnown self.old.pools.slots cycle finishes.old }
         ensures worked { self.new.worked ≡ self.old.worked + 1 }
         ensures makes { how ≡ Cycle.ByPhases
-            → MakesCycle fetcher.old row.now cycle self.old result self.new }
+            → MakesCycle fetcher.old config.now cycle self.old result self.new }
         ensures known { how ≡ Cycle.ByPhases → progress_of result ≡ Progress.Running
             → AreKnown self.new.pools.slots (cycle + 1) finishes.new }
         ensures quiet { how ≡ Cycle.ByPhases → result ≡ CycleOutcome.Quiet
             → finishes.new.ready ≡ 0 }
         ensures counts { how ≡ Cycle.CountOnly → (result ≡ CycleOutcome.Active)
-            × (finishes.new ≡ finishes.old) × (self.new ≡ record self.old { worked = self.old.worked + 1 }) }
+            × (finishes.new ≡ finishes.old)
+            × (self.new ≡ record self.old { worked = self.old.worked + 1 }) }
         ensures same { fetcher.new ≡ fetcher.old }
     {
         self.worked += 1;
@@ -90,7 +84,7 @@ impl<A: Allocator> Inner<A> {
             return CycleOutcome::Active;
         }
         self.activity = Activity::Nothing;
-        let starts = phases::start(&mut self.pools, &mut self.memory, finishes, row, cycle);
+        let starts = phases::start(&mut self.pools, &mut self.memory, finishes, config, cycle);
         if let Some(fault) = starts.fault {
             return CycleOutcome::Faulted(fault);
         }
@@ -103,7 +97,7 @@ impl<A: Allocator> Inner<A> {
             &mut self.fetch,
             &mut self.count,
             fetcher,
-            row,
+            config,
         ) {
             Ok(made) => self.activity.raise_to(Activity::More, made),
             Err(fault) => return CycleOutcome::Faulted(fault),
@@ -113,7 +107,7 @@ impl<A: Allocator> Inner<A> {
             &mut self.registers,
             &mut self.fetch,
             finishes,
-            row,
+            config,
             cycle,
         );
         self.pools.keeps_places();
@@ -203,7 +197,8 @@ impl<A: Allocator> Inner<A> {
     /// The tables after a cycle.
     pub fn tables(&self, cycle: u64) -> Tables
         ensures cycle { result.cycle ≡ cycle }
-        ensures shown { (i : Loaded) (h : List Done) (row : _) → IsHistory i row h → AreIssuedBy cycle h
+        ensures shown { (i : Loaded) (h : List Done) (config : _)
+            → IsHistory i config h → AreIssuedBy cycle h
             → ShowsStations i (clocks cycle cycle cycle) h self.now.pools
             → ShowsRegisters i cycle h self.now.registers → result ≡ tables_of cycle h }
     {
@@ -213,9 +208,7 @@ impl<A: Allocator> Inner<A> {
 
     /// The end of the run.
     pub fn into_end(self) -> End<A>
-        ensures ends { (i : Loaded) (row : _) (n : ℕ) (s : State) (kind : EndKind) (t : ℕ)
-            → RunEnds i n s kind → n < 262144 → IsRow row → IsLoaded i.window i.memory i.entry
-            → IsAt i row n t self → greatest_end (run_to row i (n + 1)) ≤ t → IsEnd i 262144 result }
+        ensures ends { GivesEnd self result }
     {
         let (kind, pc) = self.fetch.stop();
         End {

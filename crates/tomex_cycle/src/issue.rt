@@ -20,9 +20,9 @@ pub fn issue_next<A: Allocator>(
     fetch: &mut Fetch,
     count: u32,
     fetcher: &mut Fetcher<'_, A>,
-    row: &Config,
+    config: &Config,
 ) -> Result<bool, Fault>
-    ensures issues { IssuesNext fetcher.old row.now count
+    ensures issues { IssuesNext fetcher.old config.now count
         pools.old registers.old fetch.old result pools.new registers.new fetch.new }
     ensures none { result ≡ Ok false → pools.new ≡ pools.old }
     ensures known { (cycle : ℕ) → KeepsKnown cycle pools.old.slots pools.new.slots }
@@ -43,7 +43,7 @@ pub fn issue_next<A: Allocator>(
             return Ok(true);
         }
     };
-    let number = match pools.free(pool, row.stations(pool)) {
+    let number = match pools.free(pool, config.stations(pool)) {
         Some(number) => number,
         None => return Ok(false),
     };
@@ -52,11 +52,11 @@ pub fn issue_next<A: Allocator>(
     Ok(true)
 }
 
-/// Issues more instructions in a cycle in which one has issued, as many as the row's width leaves, up to
+/// Issues more instructions in a cycle in which one has issued, as many as the configuration's width leaves, up to
 /// the first that can't, and counts each. A fault of fetching is reported by the next cycle, which begins with it.
 ///
-/// On a row of width 1 it is never called. So it isn't put into its caller, the compiler keeps nothing in readiness
-/// for it, and it answers nothing, since each cycle would make room for the answer.
+/// On a configuration of width 1 it is never called. So it isn't put into its caller, the compiler keeps nothing in
+/// readiness for it, and it answers nothing, since each cycle would make room for the answer.
 #[cold]
 #[inline(never)]
 pub fn issue_more<A: Allocator>(
@@ -65,17 +65,17 @@ pub fn issue_more<A: Allocator>(
     fetch: &mut Fetch,
     count: &mut u32,
     fetcher: &mut Fetcher<'_, A>,
-    row: &Config,
+    config: &Config,
 )
-    ensures issues { IssuesMore fetcher.old row.now
+    ensures issues { IssuesMore fetcher.old config.now
         count.old pools.old registers.old fetch.old count.new pools.new registers.new fetch.new }
     ensures known { (cycle : ℕ) → KeepsKnown cycle pools.old.slots pools.new.slots }
     ensures same { fetcher.new ≡ fetcher.old }
 {
-    let width = row.width();
+    let width = config.width();
     let mut made = 1;
     'issues: while made < width {
-        let more = issue_next(pools, registers, fetch, *count, fetcher, row).unwrap_or(false);
+        let more = issue_next(pools, registers, fetch, *count, fetcher, config).unwrap_or(false);
         if !more {
             return;
         }

@@ -1,12 +1,12 @@
 //! The machine.
 
 ghost use Rattle.std.specs.Prelude.{◌≡◌, ◌≢◌, ◌<◌, ◌≤◌, ◌+◌, ◌^◌, IfErr, IfOk, true};
-ghost use Rattle.tomex_rvexec.specs.Run.{EndsWithin, IsEnd};
+ghost use Rattle.tomex_rvexec.specs.Run.{IsEnd};
 ghost use Rattle.tomex_timing.specs.Tables.{tables_of};
-ghost use Rattle.tomex_cycle.specs.Run.{run_of};
+ghost use Rattle.tomex_cycle.specs.Run.{EndsInTime, most_steps, run_of};
 ghost use Rattle.tomex_cycle.specs.Advancing.{AdvancesTo};
 ghost use Rattle.tomex_cycle.specs.Events.{GoesOn};
-ghost use Rattle.tomex_cycle.specs.Seen.{before_first_cycle, is_end, seen, seen_after};
+ghost use Rattle.tomex_cycle.specs.Seen.{IsInStep, before_first_cycle, is_end, seen, seen_after};
 
 use crate::finishes::Finishes;
 use crate::inner::{Cycle, Inner};
@@ -29,77 +29,82 @@ pub struct Machine<'a, A: Allocator = Global> {
     inner: Inner<A>,
     finishes: Finishes,
     fetcher: Fetcher<'a, A>,
-    row: Config,
+    config: Config,
     cycle: u64,
-    last: Progress,
+    status: Progress,
 }
 
 impl<'a, A: Allocator> Model for Machine<'a, A> {
     ghost use Rattle.std.specs.Prelude.{◌≤◌, ◌+◌};
-    ghost use Rattle.tomex_cycle.specs.Seen.{Counted};
+    ghost use Rattle.tomex_cycle.specs.Seen.{Machine};
     ghost use Rattle.tomex_cycle.specs.Sound.{IsSoundWith, IsTurning};
 
-    ghost Value = { Counted };
+    ghost Value = { Machine };
 
-    ghost view = { λ m.
-        record { image = m.fetcher; row = m.row; cycle = m.cycle; last = m.last; worked = m.inner.worked } };
+    ghost view = { λ m. record {
+      image = m.fetcher;
+      config = m.config;
+      cycle = m.cycle;
+      status = m.status;
+      cycles_made = m.inner.worked;
+    } };
 
     ghost invariant = { λ m.
-        IsSoundWith m.fetcher m.row m.cycle m.last m.inner × (m.inner.worked ≤ m.cycle)
-        × IsTurning m.last m.inner.pools.slots (m.cycle + 1) m.finishes };
+        IsSoundWith m.fetcher m.config m.cycle m.status m.inner × (m.inner.worked ≤ m.cycle)
+        × IsTurning m.status m.inner.pools.slots (m.cycle + 1) m.finishes };
 }
 
 impl<'a, A: Allocator> Machine<'a, A> {
-    /// The machine of an image and a row, before the first cycle.
-    pub fn new(alloc: A, image: &'a Image<A>, row: &Config) -> Result<Self, AllocError>
-        ensures start { IfOk result (λ m. seen m ≡ before_first_cycle image.now row.now) }
-        ensures worked { IfOk result (λ m. m.worked ≡ 0) }
+    /// The machine of an image and a configuration, before the first cycle.
+    pub fn new(alloc: A, image: &'a Image<A>, config: &Config) -> Result<Self, AllocError>
+        ensures start { IfOk result (λ m. seen m ≡ before_first_cycle image.now config.now) }
+        ensures worked { IfOk result (λ m. m.cycles_made ≡ 0) }
     {
-        row.keeps_limits();
+        config.keeps_limits();
         image.fills_its_window();
         Ok(Machine {
             fetcher: Fetcher::new(image),
-            row: *row,
+            config: *config,
             cycle: BEFORE_THE_FIRST,
-            last: Progress::Running,
+            status: Progress::Running,
             finishes: Finishes::new(),
             inner: Inner::new(alloc, image)?,
         })
     }
 
-    /// A machine of this image and this row, before the first cycle, made in the memory of this one if that is enough.
-    /// If more is refused, this one comes back as it was.
-    pub fn restart(self, image: &'a Image<A>, row: &Config) -> Result<Self, Self>
-        ensures start { IfOk result (λ m. seen m ≡ before_first_cycle image.now row.now) }
-        ensures worked { IfOk result (λ m. m.worked ≡ 0) }
+    /// A machine of this image and this configuration, before the first cycle, made in the memory of this one if that
+    /// is enough. If more is refused, this one comes back as it was.
+    pub fn restart(self, image: &'a Image<A>, config: &Config) -> Result<Self, Self>
+        ensures start { IfOk result (λ m. seen m ≡ before_first_cycle image.now config.now) }
+        ensures worked { IfOk result (λ m. m.cycles_made ≡ 0) }
         ensures err { IfErr result (λ m. m ≡ self.entry) }
     {
-        row.keeps_limits();
+        config.keeps_limits();
         image.fills_its_window();
         let Machine {
             inner,
             finishes,
             fetcher,
-            row: old_row,
+            config: old_config,
             cycle,
-            last,
+            status,
         } = self;
         match inner.restart(image) {
             Ok(inner) => Ok(Machine {
                 inner,
                 finishes: Finishes::new(),
                 fetcher: Fetcher::new(image),
-                row: *row,
+                config: *config,
                 cycle: BEFORE_THE_FIRST,
-                last: Progress::Running,
+                status: Progress::Running,
             }),
             Err(inner) => Err(Machine {
                 inner,
                 finishes,
                 fetcher,
-                row: old_row,
+                config: old_config,
                 cycle,
-                last,
+                status,
             }),
         }
     }
@@ -107,7 +112,7 @@ impl<'a, A: Allocator> Machine<'a, A> {
     /// Makes one cycle. Once the program has ended or faulted it changes nothing.
     pub fn tick(&mut self) -> Progress
         requires { self.old.cycle < 2 ^ 40 }
-        ensures answer { result ≡ self.new.last }
+        ensures answer { result ≡ self.new.status }
         ensures advances { AdvancesTo (self.old.cycle + 1) self.old self.new }
     {
         self.advance(self.cycle + 1)
@@ -115,26 +120,26 @@ impl<'a, A: Allocator> Machine<'a, A> {
 
     /// Makes one cycle and skips the quiet ones after it, but goes no further than `to`.
     fn go_on(&mut self, to: u64) -> Progress
-        requires running { self.old.last ≡ Progress.Running }
+        requires running { self.old.status ≡ Progress.Running }
         requires ahead { self.old.cycle < to }
         requires low { to ≤ 2 ^ 40 }
-        ensures answer { result ≡ self.new.last }
+        ensures answer { result ≡ self.new.status }
         ensures image { self.new.image ≡ self.old.image }
-        ensures row { self.new.row ≡ self.old.row }
+        ensures config { self.new.config ≡ self.old.config }
         ensures least { self.old.cycle < self.new.cycle }
         ensures most { self.new.cycle ≤ to }
-        ensures ends { EndsWithin self.old.image 262144
-            → seen self.new ≡ seen_after self.old.image self.old.row self.new.cycle }
-        ensures goes { EndsWithin self.old.image 262144
-            → GoesOn (run_of self.old.row self.old.image) to self.old.cycle self.new.cycle
-            self.old.worked self.new.worked }
+        ensures ends { EndsInTime self.old.image
+            → seen self.new ≡ seen_after self.old.image self.old.config self.new.cycle }
+        ensures goes { EndsInTime self.old.image
+            → GoesOn (run_of self.old.config self.old.image) to self.old.cycle self.new.cycle
+            self.old.cycles_made self.new.cycles_made }
     {
         let next = self.cycle + 1;
         match self.inner.make_cycle(
             Cycle::ByPhases,
             &mut self.finishes,
             &mut self.fetcher,
-            &self.row,
+            &self.config,
             next,
         ) {
             CycleOutcome::Active => {
@@ -146,7 +151,7 @@ impl<'a, A: Allocator> Machine<'a, A> {
                     &mut self.inner,
                     &mut self.finishes,
                     &mut self.fetcher,
-                    &self.row,
+                    &self.config,
                     next,
                     to,
                 );
@@ -154,16 +159,15 @@ impl<'a, A: Allocator> Machine<'a, A> {
             }
             over => {
                 self.cycle = next;
-                self.last = over.progress();
-                self.last
+                self.status = over.progress();
+                self.status
             }
         }
     }
 
     /// A law: a machine whose program ends is as it is after as many ticks as its cycle says.
     fn keeps_step(&self)
-        ensures { EndsWithin self.now.image 262144
-            → seen self.now ≡ seen_after self.now.image self.now.row self.now.cycle }
+        ensures { IsInStep self.now }
     {
         let _cycle = self.cycle;
     }
@@ -174,7 +178,7 @@ impl<'a, A: Allocator> Machine<'a, A> {
     /// caller does is no part of it. It answers nothing, since an answer's place would be kept through the loop.
     #[inline(never)]
     fn run_to(&mut self, to: u64)
-        requires running { self.old.last ≡ Progress.Running }
+        requires running { self.old.status ≡ Progress.Running }
         requires low { to ≤ 2 ^ 40 }
         ensures { AdvancesTo to self.old self.new }
     {
@@ -190,51 +194,50 @@ impl<'a, A: Allocator> Machine<'a, A> {
     /// Goes on to cycle `to`, or to the machine's end or fault if that comes first. Quiet cycles are skipped.
     pub fn advance(&mut self, to: u64) -> Progress
         requires { to ≤ 2 ^ 40 }
-        ensures answer { result ≡ self.new.last }
+        ensures answer { result ≡ self.new.status }
         ensures advances { AdvancesTo to self.old self.new }
     {
-        if let Progress::Running = self.last {
+        if let Progress::Running = self.status {
             self.run_to(to);
         }
-        self.last
+        self.status
     }
 
     /// The cycle that was made last.
     pub fn cycle(&self) -> u64
         ensures value { result ≡ self.now.cycle }
-        ensures ends { EndsWithin self.now.image 262144
-            → seen self.now ≡ seen_after self.now.image self.now.row self.now.cycle }
+        ensures ends { IsInStep self.now }
     {
         self.cycle
     }
 
     /// How many cycles were made. The others were quiet, and skipped.
     pub fn worked(&self) -> u64
-        ensures { result ≡ self.now.worked }
+        ensures { result ≡ self.now.cycles_made }
     {
         self.inner.worked()
     }
 
     /// Whether the program has ended, and so has each of its instructions.
     pub fn ended(&self) -> bool
-        ensures value { result ≡ is_end self.now.last }
+        ensures value { result ≡ is_end self.now.status }
     {
-        matches!(self.last, Progress::Ended)
+        matches!(self.status, Progress::Ended)
     }
 
     /// The busy stations and the register status.
     pub fn tables(&self) -> Tables
         ensures cycle { result.cycle ≡ self.now.cycle }
-        ensures ends { EndsWithin self.now.image 262144
-            → result ≡ tables_of self.now.cycle (run_of self.now.row self.now.image) }
+        ensures ends { EndsInTime self.now.image
+            → result ≡ tables_of self.now.cycle (run_of self.now.config self.now.image) }
     {
         self.inner.tables(self.cycle)
     }
 
     /// The end of the run: its kind, pc, number of steps, registers and memory.
     pub fn finish(self) -> End<A>
-        requires { is_end self.last ≡ true }
-        ensures ends { EndsWithin self.entry.image 262144 → IsEnd self.entry.image 262144 result }
+        requires { is_end self.status ≡ true }
+        ensures ends { EndsInTime self.entry.image → IsEnd self.entry.image most_steps result }
     {
         self.inner.into_end()
     }

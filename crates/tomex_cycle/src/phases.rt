@@ -29,25 +29,26 @@ pub fn start<A: Allocator>(
     pools: &mut Pools,
     memory: &mut Memory<A>,
     finishes: &mut Finishes,
-    row: &Config,
+    config: &Config,
     cycle: u64,
 ) -> Starts
     requires low { cycle < 2 ^ 41 }
     requires known { AreKnown pools.old.slots cycle finishes.old }
-    ensures starts { MakesStarts row.now cycle pools.old memory.old result.fault pools.new memory.new }
+    ensures starts { MakesStarts config.now cycle
+        pools.old memory.old result.fault pools.new memory.new }
     ensures none { result.any ≡ false → pools.new.slots ≡ pools.old.slots }
-    ensures any { result.any ≡ true → StartsHappen row.now cycle pools.old }
+    ensures any { result.any ≡ true → StartsHappen config.now cycle pools.old }
     ensures fault { IfSome result.fault (λ f. (x : ℕ) × IsAccessFault pools.old memory.old x f) }
     ensures known { result.fault ≡ None → AreKnown pools.new.slots cycle finishes.new }
 {
-    let starting = starts::starting(pools, row, cycle);
+    let starting = starts::starting(pools, config, cycle);
     if starting == 0 {
         return Starts {
             fault: None,
             any: false,
         };
     }
-    let fault = starts::begin(pools, finishes, starting, memory, row, cycle);
+    let fault = starts::begin(pools, finishes, starting, memory, config, cycle);
     starts::write(pools, starting, memory);
     Starts { fault, any: true }
 }
@@ -68,8 +69,8 @@ pub fn address(pools: &mut Pools, cycle: u64) -> bool
     }
 }
 
-/// Issues the next instructions, at most as many as the row's width, up to the first that something is in the way of,
-/// and counts them. Answers whether any has issued.
+/// Issues the next instructions, at most as many as the configuration's width, up to the first that something is
+/// in the way of, and counts them. Answers whether any has issued.
 #[inline(always)]
 pub fn issue<A: Allocator>(
     pools: &mut Pools,
@@ -77,23 +78,24 @@ pub fn issue<A: Allocator>(
     fetch: &mut Fetch,
     count: &mut u32,
     fetcher: &mut Fetcher<'_, A>,
-    row: &Config,
+    config: &Config,
 ) -> Result<bool, Fault>
-    ensures issues { (cycle : ℕ) → MakesIssue fetcher.old row.now cycle
-        count.old pools.old registers.old fetch.old result count.new pools.new registers.new fetch.new }
+    ensures issues { (cycle : ℕ) → MakesIssue fetcher.old config.now cycle
+        count.old pools.old registers.old fetch.old
+        result count.new pools.new registers.new fetch.new }
     ensures none { result ≡ Ok false → pools.new.slots ≡ pools.old.slots }
     ensures known { (cycle : ℕ) → KeepsKnown cycle pools.old.slots pools.new.slots }
     ensures same { fetcher.new ≡ fetcher.old }
 {
-    if !issue_next(pools, registers, fetch, *count, fetcher, row)? {
+    if !issue_next(pools, registers, fetch, *count, fetcher, config)? {
         return Ok(false);
     }
     *count = count.wrapping_add(1);
-    // Most rows are of width 1, and their cycles are not to pay for the others.
-    if row.width() == 1 {
+    // Most configurations are of width 1, and their cycles are not to pay for the others.
+    if config.width() == 1 {
         return Ok(true);
     }
-    issue_more(pools, registers, fetch, count, fetcher, row);
+    issue_more(pools, registers, fetch, count, fetcher, config);
     Ok(true)
 }
 
@@ -103,13 +105,14 @@ pub fn end(
     registers: &mut RegStatus,
     fetch: &mut Fetch,
     finishes: &mut Finishes,
-    row: &Config,
+    config: &Config,
     cycle: u64,
 ) -> bool
     requires known { AreKnown pools.old.slots cycle finishes.old }
-    ensures ends { MakesEnds row.now cycle pools.old registers.old fetch.old pools.new registers.new fetch.new }
+    ensures ends { MakesEnds config.now cycle
+        pools.old registers.old fetch.old pools.new registers.new fetch.new }
     ensures none { result ≡ false → pools.new.slots ≡ pools.old.slots }
-    ensures any { result ≡ true → EndsHappen row.now cycle pools.old }
+    ensures any { result ≡ true → EndsHappen config.now cycle pools.old }
     ensures known { AreKnown pools.new.slots (cycle + 1) finishes.new }
     ensures quiet { result ≡ false → finishes.new.ready ≡ 0 }
 {
@@ -119,7 +122,7 @@ pub fn end(
         pools.keeps_places();
         return false;
     }
-    let over = ends::settle(pools, finishes, due, row.buses(), cycle);
+    let over = ends::settle(pools, finishes, due, config.buses(), cycle);
     ends::follow(fetch, pools, over.due, cycle);
     if over.ending == 0 {
         return over.due != 0;

@@ -30,7 +30,8 @@ impl CycleOutcome {
     /// The outcome of a cycle without fault.
     #[inline(always)]
     pub(crate) fn after(over: bool, quiet: bool) -> CycleOutcome
-        ensures progress { progress_of result ≡ (if over then Progress.Ended else Progress.Running) }
+        ensures progress { progress_of result
+            ≡ (if over then Progress.Ended else Progress.Running) }
         ensures active { result ≡ CycleOutcome.Active → quiet ≡ false }
         ensures quiet { result ≡ CycleOutcome.Quiet → quiet ≡ true }
     {

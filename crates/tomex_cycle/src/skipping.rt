@@ -6,10 +6,10 @@ ghost use Rattle.tomex_cycle.specs.Finishes.{AreKnown, AreResults, FinishesSoon,
 use crate::finishes::Finishes;
 use crate::inner::{Cycle, Inner};
 use std::alloc::Allocator;
-use tomex_bus::sets::difference;
 use tomex_config::Config;
 use tomex_rvdec::UnitId;
 use tomex_rvexec::Fetcher;
+use tomex_sets::difference;
 use tomex_tags::{Pools, served_by};
 
 /// How many cycles can be skipped before the next finish, so far ahead if there is any, but no more than `most`.
@@ -68,7 +68,7 @@ pub(crate) fn skip_quiet<A: Allocator, B: Allocator>(
     inner: &mut Inner<A>,
     finishes: &mut Finishes,
     fetcher: &mut Fetcher<'_, B>,
-    row: &Config,
+    config: &Config,
     cycle: u64,
     to: u64,
 ) -> u64
@@ -79,7 +79,8 @@ pub(crate) fn skip_quiet<A: Allocator, B: Allocator>(
     requires quiet { finishes.old.ready ≡ 0 }
     ensures least { cycle ≤ result }
     ensures most { result ≤ to }
-    ensures skipped { IsSkipped inner.old.pools.slots cycle to result inner.old.worked inner.new.worked }
+    ensures skipped { IsSkipped inner.old.pools.slots cycle to result
+        inner.old.worked inner.new.worked }
     ensures known { AreKnown inner.old.pools.slots (result + 1) finishes.new }
     ensures inner { inner.new ≡ record inner.old { worked = inner.new.worked } }
     ensures same { fetcher.new ≡ fetcher.old }
@@ -87,7 +88,7 @@ pub(crate) fn skip_quiet<A: Allocator, B: Allocator>(
     let pools = inner.pools();
     let idle = skip_idle(finishes, pools, cycle, to);
     if idle < to && take_results(finishes, pools) {
-        inner.make_cycle(Cycle::CountOnly, finishes, fetcher, row, idle + 1);
+        inner.make_cycle(Cycle::CountOnly, finishes, fetcher, config, idle + 1);
         return idle + 1;
     }
     idle

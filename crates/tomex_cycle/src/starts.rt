@@ -1,7 +1,7 @@
 //! Which operations start in a cycle, and what they do.
 
 ghost use Rattle.std.specs.Prelude.{ℕ, ◌≡◌, ◌≢◌, ◌<◌, ◌≤◌, ◌+◌, ◌-◌, ◌/◌, ◌^◌, IfSome, IsSome, None, Some, slice_set, length, true, ◌||◌};
-ghost use Rattle.tomex_bus.specs.Sets.{has};
+ghost use Rattle.tomex_sets.specs.Sets.{has};
 ghost use Rattle.tomex_tags.specs.Contents.{slot, started, step_in};
 ghost use Rattle.tomex_tags.specs.Places.{pool_at};
 ghost use Rattle.tomex_tags.specs.Pools.{AreBusy};
@@ -15,11 +15,11 @@ ghost use Rattle.tomex_cycle.specs.Starts.{AllCanBegin, AllInside, AllWaitFor, A
 use crate::finishes::Finishes;
 use std::alloc::Allocator;
 use tomex_bus::pick;
-use tomex_bus::sets::{both, is_single, lowest, union, with, without_lowest};
 use tomex_config::Config;
 use tomex_membuf::{is_alone, may_access, read, write as write_bytes};
 use tomex_rvdec::{PoolId, UnitId};
 use tomex_rvexec::{Fault, FaultKind, Memory};
+use tomex_sets::{both, is_single, lowest, union, with, without_lowest};
 use tomex_tags::{Pools, Station, unit};
 
 /// Whether no older access is in the way of the one in a place, which otherwise waits for a port alone.
@@ -93,8 +93,8 @@ fn together(alu: u128, mul: u128, div: u128, mem: u128, bru: u128) -> u128
 
 /// The places whose operations start in the cycle: of each kind the oldest that are ready, as many as
 /// there are units.
-pub fn starting(pools: &Pools, row: &Config, cycle: u64) -> u128
-    ensures starting { IsStarting row.now pools.now cycle result }
+pub fn starting(pools: &Pools, config: &Config, cycle: u64) -> u128
+    ensures starting { IsStarting config.now pools.now cycle result }
     ensures busy { AreBusy pools.now.slots pools.now.busy pools.now.issue_numbers }
 {
     let waiting = pools.waiting();
@@ -108,16 +108,16 @@ pub fn starting(pools: &Pools, row: &Config, cycle: u64) -> u128
     let bru = ready(pools, UnitId::Bru);
     if is_single(waiting) {
         // There is a unit of each kind.
-        row.keeps_limits();
+        config.keeps_limits();
         return together(alu, mul, div, mem, bru);
     }
     let issue_numbers = pools.issue_numbers();
     together(
-        pick(alu, issue_numbers, row.units(UnitId::Alu)),
-        pick(mul, issue_numbers, row.units(UnitId::Mul)),
-        pick(div, issue_numbers, row.units(UnitId::Div)),
-        pick(mem, issue_numbers, row.units(UnitId::Mem)),
-        pick(bru, issue_numbers, row.units(UnitId::Bru)),
+        pick(alu, issue_numbers, config.units(UnitId::Alu)),
+        pick(mul, issue_numbers, config.units(UnitId::Mul)),
+        pick(div, issue_numbers, config.units(UnitId::Div)),
+        pick(mem, issue_numbers, config.units(UnitId::Mem)),
+        pick(bru, issue_numbers, config.units(UnitId::Bru)),
     )
 }
 
@@ -155,19 +155,19 @@ fn outcome<A: Allocator>(
     place: usize,
     station: &Station,
     memory: &Memory<A>,
-    row: &Config,
+    config: &Config,
 ) -> Option<(u8, u32)>
     requires low { place < 96 }
     requires own { unit_of station.now.instr.op ≡ Some (unit_of_pool (pool_at (place / 16))) }
     requires pool { pool_of station.now.instr.op ≡ Some (pool_at (place / 16)) }
-    ensures value { (cycle : ℕ)
-        → IfSome result (λ o. started (cycle + o.0 - 1) o.1 station.now ≡ begun row.now cycle memory.now station.now) }
+    ensures value { (cycle : ℕ) → IfSome result (λ o. started (cycle + o.0 - 1) o.1 station.now
+        ≡ begun config.now cycle memory.now station.now) }
     ensures range { IfSome result (λ o. (1 ≤ o.0) × (o.0 ≤ 64)) }
     ensures outside { IfSome result (λ o. IsInside memory.now (step_in station.now)) }
     ensures inside { CanBegin memory.now station.now → IsSome result }
 {
     let value = value_at(place, station, memory)?;
-    Some((row.latency(unit(place)), value))
+    Some((config.latency(unit(place)), value))
 }
 
 /// Starts the operation of a place if it hasn't started. Answers a fault if its access lies outside memory.
@@ -176,13 +176,14 @@ fn begin_at<A: Allocator>(
     finishes: &mut Finishes,
     place: usize,
     memory: &Memory<A>,
-    row: &Config,
+    config: &Config,
     cycle: u64,
 ) -> Option<Fault>
     requires low { cycle < 2 ^ 41 }
     requires known { AreKnown pools.old.slots cycle finishes.old }
     ensures slots { (s : Station) → slot pools.old.slots place ≡ Some s → CanBegin memory.now s
-        → pools.new.slots ≡ slice_set pools.old.slots place (Some (begun row.now cycle memory.now s)) }
+        → pools.new.slots
+        ≡ slice_set pools.old.slots place (Some (begun config.now cycle memory.now s)) }
     ensures good { (s : Station) → slot pools.old.slots place ≡ Some s → CanBegin memory.now s
         → result ≡ None }
     ensures only { IfSome result (IsAccessFault pools.old memory.now place) }
@@ -198,7 +199,7 @@ fn begin_at<A: Allocator>(
     if station.finish.is_some() {
         return None;
     }
-    match outcome(place, &station, memory, row) {
+    match outcome(place, &station, memory, config) {
         Some((latency, value)) => {
             pools.start(place, cycle + u64::from(latency) - 1, value);
             finishes.wheel.put(u32::from(latency) - 1, place);
@@ -217,14 +218,14 @@ pub fn begin<A: Allocator>(
     finishes: &mut Finishes,
     picked: u128,
     memory: &Memory<A>,
-    row: &Config,
+    config: &Config,
     cycle: u64,
 ) -> Option<Fault>
     requires low { cycle < 2 ^ 41 }
     requires known { AreKnown pools.old.slots cycle finishes.old }
     ensures begins { length pools.old.slots ≡ 96 → AreLow picked
         → AllCanBegin memory.now picked pools.old.slots
-        → HaveBegun row.now cycle memory.now picked 96 pools.old pools.new }
+        → HaveBegun config.now cycle memory.now picked 96 pools.old pools.new }
     ensures good { length pools.old.slots ≡ 96 → AreLow picked
         → AllCanBegin memory.now picked pools.old.slots → result ≡ None }
     ensures fault { IfSome result
@@ -235,7 +236,7 @@ pub fn begin<A: Allocator>(
     'members: while rest != 0 {
         let place = lowest(rest);
         rest = without_lowest(rest);
-        let fault = begin_at(pools, finishes, place, memory, row, cycle);
+        let fault = begin_at(pools, finishes, place, memory, config, cycle);
         if fault.is_some() {
             return fault;
         }

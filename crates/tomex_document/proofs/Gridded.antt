@@ -4,7 +4,7 @@ use Rattle.std.proofs.lemmas.Bool.{and_from}
 use Rattle.std.specs.List.{list_all}
 use Rattle.toml.specs.Data.{Members}
 use Rattle.tomex_rvdec.specs.declared.pool.UnitId.TheVariants as units
-use Rattle.tomex_config.specs.Row.{is_between, is_option}
+use Rattle.tomex_config.specs.Configuration.{is_between, is_option}
 use Rattle.tomex_config.specs.Grid.{Lists, has_zero, stations_in_range, options_in_range, rest_in_range, has_empty, in_range, is_too_large}
 use Rattle.tomex_values.specs.declared.place.Key.TheVariants as key
 use Rattle.tomex_values.specs.declared.place.Place.TheVariants as place

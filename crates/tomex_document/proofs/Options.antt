@@ -5,8 +5,8 @@ use Rattle.std.specs.List.{list_all}
 use Rattle.toml.specs.Data.{Data, Items, no_items, item, Members, as_array, as_table}
 use Rattle.tomex_rvdec.specs.declared.pool.UnitId.{UnitId}
 use Rattle.tomex_rvdec.specs.declared.pool.UnitId.TheVariants as units
-use Rattle.tomex_config.specs.Row.{is_between, is_option, most_units, plain_option}
-use Rattle.tomex_config.specs.declared.row.UnitOption.{UnitOption}
+use Rattle.tomex_config.specs.Configuration.{is_between, is_option, most_units, plain_option}
+use Rattle.tomex_config.specs.declared.config.UnitOption.{UnitOption}
 use Rattle.tomex_values.specs.declared.error.StudyError.TheVariants.{Kind, Range}
 use Rattle.tomex_values.specs.declared.place.Key.{Key}
 use Rattle.tomex_values.specs.declared.place.Key.TheVariants as key

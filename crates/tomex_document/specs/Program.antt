@@ -8,13 +8,13 @@ use Rattle.tomex_values.specs.declared.place.Key.{Key}
 use Rattle.tomex_values.specs.declared.place.Key.TheVariants as key
 use Rattle.tomex_values.specs.declared.place.Place.{Place}
 use Rattle.tomex_values.specs.declared.place.Place.TheVariants as place
-use Rattle.tomex_sweep.specs.declared.watch.WatchRange.{WatchRange}
+use Rattle.tomex_study.specs.declared.watch.WatchRange.{WatchRange}
 use Rattle.tomex_values.specs.declared.error.StudyError.TheVariants.{MissingKey, Kind, Range}
 use Rattle.tomex_values.specs.Readings.{Reading, ◌>>=◌}
 use Rattle.tomex_values.specs.Table.{value_at, has_key, known_keys}
 use Rattle.tomex_values.specs.Numbers.{between, words_between, number_at}
 use Rattle.tomex_values.specs.Lists.{items_count, tables_from}
-use Rattle.tomex_sweep.specs.Watch.{IsWatch}
+use Rattle.tomex_study.specs.Watch.{IsWatch}
 use Rattle.tomex_document.specs.Watch.{watch_at}
 
 -- a program before its file is read

@@ -2,8 +2,8 @@
 use Rattle.std.specs.Prelude.{ℕ, ◌+◌, List, [], ◌∷◌, Option, Some, None, Ok, Err, option_map}
 use Rattle.toml.specs.Data.{Items, no_items, item, Members, as_table}
 use Rattle.tomex_rvdec.specs.declared.pool.UnitId.{UnitId}
-use Rattle.tomex_config.specs.declared.row.UnitOption.{UnitOption}
-use Rattle.tomex_config.specs.Row.{most_units, plain_option}
+use Rattle.tomex_config.specs.declared.config.UnitOption.{UnitOption}
+use Rattle.tomex_config.specs.Configuration.{most_units, plain_option}
 use Rattle.tomex_values.specs.declared.place.Key.TheVariants as key
 use Rattle.tomex_values.specs.declared.place.Place.{Place}
 use Rattle.tomex_values.specs.declared.place.Place.TheVariants as place

@@ -4,8 +4,8 @@ use Rattle.toml.specs.Data.{Data, Items, no_items, item, Members, as_array}
 use Rattle.tomex_image.specs.Window.{Span}
 use Rattle.tomex_values.specs.declared.place.Key.TheVariants as key
 use Rattle.tomex_values.specs.declared.place.Place.{Place}
-use Rattle.tomex_sweep.specs.Watch.{watched_bytes}
-use Rattle.tomex_sweep.specs.declared.watch.WatchRange.{WatchRange}
+use Rattle.tomex_study.specs.Watch.{watched_bytes}
+use Rattle.tomex_study.specs.declared.watch.WatchRange.{WatchRange}
 use Rattle.tomex_values.specs.declared.error.StudyError.TheVariants.{Kind, Range}
 use Rattle.tomex_values.specs.Readings.{Reading, ◌>>=◌}
 use Rattle.tomex_values.specs.Table.{value_at}

@@ -4,11 +4,11 @@ use Rattle.std.specs.List.{flat_map, list_any}
 use Rattle.tomex_rvdec.specs.Parts.{name_of_pool, name_of_unit}
 use Rattle.tomex_rvdec.specs.declared.pool.PoolId.TheVariants as pools
 use Rattle.tomex_rvdec.specs.declared.pool.UnitId.TheVariants as units
-use Rattle.tomex_config.specs.Row.{Row, option_of, plain}
+use Rattle.tomex_config.specs.Configuration.{Configuration, option_of, plain}
 use Rattle.tomex_cycle.specs.Run.{total}
 use Rattle.tomex_sweep.specs.Front.{front_of_study}
-use Rattle.tomex_sweep.specs.Program.{Workload}
-use Rattle.tomex_sweep.specs.Study.{DesignSpace}
+use Rattle.tomex_study.specs.Program.{Workload}
+use Rattle.tomex_study.specs.Study.{DesignSpace}
 use Rattle.tomex_sweep.specs.declared.front_row.FrontRow.{FrontRow}
 use Rattle.tomex_timing.specs.Needs.{count_of}
 use Rattle.tomex_timing.specs.declared.part.Part.TheVariants.{Stations, Units, Buses, Width}
@@ -34,14 +34,14 @@ name_of_setting (Count Buses) = codes "buses"
 name_of_setting (Count Width) = codes "width"
 name_of_setting (Latency unit) = name_of_unit unit ++ codes "_latency"
 
-abbrev pub setting_of : Row → Setting → ℕ
-setting_of row (Count part) = count_of row part
-setting_of row (Latency unit) = (option_of row unit).latency
+abbrev pub setting_of : Configuration → Setting → ℕ
+setting_of config (Count part) = count_of config part
+setting_of config (Latency unit) = (option_of config unit).latency
 
 -- two of the rows differ in it: one does from the first
-unfoldable pub differs : List Row → Setting → Bool
+unfoldable pub differs : List Configuration → Setting → Bool
 differs [] setting = false
-differs (first ∷ rows) setting = list_any (λ row. not (setting_of row setting == setting_of first setting)) rows
+differs (first ∷ rows) setting = list_any (λ config. not (setting_of config setting == setting_of first setting)) rows
 
 abbrev pub name_of_heading : Heading → List ℕ
 name_of_heading OfRow = codes "row"
@@ -49,15 +49,15 @@ name_of_heading Cost = codes "cost"
 name_of_heading Cycles = codes "cycles"
 name_of_heading (OfSetting setting) = name_of_setting setting
 
-abbrev pub row_of : DesignSpace → FrontRow → Row
-row_of s r = slice_index_or s.rows r.row plain
+abbrev pub config_of : DesignSpace → FrontRow → Configuration
+config_of s r = slice_index_or s.rows r.row plain
 
 -- what a front row has under a heading
 unfoldable pub number_under : DesignSpace → Heading → FrontRow → ℕ
 number_under s OfRow r = r.row
 number_under s Cost r = r.cost
 number_under s Cycles r = r.cycles
-number_under s (OfSetting setting) r = setting_of (row_of s r) setting
+number_under s (OfSetting setting) r = setting_of (config_of s r) setting
 
 unfoldable pub heading_column : DesignSpace → List FrontRow → Heading → NamedNumbers
 heading_column s front heading = record { name = name_of_heading heading; numbers = map (number_under s heading) front }
@@ -74,7 +74,7 @@ own_columns s front =
 
 -- a program's own cycles on each front row
 unfoldable pub cycles_on : DesignSpace → List FrontRow → Workload → List ℕ
-cycles_on s front p = map (λ r. total (row_of s r) p.image) front
+cycles_on s front p = map (λ r. total (config_of s r) p.image) front
 
 abbrev pub program_column : DesignSpace → List FrontRow → Workload → NamedNumbers
 program_column s front p = record { name = p.name; numbers = cycles_on s front p }

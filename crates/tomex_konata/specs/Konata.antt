@@ -11,7 +11,7 @@ use Rattle.tomex_rvexec.specs.Steps.{is_number, j_of, k_of, step_dest, step_pool
 use Rattle.tomex_rvexec.specs.Texts.{hex8}
 use Rattle.tomex_rvexec.specs.declared.step.Operand.{Operand}
 use Rattle.tomex_rvexec.specs.declared.step.Step.{Step}
-use Rattle.tomex_config.specs.Row.{Row}
+use Rattle.tomex_config.specs.Configuration.{Configuration}
 use Rattle.tomex_timing.specs.Search.{times_in, total_of}
 use Rattle.tomex_timing.specs.declared.times.Done.{Done}
 use Rattle.tomex_timing.specs.declared.times.Times.{Times}
@@ -181,9 +181,9 @@ log_of number steps times =
     ++ cycles_of number (entries_from [] steps times) (first_issue times) 0 (total_of times + 2)
 
 -- the text is the log of the steps that are asked for
-pub record IsLogOf (row : Row) (steps : List Step) (number count : ℕ) (text : List ℕ) : Type 0 where
+pub record IsLogOf (config : Configuration) (steps : List Step) (number count : ℕ) (text : List ℕ) : Type 0 where
   pub there : number ≤ length steps
-  pub is : text ≡ log_of number (shown number count steps) (shown number count (times_in row steps))
+  pub is : text ≡ log_of number (shown number count steps) (shown number count (times_in config steps))
 
 -- why there is none
 abbrev pub IsUnlogged : List Step → ℕ → LogError → Type 0

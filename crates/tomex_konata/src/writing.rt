@@ -1,4 +1,4 @@
-//! The log of some steps of a run on one row.
+//! The log of some steps of a run on one configuration.
 
 ghost use Rattle.std.specs.Prelude.{◌≡◌, ◌+◌, ◌-◌, ◌<◌, ◌^◌, ◌++◌, All, length, IfErr, IfOk, OnOk, string_bytes};
 ghost use Rattle.tomex_rvexec.specs.Run.{start_of};
@@ -15,7 +15,7 @@ use std::alloc::{AllocError, Allocator, Global};
 use std::fmt::Write;
 use tomex_config::Config;
 use tomex_rvexec::Step;
-use tomex_sweep::Program;
+use tomex_study::Program;
 use tomex_timing::Times;
 use tomex_timing::evaluate::{times, total};
 use tomex_views::{first_issue, part_of, steps_of};
@@ -136,7 +136,7 @@ fn log_of<A: Allocator + Clone>(
     Ok(text.into_bytes())
 }
 
-/// The log of some steps of a program's run on a row for the viewer Konata, `count` of them at most from step `number`
+/// The log of some steps of a program's run on a configuration for the viewer Konata, `count` of them at most from step `number`
 /// on; the first step is number 1. Producers are looked for among these steps alone.
 ///
 /// The work grows as n log n with the steps, whatever the number of cycles. What is small is taken of `heap`.
@@ -144,12 +144,12 @@ pub fn konata_text<A: Allocator + Clone>(
     alloc: A,
     heap: Global,
     program: &Program<A>,
-    row: &Config,
+    config: &Config,
     number: u32,
     count: u32,
 ) -> Result<Vec<u8, A>, LogError>
     requires { 0 < number }
-    ensures text { IfOk result (λ text. IsLogOf row.now
+    ensures text { IfOk result (λ text. IsLogOf config.now
         (steps_from program.now.limit (start_of program.now.image)) number count text.items) }
     ensures refused { IfErr result (λ error. IsUnlogged
         (steps_from program.now.limit (start_of program.now.image)) number error) }
@@ -158,7 +158,7 @@ pub fn konata_text<A: Allocator + Clone>(
     if steps.len() < number as usize {
         return Err(LogError::NoSuchStep);
     }
-    let times = times(alloc.clone()?, steps.as_slice(), row)?;
+    let times = times(alloc.clone()?, steps.as_slice(), config)?;
     let behind = number as usize - 1;
     let shown_steps = part_of(steps.as_slice(), behind, count as usize);
     let shown_times = part_of(times.as_slice(), behind, count as usize);

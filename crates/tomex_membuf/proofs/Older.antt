@@ -2,10 +2,10 @@
 use Rattle.std.proofs.Common.{ℕ, ◌<◌, ◌≤◌, ◌≡◌, ◌∙◌, Bool, true, false, arith, refl, sym, inl, inr, ◌⊎◌, List, Option, Some, None, slice_index, slice_index_or}
 use Rattle.std.specs.Prelude.{◌==◌, ◌&&◌, ◌||◌, Decides, not, nat_lt, is_some}
 use Rattle.std.proofs.lemmas.Bool.{cases_Bool, both_ways, ltb-true, eqb-true, eqb-false, lt-ltb}
-use Rattle.tomex_bus.proofs.Members.{none_rest}
+use Rattle.tomex_sets.proofs.Members.{none_rest}
 use Rattle.tomex_rvexec.specs.declared.step.ByteRange.{ByteRange}
 use Rattle.tomex_timing.specs.Recurrence.{shares_byte}
-use Rattle.tomex_bus.specs.Sets.{has, IsWithout}
+use Rattle.tomex_sets.specs.Sets.{has, IsWithout}
 use Rattle.tomex_tags.specs.declared.station.Station.{Station}
 use Rattle.tomex_rvexec.specs.Steps.{bytes_at, is_store}
 use Rattle.tomex_rvexec.proofs.FlowFields.{bytes_of_op}
@@ -13,7 +13,7 @@ use Rattle.tomex_tags.specs.Contents.{bytes_from, bytes_in, is_memory_op, lacks_
 use Rattle.tomex_tags.specs.Pools.{Pools}
 use Rattle.tomex_tags.specs.WaitSets.{IsSetOf, has_address, holds_store}
 use Rattle.tomex_membuf.specs.Addresses.{IsOldestLacking, NoneLacks}
-use Rattle.tomex_membuf.specs.Order.{is_before, IsClear, IsClearAt, lets_pass}
+use Rattle.tomex_membuf.specs.Order.{is_finished_before, IsClear, IsClearAt, lets_pass}
 
 pub share_none : (o : Option ByteRange) → shares_byte o None ≡ false
 share_none None = refl
@@ -83,7 +83,7 @@ lets_no_address (Some other) s next e = rw (no_bytes (is_memory_op other.instr.o
 -- a load waits for no load
 lets_no_store : (o : Option Station) (s : Station) (next : ℕ) → holds_store o ≡ false → is_store (step_in s) ≡ false → lets_pass o s next ≡ true
 lets_no_store None s next e f = refl
-lets_no_store (Some other) s next e f = rw (e, f) (let_by (shares_byte (bytes_in other) (bytes_in s)) (is_before other.finish next))
+lets_no_store (Some other) s next e f = rw (e, f) (let_by (shares_byte (bytes_in other) (bytes_in s)) (is_finished_before other.finish next))
   where
     let_by : (shares before : Bool) → (not (shares && (false || false)) || before) ≡ true
     let_by true before = refl

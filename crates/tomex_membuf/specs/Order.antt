@@ -2,25 +2,26 @@
 use Rattle.std.specs.Prelude.{ℕ, ◌≡◌, ◌<◌, Bool, true, false, not, nat_lt, ◌&&◌, ◌||◌, List, Option, Some, None, slice_index}
 use Rattle.tomex_rvexec.specs.Steps.{is_store}
 use Rattle.tomex_timing.specs.Recurrence.{shares_byte}
-use Rattle.tomex_bus.specs.Sets.{has}
+use Rattle.tomex_sets.specs.Sets.{has}
 use Rattle.tomex_tags.specs.declared.station.Station.{Station}
 use Rattle.tomex_tags.specs.Contents.{bytes_in, slot, step_in}
 use Rattle.tomex_tags.specs.Pools.{Pools}
 use Rattle.tomex_tags.specs.WaitSets.{has_address}
 
 -- an operation was finished before the cycle
-abbrev pub is_before : Option ℕ → ℕ → Bool
-is_before None cycle = false
-is_before (Some finish) cycle = nat_lt finish cycle
+abbrev pub is_finished_before : Option ℕ → ℕ → Bool
+is_finished_before None cycle = false
+is_finished_before (Some finish) cycle = nat_lt finish cycle
 
 -- the accesses of two stations, as far as their addresses are computed, share a byte, one of them being a store
 abbrev pub stations_conflict : Station → Station → Bool
-stations_conflict other s = shares_byte (bytes_in other) (bytes_in s) && (is_store (step_in other) || is_store (step_in s))
+stations_conflict other s =
+    shares_byte (bytes_in other) (bytes_in s) && (is_store (step_in other) || is_store (step_in s))
 
 -- an older station, if there is one, isn't in the way of another
 abbrev pub lets_pass : Option Station → Station → ℕ → Bool
 lets_pass None s cycle = true
-lets_pass (Some other) s cycle = not (stations_conflict other s) || is_before other.finish cycle
+lets_pass (Some other) s cycle = not (stations_conflict other s) || is_finished_before other.finish cycle
 
 -- a station that issued as number n must wait for the one in a place
 abbrev pub blocks : Pools → ℕ → ℕ → Station → ℕ → Bool
@@ -36,7 +37,8 @@ AreRivals pools place s cycle rivals =
 -- no station that issued before the one in a place is in its way
 abbrev pub IsClear : List (Option Station) → List ℕ → ℕ → Station → ℕ → Type 0
 IsClear slots issue_numbers place s cycle =
-    (x : ℕ) → x < 128 → slice_index issue_numbers x < slice_index issue_numbers place → lets_pass (slot slots x) s cycle ≡ true
+    (x : ℕ) → x < 128 → slice_index issue_numbers x < slice_index issue_numbers place
+    → lets_pass (slot slots x) s cycle ≡ true
 
 -- so it is of the station in a place, if there is one
 abbrev pub IsClearAt : Pools → ℕ → ℕ → Type 0

@@ -1,13 +1,13 @@
 //! Accesses that share a byte are made in program order.
 
 ghost use Rattle.std.specs.Prelude.{ℕ, Decides, Some, ◌≡◌, ◌<◌};
-ghost use Rattle.tomex_bus.specs.Sets.{has};
+ghost use Rattle.tomex_sets.specs.Sets.{has};
 ghost use Rattle.tomex_timing.specs.Recurrence.{shares_byte};
-ghost use Rattle.tomex_membuf.specs.Order.{AreRivals, HasOneAccess, IsClear, IsClearAt, blocks, stations_conflict, is_before, lets_pass};
+ghost use Rattle.tomex_membuf.specs.Order.{AreRivals, HasOneAccess, IsClear, IsClearAt, blocks, stations_conflict, is_finished_before, lets_pass};
 ghost use Rattle.tomex_tags.specs.Contents.{slot};
 
-use tomex_bus::sets::{both, is_single, lowest, without, without_lowest};
 use tomex_rvexec::ByteRange;
+use tomex_sets::{both, is_single, lowest, without, without_lowest};
 use tomex_tags::{Pools, Station};
 
 /// The place of the first store buffer.
@@ -24,8 +24,8 @@ fn shares_byte(a: Option<ByteRange>, b: Option<ByteRange>) -> bool
 }
 
 #[inline(always)]
-fn is_before(finish: Option<u64>, cycle: u64) -> bool
-    ensures { result ≡ is_before finish cycle }
+fn is_finished_before(finish: Option<u64>, cycle: u64) -> bool
+    ensures { result ≡ is_finished_before finish cycle }
 {
     match finish {
         Some(finish) => finish < cycle,
@@ -54,7 +54,9 @@ fn lets_pass(other: Option<Station>, station: &Station, cycle: u64) -> bool
     ensures { result ≡ lets_pass other station.now cycle }
 {
     match other {
-        Some(other) => { !stations_conflict(&other, station) || is_before(other.finish, cycle) }
+        Some(other) => {
+            !stations_conflict(&other, station) || is_finished_before(other.finish, cycle)
+        }
         None => true,
     }
 }
@@ -96,7 +98,8 @@ fn rivals(pools: &Pools, place: usize) -> u128
 fn passes(pools: &Pools, place: usize, rivals: u128, station: &Station, cycle: u64) -> bool
     requires low { place < 128 }
     requires rivals { AreRivals pools.now place station.now cycle rivals }
-    ensures { Decides result (IsClear pools.now.slots pools.now.issue_numbers place station.now cycle) }
+    ensures { Decides result
+        (IsClear pools.now.slots pools.now.issue_numbers place station.now cycle) }
 {
     let issue_number = pools.issue_numbers()[place];
     let mut rest = rivals;

@@ -7,7 +7,7 @@ use Rattle.std.proofs.lemmas.List.{get_or-reverse, get_or-set_same, get_or_push,
 use Rattle.std.proofs.Math.ListN.{set, length-set}
 use Rattle.std.proofs.lemmas.List.Elements.{All-cons, All-head, All-nil, All-tail}
 use Rattle.tomex_rvexec.specs.declared.step.Step.{Step}
-use Rattle.tomex_config.specs.Row.{Row, IsRow}
+use Rattle.tomex_config.specs.Configuration.{Configuration, IsWithinLimits}
 use Rattle.tomex_timing.specs.Search.{times_in, total_of}
 use Rattle.tomex_plateaus.specs.declared.plateau.Plateau.{Plateau}
 use Rattle.tomex_plateaus.specs.declared.plateaus.TheConstants.{MOST}
@@ -38,57 +38,57 @@ none_found p (y ∷ ys) is = elim (cases_Bool (p y)) [
   | inr fails ↦ All-cons (λ x. p x ≡ false) y ys fails (none_found p ys (rw fails at is))
 ]
 
-total_in : (row : Row) (steps : List Step) (found : List Plateau) (o : Option Plateau) (n : ℕ) → IsRow row → All (IsPlateauOf steps) found → find (lies_on row) (reverse found) ≡ o
-    → option_map (λ p. p.total) o ≡ Some n → total_of (times_in row steps) ≡ n
-total_in row steps found None n good all at is = absurd (cc)
-total_in row steps found (Some p) n good all at is =
+total_in : (config : Configuration) (steps : List Step) (found : List Plateau) (o : Option Plateau) (n : ℕ) → IsWithinLimits config → All (IsPlateauOf steps) found → find (lies_on config) (reverse found) ≡ o
+    → option_map (λ p. p.total) o ≡ Some n → total_of (times_in config steps) ≡ n
+total_in config steps found None n good all at is = absurd (cc)
+total_in config steps found (Some p) n good all at is =
     let same : Some p.total ≡ Some n = is in
     let e : p.total ≡ n = cc in
-    let w = found_one (IsPlateauOf steps) (lies_on row) (reverse found) p (all_reverse (IsPlateauOf steps) found all) at in
-    w.0 row good w.1 ∙ e
+    let w = found_one (IsPlateauOf steps) (lies_on config) (reverse found) p (all_reverse (IsPlateauOf steps) found all) at in
+    w.0 config good w.1 ∙ e
 
 -- a total that is known is the program's
-total_is : (row : Row) (steps : List Step) (found : List Plateau) (n : ℕ) → IsRow row → All (IsPlateauOf steps) found → total_known row found ≡ Some n → total_of (times_in row steps) ≡ n
-total_is row steps found n good all is = total_in row steps found (find (lies_on row) (reverse found)) n good all refl is
+total_is : (config : Configuration) (steps : List Step) (found : List Plateau) (n : ℕ) → IsWithinLimits config → All (IsPlateauOf steps) found → total_known config found ≡ Some n → total_of (times_in config steps) ≡ n
+total_is config steps found n good all is = total_in config steps found (find (lies_on config) (reverse found)) n good all refl is
 
-pub total_told : (row : Row) (steps : List Step) (found : List Plateau) (o : Option ℕ) → IsRow row → All (IsPlateauOf steps) found → o ≡ total_known row found → IfSome o (λ n. total_of (times_in row steps) ≡ n)
-total_told row steps found None good all is = tt
-total_told row steps found (Some n) good all is = total_is row steps found n good all (sym is)
+pub total_told : (config : Configuration) (steps : List Step) (found : List Plateau) (o : Option ℕ) → IsWithinLimits config → All (IsPlateauOf steps) found → o ≡ total_known config found → IfSome o (λ n. total_of (times_in config steps) ≡ n)
+total_told config steps found None good all is = tt
+total_told config steps found (Some n) good all is = total_is config steps found n good all (sym is)
 
-known_in : (row : Row) (steps : List Step) (found : List Plateau) (o : Option Plateau) (k : ℕ) (d : Plateau) → IsRow row → All (IsPlateauOf steps) found → k < length found → lies_on row (get_or found k d) ≡ true → find (lies_on row) (reverse found) ≡ o
-    → option_map (λ p. p.total) o ≡ Some (total_of (times_in row steps))
-known_in row steps found None k d good all low on at =
-    let none : All (λ x. lies_on row x ≡ false) found = subst (All (λ x. lies_on row x ≡ false)) (reverse-reverse found) (all_reverse (λ x. lies_on row x ≡ false) (reverse found) (none_found (lies_on row) (reverse found) at)) in
-    let f : lies_on row (get_or found k d) ≡ false = none k d low in
+known_in : (config : Configuration) (steps : List Step) (found : List Plateau) (o : Option Plateau) (k : ℕ) (d : Plateau) → IsWithinLimits config → All (IsPlateauOf steps) found → k < length found → lies_on config (get_or found k d) ≡ true → find (lies_on config) (reverse found) ≡ o
+    → option_map (λ p. p.total) o ≡ Some (total_of (times_in config steps))
+known_in config steps found None k d good all low on at =
+    let none : All (λ x. lies_on config x ≡ false) found = subst (All (λ x. lies_on config x ≡ false)) (reverse-reverse found) (all_reverse (λ x. lies_on config x ≡ false) (reverse found) (none_found (lies_on config) (reverse found) at)) in
+    let f : lies_on config (get_or found k d) ≡ false = none k d low in
     let g : true ≡ false = sym on ∙ f in
     absurd (cc)
-known_in row steps found (Some p) k d good all low on at =
-    let w = found_one (IsPlateauOf steps) (lies_on row) (reverse found) p (all_reverse (IsPlateauOf steps) found all) at in
-    ap (λ (n : ℕ). Some n) (sym (w.0 row good w.1))
+known_in config steps found (Some p) k d good all low on at =
+    let w = found_one (IsPlateauOf steps) (lies_on config) (reverse found) p (all_reverse (IsPlateauOf steps) found all) at in
+    ap (λ (n : ℕ). Some n) (sym (w.0 config good w.1))
 
--- and that of a row on one of the plateaus is known
-pub is_known : (row : Row) (steps : List Step) (found : List Plateau) (k : ℕ) (d : Plateau) → IsRow row → All (IsPlateauOf steps) found → k < length found → lies_on row (get_or found k d) ≡ true → total_known row found ≡ Some (total_of (times_in row steps))
-is_known row steps found k d good all low on = known_in row steps found (find (lies_on row) (reverse found)) k d good all low on refl
+-- and that of a configuration on one of the plateaus is known
+pub is_known : (config : Configuration) (steps : List Step) (found : List Plateau) (k : ℕ) (d : Plateau) → IsWithinLimits config → All (IsPlateauOf steps) found → k < length found → lies_on config (get_or found k d) ≡ true → total_known config found ≡ Some (total_of (times_in config steps))
+is_known config steps found k d good all low on = known_in config steps found (find (lies_on config) (reverse found)) k d good all low on refl
 
-another : (row : Row) (k m : Kept) (p : Plateau) → IsRow row → AreKept k → AreKept m → lies_on row p ≡ true → m.found ≡ set k.found k.oldest p → MOST ≤ length k.found
-    → total_known row m.found ≡ Some (total_of (times_in row m.steps))
-another row k m p good old new on is many =
+another : (config : Configuration) (k m : Kept) (p : Plateau) → IsWithinLimits config → AreKept k → AreKept m → lies_on config p ≡ true → m.found ≡ set k.found k.oldest p → MOST ≤ length k.found
+    → total_known config m.found ≡ Some (total_of (times_in config m.steps))
+another config k m p good old new on is many =
     let place : k.oldest < MOST = old.place in
     let low : k.oldest < length k.found = omega arith in
     let long : length m.found ≡ length k.found = rw is (length-set k.found k.oldest p) in
     let at : get_or m.found k.oldest p ≡ p = rw is (get_or-set_same k.found k.oldest p p low) in
-    is_known row m.steps m.found k.oldest p good new.are (omega arith) (rw at on)
+    is_known config m.steps m.found k.oldest p good new.are (omega arith) (rw at on)
 
--- a plateau that is kept is one of the list, so the total of each row on it is known
-pub learnt : (row : Row) (k m : Kept) (p : Plateau) → IsRow row → AreKept k → AreKept m → lies_on row p ≡ true
+-- a plateau that is kept is one of the list, so the total of each configuration on it is known
+pub learnt : (config : Configuration) (k m : Kept) (p : Plateau) → IsWithinLimits config → AreKept k → AreKept m → lies_on config p ≡ true
     → (length k.found < MOST → m.found ≡ k.found ++ p ∷ []) → (MOST ≤ length k.found → m.found ≡ set k.found k.oldest p)
-    → total_known row m.found ≡ Some (total_of (times_in row m.steps))
-learnt row k m p good old new on more other = elim (cases_order (length k.found) MOST) [
-  | inl same ↦ another row k m p good old new on (other (omega arith)) (omega arith)
+    → total_known config m.found ≡ Some (total_of (times_in config m.steps))
+learnt config k m p good old new on more other = elim (cases_order (length k.found) MOST) [
+  | inl same ↦ another config k m p good old new on (other (omega arith)) (omega arith)
   | inr (inl less) ↦
       let is : m.found ≡ k.found ++ p ∷ [] = more less in
       let long : length m.found ≡ length k.found + 1 = rw is (length_push k.found p) in
       let at : get_or m.found (length k.found) p ≡ p = rw is (get_or_push k.found p p (length k.found) refl) in
-      is_known row m.steps m.found (length k.found) p good new.are (omega arith) (rw at on)
-  | inr (inr greater) ↦ another row k m p good old new on (other (omega arith)) (omega arith)
+      is_known config m.steps m.found (length k.found) p good new.are (omega arith) (rw at on)
+  | inr (inr greater) ↦ another config k m p good old new on (other (omega arith)) (omega arith)
 ]

@@ -1,4 +1,4 @@
--- Needs tell a plateau: a row that lies on it serves the run as its own row does.
+-- Needs tell a plateau: a configuration that lies on it serves the run as its own configuration does.
 use Rattle.std.proofs.Common.{ℕ, zero, suc, ◌<◌, ◌≤◌, ◌≡◌, ◌∙◌, ◌⊎◌, Bool, true, arith, refl, sym, inl, inr, List, [], ◌∷◌, Some, length}
 use Rattle.std.specs.Prelude.{min, nat_le, ◌==◌, slice_get}
 use Rattle.std.specs.List.{list_all}
@@ -7,7 +7,7 @@ use Rattle.tomex_rvdec.specs.Parts.{place_of_unit}
 use Rattle.tomex_rvdec.specs.declared.pool.PoolId.TheVariants as pools
 use Rattle.tomex_rvdec.specs.declared.pool.UnitId.{UnitId}
 use Rattle.tomex_rvdec.specs.declared.pool.UnitId.TheVariants as units
-use Rattle.tomex_config.specs.Row.{Row, IsRow, is_between, option_of, plain_option}
+use Rattle.tomex_config.specs.Configuration.{Configuration, IsWithinLimits, is_between, option_of, plain_option}
 use Rattle.tomex_timing.specs.declared.needs.Needs.{Needs}
 use Rattle.tomex_timing.specs.declared.part.Need.{Need}
 use Rattle.tomex_timing.specs.declared.part.Part.{Part}
@@ -19,26 +19,26 @@ use Rattle.tomex_timing.proofs.Histories.{are_timed, total_of-history}
 use Rattle.tomex_timing.proofs.Limits.{stations_high, latency_high, unit_in}
 use Rattle.tomex_timing.proofs.Serving.{serves_runs}
 use Rattle.tomex_timing.proofs.Taken.{peak_within}
-use Rattle.tomex_plateaus.specs.Laws.{OwnRowLiesOn, PlateauTells}
+use Rattle.tomex_plateaus.specs.Laws.{OwnConfigurationLiesOn, PlateauTells}
 use Rattle.tomex_plateaus.specs.Plateaus.{counts_for, counts_of, is_within, latencies_for, latencies_of, latency_for, lies_on, plateau_of}
 
--- the counts of a row are small
+-- the counts of a configuration are small
 
 between : (low high n : ℕ) → is_between low high n ≡ true → n ≤ high
 between low high n h = leb-true n high (and_parts (nat_le low n) (nat_le n high) h).1
 
-units_high : (row : Row) (unit : UnitId) → IsRow row → (option_of row unit).units ≤ 8
-units_high row unit good =
-    let l : place_of_unit unit < length row.units = rw good.kinds (unit_in unit) in
-    between 1 8 (option_of row unit).units (and_parts _ _ (and_parts _ _ (good.units (place_of_unit unit) plain_option l)).0).0
+units_high : (config : Configuration) (unit : UnitId) → IsWithinLimits config → (option_of config unit).units ≤ 8
+units_high config unit good =
+    let l : place_of_unit unit < length config.units = rw good.kinds (unit_in unit) in
+    between 1 8 (option_of config unit).units (and_parts _ _ (and_parts _ _ (good.units (place_of_unit unit) plain_option l)).0).0
 
-count_high : (row : Row) (part : Part) → IsRow row → count_of row part ≤ 16
-count_high row (Stations pool) good = stations_high row pool good
-count_high row (Units unit) good = let h = units_high row unit good in omega arith
-count_high row Buses good = let h = between 1 8 row.buses good.buses in omega arith
-count_high row Width good = let h = between 1 4 row.width good.width in omega arith
+count_high : (config : Configuration) (part : Part) → IsWithinLimits config → count_of config part ≤ 16
+count_high config (Stations pool) good = stations_high config pool good
+count_high config (Units unit) good = let h = units_high config unit good in omega arith
+count_high config Buses good = let h = between 1 8 config.buses good.buses in omega arith
+count_high config Width good = let h = between 1 4 config.width good.width in omega arith
 
--- what an interval tells of a count and of a latency in it, and that a row's own is in it
+-- what an interval tells of a count and of a latency in it, and that a configuration's own is in it
 
 count_told : (need : Need) (count n : ℕ) → n ≤ 16 → is_within (counts_for need count) n ≡ true → (n ≡ count) ⊎ ((need.stalls ≡ 0) × (need.peak ≤ n))
 count_told need count n few within = elim (cases_Bool (need.stalls == 0)) [
@@ -77,7 +77,7 @@ own_latency need latency few = elim (cases_Bool (need.peak == 0)) [
 
 -- the intervals of the plateau, part by part
 
-counts_are : (needs : Needs) (own : Row) (part : Part) → counts_of (plateau_of needs own) part ≡ counts_for (need_of needs part) (count_of own part)
+counts_are : (needs : Needs) (own : Configuration) (part : Part) → counts_of (plateau_of needs own) part ≡ counts_for (need_of needs part) (count_of own part)
 counts_are needs own (Stations pools.Alu) = refl
 counts_are needs own (Stations pools.Mul) = refl
 counts_are needs own (Stations pools.Div) = refl
@@ -92,7 +92,7 @@ counts_are needs own (Units units.Bru) = refl
 counts_are needs own Buses = refl
 counts_are needs own Width = refl
 
-latencies_are : (needs : Needs) (own : Row) (unit : UnitId) → latencies_of (plateau_of needs own) unit ≡ latency_for needs own unit
+latencies_are : (needs : Needs) (own : Configuration) (unit : UnitId) → latencies_of (plateau_of needs own) unit ≡ latency_for needs own unit
 latencies_are needs own units.Alu = refl
 latencies_are needs own units.Mul = refl
 latencies_are needs own units.Div = refl
@@ -132,24 +132,24 @@ all_from : {X : Type 0} (p : X → Bool) (xs : List X) → ((x : X) → p x ≡ 
 all_from p [] each = refl
 all_from p (x ∷ xs) each = and_from (p x) (list_all p xs) (each x) (all_from p xs each)
 
--- a row on the plateau serves the run
+-- a configuration on the plateau serves the run
 
-part_serves : (own other : Row) (h : List Done) (needs : Needs) (part : Part) → IsRow other → AreNeeds own h needs → is_within (counts_of (plateau_of needs own) part) (count_of other part) ≡ true
+part_serves : (own other : Configuration) (h : List Done) (needs : Needs) (part : Part) → IsWithinLimits other → AreNeeds own h needs → is_within (counts_of (plateau_of needs own) part) (count_of other part) ≡ true
     → (count_of other part ≡ count_of own part) ⊎ ((stalls own part h ≡ 0) × (peak part h ≤ count_of other part))
 part_serves own other h needs part good are within = elim (count_told (need_of needs part) (count_of own part) (count_of other part) (count_high other part good) (rw counts_are at within)) [
   | inl same ↦ inl same
   | inr two ↦ inr (rw (are.parts part) at two.0, rw (are.parts part) at two.1)
 ]
 
-latency_serves : (own other : Row) (h : List Done) (needs : Needs) (unit : UnitId) → AreNeeds own h needs → is_within (latencies_of (plateau_of needs own) unit) (option_of other unit).latency ≡ true
+latency_serves : (own other : Configuration) (h : List Done) (needs : Needs) (unit : UnitId) → AreNeeds own h needs → is_within (latencies_of (plateau_of needs own) unit) (option_of other unit).latency ≡ true
     → ((option_of other unit).latency ≡ (option_of own unit).latency) ⊎ (peak (Units unit) h ≡ 0)
 latency_serves own other h needs unit are within = elim (latency_told (need_of needs (Units unit)) (option_of own unit).latency (option_of other unit).latency (rw latencies_are at within)) [
   | inl same ↦ inl same
   | inr none ↦ inr (rw (are.parts (Units unit)) at none)
 ]
 
-row_serves : (own other : Row) (h : List Done) (needs : Needs) → IsRow other → AreNeeds own h needs → lies_on other (plateau_of needs own) ≡ true → Serves own other h
-row_serves own other h needs good are on =
+config_serves : (own other : Configuration) (h : List Done) (needs : Needs) → IsWithinLimits other → AreNeeds own h needs → lies_on other (plateau_of needs own) ≡ true → Serves own other h
+config_serves own other h needs good are on =
     let p = plateau_of needs own in
     let parts = λ (part : Part). is_within (counts_of p part) (count_of other part) in
     let kinds = λ (unit : UnitId). is_within (latencies_of p unit) (option_of other unit).latency in
@@ -161,10 +161,10 @@ row_serves own other h needs good are on =
 
 pub plateau_tells : PlateauTells
 plateau_tells own steps needs good are other good' on =
-    let serves = row_serves own other (history own steps) needs good' are on in
+    let serves = config_serves own other (history own steps) needs good' are on in
     (serves_runs own other steps good good' serves).1 ∙ (total_of-history (history own steps) ∙ sym are.total)
 
-pub own_lies_on : OwnRowLiesOn
+pub own_lies_on : OwnConfigurationLiesOn
 own_lies_on own steps needs good are =
     let p = plateau_of needs own in
     let h = history own steps in

@@ -1,18 +1,18 @@
 -- Laws of plateaus.
 use Rattle.std.specs.Prelude.{◌≡◌, true, List}
 use Rattle.tomex_rvexec.specs.declared.step.Step.{Step}
-use Rattle.tomex_config.specs.Row.{Row, IsRow}
+use Rattle.tomex_config.specs.Configuration.{Configuration, IsWithinLimits}
 use Rattle.tomex_timing.specs.declared.needs.Needs.{Needs}
 use Rattle.tomex_timing.specs.Needs.{AreNeeds}
 use Rattle.tomex_timing.specs.Search.{history}
 use Rattle.tomex_plateaus.specs.Plateaus.{IsPlateauOf, lies_on, plateau_of}
 
--- the row of a run lies on the plateau that its needs tell
-abbrev pub OwnRowLiesOn : Type 0
-OwnRowLiesOn = (own : Row) (steps : List Step) (needs : Needs) → IsRow own → AreNeeds own (history own steps) needs
+-- the configuration of a run lies on the plateau that its needs tell
+abbrev pub OwnConfigurationLiesOn : Type 0
+OwnConfigurationLiesOn = (own : Configuration) (steps : List Step) (needs : Needs) → IsWithinLimits own → AreNeeds own (history own steps) needs
     → lies_on own (plateau_of needs own) ≡ true
 
--- and on each row of it the run takes the same cycles
+-- and on each configuration of it the run takes the same cycles
 abbrev pub PlateauTells : Type 0
-PlateauTells = (own : Row) (steps : List Step) (needs : Needs) → IsRow own → AreNeeds own (history own steps) needs
+PlateauTells = (own : Configuration) (steps : List Step) (needs : Needs) → IsWithinLimits own → AreNeeds own (history own steps) needs
     → IsPlateauOf steps (plateau_of needs own)

@@ -13,7 +13,7 @@ pub struct Interval {
 }
 
 impl Interval {
-    /// The counts of a part that serve a run as well as a row's own, given what the run needs of it.
+    /// The counts of a part that serve a run as well as a configuration's own, given what the run needs of it.
     pub(crate) fn of_counts(need: Need, count: u8) -> Interval
         ensures { result ≡ counts_for need count }
     {

@@ -8,8 +8,8 @@ use tomex_config::Config;
 use tomex_rvdec::{PoolId, UnitId};
 use tomex_timing::{Needs, Part};
 
-/// A region of the design space, given by how many a row may have of each part and how long its units may take,
-/// and the cycles that a program takes on each row of it.
+/// A region of the design space, given by how many a configuration may have of each part and how long its units may take,
+/// and the cycles that a program takes on each configuration of it.
 #[derive(Clone, Copy, Debug, PartialEq, Eq)]
 pub struct Plateau {
     /// In the order of `PoolId::ALL` and of `UnitId::ALL`.
@@ -21,7 +21,7 @@ pub struct Plateau {
     pub total: u64,
 }
 
-/// The numbers of a pool's stations that serve a run as well as its own row's.
+/// The numbers of a pool's stations that serve a run as well as its own configuration's.
 fn stations_for(needs: &Needs, own: &Config, pool: PoolId) -> Interval
     ensures { result ≡ stations_for needs.now own.now pool }
 {
@@ -43,7 +43,7 @@ fn latency_for(needs: &Needs, own: &Config, unit: UnitId) -> Interval
 }
 
 impl Plateau {
-    /// The plateau that the needs of a run tell, which was made on its own row.
+    /// The plateau that the needs of a run tell, which was made on its own configuration.
     pub fn of(needs: &Needs, own: &Config) -> Plateau
         ensures { result ≡ plateau_of needs.now own.now }
     {
@@ -76,7 +76,7 @@ impl Plateau {
         }
     }
 
-    /// How many of a part a row may have.
+    /// How many of a part a configuration may have.
     fn counts(&self, part: Part) -> Interval
         ensures { result ≡ counts_of self.now part }
     {
@@ -95,15 +95,15 @@ impl Plateau {
         self.latencies[unit.place()]
     }
 
-    /// Whether a row lies on it.
-    pub fn has(&self, row: &Config) -> bool
-        ensures { result ≡ lies_on row.now self.now }
+    /// Whether a configuration lies on it.
+    pub fn has(&self, config: &Config) -> bool
+        ensures { result ≡ lies_on config.now self.now }
     {
         Part::ALL
             .iter()
-            .all(|part| self.counts(*part).has(part.count(row)))
+            .all(|part| self.counts(*part).has(part.count(config)))
             && UnitId::ALL.iter().all(|unit| self
                 .latencies(*unit)
-                .has(u64::from(row.latency(*unit))))
+                .has(u64::from(config.latency(*unit))))
     }
 }

@@ -47,23 +47,23 @@ impl<'s, A: Allocator> Plateaus<'s, A> {
         }
     }
 
-    /// The cycles that the program takes on a row, if the row lies on one of its plateaus. The newest are
+    /// The cycles that the program takes on a configuration, if the configuration lies on one of its plateaus. The newest are
     /// asked first.
-    pub fn total_on(&self, row: &Config) -> Option<u64>
-        ensures known { result ≡ total_known row.now self.now.found }
-        ensures total { IfSome result (λ n. total_of (times_in row.now self.now.steps) ≡ n) }
+    pub fn total_on(&self, config: &Config) -> Option<u64>
+        ensures known { result ≡ total_known config.now self.now.found }
+        ensures total { IfSome result (λ n. total_of (times_in config.now self.now.steps) ≡ n) }
     {
-        // Read for what the row's type keeps, which the proof needs.
-        let _buses = row.buses();
-        self.newest_total(row)
+        // Read for what the configuration's type keeps, which the proof needs.
+        let _buses = config.buses();
+        self.newest_total(config)
     }
 
-    /// What the newest plateau says on which a row lies.
-    fn newest_total(&self, row: &Config) -> Option<u64>
-        ensures known { result ≡ total_known row.now self.now.found }
+    /// What the newest plateau says on which a configuration lies.
+    fn newest_total(&self, config: &Config) -> Option<u64>
+        ensures known { result ≡ total_known config.now self.now.found }
         ensures kept { AreKept self.now }
     {
-        let plateau = self.found.iter().rev().find(|plateau| plateau.has(row))?;
+        let plateau = self.found.iter().rev().find(|plateau| plateau.has(config))?;
         Some(plateau.total)
     }
 
@@ -84,17 +84,17 @@ impl<'s, A: Allocator> Plateaus<'s, A> {
         Ok(())
     }
 
-    /// Takes the needs of the program's run on a row, and keeps the plateau that they tell. The row lies on it.
+    /// Takes the needs of the program's run on a configuration, and keeps the plateau that they tell. The configuration lies on it.
     ///
     /// The work is that of `times`, without its list.
-    pub fn learn(&mut self, alloc: A, row: &Config) -> Result<(), AllocError>
+    pub fn learn(&mut self, alloc: A, config: &Config) -> Result<(), AllocError>
         ensures steps { self.new.steps ≡ self.old.steps }
-        ensures known { OnOk result (total_known row.now self.new.found ≡ Some (total_of (times_in row.now self.new.steps))) }
+        ensures known { OnOk result (total_known config.now self.new.found ≡ Some (total_of (times_in config.now self.new.steps))) }
     {
-        // Read for what the row's type keeps, which the proof needs.
-        let _buses = row.buses();
-        let needs = self.run.needs(&alloc, row)?;
-        self.keep(Plateau::of(&needs, row))?;
+        // Read for what the configuration's type keeps, which the proof needs.
+        let _buses = config.buses();
+        let needs = self.run.needs(&alloc, config)?;
+        self.keep(Plateau::of(&needs, config))?;
         Ok(())
     }
 }

@@ -5,12 +5,12 @@ use Rattle.std.specs.List.{AllZip}
 use Rattle.std.proofs.lemmas.List.{append-nil, drop_all}
 use Rattle.std.proofs.lemmas.Option.{get_or_from_slice_get, slice_get_within}
 use Rattle.std.proofs.lemmas.Slice.Zip.{AllZip-long}
-use Rattle.tomex_config.specs.Row.{Row, plain}
+use Rattle.tomex_config.specs.Configuration.{Configuration, plain}
 use Rattle.tomex_cycle.specs.Run.{total}
-use Rattle.tomex_sweep.specs.Program.{Workload}
-use Rattle.tomex_sweep.specs.Study.{DesignSpace}
+use Rattle.tomex_study.specs.Program.{Workload}
+use Rattle.tomex_study.specs.Study.{DesignSpace}
 use Rattle.tomex_sweep.specs.declared.front_row.FrontRow.{FrontRow}
-use Rattle.tomex_fronts.specs.FrontTable.{row_of}
+use Rattle.tomex_fronts.specs.FrontTable.{config_of}
 use Rattle.tomex_fronts.proofs.Loops.{item_more}
 use Rattle.tomex_fronts.proofs.Zips.{at_both}
 use Rattle.tomex_report.specs.declared.ends.ProgramEnd.{ProgramEnd}
@@ -23,18 +23,18 @@ use Rattle.tomex_report.proofs.Records.{at_read}
 pub has_end : {A : Type 0} (s : DesignSpace) (r : FrontRow) (e : RowEnds A) (place : ℕ) (p : Workload) → AreEndsOf s r e
     → slice_get s.programs place ≡ Some p → place < length e.programs.items
 has_end s r e place p are is =
-    let long = AllZip-long (IsProgramEnd are.row) s.programs e.programs.items are.ends in
+    let long = AllZip-long (IsProgramEnd are.config) s.programs e.programs.items are.ends in
     omega (arith, long, slice_get_within s.programs place p is)
 
 pub cycles_at : {A : Type 0} (s : DesignSpace) (r : FrontRow) (e : RowEnds A) (place : ℕ) (p : Workload) (x : ProgramEnd A)
     → AreEndsOf s r e → slice_get s.programs place ≡ Some p → x ≡ get_or e.programs.items place x
-    → x.total ≡ total (row_of s r) p.image
+    → x.total ≡ total (config_of s r) p.image
 cycles_at s r e place p x are is found =
-    let own = get_or_from_slice_get s.rows r.row are.row plain are.row_is in
+    let own = get_or_from_slice_get s.rows r.row are.config plain are.config_is in
     let within = slice_get_within s.programs place p is in
     let program = sym (get_or_from_slice_get s.programs place p p is) in
-    let ends = at_both (IsProgramEnd are.row) s.programs e.programs.items place p x are.ends within program found in
-    ends.total ∙ ap (λ (row : Row). total row p.image) (sym own)
+    let ends = at_both (IsProgramEnd are.config) s.programs e.programs.items place p x are.ends within program found in
+    ends.total ∙ ap (λ (config : Configuration). total config p.image) (sym own)
 
 -- a read whatever the default is
 same_read : {X : Type 0} (xs : List X) (k : ℕ) (d : X) → k < length xs → get_or xs k d ≡ get_or xs k (get_or xs k d)
@@ -56,15 +56,15 @@ pub cycles_more : {A : Type 0} (s : DesignSpace) (front : List FrontRow) (ends :
     (e : RowEnds A) (x : ProgramEnd A) (before after whole : List ℕ) → AllZip (λ r e. AreEndsOf s r e) front ends
     → slice_get s.programs place ≡ Some p → k < length ends → e ≡ get_or ends k e → x ≡ get_or e.programs.items place x
     → after ≡ before ++ x.total ∷ []
-    → before ++ map (λ r. total (row_of s r) p.image) (drop k front) ≡ whole
-    → after ++ map (λ r. total (row_of s r) p.image) (drop (k + 1) front) ≡ whole
+    → before ++ map (λ r. total (config_of s r) p.image) (drop k front) ≡ whole
+    → after ++ map (λ r. total (config_of s r) p.image) (drop (k + 1) front) ≡ whole
 cycles_more s front ends k place p e x before after whole are is within here found grown so_far =
     let long = AllZip-long (λ r e. AreEndsOf s r e) front ends are in
     let inside : k < length front = omega (arith, long, within) in
     let none : FrontRow = record { row = 0; cost = 0; cycles = 0 } in
     let row = get_or front k none in
     let ends_of_row = at_read (λ r e. AreEndsOf s r e) front ends k none e are inside here in
-    item_more (λ r. total (row_of s r) p.image) front k row before after whole x.total inside (same_read front k none inside)
+    item_more (λ r. total (config_of s r) p.image) front k row before after whole x.total inside (same_read front k none inside)
     grown (cycles_at s row e place p x ends_of_row is found) so_far
 
 -- all are there where no row is left

@@ -12,7 +12,7 @@ use Rattle.tomex_rvexec.specs.Run.{EndsWithin, RunEnds, start_of}
 use Rattle.tomex_rvexec.specs.Trace.{onto, steps_from}
 use Rattle.tomex_rvexec.proofs.FlowEnds.{leads_is, same_steps, step_comes, steps_to_end}
 use Rattle.tomex_rvexec.proofs.FlowRuns.{run_leaves, run_state}
-use Rattle.tomex_sweep.specs.Program.{IsProgram, Workload}
+use Rattle.tomex_study.specs.Program.{IsProgram, Workload}
 use Rattle.tomex_report.specs.Ends.{count_of, last_state}
 
 stays : (o : Outcome) (x : State) (kind : EndKind) → o ≡ Ends kind → moved o x ≡ x

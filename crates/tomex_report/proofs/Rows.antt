@@ -4,15 +4,15 @@ use Rattle.std.specs.Prelude.{codes}
 use Rattle.std.specs.Fmt.{char_count, digits, padded_integral}
 use Rattle.tomex_rvdec.specs.declared.pool.UnitId.TheVariants as units
 use Rattle.tomex_rvexec.specs.declared.step.Step.{Step}
-use Rattle.tomex_config.specs.Row.{Row, plain}
+use Rattle.tomex_config.specs.Configuration.{Configuration, plain}
 use Rattle.tomex_timing.specs.Search.{history, times_of}
 use Rattle.tomex_timing.specs.Tables.{tables_of}
 use Rattle.tomex_timing.proofs.Programs.{product, overwritten, stored_and_loaded, two_alu_stations, with_latency}
 use Rattle.tomex_report.specs.TablesText.{tables_text_of}
 
--- the text after a cycle of a run's steps on a row
-abbrev text_after : ℕ → Row → List Step → List ℕ
-text_after cycle row steps = tables_text_of (tables_of cycle (history row steps))
+-- the text after a cycle of a run's steps on a configuration
+abbrev text_after : ℕ → Configuration → List Step → List ℕ
+text_after cycle config steps = tables_text_of (tables_of cycle (history config steps))
 
 abbrev product_after : ℕ → List ℕ
 product_after cycle = text_after cycle (with_latency units.Mul two_alu_stations 3) product

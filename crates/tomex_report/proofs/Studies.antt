@@ -6,7 +6,7 @@ use Rattle.std.proofs.lemmas.Option.{slice_get_read, slice_get-map}
 use Rattle.tomex_image.specs.Image.{Loaded}
 use Rattle.tomex_image.specs.Window.{Span}
 use Rattle.tomex_image.specs.Loading.{elf_placed, flat_placed, is_elf, placed}
-use Rattle.tomex_sweep.specs.Program.{Workload}
+use Rattle.tomex_study.specs.Program.{Workload}
 use Rattle.tomex_document.specs.Program.{ProgramEntry}
 use Rattle.tomex_report.specs.Study.{AreProgramsOf, IsFileRefusal, IsFirstRefusal, IsProgramOf, IsStudyRefusal}
 use Rattle.tomex_values.specs.declared.error.StudyError.{StudyError}

@@ -1,6 +1,6 @@
 -- From bytes to a report, and to what else shows a front.
 use Rattle.std.specs.Prelude.{◌≡◌, ℕ, List}
-use Rattle.tomex_sweep.specs.Study.{DesignSpace}
+use Rattle.tomex_study.specs.Study.{DesignSpace}
 use Rattle.tomex_fronts.specs.FrontTable.{front_table_of}
 use Rattle.tomex_fronts.specs.Plot.{front_picture_of}
 use Rattle.tomex_report.specs.Study.{IsStudyOf, IsStudyRefusal}

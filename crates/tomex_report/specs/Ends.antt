@@ -1,4 +1,4 @@
--- How the programs of a row end.
+-- How the programs of a configuration end.
 use Rattle.std.specs.Prelude.{◌≡◌, ℕ, ◌-◌, List, length, take, drop}
 use Rattle.std.specs.List.{flat_map}
 use Rattle.tomex_image.specs.Image.{Loaded}
@@ -6,10 +6,10 @@ use Rattle.tomex_rvexec.specs.Machine.{State, Ends, step_of}
 use Rattle.tomex_rvexec.specs.History.{state_after}
 use Rattle.tomex_rvexec.specs.Run.{start_of}
 use Rattle.tomex_rvexec.specs.Trace.{steps_from}
-use Rattle.tomex_config.specs.Row.{Row}
+use Rattle.tomex_config.specs.Configuration.{Configuration}
 use Rattle.tomex_cycle.specs.Run.{total}
-use Rattle.tomex_sweep.specs.Program.{Workload}
-use Rattle.tomex_sweep.specs.declared.watch.WatchRange.{WatchRange}
+use Rattle.tomex_study.specs.Program.{Workload}
+use Rattle.tomex_study.specs.declared.watch.WatchRange.{WatchRange}
 use Rattle.tomex_report.specs.declared.ends.ProgramEnd.{ProgramEnd}
 
 -- the state in which a program ends: the step that ends it leaves it as it is, so it is the one after the
@@ -29,9 +29,9 @@ bytes_at base memory range = take range.length (drop (range.address - base) memo
 abbrev pub watched_of : Workload → List ℕ
 watched_of p = flat_map (bytes_at p.image.window.base (last_state p.image).memory) p.watch
 
--- what a program comes to on a row: the cycles that its run takes, and its end
-pub record IsProgramEnd {A : Type 0} (row : Row) (p : Workload) (e : ProgramEnd A) : Type 0 where
-  pub total : e.total ≡ total row p.image
+-- what a program comes to on a configuration: the cycles that its run takes, and its end
+pub record IsProgramEnd {A : Type 0} (config : Configuration) (p : Workload) (e : ProgramEnd A) : Type 0 where
+  pub total : e.total ≡ total config p.image
   pub kind : step_of (last_state p.image) ≡ Ends e.kind
   pub pc : e.pc ≡ (last_state p.image).pc
   pub steps : e.steps ≡ count_of p.image

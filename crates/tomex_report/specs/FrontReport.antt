@@ -5,15 +5,15 @@ use Rattle.std.specs.Fmt.{decimal}
 use Rattle.tomex_rvdec.specs.declared.pool.UnitId.{UnitId}
 use Rattle.tomex_rvexec.specs.Machine.{Outcome, Ends, step_of}
 use Rattle.tomex_rvexec.specs.Texts.{hex2, hex8, name_of_end}
-use Rattle.tomex_config.specs.Row.{Row, option_of, plain}
+use Rattle.tomex_config.specs.Configuration.{Configuration, option_of, plain}
 use Rattle.tomex_config.specs.Cost.{all_pools, all_units}
-use Rattle.tomex_config.specs.Row.{stations_of}
+use Rattle.tomex_config.specs.Configuration.{stations_of}
 use Rattle.tomex_cycle.specs.Run.{total}
-use Rattle.tomex_sweep.specs.Program.{Workload}
-use Rattle.tomex_sweep.specs.Study.{DesignSpace}
+use Rattle.tomex_study.specs.Program.{Workload}
+use Rattle.tomex_study.specs.Study.{DesignSpace}
 use Rattle.tomex_sweep.specs.Front.{front_of_study}
 use Rattle.tomex_sweep.specs.declared.front_row.FrontRow.{FrontRow}
-use Rattle.tomex_sweep.specs.declared.watch.WatchRange.{WatchRange}
+use Rattle.tomex_study.specs.declared.watch.WatchRange.{WatchRange}
 use Rattle.tomex_records.specs.Csv.{record_text}
 use Rattle.tomex_report.specs.declared.ends.ProgramEnd.{ProgramEnd}
 use Rattle.tomex_report.specs.Ends.{bytes_at, count_of, last_state}
@@ -23,20 +23,20 @@ abbrev pub if_wide : Bool → List ℕ → List (List ℕ)
 if_wide true text = text ∷ []
 if_wide false text = []
 
--- the columns of a row's number, cost, cycles and stations
+-- the columns of a configuration's number, cost, cycles and stations
 abbrev pub station_columns : List (List ℕ)
 station_columns =
     codes "row" ∷ codes "cost" ∷ codes "cycles" ∷ codes "alu" ∷ codes "mul" ∷ codes "div" ∷ codes "load"
     ∷ codes "store" ∷ codes "bru" ∷ []
 
--- the columns of a row's units
+-- the columns of a configuration's units
 abbrev pub unit_columns : List (List ℕ)
 unit_columns =
     codes "alu_units" ∷ codes "alu_latency" ∷ codes "mul_units" ∷ codes "mul_latency" ∷ codes "div_units"
     ∷ codes "div_latency"
     ∷ codes "mem_units" ∷ codes "mem_latency" ∷ codes "bru_units" ∷ codes "bru_latency" ∷ []
 
--- the columns of a row
+-- the columns of a configuration
 abbrev pub row_columns : Bool → List (List ℕ)
 row_columns wide = station_columns ++ (unit_columns ++ (codes "buses" ∷ if_wide wide (codes "width")))
 
@@ -47,18 +47,18 @@ program_columns wide =
     ∷ (if_wide wide (codes "weight") ++ (codes "steps" ∷ codes "program_cycles" ∷ codes "end" ∷ codes "regs" ∷ codes "watch" ∷ []))
 
 -- a unit option's number of units and latency
-abbrev pub unit_fields : Row → UnitId → List (List ℕ)
-unit_fields row unit = decimal (option_of row unit).units ∷ decimal (option_of row unit).latency ∷ []
+abbrev pub unit_fields : Configuration → UnitId → List (List ℕ)
+unit_fields config unit = decimal (option_of config unit).units ∷ decimal (option_of config unit).latency ∷ []
 
 -- the stations of each pool
-unfoldable pub station_fields : Row → List (List ℕ)
-station_fields row = map (λ pool. decimal (stations_of row pool)) all_pools
+unfoldable pub station_fields : Configuration → List (List ℕ)
+station_fields config = map (λ pool. decimal (stations_of config pool)) all_pools
 
--- a row's number, cost and cycles, and its parts
-unfoldable pub row_fields : Bool → FrontRow → Row → List (List ℕ)
-row_fields wide r row =
+-- a configuration's number, cost and cycles, and its parts
+unfoldable pub row_fields : Bool → FrontRow → Configuration → List (List ℕ)
+row_fields wide r config =
     (decimal r.row ∷ decimal r.cost ∷ decimal r.cycles ∷ [])
-    ++ (station_fields row ++ (flat_map (unit_fields row) all_units ++ (decimal row.buses ∷ if_wide wide (decimal row.width))))
+    ++ (station_fields config ++ (flat_map (unit_fields config) all_units ++ (decimal config.buses ∷ if_wide wide (decimal config.width))))
 
 -- texts joined by one space, or `-` where there is none
 abbrev pub joined : List (List ℕ) → List ℕ
@@ -93,21 +93,21 @@ end_fields ranges e =
     decimal e.steps ∷ decimal e.total ∷ name_of_end e.kind ∷ joined (nonzero_from 0 e.regs)
     ∷ joined (watch_texts ranges e.watched.items) ∷ []
 
--- what a program comes to on a row
-unfoldable pub program_fields : Bool → Row → Workload → List (List ℕ)
-program_fields wide row p =
+-- what a program comes to on a configuration
+unfoldable pub program_fields : Bool → Configuration → Workload → List (List ℕ)
+program_fields wide config p =
     let s = last_state p.image in
     p.name
-    ∷ (if_wide wide (decimal p.weight) ++ (decimal (count_of p.image) ∷ decimal (total row p.image) ∷ end_text (step_of s)
+    ∷ (if_wide wide (decimal p.weight) ++ (decimal (count_of p.image) ∷ decimal (total config p.image) ∷ end_text (step_of s)
     ∷ joined (nonzero_from 0 s.regs) ∷ joined (map (watch_text p.image.window.base s.memory) p.watch) ∷ []))
 
 -- a program's record on a front row
-abbrev pub program_record : Bool → FrontRow → Row → Workload → List ℕ
-program_record wide r row p = record_text (row_fields wide r row ++ program_fields wide row p)
+abbrev pub program_record : Bool → FrontRow → Configuration → Workload → List ℕ
+program_record wide r config p = record_text (row_fields wide r config ++ program_fields wide config p)
 
 -- a front row's records, one for each program of the study
 abbrev pub records_of : DesignSpace → FrontRow → List ℕ
-records_of s r = let row = slice_index_or s.rows r.row plain in flat_map (program_record s.wide r row) s.programs
+records_of s r = let config = slice_index_or s.rows r.row plain in flat_map (program_record s.wide r config) s.programs
 
 -- the report of a study: the header, and then the front's records in order
 unfoldable pub report_of : DesignSpace → List ℕ

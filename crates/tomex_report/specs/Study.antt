@@ -7,8 +7,8 @@ use Rattle.tomex_rvexec.specs.Run.{EndsWithin, IsRefusal}
 use Rattle.tomex_rvexec.specs.declared.end.RunError.{RunError}
 use Rattle.tomex_rvexec.specs.declared.end.RunError.TheVariants as runs
 use Rattle.tomex_config.specs.Grid.{grid_of}
-use Rattle.tomex_sweep.specs.Program.{Workload}
-use Rattle.tomex_sweep.specs.Study.{DesignSpace, costs_of}
+use Rattle.tomex_study.specs.Program.{Workload}
+use Rattle.tomex_study.specs.Study.{DesignSpace, costs_of}
 use Rattle.tomex_values.specs.declared.error.StudyError.{StudyError}
 use Rattle.tomex_values.specs.declared.error.StudyError.TheVariants.{Files, Image, Fault, TooLong, Memory}
 use Rattle.tomex_document.specs.Program.{ProgramEntry}

@@ -7,7 +7,7 @@ use Rattle.tomex_rvdec.specs.declared.pool.PoolId.{PoolId}
 use Rattle.tomex_rvexec.specs.Steps.{step_pool}
 use Rattle.tomex_rvexec.specs.Texts.{hex8}
 use Rattle.tomex_rvexec.specs.declared.step.Step.{Step}
-use Rattle.tomex_config.specs.Row.{Row}
+use Rattle.tomex_config.specs.Configuration.{Configuration}
 use Rattle.tomex_timing.specs.Search.{times_in, total_of}
 use Rattle.tomex_timing.specs.declared.times.Times.{Times}
 use Rattle.tomex_records.specs.Csv.{record_text}
@@ -50,6 +50,6 @@ abbrev pub report_of_times : List Step → List Times → List ℕ
 report_of_times steps times =
     record_text header ++ (step_records 1 steps times ++ record_text (total_fields (total_of times)))
 
--- the report of a run's steps on a row
-abbrev pub times_report_of : Row → List Step → List ℕ
-times_report_of row steps = report_of_times steps (times_in row steps)
+-- the report of a run's steps on a configuration
+abbrev pub times_report_of : Configuration → List Step → List ℕ
+times_report_of config steps = report_of_times steps (times_in config steps)

@@ -19,7 +19,8 @@ use std::sync::Wait;
 use std::thread::Threads;
 use tomex_document::StudyError;
 use tomex_fronts::{front_picture, front_table};
-use tomex_sweep::{FrontRow, Gate, OpenGate, Study, SweepError, explore, run_all_under};
+use tomex_study::Study;
+use tomex_sweep::{FrontRow, Gate, OpenGate, SweepError, explore, run_all_under};
 
 /// The front of a study, shown.
 fn shown<R: Threads + Sync, A: Allocator + Clone + Send + Sync + Drop>(
@@ -36,8 +37,7 @@ fn shown<R: Threads + Sync, A: Allocator + Clone + Send + Sync + Drop>(
     if let FrontView::Picture = view {
         return front_picture(alloc, heap, study, front);
     }
-    // Read for what the study's type keeps, which the proof needs.
-    let _rows = study.rows();
+    study.keeps_limits();
     let ends = replay(rt, alloc.clone()?, study, front)?;
     if let FrontView::Report = view {
         return front_report(alloc, heap, study, front, ends.as_slice());

@@ -4,12 +4,12 @@ ghost use Rattle.std.specs.Prelude.{◌≡◌, ◌++◌, IfOk, codes, length, ma
 ghost use Rattle.std.specs.List.{flat_map};
 ghost use Rattle.std.specs.Fmt.{decimal};
 ghost use Rattle.tomex_rvexec.specs.Texts.{hex2, hex8};
-ghost use Rattle.tomex_sweep.specs.Watch.{watched_bytes};
+ghost use Rattle.tomex_study.specs.Watch.{watched_bytes};
 ghost use Rattle.tomex_report.specs.FrontReport.{joined, nonzero_from, watch_texts};
 
 use std::alloc::{AllocError, Global};
 use std::fmt::Write;
-use tomex_sweep::WatchRange;
+use tomex_study::WatchRange;
 
 /// Texts joined by one space, or `-` where there is none.
 fn joined(heap: Global, texts: &[String]) -> Result<String, AllocError>

@@ -4,7 +4,7 @@ ghost use Rattle.std.specs.Prelude.{◌≡◌, ◌++◌, ◌∷◌, [], OnOk, le
 ghost use Rattle.std.specs.List.{flat_map};
 ghost use Rattle.csv.specs.Records.{fields_of, partial_of};
 ghost use Rattle.tomex_config.specs.Cost.{all_units};
-ghost use Rattle.tomex_sweep.specs.Watch.{watched_bytes};
+ghost use Rattle.tomex_study.specs.Watch.{watched_bytes};
 ghost use Rattle.tomex_report.specs.Ends.{IsProgramEnd};
 ghost use Rattle.tomex_report.specs.FrontReport.{end_fields, if_wide, program_fields, row_fields, station_fields, unit_fields};
 ghost use Rattle.std.specs.Fmt.{decimal};
@@ -17,34 +17,39 @@ use std::fmt::Write;
 use tomex_config::Config;
 use tomex_records::push_decimal;
 use tomex_rvdec::{PoolId, UnitId};
-use tomex_sweep::{FrontRow, Program, WatchRange};
+use tomex_study::{Program, WatchRange};
+use tomex_sweep::FrontRow;
 
 /// Adds the stations of each pool.
 #[tactic(auto, unfolding(crate::specs::FrontReport::station_fields))]
 fn push_stations(
     fields: &mut ByteRecord,
     scratch: &mut String,
-    row: &Config,
+    config: &Config,
 ) -> Result<(), AllocError>
     requires { partial_of fields.old ≡ [] }
-    ensures fields { OnOk result (fields_of fields.new ≡ fields_of fields.old ++ station_fields row.now) }
+    ensures fields { OnOk result (fields_of fields.new ≡ fields_of fields.old ++ station_fields config.now) }
     ensures whole { OnOk result (partial_of fields.new ≡ []) }
 {
     for pool in PoolId::ALL {
-        push_decimal(fields, scratch, u64::from(row.stations(pool)))?;
+        push_decimal(fields, scratch, u64::from(config.stations(pool)))?;
     }
     Ok(())
 }
 
 /// Adds the units and the latency of each kind.
-fn push_units(fields: &mut ByteRecord, scratch: &mut String, row: &Config) -> Result<(), AllocError>
+fn push_units(
+    fields: &mut ByteRecord,
+    scratch: &mut String,
+    config: &Config,
+) -> Result<(), AllocError>
     requires { partial_of fields.old ≡ [] }
-    ensures fields { OnOk result (fields_of fields.new ≡ fields_of fields.old ++ flat_map (unit_fields row.now) all_units) }
+    ensures fields { OnOk result (fields_of fields.new ≡ fields_of fields.old ++ flat_map (unit_fields config.now) all_units) }
     ensures whole { OnOk result (partial_of fields.new ≡ []) }
 {
     for unit in UnitId::ALL {
-        push_decimal(fields, scratch, u64::from(row.units(unit)))?;
-        push_decimal(fields, scratch, u64::from(row.latency(unit)))?;
+        push_decimal(fields, scratch, u64::from(config.units(unit)))?;
+        push_decimal(fields, scratch, u64::from(config.latency(unit)))?;
     }
     Ok(())
 }
@@ -72,19 +77,19 @@ fn push_row(
     scratch: &mut String,
     wide: bool,
     front: FrontRow,
-    row: &Config,
+    config: &Config,
 ) -> Result<(), AllocError>
     requires { partial_of fields.old ≡ [] }
-    ensures fields { OnOk result (fields_of fields.new ≡ fields_of fields.old ++ row_fields wide front row.now) }
+    ensures fields { OnOk result (fields_of fields.new ≡ fields_of fields.old ++ row_fields wide front config.now) }
     ensures whole { OnOk result (partial_of fields.new ≡ []) }
 {
     push_decimal(fields, scratch, front.row as u64)?;
     push_decimal(fields, scratch, front.cost)?;
     push_decimal(fields, scratch, front.cycles)?;
-    push_stations(fields, scratch, row)?;
-    push_units(fields, scratch, row)?;
-    push_decimal(fields, scratch, u64::from(row.buses()))?;
-    push_if_wide(fields, scratch, wide, u64::from(row.width()))?;
+    push_stations(fields, scratch, config)?;
+    push_units(fields, scratch, config)?;
+    push_decimal(fields, scratch, u64::from(config.buses()))?;
+    push_if_wide(fields, scratch, wide, u64::from(config.width()))?;
     Ok(())
 }
 
@@ -119,17 +124,17 @@ pub fn fill_record<A: Allocator>(
     heap: Global,
     wide: bool,
     front: FrontRow,
-    row: &Config,
+    config: &Config,
     program: &Program<A>,
     end: &ProgramEnd<A>,
 ) -> Result<(), AllocError>
-    requires { IsProgramEnd row.now program.now end.now }
-    ensures { OnOk result (fields_of fields.new ≡ row_fields wide front row.now ++ program_fields wide row.now program.now) }
+    requires { IsProgramEnd config.now program.now end.now }
+    ensures { OnOk result (fields_of fields.new ≡ row_fields wide front config.now ++ program_fields wide config.now program.now) }
 {
-    // Read for what the image's type keeps, which the proof needs.
-    let _window = program.image().window();
+    program.keeps_limits();
+    program.image().fills_its_window();
     fields.clear();
-    push_row(fields, scratch, wide, front, row)?;
+    push_row(fields, scratch, wide, front, config)?;
     fields.push_field(program.name().as_bytes())?;
     push_if_wide(fields, scratch, wide, u64::from(program.weight()))?;
     push_end(fields, scratch, heap, program.watch(), end)?;

@@ -16,7 +16,8 @@ use csv::{ByteRecord, Writer};
 use std::alloc::{AllocError, Allocator, Global};
 use tomex_config::Config;
 use tomex_records::{into_text, put_record};
-use tomex_sweep::{FrontRow, Program, Study};
+use tomex_study::{Program, Study};
+use tomex_sweep::FrontRow;
 
 /// Writes the records of a front row's programs.
 fn put_programs<A: Allocator>(
@@ -24,14 +25,14 @@ fn put_programs<A: Allocator>(
     heap: Global,
     wide: bool,
     front: FrontRow,
-    row: &Config,
+    config: &Config,
     programs: &[Program<A>],
     ends: &[ProgramEnd<A>],
 ) -> Result<(), AllocError>
     requires ready { IsReady writer.old }
-    requires ends { AllZip (IsProgramEnd row.now) programs.now ends.now }
+    requires ends { AllZip (IsProgramEnd config.now) programs.now ends.now }
     ensures ready { OnOk result (IsReady writer.new) }
-    ensures text { OnOk result (written (λ v. v.items) writer.new ≡ written (λ v. v.items) writer.old ++ flat_map (program_record wide front row.now) programs.now) }
+    ensures text { OnOk result (written (λ v. v.items) writer.new ≡ written (λ v. v.items) writer.old ++ flat_map (program_record wide front config.now) programs.now) }
 {
     let mut record = ByteRecord::new(heap);
     let mut scratch = String::new(heap);
@@ -42,7 +43,7 @@ fn put_programs<A: Allocator>(
             heap,
             wide,
             front,
-            row,
+            config,
             program,
             &ends[place],
         )?;
@@ -64,13 +65,13 @@ fn put_row<A: Allocator>(
     ensures ready { OnOk result (IsReady writer.new) }
     ensures text { OnOk result (written (λ v. v.items) writer.new ≡ written (λ v. v.items) writer.old ++ records_of study.now front) }
 {
-    let row = &study.rows()[front.row];
+    let config = &study.rows()[front.row];
     put_programs(
         writer,
         heap,
         study.wide(),
         front,
-        row,
+        config,
         study.programs(),
         ends.programs.as_slice(),
     )?;

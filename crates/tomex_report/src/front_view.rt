@@ -7,7 +7,8 @@ ghost use Rattle.tomex_report.specs.RowEnds.{AreEndsOf};
 
 use crate::row_ends::RowEnds;
 use std::alloc::{AllocError, Allocator};
-use tomex_sweep::{FrontRow, Program, Study};
+use tomex_study::{Program, Study};
+use tomex_sweep::FrontRow;
 
 /// What a front is shown as.
 #[derive(Clone, Copy, Debug, PartialEq, Eq)]

@@ -4,7 +4,7 @@ ghost use Rattle.std.specs.Prelude.{◌≡◌, length};
 ghost use Rattle.tomex_rvexec.specs.History.{state_after};
 ghost use Rattle.tomex_rvexec.specs.Run.{start_of};
 ghost use Rattle.tomex_rvexec.specs.Trace.{steps_from};
-ghost use Rattle.tomex_sweep.specs.Program.{IsProgram, Workload};
+ghost use Rattle.tomex_study.specs.Program.{IsProgram, Workload};
 ghost use Rattle.tomex_report.specs.Ends.{count_of, last_state};
 
 /// What a report says of a program's end is that of its run within its own limit: the report is

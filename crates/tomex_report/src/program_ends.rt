@@ -1,10 +1,10 @@
-//! How programs end on one row, by the cycle machine.
+//! How programs end on one configuration, by the cycle machine.
 
 ghost use Rattle.std.specs.Prelude.{◌≡◌, ◌≤◌, ◌+◌, length, true, All, IfOk};
 ghost use Rattle.std.specs.List.{AllZip, flat_map};
 ghost use Rattle.tomex_image.specs.Image.{IsLoaded};
-ghost use Rattle.tomex_sweep.specs.Program.{IsProgram};
-ghost use Rattle.tomex_sweep.specs.Watch.{is_watchable};
+ghost use Rattle.tomex_study.specs.Program.{IsProgram};
+ghost use Rattle.tomex_study.specs.Watch.{is_watchable};
 ghost use Rattle.tomex_report.specs.Ends.{bytes_at, IsProgramEnd};
 
 use crate::ends::ProgramEnd;
@@ -12,7 +12,7 @@ use std::alloc::{AllocError, Allocator};
 use tomex_config::Config;
 use tomex_cycle::Machine;
 use tomex_image::Window;
-use tomex_sweep::{Program, WatchRange};
+use tomex_study::{Program, WatchRange};
 
 /// No program takes more cycles: 67 for each of 262,144 steps.
 const MOST_CYCLES: u64 = 17_563_648;
@@ -47,18 +47,18 @@ fn ranges_bytes<A: Allocator>(
     Ok(bytes)
 }
 
-/// How a program ends on a row.
+/// How a program ends on a configuration.
 fn program_end<A: Allocator + Clone>(
     alloc: A,
     program: &Program<A>,
-    row: &Config,
+    config: &Config,
 ) -> Result<ProgramEnd<A>, AllocError>
-    ensures { IfOk result (λ e. IsProgramEnd row.now program.now e) }
+    ensures { IfOk result (λ e. IsProgramEnd config.now program.now e) }
 {
-    // Read for what the row's type keeps, which the proof needs.
-    let _buses = row.buses();
+    config.keeps_limits();
+    program.keeps_limits();
     let window = program.image().window();
-    let mut machine = Machine::new(alloc.clone()?, program.image(), row)?;
+    let mut machine = Machine::new(alloc.clone()?, program.image(), config)?;
     machine.advance(MOST_CYCLES);
     let total = machine.cycle();
     let end = machine.finish();
@@ -73,17 +73,17 @@ fn program_end<A: Allocator + Clone>(
     })
 }
 
-/// How each program ends on a row, in order.
+/// How each program ends on a configuration, in order.
 pub fn each_end<A: Allocator + Clone>(
     alloc: A,
     programs: &[Program<A>],
-    row: &Config,
+    config: &Config,
 ) -> Result<Vec<ProgramEnd<A>, A>, AllocError>
-    ensures { IfOk result (λ v. AllZip (IsProgramEnd row.now) programs.now v.items) }
+    ensures { IfOk result (λ v. AllZip (IsProgramEnd config.now) programs.now v.items) }
 {
     let mut ends = Vec::new(alloc.clone()?);
     for program in programs {
-        ends.push(program_end(alloc.clone()?, program, row)?)?;
+        ends.push(program_end(alloc.clone()?, program, config)?)?;
     }
     Ok(ends)
 }

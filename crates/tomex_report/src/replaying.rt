@@ -9,7 +9,8 @@ use crate::row_ends::RowEnds;
 use rayon::prelude::*;
 use std::alloc::{AllocError, Allocator};
 use std::thread::Threads;
-use tomex_sweep::{FrontRow, Study};
+use tomex_study::Study;
+use tomex_sweep::FrontRow;
 
 /// How the programs end on one row, which is run again.
 fn ends_of<A: Allocator + Clone>(

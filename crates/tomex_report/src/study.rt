@@ -2,7 +2,7 @@
 
 ghost use Rattle.std.specs.Prelude.{◌≡◌, ◌≢◌, ◌≤◌, ◌⊎◌, length, map, IfOk, IfErr, None, string_bytes};
 ghost use Rattle.tomex_image.specs.Loading.{placed, refused};
-ghost use Rattle.tomex_sweep.specs.Program.{refusal_of};
+ghost use Rattle.tomex_study.specs.Program.{refusal_of};
 ghost use Rattle.tomex_report.specs.Study.{AreProgramsOf, FailsToEnd, IsFileRefusal, IsFirstRefusal};
 ghost use Rattle.tomex_report.specs.Study.{IsProgramOf, IsStudyOf, IsStudyRefusal};
 
@@ -10,7 +10,7 @@ use std::alloc::{Allocator, Global};
 use tomex_config::grid;
 use tomex_document::{Entry, StudyError, document_of};
 use tomex_image::{Image, ImageError, load};
-use tomex_sweep::{Program, ProgramError, Study};
+use tomex_study::{Program, ProgramError, Study};
 
 /// The image that the file is in the entry's window. The name that a refusal tells is made in `heap`.
 fn image_of<A: Allocator + Clone>(

@@ -1,4 +1,4 @@
-//! The times report of a run on one row.
+//! The times report of a run on one configuration.
 
 ghost use Rattle.std.specs.Prelude.{◌≡◌, ◌++◌, ◌∷◌, [], IfOk, OnOk, length, codes};
 ghost use Rattle.csv.specs.Records.{fields_of, partial_of};
@@ -14,7 +14,7 @@ use std::fmt::Write;
 use tomex_config::Config;
 use tomex_records::{into_text, push_decimal, push_instruction, put_record};
 use tomex_rvexec::{Step, trace};
-use tomex_sweep::Program;
+use tomex_study::Program;
 use tomex_timing::Times;
 use tomex_timing::evaluate::{times, total};
 
@@ -151,7 +151,7 @@ fn text_of_times<A: Allocator>(
     into_text(writer)
 }
 
-/// The times report of a program on a row: CSV with a header, a record for each step in program
+/// The times report of a program on a configuration: CSV with a header, a record for each step in program
 /// order, and last the total. Cycles are counted from 1, steps too. `-` stands where there is no
 /// address cycle or no station.
 ///
@@ -160,15 +160,15 @@ pub fn times_report<A: Allocator + Clone>(
     alloc: A,
     heap: Global,
     program: &Program<A>,
-    row: &Config,
+    config: &Config,
 ) -> Result<Vec<u8, A>, AllocError>
     ensures { IfOk result
-        (λ text. text.items ≡ times_report_of row.now (steps_from program.now.limit (start_of program.now.image))) }
+        (λ text. text.items ≡ times_report_of config.now (steps_from program.now.limit (start_of program.now.image))) }
 {
     // A program ends within its limit, so only memory can be wanting.
     let Ok(steps) = trace(alloc.clone()?, program.image(), program.limit()) else {
         return Err(AllocError);
     };
-    let times = times(alloc.clone()?, steps.as_slice(), row)?;
+    let times = times(alloc.clone()?, steps.as_slice(), config)?;
     text_of_times(alloc, heap, steps.as_slice(), times.as_slice())
 }

@@ -6,35 +6,49 @@ use Rattle.tomex_board.specs.Known.{Known}
 use Rattle.tomex_board.specs.declared.view.View.{View}
 use Rattle.tomex_board.specs.Views.{Has, IsNoted, Grows, without}
 use Rattle.tomex_board.proofs.Closes.{grows_on}
-use Rattle.tomex_config.specs.Row.{Row}
-use Rattle.tomex_sweep.specs.Study.{DesignSpace, IsStudy}
+use Rattle.tomex_config.specs.Configuration.{Configuration}
+use Rattle.tomex_study.specs.Study.{DesignSpace, IsStudy}
 use Rattle.tomex_sweep.specs.Cycles.{cycles_on, cycles_of}
 use Rattle.tomex_sweep.specs.Plans.{IsPlanOf}
+use Rattle.tomex_sweep.specs.Seats.{Continues}
 use Rattle.tomex_sweep.specs.Stops.{Going, IsNearer, stop_at}
 use Rattle.tomex_sweep.specs.declared.stop.Stop.{Stop}
 use Rattle.tomex_sweep.specs.declared.stop.Stop.TheVariants.{Look, Over}
 use Rattle.tomex_sweep.proofs.Verdicts.{cycles_at, look_near, over_is}
 
+-- nothing has happened to a seat
+pub continues_itself : (seat : Known) → Continues seat seat
+continues_itself seat = record {
+  board = refl;
+  share = refl;
+  grown = record { noted = λ i h. h; marks = λ i m h. h; bests = λ k. omega arith };
+}
+
+pub continues_on : (first now new : Known) → Continues first now → Continues now new → Continues first new
+continues_on first now new before after = record {
+  board = after.board ∙ before.board;
+  share = after.share ∙ before.share;
+  grown = grows_on first.view now.view new.view before.grown after.grown;
+}
+
 -- the run is that of the row, and the seat has the row in hand and no other
 pub record IsRunning (s : DesignSpace) (row : ℕ) (first now : Known) (run : Going) : Type 0 where
-  pub board_of : now.board ≡ first.board
+  pub seat : Continues first now
   pub hand : now.view.hand ≡ row ∷ []
-  pub share : now.view.share ≡ first.view.share
-  pub grown : Grows first.view now.view
   pub programs : run.programs ≡ s.programs
-  pub its_row : slice_get s.rows row ≡ Some run.row
+  pub its_row : slice_get s.rows row ≡ Some run.config
 
 -- a look brings the run nearer to the row's cycles, of which no more have come
 pub look_on : (s : DesignSpace) (row : ℕ) (first now : Known) (run new : Going) (p : Stop) (seen : ℕ) → IsRunning s row first now run → p ≡ Look seen → IsNearer run new p
     → (get_or (cycles_of s) row 0 - new.reached < get_or (cycles_of s) row 0 - run.reached) × (seen ≤ get_or (cycles_of s) row 0)
 look_on s row first now run new p seen is looks up =
-    let e : get_or (cycles_of s) row 0 ≡ cycles_on s.programs run.row = cycles_at s row run.row is.its_row in
-    let near = look_near run new s.programs run.row p seen is.programs refl looks up in
+    let e : get_or (cycles_of s) row 0 ≡ cycles_on s.programs run.config = cycles_at s row run.config is.its_row in
+    let near = look_near run new s.programs run.config p seen is.programs refl looks up in
     subst (λ n. (n - new.reached < n - run.reached) × (seen ≤ n)) (sym e) near
 
 -- a run that is over has the row's cycles
-pub over_on : (s : DesignSpace) (row : ℕ) (first now : Known) (run : Going) (p : Stop) (y : ℕ) → IsRunning s row first now run → p ≡ stop_at run.programs run.row (run.reached + 1024) → p ≡ Over y → y ≡ get_or (cycles_of s) row 0
-over_on s row first now run p y is stop over = over_is run.programs s.programs run.row run.row p run.reached y is.programs refl stop over ∙ sym (cycles_at s row run.row is.its_row)
+pub over_on : (s : DesignSpace) (row : ℕ) (first now : Known) (run : Going) (p : Stop) (y : ℕ) → IsRunning s row first now run → p ≡ stop_at run.programs run.config (run.reached + 1024) → p ≡ Over y → y ≡ get_or (cycles_of s) row 0
+over_on s row first now run p y is stop over = over_is run.programs s.programs run.config run.config p run.reached y is.programs refl stop over ∙ sym (cycles_at s row run.config is.its_row)
 
 pub has_it : (hand : List ℕ) (row : ℕ) → hand ≡ row ∷ [] → Has hand row
 has_it hand row is = subst (λ l. Has l row) (sym is) (inl refl)
@@ -50,22 +64,24 @@ row_there s costs cycles row is plan low =
     let same : length s.costs ≡ length costs = ap length plan.its_costs in
     omega arith
 
-grows_itself : (v : View) → Grows v v
-grows_itself v = record { noted = λ i h. h; marks = λ i m h. h; bests = λ k. omega arith }
+pub first_running : (s : DesignSpace) (row : ℕ) (seat : Known) (run : Going) (item : Configuration)
+    → seat.view.hand ≡ row ∷ [] → run.programs ≡ s.programs → run.config ≡ item → slice_get s.rows row ≡ Some item
+    → IsRunning s row seat seat run
+first_running s row seat run item hand programs same at = record {
+  seat = continues_itself seat;
+  hand = hand;
+  programs = programs;
+  its_row = at ∙ ap (λ (r : Configuration). Some r) (sym same);
+}
 
-pub first_running : (s : DesignSpace) (row : ℕ) (seat : Known) (run : Going) (item : Row) → seat.view.hand ≡ row ∷ [] → run.programs ≡ s.programs → run.row ≡ item → slice_get s.rows row ≡ Some item → IsRunning s row seat seat run
-first_running s row seat run item hand programs same at =
-    record { board_of = refl; hand = hand; share = refl; grown = grows_itself seat.view; programs = programs; its_row = at ∙ ap (λ (r : Row). Some r) (sym same) }
-
-pub next_running : (s : DesignSpace) (row : ℕ) (first now new : Known) (run next : Going) → IsRunning s row first now run → new.board ≡ now.board → new.view.hand ≡ now.view.hand → new.view.share ≡ now.view.share → Grows now.view new.view
-    → next.programs ≡ run.programs → next.row ≡ run.row → IsRunning s row first new next
-next_running s row first now new run next is board hand share grown programs same = record {
-  board_of = board ∙ is.board_of;
+pub next_running : (s : DesignSpace) (row : ℕ) (first now new : Known) (run next : Going)
+    → IsRunning s row first now run → Continues now new → new.view.hand ≡ now.view.hand
+    → next.programs ≡ run.programs → next.config ≡ run.config → IsRunning s row first new next
+next_running s row first now new run next is seat hand programs same = record {
+  seat = continues_on first now new is.seat seat;
   hand = hand ∙ is.hand;
-  share = share ∙ is.share;
-  grown = grows_on first.view now.view new.view is.grown grown;
   programs = programs ∙ is.programs;
-  its_row = is.its_row ∙ ap (λ (r : Row). Some r) (sym same);
+  its_row = is.its_row ∙ ap (λ (r : Configuration). Some r) (sym same);
 }
 
 -- one row more is noted

@@ -5,7 +5,7 @@ use Rattle.std.proofs.lemmas.List.{length-map}
 use Rattle.std.proofs.lemmas.List.Folds.{flat_map-map}
 use Rattle.std.proofs.lemmas.List.Elements.{All-nil, All-cons, All-head, All-tail, All-map, All-weaker}
 use Rattle.atomic_table.specs.Seated.{TableId}
-use Rattle.tomex_config.specs.Row.{IsRow}
+use Rattle.tomex_config.specs.Configuration.{IsWithinLimits}
 use Rattle.tomex_board.specs.Plans.{IsPlan}
 use Rattle.tomex_board.specs.Known.{Known}
 use Rattle.tomex_board.specs.Marks.{AreLawful}
@@ -14,27 +14,27 @@ use Rattle.tomex_board.specs.declared.mark.Mark.{Mark}
 use Rattle.tomex_lanes.specs.Lanes.{Dealt, dealt}
 use Rattle.tomex_lanes.specs.Parts.{Equipped, Returned, AreSeated, AreWhole}
 use Rattle.tomex_lanes.proofs.Dealing.{dealt-counts, each_is_dealt}
-use Rattle.tomex_sweep.specs.Program.{IsProgram}
-use Rattle.tomex_sweep.specs.Study.{DesignSpace, IsStudy}
+use Rattle.tomex_study.specs.Program.{IsProgram}
+use Rattle.tomex_study.specs.Study.{DesignSpace, IsStudy}
 use Rattle.tomex_sweep.specs.Cycles.{cycles_on, cycles_of}
 use Rattle.tomex_sweep.specs.Plans.{IsPlanOf}
 use Rattle.tomex_sweep.specs.Crews.{CanStart, CanRun, Owed, owed_by, given_by}
 use Rattle.tomex_sweep.proofs.Totals.{cycles_bound}
 use Rattle.tomex_sweep.proofs.Verdicts.{as_long}
 
-low_cycles : (s : DesignSpace) → IsStudy s → All IsRow s.rows → All IsProgram s.programs → All (λ c. c < 2 ^ 38) (cycles_of s)
+low_cycles : (s : DesignSpace) → IsStudy s → All (λ c. c < 2 ^ 38) (cycles_of s)
 unfolding cycles_of
-low_cycles s is rows programs =
+low_cycles s is =
     All-map (λ c. c < 2 ^ 38) (cycles_on s.programs) s.rows
-    (All-weaker IsRow (λ r. cycles_on s.programs r < 2 ^ 38) (λ r lawful. let most = cycles_bound s.programs r lawful programs is.few_programs in omega arith) s.rows rows)
+    (All-weaker IsWithinLimits (λ r. cycles_on s.programs r < 2 ^ 38) (λ r lawful. let most = cycles_bound s.programs r lawful is.ends is.few_programs in omega arith) s.rows is.limits)
 
 -- a board can be made for a study
-pub board_plan : (s : DesignSpace) (costs cycles : List ℕ) → IsStudy s → All IsRow s.rows → All IsProgram s.programs → IsPlanOf s costs cycles → IsPlan costs cycles
-board_plan s costs cycles is rows programs plan =
+pub board_plan : (s : DesignSpace) (costs cycles : List ℕ) → IsStudy s → IsPlanOf s costs cycles → IsPlan costs cycles
+board_plan s costs cycles is plan =
     let long : length s.costs ≡ length s.rows = ap length is.costs ∙ length-map _ _ in
     let some = is.some_rows in
     let few = is.few_rows in
-    let own : IsPlan s.costs (cycles_of s) = (omega arith, omega arith, sym (as_long s is), low_cycles s is rows programs) in
+    let own : IsPlan s.costs (cycles_of s) = (omega arith, omega arith, sym (as_long s is), low_cycles s is) in
     subst (λ ys. IsPlan costs ys) plan.its_cycles (subst (λ cs. IsPlan cs (cycles_of s)) plan.its_costs own)
 
 all_can : (board : TableId) (count : ℕ) (workers : List Equipped) → All (λ s. s.board ≡ board) (map (λ (w : Equipped). w.seat) workers) → All (λ s. s.view.hand ≡ []) (map (λ (w : Equipped). w.seat) workers) → All (λ l. l.count ≡ count) (map (λ (w : Equipped). w.lane) workers)

@@ -10,12 +10,12 @@ use Rattle.tomex_image.specs.Image.{Loaded}
 use Rattle.tomex_rvexec.specs.Run.{start_of}
 use Rattle.tomex_rvexec.specs.Trace.{steps_from}
 use Rattle.tomex_rvexec.specs.declared.step.Step.{Step}
-use Rattle.tomex_config.specs.Row.{Row}
+use Rattle.tomex_config.specs.Configuration.{Configuration}
 use Rattle.tomex_timing.specs.Search.{times_in, total_of}
 use Rattle.tomex_plateaus.specs.Kept.{Kept}
 use Rattle.tomex_cycle.specs.Run.{total}
 use Rattle.tomex_sweep.specs.Known.{AreTotals, IsKnowledge}
-use Rattle.tomex_sweep.specs.Program.{Workload, IsProgram}
+use Rattle.tomex_study.specs.Program.{Workload, IsProgram}
 use Rattle.tomex_sweep.proofs.Totals.{total_within}
 
 abbrev pub steps_of : Workload → List Step
@@ -40,8 +40,8 @@ abbrev nothing : Option ℕ
 nothing = None
 
 -- no total is known
-pub none_known : (programs : List Workload) (row : Row) → AreTotals programs row (replicate 8 None)
-none_known programs row = record {
+pub none_known : (programs : List Workload) (config : Configuration) → AreTotals programs config (replicate 8 None)
+none_known programs config = record {
   count = length-replicate 8 nothing;
   known = λ place p n at is.
       let low : place < length (replicate 8 nothing) = slice_get_within (replicate 8 nothing) place (Some n) is in
@@ -68,33 +68,33 @@ at_other totals k i o w apart is =
     let new : get_or (set totals k o) i None ≡ w = get_or_from_slice_get (set totals k o) i w None is in
     slice_get-get_or totals i None (omega arith) ∙ ap (λ (z : Option ℕ). Some z) (sym old ∙ new)
 
-told : (row : Row) (o : Option ℕ) (p : Workload) (n : ℕ) → o ≡ Some n → IfSome o (λ n. total row p.image ≡ n) → total row p.image ≡ n
-told row None p n is h = absurd (cc)
-told row (Some m) p n is h = let e : m ≡ n = cc in h ∙ e
+told : (config : Configuration) (o : Option ℕ) (p : Workload) (n : ℕ) → o ≡ Some n → IfSome o (λ n. total config p.image ≡ n) → total config p.image ≡ n
+told config None p n is h = absurd (cc)
+told config (Some m) p n is h = let e : m ≡ n = cc in h ∙ e
 
 -- one more is known, or is known not to be
-pub one_known : (programs : List Workload) (row : Row) (totals : List (Option ℕ)) (place : ℕ) (o : Option ℕ) → AreTotals programs row totals
-    → ((p : Workload) → slice_get programs place ≡ Some p → IfSome o (λ n. total row p.image ≡ n)) → AreTotals programs row (set totals place o)
-one_known programs row totals place o are one = record {
+pub one_known : (programs : List Workload) (config : Configuration) (totals : List (Option ℕ)) (place : ℕ) (o : Option ℕ) → AreTotals programs config totals
+    → ((p : Workload) → slice_get programs place ≡ Some p → IfSome o (λ n. total config p.image ≡ n)) → AreTotals programs config (set totals place o)
+one_known programs config totals place o are one = record {
   count = rw length-set are.count;
   known = λ k p n at is. elim (cases_order k place) [
     | inl same ↦
         let here : slice_get (set totals place o) place ≡ Some (Some n) = subst (λ i. slice_get (set totals place o) i ≡ Some (Some n)) same is in
         let it : slice_get programs place ≡ Some p = subst (λ i. slice_get programs i ≡ Some p) same at in
-        told row o p n (at_set totals place o (Some n) here) (one p it)
+        told config o p n (at_set totals place o (Some n) here) (one p it)
     | inr (inl less) ↦ are.known k p n at (at_other totals place k o (Some n) (let z : k ≢ place = omega arith in z) is)
     | inr (inr greater) ↦ are.known k p n at (at_other totals place k o (Some n) (let z : k ≢ place = omega arith in z) is)
   ];
 }
 
--- what the list at a program's place says of a row
-pub list_tells : (programs : List Workload) (lists : List Kept) (row : Row) (place : ℕ) (l : Kept) (o : Option ℕ) → IsKnowledge programs lists → slice_get lists place ≡ Some l → IfSome o (λ n. total_of (times_in row l.steps) ≡ n)
-    → (p : Workload) → slice_get programs place ≡ Some p → IfSome o (λ n. total row p.image ≡ n)
-list_tells programs lists row place l None is here tells p at = tt
-list_tells programs lists row place l (Some n) is here tells p at =
+-- what the list at a program's place says of a configuration
+pub list_tells : (programs : List Workload) (lists : List Kept) (config : Configuration) (place : ℕ) (l : Kept) (o : Option ℕ) → IsKnowledge programs lists → slice_get lists place ≡ Some l → IfSome o (λ n. total_of (times_in config l.steps) ≡ n)
+    → (p : Workload) → slice_get programs place ≡ Some p → IfSome o (λ n. total config p.image ≡ n)
+list_tells programs lists config place l None is here tells p at = tt
+list_tells programs lists config place l (Some n) is here tells p at =
     let same : l.steps ≡ steps_of p = listed programs lists place p l is.steps at here in
     let good : IsProgram p = subst IsProgram (get_or_from_slice_get programs place p p at) (is.ends place p (slice_get_within programs place p at)) in
-    total_within p row good ∙ (ap (λ (steps : List Step). total_of (times_in row steps)) (sym same) ∙ tells)
+    total_within p config good ∙ (ap (λ (steps : List Step). total_of (times_in config steps)) (sym same) ∙ tells)
 
 -- there is a list for each program
 pub as_many : (programs : List Workload) (lists : List Kept) → IsKnowledge programs lists → length lists ≡ length programs
@@ -117,12 +117,12 @@ one_list programs i p lists all k is low at same before =
     ∙ (ap (λ (l : List (List Step)). l ++ k.steps ∷ []) before
     ∙ (ap (λ (x : List Step). map steps_of (take i programs) ++ x ∷ []) e ∙ sym (map_more steps_of programs i p low))))
 
-known_at : (programs : List Workload) (row : Row) (totals : List (Option ℕ)) (place : ℕ) (p : Workload) (o : Option ℕ) → AreTotals programs row totals → slice_get programs place ≡ Some p → slice_get totals place ≡ Some o → IfSome o (λ n. total row p.image ≡ n)
-known_at programs row totals place p None are at is = tt
-known_at programs row totals place p (Some n) are at is = are.known place p n at is
+known_at : (programs : List Workload) (config : Configuration) (totals : List (Option ℕ)) (place : ℕ) (p : Workload) (o : Option ℕ) → AreTotals programs config totals → slice_get programs place ≡ Some p → slice_get totals place ≡ Some o → IfSome o (λ n. total config p.image ≡ n)
+known_at programs config totals place p None are at is = tt
+known_at programs config totals place p (Some n) are at is = are.known place p n at is
 
 -- what is known of the first program
-pub first_known : (programs : List Workload) (row : Row) (totals : List (Option ℕ)) (p : Workload) (image : Loaded) → AreTotals programs row totals → slice_get programs 0 ≡ Some p → image ≡ p.image → IfSome (get_or totals 0 None) (λ n. total row image ≡ n)
-first_known programs row totals p image are at same =
+pub first_known : (programs : List Workload) (config : Configuration) (totals : List (Option ℕ)) (p : Workload) (image : Loaded) → AreTotals programs config totals → slice_get programs 0 ≡ Some p → image ≡ p.image → IfSome (get_or totals 0 None) (λ n. total config image ≡ n)
+first_known programs config totals p image are at same =
     let eight : length totals ≡ 8 = are.count in
-    rw same (known_at programs row totals 0 p (get_or totals 0 None) are at (slice_get-get_or totals 0 None (omega arith)))
+    rw same (known_at programs config totals 0 p (get_or totals 0 None) are at (slice_get-get_or totals 0 None (omega arith)))

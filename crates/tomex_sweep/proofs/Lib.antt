@@ -1,5 +1,4 @@
 -- Lemmas of this crate.
-mod Each
 pub mod Totals
 pub mod Machines
 pub mod Stops
@@ -14,5 +13,5 @@ pub mod Verdicts
 pub mod StudyFronts
 pub mod Closing
 pub mod Moves
-pub mod Leftovers
+pub mod Gathered
 pub mod Crewed

@@ -2,7 +2,7 @@
 use Rattle.std.proofs.Common.{◌≡◌, ℕ, ◌<◌, ◌∙◌, ap, subst, length, All}
 use Rattle.std.proofs.lemmas.List.{length-map}
 use Rattle.tomex_sweep.specs.declared.front_row.FrontRow.{FrontRow}
-use Rattle.tomex_sweep.specs.Study.{DesignSpace, IsStudy}
+use Rattle.tomex_study.specs.Study.{DesignSpace, IsStudy}
 use Rattle.tomex_sweep.specs.Cycles.{cycles_of}
 use Rattle.tomex_sweep.specs.Front.{front_of_study}
 use Rattle.tomex_sweep.proofs.Judged.{front_within}

@@ -2,7 +2,7 @@
 use Rattle.std.specs.Prelude.{◌≡◌, ℕ, List, [], All, length}
 use Rattle.atomic_table.specs.Seated.{TableId}
 use Rattle.tomex_lanes.specs.Parts.{Equipped, Returned}
-use Rattle.tomex_sweep.specs.Study.{DesignSpace}
+use Rattle.tomex_study.specs.Study.{DesignSpace}
 use Rattle.tomex_sweep.specs.Plans.{IsPlanOf}
 
 -- its seat is of the board, with nothing in hand, and its lane is of so many rows

@@ -2,26 +2,27 @@
 use Rattle.std.specs.Prelude.{◌≡◌, ℕ, ◌≤◌, List, Option, Some, length, map, slice_get, All, IfSome}
 use Rattle.tomex_rvexec.specs.Run.{start_of}
 use Rattle.tomex_rvexec.specs.Trace.{steps_from}
-use Rattle.tomex_config.specs.Row.{Row}
+use Rattle.tomex_config.specs.Configuration.{Configuration}
 use Rattle.tomex_cycle.specs.Run.{total}
 use Rattle.tomex_plateaus.specs.Kept.{Kept}
-use Rattle.tomex_sweep.specs.Program.{Workload, IsProgram}
-use Rattle.tomex_sweep.specs.Study.{DesignSpace}
+use Rattle.tomex_study.specs.Program.{Workload, IsProgram}
+use Rattle.tomex_study.specs.Study.{DesignSpace}
 
--- where there is one at a program's place, the program takes so many cycles on the row
-pub record AreTotals (programs : List Workload) (row : Row) (totals : List (Option ℕ)) : Type 0 where
+-- where there is one at a program's place, the program takes so many cycles on the configuration
+pub record AreTotals (programs : List Workload) (config : Configuration) (totals : List (Option ℕ)) : Type 0 where
   pub count : length totals ≡ 8
   pub known : (place : ℕ) (p : Workload) (n : ℕ) → slice_get programs place ≡ Some p
-      → slice_get totals place ≡ Some (Some n) → total row p.image ≡ n
+      → slice_get totals place ≡ Some (Some n) → total config p.image ≡ n
 
--- and of one program: where there is one, the program at that place takes so many cycles on the row
-abbrev pub IsTotalAt : List Workload → Row → ℕ → Option ℕ → Type 0
-IsTotalAt programs row place known =
-    (p : Workload) → slice_get programs place ≡ Some p → IfSome known (λ n. total row p.image ≡ n)
+-- and of one program: where there is one, the program at that place takes so many cycles on the configuration
+abbrev pub IsTotalAt : List Workload → Configuration → ℕ → Option ℕ → Type 0
+IsTotalAt programs config place known =
+    (p : Workload) → slice_get programs place ≡ Some p → IfSome known (λ n. total config p.image ≡ n)
 
--- such totals on a study's row of that number
+-- such totals on a study's configuration of that number
 abbrev pub AreTotalsOn : DesignSpace → ℕ → List (Option ℕ) → Type 0
-AreTotalsOn s row totals = (r : Row) → slice_get s.rows row ≡ Some r → AreTotals s.programs r totals
+AreTotalsOn s row totals =
+    (config : Configuration) → slice_get s.rows row ≡ Some config → AreTotals s.programs config totals
 
 -- a list of plateaus for each program, of the steps of its run; the programs are few, and end
 pub record IsKnowledge (programs : List Workload) (lists : List Kept) : Type 0 where

@@ -1,10 +1,7 @@
--- What contracts cite: watched ranges, programs that end, and studies; what their rows take, marks of rows,
--- and the front.
-pub mod Watch
-pub mod Program
-pub mod Study
+-- What contracts cite: the cycles that configurations take, marks of rows, and the front.
 pub mod Cycles
 pub mod Plans
+pub mod Seats
 pub mod Crews
 pub mod Front
 pub mod Pareto
@@ -15,5 +12,8 @@ pub mod Reused
 pub mod Known
 pub use Rattle.tomex_image.specs.Image
 pub use Rattle.tomex_rvexec.specs.Run
-pub use Rattle.tomex_config.specs.Row
+pub use Rattle.tomex_config.specs.Configuration
 pub use Rattle.tomex_config.specs.Cost
+pub use Rattle.tomex_study.specs.Program
+pub use Rattle.tomex_study.specs.Study
+pub use Rattle.tomex_study.specs.Watch

@@ -1,6 +1,6 @@
 -- The plan that a study's board is made for.
 use Rattle.std.specs.Prelude.{◌≡◌, ℕ, List}
-use Rattle.tomex_sweep.specs.Study.{DesignSpace}
+use Rattle.tomex_study.specs.Study.{DesignSpace}
 use Rattle.tomex_sweep.specs.Cycles.{cycles_of}
 
 -- the costs of the study's rows, and their cycles

@@ -6,20 +6,19 @@ ghost use Rattle.tomex_sweep.specs.Front.{front_of_study};
 ghost use Rattle.tomex_sweep.specs.Marks.{AreJudged};
 ghost use Rattle.tomex_sweep.specs.Plans.{IsPlanOf};
 
+use crate::crew::run_workers;
 use crate::fronts::front;
 use crate::gate::Gate;
-use crate::gathering::gather;
-use crate::laws::{each_program_ends, each_row_is_lawful};
+use crate::leftovers::gather;
 use crate::outcome::{Outcome, SweepError};
 use crate::stacks::{Stacks, UsualStacks};
-use crate::started::run_workers;
-use crate::study::Study;
 use std::alloc::Allocator;
 use std::marker::Brand;
 use std::sync::Wait;
 use std::thread::Threads;
 use tomex_board::{Board, Plan};
 use tomex_lanes::{deal, seated, settle};
+use tomex_study::Study;
 
 /// An exploration over a board that is made for the study's costs and cycles.
 fn explore_as<
@@ -45,8 +44,7 @@ fn explore_as<
     ensures gathered { IfOk result (λ o. o.gathered ≡ 0) }
 {
     // Laws: the board wants cycles that fit its words, which those of lawful rows and programs do.
-    each_row_is_lawful(study.rows());
-    each_program_ends(study.programs());
+    study.keeps_limits();
     let costs = study.costs();
     gate.begins(costs.len());
     let lanes = deal(alloc.clone()?, workers, costs.len())?;

@@ -2,37 +2,27 @@
 
 ghost use Rattle.std.specs.Prelude.{◌≡◌, ◌<◌, ◌≤◌, length, IfOk, All};
 ghost use Rattle.tomex_sweep.specs.Known.{AreTotals, IsTotalAt};
-ghost use Rattle.tomex_sweep.specs.Program.{IsProgram};
+ghost use Rattle.tomex_study.specs.Program.{IsProgram};
 
-use crate::program::Program;
 use std::alloc::{AllocError, Allocator};
 use std::marker::Model;
 use tomex_config::Config;
 use tomex_plateaus::Plateaus;
+use tomex_study::Program;
 
-/// With so few rows left to a worker, needs cost more than they are likely to save.
-const FEW: usize = 16;
-
-/// So many needs are taken before any of them has saved a run.
-const TRIES: usize = 16;
-
-/// Plateaus of a study's programs, on rows that a worker has come to. Needs that it takes there tell them.
+/// Plateaus of a study's programs, on configurations that a worker has come to. Needs that it takes there tell them.
 #[derive(Drop)]
 pub(crate) struct Knowledge<'s, A: Allocator> {
     alloc: A,
     programs: &'s [Program<A>],
     /// Those of each program, in the programs' order.
     lists: Vec<Plateaus<'s, A>, A>,
-    /// How many rows of its list the worker hasn't come to yet.
-    left: usize,
-    /// How many needs may be taken: one for each total that was known, and a few to begin with.
-    allowed: usize,
 }
 
 impl<'s, A: Allocator> Model for Knowledge<'s, A> {
     ghost use Rattle.std.specs.Prelude.{List};
     ghost use Rattle.tomex_sweep.specs.Known.{IsKnowledge};
-    ghost use Rattle.tomex_sweep.specs.Program.{Workload};
+    ghost use Rattle.tomex_study.specs.Program.{Workload};
 
     ghost Value = { List Workload };
 
@@ -42,12 +32,8 @@ impl<'s, A: Allocator> Model for Knowledge<'s, A> {
 }
 
 impl<'s, A: Allocator + Clone> Knowledge<'s, A> {
-    /// Nothing is known yet of these programs. So many rows are left to the worker.
-    pub(crate) fn new(
-        alloc: A,
-        programs: &'s [Program<A>],
-        left: usize,
-    ) -> Result<Knowledge<'s, A>, AllocError>
+    /// Nothing is known yet of these programs.
+    pub(crate) fn new(alloc: A, programs: &'s [Program<A>]) -> Result<Knowledge<'s, A>, AllocError>
         requires few { length programs.now ≤ 8 }
         requires ends { All IsProgram programs.now }
         ensures { IfOk result (λ k. k ≡ programs.now) }
@@ -60,79 +46,70 @@ impl<'s, A: Allocator + Clone> Knowledge<'s, A> {
             alloc,
             programs,
             lists,
-            left,
-            allowed: TRIES,
         })
     }
 
-    /// The totals on a row that are known, in the programs' order.
-    pub(crate) fn totals(&self, row: &Config) -> [Option<u64>; 8]
-        ensures { AreTotals self.now row.now result }
+    /// The totals on a configuration that are known, in the programs' order.
+    pub(crate) fn totals(&self, config: &Config) -> [Option<u64>; 8]
+        ensures { AreTotals self.now config.now result }
     {
         let mut totals = [None; 8];
         for (place, list) in self.lists.iter().enumerate() {
-            totals[place] = list.total_on(row);
+            totals[place] = list.total_on(config);
         }
         totals
     }
 
-    /// The totals on a row, given those that were known, with those that are learnt as far as that pays. The row
-    /// is one of those that were left.
+    /// The totals on a configuration, given those that were known: the others are learnt.
     pub(crate) fn learn(
         &mut self,
-        row: &Config,
+        config: &Config,
         totals: [Option<u64>; 8],
     ) -> Result<[Option<u64>; 8], AllocError>
-        requires { AreTotals self.old row.now totals }
+        requires { AreTotals self.old config.now totals }
         ensures programs { self.new ≡ self.old }
-        ensures totals { IfOk result (λ t. AreTotals self.new row.now t) }
+        ensures totals { IfOk result (λ t. AreTotals self.new config.now t) }
     {
         let mut totals = totals;
         for place in 0..self.programs.len() {
-            totals[place] = self.total_of(place, row, totals[place])?;
+            totals[place] = self.total_of(place, config, totals[place])?;
         }
-        self.left = self.left.saturating_sub(1);
         Ok(totals)
     }
 
-    /// The total of the program at a place, if it is known, or if it pays to learn it.
+    /// The total of the program at a place, which is learnt if it isn't known.
     fn total_of(
         &mut self,
         place: usize,
-        row: &Config,
+        config: &Config,
         known: Option<u64>,
     ) -> Result<Option<u64>, AllocError>
         requires place { place < length self.old }
-        requires known { IsTotalAt self.old row.now place known }
+        requires known { IsTotalAt self.old config.now place known }
         ensures programs { self.new ≡ self.old }
-        ensures total { IfOk result (λ t. IsTotalAt self.new row.now place t) }
+        ensures total { IfOk result (λ t. IsTotalAt self.new config.now place t) }
     {
         if known.is_some() {
-            self.allowed = self.allowed.saturating_add(1);
             return Ok(known);
         }
-        if self.left <= FEW || self.allowed == 0 {
-            return Ok(None);
-        }
-        self.allowed -= 1;
-        self.learn_of(place, row)?;
-        Ok(self.known_of(place, row))
+        self.learn_of(place, config)?;
+        Ok(self.known_of(place, config))
     }
 
-    /// What is known of a row for the program at a place.
-    fn known_of(&self, place: usize, row: &Config) -> Option<u64>
+    /// What is known of a configuration for the program at a place.
+    fn known_of(&self, place: usize, config: &Config) -> Option<u64>
         requires { place < length self.now }
-        ensures { IsTotalAt self.now row.now place result }
+        ensures { IsTotalAt self.now config.now place result }
     {
-        self.lists[place].total_on(row)
+        self.lists[place].total_on(config)
     }
 
-    /// Learns of a row for the program at a place.
-    fn learn_of(&mut self, place: usize, row: &Config) -> Result<(), AllocError>
+    /// Learns of a configuration for the program at a place.
+    fn learn_of(&mut self, place: usize, config: &Config) -> Result<(), AllocError>
         requires { place < length self.old }
         ensures { self.new ≡ self.old }
     {
         let alloc = self.alloc.clone()?;
-        self.lists[place].learn(alloc, row)
+        self.lists[place].learn(alloc, config)
     }
 }

@@ -1,10 +1,9 @@
-//! The run of one program after another on one row after another, in the memory that the first one took.
+//! The run of one program after another on one configuration after another, in the memory that the first one took.
 
 ghost use Rattle.std.specs.Prelude.{◌≡◌, ◌≤◌, ◌^◌, max, OnErr, OnOk, IfSome};
 ghost use Rattle.tomex_rvexec.specs.Run.{EndsWithin};
 ghost use Rattle.tomex_cycle.specs.Run.{total};
-ghost use Rattle.tomex_cycle.specs.Seen.{is_end, seen, seen_after};
-ghost use Rattle.tomex_cycle.specs.declared.progress.Progress.{Progress};
+ghost use Rattle.tomex_cycle.specs.Seen.{before_first_cycle, is_end, seen, seen_after};
 
 use crate::spared::Spared;
 use std::alloc::{AllocError, Allocator};
@@ -18,7 +17,7 @@ use tomex_image::Image;
 #[derive(Drop)]
 pub(crate) struct Reused<'s, A: Allocator> {
     image: &'s Image<A>,
-    row: &'s Config,
+    config: &'s Config,
     /// There is one but for the moment in which it is handed over.
     machine: Option<Machine<'s, A>>,
     /// The run that is spared. The machine stands still meanwhile, at whatever it ran last.
@@ -26,83 +25,81 @@ pub(crate) struct Reused<'s, A: Allocator> {
 }
 
 impl<'s, A: Allocator> Model for Reused<'s, A> {
-    ghost use Rattle.tomex_cycle.specs.Seen.{Counted};
+    ghost use Rattle.tomex_cycle.specs.Seen.{Machine};
     ghost use Rattle.tomex_sweep.specs.Reused.{run_in, IsReused};
 
-    ghost Value = { Counted };
+    ghost Value = { Machine };
 
-    ghost view = { λ r. run_in r.image.now r.row.now r.machine r.spared };
+    ghost view = { λ r. run_in r.image.now r.config.now r.machine r.spared };
 
-    ghost invariant = { λ r. IsReused r.image.now r.row.now r.machine r.spared };
+    ghost invariant = { λ r. IsReused r.image.now r.config.now r.machine r.spared };
 }
 
 impl<'s, A: Allocator> Reused<'s, A> {
-    /// The run of this image on this row, before its first cycle: spared if its total is known, else by that machine.
+    /// The run of this image on this configuration, before its first cycle: spared if its total is known, else by
+    /// that machine.
     pub(crate) fn new(
         machine: Machine<'s, A>,
         image: &'s Image<A>,
-        row: &'s Config,
+        config: &'s Config,
         known: Option<u64>,
     ) -> Reused<'s, A>
-        requires fresh { seen machine
-            ≡ record { image = image.now; row = row.now; cycle = 0; last = Progress.Running } }
-        requires known { IfSome known (λ n. total row.now image.now ≡ n) }
-        ensures { seen result
-            ≡ record { image = image.now; row = row.now; cycle = 0; last = Progress.Running } }
+        requires fresh { seen machine ≡ before_first_cycle image.now config.now }
+        requires known { IfSome known (λ n. total config.now image.now ≡ n) }
+        ensures { seen result ≡ before_first_cycle image.now config.now }
     {
         Reused {
             image,
-            row,
+            config,
             machine: Some(machine),
             spared: Spared::of(known),
         }
     }
 
-    /// The run of this image on this row, before its first cycle: spared if its total is known, else by a machine
-    /// in the memory of the one at hand, if that is enough. If more is refused, the run at hand stays as it is.
+    /// The run of this image on this configuration, before its first cycle: spared if its total is known, else by a
+    /// machine in the memory of the one at hand, if that is enough. If more is refused, the run at hand stays as it is.
     pub(crate) fn restart(
         &mut self,
         image: &'s Image<A>,
-        row: &'s Config,
+        config: &'s Config,
         known: Option<u64>,
     ) -> Result<(), AllocError>
-        requires { IfSome known (λ n. total row.now image.now ≡ n) }
-        ensures start { OnOk result (seen self.new ≡ record { image = image.now; row = row.now; cycle = 0; last = Progress.Running }) }
+        requires { IfSome known (λ n. total config.now image.now ≡ n) }
+        ensures start { OnOk result (seen self.new ≡ before_first_cycle image.now config.now) }
         ensures err { OnErr result (self.new ≡ self.old) }
     {
         match known {
             Some(total) => {
-                self.spare(image, row, total);
+                self.spare(image, config, total);
                 Ok(())
             }
-            None => self.make(image, row),
+            None => self.make(image, config),
         }
     }
 
-    /// The run of this image on this row, which is spared since it has this total.
-    fn spare(&mut self, image: &'s Image<A>, row: &'s Config, known: u64)
-        requires { total row.now image.now ≡ known }
-        ensures { seen self.new
-            ≡ record { image = image.now; row = row.now; cycle = 0; last = Progress.Running } }
+    /// The run of this image on this configuration, which is spared since it has this total.
+    fn spare(&mut self, image: &'s Image<A>, config: &'s Config, known: u64)
+        requires { total config.now image.now ≡ known }
+        ensures { seen self.new ≡ before_first_cycle image.now config.now }
     {
         self.image = image;
-        self.row = row;
+        self.config = config;
         self.spared = Spared::of(Some(known));
     }
 
-    /// The run of this image on this row by a machine.
-    fn make(&mut self, image: &'s Image<A>, row: &'s Config) -> Result<(), AllocError>
-        ensures start { OnOk result (seen self.new ≡ record { image = image.now; row = row.now; cycle = 0; last = Progress.Running }) }
+    /// The run of this image on this configuration by a machine.
+    fn make(&mut self, image: &'s Image<A>, config: &'s Config) -> Result<(), AllocError>
+        ensures start { OnOk result (seen self.new ≡ before_first_cycle image.now config.now) }
         ensures err { OnErr result (self.new ≡ self.old) }
     {
         let Some(machine) = self.machine.take() else {
             unreachable!()
         };
-        match machine.restart(image, row) {
+        match machine.restart(image, config) {
             Ok(machine) => {
                 self.machine = Some(machine);
                 self.image = image;
-                self.row = row;
+                self.config = config;
                 self.spared = None;
                 Ok(())
             }
@@ -117,7 +114,7 @@ impl<'s, A: Allocator> Reused<'s, A> {
     pub(crate) fn advance(&mut self, to: u64)
         requires { to ≤ 2 ^ 40 }
         ensures { EndsWithin self.old.image 262144
-            → seen self.new ≡ seen_after self.old.image self.old.row (max self.old.cycle to) }
+            → seen self.new ≡ seen_after self.old.image self.old.config (max self.old.cycle to) }
     {
         if let Some(spared) = self.spared {
             self.spared = Some(spared.advanced(to));
@@ -143,7 +140,7 @@ impl<'s, A: Allocator> Reused<'s, A> {
 
     /// Whether the program has ended, and so has each of its instructions.
     pub(crate) fn ended(&self) -> bool
-        ensures { result ≡ is_end self.now.last }
+        ensures { result ≡ is_end self.now.status }
     {
         if let Some(spared) = self.spared {
             return !spared.running;

@@ -1,20 +1,21 @@
-//! The runs of rows, one after another, by one machine.
+//! The runs of configurations, one after another, by one machine.
 
 ghost use Rattle.std.specs.Prelude.{◌≡◌, ◌≤◌, length, IfOk, All, None};
 ghost use Rattle.tomex_sweep.specs.Known.{AreTotals};
-ghost use Rattle.tomex_sweep.specs.Program.{IsProgram};
+ghost use Rattle.tomex_study.specs.Program.{IsProgram};
 ghost use Rattle.tomex_sweep.specs.Cycles.{cycles_on};
 
-use crate::program::Program;
 use crate::row_run::RowRun;
 use crate::stop::Stop;
 use std::alloc::{AllocError, Allocator};
 use tomex_config::Config;
+use tomex_study::Program;
 
 /// No total is known.
 const NONE: [Option<u64>; 8] = [None; 8];
 
-/// What a worker keeps from row to row: the run of the last one, in whose memory the next one is run.
+/// What a worker keeps from one configuration to the next: the run of the last one, in whose memory the next one
+/// is run.
 #[derive(Drop)]
 pub(crate) struct Runs<'s, A: Allocator> {
     alloc: A,
@@ -22,7 +23,7 @@ pub(crate) struct Runs<'s, A: Allocator> {
 }
 
 impl<'s, A: Allocator + Clone> Runs<'s, A> {
-    /// Before the first row. Takes no memory.
+    /// Before the first configuration. Takes no memory.
     pub(crate) fn new(alloc: A) -> Runs<'s, A>
         ensures alloc { result.alloc ≡ alloc }
         ensures none { result.last ≡ None }
@@ -30,41 +31,41 @@ impl<'s, A: Allocator + Clone> Runs<'s, A> {
         Runs { alloc, last: None }
     }
 
-    /// The run of a row, before its first cycle, given what totals are known.
+    /// The run of a configuration, before its first cycle, given what totals are known.
     pub(crate) fn begin(
         &mut self,
         programs: &'s [Program<A>],
-        row: &'s Config,
+        config: &'s Config,
         totals: [Option<u64>; 8],
     ) -> Result<&mut RowRun<'s, A>, AllocError>
         requires some { 1 ≤ length programs.now }
         requires few { length programs.now ≤ 8 }
         requires ends { All IsProgram programs.now }
-        requires totals { AreTotals programs.now row.now totals }
+        requires totals { AreTotals programs.now config.now totals }
         ensures { IfOk result
-            (λ r. r.now ≡ record { programs = programs.now; row = row.now; reached = 0 }) }
+            (λ r. r.now ≡ record { programs = programs.now; config = config.now; reached = 0 }) }
     {
         match &mut self.last {
             Some(run) => {
-                run.restart(programs, row, totals)?;
+                run.restart(programs, config, totals)?;
                 Ok(run)
             }
-            last => Ok(last.insert(RowRun::new(self.alloc.clone()?, programs, row, totals)?)),
+            last => Ok(last.insert(RowRun::new(self.alloc.clone()?, programs, config, totals)?)),
         }
     }
 
-    /// The cycles of a row, on which each program is run to its end.
+    /// The cycles of a configuration, on which each program is run to its end.
     pub(crate) fn cycles(
         &mut self,
         programs: &'s [Program<A>],
-        row: &'s Config,
+        config: &'s Config,
     ) -> Result<u64, AllocError>
         requires some { 1 ≤ length programs.now }
         requires few { length programs.now ≤ 8 }
         requires ends { All IsProgram programs.now }
-        ensures { IfOk result (λ n. n ≡ cycles_on programs.now row.now) }
+        ensures { IfOk result (λ n. n ≡ cycles_on programs.now config.now) }
     {
-        let run = self.begin(programs, row, NONE)?;
+        let run = self.begin(programs, config, NONE)?;
         loop {
             match run.go_on()? {
                 Stop::Over(cycles) => return Ok(cycles),

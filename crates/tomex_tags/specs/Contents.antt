@@ -14,6 +14,7 @@ use Rattle.tomex_timing.specs.declared.tables.Field.TheVariants.{Value, Waits, U
 use Rattle.tomex_timing.specs.declared.tables.Tag.{Tag}
 use Rattle.tomex_tags.specs.declared.station.Station.{Station}
 use Rattle.tomex_tags.specs.Operands.{heard, is_there, value_in}
+use Rattle.tomex_tags.specs.Places.{tag_at_place}
 
 -- what stands in a place: none where it is free
 abbrev pub slot : List (Option Station) → ℕ → Option Station
@@ -84,6 +85,10 @@ busy_from tag s = record {
   k = s.k;
   a = a_from (is_memory_op s.instr.op) s.address s.instr.imm;
 }
+
+-- what the tables show of a place, none where it is free
+abbrev pub shown_at : List (Option Station) → ℕ → Option Busy
+shown_at slots place = option_map (busy_from (tag_at_place place)) (slot slots place)
 
 -- what an instruction's issue puts into its station
 abbrev pub issued : Instr → ℕ → Field → Field → Station

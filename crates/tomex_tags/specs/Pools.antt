@@ -1,7 +1,7 @@
 -- The stations of all pools.
-use Rattle.std.specs.Prelude.{ℕ, ◌+◌, ◌*◌, ◌/◌, ◌^◌, ◌<◌, ◌≡◌, Bool, List, [], ◌∷◌, ⊤, Option, Some, None, is_none, is_some, length, option_map, slice_set}
+use Rattle.std.specs.Prelude.{ℕ, ◌+◌, ◌*◌, ◌/◌, ◌^◌, ◌<◌, ◌≡◌, Bool, List, [], ◌∷◌, ⊤, Option, Some, None, is_none, is_some, length, option_map}
 use Rattle.std.specs.List.{flat_map}
-use Rattle.tomex_bus.specs.Sets.{has}
+use Rattle.tomex_sets.specs.Sets.{has}
 use Rattle.tomex_rvdec.specs.Operands.{pool_of}
 use Rattle.tomex_rvdec.specs.Parts.{place_of_pool}
 use Rattle.tomex_rvdec.specs.declared.pool.PoolId.{PoolId}

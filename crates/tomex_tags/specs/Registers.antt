@@ -1,17 +1,26 @@
 -- The registers and their status.
 use Rattle.std.specs.Prelude.{ℕ, Bool, if◌then◌else◌, List, Option, Some, None, slice_index, slice_index_or, slice_set}
+use Rattle.tomex_rvdec.specs.Operands.{sources_of}
+use Rattle.tomex_rvdec.specs.declared.instr.Instr.{Instr}
 use Rattle.tomex_rvexec.specs.Steps.{is_number}
 use Rattle.tomex_timing.specs.Tables.{field_from}
 use Rattle.tomex_timing.specs.declared.tables.Field.{Field}
 use Rattle.tomex_timing.specs.declared.tables.Field.TheVariants.{Unread}
 use Rattle.tomex_timing.specs.declared.tables.Tag.{Tag}
 use Rattle.tomex_tags.specs.declared.register_status.RegStatus.{RegStatus}
+use Rattle.tomex_tags.specs.declared.station.Station.{Station}
+use Rattle.tomex_tags.specs.Contents.{issued}
 use Rattle.tomex_tags.specs.Places.{place_at}
 
 -- what the registers give an operand: the value where Qi is empty, else the tag that Qi names
 abbrev pub operand_in : RegStatus → Option ℕ → Field
 operand_in registers None = Unread
 operand_in registers (Some r) = field_from (slice_index registers.values r) (slice_index_or registers.tags r None)
+
+-- what an instruction's issue puts into its station: its operands are read from these registers
+abbrev pub issued_from : RegStatus → Instr → ℕ → Station
+issued_from registers instr pc =
+    issued instr pc (operand_in registers (sources_of instr).j) (operand_in registers (sources_of instr).k)
 
 -- the register status once a destination waits for a station
 abbrev pub tags_with : List (Option Tag) → Option ℕ → Tag → List (Option Tag)

@@ -4,7 +4,7 @@ ghost use Rattle.std.specs.Prelude.{◌≡◌, ◌<◌, replicate, slice_index, 
 ghost use Rattle.tomex_tags.specs.Listeners.{IsListening};
 
 use crate::places::place;
-use tomex_bus::sets::with;
+use tomex_sets::with;
 use tomex_timing::Field;
 
 /// By place, the places of stations with an operand to come from it.

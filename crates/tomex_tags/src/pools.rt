@@ -1,11 +1,11 @@
 //! The reservation stations of all pools.
 
-ghost use Rattle.std.specs.Prelude.{ℕ, ◌≡◌, ◌<◌, ◌≤◌, ◌/◌, Some, None, IfSome, IfNone, IsSome, true, false, replicate, slice_index_or, slice_set, length, option_map};
+ghost use Rattle.std.specs.Prelude.{ℕ, ◌≡◌, ◌<◌, ◌≤◌, ◌/◌, Some, None, IfSome, IfNone, IsSome, true, false, replicate, slice_index_or, slice_set, length};
 ghost use Rattle.tomex_timing.specs.Recurrence.{IsLeast};
-ghost use Rattle.tomex_bus.specs.Sets.{IsWith, IsWithout, has};
+ghost use Rattle.tomex_sets.specs.Sets.{IsWith, IsWithout, has};
 ghost use Rattle.tomex_rvdec.specs.Operands.{dest_of, pool_of, unit_of, unit_of_pool};
-ghost use Rattle.tomex_tags.specs.Places.{pool_at, tag_at_place};
-ghost use Rattle.tomex_tags.specs.Contents.{busy_from, hears, lacks_address, slot, started, with_address};
+ghost use Rattle.tomex_tags.specs.Places.{pool_at};
+ghost use Rattle.tomex_tags.specs.Contents.{hears, lacks_address, shown_at, slot, started, with_address};
 ghost use Rattle.tomex_tags.specs.Listeners.{awaits};
 ghost use Rattle.tomex_tags.specs.Operands.{only};
 ghost use Rattle.tomex_tags.specs.Pools.{AreBusy, AreOwn, ChangesStation, HaveHeard, is_open};
@@ -17,9 +17,9 @@ use crate::station::Station;
 use crate::stations::Stations;
 use crate::wait_sets::WaitSets;
 use std::marker::Model;
-use tomex_bus::places::{in_group, least_absent};
-use tomex_bus::sets::{both, difference, lowest, with, without, without_lowest};
 use tomex_rvdec::{PoolId, UnitId};
+use tomex_sets::small::{in_group, least_absent};
+use tomex_sets::{both, difference, lowest, with, without, without_lowest};
 use tomex_timing::Busy;
 
 /// The stations of the six pools, by place.
@@ -204,7 +204,8 @@ impl Pools {
         requires own { pool_of station.instr.op ≡ Some (pool_at (place / 16)) }
         ensures slots { self.new.slots ≡ slice_set self.old.slots place (Some station) }
         ensures busy { IsWith self.old.busy place self.new.busy }
-        ensures issue_numbers { self.new.issue_numbers ≡ slice_set self.old.issue_numbers place issue_number }
+        ensures issue_numbers { self.new.issue_numbers
+            ≡ slice_set self.old.issue_numbers place issue_number }
         ensures dest { result ≡ dest_of station.instr }
         ensures register { IfSome result (λ r. r < 32) }
     {
@@ -244,8 +245,7 @@ impl Pools {
     /// What the tables show of each place.
     pub fn shown(&self) -> [Option<Busy>; 96]
         ensures count { length result ≡ 96 }
-        ensures each { (x : ℕ) → x < 96
-            → slice_index_or result x None ≡ option_map (busy_from (tag_at_place x)) (slot self.now.slots x) }
+        ensures each { (x : ℕ) → x < 96 → slice_index_or result x None ≡ shown_at self.now.slots x }
     {
         let mut busy: [Option<Busy>; 96] = [None; 96];
         for place in 0..96 {
@@ -255,7 +255,7 @@ impl Pools {
     }
 
     fn shown_at(&self, place: usize) -> Option<Busy>
-        ensures { result ≡ option_map (busy_from (tag_at_place place)) (slot self.now.slots place) }
+        ensures { result ≡ shown_at self.now.slots place }
     {
         match self.at(place) {
             Some(station) => Some(station.shown(tag(place))),

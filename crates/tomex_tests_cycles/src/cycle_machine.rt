@@ -29,13 +29,13 @@ fn holds(ok: bool, what: &'static str) -> Result<(), Fail> {
     if ok { Ok(()) } else { Err(what.into()) }
 }
 
-/// A row of one unit a kind but for the alu units, of latency 1 but for mul and mem.
-fn row_of(stations: [u8; 6], alu: u8, mul: u8, mem: u8, buses: u8) -> Result<Config, Fail> {
-    wide_row(stations, [alu, mul, mem, buses], 1)
+/// A configuration of one unit a kind but for the alu units, of latency 1 but for mul and mem.
+fn config_of(stations: [u8; 6], alu: u8, mul: u8, mem: u8, buses: u8) -> Result<Config, Fail> {
+    wide_config(stations, [alu, mul, mem, buses], 1)
 }
 
 /// The same with an issue width.
-fn wide_row(stations: [u8; 6], parts: [u8; 4], width: u8) -> Result<Config, Fail> {
+fn wide_config(stations: [u8; 6], parts: [u8; 4], width: u8) -> Result<Config, Fail> {
     let [alu, mul, mem, buses] = parts;
     let units = [
         unit(alu, 1),
@@ -44,7 +44,7 @@ fn wide_row(stations: [u8; 6], parts: [u8; 4], width: u8) -> Result<Config, Fail
         unit(1, mem),
         unit(1, 1),
     ];
-    Ok(Config::new(stations, units, buses, width).ok_or("no row")?)
+    Ok(Config::new(stations, units, buses, width).ok_or("no configuration")?)
 }
 
 fn tick<A: Allocator>(machine: &mut Machine<A>) -> Progress {
@@ -136,21 +136,21 @@ const TWO_ALU: [u8; 6] = [2, 1, 1, 1, 1, 1];
 fn comes_to(
     rt: &HostRuntime,
     words: &[u32],
-    row: &Config,
+    config: &Config,
     total: u32,
     pc: u32,
     register: usize,
     value: u32,
 ) -> Result<(), Fail> {
     let image = image_at_0(rt, words)?;
-    let mut leaping = Machine::new(rt.alloc(), &image, row)?;
+    let mut leaping = Machine::new(rt.alloc(), &image, config)?;
     let answer = leaping.advance(u64::from(total) + 9);
     holds(matches!(answer, Progress::Ended), "a leap doesn't end")?;
     holds(
         leaping.cycle() == u64::from(total),
         "a leap to another cycle",
     )?;
-    let mut machine = Machine::new(rt.alloc(), &image, row)?;
+    let mut machine = Machine::new(rt.alloc(), &image, config)?;
     run_to(&mut machine, total)?;
     let end = end_of(machine)?;
     holds(end.pc == pc, "another pc")?;
@@ -190,8 +190,8 @@ fn worked_runs(rt: HostRuntime) -> Result<(), Fail> {
         (LOOP.as_slice(), [1; 6], [1, 1, 1, 1], 2000, 12, 1, 0),
         (WAITED_FOR.as_slice(), [1; 6], [1, 64, 1, 1], 68, 8, 4, 0),
     ] {
-        let row = row_of(stations, alu, mul, mem, buses)?;
-        comes_to(&rt, words, &row, total, pc, register, value)?;
+        let config = config_of(stations, alu, mul, mem, buses)?;
+        comes_to(&rt, words, &config, total, pc, register, value)?;
     }
     Ok(())
 }
@@ -209,8 +209,8 @@ fn wide_runs(rt: HostRuntime) -> Result<(), Fail> {
         (NOTHING.as_slice(), [1; 6], [1, 1, 1, 1], 2, 2, 4, 0, 0),
         (EBREAK.as_slice(), [1; 6], [1, 1, 1, 1], 4, 1, 0, 2, 65536),
     ] {
-        let row = wide_row(stations, parts, width)?;
-        comes_to(&rt, words, &row, total, pc, register, value)?;
+        let config = wide_config(stations, parts, width)?;
+        comes_to(&rt, words, &config, total, pc, register, value)?;
     }
     Ok(())
 }
@@ -219,8 +219,8 @@ fn wide_runs(rt: HostRuntime) -> Result<(), Fail> {
 #[test]
 fn a_long_wait_is_skipped(rt: HostRuntime) -> Result<(), Fail> {
     let image = image_at_0(&rt, WAITED_FOR.as_slice())?;
-    let row = row_of([1; 6], 1, 64, 1, 1)?;
-    let mut machine = Machine::new(rt.alloc(), &image, &row)?;
+    let config = config_of([1; 6], 1, 64, 1, 1)?;
+    let mut machine = Machine::new(rt.alloc(), &image, &config)?;
     assert!(rt; machine.worked() == 0);
     assert!(rt; matches!(machine.advance(1000), Progress::Ended));
     assert!(rt; machine.cycle() == 68);
@@ -267,9 +267,9 @@ fn show(
 }
 
 /// The tables of a program after a cycle.
-fn tables_after(rt: &HostRuntime, words: &[u32], row: &Config, cycle: u32) -> Result<Tables, Fail> {
+fn tables_after(rt: &HostRuntime, words: &[u32], config: &Config, cycle: u32) -> Result<Tables, Fail> {
     let image = image_at_0(rt, words)?;
-    let mut machine = Machine::new(rt.alloc(), &image, row)?;
+    let mut machine = Machine::new(rt.alloc(), &image, config)?;
     for _ in 0..cycle {
         tick(&mut machine);
     }
@@ -365,8 +365,8 @@ fn worked_tables(rt: HostRuntime) -> Result<(), Fail> {
             status: &[(6, mul)],
         },
     ] {
-        let row = row_of(case.pools, 1, case.mul, case.mem, 1)?;
-        let tables = tables_after(&rt, case.words, &row, case.cycle)?;
+        let config = config_of(case.pools, 1, case.mul, case.mem, 1)?;
+        let tables = tables_after(&rt, case.words, &config, case.cycle)?;
         show(&tables, case.stations, case.status)?;
     }
     Ok(())
@@ -378,8 +378,8 @@ fn tables_of_a_wide_cycle(rt: HostRuntime) -> Result<(), Fail> {
     use Field::{Unread, Value, Waits};
     let alu = [tag(PoolId::Alu, 0), tag(PoolId::Alu, 1)];
     let mul = tag(PoolId::Mul, 0);
-    let row = wide_row(TWO_ALU, [2, 3, 1, 2], 4)?;
-    let tables = tables_after(&rt, &PRODUCT, &row, 1)?;
+    let config = wide_config(TWO_ALU, [2, 3, 1, 2], 4)?;
+    let tables = tables_after(&rt, &PRODUCT, &config, 1)?;
     let stations = [
         (alu[0], PRODUCT[0], Value(0), Unread, None),
         (alu[1], PRODUCT[1], Value(0), Unread, None),
@@ -396,7 +396,7 @@ fn tables_of_a_wide_cycle(rt: HostRuntime) -> Result<(), Fail> {
 #[test]
 fn a_jump_to_itself_runs_on(rt: HostRuntime) -> Result<(), Fail> {
     let image = image_at_0(&rt, [0x0000006f].as_slice())?;
-    let mut machine = Machine::new(rt.alloc(), &image, &row_of([1; 6], 1, 1, 1, 1)?)?;
+    let mut machine = Machine::new(rt.alloc(), &image, &config_of([1; 6], 1, 1, 1, 1)?)?;
     for _ in 0..1000001 {
         assert!(rt; matches!(tick(&mut machine), Progress::Running));
     }

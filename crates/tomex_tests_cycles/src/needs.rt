@@ -17,11 +17,11 @@ fn unit(latency: u8) -> UnitOption {
     }
 }
 
-/// A row of one unit a kind, whose div and bru units have latency 1.
-fn row_of(stations: [u8; 6], latencies: [u8; 3], buses: u8) -> Result<Config, Fail> {
+/// A configuration of one unit a kind, whose div and bru units have latency 1.
+fn config_of(stations: [u8; 6], latencies: [u8; 3], buses: u8) -> Result<Config, Fail> {
     let [alu, mul, mem] = latencies;
     let units = [unit(alu), unit(mul), unit(1), unit(mem), unit(1)];
-    Ok(Config::new(stations, units, buses, 1).ok_or("no row")?)
+    Ok(Config::new(stations, units, buses, 1).ok_or("no configuration")?)
 }
 
 /// The trace of a program at address 0.
@@ -30,37 +30,37 @@ fn trace_of(alloc: Global, words: &[u32]) -> Result<Vec<Step>, Fail> {
     Ok(trace(alloc, &image, 1000).map_err(|_| "no trace")?)
 }
 
-/// What a program's run on a row lacks.
-fn needs_of(alloc: Global, words: &[u32], row: &Config) -> Result<Needs, Fail> {
+/// What a program's run on a configuration lacks.
+fn needs_of(alloc: Global, words: &[u32], config: &Config) -> Result<Needs, Fail> {
     let steps = trace_of(alloc, words)?;
     if steps.len() > 1000 {
         return Err("a long trace".into());
     }
-    Ok(needs(alloc, steps.as_slice(), row)?)
+    Ok(needs(alloc, steps.as_slice(), config)?)
 }
 
 /// How long each of its steps waits.
-fn waits_of(alloc: Global, words: &[u32], row: &Config) -> Result<Vec<Waits>, Fail> {
+fn waits_of(alloc: Global, words: &[u32], config: &Config) -> Result<Vec<Waits>, Fail> {
     let steps = trace_of(alloc, words)?;
     if steps.len() > 1000 {
         return Err("a long trace".into());
     }
-    Ok(waits(alloc, steps.as_slice(), row)?)
+    Ok(waits(alloc, steps.as_slice(), config)?)
 }
 
 /// The count, peak and stalls of each part, in the order of reports.
 type Table = [(u64, u64, u64); 13];
 
-/// Whether the needs on a row are those of a table, and branch, operand, address, memory, drain and total
+/// Whether the needs on a configuration are those of a table, and branch, operand, address, memory, drain and total
 /// these.
-fn are_needs(needs: &Needs, row: &Config, table: &Table, rest: &[u64; 6]) -> bool {
+fn are_needs(needs: &Needs, config: &Config, table: &Table, rest: &[u64; 6]) -> bool {
     let mut same = true;
     for (part, (count, peak, stalls)) in Part::ALL.iter().zip(table.iter()) {
         let need = Need {
             peak: *peak,
             stalls: *stalls,
         };
-        same = same && part.count(row) == *count && needs.need(*part) == need;
+        same = same && part.count(config) == *count && needs.need(*part) == need;
     }
     same && [
         needs.branch,
@@ -123,10 +123,10 @@ static PRODUCT_WAITS: [[u64; 8]; 4] = [
 
 #[test]
 fn a_product_waits_for_its_last_factor(rt: HostRuntime) -> Result<(), Fail> {
-    let row = row_of([2, 1, 1, 1, 1, 1], [1, 3, 1], 1)?;
-    let needs = needs_of(rt.alloc(), PRODUCT.as_slice(), &row)?;
-    assert!(rt; are_needs(&needs, &row, &PRODUCT_NEEDS, &[0, 1, 0, 0, 4, 8]));
-    let waits = waits_of(rt.alloc(), PRODUCT.as_slice(), &row)?;
+    let config = config_of([2, 1, 1, 1, 1, 1], [1, 3, 1], 1)?;
+    let needs = needs_of(rt.alloc(), PRODUCT.as_slice(), &config)?;
+    assert!(rt; are_needs(&needs, &config, &PRODUCT_NEEDS, &[0, 1, 0, 0, 4, 8]));
+    let waits = waits_of(rt.alloc(), PRODUCT.as_slice(), &config)?;
     assert!(rt; are_waits(waits.as_slice(), PRODUCT_WAITS.as_slice()));
     Ok(())
 }
@@ -164,10 +164,10 @@ static FOLLOWED_WAITS: [[u64; 8]; 7] = [
 
 #[test]
 fn the_followed_program_waits_for_its_load(rt: HostRuntime) -> Result<(), Fail> {
-    let row = row_of([2, 1, 1, 1, 1, 1], [1, 5, 2], 1)?;
-    let needs = needs_of(rt.alloc(), FOLLOWED.as_slice(), &row)?;
-    assert!(rt; are_needs(&needs, &row, &FOLLOWED_NEEDS, &[0, 6, 2, 1, 6, 13]));
-    let waits = waits_of(rt.alloc(), FOLLOWED.as_slice(), &row)?;
+    let config = config_of([2, 1, 1, 1, 1, 1], [1, 5, 2], 1)?;
+    let needs = needs_of(rt.alloc(), FOLLOWED.as_slice(), &config)?;
+    assert!(rt; are_needs(&needs, &config, &FOLLOWED_NEEDS, &[0, 6, 2, 1, 6, 13]));
+    let waits = waits_of(rt.alloc(), FOLLOWED.as_slice(), &config)?;
     assert!(rt; are_waits(waits.as_slice(), FOLLOWED_WAITS.as_slice()));
     Ok(())
 }
@@ -177,8 +177,8 @@ static STORE_BEFORE_LOAD: [u32; 5] = [0x020181b3, 0x00400233, 0x10402423, 0x1000
 
 #[test]
 fn a_second_bus_may_cost_a_cycle(rt: HostRuntime) -> Result<(), Fail> {
-    let one_bus = row_of([1; 6], [2, 3, 2], 1)?;
-    let two_buses = row_of([1; 6], [2, 3, 2], 2)?;
+    let one_bus = config_of([1; 6], [2, 3, 2], 1)?;
+    let two_buses = config_of([1; 6], [2, 3, 2], 2)?;
     let one = needs_of(rt.alloc(), STORE_BEFORE_LOAD.as_slice(), &one_bus)?;
     let two = needs_of(rt.alloc(), STORE_BEFORE_LOAD.as_slice(), &two_buses)?;
     // The sum waits for the bus, so the store takes the unit after the load.
@@ -187,7 +187,7 @@ fn a_second_bus_may_cost_a_cycle(rt: HostRuntime) -> Result<(), Fail> {
     // With two it takes it before the load, which waits for it.
     assert!(rt; two.total == 9 && two.buses == Need { peak: 2, stalls: 0 });
     assert!(rt; two.operand == 2 && two.need(Part::ALL[9]) == Need { peak: 1, stalls: 1 });
-    // Either row's needs say that the other row may have other times.
+    // Either configuration's needs say that the other configuration may have other times.
     assert!(rt; !one.suffice(&one_bus, &two_buses) && !two.suffice(&two_buses, &one_bus));
     Ok(())
 }
@@ -231,44 +231,44 @@ static EACH_CAUSE_WAITS: [[u64; 8]; 11] = [
 
 #[test]
 fn each_cause_is_charged(rt: HostRuntime) -> Result<(), Fail> {
-    let row = row_of([1, 2, 1, 1, 1, 1], [1, 2, 2], 1)?;
-    let needs = needs_of(rt.alloc(), EACH_CAUSE.as_slice(), &row)?;
-    assert!(rt; are_needs(&needs, &row, &EACH_CAUSE_NEEDS, &[2, 5, 2, 1, 2, 20]));
-    let waits = waits_of(rt.alloc(), EACH_CAUSE.as_slice(), &row)?;
+    let config = config_of([1, 2, 1, 1, 1, 1], [1, 2, 2], 1)?;
+    let needs = needs_of(rt.alloc(), EACH_CAUSE.as_slice(), &config)?;
+    assert!(rt; are_needs(&needs, &config, &EACH_CAUSE_NEEDS, &[2, 5, 2, 1, 2, 20]));
+    let waits = waits_of(rt.alloc(), EACH_CAUSE.as_slice(), &config)?;
     assert!(rt; are_waits(waits.as_slice(), EACH_CAUSE_WAITS.as_slice()));
     Ok(())
 }
 
 #[test]
 fn parts_without_stalls_may_be_fewer(rt: HostRuntime) -> Result<(), Fail> {
-    let large = row_of([16; 6], [1, 5, 2], 8)?;
+    let large = config_of([16; 6], [1, 5, 2], 8)?;
     let needs = needs_of(rt.alloc(), FOLLOWED.as_slice(), &large)?;
     // What doesn't divide takes no div station and no div unit.
     assert!(rt; needs.need(Part::ALL[2]) == Need { peak: 0, stalls: 0 });
     assert!(rt; needs.need(Part::ALL[8]) == Need { peak: 0, stalls: 0 });
     // Its peaks are enough, and one alu station less isn't.
-    let enough = row_of([2, 1, 1, 1, 1, 1], [1, 5, 2], 2)?;
-    let fewer = row_of([1, 1, 1, 1, 1, 1], [1, 5, 2], 2)?;
+    let enough = config_of([2, 1, 1, 1, 1, 1], [1, 5, 2], 2)?;
+    let fewer = config_of([1, 1, 1, 1, 1, 1], [1, 5, 2], 2)?;
     assert!(rt; needs.suffice(&large, &enough) && !needs.suffice(&large, &fewer));
     Ok(())
 }
 
 #[test]
 fn no_steps_lack_nothing(rt: HostRuntime) -> Result<(), Fail> {
-    let row = row_of([1; 6], [1; 3], 1)?;
+    let config = config_of([1; 6], [1; 3], 1)?;
     let none: Vec<Step> = Vec::new(rt.alloc());
-    let needs = needs(rt.alloc(), none.as_slice(), &row)?;
+    let needs = needs(rt.alloc(), none.as_slice(), &config)?;
     assert!(rt; needs.total == 0 && needs.drain() == 0);
-    let waits = waits(rt.alloc(), none.as_slice(), &row)?;
+    let waits = waits(rt.alloc(), none.as_slice(), &config)?;
     assert!(rt; waits.is_empty());
     Ok(())
 }
 
-/// Evaluates the product's run on a row: its needs, or the waits of its steps.
+/// Evaluates the product's run on a configuration: its needs, or the waits of its steps.
 #[derive(Clone, Copy)]
 struct Evaluation<'a> {
     steps: &'a [Step],
-    row: Config,
+    config: Config,
     by_step: bool,
 }
 
@@ -278,12 +278,12 @@ impl<'a> Attempt for Evaluation<'a> {
             return Ok(Try::Wrong);
         }
         if self.by_step {
-            match waits(heap, self.steps, &self.row) {
+            match waits(heap, self.steps, &self.config) {
                 Ok(waits) => Ok(Try::right_if(waits.len() == 4)),
                 Err(AllocError) => Ok(Try::Refused),
             }
         } else {
-            match needs(heap, self.steps, &self.row) {
+            match needs(heap, self.steps, &self.config) {
                 Ok(needs) => Ok(Try::right_if(needs.total == 8)),
                 Err(AllocError) => Ok(Try::Refused),
             }
@@ -294,12 +294,12 @@ impl<'a> Attempt for Evaluation<'a> {
 #[test]
 fn memory_is_refused(rt: HostRuntime) -> Result<(), Fail> {
     let other = rt.alloc();
-    let row = row_of([2, 1, 1, 1, 1, 1], [1, 3, 1], 1)?;
+    let config = config_of([2, 1, 1, 1, 1, 1], [1, 3, 1], 1)?;
     let steps = trace_of(other, PRODUCT.as_slice())?;
     for by_step in [false, true] {
         let evaluation = Evaluation {
             steps: steps.as_slice(),
-            row,
+            config,
             by_step,
         };
         assert!(rt; matches!(refusals(other, &evaluation)?, Some(granted) if granted > 0));

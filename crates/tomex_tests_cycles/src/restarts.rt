@@ -28,15 +28,15 @@ fn image_of(other: Global, words: &[u32], size: u32) -> Result<Image<Heap>, Fail
     Ok(load(ample(other)?, bytes.as_slice(), window)?)
 }
 
-/// A row with so many alu stations and a multiplier of this latency.
-fn row_of(stations: u8, latency: u8) -> Result<Config, Fail> {
+/// A configuration with so many alu stations and a multiplier of this latency.
+fn config_of(stations: u8, latency: u8) -> Result<Config, Fail> {
     let plain = UnitOption {
         units: 1,
         latency: 1,
         price: 0,
     };
     let units = [plain, UnitOption { latency, ..plain }, plain, plain, plain];
-    Ok(Config::new([stations, 1, 1, 1, 1, 1], units, 1, 1).ok_or("no row")?)
+    Ok(Config::new([stations, 1, 1, 1, 1, 1], units, 1, 1).ok_or("no configuration")?)
 }
 
 /// Whether two machines show the same.
@@ -83,10 +83,10 @@ fn machine_of<'a>(
     other: Global,
     granted: u64,
     image: &'a Image<Heap>,
-    row: &Config,
+    config: &Config,
     cut: u32,
 ) -> Result<Machine<'a, Heap>, AllocError> {
-    let mut machine = Machine::new(heap_of(other, granted)?, image, row)?;
+    let mut machine = Machine::new(heap_of(other, granted)?, image, config)?;
     advance(&mut machine, cut);
     Ok(machine)
 }
@@ -98,7 +98,7 @@ fn is_restarted<'a>(
     second: &'a Image<Heap>,
     cut: u32,
 ) -> Result<bool, Fail> {
-    let (before, after) = (row_of(2, 9)?, row_of(1, 3)?);
+    let (before, after) = (config_of(2, 9)?, config_of(1, 3)?);
     let old = machine_of(other, 2, first, &before, cut)?;
     let Ok(machine) = old.restart(second, &after) else {
         return Ok(false);
@@ -130,7 +130,7 @@ fn refuses<'a>(
     large: &'a Image<Heap>,
     cut: u32,
 ) -> Result<bool, Fail> {
-    let (before, after) = (row_of(2, 9)?, row_of(1, 3)?);
+    let (before, after) = (config_of(2, 9)?, config_of(1, 3)?);
     let old = machine_of(other, 1, first, &before, cut)?;
     let Err(machine) = old.restart(large, &after) else {
         return Ok(false);
@@ -141,7 +141,7 @@ fn refuses<'a>(
 
 /// Whether a machine takes an image in the memory that it has.
 fn takes<'a>(other: Global, first: &'a Image<Heap>, second: &'a Image<Heap>) -> Result<bool, Fail> {
-    let (before, after) = (row_of(2, 9)?, row_of(1, 3)?);
+    let (before, after) = (config_of(2, 9)?, config_of(1, 3)?);
     let machine = machine_of(other, 1, first, &before, 0)?;
     Ok(machine.restart(second, &after).is_ok())
 }

@@ -31,8 +31,8 @@ fn a_loop_takes_its_cycles(rt: HostRuntime) -> Result<(), Fail> {
     assert!(rt; steps.len() == 1000);
     for (latency, cycles) in [(1, 2000), (10, 6500)] {
         let units = [unit(latency), unit(1), unit(1), unit(1), unit(1)];
-        let row = Config::new([1; 6], units, 1, 1).ok_or("no row")?;
-        let timed = times(rt.alloc(), steps.as_slice(), &row)?;
+        let config = Config::new([1; 6], units, 1, 1).ok_or("no configuration")?;
+        let timed = times(rt.alloc(), steps.as_slice(), &config)?;
         assert!(rt; timed.len() == 1000);
         assert!(rt; total(timed.as_slice()) == cycles);
     }
@@ -64,8 +64,8 @@ fn loads_of_one_byte_do_not_wait_for_each_other(rt: HostRuntime) -> Result<(), F
         (1, load_times([8, 9, 10, 11, 12], 0), 12),
     ] {
         let units = [unit(1), unit(1), unit(1), unit(2), unit(1)];
-        let row = Config::new([1, 1, 1, stations, 1, 1], units, 1, 1).ok_or("no row")?;
-        let timed = times(rt.alloc(), steps.as_slice(), &row)?;
+        let config = Config::new([1, 1, 1, stations, 1, 1], units, 1, 1).ok_or("no configuration")?;
+        let timed = times(rt.alloc(), steps.as_slice(), &config)?;
         assert!(rt; timed.len() == 4);
         assert!(rt; timed[1] == first);
         assert!(rt; timed[2] == second);
@@ -82,8 +82,8 @@ fn ends_behind_a_long_product(rt: HostRuntime) -> Result<(), Fail> {
     let steps = trace_of(&rt, WAITED_FOR.as_slice())?;
     assert!(rt; steps.len() == 3);
     let units = [unit(1), unit(64), unit(1), unit(1), unit(1)];
-    let row = Config::new([1; 6], units, 1, 1).ok_or("no row")?;
-    let timed = times(rt.alloc(), steps.as_slice(), &row)?;
+    let config = Config::new([1; 6], units, 1, 1).ok_or("no configuration")?;
+    let timed = times(rt.alloc(), steps.as_slice(), &config)?;
     assert!(rt; timed.len() == 3);
     assert!(rt; timed[0].end == 66);
     assert!(rt; timed[1].end == 68);
@@ -94,9 +94,9 @@ fn ends_behind_a_long_product(rt: HostRuntime) -> Result<(), Fail> {
 
 #[test]
 fn no_steps_take_no_cycles(rt: HostRuntime) -> Result<(), Fail> {
-    let row = Config::new([1; 6], [unit(1); 5], 1, 1).ok_or("no row")?;
+    let config = Config::new([1; 6], [unit(1); 5], 1, 1).ok_or("no configuration")?;
     let steps: Vec<Step> = Vec::new(rt.alloc());
-    let timed = times(rt.alloc(), steps.as_slice(), &row)?;
+    let timed = times(rt.alloc(), steps.as_slice(), &config)?;
     assert!(rt; total(timed.as_slice()) == 0);
     Ok(())
 }
@@ -126,12 +126,12 @@ fn issues_and_ends(
     let [stations, units, buses, width] = machine;
     let alus = UnitOption { units, ..unit(1) };
     let kinds = [alus, unit(3), unit(1), unit(1), unit(1)];
-    let row = Config::new([stations, 1, 1, 1, 1, 1], kinds, buses, width).ok_or("no row")?;
+    let config = Config::new([stations, 1, 1, 1, 1, 1], kinds, buses, width).ok_or("no configuration")?;
     let steps = trace_of(rt, words)?;
     if steps.len() != 4 {
         return Err("another number of steps")?;
     }
-    let timed = times(rt.alloc(), steps.as_slice(), &row)?;
+    let timed = times(rt.alloc(), steps.as_slice(), &config)?;
     let mut seen = Vec::new(rt.alloc());
     for at in &timed {
         seen.push((at.issue, at.end))?;

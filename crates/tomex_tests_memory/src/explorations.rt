@@ -70,8 +70,7 @@ fn report_in<R: Threads + Wait + Sync>(
     other: Global,
     study: &Study<Heap>,
 ) -> Result<Try, AllocError> {
-    // Read for what the study's type keeps, which the proof needs.
-    let _rows = study.rows();
+    study.keeps_limits();
     let Ok(outcome) = explore(rt, ample(other)?, study, 1, &OpenGate) else {
         return Ok(Try::Wrong);
     };

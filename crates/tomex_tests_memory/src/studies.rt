@@ -52,7 +52,7 @@ impl Attempt for ReadStudy {
     }
 }
 
-/// Prints the times of a study's program on its second row.
+/// Prints the times of a study's program on its second configuration.
 #[derive(Clone, Copy)]
 struct TimesReport {
     other: Global,
@@ -63,10 +63,10 @@ impl Attempt for TimesReport {
         let Ok(study) = study_in(ample(self.other)?, self.other)? else {
             return Ok(Try::Wrong);
         };
-        let (Some(row), Some(program)) = (study.row(1), study.program("mul")) else {
+        let (Some(config), Some(program)) = (study.config(1), study.program("mul")) else {
             return Ok(Try::Wrong);
         };
-        match times_report(heap, self.other, program, row) {
+        match times_report(heap, self.other, program, config) {
             Ok(text) => Ok(Try::right_if(text.as_slice() == PRODUCT_TIMES.as_bytes())),
             Err(AllocError) => Ok(Try::Refused),
         }
@@ -129,11 +129,11 @@ fn product_in(heap: Heap) -> Result<Image<Heap>, AllocError> {
     load(heap, ELF.as_slice(), window).map_err(|_| AllocError)
 }
 
-/// Makes a program of the product, and a study of it and a row.
+/// Makes a program of the product, and a study of it and a configuration.
 #[derive(Clone, Copy)]
 struct Parts {
     other: Global,
-    row: Config,
+    config: Config,
 }
 
 impl Attempt for Parts {
@@ -148,7 +148,7 @@ impl Attempt for Parts {
             Err(_) => return Ok(Try::Wrong),
         };
         let programs = vec![in other.clone()?; program]?;
-        let rows = vec![in other; self.row]?;
+        let rows = vec![in other; self.config]?;
         match Study::new(heap, programs, rows, Prices::new([1; 6], 1, 0), false) {
             Ok(study) => Ok(Try::right_if(study.costs() == [7].as_slice())),
             Err(AllocError) => Ok(Try::Refused),
@@ -156,11 +156,11 @@ impl Attempt for Parts {
     }
 }
 
-/// Evaluates the product's run on a row.
+/// Evaluates the product's run on a configuration.
 #[derive(Clone, Copy)]
 struct Times {
     other: Global,
-    row: Config,
+    config: Config,
 }
 
 impl Attempt for Times {
@@ -169,7 +169,7 @@ impl Attempt for Times {
         let Ok(steps) = trace(ample(self.other)?, &image, 4) else {
             return Ok(Try::Wrong);
         };
-        match times(heap, &steps, &self.row) {
+        match times(heap, &steps, &self.config) {
             Ok(times) => Ok(Try::right_if(times.len() == 4 && total(&times) == 8)),
             Err(AllocError) => Ok(Try::Refused),
         }
@@ -181,9 +181,9 @@ fn of_their_parts(rt: HostRuntime) -> Result<(), Fail> {
     let other = rt.alloc();
     let axes = axes_in(&ample(other)?)?;
     assert!(rt; matches!(refusals(other, &Grid { axes: &axes })?, Some(granted) if granted > 2));
-    let row = Config::new([1; 6], [PLAIN; 5], 1, 1).ok_or("no row")?;
+    let config = Config::new([1; 6], [PLAIN; 5], 1, 1).ok_or("no configuration")?;
     // The bytes that the run changes, its steps, the facts of each, and a cost.
-    assert!(rt; refusals(other, &Parts { other, row })? == Some(4));
-    assert!(rt; matches!(refusals(other, &Times { other, row })?, Some(granted) if granted > 1));
+    assert!(rt; refusals(other, &Parts { other, config })? == Some(4));
+    assert!(rt; matches!(refusals(other, &Times { other, config })?, Some(granted) if granted > 1));
     Ok(())
 }

@@ -10,10 +10,10 @@ use tomex_samples::programs::PRODUCT;
 use tomex_samples::studies::PRODUCT_AFTER_3;
 use tomex_samples::{Attempt, Heap, Try, ample, refusals};
 
-/// The machine of a program on a row, made in one memory, and the text of its tables after 3 cycles,
+/// The machine of a program on a configuration, made in one memory, and the text of its tables after 3 cycles,
 /// made in the other.
-fn text_after_3(machines: Heap, texts: Heap, image: &Image<Heap>, row: &Config) -> Try {
-    let Ok(mut machine) = Machine::new(machines, image, row) else {
+fn text_after_3(machines: Heap, texts: Heap, image: &Image<Heap>, config: &Config) -> Try {
+    let Ok(mut machine) = Machine::new(machines, image, config) else {
         return Try::Refused;
     };
     machine.advance(3);
@@ -28,12 +28,12 @@ fn text_after_3(machines: Heap, texts: Heap, image: &Image<Heap>, row: &Config) 
 struct NewMachine<'a> {
     other: Global,
     image: &'a Image<Heap>,
-    row: &'a Config,
+    config: &'a Config,
 }
 
 impl<'a> Attempt for NewMachine<'a> {
     fn attempt(&self, heap: Heap) -> Result<Try, AllocError> {
-        Ok(text_after_3(heap, ample(self.other)?, self.image, self.row))
+        Ok(text_after_3(heap, ample(self.other)?, self.image, self.config))
     }
 }
 
@@ -42,12 +42,12 @@ impl<'a> Attempt for NewMachine<'a> {
 struct TablesText<'a> {
     other: Global,
     image: &'a Image<Heap>,
-    row: &'a Config,
+    config: &'a Config,
 }
 
 impl<'a> Attempt for TablesText<'a> {
     fn attempt(&self, heap: Heap) -> Result<Try, AllocError> {
-        Ok(text_after_3(ample(self.other)?, heap, self.image, self.row))
+        Ok(text_after_3(ample(self.other)?, heap, self.image, self.config))
     }
 }
 
@@ -62,18 +62,18 @@ fn machines_and_tables(rt: HostRuntime) -> Result<(), Fail> {
         price: 0,
     };
     let units = [unit(1), unit(3), unit(1), unit(1), unit(1)];
-    let row = Config::new([2, 1, 1, 1, 1, 1], units, 1, 1).ok_or("no row")?;
+    let config = Config::new([2, 1, 1, 1, 1, 1], units, 1, 1).ok_or("no configuration")?;
     let machine = NewMachine {
         other,
         image: &image,
-        row: &row,
+        config: &config,
     };
     // The bytes that the run changes; cycles and tables take none.
     assert!(rt; refusals(other, &machine)? == Some(1));
     let text = TablesText {
         other,
         image: &image,
-        row: &row,
+        config: &config,
     };
     // A text grows several times, how often is the library's affair.
     assert!(rt; matches!(refusals(other, &text)?, Some(granted) if granted > 0));

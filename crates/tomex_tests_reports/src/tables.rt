@@ -26,7 +26,7 @@ const STORED: [u32; 5] = [0x10000413, 0x30000093, 0x00142023, 0x00140103, 0x0010
 const BELOW: [u32; 3] = [0x10000413, 0xfff40103, 0x00100073];
 
 /// A row of one unit a kind and one bus.
-fn row_of(alu_stations: u8, mul_latency: u8, mem_latency: u8) -> Result<Config, Fail> {
+fn config_of(alu_stations: u8, mul_latency: u8, mem_latency: u8) -> Result<Config, Fail> {
     let unit = |latency: u8| UnitOption {
         units: 1,
         latency,
@@ -39,18 +39,18 @@ fn row_of(alu_stations: u8, mul_latency: u8, mem_latency: u8) -> Result<Config, 
         unit(mem_latency),
         unit(1),
     ];
-    Ok(Config::new([alu_stations, 1, 1, 1, 1, 1], units, 1, 1).ok_or("no row")?)
+    Ok(Config::new([alu_stations, 1, 1, 1, 1, 1], units, 1, 1).ok_or("no configuration")?)
 }
 
 /// The text of the tables of a program at address 0 after a cycle.
-fn text_after(rt: &HostRuntime, words: &[u32], row: &Config, cycle: u32) -> Result<Vec<u8>, Fail> {
+fn text_after(rt: &HostRuntime, words: &[u32], config: &Config, cycle: u32) -> Result<Vec<u8>, Fail> {
     let mut bytes = Vec::new(rt.alloc());
     for word in words {
         bytes.extend_from_slice(&word.to_le_bytes())?;
     }
     let window = Window::new(0, 65536).ok_or("no window")?;
     let image = load(rt.alloc(), bytes.as_slice(), window)?;
-    let mut machine = Machine::new(rt.alloc(), &image, row)?;
+    let mut machine = Machine::new(rt.alloc(), &image, config)?;
     machine.advance(u64::from(cycle));
     Ok(tables_text(rt.alloc(), &machine.tables())?)
 }
@@ -125,7 +125,7 @@ fn worked_tables(rt: HostRuntime) -> Result<(), Fail> {
              x8 Qi=alu0\n",
         ),
     ] {
-        let text = text_after(&rt, words, &row_of(alu, mul, mem)?, cycle)?;
+        let text = text_after(&rt, words, &config_of(alu, mul, mem)?, cycle)?;
         assert!(rt; text.as_slice() == wanted.as_bytes());
     }
     Ok(())

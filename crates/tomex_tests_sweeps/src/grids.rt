@@ -11,7 +11,7 @@ const PLAIN: UnitOption = UnitOption {
     price: 0,
 };
 
-/// One value for each part: a single plain row.
+/// One value for each part: a single plain configuration.
 fn single(alloc: Global) -> Result<Axes, AllocError> {
     Ok(Axes {
         alu: vec![in alloc; 1]?,
@@ -57,8 +57,8 @@ fn longest(alloc: Global, list: u32) -> Result<Axes, AllocError> {
     Ok(axes)
 }
 
-/// A plain row but for these parts.
-fn row(alu: u8, mul: u8, div: u8, buses: u8) -> Option<Config> {
+/// A plain configuration but for these parts.
+fn config(alu: u8, mul: u8, div: u8, buses: u8) -> Option<Config> {
     Config::new([alu, mul, div, 1, 1, 1], [PLAIN; 5], buses, 1)
 }
 
@@ -75,8 +75,8 @@ fn cost_these(
     costs: [u64; 2],
 ) -> Result<bool, GridError> {
     let rows = grid(alloc, axes)?;
-    for (row, wanted) in rows.iter().zip(costs) {
-        if cost(row, prices) != wanted {
+    for (config, wanted) in rows.iter().zip(costs) {
+        if cost(config, prices) != wanted {
             return Ok(false);
         }
     }
@@ -93,12 +93,12 @@ fn most_rows_and_one_bus_more(rt: HostRuntime) -> Result<(), Fail> {
     let rows = grid(rt.alloc(), &axes)?;
     assert!(rt; rows.len() == 16_384);
     for (place, wanted) in [
-        (0, row(1, 1, 1, 1)),
-        (3, row(1, 1, 1, 4)),
-        (4, row(1, 1, 2, 1)),
-        (64, row(1, 2, 1, 1)),
-        (1_024, row(2, 1, 1, 1)),
-        (16_383, row(16, 16, 16, 4)),
+        (0, config(1, 1, 1, 1)),
+        (3, config(1, 1, 1, 4)),
+        (4, config(1, 1, 2, 1)),
+        (64, config(1, 2, 1, 1)),
+        (1_024, config(2, 1, 1, 1)),
+        (16_383, config(16, 16, 16, 4)),
     ] {
         assert_eq!(rt; (place, rows.get(place).copied()), (place, wanted));
     }
@@ -112,7 +112,7 @@ fn each_list_at_its_longest(rt: HostRuntime) -> Result<(), Fail> {
     for list in 0..12 {
         let rows = grid(rt.alloc(), &longest(rt.alloc(), list)?)?;
         assert!(rt; rows.len() == 16_384);
-        assert!(rt; rows.iter().all(|made| Some(*made) == row(1, 1, 1, 1)));
+        assert!(rt; rows.iter().all(|made| Some(*made) == config(1, 1, 1, 1)));
     }
     Ok(())
 }
@@ -124,7 +124,7 @@ fn a_value_twice_gives_two_rows(rt: HostRuntime) -> Result<(), Fail> {
     let rows = grid(rt.alloc(), &axes)?;
     assert!(rt; rows.len() == 2);
     for made in &rows {
-        assert!(rt; Some(*made) == row(1, 2, 1, 1));
+        assert!(rt; Some(*made) == config(1, 2, 1, 1));
     }
     Ok(())
 }
@@ -158,8 +158,8 @@ fn widths_vary_the_fastest(rt: HostRuntime) -> Result<(), Fail> {
     axes.width = vec![in rt.alloc(); 4, 2]?;
     let rows = grid(rt.alloc(), &axes)?;
     assert!(rt; rows.len() == 4);
-    for (row, want) in rows.iter().zip([(1, 4), (1, 2), (3, 4), (3, 2)]) {
-        assert!(rt; (row.buses(), row.width()) == want);
+    for (config, want) in rows.iter().zip([(1, 4), (1, 2), (3, 4), (3, 2)]) {
+        assert!(rt; (config.buses(), config.width()) == want);
     }
     axes.width.push(5)?;
     assert!(rt; is_refused(rt.alloc(), &axes, GridError::OutOfRange));

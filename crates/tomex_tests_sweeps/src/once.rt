@@ -45,8 +45,8 @@ fn rows_of(other: Global, most_stations: u8, most_buses: u8) -> Result<Vec<Confi
     let mut configs = Vec::new(ample(other)?);
     for stations in 1..=most_stations {
         for buses in 1..=most_buses {
-            let row = Config::new([stations, 1, 1, 1, 1, 1], [plain; 5], buses, 1);
-            configs.push(row.ok_or("no row")?)?;
+            let config = Config::new([stations, 1, 1, 1, 1, 1], [plain; 5], buses, 1);
+            configs.push(config.ok_or("no configuration")?)?;
         }
     }
     Ok(configs)
@@ -74,14 +74,14 @@ fn study_of(
 /// The cycles of each row, by the recurrence over the in-order run.
 fn cycles_in(other: Global, study: &Study<Heap>) -> Result<Vec<u64>, Fail> {
     let mut cycles = Vec::new(other);
-    for row in study.rows() {
+    for config in study.rows() {
         let mut sum = 0u64;
         for program in study.programs() {
             let steps = trace(ample(other)?, program.image(), 10_000).map_err(|_| "no trace")?;
             if steps.len() > 10_000 {
                 return Err("a long trace")?;
             }
-            let timed = times(other, steps.as_slice(), row)?;
+            let timed = times(other, steps.as_slice(), config)?;
             sum = sum.wrapping_add(total(timed.as_slice()));
         }
         cycles.push(sum)?;

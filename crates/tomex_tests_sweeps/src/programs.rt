@@ -76,8 +76,8 @@ fn costs_of_two_rows(rt: HostRuntime) -> Result<(), Fail> {
         plain,
         plain,
     ];
-    let two = Config::new([2, 1, 1, 1, 1, 1], units, 2, 1).ok_or("no row")?;
-    let one = Config::new([1, 1, 1, 1, 1, 1], units, 2, 1).ok_or("no row")?;
+    let two = Config::new([2, 1, 1, 1, 1, 1], units, 2, 1).ok_or("no configuration")?;
+    let one = Config::new([1, 1, 1, 1, 1, 1], units, 2, 1).ok_or("no configuration")?;
     let prices = Prices::new([10, 100, 0, 0, 0, 0], 7, 0);
     let product = program_of(rt.alloc(), PRODUCT.as_slice(), 4)??;
     let programs = vec![in rt.alloc(); product]?;
@@ -86,8 +86,8 @@ fn costs_of_two_rows(rt: HostRuntime) -> Result<(), Fail> {
     assert!(rt; study.costs() == [184, 174].as_slice());
     assert!(rt; study.prices() == prices);
     assert!(rt; study.rows().len() == 2);
-    assert!(rt; study.row(1).copied() == Some(one));
-    assert!(rt; study.row(2).copied() == None);
+    assert!(rt; study.config(1).copied() == Some(one));
+    assert!(rt; study.config(2).copied() == None);
     assert!(rt; study.programs().len() == 1);
     assert!(rt; study.program("mul").map(|program| program.limit()) == Some(4));
     assert!(rt; study.program("loop").is_none());

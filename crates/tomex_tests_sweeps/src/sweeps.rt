@@ -28,9 +28,9 @@ fn unit(latency: u8, price: u32) -> UnitOption {
 }
 
 /// A row of one station a pool, with an alu unit and a multiplier of these latencies.
-fn row_of(alu: UnitOption, mul: UnitOption) -> Result<Config, Fail> {
+fn config_of(alu: UnitOption, mul: UnitOption) -> Result<Config, Fail> {
     let units = [alu, mul, unit(1, 0), unit(1, 0), unit(1, 0)];
-    Ok(Config::new([1; 6], units, 1, 1).ok_or("no row")?)
+    Ok(Config::new([1; 6], units, 1, 1).ok_or("no configuration")?)
 }
 
 /// A program of this weight.
@@ -57,7 +57,7 @@ fn study_on(alloc: Global, programs: Vec<Program>, rows: Vec<Config>) -> Result<
 fn weighed_study(alloc: Global, options: &[(u8, u32)], weight: u32) -> Result<Study, Fail> {
     let mut rows = Vec::new(alloc);
     for (latency, price) in options {
-        rows.push(row_of(unit(*latency, *price), unit(1, 0))?)?;
+        rows.push(config_of(unit(*latency, *price), unit(1, 0))?)?;
     }
     let programs = vec![in alloc; program_of(alloc, "loop", LOOP.as_slice(), weight)?]?;
     study_on(alloc, programs, rows)
@@ -159,8 +159,8 @@ static WEIGHED: [(u32, [u64; 2], &[usize]); 5] = [
 /// The study of the loop and the product, of this weight, on those two rows, which cost the same.
 fn study_of_both(alloc: Global, weight: u32) -> Result<Study, Fail> {
     let mut rows = Vec::new(alloc);
-    rows.push(row_of(unit(1, 5), unit(64, 0))?)?;
-    rows.push(row_of(unit(10, 5), unit(1, 0))?)?;
+    rows.push(config_of(unit(1, 5), unit(64, 0))?)?;
+    rows.push(config_of(unit(10, 5), unit(1, 0))?)?;
     let mut programs = Vec::new(alloc);
     programs.push(program_of(alloc, "loop", LOOP.as_slice(), 1)?)?;
     programs.push(program_of(alloc, "product", PRODUCT.as_slice(), weight)?)?;

@@ -10,7 +10,7 @@ use Rattle.tomex_rvdec.specs.declared.pool.PoolId.TheVariants as pools
 use Rattle.tomex_rvdec.specs.declared.pool.UnitId.{UnitId}
 use Rattle.tomex_rvdec.specs.declared.pool.UnitId.TheVariants as units
 use Rattle.tomex_rvexec.specs.Steps.{step_pool, step_unit, step_dest, is_in}
-use Rattle.tomex_config.specs.Row.{Row, IsRow, option_of}
+use Rattle.tomex_config.specs.Configuration.{Configuration, IsWithinLimits, option_of}
 use Rattle.tomex_timing.specs.declared.part.Part.TheVariants.{Width}
 use Rattle.tomex_timing.specs.declared.times.Done.{Done}
 use Rattle.tomex_timing.specs.History.{is_of, cycle_of, last_issue, greatest_end}
@@ -58,24 +58,24 @@ issue_ways true false = refl
 issue_ways false w = refl
 
 -- the waits of one issue
-issue_account : (row : Row) (older : List Done) (d : Done) → (waits_of row older d).branch + (waits_of row older d).width + (waits_of row older d).station ≡ d.at.issue - max 1 (last_issue older)
-issue_account row older d = three_ways (lacks_branch older) (lacks_width row older) (lacks_station row older) (d.at.issue - max 1 (last_issue older)) (max 1 (last_issue older)) (λ t. issue_ways (are_branches_finished older t) (has_slot row older t))
+issue_account : (config : Configuration) (older : List Done) (d : Done) → (waits_of config older d).branch + (waits_of config older d).width + (waits_of config older d).station ≡ d.at.issue - max 1 (last_issue older)
+issue_account config older d = three_ways (lacks_branch older) (lacks_width config older) (lacks_station config older) (d.at.issue - max 1 (last_issue older)) (max 1 (last_issue older)) (λ t. issue_ways (are_branches_finished older t) (has_slot config older t))
 
 -- what needs no station waits for none
-no_station_wait : (row : Row) (older : List Done) (d : Done) → step_pool d.step ≡ None → IsTimed row older d.step d.at → (waits_of row older d).station ≡ 0
-no_station_wait row older d none is =
-    none_in_range (lacks_station row older) (d.at.issue - max 1 (last_issue older)) (max 1 (last_issue older)) (λ t l m. fails t l (omega arith))
+no_station_wait : (config : Configuration) (older : List Done) (d : Done) → step_pool d.step ≡ None → IsTimed config older d.step d.at → (waits_of config older d).station ≡ 0
+no_station_wait config older d none is =
+    none_in_range (lacks_station config older) (d.at.issue - max 1 (last_issue older)) (max 1 (last_issue older)) (λ t l m. fails t l (omega arith))
   where
     swap : (b w : Bool) → (((true && w) && b) && true) ≡ false → (b && w) ≡ false
     swap true true h = h
     swap true false h = refl
     swap false w h = refl
 
-    fails : (t : ℕ) → max 1 (last_issue older) ≤ t → t < d.at.issue → lacks_station row older t ≡ false
+    fails : (t : ℕ) → max 1 (last_issue older) ≤ t → t < d.at.issue → lacks_station config older t ≡ false
     fails t l m =
-        let can : can_issue row older d.step t ≡ false = is.issue.1 t m in
+        let can : can_issue config older d.step t ≡ false = is.issue.1 t m in
         let can2 = rw (none, lt-ltb 0 t (omega arith)) at can in
-        swap (are_branches_finished older t) (has_slot row older t) can2
+        swap (are_branches_finished older t) (has_slot config older t) can2
 
 abbrev in_pools : Option PoolId → ℕ → ℕ
 in_pools x n = cond (is_in pools.Alu x) n 0 + cond (is_in pools.Mul x) n 0 + cond (is_in pools.Div x) n 0 + cond (is_in pools.Load x) n 0 + cond (is_in pools.Store x) n 0 + cond (is_in pools.Bru x) n 0
@@ -92,25 +92,25 @@ pool_account : (x : Option PoolId) (n : ℕ) → (x ≡ None → n ≡ 0) → in
 pool_account None n none = let z : n ≡ 0 = none refl in rw z refl
 pool_account (Some p) n none = in_one_pool p n
 
-abbrev issue_stalls : Row → List Done → ℕ
-issue_stalls row h =
-    stalls_by (λ w. w.branch) row h + stalls row Width h + pool_stalls row h
+abbrev issue_stalls : Configuration → List Done → ℕ
+issue_stalls config h =
+    stalls_by (λ w. w.branch) config h + stalls config Width h + pool_stalls config h
 
-issues_add_up : (row : Row) (h : List Done) → AreTimed row h → issue_stalls row h + 1 ≡ max 1 (last_issue h)
-issues_add_up row [] timed = refl
-issues_add_up row (d ∷ older) timed =
-    let k : issue_stalls row older + 1 ≡ max 1 (last_issue older) = issues_add_up row older timed.1 in
-    let a = issue_account row older d in
-    let p : in_pools (step_pool d.step) (waits_of row older d).station ≡ (waits_of row older d).station = pool_account (step_pool d.step) (waits_of row older d).station (λ none. no_station_wait row older d none timed.0) in
-    let l : last_issue older ≤ d.at.issue = issue_from row older d.step d.at.issue timed.0.issue.0 in
-    let pos : 0 < d.at.issue = issue_low row older d.step d.at.issue timed.0.issue.0 in
+issues_add_up : (config : Configuration) (h : List Done) → AreTimed config h → issue_stalls config h + 1 ≡ max 1 (last_issue h)
+issues_add_up config [] timed = refl
+issues_add_up config (d ∷ older) timed =
+    let k : issue_stalls config older + 1 ≡ max 1 (last_issue older) = issues_add_up config older timed.1 in
+    let a = issue_account config older d in
+    let p : in_pools (step_pool d.step) (waits_of config older d).station ≡ (waits_of config older d).station = pool_account (step_pool d.step) (waits_of config older d).station (λ none. no_station_wait config older d none timed.0) in
+    let l : last_issue older ≤ d.at.issue = issue_from config older d.step d.at.issue timed.0.issue.0 in
+    let pos : 0 < d.at.issue = issue_low config older d.step d.at.issue timed.0.issue.0 in
     omega arith
 
 pub issue_cycles : IssueCyclesAddUp
-issue_cycles row d older good timed =
-    let k : issue_stalls row (d ∷ older) + 1 ≡ max 1 d.at.issue = issues_add_up row (d ∷ older) timed in
-    let pos : 0 < d.at.issue = issue_low row older d.step d.at.issue timed.0.issue.0 in
-    let l : d.at.issue ≤ greatest_end (d ∷ older) = last_issue_by (greatest_end (d ∷ older)) (d ∷ older) (timed_by row (d ∷ older) good timed) in
+issue_cycles config d older good timed =
+    let k : issue_stalls config (d ∷ older) + 1 ≡ max 1 d.at.issue = issues_add_up config (d ∷ older) timed in
+    let pos : 0 < d.at.issue = issue_low config older d.step d.at.issue timed.0.issue.0 in
+    let l : d.at.issue ≤ greatest_end (d ∷ older) = last_issue_by (greatest_end (d ∷ older)) (d ∷ older) (timed_by config (d ∷ older) good timed) in
     omega arith
 
 -- one operation
@@ -121,8 +121,8 @@ start_ways true true false = refl
 start_ways true false m = refl
 start_ways false a m = refl
 
-start_account : (row : Row) (older : List Done) (d : Done) → (waits_of row older d).operand + (waits_of row older d).address + (waits_of row older d).memory + (waits_of row older d).unit ≡ d.at.start - (d.at.issue + 1)
-start_account row older d =
+start_account : (config : Configuration) (older : List Done) (d : Done) → (waits_of config older d).operand + (waits_of config older d).address + (waits_of config older d).memory + (waits_of config older d).unit ≡ d.at.start - (d.at.issue + 1)
+start_account config older d =
     four_ways (lacks_operand older d) (lacks_address older d) (lacks_memory older d) (lacks_unit older d) (d.at.start - (d.at.issue + 1)) (d.at.issue + 1)
     (λ t. start_ways (has_operands older d.step t) (nat_lt (cycle_of d.at.address) t) (are_conflicts_finished older d.step t))
 
@@ -136,62 +136,62 @@ in_one_unit units.Div n = omega arith
 in_one_unit units.Mem n = omega arith
 in_one_unit units.Bru n = omega arith
 
-end_account : (row : Row) (older : List Done) (d : Done) → MatchBool (is_some (step_dest d.step)) (IsLeast (can_end row older d.at.finish) d.at.end) (d.at.end ≡ d.at.finish)
+end_account : (config : Configuration) (older : List Done) (d : Done) → MatchBool (is_some (step_dest d.step)) (IsLeast (can_end config older d.at.finish) d.at.end) (d.at.end ≡ d.at.finish)
     → d.at.end ≡ d.at.finish + (d.at.end - (d.at.finish + 1)) + one (is_some (step_dest d.step))
-end_account row older d is = elim (cases_Bool (is_some (step_dest d.step))) [
+end_account config older d is = elim (cases_Bool (is_some (step_dest d.step))) [
   | inl e ↦
-      let least : IsLeast (can_end row older d.at.finish) d.at.end = MatchBool-at_true _ _ e is in
-      let low : d.at.finish < d.at.end = end_low row older d.at.finish d.at.end least.0 in
+      let least : IsLeast (can_end config older d.at.finish) d.at.end = MatchBool-at_true _ _ e is in
+      let low : d.at.finish < d.at.end = end_low config older d.at.finish d.at.end least.0 in
       rw e (omega arith)
-  | inr e ↦ let same : d.at.end ≡ d.at.finish = MatchBool-at_false (IsLeast (can_end row older d.at.finish) d.at.end) _ e is in rw e (omega arith)
+  | inr e ↦ let same : d.at.end ≡ d.at.finish = MatchBool-at_false (IsLeast (can_end config older d.at.finish) d.at.end) _ e is in rw e (omega arith)
 ]
 
-operation_account : (row : Row) (older : List Done) (d : Done) (unit : Option UnitId) → IsRow row → step_unit d.step ≡ unit → IsTimed row older d.step d.at
+operation_account : (config : Configuration) (older : List Done) (d : Done) (unit : Option UnitId) → IsWithinLimits config → step_unit d.step ≡ unit → IsTimed config older d.step d.at
     → cond (is_some unit) (d.at.end - d.at.issue) 0
-    ≡ (waits_of row older d).operand + (waits_of row older d).address + (waits_of row older d).memory + in_units unit (waits_of row older d).unit + (waits_of row older d).bus + work_by row unit (is_some (step_dest d.step))
-operation_account row older d None good e is =
+    ≡ (waits_of config older d).operand + (waits_of config older d).address + (waits_of config older d).memory + in_units unit (waits_of config older d).unit + (waits_of config older d).bus + work_by config unit (is_some (step_dest d.step))
+operation_account config older d None good e is =
     let s : d.at.start ≡ d.at.issue = rw e at is.start in
     let f : d.at.finish ≡ d.at.issue = rw e at is.finish in
     let n : d.at.end ≡ d.at.issue = rw e at is.end in
-    let a = start_account row older d in
+    let a = start_account config older d in
     omega arith
-operation_account row older d (Some u) good e is =
-    let s : IsLeast (can_start row older d.step u d.at.issue (cycle_of d.at.address)) d.at.start = rw e at is.start in
-    let low : d.at.issue < d.at.start = (start_low row older d.step u d.at.issue (cycle_of d.at.address) d.at.start s.0).0 in
-    let f : d.at.finish ≡ d.at.start + (option_of row u).latency - 1 = rw e at is.finish in
-    let n : MatchBool (is_some (step_dest d.step)) (IsLeast (can_end row older d.at.finish) d.at.end) (d.at.end ≡ d.at.finish) = rw e at is.end in
-    let pos : 0 < (option_of row u).latency = latency_low row u good in
-    let a = start_account row older d in
-    let b = end_account row older d n in
-    let k = in_one_unit u (waits_of row older d).unit in
+operation_account config older d (Some u) good e is =
+    let s : IsLeast (can_start config older d.step u d.at.issue (cycle_of d.at.address)) d.at.start = rw e at is.start in
+    let low : d.at.issue < d.at.start = (start_low config older d.step u d.at.issue (cycle_of d.at.address) d.at.start s.0).0 in
+    let f : d.at.finish ≡ d.at.start + (option_of config u).latency - 1 = rw e at is.finish in
+    let n : MatchBool (is_some (step_dest d.step)) (IsLeast (can_end config older d.at.finish) d.at.end) (d.at.end ≡ d.at.finish) = rw e at is.end in
+    let pos : 0 < (option_of config u).latency = latency_low config u good in
+    let a = start_account config older d in
+    let b = end_account config older d n in
+    let k = in_one_unit u (waits_of config older d).unit in
     omega arith
 
 pub station_cycles : StationCyclesAddUp
-station_cycles row [] good timed = refl
-station_cycles row (d ∷ older) good timed =
-    let k = station_cycles row older good timed.1 in
-    let a = operation_account row older d (step_unit d.step) good refl timed.0 in
+station_cycles config [] good timed = refl
+station_cycles config (d ∷ older) good timed =
+    let k = station_cycles config older good timed.1 in
+    let a = operation_account config older d (step_unit d.step) good refl timed.0 in
     omega arith
 
 -- the waits for stations are those of all pools
 pub station_stalls : StationWaitsAreStalls
-station_stalls row [] timed = refl
-station_stalls row (d ∷ older) timed =
-    let k = station_stalls row older timed.1 in
-    let p : in_pools (step_pool d.step) (waits_of row older d).station ≡ (waits_of row older d).station = pool_account (step_pool d.step) (waits_of row older d).station (λ none. no_station_wait row older d none timed.0) in
+station_stalls config [] timed = refl
+station_stalls config (d ∷ older) timed =
+    let k = station_stalls config older timed.1 in
+    let p : in_pools (step_pool d.step) (waits_of config older d).station ≡ (waits_of config older d).station = pool_account (step_pool d.step) (waits_of config older d).station (λ none. no_station_wait config older d none timed.0) in
     omega arith
 
-unit_account : (row : Row) (older : List Done) (d : Done) (unit : Option UnitId) → step_unit d.step ≡ unit → IsTimed row older d.step d.at → in_units unit (waits_of row older d).unit ≡ (waits_of row older d).unit
-unit_account row older d None e is =
+unit_account : (config : Configuration) (older : List Done) (d : Done) (unit : Option UnitId) → step_unit d.step ≡ unit → IsTimed config older d.step d.at → in_units unit (waits_of config older d).unit ≡ (waits_of config older d).unit
+unit_account config older d None e is =
     let s : d.at.start ≡ d.at.issue = rw e at is.start in
-    let n : (waits_of row older d).unit ≡ 0 = none_of (lacks_unit older d) (d.at.issue + 1) d.at.start (omega arith) in
+    let n : (waits_of config older d).unit ≡ 0 = none_of (lacks_unit older d) (d.at.issue + 1) d.at.start (omega arith) in
     omega arith
-unit_account row older d (Some u) e is = in_one_unit u (waits_of row older d).unit
+unit_account config older d (Some u) e is = in_one_unit u (waits_of config older d).unit
 
 -- and those for units of all kinds
 pub kind_stalls : UnitWaitsAreStalls
-kind_stalls row [] timed = refl
-kind_stalls row (d ∷ older) timed =
-    let k = kind_stalls row older timed.1 in
-    let p : in_units (step_unit d.step) (waits_of row older d).unit ≡ (waits_of row older d).unit = unit_account row older d (step_unit d.step) refl timed.0 in
+kind_stalls config [] timed = refl
+kind_stalls config (d ∷ older) timed =
+    let k = kind_stalls config older timed.1 in
+    let p : in_units (step_unit d.step) (waits_of config older d).unit ≡ (waits_of config older d).unit = unit_account config older d (step_unit d.step) refl timed.0 in
     omega arith

@@ -6,7 +6,7 @@ use Rattle.std.specs.Option.{ForSome}
 use Rattle.std.proofs.lemmas.Bool.{cases_Bool, cases_order, and_parts, le-leb, lt-leb, leb-true, leb-false, ltb-true, lt-ltb, or_right}
 use Rattle.tomex_rvdec.specs.declared.pool.UnitId.{UnitId}
 use Rattle.tomex_rvexec.specs.Steps.{step_unit, j_of, k_of}
-use Rattle.tomex_config.specs.Row.{Row, IsRow}
+use Rattle.tomex_config.specs.Configuration.{Configuration, IsWithinLimits}
 use Rattle.tomex_timing.specs.declared.next.Marks.{Marks}
 use Rattle.tomex_timing.specs.declared.part.Waits.{Waits}
 use Rattle.tomex_timing.specs.declared.times.Done.{Done}
@@ -36,8 +36,8 @@ same_waits a b e1 e2 e3 e4 e5 e6 e7 e8 =
 -- issue
 
 -- the first cycle in program order with room for an issue
-abbrev slot_from : Row → List Done → ℕ
-slot_from row h = cond (nat_lt (count_by (λ d. d.at.issue == last_issue h) h) row.width) (last_issue h) (last_issue h + 1)
+abbrev slot_from : Configuration → List Done → ℕ
+slot_from config h = cond (nat_lt (count_by (λ d. d.at.issue == last_issue h) h) config.width) (last_issue h) (last_issue h + 1)
 
 abbrev low_of : List Done → ℕ
 low_of h = max 1 (last_issue h)
@@ -45,11 +45,11 @@ low_of h = max 1 (last_issue h)
 abbrev branches_of : List Done → ℕ
 branches_of h = max (low_of h) (branch_finish h + 1)
 
-abbrev from_of : Row → List Done → ℕ
-from_of row h = max (slot_from row h) (branch_finish h + 1)
+abbrev from_of : Configuration → List Done → ℕ
+from_of config h = max (slot_from config h) (branch_finish h + 1)
 
-slot_range : (row : Row) (h : List Done) → (last_issue h ≤ slot_from row h) × (slot_from row h ≤ last_issue h + 1)
-slot_range row h = by (nat_lt (count_by (λ d. d.at.issue == last_issue h) h) row.width)
+slot_range : (config : Configuration) (h : List Done) → (last_issue h ≤ slot_from config h) × (slot_from config h ≤ last_issue h + 1)
+slot_range config h = by (nat_lt (count_by (λ d. d.at.issue == last_issue h) h) config.width)
   where
     by : (b : Bool) → (last_issue h ≤ cond b (last_issue h) (last_issue h + 1)) × (cond b (last_issue h) (last_issue h + 1) ≤ last_issue h + 1)
     by true = (omega arith, omega arith)
@@ -71,31 +71,31 @@ leb_same a b t f g = elim (cases_Bool (nat_le a t)) [
       | inr (inr s) ↦ s
     ]
 
-branch_waits : (row : Row) (h : List Done) (d : Done) → from_of row h ≤ d.at.issue → issue_waits h d (lacks_branch h) ≡ branches_of h - low_of h
-branch_waits row h d l =
-    let r = slot_range row h in
+branch_waits : (config : Configuration) (h : List Done) (d : Done) → from_of config h ≤ d.at.issue → issue_waits h d (lacks_branch h) ≡ branches_of h - low_of h
+branch_waits config h d l =
+    let r = slot_range config h in
     band (lacks_branch h) (low_of h) (branches_of h) (low_of h) d.at.issue (omega arith) (omega arith) (omega arith)
     (λ t a b. rw (branches_at h t a, le-leb (low_of h) t a) (ap (λ x. not x) (leb_same (branch_finish h + 1) (branches_of h) t (λ u. omega arith) (λ u. omega arith))))
 
-width_waits : (row : Row) (h : List Done) (d : Done) → IsRow row → AreTimed row h → from_of row h ≤ d.at.issue → issue_waits h d (lacks_width row h) ≡ from_of row h - branches_of h
-width_waits row h d good timed l =
-    let r = slot_range row h in
-    band (lacks_width row h) (branches_of h) (from_of row h) (low_of h) d.at.issue (omega arith) (omega arith) (omega arith) (λ t a b. at_cycle t a)
+width_waits : (config : Configuration) (h : List Done) (d : Done) → IsWithinLimits config → AreTimed config h → from_of config h ≤ d.at.issue → issue_waits h d (lacks_width config h) ≡ from_of config h - branches_of h
+width_waits config h d good timed l =
+    let r = slot_range config h in
+    band (lacks_width config h) (branches_of h) (from_of config h) (low_of h) d.at.issue (omega arith) (omega arith) (omega arith) (λ t a b. at_cycle t a)
   where
-    at_cycle : (t : ℕ) → low_of h ≤ t → lacks_width row h t ≡ is_in_band (branches_of h) (from_of row h) t
+    at_cycle : (t : ℕ) → low_of h ≤ t → lacks_width config h t ≡ is_in_band (branches_of h) (from_of config h) t
     at_cycle t a = elim (cases_Bool (nat_le (branch_finish h + 1) t)) [
       | inl e ↦
           let k : branch_finish h + 1 ≤ t = leb-true (branch_finish h + 1) t e in
-          rw (branches_at h t a, e, le-leb (branches_of h) t (omega arith), ← slot_split row h t good timed) (ap (λ x. not x) (leb_same (slot_from row h) (from_of row h) t (λ u. omega arith) (λ u. omega arith)))
+          rw (branches_at h t a, e, le-leb (branches_of h) t (omega arith), ← slot_split config h t good timed) (ap (λ x. not x) (leb_same (slot_from config h) (from_of config h) t (λ u. omega arith) (λ u. omega arith)))
       | inr e ↦
           let k : t < branch_finish h + 1 = leb-false (branch_finish h + 1) t e in
           rw (branches_at h t a, e, lt-leb (branches_of h) t (omega arith)) refl
     ]
 
-station_waits : (row : Row) (h : List Done) (d : Done) → IsRow row → AreTimed row h → from_of row h ≤ d.at.issue → issue_waits h d (lacks_station row h) ≡ d.at.issue - from_of row h
-station_waits row h d good timed l =
-    let r = slot_range row h in
-    band (lacks_station row h) (from_of row h) d.at.issue (low_of h) d.at.issue (omega arith) (omega arith) (omega arith) (λ t a b. at_cycle t a b)
+station_waits : (config : Configuration) (h : List Done) (d : Done) → IsWithinLimits config → AreTimed config h → from_of config h ≤ d.at.issue → issue_waits h d (lacks_station config h) ≡ d.at.issue - from_of config h
+station_waits config h d good timed l =
+    let r = slot_range config h in
+    band (lacks_station config h) (from_of config h) d.at.issue (low_of h) d.at.issue (omega arith) (omega arith) (omega arith) (λ t a b. at_cycle t a b)
   where
     swap : (x y : Bool) → (x && y) ≡ ((y && x) && true)
     swap true true = refl
@@ -103,10 +103,10 @@ station_waits row h d good timed l =
     swap false true = refl
     swap false false = refl
 
-    at_cycle : (t : ℕ) → low_of h ≤ t → t < d.at.issue → lacks_station row h t ≡ is_in_band (from_of row h) d.at.issue t
+    at_cycle : (t : ℕ) → low_of h ≤ t → t < d.at.issue → lacks_station config h t ≡ is_in_band (from_of config h) d.at.issue t
     at_cycle t a b =
-        let m : nat_le (from_of row h) t ≡ (nat_le (slot_from row h) t && nat_le (branch_finish h + 1) t) = max_split (slot_from row h) (branch_finish h + 1) t in
-        rw (branches_at h t a, ← slot_split row h t good timed, m, lt-leb d.at.issue t b) (swap (nat_le (branch_finish h + 1) t) (nat_le (slot_from row h) t))
+        let m : nat_le (from_of config h) t ≡ (nat_le (slot_from config h) t && nat_le (branch_finish h + 1) t) = max_split (slot_from config h) (branch_finish h + 1) t in
+        rw (branches_at h t a, ← slot_split config h t good timed, m, lt-leb d.at.issue t b) (swap (nat_le (branch_finish h + 1) t) (nat_le (slot_from config h) t))
 
 -- start
 
@@ -189,8 +189,8 @@ clear_split f (l ∷ live) from t = elim (cases_Bool (conflicts_with f l)) [
     assoc true b c = refl
     assoc false b c = refl
 
-clear_is : (row : Row) (h : List Done) (d : Done) → AreClosed h → last_issue h ≤ d.at.issue → IsClear h d (clear_among (facts_of d.step) (recent (last_issue h) h) (ready_at h d))
-clear_is row h d close l t = clear_split (facts_of d.step) (recent (last_issue h) h) (ready_at h d) t ∙ elim (cases_Bool (nat_le (ready_at h d) t)) [
+clear_is : (config : Configuration) (h : List Done) (d : Done) → AreClosed h → last_issue h ≤ d.at.issue → IsClear h d (clear_among (facts_of d.step) (recent (last_issue h) h) (ready_at h d))
+clear_is config h d close l t = clear_split (facts_of d.step) (recent (last_issue h) h) (ready_at h d) t ∙ elim (cases_Bool (nat_le (ready_at h d) t)) [
   | inl e ↦
       let after : ready_at h d ≤ t = leb-true (ready_at h d) t e in
       let past : last_issue h < t = omega arith in
@@ -199,8 +199,8 @@ clear_is row h d close l t = clear_split (facts_of d.step) (recent (last_issue h
 ]
 
 -- a step with a unit starts no earlier
-start_at_least : (row : Row) (h : List Done) (d : Done) (u : UnitId) (c : ℕ) → IsClear h d c → can_start row h d.step u d.at.issue (cycle_of d.at.address) d.at.start ≡ true → (ready_at h d ≤ c) × (c ≤ d.at.start)
-start_at_least row h d u c clear can =
+start_at_least : (config : Configuration) (h : List Done) (d : Done) (u : UnitId) (c : ℕ) → IsClear h d c → can_start config h d.step u d.at.issue (cycle_of d.at.address) d.at.start ≡ true → (ready_at h d ≤ c) × (c ≤ d.at.start)
+start_at_least config h d u c clear can =
     let conflicts = and_parts _ (are_conflicts_finished h d.step d.at.start) (and_parts _ _ can).0 in
     let operands = and_parts _ (has_operands h d.step d.at.start) conflicts.0 in
     let both = and_parts (nat_lt d.at.issue d.at.start) (nat_lt (cycle_of d.at.address) d.at.start) operands.0 in
@@ -211,13 +211,13 @@ start_at_least row h d u c clear can =
     let two = and_parts (nat_le (ready_at h d) c) (are_conflicts_finished h d.step c) (sym (clear c) ∙ self) in
     (leb-true (ready_at h d) c two.0, leb-true c d.at.start here)
 
-issue_at_least : (row : Row) (h : List Done) (d : Done) → IsRow row → AreTimed row h → AreClosed h → can_issue row h d.step d.at.issue ≡ true → from_of row h ≤ d.at.issue
-issue_at_least row h d good timed close can = leb-true (from_of row h) d.at.issue (and_parts _ _ (issue_agree row h d.step d.at.issue good timed close ∙ can)).0
+issue_at_least : (config : Configuration) (h : List Done) (d : Done) → IsWithinLimits config → AreTimed config h → AreClosed h → can_issue config h d.step d.at.issue ≡ true → from_of config h ≤ d.at.issue
+issue_at_least config h d good timed close can = leb-true (from_of config h) d.at.issue (and_parts _ _ (issue_agree config h d.step d.at.issue good timed close ∙ can)).0
 
 -- all of them, by the history and the marks
-abbrev marks_at : Row → List Done → Done → Option UnitId → ℕ → Marks
-marks_at row h d None c = record { from = from_of row h; operands = d.at.issue; ready = d.at.issue; clear = d.at.issue }
-marks_at row h d (Some u) c = record { from = from_of row h; operands = operands_at h d; ready = ready_at h d; clear = c }
+abbrev marks_at : Configuration → List Done → Done → Option UnitId → ℕ → Marks
+marks_at config h d None c = record { from = from_of config h; operands = d.at.issue; ready = d.at.issue; clear = d.at.issue }
+marks_at config h d (Some u) c = record { from = from_of config h; operands = operands_at h d; ready = ready_at h d; clear = c }
 
 abbrev waits_at : List Done → Done → Marks → Waits
 waits_at h d marks = record {
@@ -231,44 +231,44 @@ waits_at h d marks = record {
   bus = d.at.end - d.at.finish - 1;
 }
 
-waits_unit : (row : Row) (h : List Done) (d : Done) (unit : Option UnitId) (c : ℕ) → IsRow row → AreTimed row h → from_of row h ≤ d.at.issue → IsClear h d c
-    → MatchOption unit (d.at.start ≡ d.at.issue) (λ u. IsLeast (can_start row h d.step u d.at.issue (cycle_of d.at.address)) d.at.start)
-    → waits_at h d (marks_at row h d unit c) ≡ waits_of row h d
-waits_unit row h d None c good timed l clear start =
+waits_unit : (config : Configuration) (h : List Done) (d : Done) (unit : Option UnitId) (c : ℕ) → IsWithinLimits config → AreTimed config h → from_of config h ≤ d.at.issue → IsClear h d c
+    → MatchOption unit (d.at.start ≡ d.at.issue) (λ u. IsLeast (can_start config h d.step u d.at.issue (cycle_of d.at.address)) d.at.start)
+    → waits_at h d (marks_at config h d unit c) ≡ waits_of config h d
+waits_unit config h d None c good timed l clear start =
     let s : d.at.start ≡ d.at.issue = start in
     let w1 = none_of (lacks_operand h d) (d.at.issue + 1) d.at.start (omega arith) in
     let w2 = none_of (lacks_address h d) (d.at.issue + 1) d.at.start (omega arith) in
     let w3 = none_of (lacks_memory h d) (d.at.issue + 1) d.at.start (omega arith) in
     let w4 = none_of (lacks_unit h d) (d.at.issue + 1) d.at.start (omega arith) in
-    same_waits _ _ (sym (branch_waits row h d l)) (sym (width_waits row h d good timed l)) (sym (station_waits row h d good timed l))
+    same_waits _ _ (sym (branch_waits config h d l)) (sym (width_waits config h d good timed l)) (sym (station_waits config h d good timed l))
     (omega arith) (omega arith) (omega arith) (omega arith) (omega arith)
-waits_unit row h d (Some u) c good timed l clear start =
-    let two = start_at_least row h d u c clear start.0 in
+waits_unit config h d (Some u) c good timed l clear start =
+    let two = start_at_least config h d u c clear start.0 in
     let r : ready_at h d ≤ c = two.0 in
     let s : c ≤ d.at.start = two.1 in
     let w1 = operand_waits h d (omega arith) in
-    same_waits _ _ (sym (branch_waits row h d l)) (sym (width_waits row h d good timed l)) (sym (station_waits row h d good timed l))
+    same_waits _ _ (sym (branch_waits config h d l)) (sym (width_waits config h d good timed l)) (sym (station_waits config h d good timed l))
     (omega arith) (sym (address_waits h d (omega arith)))
     (sym (memory_waits h d c clear r s)) (sym (unit_waits h d c clear r s)) (omega arith)
 
 -- what is kept gives the same marks
-marks_kept : (row : Row) (h : List Done) (d : Done) (live : List Live) (latest : Latest) (unit : Option UnitId) (c : ℕ) → ForSome (j_of d.step) (λ o. o.register < 32) → ForSome (k_of d.step) (λ o. o.register < 32) → IsKept h live latest
+marks_kept : (config : Configuration) (h : List Done) (d : Done) (live : List Live) (latest : Latest) (unit : Option UnitId) (c : ℕ) → ForSome (j_of d.step) (λ o. o.register < 32) → ForSome (k_of d.step) (λ o. o.register < 32) → IsKept h live latest
     → clear_among (facts_of d.step) (recent (last_issue h) h) (ready_at h d) ≡ c
-    → marks_from row live latest (facts_of d.step) unit (end_among latest.ends (j_of d.step)) (end_among latest.ends (k_of d.step)) d.at ≡ marks_at row h d unit c
-marks_kept row h d live latest None c small_j small_k kept e = rw (kept.issue, kept.issued, kept.branch) refl
-marks_kept row h d live latest (Some u) c small_j small_k kept e =
+    → marks_from config live latest (facts_of d.step) unit (end_among latest.ends (j_of d.step)) (end_among latest.ends (k_of d.step)) d.at ≡ marks_at config h d unit c
+marks_kept config h d live latest None c small_j small_k kept e = rw (kept.issue, kept.issued, kept.branch) refl
+marks_kept config h d live latest (Some u) c small_j small_k kept e =
     let j : end_among latest.ends (j_of d.step) ≡ source_end h (j_of d.step) = source_agree h latest.ends (j_of d.step) kept.ends small_j in
     let k : end_among latest.ends (k_of d.step) ≡ source_end h (k_of d.step) = source_agree h latest.ends (k_of d.step) kept.ends small_k in
     rw (j, k, kept.window, kept.issue, kept.issued, kept.branch, e) refl
 
-pub waits_are : (row : Row) (h : List Done) (d : Done) (live : List Live) (latest : Latest) → ForSome (j_of d.step) (λ o. o.register < 32) → ForSome (k_of d.step) (λ o. o.register < 32)
-    → IsRow row → AreTimed row h → AreClosed h → IsKept h live latest → IsTimed row h d.step d.at → waits_by latest (marks_among row live latest d.step d.at) d.at ≡ waits_of row h d
-waits_are row h d live latest small_j small_k good timed close kept is =
-    let order : last_issue h ≤ d.at.issue = issue_after row h d.step d.at.issue is.issue.0 in
+pub waits_are : (config : Configuration) (h : List Done) (d : Done) (live : List Live) (latest : Latest) → ForSome (j_of d.step) (λ o. o.register < 32) → ForSome (k_of d.step) (λ o. o.register < 32)
+    → IsWithinLimits config → AreTimed config h → AreClosed h → IsKept h live latest → IsTimed config h d.step d.at → waits_by latest (marks_among config live latest d.step d.at) d.at ≡ waits_of config h d
+waits_are config h d live latest small_j small_k good timed close kept is =
+    let order : last_issue h ≤ d.at.issue = issue_after config h d.step d.at.issue is.issue.0 in
     let c : ℕ = clear_among (facts_of d.step) (recent (last_issue h) h) (ready_at h d) in
-    let m = marks_kept row h d live latest (step_unit d.step) c small_j small_k kept refl in
-    let w : waits_by latest (marks_at row h d (step_unit d.step) c) d.at ≡ waits_at h d (marks_at row h d (step_unit d.step) c) = rw (kept.issue, kept.branch) refl in
-    ap (λ m. waits_by latest m d.at) m ∙ (w ∙ waits_unit row h d (step_unit d.step) c good timed (issue_at_least row h d good timed close is.issue.0) (clear_is row h d close order) is.start)
+    let m = marks_kept config h d live latest (step_unit d.step) c small_j small_k kept refl in
+    let w : waits_by latest (marks_at config h d (step_unit d.step) c) d.at ≡ waits_at h d (marks_at config h d (step_unit d.step) c) = rw (kept.issue, kept.branch) refl in
+    ap (λ m. waits_by latest m d.at) m ∙ (w ∙ waits_unit config h d (step_unit d.step) c good timed (issue_at_least config h d good timed close is.issue.0) (clear_is config h d close order) is.start)
 
 -- what is told of a first cycle without conflicts at every cycle tells which it is
 pub clear_same : (f : Facts) (live : List Live) (from n : ℕ) → ((t : ℕ) → nat_le n t ≡ (nat_le from t && list_all (is_finished_conflict f t) live)) → n ≡ clear_among f live from

@@ -3,7 +3,7 @@ use Rattle.std.proofs.Common.{ℕ, ◌+◌, ◌≤◌, ◌*◌, ◌<◌, ◌≡�
 use Rattle.std.specs.Prelude.{slice_index_or, take}
 use Rattle.std.proofs.lemmas.List.{reverse-append, length-map, length-reverse, map-append, take_more, append-nil}
 use Rattle.tomex_rvexec.specs.declared.step.Step.{Step}
-use Rattle.tomex_config.specs.Row.{Row, IsRow}
+use Rattle.tomex_config.specs.Configuration.{Configuration, IsWithinLimits}
 use Rattle.tomex_timing.specs.declared.times.Done.{Done}
 use Rattle.tomex_timing.specs.declared.times.Times.{Times}
 use Rattle.tomex_timing.specs.History.{greatest_end}
@@ -14,31 +14,31 @@ use Rattle.tomex_timing.proofs.Bound.{total_bound}
 use Rattle.tomex_timing.proofs.Search.{timed_is}
 
 -- the whole history has the recurrence's times
-pub are_timed : (row : Row) (xs : List Step) → IsRow row → AreTimed row (history row xs)
-are_timed row xs good = timed_is row (reverse xs) good
+pub are_timed : (config : Configuration) (xs : List Step) → IsWithinLimits config → AreTimed config (history config xs)
+are_timed config xs good = timed_is config (reverse xs) good
 
-pub history_more : (row : Row) (xs : List Step) (x : Step) → history row (xs ++ (x ∷ [])) ≡ record { step = x; at = times_of row (history row xs) x } ∷ history row xs
-history_more row xs x = ap (timed_of row) (reverse-append xs (x ∷ []))
+pub history_more : (config : Configuration) (xs : List Step) (x : Step) → history config (xs ++ (x ∷ [])) ≡ record { step = x; at = times_of config (history config xs) x } ∷ history config xs
+history_more config xs x = ap (timed_of config) (reverse-append xs (x ∷ []))
 
 reverse_more : (d : Done) (h : List Done) → reverse (d ∷ h) ≡ reverse h ++ (d ∷ [])
 reverse_more d h = reverse-append (d ∷ []) h
 
-pub times_more : (row : Row) (xs : List Step) (x : Step) → times_in row (xs ++ (x ∷ [])) ≡ times_in row xs ++ (times_of row (history row xs) x ∷ [])
-times_more row xs x =
-    let a = history_more row xs x in
-    let d : Done = record { step = x; at = times_of row (history row xs) x } in
-    let b : times_in row (xs ++ (x ∷ [])) ≡ map (λ d. d.at) (reverse (d ∷ history row xs)) = ap (λ h. map (λ d. d.at) (reverse h)) a in
-    let c : map (λ (d : Done). d.at) (reverse (d ∷ history row xs)) ≡ map (λ d. d.at) (reverse (history row xs) ++ (d ∷ [])) = ap (λ h. map (λ (d : Done). d.at) h) (reverse_more d (history row xs)) in
-    b ∙ (c ∙ map-append (λ d. d.at) (reverse (history row xs)) (d ∷ []))
+pub times_more : (config : Configuration) (xs : List Step) (x : Step) → times_in config (xs ++ (x ∷ [])) ≡ times_in config xs ++ (times_of config (history config xs) x ∷ [])
+times_more config xs x =
+    let a = history_more config xs x in
+    let d : Done = record { step = x; at = times_of config (history config xs) x } in
+    let b : times_in config (xs ++ (x ∷ [])) ≡ map (λ d. d.at) (reverse (d ∷ history config xs)) = ap (λ h. map (λ d. d.at) (reverse h)) a in
+    let c : map (λ (d : Done). d.at) (reverse (d ∷ history config xs)) ≡ map (λ d. d.at) (reverse (history config xs) ++ (d ∷ [])) = ap (λ h. map (λ (d : Done). d.at) h) (reverse_more d (history config xs)) in
+    b ∙ (c ∙ map-append (λ d. d.at) (reverse (history config xs)) (d ∷ []))
 
 pub younger_change_nothing : YoungerChangeNothing
-younger_change_nothing row xs [] = ([], ap (times_in row) (append-nil xs) ∙ sym (append-nil (times_in row xs)))
-younger_change_nothing row xs (y ∷ ys) =
-    let rest = younger_change_nothing row (xs ++ (y ∷ [])) ys in
-    let t : Times = times_of row (history row xs) y in
-    let a : times_in row (xs ++ (y ∷ ys)) ≡ times_in row ((xs ++ (y ∷ [])) ++ ys) = ap (times_in row) (sym (append_assoc xs (y ∷ []) ys)) in
-    let b : times_in row (xs ++ (y ∷ [])) ++ rest.0 ≡ (times_in row xs ++ (t ∷ [])) ++ rest.0 = ap (λ ts. ts ++ rest.0) (times_more row xs y) in
-    (t ∷ rest.0, a ∙ (rest.1 ∙ (b ∙ append_assoc (times_in row xs) (t ∷ []) rest.0)))
+younger_change_nothing config xs [] = ([], ap (times_in config) (append-nil xs) ∙ sym (append-nil (times_in config xs)))
+younger_change_nothing config xs (y ∷ ys) =
+    let rest = younger_change_nothing config (xs ++ (y ∷ [])) ys in
+    let t : Times = times_of config (history config xs) y in
+    let a : times_in config (xs ++ (y ∷ ys)) ≡ times_in config ((xs ++ (y ∷ [])) ++ ys) = ap (times_in config) (sym (append_assoc xs (y ∷ []) ys)) in
+    let b : times_in config (xs ++ (y ∷ [])) ++ rest.0 ≡ (times_in config xs ++ (t ∷ [])) ++ rest.0 = ap (λ ts. ts ++ rest.0) (times_more config xs y) in
+    (t ∷ rest.0, a ∙ (rest.1 ∙ (b ∙ append_assoc (times_in config xs) (t ∷ []) rest.0)))
 
 total_push : (ts : List Times) (t : Times) → total_of (ts ++ (t ∷ [])) ≡ max t.end (total_of ts)
 total_push [] t = refl
@@ -53,27 +53,27 @@ total_of-history (d ∷ h) =
     ap total_of (a ∙ b) ∙ (total_push (map (λ d. d.at) (reverse h)) d.at ∙ ap (λ k. max d.at.end k) (total_of-history h))
 
 pub total_is : TotalIsGreatestEnd
-total_is row xs = sym (total_of-history (history row xs))
+total_is config xs = sym (total_of-history (history config xs))
 
-length-timed_of : (row : Row) (ys : List Step) → length (timed_of row ys) ≡ length ys
-length-timed_of row [] = refl
-length-timed_of row (y ∷ ys) = ap suc (length-timed_of row ys)
+length-timed_of : (config : Configuration) (ys : List Step) → length (timed_of config ys) ≡ length ys
+length-timed_of config [] = refl
+length-timed_of config (y ∷ ys) = ap suc (length-timed_of config ys)
 
-pub length-history : (row : Row) (xs : List Step) → length (history row xs) ≡ length xs
-length-history row xs = length-timed_of row (reverse xs) ∙ length-reverse xs
+pub length-history : (config : Configuration) (xs : List Step) → length (history config xs) ≡ length xs
+length-history config xs = length-timed_of config (reverse xs) ∙ length-reverse xs
 
 -- each step has its times
-pub length-times_in : (row : Row) (xs : List Step) → length (times_in row xs) ≡ length xs
-length-times_in row xs = length-map _ _ ∙ (length-reverse (history row xs) ∙ length-history row xs)
+pub length-times_in : (config : Configuration) (xs : List Step) → length (times_in config xs) ≡ length xs
+length-times_in config xs = length-map _ _ ∙ (length-reverse (history config xs) ∙ length-history config xs)
 
-pub history_bound : (row : Row) (xs : List Step) → IsRow row → greatest_end (history row xs) ≤ 67 * length xs
-history_bound row xs good =
-    let a : greatest_end (history row xs) ≤ 67 * length (history row xs) = total_bound row (history row xs) good (are_timed row xs good) in
-    let e : length (history row xs) ≡ length xs = length-history row xs in
+pub history_bound : (config : Configuration) (xs : List Step) → IsWithinLimits config → greatest_end (history config xs) ≤ 67 * length xs
+history_bound config xs good =
+    let a : greatest_end (history config xs) ≤ 67 * length (history config xs) = total_bound config (history config xs) good (are_timed config xs good) in
+    let e : length (history config xs) ≡ length xs = length-history config xs in
     omega arith
 
-pub times_bound : (row : Row) (xs : List Step) → IsRow row → total_of (times_in row xs) ≤ 67 * length xs
-times_bound row xs good = rw (total_of-history (history row xs)) (history_bound row xs good)
+pub times_bound : (config : Configuration) (xs : List Step) → IsWithinLimits config → total_of (times_in config xs) ≤ 67 * length xs
+times_bound config xs good = rw (total_of-history (history config xs)) (history_bound config xs good)
 
 pub total_more : (ts : List Times) (i : ℕ) (e : Times) → i < length ts → total_of (take (i + 1) ts) ≡ max (slice_index_or ts i e).end (total_of (take i ts))
 total_more ts i e l = rw (take_more ts i e l) (total_push (take i ts) (slice_index_or ts i e))

@@ -1,4 +1,4 @@
--- What steps wait for is all in use in the cycles in which they wait for it, so a history takes all that its row has.
+-- What steps wait for is all in use in the cycles in which they wait for it, so a history takes all that its configuration has.
 use Rattle.std.proofs.Common.{ℕ, zero, suc, ◌+◌, ◌-◌, ◌<◌, ◌≤◌, ◌≡◌, Bool, true, false, cond, arith, refl, inl, inr, List, [], ◌∷◌, Option, Some, None, max}
 use Rattle.std.specs.Prelude.{nat_lt, nat_le, not, ◌==◌, ◌&&◌, count_by, is_some, MatchOption}
 use Rattle.std.specs.List.{range_with_len}
@@ -8,7 +8,7 @@ use Rattle.tomex_rvdec.specs.Parts.{place_of_pool, place_of_unit}
 use Rattle.tomex_rvdec.specs.declared.pool.PoolId.{PoolId}
 use Rattle.tomex_rvdec.specs.declared.pool.UnitId.{UnitId}
 use Rattle.tomex_rvexec.specs.Steps.{step_pool, step_unit, step_dest, is_in}
-use Rattle.tomex_config.specs.Row.{Row, stations_of, option_of}
+use Rattle.tomex_config.specs.Configuration.{Configuration, stations_of, option_of}
 use Rattle.tomex_timing.specs.declared.part.Part.{Part}
 use Rattle.tomex_timing.specs.declared.part.Part.TheVariants.{Stations, Units, Buses, Width}
 use Rattle.tomex_timing.specs.declared.times.Done.{Done}
@@ -70,18 +70,18 @@ ends_most (d ∷ h) t = let k = ends_most h t in elim (cases_Bool (is_some (step
   | inr e ↦ rw (sum_by-cons, e) (omega arith)
 ]
 
--- in a cycle in which a step waits for a part as many are in use as the row has
+-- in a cycle in which a step waits for a part as many are in use as the configuration has
 
-width_full : (row : Row) (older : List Done) (d : Done) → 0 < (waits_of row older d).width → row.width ≤ peak Width older
-width_full row older d waits =
-    let c = some_that (lacks_width row older) (max 1 (last_issue older)) d.at.issue waits in
+width_full : (config : Configuration) (older : List Done) (d : Done) → 0 < (waits_of config older d).width → config.width ≤ peak Width older
+width_full config older d waits =
+    let c = some_that (lacks_width config older) (max 1 (last_issue older)) d.at.issue waits in
     let t : ℕ = c.0 in
     let low : max 1 (last_issue older) ≤ c.0 = c.1 in
-    let fails : not (has_slot row older c.0) ≡ true = (and_parts (are_branches_finished older c.0) (not (has_slot row older c.0)) c.3).1 in
+    let fails : not (has_slot config older c.0) ≡ true = (and_parts (are_branches_finished older c.0) (not (has_slot config older c.0)) c.3).1 in
     let order : nat_le (last_issue older) c.0 ≡ true = le-leb (last_issue older) c.0 (omega arith) in
-    let none : nat_lt (count_by (λ x. x.at.issue == c.0) older) row.width ≡ false = last _ _ order fails in
+    let none : nat_lt (count_by (λ x. x.at.issue == c.0) older) config.width ≡ false = last _ _ order fails in
     let most : count_by (λ x. x.at.issue == c.0) older ≤ peak Width older = issues_most older c.0 in
-    let full : row.width ≤ count_by (λ x. x.at.issue == c.0) older = ltb-false (count_by (λ x. x.at.issue == c.0) older) row.width none in
+    let full : config.width ≤ count_by (λ x. x.at.issue == c.0) older = ltb-false (count_by (λ x. x.at.issue == c.0) older) config.width none in
     omega arith
   where
     last : (a b : Bool) → a ≡ true → not (a && b) ≡ true → b ≡ false
@@ -89,45 +89,45 @@ width_full row older d waits =
     last true true e h = absurd (cc)
     last false b e h = absurd (cc)
 
-station_full : (row : Row) (older : List Done) (d : Done) (pool : PoolId) (x : Option PoolId) → step_pool d.step ≡ x → AreTimed row older → IsTimed row older d.step d.at
-    → 0 < cond (is_in pool x) (waits_of row older d).station 0 → stations_of row pool ≤ peak (Stations pool) older
-station_full row older d pool None e timed is waits = absurd (omega arith)
-station_full row older d pool (Some p) e timed is waits = elim (cases_Bool (place_of_pool p == place_of_pool pool)) [
+station_full : (config : Configuration) (older : List Done) (d : Done) (pool : PoolId) (x : Option PoolId) → step_pool d.step ≡ x → AreTimed config older → IsTimed config older d.step d.at
+    → 0 < cond (is_in pool x) (waits_of config older d).station 0 → stations_of config pool ≤ peak (Stations pool) older
+station_full config older d pool None e timed is waits = absurd (omega arith)
+station_full config older d pool (Some p) e timed is waits = elim (cases_Bool (place_of_pool p == place_of_pool pool)) [
   | inr f ↦ let z : 0 < 0 = rw f at waits in absurd (omega arith)
   | inl f ↦
       let same : p ≡ pool = same_pool p pool f in
-      let w : 0 < (waits_of row older d).station = rw f at waits in
-      let c = some_that (lacks_station row older) (max 1 (last_issue older)) d.at.issue w in
+      let w : 0 < (waits_of config older d).station = rw f at waits in
+      let c = some_that (lacks_station config older) (max 1 (last_issue older)) d.at.issue w in
       let low : max 1 (last_issue older) ≤ c.0 = c.1 in
-      let both = and_parts (are_branches_finished older c.0) (has_slot row older c.0) c.3 in
-      let cannot : can_issue row older d.step c.0 ≡ false = is.issue.1 c.0 c.2 in
-      let none : has_station row older (step_pool d.step) c.0 ≡ false = last _ _ _ _ (lt-ltb 0 c.0 (omega arith)) both.1 both.0 cannot in
-      let left : nat_lt (count_by (is_held pool c.0) older) (stations_of row pool) ≡ false = rw (e, same) at none in
-      let full : stations_of row pool ≤ count_by (is_held pool c.0) older = ltb-false (count_by (is_held pool c.0) older) (stations_of row pool) left in
-      let most : count_by (is_held pool c.0) older ≤ peak (Stations pool) older = stations_held row older pool c.0 timed (omega arith) in
+      let both = and_parts (are_branches_finished older c.0) (has_slot config older c.0) c.3 in
+      let cannot : can_issue config older d.step c.0 ≡ false = is.issue.1 c.0 c.2 in
+      let none : has_station config older (step_pool d.step) c.0 ≡ false = last _ _ _ _ (lt-ltb 0 c.0 (omega arith)) both.1 both.0 cannot in
+      let left : nat_lt (count_by (is_held pool c.0) older) (stations_of config pool) ≡ false = rw (e, same) at none in
+      let full : stations_of config pool ≤ count_by (is_held pool c.0) older = ltb-false (count_by (is_held pool c.0) older) (stations_of config pool) left in
+      let most : count_by (is_held pool c.0) older ≤ peak (Stations pool) older = stations_held config older pool c.0 timed (omega arith) in
       omega arith
 ]
   where
     last : (a b c d : Bool) → a ≡ true → b ≡ true → c ≡ true → (((a && b) && c) && d) ≡ false → d ≡ false
     last a b c d e f g h = rw (e, f, g) at h
 
-unit_full : (row : Row) (older : List Done) (d : Done) (unit : UnitId) (x : Option UnitId) → step_unit d.step ≡ x → IsTimed row older d.step d.at
-    → 0 < cond (is_of unit x) (waits_of row older d).unit 0 → (option_of row unit).units ≤ peak (Units unit) older
-unit_full row older d unit None e is waits = absurd (omega arith)
-unit_full row older d unit (Some u) e is waits = elim (cases_Bool (place_of_unit u == place_of_unit unit)) [
+unit_full : (config : Configuration) (older : List Done) (d : Done) (unit : UnitId) (x : Option UnitId) → step_unit d.step ≡ x → IsTimed config older d.step d.at
+    → 0 < cond (is_of unit x) (waits_of config older d).unit 0 → (option_of config unit).units ≤ peak (Units unit) older
+unit_full config older d unit None e is waits = absurd (omega arith)
+unit_full config older d unit (Some u) e is waits = elim (cases_Bool (place_of_unit u == place_of_unit unit)) [
   | inr f ↦ let z : 0 < 0 = rw f at waits in absurd (omega arith)
   | inl f ↦
       let same : u ≡ unit = same_unit u unit f in
-      let w : 0 < (waits_of row older d).unit = rw f at waits in
+      let w : 0 < (waits_of config older d).unit = rw f at waits in
       let c = some_that (lacks_unit older d) (d.at.issue + 1) d.at.start w in
       let low : d.at.issue + 1 ≤ c.0 = c.1 in
-      let least : IsLeast (can_start row older d.step u d.at.issue (cycle_of d.at.address)) d.at.start = rw e at is.start in
-      let cannot : can_start row older d.step u d.at.issue (cycle_of d.at.address) c.0 ≡ false = least.1 c.0 c.2 in
+      let least : IsLeast (can_start config older d.step u d.at.issue (cycle_of d.at.address)) d.at.start = rw e at is.start in
+      let cannot : can_start config older d.step u d.at.issue (cycle_of d.at.address) c.0 ≡ false = least.1 c.0 c.2 in
       let conflicts = and_parts (has_operands older d.step c.0 && nat_lt (cycle_of d.at.address) c.0) (are_conflicts_finished older d.step c.0) c.3 in
       let operands = and_parts (has_operands older d.step c.0) (nat_lt (cycle_of d.at.address) c.0) conflicts.0 in
-      let none : has_unit row older u c.0 ≡ false = last _ _ _ _ _ (lt-ltb d.at.issue c.0 (omega arith)) operands.1 operands.0 conflicts.1 cannot in
-      let left : has_unit row older unit c.0 ≡ false = rw same at none in
-      let full : (option_of row unit).units ≤ count_by (λ x. is_of unit (step_unit x.step) && x.at.start == c.0) older = ltb-false (count_by (λ x. is_of unit (step_unit x.step) && x.at.start == c.0) older) (option_of row unit).units left in
+      let none : has_unit config older u c.0 ≡ false = last _ _ _ _ _ (lt-ltb d.at.issue c.0 (omega arith)) operands.1 operands.0 conflicts.1 cannot in
+      let left : has_unit config older unit c.0 ≡ false = rw same at none in
+      let full : (option_of config unit).units ≤ count_by (λ x. is_of unit (step_unit x.step) && x.at.start == c.0) older = ltb-false (count_by (λ x. is_of unit (step_unit x.step) && x.at.start == c.0) older) (option_of config unit).units left in
       let most : count_by (λ x. is_of unit (step_unit x.step) && x.at.start == c.0) older ≤ peak (Units unit) older = starts_most older unit c.0 in
       omega arith
 ]
@@ -135,40 +135,40 @@ unit_full row older d unit (Some u) e is waits = elim (cases_Bool (place_of_unit
     last : (a b c d f : Bool) → a ≡ true → b ≡ true → c ≡ true → d ≡ true → ((((a && b) && c) && d) && f) ≡ false → f ≡ false
     last a b c d f e g h i k = rw (e, g, h, i) at k
 
-bus_full : (row : Row) (older : List Done) (d : Done) (x : Option UnitId) → MatchOption x (d.at.finish ≡ d.at.issue) (λ u. d.at.finish ≡ d.at.start + (option_of row u).latency - 1)
-    → MatchOption x (d.at.end ≡ d.at.issue) (λ u. EndsAfter row older d.step d.at.finish d.at.end)
-    → 0 < d.at.end - (d.at.finish + 1) → row.buses ≤ peak Buses older
-bus_full row older d None finish end waits =
+bus_full : (config : Configuration) (older : List Done) (d : Done) (x : Option UnitId) → MatchOption x (d.at.finish ≡ d.at.issue) (λ u. d.at.finish ≡ d.at.start + (option_of config u).latency - 1)
+    → MatchOption x (d.at.end ≡ d.at.issue) (λ u. EndsAfter config older d.step d.at.finish d.at.end)
+    → 0 < d.at.end - (d.at.finish + 1) → config.buses ≤ peak Buses older
+bus_full config older d None finish end waits =
     let f : d.at.finish ≡ d.at.issue = finish in
     let e : d.at.end ≡ d.at.issue = end in
     absurd (omega arith)
-bus_full row older d (Some u) finish end waits = elim (cases_Bool (is_some (step_dest d.step))) [
-  | inr y ↦ let same : d.at.end ≡ d.at.finish = MatchBool-at_false (IsLeast (can_end row older d.at.finish) d.at.end) (d.at.end ≡ d.at.finish) y end in absurd (omega arith)
+bus_full config older d (Some u) finish end waits = elim (cases_Bool (is_some (step_dest d.step))) [
+  | inr y ↦ let same : d.at.end ≡ d.at.finish = MatchBool-at_false (IsLeast (can_end config older d.at.finish) d.at.end) (d.at.end ≡ d.at.finish) y end in absurd (omega arith)
   | inl y ↦
-      let least : IsLeast (can_end row older d.at.finish) d.at.end = MatchBool-at_true (IsLeast (can_end row older d.at.finish) d.at.end) (d.at.end ≡ d.at.finish) y end in
-      let cannot : can_end row older d.at.finish (d.at.finish + 1) ≡ false = least.1 (d.at.finish + 1) (omega arith) in
-      let none : has_bus row older (d.at.finish + 1) ≡ false = rw (lt-ltb d.at.finish (d.at.finish + 1) (omega arith)) at cannot in
-      let full : row.buses ≤ count_by (λ x. is_some (step_dest x.step) && x.at.end == d.at.finish + 1) older = ltb-false (count_by (λ x. is_some (step_dest x.step) && x.at.end == d.at.finish + 1) older) row.buses none in
+      let least : IsLeast (can_end config older d.at.finish) d.at.end = MatchBool-at_true (IsLeast (can_end config older d.at.finish) d.at.end) (d.at.end ≡ d.at.finish) y end in
+      let cannot : can_end config older d.at.finish (d.at.finish + 1) ≡ false = least.1 (d.at.finish + 1) (omega arith) in
+      let none : has_bus config older (d.at.finish + 1) ≡ false = rw (lt-ltb d.at.finish (d.at.finish + 1) (omega arith)) at cannot in
+      let full : config.buses ≤ count_by (λ x. is_some (step_dest x.step) && x.at.end == d.at.finish + 1) older = ltb-false (count_by (λ x. is_some (step_dest x.step) && x.at.end == d.at.finish + 1) older) config.buses none in
       let most : count_by (λ x. is_some (step_dest x.step) && x.at.end == d.at.finish + 1) older ≤ peak Buses older = ends_most older (d.at.finish + 1) in
       omega arith
 ]
 
-step_full : (row : Row) (older : List Done) (d : Done) (part : Part) → AreTimed row older → IsTimed row older d.step d.at → 0 < waits_for part d (waits_of row older d) → count_of row part ≤ peak part older
-step_full row older d (Stations pool) timed is waits = station_full row older d pool (step_pool d.step) refl timed is waits
-step_full row older d (Units unit) timed is waits = unit_full row older d unit (step_unit d.step) refl is waits
-step_full row older d Buses timed is waits = bus_full row older d (step_unit d.step) is.finish is.end waits
-step_full row older d Width timed is waits = width_full row older d waits
+step_full : (config : Configuration) (older : List Done) (d : Done) (part : Part) → AreTimed config older → IsTimed config older d.step d.at → 0 < waits_for part d (waits_of config older d) → count_of config part ≤ peak part older
+step_full config older d (Stations pool) timed is waits = station_full config older d pool (step_pool d.step) refl timed is waits
+step_full config older d (Units unit) timed is waits = unit_full config older d unit (step_unit d.step) refl is waits
+step_full config older d Buses timed is waits = bus_full config older d (step_unit d.step) is.finish is.end waits
+step_full config older d Width timed is waits = width_full config older d waits
 
-all_in_use : (row : Row) (h : List Done) (part : Part) → AreTimed row h → 0 < stalls row part h → count_of row part ≤ peak part h
-all_in_use row [] part timed l = absurd (omega arith)
-all_in_use row (d ∷ older) part timed l = elim (cases_order 0 (stalls row part older)) [
-  | inl e ↦ let k : count_of row part ≤ peak part older = step_full row older d part timed.1 timed.0 (omega arith) in omega arith
-  | inr (inl m) ↦ let k : count_of row part ≤ peak part older = all_in_use row older part timed.1 m in omega arith
+all_in_use : (config : Configuration) (h : List Done) (part : Part) → AreTimed config h → 0 < stalls config part h → count_of config part ≤ peak part h
+all_in_use config [] part timed l = absurd (omega arith)
+all_in_use config (d ∷ older) part timed l = elim (cases_order 0 (stalls config part older)) [
+  | inl e ↦ let k : count_of config part ≤ peak part older = step_full config older d part timed.1 timed.0 (omega arith) in omega arith
+  | inr (inl m) ↦ let k : count_of config part ≤ peak part older = all_in_use config older part timed.1 m in omega arith
   | inr (inr m) ↦ absurd (omega arith)
 ]
 
 pub stalled_full : StalledPartsAreFull
-stalled_full row h part timed l =
-    let a : peak part h ≤ count_of row part = peak_within row h part timed in
-    let b : count_of row part ≤ peak part h = all_in_use row h part timed l in
+stalled_full config h part timed l =
+    let a : peak part h ≤ count_of config part = peak_within config h part timed in
+    let b : count_of config part ≤ peak part h = all_in_use config h part timed l in
     omega arith

@@ -1,4 +1,4 @@
--- The limits of a row, as inequations.
+-- The limits of a configuration, as inequations.
 use Rattle.std.proofs.Common.{ℕ, ◌<◌, ◌≤◌, ◌≡◌, true, arith, length}
 use Rattle.std.specs.Prelude.{nat_le}
 use Rattle.std.proofs.lemmas.Bool.{leb-true, and_parts}
@@ -7,7 +7,7 @@ use Rattle.tomex_rvdec.specs.declared.pool.PoolId.{PoolId}
 use Rattle.tomex_rvdec.specs.declared.pool.PoolId.TheVariants as pools
 use Rattle.tomex_rvdec.specs.declared.pool.UnitId.{UnitId}
 use Rattle.tomex_rvdec.specs.declared.pool.UnitId.TheVariants as units
-use Rattle.tomex_config.specs.Row.{Row, IsRow, is_between, is_option, stations_of, option_of, plain_option}
+use Rattle.tomex_config.specs.Configuration.{Configuration, IsWithinLimits, is_between, is_option, stations_of, option_of, plain_option}
 
 pub pool_in : (pool : PoolId) → place_of_pool pool < 6
 pool_in pools.Alu = omega arith
@@ -29,47 +29,47 @@ between low high n h =
     let two = and_parts (nat_le low n) (nat_le n high) h in
     (leb-true low n two.0, leb-true n high two.1)
 
-stations_are : (row : Row) (pool : PoolId) → IsRow row → is_between 1 16 (stations_of row pool) ≡ true
-stations_are row pool good =
-    let l : place_of_pool pool < length row.stations = rw good.pools (pool_in pool) in
+stations_are : (config : Configuration) (pool : PoolId) → IsWithinLimits config → is_between 1 16 (stations_of config pool) ≡ true
+stations_are config pool good =
+    let l : place_of_pool pool < length config.stations = rw good.pools (pool_in pool) in
     good.stations (place_of_pool pool) 0 l
 
-option_is : (row : Row) (unit : UnitId) → IsRow row → is_option 8 (option_of row unit) ≡ true
-option_is row unit good =
-    let l : place_of_unit unit < length row.units = rw good.kinds (unit_in unit) in
+option_is : (config : Configuration) (unit : UnitId) → IsWithinLimits config → is_option 8 (option_of config unit) ≡ true
+option_is config unit good =
+    let l : place_of_unit unit < length config.units = rw good.kinds (unit_in unit) in
     good.units (place_of_unit unit) plain_option l
 
-pub stations_low : (row : Row) (pool : PoolId) → IsRow row → 0 < stations_of row pool
-stations_low row pool good = let two = between 1 16 (stations_of row pool) (stations_are row pool good) in omega (arith, two.0)
+pub stations_low : (config : Configuration) (pool : PoolId) → IsWithinLimits config → 0 < stations_of config pool
+stations_low config pool good = let two = between 1 16 (stations_of config pool) (stations_are config pool good) in omega (arith, two.0)
 
-pub stations_high : (row : Row) (pool : PoolId) → IsRow row → stations_of row pool ≤ 16
-stations_high row pool good = (between 1 16 (stations_of row pool) (stations_are row pool good)).1
+pub stations_high : (config : Configuration) (pool : PoolId) → IsWithinLimits config → stations_of config pool ≤ 16
+stations_high config pool good = (between 1 16 (stations_of config pool) (stations_are config pool good)).1
 
-pub units_low : (row : Row) (unit : UnitId) → IsRow row → 0 < (option_of row unit).units
-units_low row unit good =
-    let o = option_of row unit in
-    let two = between 1 8 o.units (and_parts _ _ (and_parts _ _ (option_is row unit good)).0).0 in
+pub units_low : (config : Configuration) (unit : UnitId) → IsWithinLimits config → 0 < (option_of config unit).units
+units_low config unit good =
+    let o = option_of config unit in
+    let two = between 1 8 o.units (and_parts _ _ (and_parts _ _ (option_is config unit good)).0).0 in
     omega (arith, two.0)
 
-pub units_high : (row : Row) (unit : UnitId) → IsRow row → (option_of row unit).units ≤ 8
-units_high row unit good =
-    let o = option_of row unit in
-    (between 1 8 o.units (and_parts _ _ (and_parts _ _ (option_is row unit good)).0).0).1
+pub units_high : (config : Configuration) (unit : UnitId) → IsWithinLimits config → (option_of config unit).units ≤ 8
+units_high config unit good =
+    let o = option_of config unit in
+    (between 1 8 o.units (and_parts _ _ (and_parts _ _ (option_is config unit good)).0).0).1
 
-latency_is : (row : Row) (unit : UnitId) → IsRow row → is_between 1 64 (option_of row unit).latency ≡ true
-latency_is row unit good = (and_parts _ _ (and_parts _ _ (option_is row unit good)).0).1
+latency_is : (config : Configuration) (unit : UnitId) → IsWithinLimits config → is_between 1 64 (option_of config unit).latency ≡ true
+latency_is config unit good = (and_parts _ _ (and_parts _ _ (option_is config unit good)).0).1
 
-pub latency_low : (row : Row) (unit : UnitId) → IsRow row → 0 < (option_of row unit).latency
-latency_low row unit good = let two = between 1 64 (option_of row unit).latency (latency_is row unit good) in omega (arith, two.0)
+pub latency_low : (config : Configuration) (unit : UnitId) → IsWithinLimits config → 0 < (option_of config unit).latency
+latency_low config unit good = let two = between 1 64 (option_of config unit).latency (latency_is config unit good) in omega (arith, two.0)
 
-pub latency_high : (row : Row) (unit : UnitId) → IsRow row → (option_of row unit).latency ≤ 64
-latency_high row unit good = (between 1 64 (option_of row unit).latency (latency_is row unit good)).1
+pub latency_high : (config : Configuration) (unit : UnitId) → IsWithinLimits config → (option_of config unit).latency ≤ 64
+latency_high config unit good = (between 1 64 (option_of config unit).latency (latency_is config unit good)).1
 
-pub buses_low : (row : Row) → IsRow row → 0 < row.buses
-buses_low row good = let two = between 1 8 row.buses good.buses in omega (arith, two.0)
+pub buses_low : (config : Configuration) → IsWithinLimits config → 0 < config.buses
+buses_low config good = let two = between 1 8 config.buses good.buses in omega (arith, two.0)
 
-pub buses_high : (row : Row) → IsRow row → row.buses ≤ 8
-buses_high row good = (between 1 8 row.buses good.buses).1
+pub buses_high : (config : Configuration) → IsWithinLimits config → config.buses ≤ 8
+buses_high config good = (between 1 8 config.buses good.buses).1
 
-pub width_low : (row : Row) → IsRow row → 0 < row.width
-width_low row good = let two = between 1 4 row.width good.width in omega (arith, two.0)
+pub width_low : (config : Configuration) → IsWithinLimits config → 0 < config.width
+width_low config good = let two = between 1 4 config.width good.width in omega (arith, two.0)

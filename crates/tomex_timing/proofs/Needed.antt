@@ -7,7 +7,7 @@ use Rattle.tomex_rvdec.specs.Parts.{place_of_pool, place_of_unit}
 use Rattle.tomex_rvdec.specs.declared.pool.PoolId.{PoolId}
 use Rattle.tomex_rvdec.specs.declared.pool.UnitId.{UnitId}
 use Rattle.tomex_rvexec.specs.Steps.{step_pool, step_unit, step_dest, is_in}
-use Rattle.tomex_config.specs.Row.{Row, IsRow}
+use Rattle.tomex_config.specs.Configuration.{Configuration, IsWithinLimits}
 use Rattle.tomex_timing.specs.declared.needs.Needs.{Needs}
 use Rattle.tomex_timing.specs.declared.part.Need.{Need}
 use Rattle.tomex_timing.specs.declared.part.Part.{Part}
@@ -81,11 +81,11 @@ length-units_after None taken waited xs = refl
 length-units_after (Some p) taken waited xs = length-set xs (place_of_unit p) _
 
 -- what starts or ends with a step is still kept
-units_kept : (row : Row) (h : List Done) (d : Done) (unit : UnitId) → AreClosed h → last_issue h < d.at.start → count_by (starts_in unit d.at.start) (recent (last_issue h) h) ≡ count_by (λ x. is_of unit (step_unit x.step) && x.at.start == d.at.start) h
-units_kept row h d unit close l = count_recent (starts_in unit d.at.start) (last_issue h) (λ x k m. and_right (is_of unit x.facts.unit) (x.start == d.at.start) (ne_eqb x.start d.at.start (λ (e : x.start ≡ d.at.start). absurd (omega (arith, k.start))))) h close
+units_kept : (config : Configuration) (h : List Done) (d : Done) (unit : UnitId) → AreClosed h → last_issue h < d.at.start → count_by (starts_in unit d.at.start) (recent (last_issue h) h) ≡ count_by (λ x. is_of unit (step_unit x.step) && x.at.start == d.at.start) h
+units_kept config h d unit close l = count_recent (starts_in unit d.at.start) (last_issue h) (λ x k m. and_right (is_of unit x.facts.unit) (x.start == d.at.start) (ne_eqb x.start d.at.start (λ (e : x.start ≡ d.at.start). absurd (omega (arith, k.start))))) h close
 
-results_kept : (row : Row) (h : List Done) (d : Done) → AreClosed h → last_issue h < d.at.end → count_by (sends_in d.at.end) (recent (last_issue h) h) ≡ count_by (λ x. is_some (step_dest x.step) && x.at.end == d.at.end) h
-results_kept row h d close l = count_recent (sends_in d.at.end) (last_issue h) (λ x k m. and_right (is_some x.facts.dest) (x.end == d.at.end) (ne_eqb x.end d.at.end (λ (e : x.end ≡ d.at.end). absurd (omega arith)))) h close
+results_kept : (config : Configuration) (h : List Done) (d : Done) → AreClosed h → last_issue h < d.at.end → count_by (sends_in d.at.end) (recent (last_issue h) h) ≡ count_by (λ x. is_some (step_dest x.step) && x.at.end == d.at.end) h
+results_kept config h d close l = count_recent (sends_in d.at.end) (last_issue h) (λ x k m. and_right (is_some x.facts.dest) (x.end == d.at.end) (ne_eqb x.end d.at.end (λ (e : x.end ≡ d.at.end). absurd (omega arith)))) h close
 
 same_kind : (unit : UnitId) (x : Option UnitId) (live : List Live) (h : List Done) (t : ℕ) → (is_some x ≡ true → count_by (starts_in unit t) live ≡ count_by (λ x. is_of unit (step_unit x.step) && x.at.start == t) h)
     → cond (is_of unit x) (units_taken live x t) 0 ≡ cond (is_of unit x) (count_by (λ x. is_of unit (step_unit x.step) && x.at.start == t) h + 1) 0
@@ -96,27 +96,27 @@ same_kind unit (Some u) live h t f = elim (cases_Bool (place_of_unit u == place_
 ]
 
 -- what is counted as taken is what is taken
-pub taken_is : (row : Row) (h : List Done) (d : Done) (live : List Live) (latest : Latest) (part : Part) → IsRow row → AreTimed row h → AreClosed h → IsKept h live latest → IsTimed row h d.step d.at
+pub taken_is : (config : Configuration) (h : List Done) (d : Done) (live : List Live) (latest : Latest) (part : Part) → IsWithinLimits config → AreTimed config h → AreClosed h → IsKept h live latest → IsTimed config h d.step d.at
     → taken_for part d (taken_among live latest (facts_of d.step) d.at) ≡ taken_by part h d
-taken_is row h d live latest (Stations pool) good timed close kept is = refl
-taken_is row h d live latest (Units unit) good timed close kept is =
-    let l : last_issue h ≤ d.at.issue = issue_from row h d.step d.at.issue is.issue.0 in
+taken_is config h d live latest (Stations pool) good timed close kept is = refl
+taken_is config h d live latest (Units unit) good timed close kept is =
+    let l : last_issue h ≤ d.at.issue = issue_from config h d.step d.at.issue is.issue.0 in
     rw kept.window
-    (same_kind unit (step_unit d.step) (recent (last_issue h) h) h d.at.start (λ some. let s : d.at.issue < d.at.start = (start_later row d h is some).0 in units_kept row h d unit close (omega arith)))
-taken_is row h d live latest Buses good timed close kept is = elim (cases_Bool (is_some (step_dest d.step))) [
+    (same_kind unit (step_unit d.step) (recent (last_issue h) h) h d.at.start (λ some. let s : d.at.issue < d.at.start = (start_later config d h is some).0 in units_kept config h d unit close (omega arith)))
+taken_is config h d live latest Buses good timed close kept is = elim (cases_Bool (is_some (step_dest d.step))) [
   | inl e ↦
-      let l : last_issue h ≤ d.at.issue = issue_from row h d.step d.at.issue is.issue.0 in
-      let r : InReach (greatest_end h) d.at = reach row d h good (is, timed) in
-      let s : d.at.issue < d.at.start = (start_later row d h is (dest_unit d.step e)).0 in
-      let f : d.at.finish < d.at.end = result_later row d h is e in
+      let l : last_issue h ≤ d.at.issue = issue_from config h d.step d.at.issue is.issue.0 in
+      let r : InReach (greatest_end h) d.at = reach config d h good (is, timed) in
+      let s : d.at.issue < d.at.start = (start_later config d h is (dest_unit d.step e)).0 in
+      let f : d.at.finish < d.at.end = result_later config d h is e in
       let o : d.at.start ≤ d.at.finish = r.order in
-      rw (e, kept.window, results_kept row h d close (omega arith)) refl
+      rw (e, kept.window, results_kept config h d close (omega arith)) refl
   | inr e ↦ rw e refl
 ]
-taken_is row h d live latest Width good timed close kept is =
-    let l : last_issue h ≤ d.at.issue = issue_from row h d.step d.at.issue is.issue.0 in
+taken_is config h d live latest Width good timed close kept is =
+    let l : last_issue h ≤ d.at.issue = issue_from config h d.step d.at.issue is.issue.0 in
     let e : latest.issued ≡ count_by (λ d. d.at.issue == last_issue h) h = kept.issued in
-    let k : cond (d.at.issue == last_issue h) (latest.issued + 1) 1 ≡ suc (count_by (λ x. x.at.issue == d.at.issue) h) = issued_kept row h d.at.issue latest.issued timed l e in
+    let k : cond (d.at.issue == last_issue h) (latest.issued + 1) 1 ≡ suc (count_by (λ x. x.at.issue == d.at.issue) h) = issued_kept config h d.at.issue latest.issued timed l e in
     let s : suc (count_by (λ x. x.at.issue == d.at.issue) h) ≡ count_by (λ x. x.at.issue == d.at.issue) h + 1 = omega arith in
     rw kept.issue (k ∙ s)
 
@@ -127,9 +127,9 @@ part_more (Units unit) d needs waits taken p k = unit_part unit (step_unit d.ste
 part_more Buses d needs waits taken p k = refl
 part_more Width d needs waits taken p k = refl
 
-pub needs_more : (row : Row) (h : List Done) (d : Done) (needs : Needs) (waits : Waits) (taken : Taken) → AreNeeds row h needs → waits ≡ waits_of row h d → ((part : Part) → taken_for part d taken ≡ taken_by part h d)
-    → AreNeeds row (d ∷ h) (needs_after (facts_of d.step) waits taken d.at needs)
-needs_more row h d needs waits taken are w t = record {
+pub needs_more : (config : Configuration) (h : List Done) (d : Done) (needs : Needs) (waits : Waits) (taken : Taken) → AreNeeds config h needs → waits ≡ waits_of config h d → ((part : Part) → taken_for part d taken ≡ taken_by part h d)
+    → AreNeeds config (d ∷ h) (needs_after (facts_of d.step) waits taken d.at needs)
+needs_more config h d needs waits taken are w t = record {
   parts = λ part. part_more part d needs waits taken are.pools are.kinds ∙ rw (are.parts part, t part, w) refl;
   branch = rw (w, are.branch) refl;
   operand = rw (w, are.operand) refl;
@@ -141,10 +141,10 @@ needs_more row h d needs waits taken are w t = record {
   kinds = length-units_after (step_unit d.step) taken.unit waits.unit needs.units ∙ are.kinds;
 }
 
-pub needs_none : (row : Row) → AreNeeds row [] nothing_needed
-needs_none row = record { parts = none; branch = refl; operand = refl; address = refl; memory = refl; last_issue = refl; total = refl; pools = refl; kinds = refl }
+pub needs_none : (config : Configuration) → AreNeeds config [] nothing_needed
+needs_none config = record { parts = none; branch = refl; operand = refl; address = refl; memory = refl; last_issue = refl; total = refl; pools = refl; kinds = refl }
   where
-    none : (part : Part) → need_of nothing_needed part ≡ record { peak = peak part []; stalls = stalls row part [] }
+    none : (part : Part) → need_of nothing_needed part ≡ record { peak = peak part []; stalls = stalls config part [] }
     none (Stations pool) = get_or-replicate 6 (place_of_pool pool) no_need no_need (pool_in pool)
     none (Units unit) = get_or-replicate 5 (place_of_unit unit) no_need no_need (unit_in unit)
     none Buses = refl

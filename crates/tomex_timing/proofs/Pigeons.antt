@@ -7,7 +7,7 @@ use Rattle.std.proofs.lemmas.List.Sums.{sum_by-cons}
 use Rattle.tomex_rvdec.specs.Parts.{place_of_pool}
 use Rattle.tomex_rvdec.specs.declared.pool.PoolId.{PoolId}
 use Rattle.tomex_rvexec.specs.Steps.{step_pool, is_in, is_number}
-use Rattle.tomex_config.specs.Row.{Row}
+use Rattle.tomex_config.specs.Configuration.{Configuration}
 use Rattle.tomex_timing.specs.declared.times.Done.{Done}
 use Rattle.tomex_timing.specs.declared.part.Part.TheVariants.{Stations}
 use Rattle.tomex_timing.specs.History.{last_issue}
@@ -46,16 +46,16 @@ holder_free pool older (Some p) station issue t n b l is h =
     free_later pool older n issue t l free
 
 -- no two steps hold one number
-one_holder : (row : Row) (h : List Done) (pool : PoolId) (t n : ℕ) → AreTimed row h → last_issue h ≤ t → count_by (is_holder pool t n) h ≤ 1
-one_holder row [] pool t n timed l = omega arith
-one_holder row (d ∷ h) pool t n timed l = elim (cases_Bool (is_holder pool t n d)) [
+one_holder : (config : Configuration) (h : List Done) (pool : PoolId) (t n : ℕ) → AreTimed config h → last_issue h ≤ t → count_by (is_holder pool t n) h ≤ 1
+one_holder config [] pool t n timed l = omega arith
+one_holder config (d ∷ h) pool t n timed l = elim (cases_Bool (is_holder pool t n d)) [
   | inl e ↦
       let free : is_free pool h t n ≡ true = holder_free pool h (step_pool d.step) d.at.station d.at.issue t n (nat_le t d.at.end) l timed.0.station e in
       let none : count_by (is_holder pool t n) h ≡ 0 = none_pass (is_holder pool t n) h free in
       rw (sum_by-cons, e, none) (omega arith)
   | inr e ↦
-      let k : last_issue h ≤ d.at.issue = issue_from row h d.step d.at.issue timed.0.issue.0 in
-      let rest : count_by (is_holder pool t n) h ≤ 1 = one_holder row h pool t n timed.1 (omega arith) in
+      let k : last_issue h ≤ d.at.issue = issue_from config h d.step d.at.issue timed.0.issue.0 in
+      let rest : count_by (is_holder pool t n) h ≤ 1 = one_holder config h pool t n timed.1 (omega arith) in
       rw (sum_by-cons, e) (omega arith)
 ]
 
@@ -112,24 +112,24 @@ held_low pool (Some p) station m b R is l = elim (cases_Bool (place_of_pool p ==
     both true = refl
     both false = refl
 
-all_low : (row : Row) (h : List Done) (pool : PoolId) (t m : ℕ) → AreTimed row h → peak (Stations pool) h ≤ m → count_by (is_held pool t) h ≡ count_by (λ d. is_held pool t d && lower d.at.station m) h
-all_low row [] pool t m timed l = refl
-all_low row (d ∷ h) pool t m timed l =
+all_low : (config : Configuration) (h : List Done) (pool : PoolId) (t m : ℕ) → AreTimed config h → peak (Stations pool) h ≤ m → count_by (is_held pool t) h ≡ count_by (λ d. is_held pool t d && lower d.at.station m) h
+all_low config [] pool t m timed l = refl
+all_low config (d ∷ h) pool t m timed l =
     let taken : cond (is_in pool (step_pool d.step)) (stations_up_to d.at.station) 0 ≤ m = omega arith in
     let rest : peak (Stations pool) h ≤ m = omega arith in
     let e : is_held pool t d ≡ (is_held pool t d && lower d.at.station m) = held_low pool (step_pool d.step) d.at.station m (nat_le t d.at.end) (λ p n. IsLeast (is_free p h d.at.issue) n) timed.0.station taken in
-    let k = all_low row h pool t m timed.1 rest in
+    let k = all_low config h pool t m timed.1 rest in
     let a : count_by (is_held pool t) (d ∷ h) ≡ one (is_held pool t d) + count_by (is_held pool t) h = sum_by-cons (λ x. one (is_held pool t x)) d h in
     let b : count_by (λ d. is_held pool t d && lower d.at.station m) (d ∷ h) ≡ one (is_held pool t d && lower d.at.station m) + count_by (λ d. is_held pool t d && lower d.at.station m) h = sum_by-cons (λ x. one (is_held pool t x && lower x.at.station m)) d h in
     let f : one (is_held pool t d) ≡ one (is_held pool t d && lower d.at.station m) = ap one e in
     omega arith
 
 -- where a number below m is free, fewer than m stations are held
-pub stations_fit : (row : Row) (h : List Done) (pool : PoolId) (t n m : ℕ) → AreTimed row h → last_issue h ≤ t → is_free pool h t n ≡ true → n < m → peak (Stations pool) h ≤ m → count_by (is_held pool t) h < m
-stations_fit row h pool t n m timed l free below top =
-    rw (all_low row h pool t m timed top) (fewer (is_held pool t) (λ d. d.at.station) h m n (λ k. one_holder row h pool t k timed l) below (none_pass (is_holder pool t n) h free))
+pub stations_fit : (config : Configuration) (h : List Done) (pool : PoolId) (t n m : ℕ) → AreTimed config h → last_issue h ≤ t → is_free pool h t n ≡ true → n < m → peak (Stations pool) h ≤ m → count_by (is_held pool t) h < m
+stations_fit config h pool t n m timed l free below top =
+    rw (all_low config h pool t m timed top) (fewer (is_held pool t) (λ d. d.at.station) h m n (λ k. one_holder config h pool t k timed l) below (none_pass (is_holder pool t n) h free))
 
 -- no cycle from the last issue on has more stations held than the greatest number up to one's own
-pub stations_held : (row : Row) (h : List Done) (pool : PoolId) (t : ℕ) → AreTimed row h → last_issue h ≤ t → count_by (is_held pool t) h ≤ peak (Stations pool) h
-stations_held row h pool t timed l =
-    rw (all_low row h pool t (peak (Stations pool) h) timed (omega arith)) (few (is_held pool t) (λ d. d.at.station) h (peak (Stations pool) h) (λ k. one_holder row h pool t k timed l))
+pub stations_held : (config : Configuration) (h : List Done) (pool : PoolId) (t : ℕ) → AreTimed config h → last_issue h ≤ t → count_by (is_held pool t) h ≤ peak (Stations pool) h
+stations_held config h pool t timed l =
+    rw (all_low config h pool t (peak (Stations pool) h) timed (omega arith)) (few (is_held pool t) (λ d. d.at.station) h (peak (Stations pool) h) (λ k. one_holder config h pool t k timed l))

@@ -1,4 +1,4 @@
--- Short runs, step by step, and rows to time them on.
+-- Short runs, step by step, and configurations to time them on.
 use Rattle.std.proofs.Common.{ℕ, List, [], ◌∷◌}
 use Rattle.tomex_rvdec.specs.Instruction.{Instruction}
 use Rattle.tomex_rvdec.specs.declared.op.Op.{Op}
@@ -6,7 +6,7 @@ use Rattle.tomex_rvdec.specs.declared.op.Op.TheVariants.{Addi, Mul, Sw, Lb, Jal,
 use Rattle.tomex_rvdec.specs.declared.pool.PoolId.TheVariants as pools
 use Rattle.tomex_rvdec.specs.declared.pool.UnitId.{UnitId}
 use Rattle.tomex_rvexec.specs.declared.step.Step.{Step}
-use Rattle.tomex_config.specs.Row.{Row, plain, with_stations, with_option}
+use Rattle.tomex_config.specs.Configuration.{Configuration, plain, with_stations, with_option}
 
 -- an instruction that takes these values from rs1 and rs2
 abbrev pub step : ℕ → Instruction → ℕ → ℕ → Step
@@ -56,9 +56,9 @@ jump_past = addi 0 5 0 4 0 ∷ mul 4 6 5 5 4 4 ∷ step 8 (instr Jal 0 0 0 8) 0 
 abbrev pub two_loads : List Step
 two_loads = addi 0 8 0 256 0 ∷ step 4 (instr Lb 1 8 0 0) 256 0 ∷ step 8 (instr Lb 2 8 0 0) 256 0 ∷ ebreak 12 ∷ []
 
-abbrev pub two_alu_stations : Row
+abbrev pub two_alu_stations : Configuration
 two_alu_stations = with_stations pools.Alu plain 2
 
 -- one unit of the kind, of this latency
-abbrev pub with_latency : UnitId → Row → ℕ → Row
-with_latency unit row n = with_option unit row (record { units = 1; latency = n; price = 0 })
+abbrev pub with_latency : UnitId → Configuration → ℕ → Configuration
+with_latency unit config n = with_option unit config (record { units = 1; latency = n; price = 0 })

@@ -2,7 +2,7 @@
 use Rattle.std.proofs.Common.{ℕ, ◌≡◌, refl, [], ◌∷◌, Some, None}
 use Rattle.tomex_rvdec.specs.declared.pool.PoolId.TheVariants as pools
 use Rattle.tomex_rvdec.specs.declared.pool.UnitId.TheVariants as units
-use Rattle.tomex_config.specs.Row.{Row, plain, with_stations, with_option, with_buses, with_width}
+use Rattle.tomex_config.specs.Configuration.{Configuration, plain, with_stations, with_option, with_buses, with_width}
 use Rattle.tomex_timing.specs.declared.times.Times.{Times}
 use Rattle.tomex_timing.specs.Search.{times_in, times_of, total_of}
 use Rattle.tomex_timing.proofs.Programs.{addi, ebreak, product, two_results, two_readers, overwritten, stored_and_loaded, jump_to_product, jump_past, two_loads, two_alu_stations, with_latency}
@@ -92,7 +92,7 @@ unfolding times_of
 loads_times_one_station = refl
 
 -- two alu stations and units, mul with latency 3, two buses
-abbrev two_of_alu : Row
+abbrev two_of_alu : Configuration
 two_of_alu = with_buses (with_option units.Alu (with_latency units.Mul two_alu_stations 3) (record { units = 2; latency = 1; price = 0 })) 2
 
 product_times_width_one : times_in two_of_alu product ≡ on 1 2 2 3 0 ∷ on 2 3 3 4 1 ∷ on 3 5 7 8 0 ∷ at_once 4 ∷ []

@@ -11,7 +11,7 @@ use Rattle.tomex_rvdec.specs.declared.pool.PoolId.{PoolId}
 use Rattle.tomex_rvdec.specs.declared.pool.UnitId.{UnitId}
 use Rattle.tomex_rvexec.specs.Steps.{step_pool, step_unit, step_dest, is_in, is_number}
 use Rattle.tomex_rvexec.specs.declared.step.Step.{Step}
-use Rattle.tomex_config.specs.Row.{Row, IsRow}
+use Rattle.tomex_config.specs.Configuration.{Configuration, IsWithinLimits}
 use Rattle.tomex_timing.specs.declared.accesses.Access.{Access}
 use Rattle.tomex_timing.specs.declared.times.Done.{Done}
 use Rattle.tomex_timing.specs.declared.window.Facts.{Facts}
@@ -47,9 +47,9 @@ place_low : (pool : PoolId) (n : ℕ) → n < 16 → station_place pool n < 96
 place_low pool n l = omega (arith, pool_in pool)
 
 -- before the first step nothing is held
-pub start_shown : (row : Row) → IsShown (history row []) nothing_yet (record { base = 0; slots = [] }) (replicate 96 0) []
-start_shown row = record {
-  kept = start_kept row;
+pub start_shown : (config : Configuration) → IsShown (history config []) nothing_yet (record { base = 0; slots = [] }) (replicate 96 0) []
+start_shown config = record {
+  kept = start_kept config;
   base = omega arith;
   starts = λ unit t l. nothing_at (place_of_unit unit) t (omega (arith, unit_in unit));
   results = λ t l. nothing_at 5 t (omega arith);
@@ -73,12 +73,12 @@ free_after pool g t n h by l =
     all_pass (λ (d : Done). not (is_held pool t d && is_number d.at.station n)) (IsDoneBy g) (λ d k. let f : is_held pool t d ≡ false = and_right (is_in pool (step_pool d.step)) (nat_le t d.at.end) (lt-leb t d.at.end (omega (arith, k.end))) in rw f refl) h by
 
 -- so nothing that is held does
-pub settled_by : (row : Row) (h : List Done) (latest : Latest) (table : Reserved) (taken : List ℕ) (accesses : List Access) → IsRow row → AreTimed row h → IsShown h latest table taken accesses → IsSettledBy latest table taken accesses
-settled_by row h latest table taken accesses good timed shown =
-    let by : AllBy (greatest_end h) h = timed_by row h good timed in
+pub settled_by : (config : Configuration) (h : List Done) (latest : Latest) (table : Reserved) (taken : List ℕ) (accesses : List Access) → IsWithinLimits config → AreTimed config h → IsShown h latest table taken accesses → IsSettledBy latest table taken accesses
+settled_by config h latest table taken accesses good timed shown =
+    let by : AllBy (greatest_end h) h = timed_by config h good timed in
     let e : latest.end ≡ greatest_end h = shown.kept.end in
     let i : last_issue h ≤ greatest_end h = last_issue_by (greatest_end h) h by in
-    let s : IsSettled (recent (last_issue h) h) latest = settled row h (recent (last_issue h) h) latest good timed shown.kept in
+    let s : IsSettled (recent (last_issue h) h) latest = settled config h (recent (last_issue h) h) latest good timed shown.kept in
     record {
       base = rw shown.kept.issue shown.base;
       starts = λ unit t l. shown.starts unit t (omega arith) ∙ starts_none unit (greatest_end h) t h by (omega arith);
@@ -110,5 +110,5 @@ pub conflicts_among : (h : List Done) (latest : Latest) (table : Reserved) (take
 conflicts_among h latest table taken accesses f t close shown l =
     all_recent (is_finished_conflict f t) (last_issue h) (λ x k m. or_right _ (nat_lt x.finish t) (lt-ltb x.finish t (omega (arith, k.finish)))) h close ∙ sym (shown.conflicts f t l)
 
-pub settled_there : (row : Row) (steps : List Step) (i : ℕ) (latest : Latest) (table : Reserved) (taken : List ℕ) (accesses : List Access) → IsRow row → IsShown (history row (take i steps)) latest table taken accesses → IsSettledBy latest table taken accesses
-settled_there row steps i latest table taken accesses good shown = settled_by row (history row (take i steps)) latest table taken accesses good (are_timed row (take i steps) good) shown
+pub settled_there : (config : Configuration) (steps : List Step) (i : ℕ) (latest : Latest) (table : Reserved) (taken : List ℕ) (accesses : List Access) → IsWithinLimits config → IsShown (history config (take i steps)) latest table taken accesses → IsSettledBy latest table taken accesses
+settled_there config steps i latest table taken accesses good shown = settled_by config (history config (take i steps)) latest table taken accesses good (are_timed config (take i steps) good) shown

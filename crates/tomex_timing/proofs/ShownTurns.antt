@@ -13,7 +13,7 @@ use Rattle.tomex_rvdec.specs.declared.pool.UnitId.{UnitId}
 use Rattle.tomex_rvexec.specs.Steps.{step_pool, step_unit, step_dest, j_of, k_of, bytes_of, is_in, is_number, is_store}
 use Rattle.tomex_rvexec.specs.declared.step.ByteRange.{ByteRange}
 use Rattle.tomex_rvexec.specs.declared.step.Step.{Step}
-use Rattle.tomex_config.specs.Row.{Row, IsRow, option_of, stations_of}
+use Rattle.tomex_config.specs.Configuration.{Configuration, IsWithinLimits, option_of, stations_of}
 use Rattle.tomex_rvexec.specs.declared.step.Operand.{Operand}
 use Rattle.tomex_timing.specs.declared.accesses.Access.{Access}
 use Rattle.tomex_timing.specs.declared.next.Next.{Next}
@@ -139,10 +139,10 @@ finishes_turn f at (Some bytes) g accesses l h =
     finishes_kept (max at.end g) (λ a. nat_le at.issue a.finish) accesses (record { bytes = bytes; is_store = f.is_store; finish = at.finish }) (finishes_later g (max at.end g) accesses (omega arith) h) (omega arith)
 
 -- the station that a step takes had been given back before
-had_ended : (row : Row) (taken : List ℕ) (x : Option PoolId) (from issue : ℕ) (station : Option ℕ) → ((p : PoolId) → stations_of row p ≤ 16) → TakesStation row taken x from issue station → MatchOption x (station ≡ None) (λ p. (m : ℕ) × (station ≡ Some m) × (m < 16) × (end_at taken p m < issue))
-had_ended row taken None from issue station high takes = takes.1
-had_ended row taken (Some p) from issue station high takes =
-    let there : takes.0 < stations_of row p = takes.2.there in
+had_ended : (config : Configuration) (taken : List ℕ) (x : Option PoolId) (from issue : ℕ) (station : Option ℕ) → ((p : PoolId) → stations_of config p ≤ 16) → TakesStation config taken x from issue station → MatchOption x (station ≡ None) (λ p. (m : ℕ) × (station ≡ Some m) × (m < 16) × (end_at taken p m < issue))
+had_ended config taken None from issue station high takes = takes.1
+had_ended config taken (Some p) from issue station high takes =
+    let there : takes.0 < stations_of config p = takes.2.there in
     (takes.0, takes.1, omega (arith, high p), takes.2.free)
 
 size_after : (x : Option PoolId) (station : Option ℕ) (end : ℕ) (taken : List ℕ) → length taken ≡ 96 → length (ends_with x station end taken) ≡ 96
@@ -173,11 +173,11 @@ rekept h latest live kept = record {
   end = kept.end;
 }
 
-shown_turn : (row : Row) (h : List Done) (s : Step) (next : Next) (latest : Latest) (table after : Reserved) (taken : List ℕ) (accesses : List Access) (live : List Live) → IsRow row → IsShown h latest table taken accesses
-    → IsNextBy row latest table taken accesses (facts_of s) next → IsNextShown row h latest s next → next.at.finish ≤ next.at.end
+shown_turn : (config : Configuration) (h : List Done) (s : Step) (next : Next) (latest : Latest) (table after : Reserved) (taken : List ℕ) (accesses : List Access) (live : List Live) → IsWithinLimits config → IsShown h latest table taken accesses
+    → IsNextBy config latest table taken accesses (facts_of s) next → IsNextShown config h latest s next → next.at.finish ≤ next.at.end
     → IsKept (record { step = s; at = next.at } ∷ h) live (latest_after (facts_of s) next.at latest) → IsTableAfter (facts_of s) next.at table after
     → IsShown (record { step = s; at = next.at } ∷ h) (latest_after (facts_of s) next.at latest) after (ends_after (facts_of s) next.at taken) (accesses_after (facts_of s) next.at accesses)
-shown_turn row h s next latest table after taken accesses live good shown by is last kept tabled =
+shown_turn config h s next latest table after taken accesses live good shown by is last kept tabled =
     let d : Done = record { step = s; at = next.at } in
     let l : last_issue h ≤ next.at.issue = is.issue in
     record {
@@ -194,7 +194,7 @@ shown_turn row h s next latest table after taken accesses live good shown by is 
           let c : count_by (λ d. sends_in t (live_of d)) (record { step = s; at = next.at } ∷ h) ≡ one (is_some (step_dest s) && next.at.end == t) + count_by (λ d. sends_in t (live_of d)) h = sum_by-cons (λ d. one (sends_in t (live_of d))) (record { step = s; at = next.at }) h in
           omega arith;
       stations = λ pool t n pos m.
-          station_turn pool (step_pool s) next.at.station taken (is_free pool h t n) next.at.issue next.at.end t n is.end m shown.size (had_ended row taken (step_pool s) next.marks.from next.at.issue next.at.station (λ p. stations_high row p good) by.issue) (shown.stations pool t n pos m);
+          station_turn pool (step_pool s) next.at.station taken (is_free pool h t n) next.at.issue next.at.end t n is.end m shown.size (had_ended config taken (step_pool s) next.marks.from next.at.issue next.at.station (λ p. stations_high config p good) by.issue) (shown.stations pool t n pos m);
       size = size_after (step_pool s) next.at.station next.at.end taken shown.size;
       conflicts = λ f t m. accesses_turn f s next.at h (bytes_of s) accesses t refl m (shown.conflicts f t (omega arith));
       finishes = finishes_turn (facts_of s) next.at (bytes_of s) (greatest_end h) accesses last shown.finishes;
@@ -205,45 +205,45 @@ register_low None h x e = absurd (cc)
 register_low (Some o) h x e = let k : o ≡ x = cc in rw (← k) h
 
 -- the step of a run at a place, by what is held before it
-pub record IsStep (row : Row) (steps : List Step) (i : ℕ) (x : Step) (f : Facts) : Type 0 where
-  pub good : IsRow row
+pub record IsStep (config : Configuration) (steps : List Step) (i : ℕ) (x : Step) (f : Facts) : Type 0 where
+  pub good : IsWithinLimits config
   pub place : i < length steps
   pub at : slice_index_or steps i x ≡ x
   pub facts : f ≡ facts_of x
   pub registers : HasRegisters f
 
-pub now_shown : (row : Row) (steps : List Step) (i : ℕ) (x : Step) (f : Facts) (latest : Latest) (table : Reserved) (taken : List ℕ) (accesses : List Access) (next : Next) → IsStep row steps i x f → IsShown (history row (take i steps)) latest table taken accesses → IsNextBy row latest table taken accesses f next
-    → IsNextShown row (history row (take i steps)) latest x next
-now_shown row steps i x f latest table taken accesses next step shown by =
-    let h : List Done = history row (take i steps) in
-    let timed : AreTimed row (history row (take i steps)) = are_timed row (take i steps) step.good in
-    next_shown row (history row (take i steps)) latest table taken accesses x next step.good timed (closed row (history row (take i steps)) step.good timed) shown (rw step.facts at by)
+pub now_shown : (config : Configuration) (steps : List Step) (i : ℕ) (x : Step) (f : Facts) (latest : Latest) (table : Reserved) (taken : List ℕ) (accesses : List Access) (next : Next) → IsStep config steps i x f → IsShown (history config (take i steps)) latest table taken accesses → IsNextBy config latest table taken accesses f next
+    → IsNextShown config (history config (take i steps)) latest x next
+now_shown config steps i x f latest table taken accesses next step shown by =
+    let h : List Done = history config (take i steps) in
+    let timed : AreTimed config (history config (take i steps)) = are_timed config (take i steps) step.good in
+    next_shown config (history config (take i steps)) latest table taken accesses x next step.good timed (closed config (history config (take i steps)) step.good timed) shown (rw step.facts at by)
 
-pub now_marks : (row : Row) (steps : List Step) (i : ℕ) (x : Step) (f : Facts) (latest : Latest) (table : Reserved) (taken : List ℕ) (accesses : List Access) (next : Next) → IsStep row steps i x f → IsShown (history row (take i steps)) latest table taken accesses → IsNextBy row latest table taken accesses f next
-    → next.marks ≡ marks_among row (recent (last_issue (history row (take i steps))) (history row (take i steps))) latest x next.at
-now_marks row steps i x f latest table taken accesses next step shown by =
-    let timed : AreTimed row (history row (take i steps)) = are_timed row (take i steps) step.good in
-    marks_shown row (history row (take i steps)) latest table taken accesses x next step.good timed (closed row (history row (take i steps)) step.good timed) shown (rw step.facts at by)
+pub now_marks : (config : Configuration) (steps : List Step) (i : ℕ) (x : Step) (f : Facts) (latest : Latest) (table : Reserved) (taken : List ℕ) (accesses : List Access) (next : Next) → IsStep config steps i x f → IsShown (history config (take i steps)) latest table taken accesses → IsNextBy config latest table taken accesses f next
+    → next.marks ≡ marks_among config (recent (last_issue (history config (take i steps))) (history config (take i steps))) latest x next.at
+now_marks config steps i x f latest table taken accesses next step shown by =
+    let timed : AreTimed config (history config (take i steps)) = are_timed config (take i steps) step.good in
+    marks_shown config (history config (take i steps)) latest table taken accesses x next step.good timed (closed config (history config (take i steps)) step.good timed) shown (rw step.facts at by)
 
-pub low_j : (row : Row) (steps : List Step) (i : ℕ) (x : Step) (f : Facts) → IsStep row steps i x f → ForSome (j_of x) (λ o. o.register < 32)
-low_j row steps i x f step = register_low (j_of x) (rw step.facts at step.registers.j)
+pub low_j : (config : Configuration) (steps : List Step) (i : ℕ) (x : Step) (f : Facts) → IsStep config steps i x f → ForSome (j_of x) (λ o. o.register < 32)
+low_j config steps i x f step = register_low (j_of x) (rw step.facts at step.registers.j)
 
-pub low_k : (row : Row) (steps : List Step) (i : ℕ) (x : Step) (f : Facts) → IsStep row steps i x f → ForSome (k_of x) (λ o. o.register < 32)
-low_k row steps i x f step = register_low (k_of x) (rw step.facts at step.registers.k)
+pub low_k : (config : Configuration) (steps : List Step) (i : ℕ) (x : Step) (f : Facts) → IsStep config steps i x f → ForSome (k_of x) (λ o. o.register < 32)
+low_k config steps i x f step = register_low (k_of x) (rw step.facts at step.registers.k)
 
 -- one step of a run more: what is held, and the times so far
-pub held_turn : (row : Row) (steps : List Step) (i : ℕ) (x : Step) (f : Facts) (latest : Latest) (table after : Reserved) (taken : List ℕ) (accesses : List Access) (next : Next) → IsStep row steps i x f → IsShown (history row (take i steps)) latest table taken accesses → IsNextBy row latest table taken accesses f next
+pub held_turn : (config : Configuration) (steps : List Step) (i : ℕ) (x : Step) (f : Facts) (latest : Latest) (table after : Reserved) (taken : List ℕ) (accesses : List Access) (next : Next) → IsStep config steps i x f → IsShown (history config (take i steps)) latest table taken accesses → IsNextBy config latest table taken accesses f next
     → IsTableAfter f next.at table after
-    → IsShown (history row (take (i + 1) steps)) (latest_after f next.at latest) after (ends_after f next.at taken) (accesses_after f next.at accesses)
-    × (times_in row (take (i + 1) steps) ≡ times_in row (take i steps) ++ (next.at ∷ []))
-held_turn row steps i x f latest table after taken accesses next step shown by tabled =
-    let h : List Done = history row (take i steps) in
-    let timed : AreTimed row (history row (take i steps)) = are_timed row (take i steps) step.good in
-    let is : IsNextShown row (history row (take i steps)) latest x next = now_shown row steps i x f latest table taken accesses next step shown by in
-    let kept = turn_at row steps i x f next.at (recent (last_issue (history row (take i steps))) (history row (take i steps))) latest step.good step.place step.at step.facts step.registers.dest (low_j row steps i x f step) (low_k row steps i x f step) shown.kept is.is in
-    let more : history row (take (i + 1) steps) ≡ record { step = x; at = next.at } ∷ history row (take i steps) = history_at row steps i x next.at latest step.good step.place step.at (low_j row steps i x f step) (low_k row steps i x f step) shown.kept is.is in
-    let r = reach_at row steps i x next.at latest step.good (low_j row steps i x f step) (low_k row steps i x f step) shown.kept is.is in (
-      rw (more, step.facts) (shown_turn row (history row (take i steps)) x next latest table after taken accesses _ step.good shown (rw step.facts at by) is r (rw (more, step.facts) at kept.0) (rw step.facts at tabled)),
+    → IsShown (history config (take (i + 1) steps)) (latest_after f next.at latest) after (ends_after f next.at taken) (accesses_after f next.at accesses)
+    × (times_in config (take (i + 1) steps) ≡ times_in config (take i steps) ++ (next.at ∷ []))
+held_turn config steps i x f latest table after taken accesses next step shown by tabled =
+    let h : List Done = history config (take i steps) in
+    let timed : AreTimed config (history config (take i steps)) = are_timed config (take i steps) step.good in
+    let is : IsNextShown config (history config (take i steps)) latest x next = now_shown config steps i x f latest table taken accesses next step shown by in
+    let kept = turn_at config steps i x f next.at (recent (last_issue (history config (take i steps))) (history config (take i steps))) latest step.good step.place step.at step.facts step.registers.dest (low_j config steps i x f step) (low_k config steps i x f step) shown.kept is.is in
+    let more : history config (take (i + 1) steps) ≡ record { step = x; at = next.at } ∷ history config (take i steps) = history_at config steps i x next.at latest step.good step.place step.at (low_j config steps i x f step) (low_k config steps i x f step) shown.kept is.is in
+    let r = reach_at config steps i x next.at latest step.good (low_j config steps i x f step) (low_k config steps i x f step) shown.kept is.is in (
+      rw (more, step.facts) (shown_turn config (history config (take i steps)) x next latest table after taken accesses _ step.good shown (rw step.facts at by) is r (rw (more, step.facts) at kept.0) (rw step.facts at tabled)),
       kept.1,
     )
 
@@ -253,40 +253,40 @@ not_full table line most from t few first =
     let left : taken_at table line t < most = ltb-true (taken_at table line t) most (and_parts (nat_le from t) (is_left table line most t) first.0).1 in
     omega arith
 
-units_fit : (row : Row) (table : Reserved) (accesses : List Access) (f : Facts) (j k : ℕ) (x : Option UnitId) (next : Next) → IsRow row → MatchOption x (IsIdle next) (RunsOn row table accesses f j k next) → IfSome x (λ unit. taken_at table (place_of_unit unit) next.at.start < 255)
-units_fit row table accesses f j k None next good run = tt
-units_fit row table accesses f j k (Some u) next good run = not_full table (place_of_unit u) (option_of row u).units next.marks.clear next.at.start (units_high row u good) run.start
+units_fit : (config : Configuration) (table : Reserved) (accesses : List Access) (f : Facts) (j k : ℕ) (x : Option UnitId) (next : Next) → IsWithinLimits config → MatchOption x (IsIdle next) (RunsOn config table accesses f j k next) → IfSome x (λ unit. taken_at table (place_of_unit unit) next.at.start < 255)
+units_fit config table accesses f j k None next good run = tt
+units_fit config table accesses f j k (Some u) next good run = not_full table (place_of_unit u) (option_of config u).units next.marks.clear next.at.start (units_high config u good) run.start
 
-buses_fit : (row : Row) (table : Reserved) (accesses : List Access) (f : Facts) (j k : ℕ) (x : Option UnitId) (dest : Option ℕ) (next : Next) → IsRow row → f.dest ≡ dest → MatchOption x (IsIdle next) (RunsOn row table accesses f j k next) → IfSome x (λ unit. IfSome dest (λ r. taken_at table bus_line next.at.end < 255))
-buses_fit row table accesses f j k None dest next good of run = tt
-buses_fit row table accesses f j k (Some u) None next good of run = tt
-buses_fit row table accesses f j k (Some u) (Some r) next good of run =
-    let end : TakesBus row table (Some r) next.at.finish next.at.end next.buses = rw of at run.end in
-    not_full table bus_line row.buses (next.at.finish + 1) next.at.end (buses_high row good) end.0
+buses_fit : (config : Configuration) (table : Reserved) (accesses : List Access) (f : Facts) (j k : ℕ) (x : Option UnitId) (dest : Option ℕ) (next : Next) → IsWithinLimits config → f.dest ≡ dest → MatchOption x (IsIdle next) (RunsOn config table accesses f j k next) → IfSome x (λ unit. IfSome dest (λ r. taken_at table bus_line next.at.end < 255))
+buses_fit config table accesses f j k None dest next good of run = tt
+buses_fit config table accesses f j k (Some u) None next good of run = tt
+buses_fit config table accesses f j k (Some u) (Some r) next good of run =
+    let end : TakesBus config table (Some r) next.at.finish next.at.end next.buses = rw of at run.end in
+    not_full table bus_line config.buses (next.at.finish + 1) next.at.end (buses_high config good) end.0
 
-number_fits : (row : Row) (taken : List ℕ) (x : Option PoolId) (from issue : ℕ) (station : Option ℕ) → IsRow row → TakesStation row taken x from issue station → IfSome station (λ n. n < 16)
-number_fits row taken None from issue station good takes = rw takes.1 tt
-number_fits row taken (Some p) from issue station good takes =
-    let there : takes.0 < stations_of row p = takes.2.there in
-    rw takes.1 (omega (arith, stations_high row p good))
+number_fits : (config : Configuration) (taken : List ℕ) (x : Option PoolId) (from issue : ℕ) (station : Option ℕ) → IsWithinLimits config → TakesStation config taken x from issue station → IfSome station (λ n. n < 16)
+number_fits config taken None from issue station good takes = rw takes.1 tt
+number_fits config taken (Some p) from issue station good takes =
+    let there : takes.0 < stations_of config p = takes.2.there in
+    rw takes.1 (omega (arith, stations_high config p good))
 
-pub can_keep : (row : Row) (steps : List Step) (i : ℕ) (x : Step) (f : Facts) (latest : Latest) (table : Reserved) (taken : List ℕ) (accesses : List Access) (next : Next) → length steps < 2 ^ 56 → IsStep row steps i x f → IsShown (history row (take i steps)) latest table taken accesses → IsNextBy row latest table taken accesses f next
+pub can_keep : (config : Configuration) (steps : List Step) (i : ℕ) (x : Step) (f : Facts) (latest : Latest) (table : Reserved) (taken : List ℕ) (accesses : List Access) (next : Next) → length steps < 2 ^ 56 → IsStep config steps i x f → IsShown (history config (take i steps)) latest table taken accesses → IsNextBy config latest table taken accesses f next
     → CanKeep f next.at latest table
-can_keep row steps i x f latest table taken accesses next few step shown by =
-    let is : IsNextShown row (history row (take i steps)) latest x next = now_shown row steps i x f latest table taken accesses next step shown by in
+can_keep config steps i x f latest table taken accesses next few step shown by =
+    let is : IsNextShown config (history config (take i steps)) latest x next = now_shown config steps i x f latest table taken accesses next step shown by in
     let place : i < length steps = step.place in
-    let base : table.base ≤ last_issue (history row (take i steps)) = shown.base in
-    let issue : last_issue (history row (take i steps)) ≤ next.at.issue = is.issue in
-    let issued : latest.issued ≤ i = issued_bound row steps i _ latest (omega arith) shown.kept in
+    let base : table.base ≤ last_issue (history config (take i steps)) = shown.base in
+    let issue : last_issue (history config (take i steps)) ≤ next.at.issue = is.issue in
+    let issued : latest.issued ≤ i = issued_bound config steps i _ latest (omega arith) shown.kept in
     record {
       register = step.registers.dest;
       few = omega arith;
-      station = number_fits row taken f.pool next.marks.from next.at.issue next.at.station step.good by.issue;
+      station = number_fits config taken f.pool next.marks.from next.at.issue next.at.station step.good by.issue;
       reserve = record {
         base = omega arith;
         start = is.start;
         end = is.end;
-        units = units_fit row table accesses f (end_in latest.ends f.j) (end_in latest.ends f.k) f.unit next step.good by.run;
-        buses = buses_fit row table accesses f (end_in latest.ends f.j) (end_in latest.ends f.k) f.unit f.dest next step.good refl by.run;
+        units = units_fit config table accesses f (end_in latest.ends f.j) (end_in latest.ends f.k) f.unit next step.good by.run;
+        buses = buses_fit config table accesses f (end_in latest.ends f.j) (end_in latest.ends f.k) f.unit f.dest next step.good refl by.run;
       };
     }

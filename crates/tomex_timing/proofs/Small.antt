@@ -6,7 +6,7 @@ use Rattle.std.proofs.lemmas.Bool.{cases_Bool}
 use Rattle.std.proofs.lemmas.List.FromFn.{length-range_with_len}
 use Rattle.std.proofs.lemmas.List.Sums.{count_by-le-length}
 use Rattle.tomex_rvexec.specs.Steps.{step_pool, step_unit, is_in}
-use Rattle.tomex_config.specs.Row.{Row, IsRow}
+use Rattle.tomex_config.specs.Configuration.{Configuration, IsWithinLimits}
 use Rattle.tomex_timing.specs.declared.needs.Needs.{Needs}
 use Rattle.tomex_timing.specs.declared.part.Part.{Part}
 use Rattle.tomex_timing.specs.declared.part.Part.TheVariants.{Stations, Units, Buses, Width}
@@ -26,14 +26,14 @@ cycles_few p from to =
     let b : length (range_with_len from (to - from)) ≡ to - from = length-range_with_len from (to - from) in
     omega arith
 
-pub waits_within : (row : Row) (h : List Done) (d : Done) (n : ℕ) → InReach (greatest_end h) d.at → d.at.end ≤ n → AreWithin n (waits_of row h d)
-waits_within row h d n r l =
+pub waits_within : (config : Configuration) (h : List Done) (d : Done) (n : ℕ) → InReach (greatest_end h) d.at → d.at.end ≤ n → AreWithin n (waits_of config h d)
+waits_within config h d n r l =
     let i : d.at.issue ≤ d.at.end = r.issue in
     let s : d.at.start ≤ d.at.end = r.start in
     let low : ℕ = max 1 (last_issue h) in
     let a = cycles_few (lacks_branch h) (max 1 (last_issue h)) d.at.issue in
-    let b = cycles_few (lacks_width row h) (max 1 (last_issue h)) d.at.issue in
-    let c = cycles_few (lacks_station row h) (max 1 (last_issue h)) d.at.issue in
+    let b = cycles_few (lacks_width config h) (max 1 (last_issue h)) d.at.issue in
+    let c = cycles_few (lacks_station config h) (max 1 (last_issue h)) d.at.issue in
     let e = cycles_few (lacks_operand h d) (d.at.issue + 1) d.at.start in
     let f = cycles_few (lacks_address h d) (d.at.issue + 1) d.at.start in
     let g = cycles_few (lacks_memory h d) (d.at.issue + 1) d.at.start in
@@ -47,22 +47,22 @@ part_within Buses d waits n w = w.bus
 part_within Width d waits n w = w.width
 
 -- numbers of waits that are no longer than them
-sum_within : (row : Row) (f : Done → Waits → ℕ) (h : List Done) → ((d : Done) (waits : Waits) (n : ℕ) → AreWithin n waits → f d waits ≤ n) → IsRow row → AreTimed row h → greatest_end h ≤ 2 ^ 35 → sum_over (λ older d. f d (waits_of row older d)) h ≤ 2 ^ 35 * length h
-sum_within row f [] small good timed l = omega arith
-sum_within row f (d ∷ h) small good timed l =
-    let r : InReach (greatest_end h) d.at = reach row d h good timed in
-    let a : f d (waits_of row h d) ≤ 2 ^ 35 = small d (waits_of row h d) (2 ^ 35) (waits_within row h d (2 ^ 35) r (omega arith)) in
-    let b : sum_over (λ older d. f d (waits_of row older d)) h ≤ 2 ^ 35 * length h = sum_within row f h small good timed.1 (omega arith) in
+sum_within : (config : Configuration) (f : Done → Waits → ℕ) (h : List Done) → ((d : Done) (waits : Waits) (n : ℕ) → AreWithin n waits → f d waits ≤ n) → IsWithinLimits config → AreTimed config h → greatest_end h ≤ 2 ^ 35 → sum_over (λ older d. f d (waits_of config older d)) h ≤ 2 ^ 35 * length h
+sum_within config f [] small good timed l = omega arith
+sum_within config f (d ∷ h) small good timed l =
+    let r : InReach (greatest_end h) d.at = reach config d h good timed in
+    let a : f d (waits_of config h d) ≤ 2 ^ 35 = small d (waits_of config h d) (2 ^ 35) (waits_within config h d (2 ^ 35) r (omega arith)) in
+    let b : sum_over (λ older d. f d (waits_of config older d)) h ≤ 2 ^ 35 * length h = sum_within config f h small good timed.1 (omega arith) in
     omega arith
 
-pub needs_within : (row : Row) (h : List Done) (needs : Needs) → IsRow row → AreTimed row h → length h < 2 ^ 28 → AreNeeds row h needs → IsWithin (2 ^ 63) needs
-needs_within row h needs good timed few are =
-    let g : greatest_end h ≤ 67 * length h = total_bound row h good timed in
+pub needs_within : (config : Configuration) (h : List Done) (needs : Needs) → IsWithinLimits config → AreTimed config h → length h < 2 ^ 28 → AreNeeds config h needs → IsWithin (2 ^ 63) needs
+needs_within config h needs good timed few are =
+    let g : greatest_end h ≤ 67 * length h = total_bound config h good timed in
     let by : greatest_end h ≤ 2 ^ 35 = omega arith in
     record {
-      parts = λ part. rw (are.parts part) (let s = sum_within row (waits_for part) h (part_within part) good timed by in omega arith);
-      branch = rw are.branch (let s = sum_within row (λ d w. w.branch) h (λ d w n k. k.branch) good timed by in omega arith);
-      operand = rw are.operand (let s = sum_within row (λ d w. w.operand) h (λ d w n k. k.operand) good timed by in omega arith);
-      address = rw are.address (let s = sum_within row (λ d w. w.address) h (λ d w n k. k.address) good timed by in omega arith);
-      memory = rw are.memory (let s = sum_within row (λ d w. w.memory) h (λ d w n k. k.memory) good timed by in omega arith);
+      parts = λ part. rw (are.parts part) (let s = sum_within config (waits_for part) h (part_within part) good timed by in omega arith);
+      branch = rw are.branch (let s = sum_within config (λ d w. w.branch) h (λ d w n k. k.branch) good timed by in omega arith);
+      operand = rw are.operand (let s = sum_within config (λ d w. w.operand) h (λ d w n k. k.operand) good timed by in omega arith);
+      address = rw are.address (let s = sum_within config (λ d w. w.address) h (λ d w n k. k.address) good timed by in omega arith);
+      memory = rw are.memory (let s = sum_within config (λ d w. w.memory) h (λ d w n k. k.memory) good timed by in omega arith);
     }

@@ -5,7 +5,7 @@ use Rattle.std.specs.List.{list_all}
 use Rattle.std.proofs.lemmas.Bool.{cases_Bool, cases_order, lt-ltb, le-ltb, ltb-true, ne_eqb, eq-eqb}
 use Rattle.std.proofs.lemmas.List.Sums.{sum_by-cons}
 use Rattle.tomex_rvdec.specs.declared.pool.PoolId.{PoolId}
-use Rattle.tomex_config.specs.Row.{Row, stations_of}
+use Rattle.tomex_config.specs.Configuration.{Configuration, stations_of}
 use Rattle.tomex_timing.specs.declared.times.Done.{Done}
 use Rattle.tomex_rvexec.specs.Steps.{is_number}
 use Rattle.tomex_timing.specs.Station.{is_held, has_station, is_free}
@@ -95,6 +95,6 @@ found held station xs n few = elim (least_cases (λ k. list_all (λ d. not (held
 ]
 
 -- the station is found, and is one of the pool's
-pub number_is : (row : Row) (older : List Done) (pool : PoolId) (t : ℕ) → has_station row older (Some pool) t ≡ true
-    → IsLeast (is_free pool older t) (least (is_free pool older t) (stations_of row pool)) × (least (is_free pool older t) (stations_of row pool) < stations_of row pool)
-number_is row older pool t h = found (is_held pool t) (λ d. d.at.station) older (stations_of row pool) (ltb-true _ _ h)
+pub number_is : (config : Configuration) (older : List Done) (pool : PoolId) (t : ℕ) → has_station config older (Some pool) t ≡ true
+    → IsLeast (is_free pool older t) (least (is_free pool older t) (stations_of config pool)) × (least (is_free pool older t) (stations_of config pool) < stations_of config pool)
+number_is config older pool t h = found (is_held pool t) (λ d. d.at.station) older (stations_of config pool) (ltb-true _ _ h)

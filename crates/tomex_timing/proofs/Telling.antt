@@ -1,4 +1,4 @@
--- What needs tell of another row.
+-- What needs tell of another configuration.
 use Rattle.std.proofs.Common.{ℕ, zero, suc, ◌≤◌, ◌≡◌, ◌⊎◌, Bool, true, false, refl, sym, inl, inr, List, [], ◌∷◌, Some}
 use Rattle.std.specs.Prelude.{nat_le, ◌==◌, ◌&&◌, ◌||◌, slice_get}
 use Rattle.std.specs.List.{list_all}
@@ -6,7 +6,7 @@ use Rattle.std.proofs.lemmas.Bool.{and_parts, eqb-true, leb-true}
 use Rattle.tomex_rvdec.specs.declared.pool.PoolId.TheVariants as pools
 use Rattle.tomex_rvdec.specs.declared.pool.UnitId.{UnitId}
 use Rattle.tomex_rvdec.specs.declared.pool.UnitId.TheVariants as units
-use Rattle.tomex_config.specs.Row.{Row, option_of}
+use Rattle.tomex_config.specs.Configuration.{Configuration, option_of}
 use Rattle.tomex_timing.specs.declared.needs.Needs.{Needs}
 use Rattle.tomex_timing.specs.declared.part.Part.{Part}
 use Rattle.tomex_timing.specs.declared.part.Part.TheVariants.{Stations, Units, Buses, Width}
@@ -18,19 +18,19 @@ either : (a b : Bool) → (a || b) ≡ true → (a ≡ true) ⊎ (b ≡ true)
 either true b h = inl h
 either false b h = inr h
 
-part_told : (row other : Row) (h : List Done) (needs : Needs) (part : Part) → AreNeeds row h needs → allows needs row other part ≡ true → (count_of other part ≡ count_of row part) ⊎ ((stalls row part h ≡ 0) × (peak part h ≤ count_of other part))
-part_told row other h needs part are told_so = elim (either (count_of row part == count_of other part) ((need_of needs part).stalls == 0 && nat_le (need_of needs part).peak (count_of other part)) told_so) [
-  | inl e ↦ inl (sym (eqb-true (count_of row part) (count_of other part) e))
+part_told : (config other : Configuration) (h : List Done) (needs : Needs) (part : Part) → AreNeeds config h needs → allows needs config other part ≡ true → (count_of other part ≡ count_of config part) ⊎ ((stalls config part h ≡ 0) × (peak part h ≤ count_of other part))
+part_told config other h needs part are told_so = elim (either (count_of config part == count_of other part) ((need_of needs part).stalls == 0 && nat_le (need_of needs part).peak (count_of other part)) told_so) [
+  | inl e ↦ inl (sym (eqb-true (count_of config part) (count_of other part) e))
   | inr e ↦
       let both = and_parts ((need_of needs part).stalls == 0) (nat_le (need_of needs part).peak (count_of other part)) e in
-      let none : stalls row part h ≡ 0 = rw (are.parts part) at (eqb-true (need_of needs part).stalls 0 both.0) in
+      let none : stalls config part h ≡ 0 = rw (are.parts part) at (eqb-true (need_of needs part).stalls 0 both.0) in
       let top : peak part h ≤ count_of other part = rw (are.parts part) at (leb-true (need_of needs part).peak (count_of other part) both.1) in
       inr (none, top)
 ]
 
-latency_told : (row other : Row) (h : List Done) (needs : Needs) (unit : UnitId) → AreNeeds row h needs → allows_latency needs row other unit ≡ true → ((option_of other unit).latency ≡ (option_of row unit).latency) ⊎ (peak (Units unit) h ≡ 0)
-latency_told row other h needs unit are told_so = elim (either ((option_of row unit).latency == (option_of other unit).latency) ((need_of needs (Units unit)).peak == 0) told_so) [
-  | inl e ↦ inl (sym (eqb-true (option_of row unit).latency (option_of other unit).latency e))
+latency_told : (config other : Configuration) (h : List Done) (needs : Needs) (unit : UnitId) → AreNeeds config h needs → allows_latency needs config other unit ≡ true → ((option_of other unit).latency ≡ (option_of config unit).latency) ⊎ (peak (Units unit) h ≡ 0)
+latency_told config other h needs unit are told_so = elim (either ((option_of config unit).latency == (option_of other unit).latency) ((need_of needs (Units unit)).peak == 0) told_so) [
+  | inl e ↦ inl (sym (eqb-true (option_of config unit).latency (option_of other unit).latency e))
   | inr e ↦ inr (rw (are.parts (Units unit)) at (eqb-true (need_of needs (Units unit)).peak 0 e))
 ]
 
@@ -63,9 +63,9 @@ unit_listed p units.Mem all = at_place p all_units 3 _ all refl
 unit_listed p units.Bru all = at_place p all_units 4 _ all refl
 
 pub needs_tell : NeedsTell
-needs_tell row other h needs are told_so =
-    let told = and_parts (list_all (allows needs row other) all_parts) (list_all (allows_latency needs row other) all_units) told_so in
+needs_tell config other h needs are told_so =
+    let told = and_parts (list_all (allows needs config other) all_parts) (list_all (allows_latency needs config other) all_units) told_so in
     record {
-      parts = λ part. part_told row other h needs part are (part_listed (allows needs row other) part told.0);
-      latencies = λ unit. latency_told row other h needs unit are (unit_listed (allows_latency needs row other) unit told.1);
+      parts = λ part. part_told config other h needs part are (part_listed (allows needs config other) part told.0);
+      latencies = λ unit. latency_told config other h needs unit are (unit_listed (allows_latency needs config other) unit told.1);
     }

@@ -14,7 +14,7 @@ use Rattle.tomex_rvdec.specs.declared.pool.UnitId.{UnitId}
 use Rattle.tomex_rvexec.specs.Steps.{step_pool, step_unit, step_dest, j_of, k_of, is_branch, is_in, is_number}
 use Rattle.tomex_rvexec.specs.declared.step.Operand.{Operand}
 use Rattle.tomex_rvexec.specs.declared.step.Step.{Step}
-use Rattle.tomex_config.specs.Row.{Row, IsRow, option_of}
+use Rattle.tomex_config.specs.Configuration.{Configuration, IsWithinLimits, option_of}
 use Rattle.tomex_timing.specs.declared.times.Done.{Done}
 use Rattle.tomex_timing.specs.declared.times.Times.{Times}
 use Rattle.tomex_timing.specs.declared.window.Latest.{Latest}
@@ -38,11 +38,11 @@ abbrev pub AreClosed : List Done → Type 0
 AreClosed [] = Unit {0}
 AreClosed (d ∷ older) = IsClosed (live_of d) × AreClosed older
 
-pub closed : (row : Row) (h : List Done) → IsRow row → AreTimed row h → AreClosed h
-closed row [] good timed = tt
-closed row (d ∷ older) good timed =
-    let r : InReach (greatest_end older) d.at = in_reach row older d.step d.at (greatest_end older) good (timed_by row older good timed.1) timed.0 in
-    (record { start = r.start; finish = r.finish }, closed row older good timed.1)
+pub closed : (config : Configuration) (h : List Done) → IsWithinLimits config → AreTimed config h → AreClosed h
+closed config [] good timed = tt
+closed config (d ∷ older) good timed =
+    let r : InReach (greatest_end older) d.at = in_reach config older d.step d.at (greatest_end older) good (timed_by config older good timed.1) timed.0 in
+    (record { start = r.start; finish = r.finish }, closed config older good timed.1)
 
 abbrev one : Bool → ℕ
 one b = cond b 1 0
@@ -81,9 +81,9 @@ all_recent p c out (d ∷ h) close = elim (cases_Bool (nat_le c d.at.end)) [
     swap false true = refl
     swap false false = refl
 
-pub station_agree : (row : Row) (h : List Done) (pool : Option PoolId) (c t : ℕ) → AreClosed h → c ≤ t → has_station_among row (recent c h) pool t ≡ has_station row h pool t
-station_agree row h None c t close l = refl
-station_agree row h (Some pool) c t close l =
+pub station_agree : (config : Configuration) (h : List Done) (pool : Option PoolId) (c t : ℕ) → AreClosed h → c ≤ t → has_station_among config (recent c h) pool t ≡ has_station config h pool t
+station_agree config h None c t close l = refl
+station_agree config h (Some pool) c t close l =
     rw (count_recent (is_held_by pool t) c (λ x k m. and_right (is_in pool x.facts.pool) (nat_le t x.end) (lt-leb t x.end (omega arith))) h close) refl
 
 -- the first cycle from a greatest one on
@@ -107,15 +107,15 @@ after_split a t = elim (cases_Bool (nat_lt a t)) [
 ]
 
 -- the room for an issue is in the cycle of the last issue, where fewer than the width have it, and in each later one
-pub slot_split : (row : Row) (h : List Done) (t : ℕ) → IsRow row → AreTimed row h
-    → nat_le (cond (nat_lt (count_by (λ d. d.at.issue == last_issue h) h) row.width) (last_issue h) (last_issue h + 1)) t ≡ has_slot row h t
-slot_split row h t good timed = elim (cases_order (last_issue h) t) [
-  | inl e ↦ elim (cases_Bool (nat_lt (count_by (λ d. d.at.issue == last_issue h) h) row.width)) [
+pub slot_split : (config : Configuration) (h : List Done) (t : ℕ) → IsWithinLimits config → AreTimed config h
+    → nat_le (cond (nat_lt (count_by (λ d. d.at.issue == last_issue h) h) config.width) (last_issue h) (last_issue h + 1)) t ≡ has_slot config h t
+slot_split config h t good timed = elim (cases_order (last_issue h) t) [
+  | inl e ↦ elim (cases_Bool (nat_lt (count_by (λ d. d.at.issue == last_issue h) h) config.width)) [
     | inl f ↦ rw (f, ← e, f, le-leb (last_issue h) (last_issue h) (omega arith)) refl
     | inr f ↦ rw (f, ← e, f, lt-leb (last_issue h + 1) (last_issue h) (omega arith), le-leb (last_issue h) (last_issue h) (omega arith)) refl
   ]
-  | inr (inl l) ↦ rw (none_later row h t timed l, lt-ltb 0 row.width (width_low row good), le-leb (last_issue h) t (omega arith)) (either (nat_lt (count_by (λ d. d.at.issue == last_issue h) h) row.width) l)
-  | inr (inr l) ↦ rw (lt-leb (last_issue h) t l) (neither (nat_lt (count_by (λ d. d.at.issue == last_issue h) h) row.width) l)
+  | inr (inl l) ↦ rw (none_later config h t timed l, lt-ltb 0 config.width (width_low config good), le-leb (last_issue h) t (omega arith)) (either (nat_lt (count_by (λ d. d.at.issue == last_issue h) h) config.width) l)
+  | inr (inr l) ↦ rw (lt-leb (last_issue h) t l) (neither (nat_lt (count_by (λ d. d.at.issue == last_issue h) h) config.width) l)
 ]
   where
     either : (b : Bool) → last_issue h < t → nat_le (cond b (last_issue h) (last_issue h + 1)) t ≡ true
@@ -149,12 +149,12 @@ reorder true false c d = refl
 reorder false true c d = refl
 reorder false false c d = refl
 
-pub issue_agree : (row : Row) (h : List Done) (s : Step) (t : ℕ) → IsRow row → AreTimed row h → AreClosed h
-    → (nat_le (max (cond (nat_lt (count_by (λ d. d.at.issue == last_issue h) h) row.width) (last_issue h) (last_issue h + 1)) (branch_finish h + 1)) t && has_station_among row (recent (last_issue h) h) (step_pool s) t) ≡ can_issue row h s t
-issue_agree row h s t good timed close =
-    rw (max_split (cond (nat_lt (count_by (λ d. d.at.issue == last_issue h) h) row.width) (last_issue h) (last_issue h + 1)) (branch_finish h + 1) t, slot_split row h t good timed, branch_split h t)
+pub issue_agree : (config : Configuration) (h : List Done) (s : Step) (t : ℕ) → IsWithinLimits config → AreTimed config h → AreClosed h
+    → (nat_le (max (cond (nat_lt (count_by (λ d. d.at.issue == last_issue h) h) config.width) (last_issue h) (last_issue h + 1)) (branch_finish h + 1)) t && has_station_among config (recent (last_issue h) h) (step_pool s) t) ≡ can_issue config h s t
+issue_agree config h s t good timed close =
+    rw (max_split (cond (nat_lt (count_by (λ d. d.at.issue == last_issue h) h) config.width) (last_issue h) (last_issue h + 1)) (branch_finish h + 1) t, slot_split config h t good timed, branch_split h t)
     (elim (cases_Bool (nat_le (last_issue h) t)) [
-      | inl e ↦ rw (station_agree row h (step_pool s) (last_issue h) t close (leb-true (last_issue h) t e)) (reorder (has_slot row h t) (nat_lt 0 t) (are_branches_finished h t) (has_station row h (step_pool s) t))
+      | inl e ↦ rw (station_agree config h (step_pool s) (last_issue h) t close (leb-true (last_issue h) t e)) (reorder (has_slot config h t) (nat_lt 0 t) (are_branches_finished h t) (has_station config h (step_pool s) t))
       | inr e ↦ elim (cases_Bool (nat_lt 0 t)) [ inl f ↦ rw (e, f) refl | inr f ↦ rw (e, f) refl ]
     ])
 
@@ -172,9 +172,9 @@ ready_split issue address j k t =
       after_split k t,
     ) refl
 
-pub start_agree : (row : Row) (h : List Done) (s : Step) (unit : UnitId) (issue address c t : ℕ) → AreClosed h → c ≤ issue
-    → may_start row (max (max issue address) (max (source_end h (j_of s)) (source_end h (k_of s))) + 1) (recent c h) (facts_of s) unit t ≡ can_start row h s unit issue address t
-start_agree row h s unit issue address c t close i =
+pub start_agree : (config : Configuration) (h : List Done) (s : Step) (unit : UnitId) (issue address c t : ℕ) → AreClosed h → c ≤ issue
+    → may_start config (max (max issue address) (max (source_end h (j_of s)) (source_end h (k_of s))) + 1) (recent c h) (facts_of s) unit t ≡ can_start config h s unit issue address t
+start_agree config h s unit issue address c t close i =
     rw (ready_split issue address (source_end h (j_of s)) (source_end h (k_of s)) t) (elim (cases_Bool (nat_lt issue t)) [
       | inl e ↦
           let l : issue < t = ltb-true issue t e in
@@ -185,8 +185,8 @@ start_agree row h s unit issue address c t close i =
       | inr e ↦ rw e refl
     ])
 
-pub end_agree : (row : Row) (h : List Done) (finish c t : ℕ) → AreClosed h → c ≤ finish → (nat_le (finish + 1) t && has_bus_among row (recent c h) t) ≡ can_end row h finish t
-end_agree row h finish c t close i =
+pub end_agree : (config : Configuration) (h : List Done) (finish c t : ℕ) → AreClosed h → c ≤ finish → (nat_le (finish + 1) t && has_bus_among config (recent c h) t) ≡ can_end config h finish t
+end_agree config h finish c t close i =
     rw (after_split finish t) (elim (cases_Bool (nat_lt finish t)) [
       | inl e ↦
           let l : finish < t = ltb-true finish t e in
@@ -226,44 +226,44 @@ source_agree h ends None same small = refl
 source_agree h ends (Some o) same small = same o.register (small o refl)
 
 -- what the next step needs of a history: its times are settled, and the issue is no earlier than the last
-end_part : (row : Row) (h : List Done) (s : Step) (unit : Option UnitId) (from issue start finish end c : ℕ) → IsRow row → AreClosed h → c ≤ issue → issue < from
-    → MatchOption unit (start ≡ issue) (λ u. IsLeast (may_start row from (recent c h) (facts_of s) u) start)
-    → MatchOption unit (finish ≡ issue) (λ u. finish ≡ start + (option_of row u).latency - 1)
-    → MatchOption unit (end ≡ issue) (λ u. MatchBool (is_some (step_dest s)) (IsFirst (finish + 1) (has_bus_among row (recent c h)) end) (end ≡ finish))
-    → MatchOption unit (end ≡ issue) (λ u. MatchBool (is_some (step_dest s)) (IsLeast (can_end row h finish) end) (end ≡ finish))
-end_part row h s None from issue start finish end c good close l f x y z = z
-end_part row h s (Some u) from issue start finish end c good close l f x y z =
+end_part : (config : Configuration) (h : List Done) (s : Step) (unit : Option UnitId) (from issue start finish end c : ℕ) → IsWithinLimits config → AreClosed h → c ≤ issue → issue < from
+    → MatchOption unit (start ≡ issue) (λ u. IsLeast (may_start config from (recent c h) (facts_of s) u) start)
+    → MatchOption unit (finish ≡ issue) (λ u. finish ≡ start + (option_of config u).latency - 1)
+    → MatchOption unit (end ≡ issue) (λ u. MatchBool (is_some (step_dest s)) (IsFirst (finish + 1) (has_bus_among config (recent c h)) end) (end ≡ finish))
+    → MatchOption unit (end ≡ issue) (λ u. MatchBool (is_some (step_dest s)) (IsLeast (can_end config h finish) end) (end ≡ finish))
+end_part config h s None from issue start finish end c good close l f x y z = z
+end_part config h s (Some u) from issue start finish end c good close l f x y z =
     let k : from ≤ start = leb-true from start (and_parts _ _ (and_parts _ _ x.0).0).0 in
-    let q : finish ≡ start + (option_of row u).latency - 1 = y in
-    let pos : 0 < (option_of row u).latency = latency_low row u good in
+    let q : finish ≡ start + (option_of config u).latency - 1 = y in
+    let pos : 0 < (option_of config u).latency = latency_low config u good in
     let m : c ≤ finish = omega arith in
-    MatchBool-map (is_some (step_dest s)) _ _ _ (λ w. least_agree (λ t. nat_le (finish + 1) t && has_bus_among row (recent c h) t) (can_end row h finish) end (λ t. end_agree row h finish c t close m) w) z
+    MatchBool-map (is_some (step_dest s)) _ _ _ (λ w. least_agree (λ t. nat_le (finish + 1) t && has_bus_among config (recent c h) t) (can_end config h finish) end (λ t. end_agree config h finish c t close m) w) z
 
 address_part : (memory : Bool) (h : List Done) (s : Step) (issue : ℕ) (a : Option ℕ) → a ≡ cond memory (Some (max (max issue (source_end h (j_of s))) (last_address h) + 1)) None → MatchBool memory (IsLeast (can_address h s issue) (cycle_of a)) (a ≡ None)
 address_part true h s issue a e = rw e (address_agree h s issue)
 address_part false h s issue a e = e
 
-pub next_is : (row : Row) (h : List Done) (s : Step) (at : Times) (live : List Live) (latest : Latest)
-    → IsRow row → ForSome (j_of s) (λ o. o.register < 32) → ForSome (k_of s) (λ o. o.register < 32) → AreTimed row h → AreClosed h → IsKept h live latest → IsNext row live latest s at → IsTimed row h s at
-next_is row h s at live latest good small_j small_k timed close kept next =
+pub next_is : (config : Configuration) (h : List Done) (s : Step) (at : Times) (live : List Live) (latest : Latest)
+    → IsWithinLimits config → ForSome (j_of s) (λ o. o.register < 32) → ForSome (k_of s) (λ o. o.register < 32) → AreTimed config h → AreClosed h → IsKept h live latest → IsNext config live latest s at → IsTimed config h s at
+next_is config h s at live latest good small_j small_k timed close kept next =
     let c : latest.issue ≡ last_issue h = kept.issue in
     let w : live ≡ recent (last_issue h) h = kept.window in
     let j : end_among latest.ends (j_of s) ≡ source_end h (j_of s) = source_agree h latest.ends (j_of s) kept.ends small_j in
     let k : end_among latest.ends (k_of s) ≡ source_end h (k_of s) = source_agree h latest.ends (k_of s) kept.ends small_k in
-    let ni : IsFirst (max (cond (nat_lt (count_by (λ d. d.at.issue == last_issue h) h) row.width) (last_issue h) (last_issue h + 1)) (branch_finish h + 1)) (has_station_among row (recent (last_issue h) h) (step_pool s)) at.issue = rw (c, w, kept.issued, kept.branch) at next.issue in
-    let issue : IsLeast (can_issue row h s) at.issue = least_agree (λ t. nat_le (max (cond (nat_lt (count_by (λ d. d.at.issue == last_issue h) h) row.width) (last_issue h) (last_issue h + 1)) (branch_finish h + 1)) t && has_station_among row (recent (last_issue h) h) (step_pool s) t) (can_issue row h s) at.issue (λ t. issue_agree row h s t good timed close) ni in
-    let l : last_issue h ≤ at.issue = issue_from row h s at.issue issue.0 in
+    let ni : IsFirst (max (cond (nat_lt (count_by (λ d. d.at.issue == last_issue h) h) config.width) (last_issue h) (last_issue h + 1)) (branch_finish h + 1)) (has_station_among config (recent (last_issue h) h) (step_pool s)) at.issue = rw (c, w, kept.issued, kept.branch) at next.issue in
+    let issue : IsLeast (can_issue config h s) at.issue = least_agree (λ t. nat_le (max (cond (nat_lt (count_by (λ d. d.at.issue == last_issue h) h) config.width) (last_issue h) (last_issue h + 1)) (branch_finish h + 1)) t && has_station_among config (recent (last_issue h) h) (step_pool s) t) (can_issue config h s) at.issue (λ t. issue_agree config h s t good timed close) ni in
+    let l : last_issue h ≤ at.issue = issue_from config h s at.issue issue.0 in
     let na : at.address ≡ cond (is_memory s) (Some (max (max at.issue (source_end h (j_of s))) (last_address h) + 1)) None = rw (j, kept.address) at next.address in
     let from : ℕ = max (max at.issue (cycle_of at.address)) (max (source_end h (j_of s)) (source_end h (k_of s))) + 1 in
-    let ns : MatchOption (step_unit s) (at.start ≡ at.issue) (λ u. IsLeast (may_start row (max (max at.issue (cycle_of at.address)) (max (source_end h (j_of s)) (source_end h (k_of s))) + 1) (recent (last_issue h) h) (facts_of s) u) at.start) = rw (j, k, w) at next.start in
-    let ne : MatchOption (step_unit s) (at.end ≡ at.issue) (λ u. MatchBool (is_some (step_dest s)) (IsFirst (at.finish + 1) (has_bus_among row (recent (last_issue h) h)) at.end) (at.end ≡ at.finish)) = rw w at next.end in
+    let ns : MatchOption (step_unit s) (at.start ≡ at.issue) (λ u. IsLeast (may_start config (max (max at.issue (cycle_of at.address)) (max (source_end h (j_of s)) (source_end h (k_of s))) + 1) (recent (last_issue h) h) (facts_of s) u) at.start) = rw (j, k, w) at next.start in
+    let ne : MatchOption (step_unit s) (at.end ≡ at.issue) (λ u. MatchBool (is_some (step_dest s)) (IsFirst (at.finish + 1) (has_bus_among config (recent (last_issue h) h)) at.end) (at.end ≡ at.finish)) = rw w at next.end in
     let nn : MatchOption (step_pool s) (at.station ≡ None) (λ p. (n : ℕ) × (at.station ≡ Some n) × IsLeast (is_free_among p (recent (last_issue h) h) at.issue) n) = rw w at next.station in
     record {
       issue = issue;
       address = address_part (is_memory s) h s at.issue at.address na;
-      start = MatchOption-map (step_unit s) _ _ _ (λ u x. least_agree (may_start row (max (max at.issue (cycle_of at.address)) (max (source_end h (j_of s)) (source_end h (k_of s))) + 1) (recent (last_issue h) h) (facts_of s) u) (can_start row h s u at.issue (cycle_of at.address)) at.start (λ t. start_agree row h s u at.issue (cycle_of at.address) (last_issue h) t close l) x) ns;
+      start = MatchOption-map (step_unit s) _ _ _ (λ u x. least_agree (may_start config (max (max at.issue (cycle_of at.address)) (max (source_end h (j_of s)) (source_end h (k_of s))) + 1) (recent (last_issue h) h) (facts_of s) u) (can_start config h s u at.issue (cycle_of at.address)) at.start (λ t. start_agree config h s u at.issue (cycle_of at.address) (last_issue h) t close l) x) ns;
       finish = next.finish;
-      end = end_part row h s (step_unit s) (max (max at.issue (cycle_of at.address)) (max (source_end h (j_of s)) (source_end h (k_of s))) + 1) at.issue at.start at.finish at.end (last_issue h) good close l (omega arith) ns next.finish ne;
+      end = end_part config h s (step_unit s) (max (max at.issue (cycle_of at.address)) (max (source_end h (j_of s)) (source_end h (k_of s))) + 1) at.issue at.start at.finish at.end (last_issue h) good close l (omega arith) ns next.finish ne;
       station = MatchOption-map (step_pool s) _ _ _ (λ p x. (x.0, x.1, least_agree (is_free_among p (recent (last_issue h) h) at.issue) (is_free p h at.issue) x.0 (λ n. free_agree p h at.issue (last_issue h) n close l) x.2)) nn;
     }
 
@@ -304,24 +304,24 @@ length-written_by None end written = refl
 length-written_by (Some r) end written = length-set written r end
 
 -- the count of those that issue in the last cycle of issue
-pub issued_kept : (row : Row) (h : List Done) (issue issued : ℕ) → AreTimed row h → last_issue h ≤ issue → issued ≡ count_by (λ d. d.at.issue == last_issue h) h
+pub issued_kept : (config : Configuration) (h : List Done) (issue issued : ℕ) → AreTimed config h → last_issue h ≤ issue → issued ≡ count_by (λ d. d.at.issue == last_issue h) h
     → cond (issue == last_issue h) (issued + 1) 1 ≡ suc (count_by (λ d. d.at.issue == issue) h)
-issued_kept row h issue issued timed l e = elim (cases_eq issue (last_issue h)) [
+issued_kept config h issue issued timed l e = elim (cases_eq issue (last_issue h)) [
   | inl f ↦ let b : (issue == last_issue h) ≡ true = eq-eqb issue (last_issue h) f in rw (b, f, e) (omega arith)
   | inr n ↦
       let b : (issue == last_issue h) ≡ false = ne_eqb issue (last_issue h) n in
       let less : last_issue h < issue = elim (cases_order (last_issue h) issue) [ inl f ↦ absurd (n (sym f)) | inr (inl k) ↦ k | inr (inr k) ↦ absurd (omega arith) ] in
-      rw (b, none_later row h issue timed less) refl
+      rw (b, none_later config h issue timed less) refl
 ]
 
 count_first : (d : Done) (h : List Done) → count_by (λ x. x.at.issue == d.at.issue) (d ∷ h) ≡ suc (count_by (λ x. x.at.issue == d.at.issue) h)
 count_first d h = rw (sum_by-cons, eq-eqb d.at.issue d.at.issue refl) (omega arith)
 
-pub kept_on : (row : Row) (h : List Done) (s : Step) (at : Times) (live : List Live) (latest : Latest)
-    → ForSome (step_dest s) (λ r. r < 32) → AreTimed row h → IsKept h live latest → IsTimed row h s at → at.issue ≤ at.end
+pub kept_on : (config : Configuration) (h : List Done) (s : Step) (at : Times) (live : List Live) (latest : Latest)
+    → ForSome (step_dest s) (λ r. r < 32) → AreTimed config h → IsKept h live latest → IsTimed config h s at → at.issue ≤ at.end
     → IsKept (record { step = s; at = at } ∷ h) (filter (λ l. nat_le at.issue l.end) live ++ (live_of (record { step = s; at = at }) ∷ [])) (latest_after (facts_of s) at latest)
-kept_on row h s at live latest small before kept timed later =
-    let l : last_issue h ≤ at.issue = issue_from row h s at.issue timed.issue.0 in
+kept_on config h s at live latest small before kept timed later =
+    let l : last_issue h ≤ at.issue = issue_from config h s at.issue timed.issue.0 in
     let d : Done = record { step = s; at = at } in
     let t : nat_le at.issue at.end ≡ true = le-leb at.issue at.end later in
     record {
@@ -329,7 +329,7 @@ kept_on row h s at live latest small before kept timed later =
       ends = writer_kept h d (step_dest s) at.end latest.ends refl refl kept.count kept.ends small;
       count = length-written_by (step_dest s) at.end latest.ends ∙ kept.count;
       issue = refl;
-      issued = rw kept.issue (issued_kept row h at.issue latest.issued before l kept.issued ∙ sym (count_first d h));
+      issued = rw kept.issue (issued_kept config h at.issue latest.issued before l kept.issued ∙ sym (count_first d h));
       branch = rw kept.branch refl;
       address = address_kept (is_memory s) at.address latest.address
           (λ e. let a : IsLeast (can_address h s at.issue) (cycle_of at.address) = MatchBool-at_true _ _ e timed.address in address_pos h s at.issue (cycle_of at.address) a.0)

@@ -7,7 +7,7 @@ use Rattle.tomex_rvdec.specs.Parts.{place_of_pool, place_of_unit}
 use Rattle.tomex_rvdec.specs.declared.pool.PoolId.{PoolId}
 use Rattle.tomex_rvdec.specs.declared.pool.UnitId.{UnitId}
 use Rattle.tomex_rvexec.specs.declared.step.ByteRange.{ByteRange}
-use Rattle.tomex_config.specs.Row.{Row, stations_of, option_of}
+use Rattle.tomex_config.specs.Configuration.{Configuration, stations_of, option_of}
 use Rattle.tomex_timing.specs.declared.accesses.Access.{Access}
 use Rattle.tomex_timing.specs.declared.next.Next.{Next}
 use Rattle.tomex_timing.specs.declared.times.Times.{Times}
@@ -115,21 +115,21 @@ end_in ends None = 0
 end_in ends (Some r) = slice_index ends r
 
 -- a step takes the station that is free first, if it takes one
-abbrev pub TakesStation : Row → List ℕ → Option PoolId → ℕ → ℕ → Option ℕ → Type 0
-TakesStation row ends pool from issue station =
+abbrev pub TakesStation : Configuration → List ℕ → Option PoolId → ℕ → ℕ → Option ℕ → Type 0
+TakesStation config ends pool from issue station =
     MatchOption pool
     ((issue ≡ from) × (station ≡ None))
-    (λ p. (n : ℕ) × (station ≡ Some n) × IsFreeFirst ends p (stations_of row p) from issue n)
+    (λ p. (n : ℕ) × (station ≡ Some n) × IsFreeFirst ends p (stations_of config p) from issue n)
 
 -- what is taken of a line with one's own is one more than what others take of it
 abbrev pub with_own : Reserved → ℕ → ℕ → ℕ
 with_own table line t = taken_at table line t + 1
 
 -- a result ends in the first cycle after the finish with a bus left
-abbrev pub TakesBus : Row → Reserved → Option ℕ → ℕ → ℕ → ℕ → Type 0
-TakesBus row table dest finish end buses =
+abbrev pub TakesBus : Configuration → Reserved → Option ℕ → ℕ → ℕ → ℕ → Type 0
+TakesBus config table dest finish end buses =
     MatchBool (is_some dest)
-    (IsFirst (finish + 1) (is_left table bus_line row.buses) end × (buses ≡ with_own table bus_line end))
+    (IsFirst (finish + 1) (is_left table bus_line config.buses) end × (buses ≡ with_own table bus_line end))
     ((end ≡ finish) × (buses ≡ 0))
 
 -- what starts and ends as it issues
@@ -144,25 +144,25 @@ pub record IsIdle (next : Next) : Type 0 where
   pub buses : next.buses ≡ 0
 
 -- what runs on a unit of this kind, given the ends of its operands' producers
-pub record RunsOn (row : Row) (table : Reserved) (accesses : List Access) (f : Facts) (j k : ℕ) (next : Next)
+pub record RunsOn (config : Configuration) (table : Reserved) (accesses : List Access) (f : Facts) (j k : ℕ) (next : Next)
     (unit : UnitId) : Type 0 where
   pub operands : next.marks.operands ≡ operands_from next.at.issue j k
   pub ready : next.marks.ready ≡ ready_from next.at.issue next.at.address j k
   pub clear : ArePast f accesses next.marks.ready next.marks.clear
-  pub start : IsFirst next.marks.clear (is_left table (place_of_unit unit) (option_of row unit).units) next.at.start
-  pub finish : next.at.finish ≡ next.at.start + (option_of row unit).latency - 1
-  pub end : TakesBus row table f.dest next.at.finish next.at.end next.buses
+  pub start : IsFirst next.marks.clear (is_left table (place_of_unit unit) (option_of config unit).units) next.at.start
+  pub finish : next.at.finish ≡ next.at.start + (option_of config unit).latency - 1
+  pub end : TakesBus config table f.dest next.at.finish next.at.end next.buses
   pub units : next.units ≡ with_own table (place_of_unit unit) next.at.start
 
 -- the times of a next step, its marks and what it takes, by what is held
-pub record IsNextBy (row : Row) (latest : Latest) (table : Reserved) (ends : List ℕ) (accesses : List Access)
+pub record IsNextBy (config : Configuration) (latest : Latest) (table : Reserved) (ends : List ℕ) (accesses : List Access)
     (f : Facts) (next : Next) : Type 0 where
-  pub from : next.marks.from ≡ issue_from row latest
-  pub issue : TakesStation row ends f.pool next.marks.from next.at.issue next.at.station
+  pub from : next.marks.from ≡ issue_from config latest
+  pub issue : TakesStation config ends f.pool next.marks.from next.at.issue next.at.station
   pub address : next.at.address ≡ address_among latest f.pool (end_in latest.ends f.j) next.at.issue
   pub run : MatchOption f.unit
       (IsIdle next)
-      (RunsOn row table accesses f (end_in latest.ends f.j) (end_in latest.ends f.k) next)
+      (RunsOn config table accesses f (end_in latest.ends f.j) (end_in latest.ends f.k) next)
 
 -- a step can be noted in the table: it has each of its cycles, and no line is full in them
 pub record CanReserve (f : Facts) (at : Times) (table : Reserved) : Type 0 where

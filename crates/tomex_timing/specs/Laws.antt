@@ -5,7 +5,7 @@ use Rattle.tomex_rvdec.specs.declared.pool.UnitId.{UnitId}
 use Rattle.tomex_rvexec.specs.Flow.{covers}
 use Rattle.tomex_rvexec.specs.Steps.{is_store, step_dest, step_pool, step_unit}
 use Rattle.tomex_rvexec.specs.declared.step.Step.{Step}
-use Rattle.tomex_config.specs.Row.{Row, IsRow, stations_of, option_of}
+use Rattle.tomex_config.specs.Configuration.{Configuration, IsWithinLimits, stations_of, option_of}
 use Rattle.tomex_timing.specs.declared.needs.Needs.{Needs}
 use Rattle.tomex_timing.specs.declared.part.Part.{Part}
 use Rattle.tomex_timing.specs.declared.part.Part.TheVariants.{Buses, Width}
@@ -22,62 +22,62 @@ use Rattle.tomex_timing.specs.Tables.{tag_of}
 
 -- each step of a run has times
 abbrev pub TimesExist : Type 0
-TimesExist = (row : Row) (older : List Done) (s : Step) → IsRow row → AreTimed row older
-    → (at : Times) × IsTimed row older s at
+TimesExist = (config : Configuration) (older : List Done) (s : Step) → IsWithinLimits config → AreTimed config older
+    → (at : Times) × IsTimed config older s at
 
 -- and no others
 abbrev pub TimesAreUnique : Type 0
-TimesAreUnique = (row : Row) (older : List Done) (s : Step) (a b : Times)
-    → IsTimed row older s a → IsTimed row older s b → a ≡ b
+TimesAreUnique = (config : Configuration) (older : List Done) (s : Step) (a b : Times)
+    → IsTimed config older s a → IsTimed config older s b → a ≡ b
 
 -- the function gives the times of the relation
 abbrev pub SearchIsTimed : Type 0
-SearchIsTimed = (row : Row) (steps : List Step) → IsRow row → AreTimed row (timed_of row steps)
+SearchIsTimed = (config : Configuration) (steps : List Step) → IsWithinLimits config → AreTimed config (timed_of config steps)
 
 -- and a history with the times of the relation is the function's
 abbrev pub TimedIsSearch : Type 0
-TimedIsSearch = (row : Row) (h : List Done) → IsRow row → AreTimed row h
-    → h ≡ timed_of row (map (λ d. d.step) h)
+TimedIsSearch = (config : Configuration) (h : List Done) → IsWithinLimits config → AreTimed config h
+    → h ≡ timed_of config (map (λ d. d.step) h)
 
 -- n steps take at most 67 * n cycles
 abbrev pub TotalIsBounded : Type 0
-TotalIsBounded = (row : Row) (h : List Done) → IsRow row → AreTimed row h
+TotalIsBounded = (config : Configuration) (h : List Done) → IsWithinLimits config → AreTimed config h
     → greatest_end h ≤ 67 * length h
 
 -- the cycles that a run takes are the greatest end of its history
 abbrev pub TotalIsGreatestEnd : Type 0
-TotalIsGreatestEnd = (row : Row) (steps : List Step)
-    → greatest_end (history row steps) ≡ total_of (times_in row steps)
+TotalIsGreatestEnd = (config : Configuration) (steps : List Step)
+    → greatest_end (history config steps) ≡ total_of (times_in config steps)
 
 -- the times of a run's beginning are the beginning of its times
 abbrev pub YoungerChangeNothing : Type 0
-YoungerChangeNothing = (row : Row) (steps more : List Step)
-    → (rest : List Times) × (times_in row (steps ++ more) ≡ times_in row steps ++ rest)
+YoungerChangeNothing = (config : Configuration) (steps more : List Step)
+    → (rest : List Times) × (times_in config (steps ++ more) ≡ times_in config steps ++ rest)
 
 -- later than the issue before and than the finish of each older branch, with a station left
-abbrev pub can_issue_alone : Row → List Done → Step → ℕ → Bool
-can_issue_alone row older s t =
-    nat_lt (last_issue older) t && are_branches_finished older t && has_station row older (step_pool s) t
+abbrev pub can_issue_alone : Configuration → List Done → Step → ℕ → Bool
+can_issue_alone config older s t =
+    nat_lt (last_issue older) t && are_branches_finished older t && has_station config older (step_pool s) t
 
 -- where one instruction issues in a cycle, that is the test for issue
 abbrev pub IssuesAlone : Type 0
-IssuesAlone = (row : Row) (older : List Done) (s : Step) (t : ℕ) → row.width ≡ 1
-    → AreTimed row older → can_issue row older s t ≡ can_issue_alone row older s t
+IssuesAlone = (config : Configuration) (older : List Done) (s : Step) (t : ℕ) → config.width ≡ 1
+    → AreTimed config older → can_issue config older s t ≡ can_issue_alone config older s t
 
 -- and each issue is later than the one before
 abbrev pub IssuesRise : Type 0
-IssuesRise = (row : Row) (d : Done) (older : List Done) → row.width ≡ 1
-    → AreTimed row (d ∷ older) → last_issue older < d.at.issue
+IssuesRise = (config : Configuration) (d : Done) (older : List Done) → config.width ≡ 1
+    → AreTimed config (d ∷ older) → last_issue older < d.at.issue
 
 -- whatever the width, no issue comes before the one before
 abbrev pub IssuesStandInOrder : Type 0
-IssuesStandInOrder = (row : Row) (d : Done) (older : List Done)
-    → AreTimed row (d ∷ older) → last_issue older ≤ d.at.issue
+IssuesStandInOrder = (config : Configuration) (d : Done) (older : List Done)
+    → AreTimed config (d ∷ older) → last_issue older ≤ d.at.issue
 
 -- and in no cycle more than the width of them
 abbrev pub IssuesFitTheWidth : Type 0
-IssuesFitTheWidth = (row : Row) (h : List Done) (t : ℕ)
-    → AreTimed row h → count_by (λ d. d.at.issue == t) h ≤ row.width
+IssuesFitTheWidth = (config : Configuration) (h : List Done) (t : ℕ)
+    → AreTimed config h → count_by (λ d. d.at.issue == t) h ≤ config.width
 
 -- where g is the greatest end before a step, no time of it comes before its issue or after its end, and
 -- it ends at most 67 cycles past g
@@ -93,41 +93,41 @@ pub record InReach (g : ℕ) (at : Times) : Type 0 where
 
 -- so it is of each step
 abbrev pub TimesAreInReach : Type 0
-TimesAreInReach = (row : Row) (d : Done) (older : List Done) → IsRow row → AreTimed row (d ∷ older)
+TimesAreInReach = (config : Configuration) (d : Done) (older : List Done) → IsWithinLimits config → AreTimed config (d ∷ older)
     → InReach (greatest_end older) d.at
 
 -- what uses a unit starts after its issue, and after its address where it has one
 abbrev pub StartsComeLater : Type 0
-StartsComeLater = (row : Row) (d : Done) (older : List Done) → IsTimed row older d.step d.at
+StartsComeLater = (config : Configuration) (d : Done) (older : List Done) → IsTimed config older d.step d.at
     → is_some (step_unit d.step) ≡ true
     → (d.at.issue < d.at.start) × (cycle_of d.at.address < d.at.start)
 
 -- a result is sent after the operation has finished
 abbrev pub ResultsComeLater : Type 0
-ResultsComeLater = (row : Row) (d : Done) (older : List Done) → IsTimed row older d.step d.at
+ResultsComeLater = (config : Configuration) (d : Done) (older : List Done) → IsTimed config older d.step d.at
     → is_some (step_dest d.step) ≡ true → d.at.finish < d.at.end
 
 -- loads and stores compute their addresses after their issue, and one after the other
 abbrev pub AddressesRise : Type 0
-AddressesRise = (row : Row) (d : Done) (older : List Done) → IsTimed row older d.step d.at
+AddressesRise = (config : Configuration) (d : Done) (older : List Done) → IsTimed config older d.step d.at
     → is_memory d.step ≡ true
     → (d.at.issue < cycle_of d.at.address) × (last_address older < cycle_of d.at.address)
 
 -- the number of a step's station is below its pool's count
 abbrev pub NumbersAreLow : Type 0
-NumbersAreLow = (row : Row) (d : Done) (older : List Done) (pool : PoolId) (n : ℕ)
-    → IsTimed row older d.step d.at → step_pool d.step ≡ Some pool → d.at.station ≡ Some n
-    → n < stations_of row pool
+NumbersAreLow = (config : Configuration) (d : Done) (older : List Done) (pool : PoolId) (n : ℕ)
+    → IsTimed config older d.step d.at → step_pool d.step ≡ Some pool → d.at.station ≡ Some n
+    → n < stations_of config pool
 
 -- from a step's issue on no older one holds its station
 abbrev pub StationsAreApart : Type 0
-StationsAreApart = (row : Row) (d : Done) (older : List Done) (pool : PoolId) (n t : ℕ)
-    → IsTimed row older d.step d.at → step_pool d.step ≡ Some pool → d.at.station ≡ Some n
+StationsAreApart = (config : Configuration) (d : Done) (older : List Done) (pool : PoolId) (n t : ℕ)
+    → IsTimed config older d.step d.at → step_pool d.step ≡ Some pool → d.at.station ≡ Some n
     → d.at.issue ≤ t → is_free pool older t n ≡ true
 
 -- and what ends later than it issues has a station
 abbrev pub StationsAreThere : Type 0
-StationsAreThere = (row : Row) (d : Done) (older : List Done) → IsTimed row older d.step d.at
+StationsAreThere = (config : Configuration) (d : Done) (older : List Done) → IsTimed config older d.step d.at
     → d.at.issue < d.at.end → (tag : Tag) × (tag_of d ≡ Some tag)
 
 -- two accesses of one byte, one of them a store, conflict
@@ -137,33 +137,33 @@ AccessesConflict = (x y : Step) (a : ℕ) → covers x a ≡ true → covers y a
 
 -- and what starts comes after the finish of each older step that it conflicts with
 abbrev pub ConflictsAreFinished : Type 0
-ConflictsAreFinished = (row : Row) (d : Done) (older : List Done) → IsTimed row older d.step d.at
+ConflictsAreFinished = (config : Configuration) (d : Done) (older : List Done) → IsTimed config older d.step d.at
     → is_some (step_unit d.step) ≡ true → are_conflicts_finished older d.step d.at.start ≡ true
 
--- a history takes no more of a part than its row has
+-- a history takes no more of a part than its configuration has
 abbrev pub PeakIsWithin : Type 0
-PeakIsWithin = (row : Row) (h : List Done) (part : Part) → AreTimed row h → peak part h ≤ count_of row part
+PeakIsWithin = (config : Configuration) (h : List Done) (part : Part) → AreTimed config h → peak part h ≤ count_of config part
 
--- and all that its row has, where steps wait for it
+-- and all that its configuration has, where steps wait for it
 abbrev pub StalledPartsAreFull : Type 0
-StalledPartsAreFull = (row : Row) (h : List Done) (part : Part) → AreTimed row h
-    → 0 < stalls row part h → peak part h ≡ count_of row part
+StalledPartsAreFull = (config : Configuration) (h : List Done) (part : Part) → AreTimed config h
+    → 0 < stalls config part h → peak part h ≡ count_of config part
 
--- a row that serves a history as its own row does gives each step of it the same times
+-- a configuration that serves a history as its own configuration does gives each step of it the same times
 abbrev pub ServedTimesAreSame : Type 0
-ServedTimesAreSame = (row other : Row) (h : List Done) → AreTimed row h → Serves row other h → AreTimed other h
+ServedTimesAreSame = (config other : Configuration) (h : List Done) → AreTimed config h → Serves config other h → AreTimed other h
 
 -- so a run has one history, and one total, on both
 abbrev pub ServedRunsAreSame : Type 0
-ServedRunsAreSame = (row other : Row) (steps : List Step) → IsRow row → IsRow other
-    → Serves row other (history row steps)
-    → (history other steps ≡ history row steps) × (total_of (times_in other steps) ≡ total_of (times_in row steps))
+ServedRunsAreSame = (config other : Configuration) (steps : List Step) → IsWithinLimits config → IsWithinLimits other
+    → Serves config other (history config steps)
+    → (history other steps ≡ history config steps) × (total_of (times_in other steps) ≡ total_of (times_in config steps))
 
 -- Issue accounting: each cycle of a run is one in which something waits to issue, the one in which the last step
 -- issues but for waits, or one of the drain after its last issue.
 abbrev pub IssueCyclesAddUp : Type 0
-IssueCyclesAddUp = (row : Row) (d : Done) (older : List Done) → IsRow row → AreTimed row (d ∷ older)
-    → stalls_by (λ w. w.branch) row (d ∷ older) + stalls row Width (d ∷ older) + pool_stalls row (d ∷ older)
+IssueCyclesAddUp = (config : Configuration) (d : Done) (older : List Done) → IsWithinLimits config → AreTimed config (d ∷ older)
+    → stalls_by (λ w. w.branch) config (d ∷ older) + stalls config Width (d ∷ older) + pool_stalls config (d ∷ older)
     + drain (d ∷ older) + 1 ≡ greatest_end (d ∷ older)
 
 -- the cycles from issue to end of the steps with a unit
@@ -172,44 +172,44 @@ held_cycles [] = 0
 held_cycles (d ∷ older) = (if is_some (step_unit d.step) then d.at.end - d.at.issue else 0) + held_cycles older
 
 -- of these an operation takes its latency, and its result a cycle on a bus
-abbrev pub work_by : Row → Option UnitId → Bool → ℕ
-work_by row None dest = 0
-work_by row (Some unit) dest = (option_of row unit).latency + (if dest then 1 else 0)
+abbrev pub work_by : Configuration → Option UnitId → Bool → ℕ
+work_by config None dest = 0
+work_by config (Some unit) dest = (option_of config unit).latency + (if dest then 1 else 0)
 
-abbrev pub work_cycles : Row → List Done → ℕ
-work_cycles row [] = 0
-work_cycles row (d ∷ older) = work_by row (step_unit d.step) (is_some (step_dest d.step)) + work_cycles row older
+abbrev pub work_cycles : Configuration → List Done → ℕ
+work_cycles config [] = 0
+work_cycles config (d ∷ older) = work_by config (step_unit d.step) (is_some (step_dest d.step)) + work_cycles config older
 
 -- Station accounting: the others are waits.
 abbrev pub StationCyclesAddUp : Type 0
-StationCyclesAddUp = (row : Row) (h : List Done) → IsRow row → AreTimed row h
+StationCyclesAddUp = (config : Configuration) (h : List Done) → IsWithinLimits config → AreTimed config h
     → held_cycles h
-    ≡ stalls_by (λ w. w.operand) row h + stalls_by (λ w. w.address) row h + stalls_by (λ w. w.memory) row h
-    + unit_stalls row h + stalls row Buses h + work_cycles row h
+    ≡ stalls_by (λ w. w.operand) config h + stalls_by (λ w. w.address) config h + stalls_by (λ w. w.memory) config h
+    + unit_stalls config h + stalls config Buses h + work_cycles config h
 
--- needs of a run that suffice for another row tell that its times are the same there
+-- needs of a run that suffice for another configuration tell that its times are the same there
 abbrev pub NeedsTell : Type 0
-NeedsTell = (row other : Row) (h : List Done) (needs : Needs) → AreNeeds row h needs → suffice needs row other ≡ true
-    → Serves row other h
+NeedsTell = (config other : Configuration) (h : List Done) (needs : Needs) → AreNeeds config h needs → suffice needs config other ≡ true
+    → Serves config other h
 
 -- the waits of a run's steps for one cause add up to its stalls by that cause
 abbrev pub WaitsAddUp : Type 0
-WaitsAddUp = (row : Row) (steps : List Step) (cause : Waits → ℕ)
-    → sum_by cause (waits_in row steps) ≡ stalls_by cause row (history row steps)
+WaitsAddUp = (config : Configuration) (steps : List Step) (cause : Waits → ℕ)
+    → sum_by cause (waits_in config steps) ≡ stalls_by cause config (history config steps)
 
 -- those for a station are the stalls of all pools
 abbrev pub StationWaitsAreStalls : Type 0
-StationWaitsAreStalls = (row : Row) (h : List Done) → AreTimed row h
-    → stalls_by (λ w. w.station) row h ≡ pool_stalls row h
+StationWaitsAreStalls = (config : Configuration) (h : List Done) → AreTimed config h
+    → stalls_by (λ w. w.station) config h ≡ pool_stalls config h
 
 -- those for a unit are the stalls of all kinds
 abbrev pub UnitWaitsAreStalls : Type 0
-UnitWaitsAreStalls = (row : Row) (h : List Done) → AreTimed row h
-    → stalls_by (λ w. w.unit) row h ≡ unit_stalls row h
+UnitWaitsAreStalls = (config : Configuration) (h : List Done) → AreTimed config h
+    → stalls_by (λ w. w.unit) config h ≡ unit_stalls config h
 
 -- and those for the buses and the width are theirs
 abbrev pub BusWaitsAreStalls : Type 0
-BusWaitsAreStalls = (row : Row) (h : List Done) → stalls_by (λ w. w.bus) row h ≡ stalls row Buses h
+BusWaitsAreStalls = (config : Configuration) (h : List Done) → stalls_by (λ w. w.bus) config h ≡ stalls config Buses h
 
 abbrev pub WidthWaitsAreStalls : Type 0
-WidthWaitsAreStalls = (row : Row) (h : List Done) → stalls_by (λ w. w.width) row h ≡ stalls row Width h
+WidthWaitsAreStalls = (config : Configuration) (h : List Done) → stalls_by (λ w. w.width) config h ≡ stalls config Width h

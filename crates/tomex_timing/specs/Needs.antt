@@ -9,7 +9,7 @@ use Rattle.tomex_rvdec.specs.declared.pool.UnitId.{UnitId}
 use Rattle.tomex_rvdec.specs.declared.pool.UnitId.TheVariants as units
 use Rattle.tomex_rvexec.specs.Steps.{step_pool, step_unit, step_dest, is_in}
 use Rattle.tomex_rvexec.specs.declared.step.Step.{Step}
-use Rattle.tomex_config.specs.Row.{Row, stations_of, option_of}
+use Rattle.tomex_config.specs.Configuration.{Configuration, stations_of, option_of}
 use Rattle.tomex_timing.specs.declared.needs.Needs.{Needs}
 use Rattle.tomex_timing.specs.declared.part.Need.{Need}
 use Rattle.tomex_timing.specs.declared.part.Part.{Part}
@@ -20,12 +20,12 @@ use Rattle.tomex_timing.specs.History.{is_of, cycle_of, greatest_end, last_issue
 use Rattle.tomex_timing.specs.Recurrence.{has_slot, are_branches_finished, has_operands, are_conflicts_finished}
 use Rattle.tomex_timing.specs.Search.{history}
 
--- how many of a part a row has
-abbrev pub count_of : Row → Part → ℕ
-count_of row (Stations pool) = stations_of row pool
-count_of row (Units unit) = (option_of row unit).units
-count_of row Buses = row.buses
-count_of row Width = row.width
+-- how many of a part a configuration has
+abbrev pub count_of : Configuration → Part → ℕ
+count_of config (Stations pool) = stations_of config pool
+count_of config (Units unit) = (option_of config unit).units
+count_of config Buses = config.buses
+count_of config Width = config.width
 
 -- how many cycles pass a test, from one on and before another
 abbrev pub cycles_that : (ℕ → Bool) → ℕ → ℕ → ℕ
@@ -36,11 +36,11 @@ cycles_that p from to = count_by p (range_with_len from (to - from))
 abbrev pub lacks_branch : List Done → ℕ → Bool
 lacks_branch older t = not (are_branches_finished older t)
 
-abbrev pub lacks_width : Row → List Done → ℕ → Bool
-lacks_width row older t = are_branches_finished older t && not (has_slot row older t)
+abbrev pub lacks_width : Configuration → List Done → ℕ → Bool
+lacks_width config older t = are_branches_finished older t && not (has_slot config older t)
 
-abbrev pub lacks_station : Row → List Done → ℕ → Bool
-lacks_station row older t = are_branches_finished older t && has_slot row older t
+abbrev pub lacks_station : Configuration → List Done → ℕ → Bool
+lacks_station config older t = are_branches_finished older t && has_slot config older t
 
 abbrev pub issue_waits : List Done → Done → (ℕ → Bool) → ℕ
 issue_waits older d lacks = cycles_that lacks (max 1 (last_issue older)) d.at.issue
@@ -65,11 +65,11 @@ abbrev pub start_waits : Done → (ℕ → Bool) → ℕ
 start_waits d lacks = cycles_that lacks (d.at.issue + 1) d.at.start
 
 -- the waits of a step, given what is older; its result waits for a bus from its finish to its end
-abbrev pub waits_of : Row → List Done → Done → Waits
-waits_of row older d = record {
+abbrev pub waits_of : Configuration → List Done → Done → Waits
+waits_of config older d = record {
   branch = issue_waits older d (lacks_branch older);
-  width = issue_waits older d (lacks_width row older);
-  station = issue_waits older d (lacks_station row older);
+  width = issue_waits older d (lacks_width config older);
+  station = issue_waits older d (lacks_station config older);
   operand = start_waits d (lacks_operand older d);
   address = start_waits d (lacks_address older d);
   memory = start_waits d (lacks_memory older d);
@@ -85,13 +85,13 @@ waits_for Buses d waits = waits.bus
 waits_for Width d waits = waits.width
 
 -- the waits of each step of a history, the youngest first
-abbrev pub waits_over : Row → List Done → List Waits
-waits_over row [] = []
-waits_over row (d ∷ older) = waits_of row older d ∷ waits_over row older
+abbrev pub waits_over : Configuration → List Done → List Waits
+waits_over config [] = []
+waits_over config (d ∷ older) = waits_of config older d ∷ waits_over config older
 
 -- the waits of each step of a run, in program order
-abbrev pub waits_in : Row → List Step → List Waits
-waits_in row steps = reverse (waits_over row (history row steps))
+abbrev pub waits_in : Configuration → List Step → List Waits
+waits_in config steps = reverse (waits_over config (history config steps))
 
 -- a number of each step, given what is older, added up over a history
 abbrev pub sum_over : (List Done → Done → ℕ) → List Done → ℕ
@@ -99,23 +99,23 @@ sum_over f [] = 0
 sum_over f (d ∷ older) = f older d + sum_over f older
 
 -- the stalls of a part: how long all steps together wait for it
-abbrev pub stalls : Row → Part → List Done → ℕ
-stalls row part h = sum_over (λ older d. waits_for part d (waits_of row older d)) h
+abbrev pub stalls : Configuration → Part → List Done → ℕ
+stalls config part h = sum_over (λ older d. waits_for part d (waits_of config older d)) h
 
 -- and how long they wait by a cause, as for an operand, which is no part
-abbrev pub stalls_by : (Waits → ℕ) → Row → List Done → ℕ
-stalls_by cause row h = sum_over (λ older d. cause (waits_of row older d)) h
+abbrev pub stalls_by : (Waits → ℕ) → Configuration → List Done → ℕ
+stalls_by cause config h = sum_over (λ older d. cause (waits_of config older d)) h
 
 -- the stalls of all pools, and of all kinds of units
-abbrev pub pool_stalls : Row → List Done → ℕ
-pool_stalls row h =
-    stalls row (Stations pools.Alu) h + stalls row (Stations pools.Mul) h + stalls row (Stations pools.Div) h
-    + stalls row (Stations pools.Load) h + stalls row (Stations pools.Store) h + stalls row (Stations pools.Bru) h
+abbrev pub pool_stalls : Configuration → List Done → ℕ
+pool_stalls config h =
+    stalls config (Stations pools.Alu) h + stalls config (Stations pools.Mul) h + stalls config (Stations pools.Div) h
+    + stalls config (Stations pools.Load) h + stalls config (Stations pools.Store) h + stalls config (Stations pools.Bru) h
 
-abbrev pub unit_stalls : Row → List Done → ℕ
-unit_stalls row h =
-    stalls row (Units units.Alu) h + stalls row (Units units.Mul) h + stalls row (Units units.Div) h
-    + stalls row (Units units.Mem) h + stalls row (Units units.Bru) h
+abbrev pub unit_stalls : Configuration → List Done → ℕ
+unit_stalls config h =
+    stalls config (Units units.Alu) h + stalls config (Units units.Mul) h + stalls config (Units units.Div) h
+    + stalls config (Units units.Mem) h + stalls config (Units units.Bru) h
 
 -- the cycles after the last issue
 abbrev pub drain : List Done → ℕ
@@ -145,13 +145,13 @@ abbrev pub peak : Part → List Done → ℕ
 peak part [] = 0
 peak part (d ∷ older) = max (taken_by part older d) (peak part older)
 
--- A second row serves a history as the first does: of each part it has as many, or the history has no stalls of
--- it and takes no more of it than the second row has; and each kind of unit that is used has the same latency.
-pub record Serves (row other : Row) (h : List Done) : Type 0 where
+-- A second configuration serves a history as the first does: of each part it has as many, or the history has no stalls of
+-- it and takes no more of it than the second configuration has; and each kind of unit that is used has the same latency.
+pub record Serves (config other : Configuration) (h : List Done) : Type 0 where
   pub parts : (part : Part)
-      → (count_of other part ≡ count_of row part) ⊎ ((stalls row part h ≡ 0) × (peak part h ≤ count_of other part))
+      → (count_of other part ≡ count_of config part) ⊎ ((stalls config part h ≡ 0) × (peak part h ≤ count_of other part))
   pub latencies : (unit : UnitId)
-      → ((option_of other unit).latency ≡ (option_of row unit).latency) ⊎ (peak (Units unit) h ≡ 0)
+      → ((option_of other unit).latency ≡ (option_of config unit).latency) ⊎ (peak (Units unit) h ≡ 0)
 
 -- nothing is taken and nothing waits
 abbrev pub no_need : Need
@@ -165,25 +165,25 @@ need_of needs Buses = needs.buses
 need_of needs Width = needs.width
 
 -- these are the needs of a history
-pub record AreNeeds (row : Row) (h : List Done) (needs : Needs) : Type 0 where
-  pub parts : (part : Part) → need_of needs part ≡ record { peak = peak part h; stalls = stalls row part h }
-  pub branch : needs.branch ≡ stalls_by (λ w. w.branch) row h
-  pub operand : needs.operand ≡ stalls_by (λ w. w.operand) row h
-  pub address : needs.address ≡ stalls_by (λ w. w.address) row h
-  pub memory : needs.memory ≡ stalls_by (λ w. w.memory) row h
+pub record AreNeeds (config : Configuration) (h : List Done) (needs : Needs) : Type 0 where
+  pub parts : (part : Part) → need_of needs part ≡ record { peak = peak part h; stalls = stalls config part h }
+  pub branch : needs.branch ≡ stalls_by (λ w. w.branch) config h
+  pub operand : needs.operand ≡ stalls_by (λ w. w.operand) config h
+  pub address : needs.address ≡ stalls_by (λ w. w.address) config h
+  pub memory : needs.memory ≡ stalls_by (λ w. w.memory) config h
   pub last_issue : needs.last_issue ≡ last_issue h
   pub total : needs.total ≡ greatest_end h
   pub pools : length needs.stations ≡ 6
   pub kinds : length needs.units ≡ 5
 
--- needs on one row tell that a part may be as many as on another
-abbrev pub allows : Needs → Row → Row → Part → Bool
+-- needs on one configuration tell that a part may be as many as on another
+abbrev pub allows : Needs → Configuration → Configuration → Part → Bool
 allows needs own other part =
     count_of own part == count_of other part
     || ((need_of needs part).stalls == 0 && nat_le (need_of needs part).peak (count_of other part))
 
 -- and that units of a kind may have the latency that they have there
-abbrev pub allows_latency : Needs → Row → Row → UnitId → Bool
+abbrev pub allows_latency : Needs → Configuration → Configuration → UnitId → Bool
 allows_latency needs own other unit =
     (option_of own unit).latency == (option_of other unit).latency || (need_of needs (Units unit)).peak == 0
 
@@ -197,7 +197,7 @@ all_parts =
 abbrev pub all_units : List UnitId
 all_units = units.Alu ∷ units.Mul ∷ units.Div ∷ units.Mem ∷ units.Bru ∷ []
 
--- and so all that the rows have
-abbrev pub suffice : Needs → Row → Row → Bool
+-- and so all that the configurations have
+abbrev pub suffice : Needs → Configuration → Configuration → Bool
 suffice needs own other =
     list_all (allows needs own other) all_parts && list_all (allows_latency needs own other) all_units

@@ -10,7 +10,7 @@ use Rattle.tomex_rvdec.specs.declared.pool.UnitId.{UnitId}
 use Rattle.tomex_rvexec.specs.Steps.{step_pool, step_unit, step_dest, j_of, k_of, bytes_of, is_branch, is_store}
 use Rattle.tomex_rvexec.specs.declared.step.ByteRange.{ByteRange}
 use Rattle.tomex_rvexec.specs.declared.step.Step.{Step}
-use Rattle.tomex_config.specs.Row.{Row, option_of}
+use Rattle.tomex_config.specs.Configuration.{Configuration, option_of}
 use Rattle.tomex_timing.specs.declared.times.Done.{Done}
 use Rattle.tomex_timing.specs.declared.times.Times.{Times}
 use Rattle.tomex_timing.specs.History.{is_of, is_memory, cycle_of, source_end, last_issue, last_address}
@@ -21,19 +21,19 @@ abbrev pub IsLeast : (ℕ → Bool) → ℕ → Type 0
 IsLeast p t = IsTrue (p t) × ((s : ℕ) → s < t → p s ≡ false)
 
 -- no earlier than the one before, and fewer than the width of the older ones issue in the cycle
-abbrev pub has_slot : Row → List Done → ℕ → Bool
-has_slot row older t = nat_le (last_issue older) t && nat_lt (count_by (λ d. d.at.issue == t) older) row.width
+abbrev pub has_slot : Configuration → List Done → ℕ → Bool
+has_slot config older t = nat_le (last_issue older) t && nat_lt (count_by (λ d. d.at.issue == t) older) config.width
 
 -- each older branch, a conditional one or JALR, has finished
 abbrev pub are_branches_finished : List Done → ℕ → Bool
 are_branches_finished older t = list_all (λ d. not (is_branch d.step) || nat_lt d.at.finish t) older
 
 -- Issue. Hennessy and Patterson: in program order, where a reservation station is left.
--- This project: as many in a cycle as the row's width says; nothing is speculated, so later than the
+-- This project: as many in a cycle as the configuration's width says; nothing is speculated, so later than the
 -- finish of each older branch.
-abbrev pub can_issue : Row → List Done → Step → ℕ → Bool
-can_issue row older s t =
-    nat_lt 0 t && has_slot row older t && are_branches_finished older t && has_station row older (step_pool s) t
+abbrev pub can_issue : Configuration → List Done → Step → ℕ → Bool
+can_issue config older s t =
+    nat_lt 0 t && has_slot config older t && are_branches_finished older t && has_station config older (step_pool s) t
 
 -- Address. Hennessy and Patterson: loads and stores compute their addresses in program order, from the
 -- base register. This project: one in a cycle.
@@ -57,56 +57,56 @@ abbrev pub are_conflicts_finished : List Done → Step → ℕ → Bool
 are_conflicts_finished older s t = list_all (λ d. not (conflicts d.step s) || nat_lt d.at.finish t) older
 
 -- a unit of the kind is left: each starts one operation in a cycle
-abbrev pub has_unit : Row → List Done → UnitId → ℕ → Bool
-has_unit row older unit t =
-    nat_lt (count_by (λ d. is_of unit (step_unit d.step) && d.at.start == t) older) (option_of row unit).units
+abbrev pub has_unit : Configuration → List Done → UnitId → ℕ → Bool
+has_unit config older unit t =
+    nat_lt (count_by (λ d. is_of unit (step_unit d.step) && d.at.start == t) older) (option_of config unit).units
 
 -- Start. Tomasulo: once the operands have come over the common data bus and a unit is left. Hennessy and
 -- Patterson: an access waits for older ones to its bytes, unless both are loads. This project: units are
 -- pipelined, and the oldest operations are served first.
-abbrev pub can_start : Row → List Done → Step → UnitId → ℕ → ℕ → ℕ → Bool
-can_start row older s unit issue address t =
-    nat_lt issue t && nat_lt address t && has_operands older s t && are_conflicts_finished older s t && has_unit row older unit t
+abbrev pub can_start : Configuration → List Done → Step → UnitId → ℕ → ℕ → ℕ → Bool
+can_start config older s unit issue address t =
+    nat_lt issue t && nat_lt address t && has_operands older s t && are_conflicts_finished older s t && has_unit config older unit t
 
 -- a bus is left
-abbrev pub has_bus : Row → List Done → ℕ → Bool
-has_bus row older t =
-    nat_lt (count_by (λ d. is_some (step_dest d.step) && d.at.end == t) older) row.buses
+abbrev pub has_bus : Configuration → List Done → ℕ → Bool
+has_bus config older t =
+    nat_lt (count_by (λ d. is_some (step_dest d.step) && d.at.end == t) older) config.buses
 
 -- End. Tomasulo: after the unit, the result is sent over the common data bus. This project: there may
 -- be several buses, and the oldest results are served first.
-abbrev pub can_end : Row → List Done → ℕ → ℕ → Bool
-can_end row older finish t = nat_lt finish t && has_bus row older t
+abbrev pub can_end : Configuration → List Done → ℕ → ℕ → Bool
+can_end config older finish t = nat_lt finish t && has_bus config older t
 
 -- a result ends in the first cycle with a bus for it, and a step without a destination as it finishes
-abbrev pub EndsAfter : Row → List Done → Step → ℕ → ℕ → Type 0
-EndsAfter row older s finish end =
-    MatchBool (is_some (step_dest s)) (IsLeast (can_end row older finish) end) (end ≡ finish)
+abbrev pub EndsAfter : Configuration → List Done → Step → ℕ → ℕ → Type 0
+EndsAfter config older s finish end =
+    MatchBool (is_some (step_dest s)) (IsLeast (can_end config older finish) end) (end ≡ finish)
 
 -- The times of a step, given the history of what is older. FENCE, ECALL and EBREAK use no station, unit
 -- or bus: they start, finish and end as they issue.
-pub record IsTimed (row : Row) (older : List Done) (s : Step) (at : Times) : Type 0 where
-  pub issue : IsLeast (can_issue row older s) at.issue
+pub record IsTimed (config : Configuration) (older : List Done) (s : Step) (at : Times) : Type 0 where
+  pub issue : IsLeast (can_issue config older s) at.issue
   -- loads and stores have an address cycle
   pub address : MatchBool (is_memory s)
       (IsLeast (can_address older s at.issue) (cycle_of at.address))
       (at.address ≡ None)
   pub start : MatchOption (step_unit s)
       (at.start ≡ at.issue)
-      (λ unit. IsLeast (can_start row older s unit at.issue (cycle_of at.address)) at.start)
+      (λ unit. IsLeast (can_start config older s unit at.issue (cycle_of at.address)) at.start)
   -- the last of the unit's cycles
   pub finish : MatchOption (step_unit s)
       (at.finish ≡ at.issue)
-      (λ unit. at.finish ≡ at.start + (option_of row unit).latency - 1)
+      (λ unit. at.finish ≡ at.start + (option_of config unit).latency - 1)
   pub end : MatchOption (step_unit s)
       (at.end ≡ at.issue)
-      (λ unit. EndsAfter row older s at.finish at.end)
+      (λ unit. EndsAfter config older s at.finish at.end)
   -- the free station of the least number
   pub station : MatchOption (step_pool s)
       (at.station ≡ None)
       (λ pool. (n : ℕ) × (at.station ≡ Some n) × IsLeast (is_free pool older at.issue) n)
 
 -- each step of a history has the times of the recurrence
-abbrev pub AreTimed : Row → List Done → Type 0
-AreTimed row [] = Unit {0}
-AreTimed row (d ∷ older) = IsTimed row older d.step d.at × AreTimed row older
+abbrev pub AreTimed : Configuration → List Done → Type 0
+AreTimed config [] = Unit {0}
+AreTimed config (d ∷ older) = IsTimed config older d.step d.at × AreTimed config older

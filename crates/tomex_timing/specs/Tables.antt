@@ -79,7 +79,7 @@ qi_of t (d ∷ older) r =
 abbrev pub tags_of : PoolId → List Tag
 tags_of pool = map (λ n. record { pool = pool; number = n }) (range_with_len 0 16)
 
--- all stations that a row may have, in the order of pools and numbers
+-- all stations that a configuration may have, in the order of pools and numbers
 abbrev pub all_tags : List Tag
 all_tags = tags_of Alu ++ tags_of Mul ++ tags_of Div ++ tags_of Load ++ tags_of Store ++ tags_of Bru
 

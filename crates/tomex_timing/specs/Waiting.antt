@@ -5,7 +5,7 @@ use Rattle.tomex_rvdec.specs.declared.pool.PoolId.{PoolId}
 use Rattle.tomex_rvdec.specs.declared.pool.UnitId.{UnitId}
 use Rattle.tomex_rvexec.specs.Steps.{step_unit, j_of, k_of}
 use Rattle.tomex_rvexec.specs.declared.step.Step.{Step}
-use Rattle.tomex_config.specs.Row.{Row}
+use Rattle.tomex_config.specs.Configuration.{Configuration}
 use Rattle.tomex_timing.specs.declared.needs.Needs.{Needs}
 use Rattle.tomex_timing.specs.declared.next.Marks.{Marks}
 use Rattle.tomex_timing.specs.declared.next.Next.{Next}
@@ -36,21 +36,21 @@ abbrev pub operands_from : ℕ → ℕ → ℕ → ℕ
 operands_from issue j k = max issue (max j k) + 1
 
 -- the marks of a next step, with the ends of its operands' producers; without a unit it starts as it issues
-abbrev pub marks_from : Row → List Live → Latest → Facts → Option UnitId → ℕ → ℕ → Times → Marks
-marks_from row live latest f None j k at =
-    record { from = issue_from row latest; operands = at.issue; ready = at.issue; clear = at.issue }
-marks_from row live latest f (Some unit) j k at = record {
-  from = issue_from row latest;
+abbrev pub marks_from : Configuration → List Live → Latest → Facts → Option UnitId → ℕ → ℕ → Times → Marks
+marks_from config live latest f None j k at =
+    record { from = issue_from config latest; operands = at.issue; ready = at.issue; clear = at.issue }
+marks_from config live latest f (Some unit) j k at = record {
+  from = issue_from config latest;
   operands = operands_from at.issue j k;
   ready = ready_from at.issue at.address j k;
   clear = clear_among f live (ready_from at.issue at.address j k);
 }
 
-abbrev pub marks_among : Row → List Live → Latest → Step → Times → Marks
-marks_among row live latest s at =
+abbrev pub marks_among : Configuration → List Live → Latest → Step → Times → Marks
+marks_among config live latest s at =
     let j = end_among latest.ends (j_of s) in
     let k = end_among latest.ends (k_of s) in
-    marks_from row live latest (facts_of s) (step_unit s) j k at
+    marks_from config live latest (facts_of s) (step_unit s) j k at
 
 -- the waits of a next step, between its marks
 abbrev pub waits_by : Latest → Marks → Times → Waits

@@ -9,7 +9,7 @@ use Rattle.tomex_rvdec.specs.declared.pool.UnitId.{UnitId}
 use Rattle.tomex_rvexec.specs.Steps.{step_pool, step_unit, step_dest, j_of, k_of, bytes_of, is_branch, is_store, is_in, is_number}
 use Rattle.tomex_rvexec.specs.declared.step.Operand.{Operand}
 use Rattle.tomex_rvexec.specs.declared.step.Step.{Step}
-use Rattle.tomex_config.specs.Row.{Row, stations_of, option_of}
+use Rattle.tomex_config.specs.Configuration.{Configuration, stations_of, option_of}
 use Rattle.tomex_timing.specs.declared.times.Done.{Done}
 use Rattle.tomex_timing.specs.declared.times.Times.{Times}
 use Rattle.tomex_timing.specs.declared.window.Facts.{Facts}
@@ -75,17 +75,17 @@ IsFirst from p t = IsLeast (λ s. nat_le from s && p s) t
 abbrev pub is_held_by : PoolId → ℕ → Live → Bool
 is_held_by pool t l = is_in pool l.facts.pool && nat_le t l.end
 
-abbrev pub has_station_among : Row → List Live → Option PoolId → ℕ → Bool
-has_station_among row live None t = true
-has_station_among row live (Some pool) t = nat_lt (count_by (is_held_by pool t) live) (stations_of row pool)
+abbrev pub has_station_among : Configuration → List Live → Option PoolId → ℕ → Bool
+has_station_among config live None t = true
+has_station_among config live (Some pool) t = nat_lt (count_by (is_held_by pool t) live) (stations_of config pool)
 
 abbrev pub is_free_among : PoolId → List Live → ℕ → ℕ → Bool
 is_free_among pool live t n = list_all (λ l. not (is_held_by pool t l && is_number l.station n)) live
 
 -- the first cycle that is in program order, with room for an issue, and later than each branch's finish
-abbrev pub issue_from : Row → Latest → ℕ
-issue_from row latest =
-    max (if nat_lt latest.issued row.width then latest.issue else latest.issue + 1) (latest.branch + 1)
+abbrev pub issue_from : Configuration → Latest → ℕ
+issue_from config latest =
+    max (if nat_lt latest.issued config.width then latest.issue else latest.issue + 1) (latest.branch + 1)
 
 -- start
 
@@ -98,20 +98,20 @@ is_finished_conflict f t l = not (conflicts_with f l) || nat_lt l.finish t
 abbrev pub starts_in : UnitId → ℕ → Live → Bool
 starts_in unit t l = is_of unit l.facts.unit && l.start == t
 
-abbrev pub has_unit_among : Row → List Live → UnitId → ℕ → Bool
-has_unit_among row live unit t = nat_lt (count_by (starts_in unit t) live) (option_of row unit).units
+abbrev pub has_unit_among : Configuration → List Live → UnitId → ℕ → Bool
+has_unit_among config live unit t = nat_lt (count_by (starts_in unit t) live) (option_of config unit).units
 
-abbrev pub may_start : Row → ℕ → List Live → Facts → UnitId → ℕ → Bool
-may_start row from live f unit t =
-    nat_le from t && list_all (is_finished_conflict f t) live && has_unit_among row live unit t
+abbrev pub may_start : Configuration → ℕ → List Live → Facts → UnitId → ℕ → Bool
+may_start config from live f unit t =
+    nat_le from t && list_all (is_finished_conflict f t) live && has_unit_among config live unit t
 
 -- end
 
 abbrev pub sends_in : ℕ → Live → Bool
 sends_in t l = is_some l.facts.dest && l.end == t
 
-abbrev pub has_bus_among : Row → List Live → ℕ → Bool
-has_bus_among row live t = nat_lt (count_by (sends_in t) live) row.buses
+abbrev pub has_bus_among : Configuration → List Live → ℕ → Bool
+has_bus_among config live t = nat_lt (count_by (sends_in t) live) config.buses
 
 -- the end of an operand's producer, of what is kept for the registers
 abbrev pub end_among : List ℕ → Option Operand → ℕ
@@ -131,23 +131,23 @@ abbrev pub ready_of : Latest → Step → Times → ℕ
 ready_of latest s at =
     ready_from at.issue at.address (end_among latest.ends (j_of s)) (end_among latest.ends (k_of s))
 
-abbrev pub EndsAfterAmong : Row → List Live → Step → ℕ → ℕ → Type 0
-EndsAfterAmong row live s finish end =
-    MatchBool (is_some (step_dest s)) (IsFirst (finish + 1) (has_bus_among row live) end) (end ≡ finish)
+abbrev pub EndsAfterAmong : Configuration → List Live → Step → ℕ → ℕ → Type 0
+EndsAfterAmong config live s finish end =
+    MatchBool (is_some (step_dest s)) (IsFirst (finish + 1) (has_bus_among config live) end) (end ≡ finish)
 
 -- the times of a next step, by what is kept
-pub record IsNext (row : Row) (live : List Live) (latest : Latest) (s : Step) (at : Times) : Type 0 where
-  pub issue : IsFirst (issue_from row latest) (has_station_among row live (step_pool s)) at.issue
+pub record IsNext (config : Configuration) (live : List Live) (latest : Latest) (s : Step) (at : Times) : Type 0 where
+  pub issue : IsFirst (issue_from config latest) (has_station_among config live (step_pool s)) at.issue
   pub address : at.address ≡ address_among latest (step_pool s) (end_among latest.ends (j_of s)) at.issue
   pub start : MatchOption (step_unit s)
       (at.start ≡ at.issue)
-      (λ unit. IsLeast (may_start row (ready_of latest s at) live (facts_of s) unit) at.start)
+      (λ unit. IsLeast (may_start config (ready_of latest s at) live (facts_of s) unit) at.start)
   pub finish : MatchOption (step_unit s)
       (at.finish ≡ at.issue)
-      (λ unit. at.finish ≡ at.start + (option_of row unit).latency - 1)
+      (λ unit. at.finish ≡ at.start + (option_of config unit).latency - 1)
   pub end : MatchOption (step_unit s)
       (at.end ≡ at.issue)
-      (λ unit. EndsAfterAmong row live s at.finish at.end)
+      (λ unit. EndsAfterAmong config live s at.finish at.end)
   pub station : MatchOption (step_pool s)
       (at.station ≡ None)
       (λ pool. (n : ℕ) × (at.station ≡ Some n) × IsLeast (is_free_among pool live at.issue) n)

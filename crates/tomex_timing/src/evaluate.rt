@@ -18,7 +18,7 @@ use std::alloc::{AllocError, Allocator};
 use tomex_config::Config;
 use tomex_rvexec::Step;
 
-/// The times of a run's steps on a row, in program order.
+/// The times of a run's steps on a configuration, in program order.
 ///
 /// The work is linear in the steps: of those before only what may still be in the way is kept. A cycle
 /// is at most 67 times the number of steps, so fewer than 2^56 of them, more than a memory holds, keep
@@ -26,47 +26,47 @@ use tomex_rvexec::Step;
 pub fn times<A: Allocator + Clone>(
     alloc: A,
     steps: &[Step],
-    row: &Config,
+    config: &Config,
 ) -> Result<Vec<Times, A>, AllocError>
     requires few { length steps.now < 2 ^ 56 }
-    ensures exact { IfOk result (λ v. v.items ≡ times_in row.now steps.now) }
-    ensures recurrence { IfOk result (λ v. AreTimed row.now (history row.now steps.now)) }
+    ensures exact { IfOk result (λ v. v.items ≡ times_in config.now steps.now) }
+    ensures recurrence { IfOk result (λ v. AreTimed config.now (history config.now steps.now)) }
     ensures pairs { IfOk result (λ v. length v.items ≡ length steps.now) }
     ensures bound { IfOk result (λ v. total_of v.items ≤ 67 * length steps.now) }
 {
     let mut result = Vec::new(alloc.clone()?);
     let mut window = Window::new(&alloc, &alloc);
-    // Read for what the row's type keeps, which the proof needs.
-    let _buses = row.buses();
+    // Read for what the configuration's type keeps, which the proof needs.
+    let _buses = config.buses();
     for step in steps {
         let facts = Facts::of(step);
-        let at = next_step(row, &window, &facts).at;
+        let at = next_step(config, &window, &facts).at;
         window.keep(&facts, &at)?;
         result.push(at)?;
     }
     Ok(result)
 }
 
-/// In how many cycles each step of a run waits on a row, in program order.
+/// In how many cycles each step of a run waits on a configuration, in program order.
 ///
 /// The work is that of `times`.
 pub fn waits<A: Allocator + Clone>(
     alloc: A,
     steps: &[Step],
-    row: &Config,
+    config: &Config,
 ) -> Result<Vec<Waits, A>, AllocError>
     requires few { length steps.now < 2 ^ 56 }
-    ensures exact { IfOk result (λ v. v.items ≡ waits_in row.now steps.now) }
+    ensures exact { IfOk result (λ v. v.items ≡ waits_in config.now steps.now) }
     ensures pairs { IfOk result (λ v. length v.items ≡ length steps.now) }
     ensures bound { IfOk result (λ v. All (AreWithin (67 * length steps.now)) v.items) }
 {
     let mut result: Vec<Waits, A> = Vec::new(alloc.clone()?);
     let mut window = Window::new(&alloc, &alloc);
-    // Read for what the row's type keeps, which the proof needs.
-    let _buses = row.buses();
+    // Read for what the configuration's type keeps, which the proof needs.
+    let _buses = config.buses();
     for step in steps {
         let facts = Facts::of(step);
-        let next = next_step(row, &window, &facts);
+        let next = next_step(config, &window, &facts);
         let waits = waits_of(&window.latest, &next);
         window.keep(&facts, &next.at)?;
         result.push(waits)?;
@@ -74,35 +74,35 @@ pub fn waits<A: Allocator + Clone>(
     Ok(result)
 }
 
-/// What a run's steps take of a row's parts, and how long they wait for them.
+/// What a run's steps take of a configuration's parts, and how long they wait for them.
 ///
 /// The work is that of `times`. Stalls grow with the square of the steps: fewer than 2^28 of them, of
 /// at most 67 cycles each, keep every sum within 64 bits.
-pub fn needs<A: Allocator>(alloc: A, steps: &[Step], row: &Config) -> Result<Needs, AllocError>
+pub fn needs<A: Allocator>(alloc: A, steps: &[Step], config: &Config) -> Result<Needs, AllocError>
     requires few { length steps.now < 2 ^ 28 }
-    ensures exact { IfOk result (λ n. AreNeeds row.now (history row.now steps.now) n) }
+    ensures exact { IfOk result (λ n. AreNeeds config.now (history config.now steps.now) n) }
 {
     let facts = facts_of(&alloc, steps)?;
-    needs_of(&alloc, &facts, row)
+    needs_of(&alloc, &facts, config)
 }
 
 /// The needs of the run whose steps have these facts.
 pub(crate) fn needs_of<A: Allocator>(
     alloc: &A,
     facts: &[Facts],
-    row: &Config,
+    config: &Config,
 ) -> Result<Needs, AllocError>
     requires run { (steps : List Step) × AreFacts steps facts.now }
     requires few { length facts.now < 2 ^ 28 }
     ensures exact { IfOk result
-        (λ n. (steps : List Step) → AreFacts steps facts.now → AreNeeds row.now (history row.now steps) n) }
+        (λ n. (steps : List Step) → AreFacts steps facts.now → AreNeeds config.now (history config.now steps) n) }
 {
     let mut window = Window::new(alloc, alloc);
     let mut needs = Needs::none();
-    // Read for what the row's type keeps, which the proof needs.
-    let _buses = row.buses();
+    // Read for what the configuration's type keeps, which the proof needs.
+    let _buses = config.buses();
     for step in facts {
-        let next = next_step(row, &window, step);
+        let next = next_step(config, &window, step);
         let waits = waits_of(&window.latest, &next);
         let taken = taken_by(&window.latest, &next);
         needs.note(step, &waits, &taken, &next.at);

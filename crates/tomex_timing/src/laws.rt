@@ -69,7 +69,7 @@ pub fn accesses_of_one_byte_wait()
     ensures wait { ConflictsAreFinished }
 {}
 
-/// A run takes all of each part that it waits for, and a second row gives it the same times where that
+/// A run takes all of each part that it waits for, and a second configuration gives it the same times where that
 /// part is as many on both, each other part is no fewer than the run takes of it at once, and each kind
 /// of unit that it uses has the same latency.
 pub fn parts_without_stalls_may_differ()

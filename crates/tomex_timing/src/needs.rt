@@ -1,4 +1,4 @@
-//! What a run takes of a row's parts, and how long its steps wait for each of them.
+//! What a run takes of a configuration's parts, and how long its steps wait for each of them.
 
 ghost use Rattle.std.specs.Prelude.{◌≡◌, ◌+◌, ◌-◌, ◌^◌, ◌<◌, ◌≤◌, slice_index_or};
 ghost use Rattle.tomex_rvdec.specs.Parts.{place_of_pool, place_of_unit};
@@ -14,7 +14,7 @@ use crate::window::Facts;
 use tomex_config::Config;
 use tomex_rvdec::{PoolId, UnitId};
 
-/// What a run on a row takes of its parts, and how long its steps wait for them, in cycles.
+/// What a run on a configuration takes of its parts, and how long its steps wait for them, in cycles.
 #[derive(Clone, Copy, Debug, PartialEq, Eq)]
 pub struct Needs {
     /// In the order of `PoolId::ALL` and of `UnitId::ALL`.
@@ -112,7 +112,7 @@ impl Needs {
         self.total.saturating_sub(self.last_issue)
     }
 
-    /// Whether a part may be as many as on another row.
+    /// Whether a part may be as many as on another configuration.
     fn allows(&self, part: Part, own: &Config, other: &Config) -> bool
         ensures { result ≡ allows self.now own.now other.now part }
     {
@@ -121,8 +121,8 @@ impl Needs {
         part.count(own) == count || (need.stalls == 0 && need.peak <= count)
     }
 
-    /// Whether these needs, of a run on its own row, tell that each step of the run has the same times on
-    /// another row. Then the run's total there is `total`.
+    /// Whether these needs, of a run on its own configuration, tell that each step of the run has the same times on
+    /// another configuration. Then the run's total there is `total`.
     pub fn suffice(&self, own: &Config, other: &Config) -> bool
         ensures { result ≡ suffice self.now own.now other.now }
     {

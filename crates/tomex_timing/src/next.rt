@@ -1,7 +1,7 @@
 //! The times of the next step, by what is kept of those before.
 
 ghost use Rattle.std.specs.Prelude.{◌≡◌, ℕ, ◌+◌, ◌-◌, ◌^◌, ◌<◌, ◌≤◌, None, max, IfSome};
-ghost use Rattle.tomex_config.specs.Row.{IsRow, option_of};
+ghost use Rattle.tomex_config.specs.Configuration.{IsWithinLimits, option_of};
 ghost use Rattle.tomex_rvdec.specs.Parts.{place_of_unit};
 ghost use Rattle.tomex_timing.specs.Ahead.{IsNextBy, IsSettledBy, TakesBus, TakesStation, bus_line, end_at, end_in, taken_at};
 ghost use Rattle.tomex_timing.specs.History.{cycle_of};
@@ -52,15 +52,15 @@ fn end_of(latest: &Latest, register: Option<u8>) -> u64
 
 /// The first cycle that is in program order, with room for an issue, and later than each branch's
 /// finish.
-fn issue_from(row: &Config, latest: &Latest) -> u64
+fn issue_from(config: &Config, latest: &Latest) -> u64
     requires issue { latest.now.issue ≤ latest.now.end }
     requires branch { latest.now.branch ≤ latest.now.end }
     requires small { latest.now.end < 2 ^ 63 }
-    ensures from { result ≡ issue_from row.now latest.now }
+    ensures from { result ≡ issue_from config.now latest.now }
     ensures later { latest.now.issue ≤ result }
     ensures by { result ≤ latest.now.end + 1 }
 {
-    let from = if latest.issued < u64::from(row.width()) {
+    let from = if latest.issued < u64::from(config.width()) {
         latest.issue
     } else {
         latest.issue + 1
@@ -71,7 +71,7 @@ fn issue_from(row: &Config, latest: &Latest) -> u64
 /// The cycle of a step's issue, and the station that it takes, if it takes one.
 #[inline(always)]
 fn station_of(
-    row: &Config,
+    config: &Config,
     stations: &Stations,
     pool: Option<PoolId>,
     from: u64,
@@ -80,7 +80,7 @@ fn station_of(
     requires stations { (p : PoolId) (n : ℕ) → n < 16 → end_at stations.now.ends p n ≤ bound }
     requires from { from ≤ bound + 1 }
     requires small { bound < 2 ^ 63 }
-    ensures takes { TakesStation row.now stations.now.ends pool from result.0 result.1 }
+    ensures takes { TakesStation config.now stations.now.ends pool from result.0 result.1 }
     ensures from { from ≤ result.0 }
     ensures by { result.0 ≤ bound + 1 }
     ensures number { IfSome result.1 (λ n. n < 16) }
@@ -88,7 +88,7 @@ fn station_of(
     match pool {
         None => (from, None),
         Some(pool) => {
-            let free = stations.first(pool, row.stations(pool), from);
+            let free = stations.first(pool, config.stations(pool), from);
             (free.cycle, Some(free.number))
         }
     }
@@ -123,7 +123,7 @@ fn ready_of(issue: u64, address: Option<u64>, j: u64, k: u64) -> u64
 /// The end of a step that finishes.
 #[inline(always)]
 fn end_after<A: Allocator>(
-    row: &Config,
+    config: &Config,
     table: &ReservationTable<A>,
     dest: Option<u8>,
     finish: u64,
@@ -133,10 +133,10 @@ fn end_after<A: Allocator>(
     requires quiet { (t : ℕ) → bound < t → taken_at table.now bus_line t ≡ 0 }
     requires finish { finish ≤ bound + 66 }
     requires small { bound < 2 ^ 63 }
-    ensures { TakesBus row.now table.now dest finish result.cycle result.taken }
+    ensures { TakesBus config.now table.now dest finish result.cycle result.taken }
 {
     if dest.is_some() {
-        table.first(BUSES, row.buses(), finish + 1, bound)
+        table.first(BUSES, config.buses(), finish + 1, bound)
     } else {
         Room {
             cycle: finish,
@@ -183,18 +183,18 @@ fn without_unit(from: u64, issue: u64, address: Option<u64>, station: Option<u8>
 /// The next step.
 // Inlined, as are the other calls of the loops over a run's steps: what a loop doesn't use isn't made.
 #[inline(always)]
-pub(crate) fn next_step<A: Allocator>(row: &Config, window: &Window<A>, facts: &Facts) -> Next
+pub(crate) fn next_step<A: Allocator>(config: &Config, window: &Window<A>, facts: &Facts) -> Next
     requires registers { HasRegisters facts.now }
     requires settled { let w = window.now in IsSettledBy w.latest w.table w.stations.ends w.accesses.items }
     requires small { window.now.latest.end < 2 ^ 63 }
     ensures { let w = window.now in
-        IsNextBy row.now w.latest w.table w.stations.ends w.accesses.items facts.now result }
+        IsNextBy config.now w.latest w.table w.stations.ends w.accesses.items facts.now result }
 {
     let latest = &window.latest;
     let j = end_of(latest, facts.j);
     let k = end_of(latest, facts.k);
-    let from = issue_from(row, latest);
-    let (issue, station) = station_of(row, &window.stations, facts.pool, from, latest.end);
+    let from = issue_from(config, latest);
+    let (issue, station) = station_of(config, &window.stations, facts.pool, from, latest.end);
     let address = address_of(latest, facts.pool, j, issue);
     let Some(unit) = facts.unit else {
         return without_unit(from, issue, address, station);
@@ -204,9 +204,9 @@ pub(crate) fn next_step<A: Allocator>(row: &Config, window: &Window<A>, facts: &
     let clear = past_conflicts(&window.accesses, facts, ready, latest.end);
     let start = window
         .table
-        .first(unit.place(), row.units(unit), clear, latest.end);
-    let finish = start.cycle + u64::from(row.latency(unit)) - 1;
-    let end = end_after(row, &window.table, facts.dest, finish, latest.end);
+        .first(unit.place(), config.units(unit), clear, latest.end);
+    let finish = start.cycle + u64::from(config.latency(unit)) - 1;
+    let end = end_after(config, &window.table, facts.dest, finish, latest.end);
     Next {
         at: Times {
             issue,

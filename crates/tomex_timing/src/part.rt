@@ -6,7 +6,7 @@ ghost use Rattle.tomex_timing.specs.Needs.{count_of};
 use tomex_config::Config;
 use tomex_rvdec::{PoolId, UnitId};
 
-/// A part of a machine that a row has a count of: the stations of a pool, the units of a kind, the
+/// A part of a machine that a configuration has a count of: the stations of a pool, the units of a kind, the
 /// common data buses, and how many instructions issue in a cycle.
 #[derive(Clone, Copy, Debug, PartialEq, Eq)]
 pub enum Part {
@@ -34,15 +34,15 @@ impl Part {
         Part::Width,
     ];
 
-    /// How many of it a row has.
-    pub fn count(self, row: &Config) -> u64
-        ensures { result ≡ count_of row.now self }
+    /// How many of it a configuration has.
+    pub fn count(self, config: &Config) -> u64
+        ensures { result ≡ count_of config.now self }
     {
         match self {
-            Part::Stations(pool) => u64::from(row.stations(pool)),
-            Part::Units(unit) => u64::from(row.units(unit)),
-            Part::Buses => u64::from(row.buses()),
-            Part::Width => u64::from(row.width()),
+            Part::Stations(pool) => u64::from(config.stations(pool)),
+            Part::Units(unit) => u64::from(config.units(unit)),
+            Part::Buses => u64::from(config.buses()),
+            Part::Width => u64::from(config.width()),
         }
     }
 }

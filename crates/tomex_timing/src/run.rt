@@ -1,4 +1,4 @@
-//! A run whose steps have been read once for all the rows on which it is timed.
+//! A run whose steps have been read once for all the configurations on which it is timed.
 
 ghost use Rattle.std.specs.Prelude.{◌≡◌, ◌<◌, ◌^◌, length, IfOk};
 ghost use Rattle.tomex_timing.specs.Needs.{AreNeeds};
@@ -47,11 +47,11 @@ impl<A: Allocator> Run<A> {
         self.steps.as_slice()
     }
 
-    /// What its steps take of a row's parts, and how long they wait for them: `evaluate::needs` of them.
-    pub fn needs(&self, alloc: &A, row: &Config) -> Result<Needs, AllocError>
+    /// What its steps take of a configuration's parts, and how long they wait for them: `evaluate::needs` of them.
+    pub fn needs(&self, alloc: &A, config: &Config) -> Result<Needs, AllocError>
         requires few { length self.now < 2 ^ 28 }
-        ensures exact { IfOk result (λ n. AreNeeds row.now (history row.now self.now) n) }
+        ensures exact { IfOk result (λ n. AreNeeds config.now (history config.now self.now) n) }
     {
-        needs_of(alloc, &self.facts, row)
+        needs_of(alloc, &self.facts, config)
     }
 }

@@ -3,7 +3,7 @@ use Rattle.std.proofs.Common.{◌≡◌, ℕ, ◌%◌, ◌&&◌, ◌==◌, suc, 
 use Rattle.std.proofs.lemmas.Bool.{cases_Bool, eqb-true}
 use Rattle.std.specs.List.{list_all}
 use Rattle.toml.specs.Data.{Data, string, integer, float, boolean, datetime, array, table, Items, no_items, item, Members, as_array}
-use Rattle.tomex_config.specs.Row.{is_between}
+use Rattle.tomex_config.specs.Configuration.{is_between}
 use Rattle.tomex_values.specs.declared.numbers.Limits.{Limits}
 use Rattle.tomex_values.specs.declared.error.StudyError.TheVariants.{Kind, Range}
 use Rattle.tomex_values.specs.declared.place.Key.{Key}

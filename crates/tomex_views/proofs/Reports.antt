@@ -14,7 +14,7 @@ use Rattle.std.proofs.lemmas.Map.Entries.{btree_map_get_place}
 use Rattle.std.proofs.lemmas.Map.Made.{is_some-lookup}
 use Rattle.std.proofs.lemmas.Option.{slice_get-get_or}
 use Rattle.tomex_rvexec.specs.declared.step.Step.{Step}
-use Rattle.tomex_config.specs.Row.{Row}
+use Rattle.tomex_config.specs.Configuration.{Configuration}
 use Rattle.tomex_timing.specs.Needs.{waits_in}
 use Rattle.tomex_timing.specs.Waiting.{AreWithin}
 use Rattle.tomex_timing.specs.declared.part.Waits.{Waits}
@@ -92,9 +92,9 @@ report_of (Ok text) visits tally is written ordered =
 report_of (Err e) visits tally is written ordered = tt
 
 -- the visits that were counted are those of the run
-pub visits_are : (row : Row) (run given made counted : List Step) (waits kept : List Waits) → made ≡ run → given ≡ made → counted ≡ made
-    → waits ≡ waits_in row given → kept ≡ waits → zip counted kept ≡ visits_in row run
-visits_are row run given made counted waits kept is lent again waited held = rw (held, waited, again, lent, is) refl
+pub visits_are : (config : Configuration) (run given made counted : List Step) (waits kept : List Waits) → made ≡ run → given ≡ made → counted ≡ made
+    → waits ≡ waits_in config given → kept ≡ waits → zip counted kept ≡ visits_in config run
+visits_are config run given made counted waits kept is lent again waited held = rw (held, waited, again, lent, is) refl
 
 -- no wait is longer than a larger number
 pub wider : (n m : ℕ) (w : Waits) → n ≤ m → AreWithin n w → AreWithin m w

@@ -4,14 +4,14 @@ use Rattle.std.specs.Prelude.{codes}
 use Rattle.std.specs.Fmt.{char_count, digits, padded_integral}
 use Rattle.tomex_rvdec.specs.declared.pool.UnitId.TheVariants as units
 use Rattle.tomex_rvexec.specs.declared.step.Step.{Step}
-use Rattle.tomex_config.specs.Row.{Row, plain}
+use Rattle.tomex_config.specs.Configuration.{Configuration, plain}
 use Rattle.tomex_timing.specs.Search.{times_in, times_of}
 use Rattle.tomex_timing.proofs.Programs.{product, two_results, stored_and_loaded, two_alu_stations, with_latency}
 use Rattle.tomex_views.specs.Chart.{line_of, picture_of, shown, sign_in}
 
 -- the picture of so many steps from a number on
-abbrev picture : ℕ → ℕ → Row → List Step → List ℕ
-picture number count row steps = picture_of number (shown number count steps) (shown number count (times_in row steps))
+abbrev picture : ℕ → ℕ → Configuration → List Step → List ℕ
+picture number count config steps = picture_of number (shown number count steps) (shown number count (times_in config steps))
 
 product_picture : picture 1 32 (with_latency units.Mul two_alu_stations 3) product
     ≡ codes "cycles 1 to 8\n1 IEW      00000000 addi x1,x0,5\n2  IEW     00000004 addi x2,x0,7\n3   I=EEEW 00000008 mul x3,x1,x2\n4    I     0000000c ebreak\n"

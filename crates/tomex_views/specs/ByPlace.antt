@@ -8,7 +8,7 @@ use Rattle.std.specs.Fmt.{decimal}
 use Rattle.tomex_rvdec.specs.Text.{instr_text}
 use Rattle.tomex_rvexec.specs.Texts.{hex8}
 use Rattle.tomex_rvexec.specs.declared.step.Step.{Step}
-use Rattle.tomex_config.specs.Row.{Row}
+use Rattle.tomex_config.specs.Configuration.{Configuration}
 use Rattle.tomex_timing.specs.Needs.{waits_in}
 use Rattle.tomex_timing.specs.declared.part.Waits.{Waits}
 use Rattle.tomex_records.specs.Csv.{record_text}
@@ -17,8 +17,8 @@ use Rattle.tomex_records.specs.Csv.{record_text}
 abbrev pub Visit : Type 0
 Visit = Step × Waits
 
-abbrev pub visits_in : Row → List Step → List Visit
-visits_in row steps = zip steps (waits_in row steps)
+abbrev pub visits_in : Configuration → List Step → List Visit
+visits_in config steps = zip steps (waits_in config steps)
 
 -- those of the steps at an address
 abbrev pub visits_at : ℕ → List Visit → List Visit
@@ -71,6 +71,6 @@ report_at pcs visits =
 abbrev pub IsReport : List Visit → List ℕ → Type 0
 IsReport visits text = (pcs : List ℕ) × ArePlaces visits pcs × (text ≡ report_at pcs visits)
 
--- and of a run's steps on a row
-abbrev pub IsReportByPlace : Row → List Step → List ℕ → Type 0
-IsReportByPlace row steps text = IsReport (visits_in row steps) text
+-- and of a run's steps on a configuration
+abbrev pub IsReportByPlace : Configuration → List Step → List ℕ → Type 0
+IsReportByPlace config steps text = IsReport (visits_in config steps) text

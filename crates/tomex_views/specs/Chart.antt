@@ -6,7 +6,7 @@ use Rattle.tomex_rvdec.specs.Text.{instr_text}
 use Rattle.tomex_rvexec.specs.Steps.{is_number}
 use Rattle.tomex_rvexec.specs.Texts.{hex8}
 use Rattle.tomex_rvexec.specs.declared.step.Step.{Step}
-use Rattle.tomex_config.specs.Row.{Row}
+use Rattle.tomex_config.specs.Configuration.{Configuration}
 use Rattle.tomex_timing.specs.Search.{times_in, total_of}
 use Rattle.tomex_timing.specs.declared.times.Times.{Times}
 use Rattle.tomex_records.specs.Aligned.{right_aligned}
@@ -16,7 +16,7 @@ use Rattle.tomex_views.specs.declared.picture_error.PictureError.TheVariants.{No
 use Rattle.tomex_views.specs.declared.stage.Stage.{Stage}
 use Rattle.tomex_views.specs.declared.stage.Stage.TheVariants.{Issue, Address, Execute, Write, BusWait, Wait}
 
--- what a step does in a cycle, if anything: the first row that fits. A step without a destination ends as it
+-- what a step does in a cycle, if anything: the first configuration that fits. A step without a destination ends as it
 -- finishes, in its unit; those without a unit start as they issue.
 abbrev pub stage_in : Times → ℕ → Option Stage
 stage_in at t =
@@ -93,19 +93,19 @@ most_signs = 16777216
 abbrev pub shown : {X : Type 0} → ℕ → ℕ → List X → List X
 shown number count xs = take count (drop (number - 1) xs)
 
--- the signs of what is shown of a run on a row
-abbrev pub signs_shown : Row → List Step → ℕ → ℕ → ℕ
-signs_shown row steps number count = signs_of (shown number count (times_in row steps))
+-- the signs of what is shown of a run on a configuration
+abbrev pub signs_shown : Configuration → List Step → ℕ → ℕ → ℕ
+signs_shown config steps number count = signs_of (shown number count (times_in config steps))
 
 -- the text is the picture of the steps that are asked for
-pub record IsPictureOf (row : Row) (steps : List Step) (number count : ℕ) (text : List ℕ) : Type 0 where
+pub record IsPictureOf (config : Configuration) (steps : List Step) (number count : ℕ) (text : List ℕ) : Type 0 where
   pub there : number ≤ length steps
-  pub drawn : signs_shown row steps number count ≤ most_signs
-  pub is : text ≡ picture_of number (shown number count steps) (shown number count (times_in row steps))
+  pub drawn : signs_shown config steps number count ≤ most_signs
+  pub is : text ≡ picture_of number (shown number count steps) (shown number count (times_in config steps))
 
 -- why there is none: the step is looked for first, and how large the picture would be last
-abbrev pub IsUnpictured : Row → List Step → ℕ → ℕ → PictureError → Type 0
-IsUnpictured row steps number count NoSuchStep = length steps < number
-IsUnpictured row steps number count TooLarge =
-    (number ≤ length steps) × (most_signs < signs_shown row steps number count)
-IsUnpictured row steps number count Memory = Unit {0}
+abbrev pub IsUnpictured : Configuration → List Step → ℕ → ℕ → PictureError → Type 0
+IsUnpictured config steps number count NoSuchStep = length steps < number
+IsUnpictured config steps number count TooLarge =
+    (number ≤ length steps) × (most_signs < signs_shown config steps number count)
+IsUnpictured config steps number count Memory = Unit {0}

@@ -4,7 +4,7 @@ use Rattle.std.specs.List.{flat_map}
 use Rattle.std.specs.Fmt.{decimal}
 use Rattle.tomex_rvdec.specs.Parts.{name_of_pool, name_of_unit}
 use Rattle.tomex_rvexec.specs.declared.step.Step.{Step}
-use Rattle.tomex_config.specs.Row.{Row}
+use Rattle.tomex_config.specs.Configuration.{Configuration}
 use Rattle.tomex_timing.specs.Needs.{AreNeeds, all_parts, count_of, need_of}
 use Rattle.tomex_timing.specs.Search.{history}
 use Rattle.tomex_timing.specs.declared.needs.Needs.{Needs}
@@ -23,13 +23,13 @@ name_of_part Buses = codes "buses"
 name_of_part Width = codes "width"
 
 -- how many of a part there are, how many of it the run takes at once at most, and how long its steps wait for it
-abbrev pub part_fields : Row → Needs → Part → List (List ℕ)
-part_fields row needs part =
-    name_of_part part ∷ decimal (count_of row part)
+abbrev pub part_fields : Configuration → Needs → Part → List (List ℕ)
+part_fields config needs part =
+    name_of_part part ∷ decimal (count_of config part)
     ∷ decimal (need_of needs part).peak ∷ decimal (need_of needs part).stalls ∷ []
 
-unfoldable pub part_record : Row → Needs → Part → List ℕ
-part_record row needs part = record_text (part_fields row needs part)
+unfoldable pub part_record : Configuration → Needs → Part → List ℕ
+part_record config needs part = record_text (part_fields config needs part)
 
 -- cycles that are no part's
 unfoldable pub other_record : List ℕ → ℕ → List ℕ
@@ -43,10 +43,10 @@ other_records needs =
     ++ (other_record (codes "memory") needs.memory
     ++ (other_record (codes "drain") (needs.total - needs.last_issue) ++ other_record (codes "total") needs.total))))
 
-abbrev pub report_of_needs : Row → Needs → List ℕ
-report_of_needs row needs = record_text header ++ (flat_map (part_record row needs) all_parts ++ other_records needs)
+abbrev pub report_of_needs : Configuration → Needs → List ℕ
+report_of_needs config needs = record_text header ++ (flat_map (part_record config needs) all_parts ++ other_records needs)
 
--- the text is the report of what a run's steps need on a row
-abbrev pub IsStallsReport : Row → List Step → List ℕ → Type 0
-IsStallsReport row steps text =
-    (needs : Needs) × AreNeeds row (history row steps) needs × (text ≡ report_of_needs row needs)
+-- the text is the report of what a run's steps need on a configuration
+abbrev pub IsStallsReport : Configuration → List Step → List ℕ → Type 0
+IsStallsReport config steps text =
+    (needs : Needs) × AreNeeds config (history config steps) needs × (text ≡ report_of_needs config needs)

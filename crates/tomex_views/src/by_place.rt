@@ -17,7 +17,7 @@ use csv::{ByteRecord, Writer};
 use std::alloc::{AllocError, Allocator, Global};
 use tomex_config::Config;
 use tomex_records::{into_text, push_decimal, push_instruction, push_names, put_record};
-use tomex_sweep::Program;
+use tomex_study::Program;
 use tomex_timing::evaluate::waits;
 
 /// The names of the columns.
@@ -112,7 +112,7 @@ fn text_of_tally<A: Allocator>(
     into_text(writer)
 }
 
-/// The stalls report of a program on a row by place in the program: CSV with a header, a record for each address at
+/// The stalls report of a program on a configuration by place in the program: CSV with a header, a record for each address at
 /// which the run has a step, rising, with how many steps it has there and for how many cycles they wait for what, and
 /// last the same of all steps.
 ///
@@ -121,13 +121,13 @@ pub fn stalls_by_pc<A: Allocator + Clone>(
     alloc: A,
     heap: Global,
     program: &Program<A>,
-    row: &Config,
+    config: &Config,
 ) -> Result<Vec<u8, A>, AllocError>
     ensures { IfOk result (λ text.
-        IsReportByPlace row.now (steps_from program.now.limit (start_of program.now.image)) text.items) }
+        IsReportByPlace config.now (steps_from program.now.limit (start_of program.now.image)) text.items) }
 {
     let steps = steps_of(alloc.clone()?, program)?;
-    let waits = waits(alloc.clone()?, steps.as_slice(), row)?;
+    let waits = waits(alloc.clone()?, steps.as_slice(), config)?;
     let tally = count_by_place(alloc.clone()?, steps.as_slice(), waits.as_slice())?;
     text_of_tally(alloc, heap, &tally)
 }

@@ -1,4 +1,4 @@
-//! The picture of some steps of a run on one row.
+//! The picture of some steps of a run on one configuration.
 
 ghost use Rattle.std.specs.Prelude.{◌≡◌, ◌+◌, ◌<◌, ◌≤◌, ◌^◌, drop, length, nat_lt, take, IfErr, IfOk};
 ghost use Rattle.tomex_rvexec.specs.Run.{start_of};
@@ -13,7 +13,7 @@ use std::alloc::{AllocError, Allocator, Global};
 use std::fmt::Write;
 use tomex_config::Config;
 use tomex_rvexec::Step;
-use tomex_sweep::Program;
+use tomex_study::Program;
 use tomex_timing::Times;
 use tomex_timing::evaluate::{times, total};
 
@@ -89,7 +89,7 @@ fn picture_of<A: Allocator>(
     Ok(text.into_bytes())
 }
 
-/// The picture of some steps of a program's run on a row, `count` of them at most from step `number` on; the first step
+/// The picture of some steps of a program's run on a configuration, `count` of them at most from step `number` on; the first step
 /// is number 1. A line with the cycles, from the first step's issue to the greatest end, and then a line a step: its
 /// number, a sign for each cycle, its address and its instruction.
 ///
@@ -98,21 +98,21 @@ pub fn pipeline_text<A: Allocator + Clone>(
     alloc: A,
     heap: Global,
     program: &Program<A>,
-    row: &Config,
+    config: &Config,
     number: u32,
     count: u32,
 ) -> Result<Vec<u8, A>, PictureError>
     requires { 0 < number }
-    ensures text { IfOk result (λ text. IsPictureOf row.now
+    ensures text { IfOk result (λ text. IsPictureOf config.now
         (steps_from program.now.limit (start_of program.now.image)) number count text.items) }
-    ensures refused { IfErr result (λ error. IsUnpictured row.now
+    ensures refused { IfErr result (λ error. IsUnpictured config.now
         (steps_from program.now.limit (start_of program.now.image)) number count error) }
 {
     let steps = steps_of(alloc.clone()?, program)?;
     if steps.len() < number as usize {
         return Err(PictureError::NoSuchStep);
     }
-    let times = times(alloc.clone()?, steps.as_slice(), row)?;
+    let times = times(alloc.clone()?, steps.as_slice(), config)?;
     let behind = number as usize - 1;
     let shown_steps = part_of(steps.as_slice(), behind, count as usize);
     let shown_times = part_of(times.as_slice(), behind, count as usize);

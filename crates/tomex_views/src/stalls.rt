@@ -1,4 +1,4 @@
-//! The stalls report of a run on one row.
+//! The stalls report of a run on one configuration.
 
 ghost use Rattle.std.specs.Prelude.{◌≡◌, ◌++◌, ◌∷◌, [], IfOk, OnOk};
 ghost use Rattle.std.specs.List.{flat_map};
@@ -15,7 +15,7 @@ use std::alloc::{AllocError, Allocator, Global};
 use std::fmt::Write;
 use tomex_config::Config;
 use tomex_records::{into_text, push_decimal, push_names, put_record};
-use tomex_sweep::Program;
+use tomex_study::Program;
 use tomex_timing::evaluate::needs;
 use tomex_timing::{Needs, Part};
 
@@ -48,16 +48,16 @@ fn push_part(fields: &mut ByteRecord, scratch: &mut String, part: Part) -> Resul
 fn fill_part(
     fields: &mut ByteRecord,
     scratch: &mut String,
-    row: &Config,
+    config: &Config,
     needs: &Needs,
     part: Part,
 ) -> Result<(), AllocError>
-    ensures { OnOk result (fields_of fields.new ≡ part_fields row.now needs.now part) }
+    ensures { OnOk result (fields_of fields.new ≡ part_fields config.now needs.now part) }
 {
     let need = needs.need(part);
     fields.clear();
     push_part(fields, scratch, part)?;
-    push_decimal(fields, scratch, part.count(row))?;
+    push_decimal(fields, scratch, part.count(config))?;
     push_decimal(fields, scratch, need.peak)?;
     push_decimal(fields, scratch, need.stalls)?;
     Ok(())
@@ -69,16 +69,16 @@ fn put_part<A: Allocator>(
     writer: &mut Writer<Vec<u8, A>>,
     record: &mut ByteRecord,
     scratch: &mut String,
-    row: &Config,
+    config: &Config,
     needs: &Needs,
     part: Part,
 ) -> Result<(), AllocError>
     requires ready { IsReady writer.old }
     ensures ready { OnOk result (IsReady writer.new) }
     ensures text { OnOk result (written (λ v. v.items) writer.new
-        ≡ written (λ v. v.items) writer.old ++ part_record row.now needs.now part) }
+        ≡ written (λ v. v.items) writer.old ++ part_record config.now needs.now part) }
 {
-    fill_part(record, scratch, row, needs, part)?;
+    fill_part(record, scratch, config, needs, part)?;
     put_record(writer, record)
 }
 
@@ -86,18 +86,18 @@ fn put_part<A: Allocator>(
 fn put_parts<A: Allocator>(
     writer: &mut Writer<Vec<u8, A>>,
     heap: Global,
-    row: &Config,
+    config: &Config,
     needs: &Needs,
 ) -> Result<(), AllocError>
     requires ready { IsReady writer.old }
     ensures ready { OnOk result (IsReady writer.new) }
     ensures text { OnOk result (written (λ v. v.items) writer.new
-        ≡ written (λ v. v.items) writer.old ++ flat_map (part_record row.now needs.now) all_parts) }
+        ≡ written (λ v. v.items) writer.old ++ flat_map (part_record config.now needs.now) all_parts) }
 {
     let mut record = ByteRecord::new(heap);
     let mut scratch = String::new(heap);
     for part in Part::ALL {
-        put_part(writer, &mut record, &mut scratch, row, needs, part)?;
+        put_part(writer, &mut record, &mut scratch, config, needs, part)?;
     }
     Ok(())
 }
@@ -144,19 +144,19 @@ fn put_others<A: Allocator>(
 fn text_of_needs<A: Allocator>(
     alloc: A,
     heap: Global,
-    row: &Config,
+    config: &Config,
     needs: &Needs,
 ) -> Result<Vec<u8, A>, AllocError>
-    ensures { IfOk result (λ text. text.items ≡ report_of_needs row.now needs.now) }
+    ensures { IfOk result (λ text. text.items ≡ report_of_needs config.now needs.now) }
 {
     let mut writer = Writer::from_writer(Vec::new(alloc));
     put_record(&mut writer, &header_of(heap)?)?;
-    put_parts(&mut writer, heap, row, needs)?;
+    put_parts(&mut writer, heap, config, needs)?;
     put_others(&mut writer, heap, needs)?;
     into_text(writer)
 }
 
-/// The stalls report of a program on a row: CSV with a header, a record for each part with how many the row has, how
+/// The stalls report of a program on a configuration: CSV with a header, a record for each part with how many the configuration has, how
 /// many of them the run takes at once at most, and for how many cycles its steps wait for one; then the cycles that
 /// they wait for what is no part, the drain, which is the cycles after the last issue, and the total.
 ///
@@ -165,12 +165,12 @@ pub fn stalls_report<A: Allocator + Clone>(
     alloc: A,
     heap: Global,
     program: &Program<A>,
-    row: &Config,
+    config: &Config,
 ) -> Result<Vec<u8, A>, AllocError>
     ensures { IfOk result (λ text.
-        IsStallsReport row.now (steps_from program.now.limit (start_of program.now.image)) text.items) }
+        IsStallsReport config.now (steps_from program.now.limit (start_of program.now.image)) text.items) }
 {
     let steps = steps_of(alloc.clone()?, program)?;
-    let needs = needs(alloc.clone()?, steps.as_slice(), row)?;
-    text_of_needs(alloc, heap, row, &needs)
+    let needs = needs(alloc.clone()?, steps.as_slice(), config)?;
+    text_of_needs(alloc, heap, config, &needs)
 }

@@ -6,7 +6,7 @@ ghost use Rattle.tomex_rvexec.specs.Trace.{steps_from};
 
 use std::alloc::{AllocError, Allocator};
 use tomex_rvexec::{Step, trace};
-use tomex_sweep::Program;
+use tomex_study::Program;
 
 /// The steps of a program's run, in program order. A program ends within its limit, so only memory can be wanting.
 pub fn steps_of<A: Allocator + Clone>(

@@ -27,8 +27,8 @@ pub fn text_of_pipeline<F: Files, A: Allocator + Clone>(
     let chosen = chosen_in(&study, line.config, line.program)?;
     let (from, steps) = (line.from, line.steps);
     if line.konata {
-        Ok(konata_text(alloc, heap, chosen.program, chosen.row, from, steps)?)
+        Ok(konata_text(alloc, heap, chosen.program, chosen.config, from, steps)?)
     } else {
-        Ok(pipeline_text(alloc, heap, chosen.program, chosen.row, from, steps)?)
+        Ok(pipeline_text(alloc, heap, chosen.program, chosen.config, from, steps)?)
     }
 }

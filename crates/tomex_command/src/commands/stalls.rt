@@ -24,8 +24,8 @@ pub fn text_of_stalls<F: Files, A: Allocator + Clone>(
     let study = study_in(alloc.clone()?, heap, files, line.study)?;
     let chosen = chosen_in(&study, line.config, line.program)?;
     if line.by_pc {
-        Ok(stalls_by_pc(alloc, heap, chosen.program, chosen.row)?)
+        Ok(stalls_by_pc(alloc, heap, chosen.program, chosen.config)?)
     } else {
-        Ok(stalls_report(alloc, heap, chosen.program, chosen.row)?)
+        Ok(stalls_report(alloc, heap, chosen.program, chosen.config)?)
     }
 }

@@ -7,7 +7,7 @@ use crate::failure::Failure;
 use std::alloc::{Allocator, Global};
 use tomex_report::{file_names, read_study};
 use tomex_streams::Files;
-use tomex_sweep::Study;
+use tomex_study::Study;
 
 /// A study's bytes, and those of its programs' files, in the order of the programs.
 #[derive(Drop)]

@@ -12,7 +12,7 @@ use tomex_line::TablesLine;
 use tomex_report::tables_text;
 use tomex_streams::Files;
 
-/// The text of the tables after a cycle of a program's run on a row. The machine stops at the end of
+/// The text of the tables after a cycle of a program's run on a configuration. The machine stops at the end of
 /// the run, so a cycle that it doesn't come to is past the end.
 fn text_after<A: Allocator + Clone>(
     alloc: A,
@@ -20,12 +20,13 @@ fn text_after<A: Allocator + Clone>(
     cycle: u32,
 ) -> Result<Vec<u8, A>, Failure>
     ensures text { IfOk result
-        (λ text. IsTextAfter chosen.now.row.now chosen.now.program.now cycle text.items) }
+        (λ text. IsTextAfter chosen.now.config.now chosen.now.program.now cycle text.items) }
     ensures failure { IfErr result
-        (λ failure. IsUnshown chosen.now.row.now chosen.now.program.now cycle failure) }
+        (λ failure. IsUnshown chosen.now.config.now chosen.now.program.now cycle failure) }
 {
+    chosen.program.keeps_limits();
     let cycle = u64::from(cycle);
-    let mut machine = Machine::new(alloc.clone()?, chosen.program.image(), chosen.row)?;
+    let mut machine = Machine::new(alloc.clone()?, chosen.program.image(), chosen.config)?;
     machine.advance(cycle);
     if machine.cycle() < cycle {
         return Err(Failure::CyclePastEnd);

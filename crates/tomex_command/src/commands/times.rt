@@ -23,5 +23,5 @@ pub fn text_of_times<F: Files, A: Allocator + Clone>(
 {
     let study = study_in(alloc.clone()?, heap, files, line.study)?;
     let chosen = chosen_in(&study, line.config, line.program)?;
-    Ok(times_report(alloc, heap, chosen.program, chosen.row)?)
+    Ok(times_report(alloc, heap, chosen.program, chosen.config)?)
 }

@@ -2,12 +2,12 @@
 
 ghost use Rattle.std.specs.Prelude.{◌≡◌, ◌≢◌, ◌≤◌, [], string_bytes, true};
 ghost use Rattle.tomex_document.specs.Program.{IsProgramEntry, entry_of, is_name};
-ghost use Rattle.tomex_sweep.specs.Watch.{IsWatch};
+ghost use Rattle.tomex_study.specs.Watch.{IsWatch};
 
 use std::alloc::{Allocator, Global};
 use std::marker::Model;
 use tomex_image::Window;
-use tomex_sweep::WatchRange;
+use tomex_study::WatchRange;
 
 /// A program before its file is read. Its place has passed all tests: the name has 1 to 32 of the
 /// lawful characters, the file is named, the limit is 1 to 262,144 steps, the watched ranges are in

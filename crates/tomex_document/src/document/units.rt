@@ -2,7 +2,7 @@
 
 ghost use Rattle.std.specs.Prelude.{◌≡◌, option_map};
 ghost use Rattle.toml.specs.View.{table_view, items_view};
-ghost use Rattle.tomex_config.specs.Row.{most_units};
+ghost use Rattle.tomex_config.specs.Configuration.{most_units};
 ghost use Rattle.tomex_values.specs.Readings.{Gives, Reads};
 ghost use Rattle.tomex_document.specs.Units.{unit_tables, option_of, options_from, options_of, tables_of};
 

@@ -7,12 +7,12 @@ ghost use Rattle.toml.specs.View.{view, table_view, items_view};
 ghost use Rattle.tomex_image.specs.Window.{IsWindow};
 ghost use Rattle.tomex_values.specs.Readings.{Gives};
 ghost use Rattle.tomex_values.specs.Lists.{all_items, each};
-ghost use Rattle.tomex_sweep.specs.Watch.{IsWatch, is_watchable, watched_bytes};
+ghost use Rattle.tomex_study.specs.Watch.{IsWatch, is_watchable, watched_bytes};
 ghost use Rattle.tomex_document.specs.Watch.{is_integers, range_from, range_of, few_bytes, ranges_of, watch_from, watch_at};
 
 use std::alloc::Allocator;
 use tomex_image::Window;
-use tomex_sweep::{WatchRange, watched_bytes};
+use tomex_study::{WatchRange, watched_bytes};
 use tomex_values::{
     Key, Limits, Place, StudyError, are_integers, items_count, number_of, value_at,
 };

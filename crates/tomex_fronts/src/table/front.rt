@@ -8,7 +8,8 @@ ghost use Rattle.tomex_fronts.specs.FrontTable.{all_settings, cycles_on, front_t
 use super::heading::{Heading, Setting};
 use super::{Column, table_of};
 use std::alloc::{AllocError, Allocator, Global};
-use tomex_sweep::{FrontRow, Study};
+use tomex_study::Study;
+use tomex_sweep::FrontRow;
 
 /// What a front row has under a heading.
 #[tactic(auto, unfolding(crate::specs::FrontTable::number_under))]
@@ -158,8 +159,7 @@ pub fn front_table<A: Allocator>(
     requires cycles { AllZip (λ p c. c.items ≡ cycles_on study.now front.now p) study.now.programs cycles.now }
     ensures { IfOk result (λ text. text.items ≡ front_table_of study.now) }
 {
-    // Read for what the study's type keeps, which the proof needs.
-    let _rows = study.rows();
+    study.keeps_limits();
     let mut columns = Vec::new(heap);
     push_own(&mut columns, heap, study, front)?;
     push_programs(&mut columns, heap, study, front, cycles)?;

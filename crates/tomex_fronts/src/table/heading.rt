@@ -9,7 +9,7 @@ use tomex_config::Config;
 use tomex_rvdec::{PoolId, UnitId};
 use tomex_timing::Part;
 
-/// What a row says of itself.
+/// What a configuration says of itself.
 #[derive(Clone, Copy)]
 pub enum Setting {
     Count(Part),
@@ -17,7 +17,7 @@ pub enum Setting {
     Latency(UnitId),
 }
 
-/// What a column has of a row.
+/// What a column has of a configuration.
 #[derive(Clone, Copy)]
 pub enum Heading {
     Row,
@@ -49,13 +49,13 @@ impl Setting {
         Setting::Count(Part::Width),
     ];
 
-    /// What a row says.
-    pub fn of(self, row: &Config) -> u64
-        ensures { result ≡ setting_of row.now self }
+    /// What a configuration says.
+    pub fn of(self, config: &Config) -> u64
+        ensures { result ≡ setting_of config.now self }
     {
         match self {
-            Setting::Count(part) => part.count(row),
-            Setting::Latency(unit) => u64::from(row.latency(unit)),
+            Setting::Count(part) => part.count(config),
+            Setting::Latency(unit) => u64::from(config.latency(unit)),
         }
     }
 
@@ -72,19 +72,19 @@ impl Setting {
         }
     }
 
-    /// Whether one of the rows says something else.
+    /// Whether one of the configurations says something else.
     fn is_other(self, usual: u64, rows: &[Config]) -> bool
-        ensures { result ≡ list_any (λ row. not (setting_of row self == usual)) rows.now }
+        ensures { result ≡ list_any (λ config. not (setting_of config self == usual)) rows.now }
     {
-        for row in rows {
-            if self.of(row) != usual {
+        for config in rows {
+            if self.of(config) != usual {
                 return true;
             }
         }
         false
     }
 
-    /// Whether two of the rows differ in it.
+    /// Whether two of the configurations differ in it.
     #[tactic(auto, unfolding(crate::specs::FrontTable::differs))]
     pub fn differs(self, rows: &[Config]) -> bool
         ensures { result ≡ differs rows.now self }

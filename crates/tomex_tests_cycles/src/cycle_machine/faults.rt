@@ -1,6 +1,6 @@
 //! Machines of programs that fault.
 
-use super::{cycle_of, holds, image_at_0, row_of, tick, wide_row};
+use super::{cycle_of, holds, image_at_0, config_of, tick, wide_config};
 use std::alloc::Allocator;
 use std::test::Fail;
 use tomex_config::Config;
@@ -34,8 +34,8 @@ fn comes_to<A: Allocator>(machine: &mut Machine<A>, wanted: Fault) -> Result<(),
     Err("no such fault".into())
 }
 
-/// The machine of this row answers the fault of the in-order run.
-fn are_told(rt: &HostRuntime, row: &Config) -> Result<(), Fail> {
+/// The machine of this configuration answers the fault of the in-order run.
+fn are_told(rt: &HostRuntime, config: &Config) -> Result<(), Fail> {
     for (words, kind, pc) in &FAULTY {
         let image = image_at_0(rt, words)?;
         let wanted = Fault {
@@ -45,18 +45,18 @@ fn are_told(rt: &HostRuntime, row: &Config) -> Result<(), Fail> {
         let ran = run(rt.alloc(), &image, 10);
         let same = matches!(ran, Err(RunError::Fault(fault)) if fault == wanted);
         holds(same, "another fault of the run")?;
-        comes_to(&mut Machine::new(rt.alloc(), &image, row)?, wanted)?;
+        comes_to(&mut Machine::new(rt.alloc(), &image, config)?, wanted)?;
     }
     Ok(())
 }
 
 #[test]
 fn of_each_kind(rt: HostRuntime) -> Result<(), Fail> {
-    are_told(&rt, &row_of([1; 6], 1, 1, 1, 1)?)
+    are_told(&rt, &config_of([1; 6], 1, 1, 1, 1)?)
 }
 
 /// The second of a cycle's instructions is told too.
 #[test]
 fn of_each_kind_on_a_wide_machine(rt: HostRuntime) -> Result<(), Fail> {
-    are_told(&rt, &wide_row([2; 6], [2, 1, 1, 1], 4)?)
+    are_told(&rt, &wide_config([2; 6], [2, 1, 1, 1], 4)?)
 }

@@ -188,12 +188,12 @@ fn advances<A: Allocator>(machine: &mut Machine<A>, by: u32, all: u64) -> bool {
 fn compare_pieces(
     rt: &HostRuntime,
     image: &Image,
-    row: &Config,
+    config: &Config,
     steps: &[Done],
     all: u64,
     random: &mut Random,
 ) -> Result<(), Fail> {
-    let mut machine = Machine::new(rt.alloc(), image, row)?;
+    let mut machine = Machine::new(rt.alloc(), image, config)?;
     for _ in 0..5000u32 {
         if has_ended(&machine) {
             return Ok(());
@@ -233,11 +233,11 @@ fn compare_ends(rt: &HostRuntime, image: &Image, ended: &End<Global>) -> Result<
 fn compare_cycles(
     rt: &HostRuntime,
     image: &Image,
-    row: &Config,
+    config: &Config,
     steps: &[Done],
     all: u64,
 ) -> Result<(), Fail> {
-    let mut machine = Machine::new(rt.alloc(), image, row)?;
+    let mut machine = Machine::new(rt.alloc(), image, config)?;
     for cycle in 0..5000u64 {
         if all < cycle {
             break;
@@ -251,15 +251,15 @@ fn compare_cycles(
     compare_ends(rt, image, &end_of(machine)?)
 }
 
-/// Runs a program on a row, and compares each cycle.
-fn compare(rt: &HostRuntime, words: &[u32], row: &Config, random: &mut Random) -> Result<(), Fail> {
+/// Runs a program on a configuration, and compares each cycle.
+fn compare(rt: &HostRuntime, words: &[u32], config: &Config, random: &mut Random) -> Result<(), Fail> {
     let image = image_at_0(rt, words)?;
     let steps = trace(rt.alloc(), &image, 1000).map_err(|_| "no trace")?;
-    let timed = times(rt.alloc(), steps.as_slice(), row)?;
+    let timed = times(rt.alloc(), steps.as_slice(), config)?;
     let done = done_of(rt, steps.as_slice(), timed.as_slice())?;
     let all = total(timed.as_slice());
-    compare_pieces(rt, &image, row, done.as_slice(), all, random)?;
-    compare_cycles(rt, &image, row, done.as_slice(), all)
+    compare_pieces(rt, &image, config, done.as_slice(), all, random)?;
+    compare_cycles(rt, &image, config, done.as_slice(), all)
 }
 
 #[test]
@@ -274,22 +274,22 @@ fn random_programs_agree(rt: HostRuntime) -> Result<(), Fail> {
     ];
     let wide = [unit(3, 1), unit(2, 5), unit(2, 20), unit(2, 4), unit(1, 2)];
     let rows = [
-        Config::new([1; 6], slow, 1, 1).ok_or("no row")?,
-        Config::new([2, 1, 1, 2, 1, 1], wide, 1, 1).ok_or("no row")?,
-        Config::new([6, 3, 2, 5, 4, 2], slow, 2, 1).ok_or("no row")?,
-        Config::new([16; 6], wide, 1, 1).ok_or("no row")?,
-        Config::new([16; 6], slow, 8, 1).ok_or("no row")?,
-        Config::new([4, 2, 1, 3, 2, 2], long, 1, 1).ok_or("no row")?,
-        Config::new([1; 6], slow, 1, 4).ok_or("no row")?,
-        Config::new([2, 1, 1, 2, 1, 1], wide, 1, 2).ok_or("no row")?,
-        Config::new([6, 3, 2, 5, 4, 2], long, 2, 3).ok_or("no row")?,
-        Config::new([16; 6], wide, 8, 4).ok_or("no row")?,
+        Config::new([1; 6], slow, 1, 1).ok_or("no configuration")?,
+        Config::new([2, 1, 1, 2, 1, 1], wide, 1, 1).ok_or("no configuration")?,
+        Config::new([6, 3, 2, 5, 4, 2], slow, 2, 1).ok_or("no configuration")?,
+        Config::new([16; 6], wide, 1, 1).ok_or("no configuration")?,
+        Config::new([16; 6], slow, 8, 1).ok_or("no configuration")?,
+        Config::new([4, 2, 1, 3, 2, 2], long, 1, 1).ok_or("no configuration")?,
+        Config::new([1; 6], slow, 1, 4).ok_or("no configuration")?,
+        Config::new([2, 1, 1, 2, 1, 1], wide, 1, 2).ok_or("no configuration")?,
+        Config::new([6, 3, 2, 5, 4, 2], long, 2, 3).ok_or("no configuration")?,
+        Config::new([16; 6], wide, 8, 4).ok_or("no configuration")?,
     ];
     let mut random = Random { state: 2463534242 };
     for _ in 0..12 {
         let words = random.program();
-        for row in rows.iter() {
-            compare(&rt, words.as_slice(), row, &mut random)?;
+        for config in rows.iter() {
+            compare(&rt, words.as_slice(), config, &mut random)?;
         }
     }
     Ok(())
@@ -300,9 +300,9 @@ fn random_programs_agree(rt: HostRuntime) -> Result<(), Fail> {
 fn each_slot_of_a_wide_cycle(rt: HostRuntime) -> Result<(), Fail> {
     let plain = [unit(1, 1), unit(1, 2), unit(1, 3), unit(1, 2), unit(1, 1)];
     let rows = [
-        Config::new([1; 6], plain, 1, 4).ok_or("no row")?,
-        Config::new([4; 6], plain, 1, 2).ok_or("no row")?,
-        Config::new([4; 6], plain, 2, 4).ok_or("no row")?,
+        Config::new([1; 6], plain, 1, 4).ok_or("no configuration")?,
+        Config::new([4; 6], plain, 1, 2).ok_or("no configuration")?,
+        Config::new([4; 6], plain, 2, 4).ok_or("no configuration")?,
     ];
     // addi x10,x0,1; addi x10,x10,2: two writers of one register; mul x11,x10,x10; addi x12,x11,3; ebreak
     let words = [
@@ -317,8 +317,8 @@ fn each_slot_of_a_wide_cycle(rt: HostRuntime) -> Result<(), Fail> {
         ] {
             let mut changed = words;
             changed[slot] = word;
-            for row in rows.iter() {
-                compare(&rt, changed.as_slice(), row, &mut random)?;
+            for config in rows.iter() {
+                compare(&rt, changed.as_slice(), config, &mut random)?;
             }
         }
     }

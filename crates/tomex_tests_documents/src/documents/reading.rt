@@ -43,11 +43,11 @@ fn a_study_has_what_its_document_says(rt: HostRuntime) -> Result<(), Fail> {
         [[unit.mul]]\nprice = 50\n";
     let study = reading(&rt, text.as_bytes(), &[PRODUCT.as_slice(), LOOP.as_slice()])??;
     assert!(rt; study.costs() == [184, 174].as_slice());
-    let alu_stations = |row: &Config| row.stations(PoolId::Alu);
+    let alu_stations = |config: &Config| config.stations(PoolId::Alu);
     assert!(rt; study.rows().len() == 2);
-    assert!(rt; study.row(0).map(alu_stations) == Some(2));
-    assert!(rt; study.row(1).map(alu_stations) == Some(1));
-    assert!(rt; study.row(1).map(|row| row.buses()) == Some(2));
+    assert!(rt; study.config(0).map(alu_stations) == Some(2));
+    assert!(rt; study.config(1).map(alu_stations) == Some(1));
+    assert!(rt; study.config(1).map(|config| config.buses()) == Some(2));
     let [first, second] = study.programs() else {
         return Err("not two programs")?;
     };

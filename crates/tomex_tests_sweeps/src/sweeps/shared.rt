@@ -51,7 +51,7 @@ impl Random {
         }
     }
 
-    fn row(&mut self) -> Result<Config, Fail> {
+    fn config(&mut self) -> Result<Config, Fail> {
         let stations = [
             self.few(),
             self.few(),
@@ -67,14 +67,14 @@ impl Random {
             self.option(),
             unit(1, 0),
         ];
-        Ok(Config::new(stations, units, self.few(), self.few()).ok_or("no row")?)
+        Ok(Config::new(stations, units, self.few(), self.few()).ok_or("no configuration")?)
     }
 
     /// The study of two programs on 40 rows.
     fn study(&mut self, alloc: Global) -> Result<Study, Fail> {
         let mut rows = Vec::new(alloc);
         for _ in 0..40 {
-            rows.push(self.row()?)?;
+            rows.push(self.config()?)?;
         }
         let mut programs = Vec::new(alloc);
         let weight = u32::from(self.few());
@@ -85,12 +85,12 @@ impl Random {
 }
 
 /// The cycles of a program on a row, by the recurrence.
-fn cycles_of(alloc: Global, program: &Program, row: &Config) -> Result<u64, Fail> {
+fn cycles_of(alloc: Global, program: &Program, config: &Config) -> Result<u64, Fail> {
     let steps = program.steps();
     if steps.len() > 262_144 {
         return Err("a long run")?;
     }
-    Ok(total(times(alloc, steps, row)?.as_slice()))
+    Ok(total(times(alloc, steps, config)?.as_slice()))
 }
 
 /// What a row's cycles come to when so many are made, given its programs' totals and their weights.
@@ -144,10 +144,10 @@ fn bound_of(marks: &[Mark], costs: &[u64], cost: u64) -> Option<(u64, usize)> {
 /// The marks that one worker gives which runs each row.
 fn marks_of(alloc: Global, study: &Study) -> Result<Vec<Mark>, Fail> {
     let mut marks = Vec::new(alloc);
-    for (row, cost) in study.rows().iter().zip(study.costs()) {
+    for (config, cost) in study.rows().iter().zip(study.costs()) {
         let mut totals = Vec::new(alloc);
         for program in study.programs() {
-            let cycles = cycles_of(alloc, program, row)?;
+            let cycles = cycles_of(alloc, program, config)?;
             totals.push((cycles, u64::from(program.weight())))?;
         }
         let bound = bound_of(marks.as_slice(), study.costs(), *cost);
@@ -234,19 +234,19 @@ fn dividers(alloc: Global, counts: u8) -> Result<Study, Fail> {
                 price: 0,
             };
             let units = [unit(1, 0), unit(3, 0), divider, unit(1, 0), unit(1, 0)];
-            let row = Config::new([1, 1, stations, 1, 1, 1], units, 1, 1);
-            rows.push(row.ok_or("no row")?)?;
+            let config = Config::new([1, 1, stations, 1, 1, 1], units, 1, 1);
+            rows.push(config.ok_or("no configuration")?)?;
         }
     }
     let programs = vec![in alloc; program_of(alloc, "products", PRODUCTS.as_slice(), 1)?]?;
     study_on(alloc, programs, rows)
 }
 
-/// The machine runs once where only a part differs that the program never uses, and each row has its turn. Few
-/// rows are all run.
+/// The machine runs once where only a part differs that the program never uses, and each row has its turn, however
+/// few they are.
 #[test]
 fn rows_that_cannot_differ_share_a_run(rt: HostRuntime) -> Result<(), Fail> {
     assert!(rt; counted(&rt, &dividers(rt.alloc(), 16)?)? == [64, 1]);
-    assert!(rt; counted(&rt, &dividers(rt.alloc(), 4)?)? == [16, 16]);
+    assert!(rt; counted(&rt, &dividers(rt.alloc(), 1)?)? == [4, 1]);
     Ok(())
 }

@@ -1,5 +1,6 @@
 use Rattle.std.proofs.Common.{arith}
-use Rattle.tomex_bus.proofs.Members.{best_left, inside_left}
+use Rattle.tomex_sets.proofs.Members.{inside_left}
+use Rattle.tomex_bus.proofs.Picking.{best_left}
 use Rattle.tomex_bus.proofs.arbiter.oldest.Goals as goal
 
 pub members-preserved-then-issue_numbers-number : goal.members-preserved-then-issue_numbers-number

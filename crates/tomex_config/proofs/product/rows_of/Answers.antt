@@ -1,6 +1,6 @@
--- The rows that the last axis ends are the product of all axes.
+-- The configurations that the last axis ends are the product of all axes.
 use Rattle.std.proofs.Common.{◌≡◌, sym}
-use Rattle.tomex_config.specs.Row.{with_width}
+use Rattle.tomex_config.specs.Configuration.{with_width}
 use Rattle.tomex_config.specs.Grid.{lists_of, rows_of}
 use Rattle.tomex_config.specs.Vary.{vary}
 use Rattle.tomex_config.proofs.Varied.{varied_rows}

@@ -1,4 +1,4 @@
--- A row on the plateau serves the run as its own row does.
+-- A configuration on the plateau serves the run as its own configuration does.
 use Rattle.tomex_plateaus.proofs.Telling.{own_lies_on, plateau_tells}
 use Rattle.tomex_plateaus.proofs.laws.needs_tell_a_plateau.Goals as goal
 

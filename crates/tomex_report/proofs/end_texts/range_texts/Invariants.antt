@@ -1,7 +1,7 @@
 -- The texts so far, and those of the ranges to come, whose bytes are left.
 use Rattle.std.proofs.Common.{◌≡◌, ◌++◌, drop, length, map}
 use Rattle.std.specs.Prelude.{string_bytes}
-use Rattle.tomex_sweep.specs.Watch.{watched_bytes}
+use Rattle.tomex_study.specs.Watch.{watched_bytes}
 use Rattle.tomex_report.specs.FrontReport.{watch_texts}
 use Rattle.tomex_report.proofs.end_texts.range_texts.Given as goal
 

@@ -8,6 +8,6 @@ use Rattle.tomex_report.proofs.front_fields.push_units.Given as goal
 
 abbrev pub invariant-loop-unit : goal.invariant-loop-unit
 invariant-loop-unit l = record {
-  fields : fields_of l.fields ≡ fields_of l.fn.fields ++ flat_map (unit_fields l.row) (take l.unit-index all_units);
+  fields : fields_of l.fields ≡ fields_of l.fn.fields ++ flat_map (unit_fields l.config) (take l.unit-index all_units);
   whole : partial_of l.fields ≡ [];
 }

@@ -8,6 +8,6 @@ use Rattle.tomex_report.proofs.front_text.put_programs.Given as goal
 abbrev pub invariant-loop-place : goal.invariant-loop-place
 invariant-loop-place g l = record {
   ready : IsReady l.writer;
-  text : written (λ v. v.items) l.writer ++ flat_map (program_record l.wide l.front l.row) (drop l.place l.programs)
-      ≡ written (λ v. v.items) l.fn.writer ++ flat_map (program_record l.wide l.front l.row) l.programs;
+  text : written (λ v. v.items) l.writer ++ flat_map (program_record l.wide l.front l.config) (drop l.place l.programs)
+      ≡ written (λ v. v.items) l.fn.writer ++ flat_map (program_record l.wide l.front l.config) l.programs;
 }

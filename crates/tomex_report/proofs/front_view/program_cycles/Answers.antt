@@ -1,7 +1,7 @@
 -- Each row of the front has an end of the program.
 use Rattle.std.proofs.Common.{◌∙◌, ap, sym, arith, [], ◌∷◌, ◌++◌, length}
 use Rattle.tomex_cycle.specs.Run.{total}
-use Rattle.tomex_fronts.specs.FrontTable.{cycles_on, row_of}
+use Rattle.tomex_fronts.specs.FrontTable.{cycles_on, config_of}
 use Rattle.tomex_report.proofs.Cycles.{cycles_more, cycles_whole, has_end_at}
 use Rattle.tomex_report.proofs.front_view.program_cycles.Goals as goal
 
@@ -39,4 +39,4 @@ pub returns : goal.returns
 unfolding cycles_on
 returns g c =
     cycles_whole c.args.study.now c.args.front.now c.args.ends.now c.loop-end.end-index
-    (λ r. total (row_of c.args.study.now r) c.args.program.now.image) _ c.requires.ends c.loop-end-test.false c.loop-end.invariant
+    (λ r. total (config_of c.args.study.now r) c.args.program.now.image) _ c.requires.ends c.loop-end-test.false c.loop-end.invariant

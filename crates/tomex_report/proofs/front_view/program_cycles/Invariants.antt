@@ -1,10 +1,10 @@
 -- The cycles so far, and those to come.
 use Rattle.std.proofs.Common.{◌≡◌, ◌++◌, drop, map}
 use Rattle.tomex_cycle.specs.Run.{total}
-use Rattle.tomex_fronts.specs.FrontTable.{row_of}
+use Rattle.tomex_fronts.specs.FrontTable.{config_of}
 use Rattle.tomex_report.proofs.front_view.program_cycles.Given as goal
 
 abbrev pub invariant-loop-end : goal.invariant-loop-end
 invariant-loop-end g l =
-    l.cycles.items ++ map (λ r. total (row_of l.study r) l.program.image) (drop l.end-index l.front)
-    ≡ map (λ r. total (row_of l.study r) l.program.image) l.front
+    l.cycles.items ++ map (λ r. total (config_of l.study r) l.program.image) (drop l.end-index l.front)
+    ≡ map (λ r. total (config_of l.study r) l.program.image) l.front

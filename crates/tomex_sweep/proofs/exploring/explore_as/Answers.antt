@@ -1,15 +1,13 @@
 -- A board can be made for the study; the workers have all rows and all numbers, and so have their parts: nothing is left to gather.
-use Rattle.std.proofs.Common.{◌≡◌, ◌≤◌, length, ap, ◌∙◌, subst, All, arith}
-use Rattle.tomex_config.specs.Row.{IsRow}
-use Rattle.tomex_sweep.specs.Program.{IsProgram}
+use Rattle.std.proofs.Common.{◌≡◌, ◌≤◌, length, ap, ◌∙◌, arith}
 use Rattle.tomex_lanes.proofs.Dealing.{length-dealt}
 use Rattle.tomex_sweep.proofs.Crewed.{board_plan, can_run, parts_whole}
-use Rattle.tomex_sweep.proofs.Leftovers.{none_left}
+use Rattle.tomex_sweep.proofs.Gathered.{none_left}
 use Rattle.tomex_sweep.proofs.Verdicts.{judged_front}
 use Rattle.tomex_sweep.proofs.exploring.explore_as.Goals as goal
 
 pub new-requires-clause-plan : goal.new-requires-clause-plan
-new-requires-clause-plan g c = board_plan c.args.study.now _ _ c.rows.ensures.study (subst (All IsRow) c.rows.ensures.value c.each_row_is_lawful.ensures) (subst (All IsProgram) c.programs.ensures.value c.each_program_ends.ensures) c.requires.plan
+new-requires-clause-plan g c = board_plan c.args.study.now _ _ c.keeps_limits.ensures c.requires.plan
 
 pub seated-requires-clause-some : goal.seated-requires-clause-some
 seated-requires-clause-some g c =
@@ -35,7 +33,7 @@ settle-marks-requires g c =
 
 pub returns-clause-front : goal.returns-clause-front
 returns-clause-front g c =
-    judged_front c.args.study.now _ _ _ c.rows.ensures.study c.in_ok-gathered.ensures.judged c.as_slice.ensures.value c.costs-costs.ensures.value c.in_ok-front.ensures
+    judged_front c.args.study.now _ _ _ c.keeps_limits.ensures c.in_ok-gathered.ensures.judged c.as_slice.ensures.value c.costs-costs.ensures.value c.in_ok-front.ensures
 
 pub returns-clause-gathered : goal.returns-clause-gathered
 returns-clause-gathered g c = c.in_ok-gathered.ensures.counted ∙ none_left _ c.settle-marks.ensures.closed

@@ -1,4 +1,4 @@
--- Step by step: where the first row's test fails for a part, that part is as many on the second.
+-- Step by step: where the first configuration's test fails for a part, that part is as many on the second.
 use Rattle.tomex_timing.proofs.InUse.{stalled_full}
 use Rattle.tomex_timing.proofs.Serving.{serves_timed, serves_runs}
 use Rattle.tomex_timing.proofs.Taken.{peak_within}

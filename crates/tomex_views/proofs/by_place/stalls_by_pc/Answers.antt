@@ -16,7 +16,7 @@ count_by_place-requires-clause-waits g c =
 
 pub returns : goal.returns
 returns g c =
-    let visits = visits_are c.args.row.now _ c.as_slice.result.now _ c.as_slice-2.result.now _ c.as_slice-3.result.now
+    let visits = visits_are c.args.config.now _ c.as_slice.result.now _ c.as_slice-2.result.now _ c.as_slice-3.result.now
     c.in_ok-steps.ensures.steps c.as_slice.ensures.value c.as_slice-2.ensures.value c.in_ok-waits.ensures.exact c.as_slice-3.ensures.value in
     subst (λ (vs : List Visit). IfOk c.text_of_tally.result (λ text. IsReport vs text.items)) visits
     (report_of c.text_of_tally.result _ c.in_ok-tally.tally c.in_ok-tally.ensures c.text_of_tally.ensures.text c.text_of_tally.ensures.rising)

@@ -8,6 +8,6 @@ use Rattle.tomex_views.proofs.stalls.put_parts.Goals as goal
 pub loop-part-preserved : goal.loop-part-preserved
 loop-part-preserved g c = record {
   ready = c.in_ok-put_part.ensures.ready;
-  text = next_piece (part_record c.args.row.now c.args.needs.now) all_parts c.loop-part.part-index _ _ _ _ _
+  text = next_piece (part_record c.args.config.now c.args.needs.now) all_parts c.loop-part.part-index _ _ _ _ _
       c.loop-part-test.true refl c.loop-part.invariant.text c.in_ok-put_part.ensures.text;
 }

@@ -10,5 +10,5 @@ abbrev pub invariant-loop-part : goal.invariant-loop-part
 invariant-loop-part g l = record {
   ready : IsReady l.writer;
   text : written (λ v. v.items) l.writer
-      ≡ written (λ v. v.items) l.fn.writer ++ flat_map (part_record l.row l.needs) (take l.part-index all_parts);
+      ≡ written (λ v. v.items) l.fn.writer ++ flat_map (part_record l.config l.needs) (take l.part-index all_parts);
 }

@@ -9,13 +9,13 @@ returns-clause-advances g c = elim c.match-self.branch [
   | in-Running w ↦ rw w.self-is w.run_to.ensures
   | in_default w ↦ rw w.self-is (record {
     image = refl;
-    row = refl;
-    least = omega arith;
-    most = omega arith;
-    runs = λ runs. absurd (w.in_default.not-Running (ap (λ x. x.last) c.self.view_is ∙ runs));
-    stays = λ stopped. refl;
-    none = λ low. refl;
-    ends = λ e. over_seen c.args.self.now.image c.args.self.now.row c.args.self.now.cycle (max c.args.self.now.cycle c.args.to) (seen c.args.self.now) (now_seen _ _ _ _ _ _ _ _ _ _ (ap seen c.self.view_is) c.self.invariant.0 e) (λ runs. w.in_default.not-Running (ap (λ x. x.last) c.self.view_is ∙ runs)) (omega arith);
-    counts = λ e. record { least = omega arith; most = omega arith };
+    config = refl;
+    not_back = omega arith;
+    not_past = omega arith;
+    there_if_running = λ runs. absurd (w.in_default.not-Running (ap (λ x. x.status) c.self.view_is ∙ runs));
+    same_if_over = λ stopped. refl;
+    same_if_there = λ low. refl;
+    after_ticks = λ e. over_seen c.args.self.now.image c.args.self.now.config c.args.self.now.cycle (max c.args.self.now.cycle c.args.to) (seen c.args.self.now) (now_seen _ _ _ _ _ _ _ _ _ _ (ap seen c.self.view_is) c.self.invariant.0 e) (λ runs. w.in_default.not-Running (ap (λ x. x.status) c.self.view_is ∙ runs)) (omega arith);
+    cycles_made = λ e. record { least = omega arith; most = omega arith };
   })
 ]

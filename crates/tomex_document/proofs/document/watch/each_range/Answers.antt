@@ -2,7 +2,7 @@
 use Rattle.std.proofs.Common.{◌≡◌, true, rules, sym}
 use Rattle.std.proofs.lemmas.List.Elements.{All-push}
 use Rattle.std.proofs.lemmas.Result.{err_from_is_err_and}
-use Rattle.tomex_sweep.specs.Watch.{is_watchable}
+use Rattle.tomex_study.specs.Watch.{is_watchable}
 use Rattle.tomex_document.specs.Watch.{range_of}
 use Rattle.tomex_values.proofs.Items.{each_end, each_fault, each_next}
 use Rattle.tomex_document.proofs.document.watch.each_range.Goals as goal

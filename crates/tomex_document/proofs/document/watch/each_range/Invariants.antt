@@ -3,7 +3,7 @@ use Rattle.std.proofs.Common.{◌≡◌, ◌≤◌, true, drop, length, All}
 use Rattle.toml.specs.View.{items_view}
 use Rattle.tomex_values.specs.Readings.{with_front}
 use Rattle.tomex_values.specs.Lists.{each}
-use Rattle.tomex_sweep.specs.Watch.{is_watchable}
+use Rattle.tomex_study.specs.Watch.{is_watchable}
 use Rattle.tomex_document.specs.Watch.{range_of}
 use Rattle.tomex_document.proofs.document.watch.each_range.Given as goal
 

@@ -13,7 +13,7 @@ pub push_own-requires : goal.push_own-requires
 push_own-requires g c =
     let IsRowOf : FrontRow → Type 0 = λ r. r.row < length c.args.study.now.rows in
     λ k d within. All-get_or IsRowOf _ k d within
-    (subst (All IsRowOf) (sym c.requires.front) (study_rows c.args.study.now c.rows-rows.ensures.study))
+    (subst (All IsRowOf) (sym c.requires.front) (study_rows c.args.study.now c.keeps_limits.ensures))
 
 pub table_of-requires : goal.table_of-requires
 table_of-requires g c =

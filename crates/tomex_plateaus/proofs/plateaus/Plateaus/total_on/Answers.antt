@@ -1,7 +1,7 @@
--- What is found is a plateau of the program, and the row lies on it.
+-- What is found is a plateau of the program, and the configuration lies on it.
 use Rattle.tomex_plateaus.proofs.Finding.{total_told}
 use Rattle.tomex_plateaus.proofs.plateaus.Plateaus.total_on.Goals as goal
 
 pub returns-clause-total : goal.returns-clause-total
 returns-clause-total g c =
-    total_told c.args.row.now c.args.self.now.steps c.args.self.now.found c.newest_total.result c.buses-buses.ensures.lawful c.newest_total.ensures.kept.are c.newest_total.ensures.known
+    total_told c.args.config.now c.args.self.now.steps c.args.self.now.found c.newest_total.result c.buses-buses.ensures.lawful c.newest_total.ensures.kept.are c.newest_total.ensures.known

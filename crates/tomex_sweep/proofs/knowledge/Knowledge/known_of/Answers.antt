@@ -10,5 +10,5 @@ returns g c =
     let is : IsKnowledge c.args.self.now c.self.inside.lists.items = rw (← c.self.view_is) c.self.invariant in
     let long : length c.self.inside.lists.items ≡ length c.args.self.now = as_many _ _ is in
     let low : c.args.place < length c.self.inside.lists.items = omega arith in
-    list_tells c.args.self.now c.self.inside.lists.items c.args.row.now c.args.place c.index.result.now c.total_on.result is
+    list_tells c.args.self.now c.self.inside.lists.items c.args.config.now c.args.place c.index.result.now c.total_on.result is
     (slice_get_read c.self.inside.lists.items _ c.args.place c.index.result.now refl low c.index.ensures) c.total_on.ensures.total

@@ -6,5 +6,5 @@ use Rattle.tomex_sweep.proofs.knowledge.Knowledge.learn.Given as goal
 abbrev pub invariant-loop-place : goal.invariant-loop-place
 invariant-loop-place g l = record {
   same : l.self ≡ l.fn.self;
-  totals : AreTotals l.fn.self l.row l.totals;
+  totals : AreTotals l.fn.self l.config l.totals;
 }

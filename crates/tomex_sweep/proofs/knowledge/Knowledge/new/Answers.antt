@@ -2,7 +2,7 @@
 use Rattle.std.proofs.Common.{◌∙◌, ap, map, List}
 use Rattle.std.proofs.lemmas.List.{take_all}
 use Rattle.tomex_plateaus.specs.Kept.{Kept}
-use Rattle.tomex_sweep.specs.Program.{Workload}
+use Rattle.tomex_study.specs.Program.{Workload}
 use Rattle.tomex_sweep.proofs.Knowing.{one_list, steps_of}
 use Rattle.tomex_sweep.proofs.knowledge.Knowledge.new.Goals as goal
 

@@ -6,11 +6,11 @@ use Rattle.tomex_sweep.proofs.Knowing.{list_tells, none_known, one_known}
 use Rattle.tomex_sweep.proofs.knowledge.Knowledge.totals.Goals as goal
 
 pub loop-place-init : goal.loop-place-init
-loop-place-init g c = none_known c.args.self.now c.args.row.now
+loop-place-init g c = none_known c.args.self.now c.args.config.now
 
 pub loop-place-preserved : goal.loop-place-preserved
 loop-place-preserved g c =
     let is : IsKnowledge c.args.self.now c.deref-list-items.result.now = rw (c.deref-list-items.ensures.value, ← c.self.view_is) c.self.invariant in
     one_known _ _ _ c.loop-place.place c.total_on.result c.loop-place.invariant
-    (list_tells c.args.self.now c.deref-list-items.result.now c.args.row.now c.loop-place.place c.list-item.result c.total_on.result is
+    (list_tells c.args.self.now c.deref-list-items.result.now c.args.config.now c.loop-place.place c.list-item.result c.total_on.result is
     (slice_get_read c.deref-list-items.result.now _ c.loop-place.place c.list-item.result refl c.loop-place-test.true c.list-item.is) c.total_on.ensures.total)

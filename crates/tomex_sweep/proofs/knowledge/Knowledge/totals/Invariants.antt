@@ -3,4 +3,4 @@ use Rattle.tomex_sweep.specs.Known.{AreTotals}
 use Rattle.tomex_sweep.proofs.knowledge.Knowledge.totals.Given as goal
 
 abbrev pub invariant-loop-place : goal.invariant-loop-place
-invariant-loop-place g l = AreTotals l.self l.row l.totals
+invariant-loop-place g l = AreTotals l.self l.config l.totals

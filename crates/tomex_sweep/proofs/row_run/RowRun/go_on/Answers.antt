@@ -1,7 +1,7 @@
 -- The run goes on to the look, to its end, or to the next program.
 use Rattle.std.proofs.Common.{arith, ap, ◌≡◌, ◌+◌, ◌*◌, ◌≤◌, ◌<◌, sym, ◌∙◌, length, refl}
 use Rattle.std.proofs.lemmas.Option.{slice_get_read}
-use Rattle.tomex_cycle.specs.Seen.{Counted, seen}
+use Rattle.tomex_cycle.specs.Seen.{Machine, seen}
 use Rattle.tomex_sweep.proofs.Totals.{all_cycles, all_plain}
 use Rattle.tomex_sweep.proofs.Stops.{ended_total, last_going, look_at, look_counts, looked, looks, nearer_at, next_going, over_at, small_product, still_going}
 use Rattle.tomex_sweep.proofs.row_run.RowRun.go_on.Goals as goal
@@ -27,7 +27,7 @@ returns-then-not-ended-clause-stop g c =
     let on = sym c.ended.ensures ∙ c.if-not-ended.true in
     let at = slice_get_read c.loop-self.self-inside.programs.now _ c.loop-self.self-inside.place c.index-programs-self.result refl c.loop-self-test.true c.index-programs-self.is in
     let weight : c.from-weight.result ≡ c.index-programs-self.result.weight = omega (arith, c.from-weight.ensures, c.weight.ensures.value) in
-    look_at _ _ _ _ _ _ _ c.loop-self.invariant.programs c.loop-self.invariant.row c.loop-self.invariant.reached
+    look_at _ _ _ _ _ _ _ c.loop-self.invariant.programs c.loop-self.invariant.config c.loop-self.invariant.reached
     (rw (weight, c.cycle-made.ensures) (look_counts _ _ _ _ _ _ _ _ _ c.loop-self.invariant.going c.loop-self-test.true goes on at))
     (looks _ _ _ _ _ _ _ _ c.loop-self.invariant.going c.loop-self-test.true goes on)
 
@@ -37,7 +37,7 @@ returns-then-not-ended-clause-look g c =
     let on = sym c.ended.ensures ∙ c.if-not-ended.true in
     let at = slice_get_read c.loop-self.self-inside.programs.now _ c.loop-self.self-inside.place c.index-programs-self.result refl c.loop-self-test.true c.index-programs-self.is in
     let weight : c.from-weight.result ≡ c.index-programs-self.result.weight = omega (arith, c.from-weight.ensures, c.weight.ensures.value) in
-    nearer_at _ _ _ _ _ _ _ _ c.loop-self.invariant.going.ends c.loop-self.invariant.programs c.loop-self.invariant.row c.loop-self.invariant.reached c.loop-self.invariant.next
+    nearer_at _ _ _ _ _ _ _ _ c.loop-self.invariant.going.ends c.loop-self.invariant.programs c.loop-self.invariant.config c.loop-self.invariant.reached c.loop-self.invariant.next
     (rw (weight, c.cycle-made.ensures) (look_counts _ _ _ _ _ _ _ _ _ c.loop-self.invariant.going c.loop-self-test.true goes on at))
     (looks _ _ _ _ _ _ _ _ c.loop-self.invariant.going c.loop-self-test.true goes on)
 
@@ -70,12 +70,12 @@ returns-in_default-clause-stop g c =
     let weight : c.from-weight.result ≡ c.index-programs-self.result.weight = omega (arith, c.from-weight.ensures, c.weight.ensures.value) in
     let t = ended_total _ _ _ _ _ _ _ _ _ c.loop-self.invariant.going c.loop-self-test.true goes (sym c.ended.ensures ∙ c.if-not-ended.false) at in
     let past : length c.loop-self.self-inside.programs.now ≤ c.loop-self.self-inside.place + 1 = rw c.in_default.is at c.get.ensures.lookup.3 in
-    over_at _ _ _ _ _ _ (c.loop-self.self-inside.done + c.cycle-made.result) _ c.loop-self.invariant.programs c.loop-self.invariant.row c.loop-self.invariant.reached
+    over_at _ _ _ _ _ _ (c.loop-self.self-inside.done + c.cycle-made.result) _ c.loop-self.invariant.programs c.loop-self.invariant.config c.loop-self.invariant.reached
     (rw c.cycle-made.ensures (t.0 ∙ all_plain _ _ _ past)) (rw (weight, c.cycle-made.ensures) (t.1 ∙ all_cycles _ _ _ past)) (rw c.cycle-made.ensures t.2)
 
 pub invariant_of-self-in_err-restart : goal.invariant_of-self-in_err-restart
 invariant_of-self-in_err-restart g c =
-    let same = ap (λ (m : Counted). seen m) c.in_err-restart.ensures.err in
+    let same = ap (λ (m : Machine). seen m) c.in_err-restart.ensures.err in
     (still_going _ _ _ _ _ _ _ _ c.loop-self.invariant.going c.loop-self-test.true (rw same (rw c.loop-self.invariant.next at c.advance.ensures)), c.loop-self.invariant.totals)
 
 pub loop-self-smaller : goal.loop-self-smaller
@@ -95,12 +95,12 @@ loop-self-preserved g c =
       totals = c.loop-self.invariant.totals;
       next = c.loop-self.invariant.next;
       programs = c.loop-self.invariant.programs;
-      row = c.loop-self.invariant.row;
+      config = c.loop-self.invariant.config;
       reached = c.loop-self.invariant.reached;
     }
 
 pub returns-clause-stop : goal.returns-clause-stop
 returns-clause-stop g c =
     let past : length c.loop-self.self-inside.programs.now ≤ c.loop-self.self-inside.place = c.loop-self-test.false in
-    over_at _ _ _ _ _ _ c.loop-self.self-inside.done _ c.loop-self.invariant.programs c.loop-self.invariant.row c.loop-self.invariant.reached
+    over_at _ _ _ _ _ _ c.loop-self.self-inside.done _ c.loop-self.invariant.programs c.loop-self.invariant.config c.loop-self.invariant.reached
     (c.loop-self.invariant.going.sum ∙ all_plain _ _ _ past) (c.loop-self.invariant.going.weights ∙ all_cycles _ _ _ past) c.loop-self.invariant.going.low

@@ -7,11 +7,11 @@ use Rattle.tomex_sweep.proofs.row_run.RowRun.go_on.Given as goal
 
 abbrev pub invariant-loop-self : goal.invariant-loop-self
 invariant-loop-self g l = record {
-  going : IsGoing l.self-inside.programs.now l.self-inside.row.now l.self-inside.reached l.self-inside.place l.self-inside.done l.self-inside.counted (seen l.self-inside.machine);
-  totals : AreTotals l.self-inside.programs.now l.self-inside.row.now l.self-inside.totals;
+  going : IsGoing l.self-inside.programs.now l.self-inside.config.now l.self-inside.reached l.self-inside.place l.self-inside.done l.self-inside.counted (seen l.self-inside.machine);
+  totals : AreTotals l.self-inside.programs.now l.self-inside.config.now l.self-inside.totals;
   next : l.next ≡ l.self-inside.reached + 1024;
   programs : l.self-inside.programs.now ≡ l.fn.self.programs;
-  row : l.self-inside.row.now ≡ l.fn.self.row;
+  config : l.self-inside.config.now ≡ l.fn.self.config;
   reached : l.self-inside.reached ≡ l.fn.self.reached;
 }
 

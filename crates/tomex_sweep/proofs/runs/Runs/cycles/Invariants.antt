@@ -1,4 +1,4 @@
--- The run stays that of the row; each look comes nearer to its cycles.
+-- The run stays that of the configuration; each look comes nearer to its cycles.
 use Rattle.std.proofs.Common.{◌≡◌, ◌-◌}
 use Rattle.tomex_sweep.specs.Cycles.{cycles_on}
 use Rattle.tomex_sweep.proofs.runs.Runs.cycles.Given as goal
@@ -6,8 +6,8 @@ use Rattle.tomex_sweep.proofs.runs.Runs.cycles.Given as goal
 abbrev pub invariant-loop-cycles : goal.invariant-loop-cycles
 invariant-loop-cycles g l = record {
   programs : l.run.programs ≡ l.programs;
-  row : l.run.row ≡ l.row;
+  config : l.run.config ≡ l.config;
 }
 
 abbrev pub decreases-loop-cycles : goal.decreases-loop-cycles
-decreases-loop-cycles g l = cycles_on l.programs l.row - l.run.reached
+decreases-loop-cycles g l = cycles_on l.programs l.config - l.run.reached

@@ -1,0 +1,13 @@
+-- One configuration more has its cost, and says of itself that it is within the limits.
+use Rattle.std.proofs.Common.{◌∙◌, ap, map}
+use Rattle.std.proofs.lemmas.List.{take_all}
+use Rattle.tomex_config.specs.Configuration.{Configuration, IsWithinLimits}
+use Rattle.tomex_config.specs.Cost.{cost_of}
+use Rattle.tomex_study.proofs.Each.{one_mapped, one_more, all_of}
+use Rattle.tomex_study.proofs.study.costs_of.Goals as goal
+
+pub loop-config-preserved : goal.loop-config-preserved
+loop-config-preserved g c = record {
+  costs = one_mapped (λ (config : Configuration). cost_of config c.args.prices.now) _ c.loop-config.config-index c.config-item.result _ _ _ c.loop-config-test.true c.in_ok-push.ensures.items c.cost.ensures.cost c.config-item.is c.loop-config.invariant.costs;
+  limits = one_more IsWithinLimits _ c.loop-config.config-index c.config-item.result c.loop-config-test.true c.loop-config.invariant.limits c.config-item.is c.keeps_limits.ensures;
+}

@@ -1,0 +1,13 @@
+//! Studies: programs that are known to end, the configurations that they are run on, what each of
+//! these costs, and the ranges of memory that a report shows.
+//!
+//! Nothing here reads a file or runs a machine: a study is made of its parts by whoever has them.
+#![tactic(auto)]
+
+mod program;
+mod study;
+mod watch;
+
+pub use program::{Program, ProgramError};
+pub use study::Study;
+pub use watch::{WatchRange, can_watch, watched_bytes};

@@ -1,0 +1,145 @@
+//! A study: what an exploration is made of.
+
+ghost use Rattle.std.specs.Prelude.{◌≡◌, ◌≤◌, length, slice_get, option_copied, All, IfOk, IfSome};
+ghost use Rattle.tomex_config.specs.Configuration.{IsWithinLimits};
+ghost use Rattle.tomex_study.specs.Program.{IsProgram};
+ghost use Rattle.tomex_study.specs.Study.{costs_of, design_space, program_named, IsStudy};
+
+use crate::program::Program;
+use std::alloc::{AllocError, Allocator, Global};
+use std::marker::Model;
+use tomex_config::{Config, Prices, cost};
+
+/// A study: 1 to 8 programs, 1 to 16,384 configurations in any order, the cost of each, the prices that
+/// the costs are made of, and whether reports show widths and weights. A configuration's row is its
+/// place among them, counted from 0.
+#[derive(Debug, Drop)]
+pub struct Study<A: Allocator = Global> {
+    programs: Vec<Program<A>, A>,
+    rows: Vec<Config, A>,
+    costs: Vec<u64, A>,
+    prices: Prices,
+    wide: bool,
+}
+
+impl<A: Allocator> Model for Study<A> {
+    ghost use Rattle.tomex_study.specs.Study.{DesignSpace, design_space, IsStudy};
+
+    ghost Value = { DesignSpace };
+
+    ghost view = { λ s. design_space s.programs.items s.rows.items s.costs.items s.prices s.wide };
+
+    ghost invariant = { λ s. IsStudy (design_space s.programs.items s.rows.items s.costs.items s.prices s.wide) };
+}
+
+/// Each program says of itself that it ends.
+fn each_ends<A: Allocator>(programs: &[Program<A>])
+    ensures { All IsProgram programs.now }
+{
+    for program in programs {
+        program.keeps_limits();
+    }
+}
+
+/// What each configuration costs. Each says of itself that it is within the limits.
+fn costs_of<A: Allocator>(
+    alloc: A,
+    rows: &[Config],
+    prices: &Prices,
+) -> Result<Vec<u64, A>, AllocError>
+    ensures costs { IfOk result (λ v. v.items ≡ costs_of prices.now rows.now) }
+    ensures limits { IfOk result (λ v. All IsWithinLimits rows.now) }
+{
+    let mut costs = Vec::with_capacity(alloc, rows.len())?;
+    for config in rows {
+        config.keeps_limits();
+        costs.push(cost(config, prices))?;
+    }
+    Ok(costs)
+}
+
+impl<A: Allocator> Study<A> {
+    /// The study of these programs and configurations, with what each of these costs.
+    pub fn new(
+        alloc: A,
+        programs: Vec<Program<A>, A>,
+        rows: Vec<Config, A>,
+        prices: Prices,
+        wide: bool,
+    ) -> Result<Study<A>, AllocError>
+        requires some_programs { 1 ≤ length programs.items }
+        requires few_programs { length programs.items ≤ 8 }
+        requires some_rows { 1 ≤ length rows.items }
+        requires few_rows { length rows.items ≤ 16384 }
+        ensures parts { IfOk result
+            (λ s. s ≡ design_space programs.items rows.items (costs_of prices rows.items) prices wide) }
+        ensures study { IfOk result (λ s. IsStudy s) }
+    {
+        each_ends(&programs);
+        let costs = costs_of(alloc, &rows, &prices)?;
+        Ok(Study {
+            programs,
+            rows,
+            costs,
+            prices,
+            wide,
+        })
+    }
+
+    /// A law: there are 1 to 8 programs, each of which ends, and 1 to 16,384 configurations, each within
+    /// the limits, with their costs.
+    pub fn keeps_limits(&self)
+        ensures { IsStudy self.now }
+    {
+        let _wide = self.wide;
+    }
+
+    /// The programs, in the study's order.
+    pub fn programs(&self) -> &[Program<A>]
+        ensures value { result.now ≡ self.now.programs }
+    {
+        self.programs.as_slice()
+    }
+
+    /// The configurations, in the order of their rows.
+    pub fn rows(&self) -> &[Config]
+        ensures value { result.now ≡ self.now.rows }
+    {
+        self.rows.as_slice()
+    }
+
+    /// What each configuration costs, in the order of their rows.
+    pub fn costs(&self) -> &[u64]
+        ensures value { result.now ≡ self.now.costs }
+    {
+        self.costs.as_slice()
+    }
+
+    /// The prices of stations, buses and widths.
+    pub fn prices(&self) -> Prices
+        ensures value { result ≡ self.now.prices }
+    {
+        self.prices
+    }
+
+    /// Whether reports show the widths of configurations and the weights of programs.
+    pub fn wide(&self) -> bool
+        ensures value { result ≡ self.now.wide }
+    {
+        self.wide
+    }
+
+    /// The first program of that name.
+    pub fn program(&self, name: &str) -> Option<&Program<A>>
+        ensures first { option_copied result ≡ program_named name.now self.now.programs }
+    {
+        self.programs.iter().find(|program| program.name() == name)
+    }
+
+    /// The configuration of that row.
+    pub fn config(&self, row: usize) -> Option<&Config>
+        ensures value { option_copied result ≡ slice_get self.now.rows row }
+    {
+        self.rows.get(row)
+    }
+}

@@ -1,5 +1,0 @@
-use Rattle.std.proofs.Common.{rules}
-use Rattle.tomex_sweep.proofs.watch.WatchRange.is_inside.Goals as goal
-
-pub returns-then-base-self : goal.returns-then-base-self
-returns-then-base-self c = search rules fits 100

@@ -1,0 +1,54 @@
+//! The exploration that runs each configuration to its end.
+
+ghost use Rattle.std.specs.Prelude.{◌≡◌, map, IfOk, IfErr};
+ghost use Rattle.tomex_sweep.specs.Cycles.{cycles_of};
+ghost use Rattle.tomex_sweep.specs.Front.{front_of_study};
+ghost use Rattle.tomex_board.specs.declared.mark.Mark.TheVariants.{Finished};
+ghost use Rattle.tomex_sweep.specs.declared.outcome.SweepError.TheVariants.{Memory};
+
+use crate::fronts::front;
+use crate::gate::{Gate, OpenGate};
+use crate::outcome::{Outcome, SweepError};
+use crate::runs::Runs;
+use std::alloc::Allocator;
+use tomex_board::Mark;
+use tomex_study::Study;
+
+/// `run_all` with a gate, which is told of worker 0 alone.
+pub fn run_all_under<A: Allocator + Clone, G: Gate>(
+    alloc: A,
+    study: &Study<A>,
+    gate: &G,
+) -> Result<Outcome<A>, SweepError>
+    ensures marks { IfOk result (λ o. o.marks.items ≡ map Finished (cycles_of study.now)) }
+    ensures front { IfOk result (λ o. o.front.items ≡ front_of_study study.now) }
+    ensures gathered { IfOk result (λ o. o.gathered ≡ 0) }
+    ensures refused { IfErr result (λ e. e ≡ Memory) }
+{
+    let count = study.rows().len();
+    gate.begins(count);
+    study.keeps_limits();
+    let mut runs = Runs::new(alloc.clone()?);
+    let mut marks = Vec::with_capacity(alloc.clone()?, count)?;
+    for config in study.rows() {
+        gate.before(0, marks.len());
+        let cycles = runs.cycles(study.programs(), config)?;
+        marks.push(Mark::Finished(cycles))?;
+    }
+    let front = front(alloc, study.costs(), marks.as_slice())?;
+    Ok(Outcome {
+        marks,
+        front,
+        gathered: 0,
+    })
+}
+
+/// Runs each configuration to its end, on the calling thread.
+pub fn run_all<A: Allocator + Clone>(alloc: A, study: &Study<A>) -> Result<Outcome<A>, SweepError>
+    ensures marks { IfOk result (λ o. o.marks.items ≡ map Finished (cycles_of study.now)) }
+    ensures front { IfOk result (λ o. o.front.items ≡ front_of_study study.now) }
+    ensures gathered { IfOk result (λ o. o.gathered ≡ 0) }
+    ensures refused { IfErr result (λ e. e ≡ Memory) }
+{
+    run_all_under(alloc, study, &OpenGate)
+}
