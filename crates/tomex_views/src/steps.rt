@@ -17,6 +17,7 @@ pub fn steps_of<A: Allocator + Clone>(
         (λ steps. steps.items ≡ steps_from program.now.limit (start_of program.now.image)) }
     ensures few { IfOk result (λ steps. length steps.items ≤ 262144) }
 {
+    program.keeps_limits();
     match trace(alloc, program.image(), program.limit()) {
         Ok(steps) => Ok(steps),
         Err(_) => Err(AllocError),
