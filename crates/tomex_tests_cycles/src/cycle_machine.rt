@@ -267,7 +267,12 @@ fn show(
 }
 
 /// The tables of a program after a cycle.
-fn tables_after(rt: &HostRuntime, words: &[u32], config: &Config, cycle: u32) -> Result<Tables, Fail> {
+fn tables_after(
+    rt: &HostRuntime,
+    words: &[u32],
+    config: &Config,
+    cycle: u32,
+) -> Result<Tables, Fail> {
     let image = image_at_0(rt, words)?;
     let mut machine = Machine::new(rt.alloc(), &image, config)?;
     for _ in 0..cycle {

@@ -126,7 +126,9 @@ fn issues_and_ends(
     let [stations, units, buses, width] = machine;
     let alus = UnitOption { units, ..unit(1) };
     let kinds = [alus, unit(3), unit(1), unit(1), unit(1)];
-    let config = Config::new([stations, 1, 1, 1, 1, 1], kinds, buses, width).ok_or("no configuration")?;
+    let config = Config::new([stations, 1, 1, 1, 1, 1], kinds, buses, width).ok_or(
+        "no configuration",
+    )?;
     let steps = trace_of(rt, words)?;
     if steps.len() != 4 {
         return Err("another number of steps")?;

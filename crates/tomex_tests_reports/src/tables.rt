@@ -43,7 +43,12 @@ fn config_of(alu_stations: u8, mul_latency: u8, mem_latency: u8) -> Result<Confi
 }
 
 /// The text of the tables of a program at address 0 after a cycle.
-fn text_after(rt: &HostRuntime, words: &[u32], config: &Config, cycle: u32) -> Result<Vec<u8>, Fail> {
+fn text_after(
+    rt: &HostRuntime,
+    words: &[u32],
+    config: &Config,
+    cycle: u32,
+) -> Result<Vec<u8>, Fail> {
     let mut bytes = Vec::new(rt.alloc());
     for word in words {
         bytes.extend_from_slice(&word.to_le_bytes())?;

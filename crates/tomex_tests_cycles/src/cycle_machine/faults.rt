@@ -1,6 +1,6 @@
 //! Machines of programs that fault.
 
-use super::{cycle_of, holds, image_at_0, config_of, tick, wide_config};
+use super::{config_of, cycle_of, holds, image_at_0, tick, wide_config};
 use std::alloc::Allocator;
 use std::test::Fail;
 use tomex_config::Config;

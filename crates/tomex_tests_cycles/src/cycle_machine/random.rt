@@ -252,7 +252,12 @@ fn compare_cycles(
 }
 
 /// Runs a program on a configuration, and compares each cycle.
-fn compare(rt: &HostRuntime, words: &[u32], config: &Config, random: &mut Random) -> Result<(), Fail> {
+fn compare(
+    rt: &HostRuntime,
+    words: &[u32],
+    config: &Config,
+    random: &mut Random,
+) -> Result<(), Fail> {
     let image = image_at_0(rt, words)?;
     let steps = trace(rt.alloc(), &image, 1000).map_err(|_| "no trace")?;
     let timed = times(rt.alloc(), steps.as_slice(), config)?;
