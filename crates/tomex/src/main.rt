@@ -4,7 +4,7 @@
 use std::env;
 use std::io::ErrorKind;
 use std::process::ExitCode;
-pub use tomex_command::{RunRefusal, command, run_text, tell_line_fault};
+pub use tomex_command::{Heaps, RunRefusal, command, run_text, tell_line_fault};
 use tomex_line::{LineFault, not_text, unread};
 use tomex_streams::TerminalMeter;
 pub use tomex_streams::{HostFiles, PutFault, Sink, Stream, WriteFault, write_all_of};
@@ -28,8 +28,10 @@ fn main(rt: HostRuntime) -> ExitCode {
     let status = match words_of(&rt) {
         Ok(words) => command(
             &rt,
-            alloc,
-            alloc,
+            Heaps {
+                images: alloc,
+                texts: alloc,
+            },
             words.as_slice(),
             &files,
             &meter,

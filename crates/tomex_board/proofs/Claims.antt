@@ -12,7 +12,7 @@ use Rattle.tomex_board.specs.declared.mark.Mark.{Mark}
 use Rattle.tomex_board.specs.declared.mark.Mark.TheVariants.{Open, Taken, Finished, Dropped}
 use Rattle.tomex_board.specs.declared.view.View.{View}
 use Rattle.tomex_board.specs.Words.{mark_word}
-use Rattle.tomex_board.specs.Views.{Has, IsNoted, after_claim, after_failed_claim}
+use Rattle.tomex_board.specs.Views.{Has, KnowsNotOpen, after_claim, after_failed_claim}
 use Rattle.tomex_board.specs.Rule.{Drops, FitsRow, IsTrueOf, IsLawful}
 use Rattle.tomex_board.specs.Steps.{Seated, IsClaim}
 use Rattle.tomex_board.proofs.Onward.{moved, looked}
@@ -63,7 +63,7 @@ module _ (costs cycles : List ℕ) where
   }
 
   -- an open row was noted by nobody
-  pub unnoted : (ws : List ℕ) (i : ℕ) (v : View) → IsTrueOf costs ws v → get_or ws i 0 ≡ 0 → ¬ IsNoted v i
+  pub unnoted : (ws : List ℕ) (i : ℕ) (v : View) → IsTrueOf costs ws v → get_or ws i 0 ≡ 0 → ¬ KnowsNotOpen v i
   unnoted ws i v t open-row h = ⊎_elim (λ (a : Has v.hand i). let p : get_or ws i 0 ≡ 1 = (t.hand i a).1 in absurd (omega arith))
       (⊎_elim (λ (a : Has v.seen i). (t.seen i a).1 open-row) (λ (a : (m : Mark) × Has v.marks (i, m)). let p = t.marks i a.0 a.1 in let b = p.1 in let c = p.2 in absurd (omega arith))) h
 

@@ -8,7 +8,7 @@ use Rattle.tomex_board.specs.declared.mark.Mark.{Mark}
 use Rattle.tomex_board.specs.declared.mark.Mark.TheVariants.{Open, Taken}
 use Rattle.tomex_board.specs.Words.{mark_of, mark_word}
 use Rattle.tomex_board.specs.Marks.{AreLawful}
-use Rattle.tomex_board.specs.Views.{Has, IsNoted}
+use Rattle.tomex_board.specs.Views.{Has, KnowsNotOpen}
 use Rattle.tomex_board.specs.Rule.{Drops, FitsRow, IsTrueOf, IsLawful}
 use Rattle.tomex_board.proofs.RowMarks.{at_mark, within, kind, or_open, finished_mark, dropped_mark, word_says, lawful_now}
 
@@ -52,7 +52,7 @@ module _ (costs cycles : List ℕ) (id : ℕ) (v : View) (ws xs : List ℕ) (f :
       (⊎_elim (λ a. let k = ap kind (sym (finished_mark w (get_or cycles i 0) a) ∙ p.1) in absurd (omega arith))
       (λ (d : Drops costs cycles ws i w). let k = ap kind (sym (dropped_mark w d.0 d.1) ∙ p.1) in absurd (omega arith)))) (row i t.0)
 
-  pub shut : (i : ℕ) → IsNoted v i → slice_get marks i ≢ Some Open
+  pub shut : (i : ℕ) → KnowsNotOpen v i → slice_get marks i ≢ Some Open
   shut i h e = ⊎_elim (λ (a : Has v.hand i). let k : 1 ≡ 0 = ap kind (ap or_open (sym (held i a) ∙ e)) in absurd (omega arith))
       (⊎_elim (λ (a : Has v.seen i). seen_shut i a e)
       (λ (a : (m : Mark) × Has v.marks (i, m)). let t = mine.marks i a.0 a.1 in let big = t.1 in let k : mark_word a.0 ≡ 0 = ap mark_word (ap or_open (sym (noted i a.0 a.1) ∙ e)) in absurd (omega arith))) h

@@ -11,13 +11,13 @@ use Rattle.tomex_board.specs.declared.mark.Mark.TheVariants.{Finished}
 use Rattle.tomex_board.specs.declared.view.View.{View}
 use Rattle.tomex_board.specs.Words.{band_word, nothing_yet, bound_of}
 use Rattle.tomex_board.specs.Bands.{floors_of, judges_below}
-use Rattle.tomex_board.specs.Views.{Has, IsNoted, after_seeing, after_seeing_row, best, least_in, Grows}
+use Rattle.tomex_board.specs.Views.{Has, KnowsNotOpen, after_seeing, after_seeing_row, best, least_in, Grows}
 use Rattle.tomex_board.specs.Steps.{Seated, IsPublish, IsLook}
 use Rattle.tomex_board.specs.Looking.{IsBound, IsLeastBest, IsLeastSoFar, AreEmpty, Sees, SeesEach, IsLeastBound}
 use Rattle.tomex_board.proofs.Bests.{least_here, least_else, least_falls, least_small}
 
 -- what was noted stays noted where more is
-spotted : (k row cycles : ℕ) (v : View) (i : ℕ) → IsNoted v i → IsNoted (after_seeing_row k row cycles v) i
+spotted : (k row cycles : ℕ) (v : View) (i : ℕ) → KnowsNotOpen v i → KnowsNotOpen (after_seeing_row k row cycles v) i
 spotted k row cycles v i h = ⊎_elim (λ a. inl a) (λ r. ⊎_elim (λ a. inr (inl (inr a))) (λ (d : (m : Mark) × Has v.marks (i, m)). inr (inr (d.0, inr d.1))) r) h
 
 -- a look as the caller sees it

@@ -9,7 +9,7 @@ use Rattle.tomex_board.specs.declared.view.View.{View}
 use Rattle.tomex_board.specs.Words.{mark_word, mark_of}
 use Rattle.tomex_board.specs.Marks.{AreLawful}
 use Rattle.tomex_board.specs.Bands.{distinct_costs, floors_of, IsBandOf}
-use Rattle.tomex_board.specs.Views.{Has, IsNoted, best, joined_view}
+use Rattle.tomex_board.specs.Views.{Has, KnowsNotOpen, best, joined_view}
 use Rattle.tomex_board.specs.Rule.{IsLawful}
 
 -- at every moment the words of the rows say lawful marks
@@ -22,7 +22,7 @@ MarksAreLawful =
 abbrev pub NotedIsNotOpen : Type 0
 NotedIsNotOpen =
     (costs cycles : List ℕ) (s : State ℕ View) (a : ℕ) (v : View) (i : ℕ) → IsLawful costs cycles s
-    → get_elem? s.views a ≡ some v → IsNoted v i → slice_index s.words i ≢ mark_word Open
+    → get_elem? s.views a ≡ some v → KnowsNotOpen v i → slice_index s.words i ≢ mark_word Open
 
 -- a row is in the hand of one seat only
 abbrev pub HandsAreApart : Type 0

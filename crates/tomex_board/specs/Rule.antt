@@ -32,7 +32,8 @@ FitsRow costs cycles words i w =
 abbrev pub FitsBand : List ℕ → List ℕ → List ℕ → ℕ → ℕ → Type 0
 FitsBand costs cycles words k w =
     (w ≡ nothing_yet)
-    ⊎ ((j : ℕ) × (j < length costs) × (w ≡ band_word (slice_index cycles j) j) × IsFinished cycles words j × (slice_index costs j ≤ slice_index (floors_of costs) k))
+    ⊎ ((j : ℕ) × (j < length costs) × (w ≡ band_word (slice_index cycles j) j) × IsFinished cycles words j
+    × (slice_index costs j ≤ slice_index (floors_of costs) k))
 
 -- What one seat knows is true of the words: a row in its hand is taken, a row seen not open isn't
 -- open, a noted mark is closed and still stands, and no band's word is above one that was seen.

@@ -10,7 +10,8 @@ use Rattle.tomex_board.specs.declared.mark.Mark.TheVariants.{Open, Taken, Finish
 use Rattle.tomex_board.specs.declared.view.View.{View}
 use Rattle.tomex_board.specs.Words.{mark_word, band_word, nothing_yet}
 use Rattle.tomex_board.specs.Bands.{floors_of, IsBandOf}
-use Rattle.tomex_board.specs.Views.{Has, IsNoted, after_claim, after_failed_claim, after_closing, after_seeing, after_seeing_row, best}
+use Rattle.tomex_board.specs.Views.{Has, KnowsNotOpen, after_claim, after_failed_claim, after_closing}
+use Rattle.tomex_board.specs.Views.{after_seeing, after_seeing_row, best}
 
 -- a seat of the table: what it knows, and slots, of which a board has none
 abbrev pub Seated : Type 0
@@ -23,7 +24,7 @@ pub record IsClaim (costs : List ℕ) (st : Step ℕ) (before : Seated) (found :
   pub from : st.first ≡ mark_word Open
   pub to : st.second ≡ mark_word Taken
   pub slots : after.1 ≡ before.1
-  pub taken : found ≡ mark_word Open → (after.0 ≡ after_claim st.word before.0) × ¬ IsNoted before.0 st.word
+  pub taken : found ≡ mark_word Open → (after.0 ≡ after_claim st.word before.0) × ¬ KnowsNotOpen before.0 st.word
   pub missed : found ≢ mark_word Open
       → (m : Mark) × (m ≢ Open) × (found ≡ mark_word m) × (after.0 ≡ after_failed_claim st.word m before.0)
 

@@ -23,8 +23,8 @@ least_of (x ∷ []) = x
 least_of (x ∷ y ∷ ys) = min x (least_of (y ∷ ys))
 
 -- the seat knows that the row isn't open: it holds it, has seen it so, or has seen its closed mark
-abbrev pub IsNoted : View → ℕ → Type 0
-IsNoted v i = Has v.hand i ⊎ (Has v.seen i ⊎ ((m : Mark) × Has v.marks (i, m)))
+abbrev pub KnowsNotOpen : View → ℕ → Type 0
+KnowsNotOpen v i = Has v.hand i ⊎ (Has v.seen i ⊎ ((m : Mark) × Has v.marks (i, m)))
 
 -- the least of the words that were seen in the band k
 abbrev pub least_in : ℕ → List (ℕ × ℕ) → ℕ
@@ -37,7 +37,7 @@ best k v = least_in k v.bests
 
 -- what was known stays known, and the least word of no band rises
 pub record Grows (v w : View) : Type 0 where
-  pub noted : (i : ℕ) → IsNoted v i → IsNoted w i
+  pub noted : (i : ℕ) → KnowsNotOpen v i → KnowsNotOpen w i
   pub marks : (i : ℕ) (m : Mark) → Has v.marks (i, m) → Has w.marks (i, m)
   pub bests : (k : ℕ) → best k w ≤ best k v
 

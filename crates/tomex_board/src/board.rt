@@ -3,7 +3,8 @@
 ghost use Rattle.std.specs.Prelude.{◌≡◌, ◌≢◌, ℕ, [], Some, length, slice_get, IfOk};
 ghost use Rattle.tomex_board.specs.Plans.{IsPlan};
 ghost use Rattle.tomex_board.specs.Marks.{AreLawful};
-ghost use Rattle.tomex_board.specs.Views.{Has, IsNoted, Grows, IsWhole, HasTwo, first_view, given_view, kept_view, joined_view};
+ghost use Rattle.tomex_board.specs.Views.{Has, KnowsNotOpen, Grows, IsWhole, HasTwo, first_view};
+ghost use Rattle.tomex_board.specs.Views.{given_view, kept_view, joined_view};
 ghost use Rattle.tomex_board.specs.declared.mark.Mark.{Mark};
 ghost use Rattle.tomex_board.specs.declared.mark.Mark.TheVariants.{Open, Taken};
 
@@ -155,7 +156,7 @@ impl<J: Plan, A: Allocator> Board<J, A> {
         ensures lawful { AreLawful J.costs J.cycles result.items }
         ensures noted { (i : ℕ) (m : Mark) → Has seat.view.marks (i, m)
             → slice_get result.items i ≡ Some m }
-        ensures shut { (i : ℕ) → IsNoted seat.view i → slice_get result.items i ≢ Some Open }
+        ensures shut { (i : ℕ) → KnowsNotOpen seat.view i → slice_get result.items i ≢ Some Open }
         ensures hand { (i : ℕ) → Has seat.view.hand i → slice_get result.items i ≡ Some Taken }
         ensures whole { IsWhole seat.view.share → seat.view.hand ≡ []
             → (i : ℕ) → slice_get result.items i ≢ Some Taken }

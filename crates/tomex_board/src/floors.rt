@@ -73,7 +73,8 @@ pub(crate) fn floors_of<A: Allocator + Clone>(
 /// The first band whose floor is no less than the cost.
 pub(crate) fn band_of(floors: &[u64], cost: u64) -> Option<usize>
     ensures some { IfSome result (IsBandOf floors.now cost) }
-    ensures none { IfNone result ((k : ℕ) → k < length floors.now → slice_index floors.now k < cost) }
+    ensures none { IfNone result ((k : ℕ) → k < length floors.now
+        → slice_index floors.now k < cost) }
 {
     for k in 0..floors.len() {
         if cost <= floors[k] {

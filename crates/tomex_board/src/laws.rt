@@ -1,7 +1,9 @@
 //! The words and floors of a board, for whoever reads one, and laws of its rule. The functions without
 //! arguments do nothing: their contracts are the laws.
 
-ghost use Rattle.tomex_board.specs.Laws.{MarksAreLawful, NotedIsNotOpen, HandsAreApart, WordsSayMarks, JoinTakesLesserBest, CostsAreKept, DistinctCostsRise, FloorsRise, BandIsLeast};
+ghost use Rattle.tomex_board.specs.Laws.{MarksAreLawful, NotedIsNotOpen, HandsAreApart, WordsSayMarks};
+ghost use Rattle.tomex_board.specs.Laws.{JoinTakesLesserBest, CostsAreKept, DistinctCostsRise, FloorsRise};
+ghost use Rattle.tomex_board.specs.Laws.{BandIsLeast};
 
 pub use crate::floors::floor;
 pub use crate::words::{band_word, mark_word};

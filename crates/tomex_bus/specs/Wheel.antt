@@ -1,6 +1,7 @@
 -- A wheel of the cycles ahead is seen as its pairs: how far ahead a number is due, and the number. They are held by how
 -- far ahead: for each of the 64 cycles ahead the set of the numbers that are due in it.
-use Rattle.std.specs.Prelude.{ℕ, Bool, true, false, ◌≡◌, ◌<◌, ◌+◌, ◌==◌, nat_lt, ◌&&◌, ◌||◌, List, ◌++◌, take, drop, Option, Some, None, slice_index, length}
+use Rattle.std.specs.Prelude.{ℕ, Bool, true, false, ◌≡◌, ◌<◌, ◌+◌, ◌==◌, nat_lt, ◌&&◌, ◌||◌, List}
+use Rattle.std.specs.Prelude.{◌++◌, take, drop, Option, Some, None, slice_index, length}
 use Rattle.tomex_sets.specs.Sets.{has}
 
 -- whether a pair is one of them: the number is due that many cycles ahead

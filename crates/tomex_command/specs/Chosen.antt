@@ -9,7 +9,8 @@ use Rattle.tomex_streams.specs.Files.{Told}
 use Rattle.tomex_command.specs.StudyFiles.{IsStudyIn, IsStudyFailure}
 
 -- the configuration of that number, and the program of that name
-pub record IsChosen (study : DesignSpace) (number : ℕ) (name : List ℕ) (config : Configuration) (program : Workload) : Type 0 where
+pub record IsChosen (study : DesignSpace) (number : ℕ) (name : List ℕ) (config : Configuration) (program : Workload)
+    : Type 0 where
   pub config_is : slice_get study.rows number ≡ Some config
   pub program_is : program_named name study.programs ≡ Some program
 

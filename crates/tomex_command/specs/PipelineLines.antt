@@ -34,8 +34,8 @@ pub record IsUndrawn (file : List ℕ → Told) (line : PipelineLine) (error : P
   pub chosen : IsChosenIn file line.study.now line.config line.program.now config program
   pub undrawn : IsUnpictured config (steps_from program.limit (start_of program.image)) line.from line.steps error
 
--- when each failure comes: those of the study, then of the configuration, then of the program, then of the step, then of the size
--- of a picture; a log may have any
+-- when each failure comes: those of the study, then of the configuration, then of the program, then of the step, then
+-- of the size of a picture; a log may have any
 abbrev pub IsPipelineFailure : (List ℕ → Told) → PipelineLine → Failure → Type 0
 IsPipelineFailure file line NoSuchStep = IsUndrawn file line errors.NoSuchStep
 IsPipelineFailure file line PictureTooLarge = (line.konata ≡ false) × IsUndrawn file line errors.TooLarge

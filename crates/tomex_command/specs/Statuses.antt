@@ -7,10 +7,13 @@ use Rattle.tomex_konata.specs.declared.log_error.LogError.{LogError}
 use Rattle.tomex_konata.specs.declared.log_error.LogError.TheVariants as logs
 use Rattle.tomex_views.specs.declared.picture_error.PictureError.{PictureError}
 use Rattle.tomex_views.specs.declared.picture_error.PictureError.TheVariants as pictures
-use Rattle.tomex_values.specs.declared.error.StudyError.TheVariants as studies
+use Rattle.tomex_reading.specs.declared.error.StudyError.TheVariants as studies
 use Rattle.tomex_command.specs.declared.run.RunRefusal.TheVariants as refusals
 use Rattle.tomex_command.specs.declared.failure.Failure.{Failure}
-use Rattle.tomex_command.specs.declared.failure.Failure.TheVariants.{BadWindow, Run, Study, NoSuchRow, NoSuchProgram, CyclePastEnd, NoSuchStep, PictureTooLarge, CannotRead, CannotWrite, Memory, Worker}
+use Rattle.tomex_command.specs.declared.failure.Failure.TheVariants.{BadWindow, Run, Study, NoSuchRow}
+use Rattle.tomex_command.specs.declared.failure.Failure.TheVariants.{NoSuchProgram, CyclePastEnd, NoSuchStep}
+use Rattle.tomex_command.specs.declared.failure.Failure.TheVariants.{PictureTooLarge, CannotRead, CannotWrite}
+use Rattle.tomex_command.specs.declared.failure.Failure.TheVariants.{Memory, Worker}
 
 -- 1 for input that is refused, 3 for want of memory, a thread, a file or a device
 abbrev pub status_of_failure : Failure → ℕ

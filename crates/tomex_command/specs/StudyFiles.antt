@@ -1,10 +1,11 @@
 -- The study that a file of some name stands for, with the files that it names itself.
-use Rattle.std.specs.Prelude.{◌≡◌, ◌≢◌, ◌⊎◌, ℕ, List, Ok, Err, string_bytes}
+use Rattle.std.specs.Prelude.{◌≡◌, ◌≢◌, ◌⊎◌, ℕ, List, Ok, string_bytes}
 use Rattle.tomex_study.specs.Study.{DesignSpace}
 use Rattle.tomex_document.specs.Document.{file_names_of}
-use Rattle.tomex_report.specs.Study.{IsStudyOf, IsStudyRefusal}
-use Rattle.tomex_values.specs.declared.error.StudyError.{StudyError}
-use Rattle.tomex_values.specs.declared.error.StudyError.TheVariants as studies
+use Rattle.tomex_reading.specs.Refusals.{IsDocumentRefusal}
+use Rattle.tomex_reading.specs.Study.{IsStudyOf, IsStudyRefusal}
+use Rattle.tomex_reading.specs.declared.error.StudyError.{StudyError}
+use Rattle.tomex_reading.specs.declared.error.StudyError.TheVariants as studies
 use Rattle.tomex_command.specs.declared.failure.Failure.{Failure}
 use Rattle.tomex_command.specs.declared.failure.Failure.TheVariants.{CannotRead, Study, Memory}
 use Rattle.tomex_command.specs.Reading.{IsUnread, AreRead, IsFirstMissing}
@@ -32,7 +33,7 @@ pub record IsStudyIn (file : List ℕ → Told) (name : List ℕ) (study : Desig
 pub record IsRefusedDocument (file : List ℕ → Told) (name : List ℕ) (error : StudyError) : Type 0 where
   pub bytes : List ℕ
   pub read : IsRead (file name) bytes
-  pub refused : file_names_of bytes ≡ Err error
+  pub refused : IsDocumentRefusal bytes error
 
 -- the study's bytes or the files are refused once all files are read
 pub record IsRefusedStudy (file : List ℕ → Told) (name : List ℕ) (error : StudyError) : Type 0 where

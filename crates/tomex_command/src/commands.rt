@@ -17,6 +17,7 @@ pub mod tables;
 pub mod times;
 
 use crate::failure::Failure;
+use crate::heaps::Heaps;
 use crate::telling::{tell, tell_line_fault};
 use all::text_of_all;
 use explore::text_of_front;
@@ -103,8 +104,7 @@ fn carry_out<
 ///
 /// While a study is explored, `meter` is told how far that is.
 /// Results and help go to `out`. What is wrong goes to `err`: one line `tomex: ..` with 1 and 3,
-/// the parser's text with 2. What is made of images is made in memory of `alloc`; the command
-/// line, and the names and texts of failures, in memory of `heap`.
+/// the parser's text with 2.
 pub fn command<
     R: Threads + Wait + Sync,
     F: Files,
@@ -112,16 +112,7 @@ pub fn command<
     E: Sink,
     A: Allocator + Clone + Send + Sync + Drop,
     M: Meter + Sync,
->(
-    rt: &R,
-    alloc: A,
-    heap: Global,
-    words: &[String],
-    files: &F,
-    meter: &M,
-    out: &mut O,
-    err: &mut E,
-) -> u8
+>(rt: &R, heaps: Heaps<A>, words: &[String], files: &F, meter: &M, out: &mut O, err: &mut E) -> u8
     ensures end { IsEnd (map string_bytes words.now) (F.file files.now) result
         (O.seen out.old) (O.seen out.new)
         (E.seen err.old) (E.seen err.new) }
@@ -132,10 +123,11 @@ pub fn command<
         → (O.seen out.new).taken ≡ (O.seen out.old).taken }
     ensures done { result ≡ 0 → (O.seen out.new).faults ≡ (O.seen out.old).faults }
 {
-    match read_line(heap, words) {
-        Ok(line) => match carry_out(rt, alloc, heap, line, files, meter, out) {
+    let Heaps { images, texts } = heaps;
+    match read_line(texts, words) {
+        Ok(line) => match carry_out(rt, images, texts, line, files, meter, out) {
             Ok(()) => 0,
-            Err(failure) => tell(heap, &failure, err),
+            Err(failure) => tell(texts, &failure, err),
         },
         Err(fault) => tell_line_fault(&fault, out, err),
     }

@@ -1,7 +1,8 @@
 //! Why a command was not done.
 ghost use Rattle.std.specs.Prelude.{◌≡◌};
 ghost use Rattle.tomex_command.specs.declared.failure.Failure.TheVariants as failures;
-ghost use Rattle.tomex_command.specs.Statuses.{failure_of_answer, failure_of_log, failure_of_picture, status_of_failure};
+ghost use Rattle.tomex_command.specs.Statuses.{failure_of_answer, failure_of_log, failure_of_picture};
+ghost use Rattle.tomex_command.specs.Statuses.{status_of_failure};
 
 use crate::run::RunRefusal;
 use std::alloc::{AllocError, AllocFailed};
@@ -27,7 +28,7 @@ pub enum Failure {
     CyclePastEnd,
     /// The program's run on the configuration ends before that step.
     NoSuchStep,
-    /// The picture would have too many signs.
+    /// The picture would have too many characters.
     PictureTooLarge,
     /// A file was not read. Carries its name as written.
     CannotRead(String),

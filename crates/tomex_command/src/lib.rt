@@ -4,11 +4,13 @@
 
 mod commands;
 mod failure;
+mod heaps;
 mod metered;
 mod run;
 mod telling;
 
 pub use commands::command;
 pub use failure::Failure;
+pub use heaps::Heaps;
 pub use run::{RunRefusal, run_text};
 pub use telling::tell_line_fault;

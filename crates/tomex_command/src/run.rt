@@ -2,7 +2,8 @@
 
 ghost use Rattle.std.specs.Prelude.{◌≡◌, ◌≢◌, ◌++◌, IfOk, IfErr, string_bytes};
 ghost use Rattle.tomex_command.specs.declared.run.RunRefusal.TheVariants as refusals;
-ghost use Rattle.tomex_command.specs.RunText.{IsRunText, IsRunRefusal, end_line, register_lines, refusal_of_image, refusal_of_run};
+ghost use Rattle.tomex_command.specs.RunText.{IsRunText, IsRunRefusal, end_line, register_lines};
+ghost use Rattle.tomex_command.specs.RunText.{refusal_of_image, refusal_of_run};
 
 use std::alloc::{AllocError, Allocator};
 use std::fmt::Write;

@@ -15,7 +15,7 @@ fn say<W: Sink>(sink: &mut W, text: &[u8])
     let _ = write_all_of(sink, text);
 }
 
-/// Says that memory was wanting.
+/// Says `out of memory`.
 fn say_out_of_memory<E: Sink>(err: &mut E)
     ensures { IsWritten (line_of (codes "out of memory")) (E.seen err.old) (E.seen err.new) }
 {

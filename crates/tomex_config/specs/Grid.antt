@@ -1,5 +1,6 @@
 -- The grid of some axes: the product of their lists, or why there is none.
-use Rattle.std.specs.Prelude.{◌≡◌, ℕ, ◌*◌, ◌&&◌, ◌==◌, nat_lt, not, Bool, List, [], ◌∷◌, length, if◌then◌else◌, Result, Ok, Err}
+use Rattle.std.specs.Prelude.{◌≡◌, ℕ, ◌*◌, ◌&&◌, ◌==◌, nat_lt, not, Bool, List}
+use Rattle.std.specs.Prelude.{[], ◌∷◌, length, if◌then◌else◌, Result, Ok, Err}
 use Rattle.std.specs.List.{flat_map, list_all, list_any}
 use Rattle.tomex_config.specs.Configuration.{Configuration, is_between, is_option}
 use Rattle.tomex_config.specs.declared.config.UnitOption.{UnitOption}
@@ -124,6 +125,7 @@ abbrev pub Fails : GridError → Result (List Configuration) GridError → Type 
 Fails Memory grid = Unit {0}
 Fails error grid = grid ≡ Err error
 
-abbrev pub Gives : {X : Type 0} → (X → List Configuration) → Result X GridError → Result (List Configuration) GridError → Type 0
+abbrev pub Gives
+    : {X : Type 0} → (X → List Configuration) → Result X GridError → Result (List Configuration) GridError → Type 0
 Gives view (Ok rows) grid = grid ≡ Ok (view rows)
 Gives view (Err error) grid = Fails error grid

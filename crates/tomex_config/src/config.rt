@@ -2,7 +2,9 @@
 
 ghost use Rattle.std.specs.Prelude.{◌≡◌, ◌≤◌, ◌↔◌, true, IsSome, IfSome};
 ghost use Rattle.std.specs.List.{list_all};
-ghost use Rattle.tomex_config.specs.Configuration.{IsWithinLimits, is_between, is_option, most_units, plain, config_of, stations_of, option_of, with_stations, with_option, with_buses, with_width};
+ghost use Rattle.tomex_config.specs.Configuration.{IsWithinLimits, is_between, is_option, most_units, plain};
+ghost use Rattle.tomex_config.specs.Configuration.{config_of, stations_of, option_of, with_stations, with_option};
+ghost use Rattle.tomex_config.specs.Configuration.{with_buses, with_width};
 
 use std::marker::Model;
 use tomex_rvdec::{PoolId, UnitId};
@@ -139,7 +141,6 @@ impl Config {
     pub fn stations(&self, pool: PoolId) -> u8
         ensures count { result ≡ stations_of self.now pool }
         ensures range { (1 ≤ result) × (result ≤ 16) }
-        ensures lawful { IsWithinLimits self.now }
     {
         self.stations[pool.place()]
     }
@@ -148,7 +149,6 @@ impl Config {
     pub fn option(&self, unit: UnitId) -> UnitOption
         ensures chosen { result ≡ option_of self.now unit }
         ensures range { is_option (most_units unit) result ≡ true }
-        ensures lawful { IsWithinLimits self.now }
     {
         self.units[unit.place()]
     }
@@ -157,7 +157,6 @@ impl Config {
     pub fn units(&self, unit: UnitId) -> u8
         ensures count { result ≡ (option_of self.now unit).units }
         ensures range { (1 ≤ result) × (result ≤ most_units unit) }
-        ensures lawful { IsWithinLimits self.now }
     {
         self.option(unit).units
     }
@@ -166,7 +165,6 @@ impl Config {
     pub fn latency(&self, unit: UnitId) -> u8
         ensures cycles { result ≡ (option_of self.now unit).latency }
         ensures range { (1 ≤ result) × (result ≤ 64) }
-        ensures lawful { IsWithinLimits self.now }
     {
         self.option(unit).latency
     }
@@ -175,7 +173,6 @@ impl Config {
     pub fn buses(&self) -> u8
         ensures count { result ≡ self.now.buses }
         ensures range { (1 ≤ result) × (result ≤ 8) }
-        ensures lawful { IsWithinLimits self.now }
     {
         self.buses
     }
@@ -184,7 +181,6 @@ impl Config {
     pub fn width(&self) -> u8
         ensures count { result ≡ self.now.width }
         ensures range { (1 ≤ result) × (result ≤ 4) }
-        ensures lawful { IsWithinLimits self.now }
     {
         self.width
     }

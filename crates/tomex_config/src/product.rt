@@ -2,8 +2,10 @@
 
 ghost use Rattle.std.specs.Prelude.{◌≡◌, ◌≤◌, length, IfOk, true};
 ghost use Rattle.std.specs.List.{list_all};
-ghost use Rattle.tomex_config.specs.Configuration.{is_between, is_option, most_units, with_stations, with_option, with_buses, with_width};
-ghost use Rattle.tomex_config.specs.Grid.{lists_of, stations_in_range, options_in_range, rest_in_range, in_range, rows_of, grid_of, Gives};
+ghost use Rattle.tomex_config.specs.Configuration.{is_between, is_option, most_units, with_stations};
+ghost use Rattle.tomex_config.specs.Configuration.{with_option, with_buses, with_width};
+ghost use Rattle.tomex_config.specs.Grid.{lists_of, stations_in_range, options_in_range, rest_in_range};
+ghost use Rattle.tomex_config.specs.Grid.{in_range, rows_of, grid_of, Gives};
 ghost use Rattle.tomex_config.specs.Vary.{vary, station_rows, option_rows, bus_rows};
 
 use crate::axis::Axes;

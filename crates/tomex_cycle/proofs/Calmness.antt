@@ -11,7 +11,7 @@ use Rattle.tomex_rvexec.specs.Run.{RunEnds}
 use Rattle.tomex_timing.specs.Recurrence.{AreTimed}
 use Rattle.tomex_cycle.specs.Quiet.{AllQuiet}
 use Rattle.tomex_cycle.specs.Ends.{finishes}
-use Rattle.tomex_cycle.specs.Finishes.{AreKnown}
+use Rattle.tomex_cycle.specs.Finishes.{IsTimetableOf}
 use Rattle.tomex_cycle.specs.Phases.{IsSnapshot, MakesStarts}
 use Rattle.tomex_cycle.specs.Run.{run_to}
 use Rattle.tomex_cycle.specs.Starts.{NoneWaits}
@@ -27,7 +27,7 @@ use Rattle.tomex_tags.specs.declared.register_status.RegStatus.{RegStatus}
 pub cycle_calm : (i : Loaded) (config : Configuration) (n t next count c : ℕ) (s : State) (kind : EndKind) (fault : Option Fault) (any : Bool) (st0 st1 st4 : Pools) (rg0 rg1 : RegStatus) (ft0 ft1 : Fetch) (m0 m1 : Bytes) (f : Finishes)
     → MakesStarts config next st0 m0 fault st1 m1 → (any ≡ false → st1.slots ≡ st0.slots) → RunEnds i n s kind → next ≡ t + 1 → IsWithinLimits config → IsLoaded i.window i.memory i.entry
     → IsSnapshot i config n t count st0 rg0 ft0 m0 → IsSnapshot i config n next c st4 rg1 ft1 m1 → c ≡ count → st4.slots ≡ st1.slots
-    → (any ≡ false) ⊎ NoneWaits st4.slots → AreKnown st4.slots (next + 1) f → f.ready ≡ 0 → AllQuiet next (run_to config i c)
+    → (any ≡ false) ⊎ NoneWaits st4.slots → IsTimetableOf st4.slots (next + 1) f → f.ready ≡ 0 → AllQuiet next (run_to config i c)
 cycle_calm i config n t next count c s kind fault any st0 st1 st4 rg0 rg1 ft0 ft1 m0 m1 f starts none ends e good loaded old now same slots how known ready =
     let timed : AreTimed config (run_to config i c) = run_timed config i c good in
     let before : IsSnapshot i config n t c st0 rg0 ft0 m0 = subst (λ (k : ℕ). IsSnapshot i config n t k st0 rg0 ft0 m0) (let z : count ≡ c = omega arith in z) old in

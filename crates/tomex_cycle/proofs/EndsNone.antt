@@ -11,7 +11,7 @@ use Rattle.tomex_sets.proofs.Bits.{none_in}
 use Rattle.tomex_cycle.specs.declared.fetch.Fetch.{Fetch}
 use Rattle.tomex_cycle.specs.declared.fetch.Fetch.TheVariants as from
 use Rattle.tomex_cycle.specs.Ends.{AreDone, AreEnding, EndsIn, Follows, Hears, after_ends, sends_of, sent_below}
-use Rattle.tomex_cycle.specs.Finishes.{AreKnown, LeavesKnown}
+use Rattle.tomex_cycle.specs.Finishes.{IsTimetableOf, LeavesTimetable}
 use Rattle.tomex_cycle.specs.Phases.{MakesEnds}
 use Rattle.tomex_cycle.specs.declared.finishes.Finishes.{Finishes}
 use Rattle.tomex_cycle.proofs.EndsFetch.{made_ends}
@@ -51,7 +51,7 @@ pub ends_none : (config : Configuration) (next ending : ℕ) (old : Pools) (regi
 ends_none config next ending old registers fetch result ends filled follows e =
     made_ends config next old old registers registers fetch result 0 (rw e at ends) filled follows (λ low. none_ended old) (λ count low named. none_received old.slots registers)
 
-pub none_over : (slots : List (Option Station)) (next ending : ℕ) (f : Finishes) → length slots ≡ 96 → LeavesKnown slots next ending f → ending ≡ 0 → AreKnown slots (next + 1) f
+pub none_over : (slots : List (Option Station)) (next ending : ℕ) (f : Finishes) → length slots ≡ 96 → LeavesTimetable slots next ending f → ending ≡ 0 → IsTimetableOf slots (next + 1) f
 none_over slots next ending f count leaves e = leaves slots (λ y. None) count (λ x l. rw (e, none_in x) (hears_none (λ y. None) (slice_index_or slots x None) (λ y. refl)))
 
 -- where nothing finishes, no branch is followed

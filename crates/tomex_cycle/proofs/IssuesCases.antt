@@ -21,7 +21,7 @@ use Rattle.tomex_rvexec.specs.Steps.{is_branch, j_of, k_of, step_pool}
 use Rattle.tomex_timing.specs.Tables.{field_of}
 use Rattle.tomex_timing.specs.declared.tables.Field.{Field}
 use Rattle.tomex_timing.specs.declared.times.Done.{Done}
-use Rattle.tomex_timing.specs.Recurrence.{AreTimed, IsLeast, can_issue, has_slot}
+use Rattle.tomex_timing.specs.Recurrence.{AreTimed, IsLeast, can_issue, can_issue_another}
 use Rattle.tomex_timing.specs.Search.{least, times_of}
 use Rattle.tomex_timing.specs.Station.{has_station, is_free}
 use Rattle.tomex_timing.proofs.Limits.{stations_high}
@@ -46,7 +46,7 @@ use Rattle.tomex_tags.specs.declared.register_status.RegStatus.{RegStatus}
 
 -- Nothing issues.
 
-blocked : (i : Loaded) (config : Configuration) (n count t u : ℕ) (s : State) (kind : EndKind) (ft : Fetch) → RunEnds i n s kind → IsLoaded i.window i.memory i.entry → u ≡ t + 1 → IsWithinLimits config → has_slot config (run_to config i count) u ≡ true → AreIssuedBy u (run_to config i count)
+blocked : (i : Loaded) (config : Configuration) (n count t u : ℕ) (s : State) (kind : EndKind) (ft : Fetch) → RunEnds i n s kind → IsLoaded i.window i.memory i.entry → u ≡ t + 1 → IsWithinLimits config → can_issue_another config (run_to config i count) u ≡ true → AreIssuedBy u (run_to config i count)
     → count ≤ n → ft ≡ fetch_of i t (run_to config i count) → ((pc : ℕ) → ft ≡ At pc → ⊥) → (x : Step) → can_issue config (run_to config i count) x u ≡ false
 blocked i config n count t u s kind (At pc) ends loaded e good slot issued less is other x = absurd (other pc refl)
 blocked i config n count t u s kind Waits ends loaded e good slot issued less is other x =
@@ -131,7 +131,7 @@ record IsNext (i : Loaded) (config : Configuration) (n t u count pc : ℕ) (inst
   pub timed : AreTimed config (next_done config (run_to config i count) x ∷ run_to config i count)
   pub at : (times_of config (run_to config i count) x).issue ≡ u
 
-next_is : (i : Loaded) (config : Configuration) (n count t u pc : ℕ) (s : State) (kind : EndKind) (instr : Instruction) (st : Pools) (rg : RegStatus) (ft : Fetch) → RunEnds i n s kind → u ≡ t + 1 → IsWithinLimits config → IsLoaded i.window i.memory i.entry → has_slot config (run_to config i count) u ≡ true
+next_is : (i : Loaded) (config : Configuration) (n count t u pc : ℕ) (s : State) (kind : EndKind) (instr : Instruction) (st : Pools) (rg : RegStatus) (ft : Fetch) → RunEnds i n s kind → u ≡ t + 1 → IsWithinLimits config → IsLoaded i.window i.memory i.entry → can_issue_another config (run_to config i count) u ≡ true
     → IsIssuing i config n t u count st rg ft → ft ≡ At pc → instruction_at i pc ≡ Ok instr → has_station config (run_to config i count) (pool_of instr.op) u ≡ true → (x : Step) × IsNext i config n t u count pc instr x
 next_is i config n count t u pc s kind instr st rg ft ends e good loaded slot old at fetched has =
     let x = coming config i n t count pc s kind loaded ends old.few (sym old.from ∙ at) in

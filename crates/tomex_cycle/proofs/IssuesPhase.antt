@@ -14,7 +14,7 @@ use Rattle.tomex_rvexec.specs.Run.{RunEnds}
 use Rattle.tomex_rvexec.specs.Steps.{step_pool}
 use Rattle.tomex_timing.specs.declared.times.Done.{Done}
 use Rattle.tomex_timing.specs.History.{last_issue}
-use Rattle.tomex_timing.specs.Recurrence.{AreTimed, are_branches_finished, can_issue, has_slot}
+use Rattle.tomex_timing.specs.Recurrence.{AreTimed, are_branches_finished, can_issue, can_issue_another}
 use Rattle.tomex_timing.specs.Search.{times_of}
 use Rattle.tomex_timing.specs.Station.{has_station}
 use Rattle.tomex_timing.proofs.Limits.{width_low}
@@ -40,14 +40,14 @@ none_first : (config : Configuration) (t u : ℕ) (h : List Done) → AreTimed c
 none_first config t u h timed issued e = let l : last_issue h ≤ t = last_by t h issued in none_later config h u timed (omega arith)
 
 -- as long as fewer than the width have issued in it, one more may
-slot_there : (config : Configuration) (u : ℕ) (h : List Done) → AreIssuedBy u h → issued_in u h < config.width → has_slot config h u ≡ true
+slot_there : (config : Configuration) (u : ℕ) (h : List Done) → AreIssuedBy u h → issued_in u h < config.width → can_issue_another config h u ≡ true
 slot_there config u h issued l = rw (le-leb (last_issue h) u (last_by u h issued), lt-ltb (issued_in u h) config.width l) refl
 
 -- and then none
-slot_gone : (config : Configuration) (u : ℕ) (h : List Done) → AreIssuedBy u h → config.width ≤ issued_in u h → has_slot config h u ≡ false
+slot_gone : (config : Configuration) (u : ℕ) (h : List Done) → AreIssuedBy u h → config.width ≤ issued_in u h → can_issue_another config h u ≡ false
 slot_gone config u h issued l = rw (le-leb (last_issue h) u (last_by u h issued), le-ltb (issued_in u h) config.width l) refl
 
-without_slot : (config : Configuration) (u : ℕ) (h : List Done) (y : Step) → has_slot config h u ≡ false → can_issue config h y u ≡ false
+without_slot : (config : Configuration) (u : ℕ) (h : List Done) (y : Step) → can_issue_another config h u ≡ false → can_issue config h y u ≡ false
 without_slot config u h y gone = rw gone (never (nat_lt 0 u) (are_branches_finished h u) (has_station config h (step_pool y) u))
   where
     never : (a b c : Bool) → (((a && false) && b) && c) ≡ false

@@ -14,7 +14,7 @@ use Rattle.tomex_rvexec.specs.Run.{RunEnds}
 use Rattle.tomex_rvexec.specs.Steps.{is_branch, step_pool}
 use Rattle.tomex_rvexec.proofs.FlowEnds.{step_follows}
 use Rattle.tomex_timing.specs.declared.times.Done.{Done}
-use Rattle.tomex_timing.specs.Recurrence.{AreTimed, are_branches_finished, can_issue, has_slot}
+use Rattle.tomex_timing.specs.Recurrence.{AreTimed, are_branches_finished, can_issue, can_issue_another}
 use Rattle.tomex_timing.specs.Search.{times_of}
 use Rattle.tomex_timing.specs.Station.{has_station}
 use Rattle.tomex_timing.proofs.Least.{least_same}
@@ -59,11 +59,11 @@ branches_is config t u (d ∷ older) timed issued e =
     let before : are_branches_finished older u ≡ true = finished_later d.at.issue u older issued.0 (finished_from config older d.step d.at.issue timed.0.issue.0) in
     rw before (finished_test (is_branch d.step) t u d.at.finish e)
 
-can_from : (config : Configuration) (h : List Done) (x : Step) (u : ℕ) (b s : Bool) → 0 < u → has_slot config h u ≡ true → are_branches_finished h u ≡ b → has_station config h (step_pool x) u ≡ s → can_issue config h x u ≡ (b && s)
+can_from : (config : Configuration) (h : List Done) (x : Step) (u : ℕ) (b s : Bool) → 0 < u → can_issue_another config h u ≡ true → are_branches_finished h u ≡ b → has_station config h (step_pool x) u ≡ s → can_issue config h x u ≡ (b && s)
 can_from config h x u b s l slot e f = rw (lt-ltb 0 u l, slot, e, f) refl
 
 -- the test for issue in the cycle, where the width leaves one
-pub can_is : (config : Configuration) (h : List Done) (x : Step) (t u : ℕ) → AreTimed config h → AreIssuedBy u h → u ≡ t + 1 → has_slot config h u ≡ true → can_issue config h x u ≡ (not (is_waiting t h) && has_station config h (step_pool x) u)
+pub can_is : (config : Configuration) (h : List Done) (x : Step) (t u : ℕ) → AreTimed config h → AreIssuedBy u h → u ≡ t + 1 → can_issue_another config h u ≡ true → can_issue config h x u ≡ (not (is_waiting t h) && has_station config h (step_pool x) u)
 can_is config h x t u timed issued e slot = can_from config h x u _ _ (omega arith) slot (branches_is config t u h timed issued e) refl
 
 -- what couldn't issue by t and can in the next cycle issues then

@@ -17,7 +17,7 @@ use Rattle.tomex_timing.specs.declared.tables.Field.{Field}
 use Rattle.tomex_timing.specs.declared.tables.Field.TheVariants.{Value, Waits, Unread}
 use Rattle.tomex_cycle.specs.Ends.{can_send, finishes}
 use Rattle.tomex_membuf.specs.Order.{is_finished_before}
-use Rattle.tomex_cycle.specs.Finishes.{AreKnown, has_stayed}
+use Rattle.tomex_cycle.specs.Finishes.{IsTimetableOf, has_stayed}
 use Rattle.tomex_cycle.specs.declared.finishes.Finishes.{Finishes}
 use Rattle.tomex_cycle.proofs.Places.{pool_low}
 
@@ -29,8 +29,8 @@ kept_test test slots x y o l same = elim (cases_Bool (x == y)) [
   | inr e ↦ ap test (get_or-set_other slots x y o None (λ z. eqb-false x y e (sym z)))
 ]
 
-pub known_same : (slots : List (Option Station)) (x next : ℕ) (o : Option Station) (f : Finishes) → x < length slots → AreKnown slots next f → ((v : ℕ) → finishes v o ≡ finishes v (slice_index_or slots x None)) → can_send next o ≡ can_send next (slice_index_or slots x None) → has_stayed next o ≡ has_stayed next (slice_index_or slots x None)
-    → AreKnown (slice_set slots x o) next f
+pub known_same : (slots : List (Option Station)) (x next : ℕ) (o : Option Station) (f : Finishes) → x < length slots → IsTimetableOf slots next f → ((v : ℕ) → finishes v o ≡ finishes v (slice_index_or slots x None)) → can_send next o ≡ can_send next (slice_index_or slots x None) → has_stayed next o ≡ has_stayed next (slice_index_or slots x None)
+    → IsTimetableOf (slice_set slots x o) next f
 known_same slots x next o f l known fin send stay = record {
   places = length-set slots x o ∙ known.places;
   ahead = λ a y m k. known.ahead a y m k ∙ sym (kept_test (finishes (next + a)) slots x y o l (fin (next + a)));
@@ -59,7 +59,7 @@ none_stays : (next : ℕ) (s : Station) → s.finish ≡ None → has_stayed nex
 none_stays next s e = ap (λ (z : Option ℕ). not (is_some (dest_of s.instr)) && is_finished_before z next) e ∙ and_right (not (is_some (dest_of s.instr))) false refl
 
 -- an instruction issues to a place in which nothing stands
-pub known_issued : (slots : List (Option Station)) (x next : ℕ) (s : Station) (f : Finishes) → x < length slots → AreKnown slots next f → slice_index_or slots x None ≡ None → s.finish ≡ None → AreKnown (slice_set slots x (Some s)) next f
+pub known_issued : (slots : List (Option Station)) (x next : ℕ) (s : Station) (f : Finishes) → x < length slots → IsTimetableOf slots next f → slice_index_or slots x None ≡ None → s.finish ≡ None → IsTimetableOf (slice_set slots x (Some s)) next f
 known_issued slots x next s f l known empty idle = known_same slots x next (Some s) f l known
     (λ v. none_finishes v s idle ∙ sym (ap (finishes v) empty))
     (none_sends next s idle ∙ sym (ap (can_send next) empty))
@@ -69,7 +69,7 @@ none_of : (o : Option Station) → is_none o ≡ true → o ≡ None
 none_of None e = refl
 none_of (Some s) e = let z : false ≡ true = e in absurd (cc)
 
-pub known_taken : (slots new : List (Option Station)) (next number count : ℕ) (pool : PoolId) (s : Station) (f : Finishes) → new ≡ slice_set slots (16 * place_of_pool pool + number) (Some s) → is_open slots pool number ≡ true → number < count → count ≤ 16 → s.finish ≡ None → AreKnown slots next f → AreKnown new next f
+pub known_taken : (slots new : List (Option Station)) (next number count : ℕ) (pool : PoolId) (s : Station) (f : Finishes) → new ≡ slice_set slots (16 * place_of_pool pool + number) (Some s) → is_open slots pool number ≡ true → number < count → count ≤ 16 → s.finish ≡ None → IsTimetableOf slots next f → IsTimetableOf new next f
 known_taken slots new next number count pool s f made empty less few idle known =
     let low : place_of_pool pool < 6 = pool_low pool in
     let places : length slots ≡ 96 = known.places in
@@ -84,10 +84,10 @@ address_keeps s = of s.j refl
     of Unread e = rw e (refl, refl)
 
 -- an address is computed
-pub known_addressed : (slots new : List (Option Station)) (x next : ℕ) (f : Finishes) → IsSome (slice_index_or slots x None) → new ≡ slice_set slots x (option_map with_address (slice_index_or slots x None)) → AreKnown slots next f → AreKnown new next f
+pub known_addressed : (slots new : List (Option Station)) (x next : ℕ) (f : Finishes) → IsSome (slice_index_or slots x None) → new ≡ slice_set slots x (option_map with_address (slice_index_or slots x None)) → IsTimetableOf slots next f → IsTimetableOf new next f
 known_addressed slots new x next f some made known = rw made (of (slice_index_or slots x None) refl)
   where
-    of : (o : Option Station) → slice_index_or slots x None ≡ o → AreKnown (slice_set slots x (option_map with_address o)) next f
+    of : (o : Option Station) → slice_index_or slots x None ≡ o → IsTimetableOf (slice_set slots x (option_map with_address o)) next f
     of None e = let z : false ≡ true = rw e at some in absurd (cc)
     of (Some s) e =
         let keeps = address_keeps s in
@@ -98,7 +98,7 @@ known_addressed slots new x next f some made known = rw made (of (slice_index_or
 
 -- An operation starts.
 
-pub lacks_idle : (slots : List (Option Station)) (x next : ℕ) (s : Station) (f : Finishes) → x < 96 → AreKnown slots next f → slice_index_or slots x None ≡ Some s → s.finish ≡ None → Lacks f.wheel x
+pub lacks_idle : (slots : List (Option Station)) (x next : ℕ) (s : Station) (f : Finishes) → x < 96 → IsTimetableOf slots next f → slice_index_or slots x None ≡ Some s → s.finish ≡ None → Lacks f.wheel x
 lacks_idle slots x next s f l known at idle a = elim (cases_Bool (nat_lt a 64)) [
   | inl k ↦ known.ahead a x (ltb-true a 64 k) l ∙ (ap (finishes (next + a)) at ∙ none_finishes (next + a) s idle)
   | inr k ↦ rw k refl
@@ -110,8 +110,8 @@ shift_test next a latency some = elim (cases_Bool (a == latency - 1)) [
   | inr e ↦ let f : a ≢ latency - 1 = eqb-false a (latency - 1) e in e ∙ sym (ne_eqb (next + latency - 1) (next + a) (λ z. f (omega arith)))
 ]
 
-pub known_started : (slots : List (Option Station)) (x next latency : ℕ) (s t : Station) (f g : Finishes) → x < length slots → x < 96 → AreKnown slots next f → slice_index_or slots x None ≡ Some s → s.finish ≡ None → t.finish ≡ Some (next + latency - 1) → 1 ≤ latency → latency ≤ 64
-    → HasPut (latency - 1) x f.wheel g.wheel → g.ready ≡ f.ready → AreKnown (slice_set slots x (Some t)) next g
+pub known_started : (slots : List (Option Station)) (x next latency : ℕ) (s t : Station) (f g : Finishes) → x < length slots → x < 96 → IsTimetableOf slots next f → slice_index_or slots x None ≡ Some s → s.finish ≡ None → t.finish ≡ Some (next + latency - 1) → 1 ≤ latency → latency ≤ 64
+    → HasPut (latency - 1) x f.wheel g.wheel → g.ready ≡ f.ready → IsTimetableOf (slice_set slots x (Some t)) next g
 known_started slots x next latency s t f g l m known at idle fin some few put ready = record {
   places = length-set slots x (Some t) ∙ known.places;
   ahead = λ a y k n. put a y ∙ elim (cases_Bool (x == y)) [
@@ -160,7 +160,7 @@ none_stands x = elim (cases_Bool (nat_lt x 96)) [
   | inr l ↦ let high : 96 ≤ x = ltb-false _ _ l in get_or_past (replicate 96 None) x None high
 ]
 
-pub known_first : (slots : List (Option Station)) (f : Finishes) → slots ≡ replicate 96 None → IsEmpty f.wheel → f.ready ≡ 0 → AreKnown slots 1 f
+pub known_first : (slots : List (Option Station)) (f : Finishes) → slots ≡ replicate 96 None → IsEmpty f.wheel → f.ready ≡ 0 → IsTimetableOf slots 1 f
 known_first slots f e empty ready = rw e (record {
   places = refl;
   ahead = λ a x l m. empty a x ∙ sym (ap (finishes (1 + a)) (none_stands x));
@@ -171,7 +171,7 @@ known_first slots f e empty ready = rw e (record {
 })
 
 -- Beyond the wheel nothing finishes.
-pub all_ahead : (slots : List (Option Station)) (next a x : ℕ) (f : Finishes) → AreKnown slots next f → x < 96 → is_due f.wheel a x ≡ finishes (next + a) (slice_index_or slots x None)
+pub all_ahead : (slots : List (Option Station)) (next a x : ℕ) (f : Finishes) → IsTimetableOf slots next f → x < 96 → is_due f.wheel a x ≡ finishes (next + a) (slice_index_or slots x None)
 all_ahead slots next a x f known l = elim (cases_Bool (nat_lt a 64)) [
   | inl k ↦ known.ahead a x (ltb-true a 64 k) l
   | inr k ↦ rw k (sym (elim (cases_Bool (finishes (next + a) (slice_index_or slots x None))) [

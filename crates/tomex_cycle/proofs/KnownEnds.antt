@@ -19,12 +19,12 @@ use Rattle.tomex_tags.specs.WaitSets.{IsSetOf, writes}
 use Rattle.tomex_tags.specs.declared.station.Station.{Station}
 use Rattle.tomex_cycle.specs.Ends.{AreDone, AreEnding, IsDoneBranch, after_ends, can_send, ends_alone, finishes, is_finished_by}
 use Rattle.tomex_membuf.specs.Order.{is_finished_before}
-use Rattle.tomex_cycle.specs.Finishes.{AreKnown, HaveTurned, LeavesKnown, has_stayed}
+use Rattle.tomex_cycle.specs.Finishes.{IsTimetableOf, HaveTurned, LeavesTimetable, has_stayed}
 use Rattle.tomex_cycle.specs.declared.finishes.Finishes.{Finishes}
 use Rattle.tomex_cycle.proofs.Happens.{member_of}
 use Rattle.tomex_cycle.proofs.Known.{all_ahead}
 
-pub all_due : (slots : List (Option Station)) (next due : ℕ) (f g : Finishes) → AreKnown slots next f → HaveTurned f g due → AreDone slots next due
+pub all_due : (slots : List (Option Station)) (next due : ℕ) (f g : Finishes) → IsTimetableOf slots next f → HaveTurned f g due → AreDone slots next due
 all_due slots next due f g known turned x l = turned.due x ∙ elim (cases_Bool (nat_lt x 96)) [
   | inl k ↦ let now : next + 0 ≡ next = omega arith in all_ahead slots next 0 x f known (ltb-true x 96 k) ∙ ap (λ (v : ℕ). finishes v (slice_index_or slots x None)) now
   | inr k ↦
@@ -57,7 +57,7 @@ alone_is : (next : ℕ) (o : Option Station) → has_stayed next o ≡ false →
 alone_is next None e = refl
 alone_is next (Some s) e = alone_test next s.finish (is_some (dest_of s.instr)) e
 
-stayed_past : (slots : List (Option Station)) (next x : ℕ) (f : Finishes) → AreKnown slots next f → has_stayed next (slice_index_or slots x None) ≡ false
+stayed_past : (slots : List (Option Station)) (next x : ℕ) (f : Finishes) → IsTimetableOf slots next f → has_stayed next (slice_index_or slots x None) ≡ false
 stayed_past slots next x f known = elim (cases_Bool (nat_lt x 96)) [
   | inl k ↦ known.gone x (ltb-true x 96 k)
   | inr k ↦ let high : 96 ≤ x = ltb-false x 96 k in let count : length slots ≡ 96 = known.places in let past : slice_index_or slots x None ≡ None = get_or_past slots x None (omega arith) in rw past refl
@@ -68,7 +68,7 @@ pub with_results : (slots : List (Option Station)) (due writing found : ℕ) →
 with_results slots due writing found of both x l = both x ∙ ap (λ b. has due x && b) (of x l)
 
 -- what ends of what is due has nothing to send
-pub are_ending : (st : Pools) (buses next due found sending silent ending : ℕ) (f g : Finishes) → AreBusy st.slots st.busy st.issue_numbers → AreKnown st.slots next f → HaveTurned f g due
+pub are_ending : (st : Pools) (buses next due found sending silent ending : ℕ) (f g : Finishes) → AreBusy st.slots st.busy st.issue_numbers → IsTimetableOf st.slots next f → HaveTurned f g due
     → ((x : ℕ) → x < 128 → has found x ≡ (has due x && writes (slice_index_or st.slots x None))) → IsPicked f.ready st.issue_numbers buses sending
     → ((x : ℕ) → x < 128 → has silent x ≡ (has due x && not (has found x))) → ((x : ℕ) → has ending x ≡ (has sending x || has silent x)) → AreEnding st buses next ending
 are_ending st buses next due found sending silent ending f g filled known turned with_result picked but either = record {
@@ -162,10 +162,10 @@ ended_later next a o sending inside e = elim (or_parts sending _ e) [
   | inr k ↦ done_once next a o (and_parts (finishes next o) _ k).0
 ]
 
-pub leaves_known : (st : Pools) (buses next due found sending silent ending : ℕ) (f g h : Finishes) → AreBusy st.slots st.busy st.issue_numbers → AreKnown st.slots next f → HaveTurned f g due
+pub leaves_known : (st : Pools) (buses next due found sending silent ending : ℕ) (f g h : Finishes) → AreBusy st.slots st.busy st.issue_numbers → IsTimetableOf st.slots next f → HaveTurned f g due
     → ((x : ℕ) → x < 128 → has found x ≡ (has due x && writes (slice_index_or st.slots x None))) → IsPicked f.ready st.issue_numbers buses sending
     → ((x : ℕ) → x < 128 → has silent x ≡ (has due x && not (has found x))) → ((x : ℕ) → has ending x ≡ (has sending x || has silent x))
-    → h.wheel ≡ g.wheel → ((x : ℕ) → x < 128 → has h.ready x ≡ (has g.ready x && not (has sending x) || has found x)) → LeavesKnown st.slots next ending h
+    → h.wheel ≡ g.wheel → ((x : ℕ) → x < 128 → has h.ready x ≡ (has g.ready x && not (has sending x) || has found x)) → LeavesTimetable st.slots next ending h
 leaves_known st buses next due found sending silent ending f g h filled known turned with_result picked but either wheel ready new sent count after =
     let on : (a x : ℕ) → is_due h.wheel a x ≡ is_due f.wheel (a + 1) x = λ a x. ap (λ (w : List ℕ). is_due w a x) wheel ∙ turned.wheel a x in
     let done : AreDone st.slots next due = all_due st.slots next due f g known turned in
@@ -258,9 +258,9 @@ nothing_sent sending g none x l = rw (none, none_in x) (stays (has g.ready x))
     stays false = refl
 
 -- where nothing finishes and no result waits, nothing ends
-pub ending_none : (st : Pools) (buses next due : ℕ) (f g : Finishes) → AreBusy st.slots st.busy st.issue_numbers → AreKnown st.slots next f → HaveTurned f g due → due ≡ 0 → g.ready ≡ 0 → AreEnding st buses next 0
+pub ending_none : (st : Pools) (buses next due : ℕ) (f g : Finishes) → AreBusy st.slots st.busy st.issue_numbers → IsTimetableOf st.slots next f → HaveTurned f g due → due ≡ 0 → g.ready ≡ 0 → AreEnding st buses next 0
 ending_none st buses next due f g filled known turned e none = are_ending st buses next due 0 0 0 0 f g filled known turned (nothing_found _ due e) (none_picked f.ready buses st.issue_numbers (sym turned.ready ∙ none)) (nothing_found _ due e) (nothing_ends 0 refl)
 
 -- and what is known stays right
-pub leaves_none : (st : Pools) (buses next due : ℕ) (f g : Finishes) → AreBusy st.slots st.busy st.issue_numbers → AreKnown st.slots next f → HaveTurned f g due → due ≡ 0 → g.ready ≡ 0 → LeavesKnown st.slots next 0 g
+pub leaves_none : (st : Pools) (buses next due : ℕ) (f g : Finishes) → AreBusy st.slots st.busy st.issue_numbers → IsTimetableOf st.slots next f → HaveTurned f g due → due ≡ 0 → g.ready ≡ 0 → LeavesTimetable st.slots next 0 g
 leaves_none st buses next due f g filled known turned e none = leaves_known st buses next due 0 0 0 0 f g g filled known turned (nothing_found _ due e) (none_picked f.ready buses st.issue_numbers (sym turned.ready ∙ none)) (nothing_found _ due e) (nothing_ends 0 refl) refl (nothing_sent 0 g refl)

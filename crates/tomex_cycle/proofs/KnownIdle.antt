@@ -10,11 +10,11 @@ use Rattle.tomex_sets.proofs.Bits.{none_in}
 use Rattle.tomex_tags.specs.declared.station.Station.{Station}
 use Rattle.tomex_cycle.specs.Ends.{can_send, finishes}
 use Rattle.tomex_membuf.specs.Order.{is_finished_before}
-use Rattle.tomex_cycle.specs.Finishes.{AreKnown, FinishesSoon, IsFree, IsIdle, has_stayed}
+use Rattle.tomex_cycle.specs.Finishes.{IsTimetableOf, FinishesSoon, IsFree, IsIdle, has_stayed}
 use Rattle.tomex_cycle.specs.declared.finishes.Finishes.{Finishes}
 use Rattle.tomex_cycle.proofs.Known.{all_ahead}
 
-pub free_to : (slots : List (Option Station)) (cycle k : ℕ) (f : Finishes) → AreKnown slots (cycle + 1) f → f.ready ≡ 0 → IsClearTo f.wheel k → IsFree slots cycle (cycle + k)
+pub free_to : (slots : List (Option Station)) (cycle k : ℕ) (f : Finishes) → IsTimetableOf slots (cycle + 1) f → f.ready ≡ 0 → IsClearTo f.wheel k → IsFree slots cycle (cycle + k)
 free_to slots cycle k f known none clear x v l from to = elim (cases_Bool (finishes v (slice_index_or slots x None))) [
   | inr e ↦ e
   | inl e ↦ elim (cases_Bool (v == cycle)) [
@@ -56,7 +56,7 @@ stay_later : (cycle w : ℕ) (o : Option Station) → cycle + 1 ≤ w → has_st
 stay_later cycle w None l e free = refl
 stay_later cycle w (Some s) l e free = before_later cycle w (not (is_some (dest_of s.instr))) s.finish l e free
 
-pub known_later : (slots : List (Option Station)) (cycle k : ℕ) (f g : Finishes) → AreKnown slots (cycle + 1) f → f.ready ≡ 0 → IsClearTo f.wheel k → HasPassed k f.wheel g.wheel → g.ready ≡ f.ready → AreKnown slots (cycle + k + 1) g
+pub known_later : (slots : List (Option Station)) (cycle k : ℕ) (f g : Finishes) → IsTimetableOf slots (cycle + 1) f → f.ready ≡ 0 → IsClearTo f.wheel k → HasPassed k f.wheel g.wheel → g.ready ≡ f.ready → IsTimetableOf slots (cycle + k + 1) g
 known_later slots cycle k f g known none clear passed ready =
     let free : IsFree slots cycle (cycle + k) = free_to slots cycle k f known none clear in
     let count : length slots ≡ 96 = known.places in
@@ -79,7 +79,7 @@ clear_idle None w most n empty idle a x l = empty a x
 clear_idle (Some ahead) w most n is idle a x l = let few : n ≤ ahead = idle.0 in is.1 a x (omega arith)
 
 -- where they aren't all passed, something finishes in the cycle after them
-pub soon : (slots : List (Option Station)) (next : Option ℕ) (cycle most n : ℕ) (f : Finishes) → AreKnown slots (cycle + 1) f → IsNext f.wheel next → IsIdle next most n → n < most → FinishesSoon slots cycle (cycle + n)
+pub soon : (slots : List (Option Station)) (next : Option ℕ) (cycle most n : ℕ) (f : Finishes) → IsTimetableOf slots (cycle + 1) f → IsNext f.wheel next → IsIdle next most n → n < most → FinishesSoon slots cycle (cycle + n)
 soon slots None cycle most n f known empty idle l = absurd (omega (arith, idle))
 soon slots (Some ahead) cycle most n f known is idle l =
     let e : n ≡ ahead = idle.1 l in

@@ -12,7 +12,7 @@ use Rattle.tomex_tags.specs.Pools.{AreBusy, Pools}
 use Rattle.tomex_tags.specs.WaitSets.{IsSetOf, writes}
 use Rattle.tomex_tags.specs.declared.station.Station.{Station}
 use Rattle.tomex_cycle.specs.Ends.{AreDone, finishes}
-use Rattle.tomex_cycle.specs.Finishes.{AreKnown, AreResults, HaveTurned}
+use Rattle.tomex_cycle.specs.Finishes.{IsTimetableOf, AreResults, HaveTurned}
 use Rattle.tomex_cycle.specs.declared.finishes.Finishes.{Finishes}
 use Rattle.tomex_cycle.proofs.Happens.{member_of}
 use Rattle.tomex_cycle.proofs.EndsNone.{none_over}
@@ -21,7 +21,7 @@ use Rattle.tomex_cycle.proofs.KnownEnds.{all_due, branch_places, leaves_known, n
 use Rattle.tomex_bus.proofs.Picking.{none_picked}
 
 -- of what is due none is outside the results
-pub are_results : (slots : List (Option Station)) (next first writing served results others : ℕ) (f : Finishes) → AreKnown slots next f → AreDue f.wheel first → IsSetOf writes slots writing → ((x : ℕ) → x < 128 → has served x ≡ is_served units.Bru x)
+pub are_results : (slots : List (Option Station)) (next first writing served results others : ℕ) (f : Finishes) → IsTimetableOf slots next f → AreDue f.wheel first → IsSetOf writes slots writing → ((x : ℕ) → x < 128 → has served x ≡ is_served units.Bru x)
     → ((x : ℕ) → x < 128 → has results x ≡ (has writing x && not (has served x))) → ((x : ℕ) → x < 128 → has others x ≡ (has first x && not (has results x))) → others ≡ 0 → AreResults slots next
 are_results slots next first writing served results others f known due of branches those but none x l e =
     let now : next + 0 ≡ next = omega arith in
@@ -45,7 +45,7 @@ are_results slots next first writing served results others f known due of branch
     member false b e f = absurd (both_ways false refl e)
 
 -- of what is due one is outside the results
-pub others_finish : (slots : List (Option Station)) (next first writing served results others : ℕ) (f : Finishes) → AreKnown slots next f → AreDue f.wheel first → IsSetOf writes slots writing → ((x : ℕ) → x < 128 → has served x ≡ is_served units.Bru x)
+pub others_finish : (slots : List (Option Station)) (next first writing served results others : ℕ) (f : Finishes) → IsTimetableOf slots next f → AreDue f.wheel first → IsSetOf writes slots writing → ((x : ℕ) → x < 128 → has served x ≡ is_served units.Bru x)
     → ((x : ℕ) → x < 128 → has results x ≡ (has writing x && not (has served x))) → ((x : ℕ) → x < 128 → has others x ≡ (has first x && not (has results x))) → others < 2 ^ 128 → others ≢ 0 → AreResults slots next → ⊥
 others_finish slots next first writing served results others f known due of branches those but small some are =
     let (x, l, e) = member_of others small some in
@@ -80,7 +80,7 @@ due_writes slots next due x count done results l = elim (cases_Bool (has due x))
 ]
 
 -- they wait for a bus from here on
-pub known_results : (st : Pools) (next due : ℕ) (f g h : Finishes) → AreBusy st.slots st.busy st.issue_numbers → AreKnown st.slots next f → HaveTurned f g due → AreResults st.slots next → f.ready ≡ 0 → h.wheel ≡ g.wheel → h.ready ≡ due → AreKnown st.slots (next + 1) h
+pub known_results : (st : Pools) (next due : ℕ) (f g h : Finishes) → AreBusy st.slots st.busy st.issue_numbers → IsTimetableOf st.slots next f → HaveTurned f g due → AreResults st.slots next → f.ready ≡ 0 → h.wheel ≡ g.wheel → h.ready ≡ due → IsTimetableOf st.slots (next + 1) h
 known_results st next due f g h filled known turned results none wheel ready =
     none_over st.slots next 0 h known.places
     (leaves_known st 0 next due due 0 0 0 f g h filled known turned

@@ -207,14 +207,14 @@ busy_last end d older p x rest (y ∷ zs) holds more before busy e =
     let r : IsFirstBusy end older y zs = before y zs busy in
     record { after = d ∷ r.after; d = r.d; skipped = r.skipped; split = ap (λ xs. d ∷ xs) r.split; idle = r.idle; holds = rw (← same) r.holds; left = more r.after ∙ (ap (λ xs. xs ++ (p ∷ [])) r.left ∙ tail) }
 
-busy_by : (end : ℕ) (d : Done) (older : List Done) (x : ℕ) (rest : List ℕ) → Head end d older → ((y : ℕ) (zs : List ℕ) → order_of end older ≡ y ∷ zs → IsFirstBusy end older y zs) → order_of end (d ∷ older) ≡ x ∷ rest → IsFirstBusy end (d ∷ older) x rest
-busy_by end d older x rest (stays same more) before e = busy_more end d older x rest same more (before x rest (sym same ∙ e))
-busy_by end d older x rest (adds p holds same more) before e = busy_last end d older p x rest (order_of end older) holds more before refl (sym same ∙ e)
+eventful_by : (end : ℕ) (d : Done) (older : List Done) (x : ℕ) (rest : List ℕ) → Head end d older → ((y : ℕ) (zs : List ℕ) → order_of end older ≡ y ∷ zs → IsFirstBusy end older y zs) → order_of end (d ∷ older) ≡ x ∷ rest → IsFirstBusy end (d ∷ older) x rest
+eventful_by end d older x rest (stays same more) before e = busy_more end d older x rest same more (before x rest (sym same ∙ e))
+eventful_by end d older x rest (adds p holds same more) before e = busy_last end d older p x rest (order_of end older) holds more before refl (sym same ∙ e)
 
 -- the next step of a pass over the order
 pub first_busy : (end : ℕ) (part : List Done) (x : ℕ) (rest : List ℕ) → order_of end part ≡ x ∷ rest → IsFirstBusy end part x rest
 first_busy end [] x rest e = absurd (cc)
-first_busy end (d ∷ older) x rest e = busy_by end d older x rest (head_is end d older) (first_busy end older) e
+first_busy end (d ∷ older) x rest e = eventful_by end d older x rest (head_is end d older) (first_busy end older) e
 
 -- the least number that passes is this one
 pub least_test : (p : ℕ → Bool) (a u : ℕ) → IsLeast p a → u ≤ a → p u ≡ (a == u)

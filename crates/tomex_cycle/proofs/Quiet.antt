@@ -15,7 +15,7 @@ use Rattle.tomex_timing.specs.declared.times.Done.{Done}
 use Rattle.tomex_timing.specs.declared.times.Times.{Times}
 use Rattle.tomex_timing.specs.History.{is_of, is_memory, cycle_of, writer_end, source_end, last_issue, last_address}
 use Rattle.tomex_timing.specs.Station.{is_held, has_station}
-use Rattle.tomex_timing.specs.Recurrence.{AreTimed, IsLeast, can_issue, can_address, can_start, can_end, has_slot, has_unit, has_bus, has_operands, are_branches_finished, conflicts, are_conflicts_finished}
+use Rattle.tomex_timing.specs.Recurrence.{AreTimed, IsLeast, can_issue, can_address, can_start, can_end, can_issue_another, has_unit, has_bus, has_operands, are_branches_finished, conflicts, are_conflicts_finished}
 use Rattle.tomex_timing.proofs.Limits.{units_low, buses_low, width_low}
 use Rattle.tomex_timing.proofs.Settled.{count_none}
 use Rattle.tomex_timing.proofs.Width.{none_later}
@@ -79,7 +79,7 @@ last_issue_still v (d ∷ h) l still e = still.0.issue e
 
 pub last_issue_calm : (u : ℕ) (h : List Done) → AllQuiet u h → last_issue h ≢ u + 1
 last_issue_calm u [] calm e = omega arith
-last_issue_calm u (d ∷ h) calm e = calm.0.apart e
+last_issue_calm u (d ∷ h) calm e = calm.0.no_issue_next e
 
 last_address_still : (v : ℕ) (h : List Done) → 0 < v → AllAtRest v h → last_address h ≢ v
 last_address_still v [] l still e = omega arith
@@ -145,7 +145,7 @@ bus_still config v h good still =
 -- What passes a test of the next cycle passes it in a cycle in which nothing happens.
 
 -- where none has issued in either of the two, all slots of this one are left
-slot_still : (config : Configuration) (v : ℕ) (h : List Done) → 0 < v → IsWithinLimits config → AreTimed config h → AllAtRest v h → last_issue h ≢ v + 1 → has_slot config h (v + 1) ≡ true → has_slot config h v ≡ true
+slot_still : (config : Configuration) (v : ℕ) (h : List Done) → 0 < v → IsWithinLimits config → AreTimed config h → AllAtRest v h → last_issue h ≢ v + 1 → can_issue_another config h (v + 1) ≡ true → can_issue_another config h v ≡ true
 slot_still config v h l good timed still apart e =
     let by : last_issue h ≤ v + 1 = leb-true (last_issue h) (v + 1) (and_parts _ _ e).0 in
     let here : last_issue h ≢ v = last_issue_still v h l still in
@@ -161,9 +161,9 @@ slot_still config v h l good timed still apart e =
 
 pub issue_still : (config : Configuration) (v : ℕ) (h : List Done) (s : Step) → 0 < v → IsWithinLimits config → AreTimed config h → AllAtRest v h → last_issue h ≢ v + 1 → can_issue config h s (v + 1) ≡ true → can_issue config h s v ≡ true
 issue_still config v h s l good timed still apart e =
-    let a = and_parts (nat_lt 0 (v + 1) && has_slot config h (v + 1) && are_branches_finished h (v + 1)) (has_station config h (step_pool s) (v + 1)) e in
-    let b = and_parts (nat_lt 0 (v + 1) && has_slot config h (v + 1)) (are_branches_finished h (v + 1)) a.0 in
-    let c = and_parts (nat_lt 0 (v + 1)) (has_slot config h (v + 1)) b.0 in
+    let a = and_parts (nat_lt 0 (v + 1) && can_issue_another config h (v + 1) && are_branches_finished h (v + 1)) (has_station config h (step_pool s) (v + 1)) e in
+    let b = and_parts (nat_lt 0 (v + 1) && can_issue_another config h (v + 1)) (are_branches_finished h (v + 1)) a.0 in
+    let c = and_parts (nat_lt 0 (v + 1)) (can_issue_another config h (v + 1)) b.0 in
     and_from _ _ (and_from _ _ (and_from _ _ (lt-ltb 0 v l) (slot_still config v h l good timed still apart c.1)) (branches_still v h still b.1)) (station_still config v h (step_pool s) still a.1)
 
 address_still : (v : ℕ) (h : List Done) (s : Step) (issue : ℕ) → 0 < v → AllAtRest v h → issue ≢ v → can_address h s issue (v + 1) ≡ true → can_address h s issue v ≡ true
@@ -272,7 +272,7 @@ still_calm config u (d ∷ h) good timed l still =
     let now : IsStill u d = still.0 in
     let older : AllQuiet u h = still_calm config u h good timed.1 l still.1 in
     let issue : d.at.issue ≢ u + 1 = not_least (can_issue config h d.step) d.at.issue u (issue_still config u h d.step l good timed.1 (still_rests u h still.1) (last_issue_calm u h older)) timed.0.issue in (
-      record { issue = now.issue; address = now.address; finish = now.finish; end = now.end; apart = issue; later = start_by config u h d.step d.at (step_unit d.step) l good still.1 now.issue now.address issue timed.0.start },
+      record { issue = now.issue; address = now.address; finish = now.finish; end = now.end; no_issue_next = issue; no_start_next = start_by config u h d.step d.at (step_unit d.step) l good still.1 now.issue now.address issue timed.0.start },
       older,
     )
 
@@ -289,12 +289,12 @@ calm_next P config u [] sends good timed l calm due = tt
 calm_next P config u (d ∷ h) sends good timed l calm due =
     let now : IsQuiet u d = calm.0 in
     let rest : AllAtRest u h = calm_rests u h calm.1 in
-    let issue : d.at.issue ≢ u + 1 = now.apart in
+    let issue : d.at.issue ≢ u + 1 = now.no_issue_next in
     let address : cycle_of d.at.address ≢ u + 1 = address_by u h d.step d.at (is_memory d.step) l rest now.issue timed.0.address in
     let order : d.at.start ≤ d.at.finish = (reach config d h good timed).order in
-    let finish : d.at.finish ≡ u + 1 → P d = calm_finish (P d) u d.at.start d.at.finish now.later order due.0 in
+    let finish : d.at.finish ≡ u + 1 → P d = calm_finish (P d) u d.at.start d.at.finish now.no_start_next order due.0 in
     let end : d.at.end ≢ u + 1 = end_by config u h d.at (step_unit d.step) (is_some (step_dest d.step)) good rest now.finish issue (λ silent e. both_ways (is_some (step_dest d.step)) silent (sends d (finish e))) timed.0.end in
-    (record { issue = issue; address = address; start = now.later; finish = finish; end = end }, calm_next P config u h sends good timed.1 l calm.1 due.1)
+    (record { issue = issue; address = address; start = now.no_start_next; finish = finish; end = end }, calm_next P config u h sends good timed.1 l calm.1 due.1)
 
 -- what had started by the next cycle had by this one
 free_on : (u w : ℕ) (h : List Done) → AllQuiet u h → AllFree u w h → AllFree (u + 1) w h
@@ -302,7 +302,7 @@ free_on u w [] calm free = tt
 free_on u w (d ∷ h) calm free = (
   (λ started. free.0 (elim (cases_Bool (nat_le d.at.start u)) [
     | inl k ↦ leb-true d.at.start u k
-    | inr k ↦ let late : u < d.at.start = leb-false d.at.start u k in absurd (calm.0.later (omega arith))
+    | inr k ↦ let late : u < d.at.start = leb-false d.at.start u k in absurd (calm.0.no_start_next (omega arith))
   ])),
   free_on u w h calm.1 free.1,
 )

@@ -141,7 +141,7 @@ over_calm config t u d older good timed over e =
     let still : IsStill u d = over_still config t u d older good timed over e in
     let start : d.at.start ≤ d.at.end = (reach config d older good timed).start in
     let issue : d.at.issue ≤ d.at.end = (reach config d older good timed).issue in
-    record { issue = still.issue; address = still.address; finish = still.finish; end = still.end; apart = λ z. omega arith; later = λ z. omega arith }
+    record { issue = still.issue; address = still.address; finish = still.finish; end = still.end; no_issue_next = λ z. omega arith; no_start_next = λ z. omega arith }
 
 -- a busy step, where all but starts leave its station as it was, and none waits
 busy_calm : (i : Loaded) (config : Configuration) (t u : ℕ) (mid new : Pools) (h newer : List Done) (d : Done) (older : List Done) → IsWithinLimits config → AreTimed config h → AreIssuedBy t h → u ≡ t + 1 → ShowsStations i (clocks u t t) h mid → ShowsStations i (clocks u u u) h new → new.slots ≡ mid.slots
@@ -168,7 +168,7 @@ busy_calm i config t u mid new h newer d older good timed issued e before after 
           let i0 : d.at.issue ≤ t = (issued_part t newer (d ∷ older) (rw split at issued)).0 in
           let past : AreIssuedBy u (d ∷ older) = issued_part u newer (d ∷ older) (rw split at more) in
           let k : u < d.at.end = ltb-true u d.at.end l in
-          record { issue = λ z. omega arith; address = address; finish = λ z. not_done u u d.at.start d.at.finish (omega arith) none z; end = λ z. omega arith; apart = λ z. omega arith; later = λ z. both_ways _ rests (waits_before i config u d older part past z) }
+          record { issue = λ z. omega arith; address = address; finish = λ z. not_done u u d.at.start d.at.finish (omega arith) none z; end = λ z. omega arith; no_issue_next = λ z. omega arith; no_start_next = λ z. both_ways _ rests (waits_before i config u d older part past z) }
     ]
 
 pub issued_calm : (i : Loaded) (config : Configuration) (t u : ℕ) (mid new : Pools) (h newer part : List Done) → IsWithinLimits config → AreTimed config h → AreIssuedBy t h → u ≡ t + 1 → ShowsStations i (clocks u t t) h mid → ShowsStations i (clocks u u u) h new → new.slots ≡ mid.slots
@@ -210,7 +210,7 @@ later_calm config u (d ∷ newer) h good timed later low calm =
     let r = reach config d (newer ++ h) good timed in
     let order : d.at.start ≤ d.at.finish = r.order in
     let end : d.at.finish ≤ d.at.end = r.finish in (
-      record { issue = λ z. omega arith; address = λ z. address_after config d (newer ++ h) u timed.0 l z low; finish = λ z. omega arith; end = λ z. omega arith; apart = apart; later = start_apart config d (newer ++ h) u (step_unit d.step) timed.0.start l apart },
+      record { issue = λ z. omega arith; address = λ z. address_after config d (newer ++ h) u timed.0 l z low; finish = λ z. omega arith; end = λ z. omega arith; no_issue_next = apart; no_start_next = start_apart config d (newer ++ h) u (step_unit d.step) timed.0.start l apart },
       older,
     )
 

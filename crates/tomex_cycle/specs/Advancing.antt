@@ -6,8 +6,8 @@ use Rattle.tomex_cycle.specs.Run.{EndsInTime, run_of}
 use Rattle.tomex_cycle.specs.Seen.{Machine, seen, seen_after}
 
 -- The machine went on to a cycle, or less far if it has ended or faulted. If its program ends, it is as after that many
--- ticks from the start, and has made at least each of these cycles that has an event, and at most two for each event
--- and one more.
+-- ticks from the start, and has made at least as many cycles as those in between have an event, and at most two for
+-- each event and one more.
 pub record AdvancesTo (to : ℕ) (old new : Machine) : Type 0 where
   pub image : new.image ≡ old.image
   pub config : new.config ≡ old.config

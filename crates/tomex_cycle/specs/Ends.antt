@@ -1,5 +1,6 @@
 -- What the end of a cycle makes of stations, registers and the next pc, as the state itself says it.
-use Rattle.std.specs.Prelude.{◌≡◌, ◌≤◌, ℕ, ◌<◌, nat_le, nat_lt, Bool, true, false, ◌&&◌, ◌||◌, if◌then◌else◌, not, List, Option, Some, None, is_some, length, slice_index, slice_index_or, option_map}
+use Rattle.std.specs.Prelude.{◌≡◌, ◌≤◌, ℕ, ◌<◌, nat_le, nat_lt, Bool, true, false, ◌&&◌, ◌||◌, if◌then◌else◌, not}
+use Rattle.std.specs.Prelude.{List, Option, Some, None, is_some, length, slice_index, slice_index_or, option_map}
 use Rattle.tomex_rvdec.specs.Operands.{dest_of}
 use Rattle.tomex_rvexec.specs.Flow.{next_pc_of}
 use Rattle.tomex_rvexec.specs.Steps.{is_number}

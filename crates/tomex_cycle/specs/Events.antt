@@ -26,14 +26,14 @@ events_by h zero = 0
 events_by h (suc t) = events_by h t + events_in (suc t) h
 
 -- in how many cycles up to and with this one anything happens
-abbrev pub busy_by : List Done → ℕ → ℕ
-busy_by h zero = 0
-busy_by h (suc t) = busy_by h t + (if events_in (suc t) h == 0 then 0 else 1)
+abbrev pub eventful_by : List Done → ℕ → ℕ
+eventful_by h zero = 0
+eventful_by h (suc t) = eventful_by h t + (if events_in (suc t) h == 0 then 0 else 1)
 
 -- What a count of cycles that are made rises by from one cycle to another: by at least those in which anything
--- happens, and by at most one more than twice the events.
+-- happens, and by at most one more than twice the events. Both without subtraction.
 pub record IsCounted (h : List Done) (from to before after : ℕ) : Type 0 where
-  pub least : busy_by h to + before ≤ after + busy_by h from
+  pub least : eventful_by h to + before ≤ after + eventful_by h from
   pub most : after + 2 * events_by h from ≤ before + 2 * events_by h to + 1
 
 -- one cycle is made, and those after it are passed: nothing happens in them, and where nothing happens in the

@@ -1,5 +1,6 @@
 -- In which cycles the operations of the busy stations finish.
-use Rattle.std.specs.Prelude.{ℕ, Bool, true, false, not, is_some, ◌≡◌, ◌≤◌, ◌<◌, ◌+◌, ◌&&◌, ◌⊎◌, List, Option, Some, None, length, slice_index_or}
+use Rattle.std.specs.Prelude.{ℕ, Bool, true, false, not, is_some, ◌≡◌, ◌≤◌, ◌<◌, ◌+◌, ◌&&◌}
+use Rattle.std.specs.Prelude.{◌⊎◌, List, Option, Some, None, length, slice_index_or}
 use Rattle.tomex_rvdec.specs.Operands.{dest_of}
 use Rattle.tomex_sets.specs.Sets.{has}
 use Rattle.tomex_bus.specs.Wheel.{is_due}
@@ -29,7 +30,7 @@ has_stayed cycle None = false
 has_stayed cycle (Some s) = not (is_some (dest_of s.instr)) && is_finished_before s.finish cycle
 
 -- the finishes of these stations, as they are known before a cycle ends
-pub record AreKnown (slots : List (Option Station)) (cycle : ℕ) (known : Finishes) : Type 0 where
+pub record IsTimetableOf (slots : List (Option Station)) (cycle : ℕ) (known : Finishes) : Type 0 where
   pub places : length slots ≡ 96
   pub ahead : (a x : ℕ) → a < 64 → x < 96 → is_due known.wheel a x ≡ finishes (cycle + a) (slot slots x)
   pub near : (x v : ℕ) → x < 96 → finishes v (slot slots x) ≡ true → v < cycle + 64
@@ -38,8 +39,8 @@ pub record AreKnown (slots : List (Option Station)) (cycle : ℕ) (known : Finis
   pub gone : (x : ℕ) → x < 96 → has_stayed cycle (slot slots x) ≡ false
 
 -- what is known of the finishes before a cycle ends is so of these stations too
-abbrev pub KeepsKnown : ℕ → List (Option Station) → List (Option Station) → Type 0
-KeepsKnown cycle old new = (known : Finishes) → AreKnown old cycle known → AreKnown new cycle known
+abbrev pub KeepsTimetable : ℕ → List (Option Station) → List (Option Station) → Type 0
+KeepsTimetable cycle old new = (known : Finishes) → IsTimetableOf old cycle known → IsTimetableOf new cycle known
 
 -- what finishes in a cycle is taken out, and the next one is ahead
 pub record HaveTurned (old new : Finishes) (taken : ℕ) : Type 0 where
@@ -50,15 +51,15 @@ pub record HaveTurned (old new : Finishes) (taken : ℕ) : Type 0 where
 -- what was known before a cycle ends, once what finishes in it is taken out
 pub record AreTurned (slots : List (Option Station)) (cycle due : ℕ) (now : Finishes) : Type 0 where
   pub before : Finishes
-  pub known : AreKnown slots cycle before
+  pub known : IsTimetableOf slots cycle before
   pub turned : HaveTurned before now due
 
 -- once these places have ended, and all others have heard what was sent, the finishes are known before the next cycle
-abbrev pub LeavesKnown : List (Option Station) → ℕ → ℕ → Finishes → Type 0
-LeavesKnown slots cycle ending known =
+abbrev pub LeavesTimetable : List (Option Station) → ℕ → ℕ → Finishes → Type 0
+LeavesTimetable slots cycle ending known =
     (new : List (Option Station)) (sent : ℕ → Option ℕ) → length new ≡ 96
     → ((x : ℕ) → x < 96 → slice_index_or new x None ≡ after_ends (has ending x) sent (slot slots x))
-    → AreKnown new (cycle + 1) known
+    → IsTimetableOf new (cycle + 1) known
 
 -- how many cycles can be passed: those before the next finish, so far ahead if there is any, but no more than these
 abbrev pub IsIdle : Option ℕ → ℕ → ℕ → Type 0

@@ -7,7 +7,7 @@ use Rattle.tomex_rvexec.specs.Machine.{State}
 use Rattle.tomex_rvexec.specs.Run.{RunEnds}
 use Rattle.tomex_config.specs.Configuration.{Configuration, IsWithinLimits}
 use Rattle.tomex_timing.specs.declared.times.Done.{Done}
-use Rattle.tomex_timing.specs.Recurrence.{has_slot}
+use Rattle.tomex_timing.specs.Recurrence.{can_issue_another}
 use Rattle.tomex_cycle.specs.declared.fetch.Fetch.{Fetch}
 use Rattle.tomex_cycle.specs.Phases.{IsYetToIssue}
 use Rattle.tomex_cycle.specs.Run.{AreIssuedBy, most_steps, run_to}
@@ -36,7 +36,8 @@ abbrev pub IssuesNext : Loaded → Configuration → ℕ → Pools → RegStatus
 IssuesNext i config count stations registers fetch result new status from =
     (n t u : ℕ) (s : State) (kind : EndKind) → RunEnds i n s kind → n < most_steps → u ≡ t + 1
     → IsWithinLimits config → IsLoaded i.window i.memory i.entry
-    → has_slot config (run_to config i count) u ≡ true → IsIssuing i config n t u count stations registers fetch
+    → can_issue_another config (run_to config i count) u ≡ true
+    → IsIssuing i config n t u count stations registers fetch
     → (made : Bool) × (result ≡ Ok made) × IsIssuing i config n t u (count_after made count) new status from
     × (made ≡ false → count ≤ n → IsYetToIssue i config count u)
 

@@ -1,5 +1,6 @@
 -- What each phase of a cycle makes, and the snapshot between two cycles.
-use Rattle.std.specs.Prelude.{◌≡◌, ℕ, ◌+◌, ◌≤◌, ◌<◌, false, List, Option, Some, None, Result, Ok, Bool, true, ◌&&◌, ◌==◌, nat_lt}
+use Rattle.std.specs.Prelude.{◌≡◌, ℕ, ◌+◌, ◌≤◌, ◌<◌, false, List, Option, Some}
+use Rattle.std.specs.Prelude.{None, Result, Ok, Bool, true, ◌&&◌, ◌==◌, nat_lt}
 use Rattle.tomex_image.specs.Image.{Loaded, IsLoaded}
 use Rattle.tomex_rvexec.specs.declared.outcome.EndKind.{EndKind}
 use Rattle.tomex_rvexec.specs.declared.outcome.Fault.{Fault}

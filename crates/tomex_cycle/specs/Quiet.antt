@@ -10,8 +10,8 @@ pub record IsQuiet (u : ℕ) (d : Done) : Type 0 where
   pub address : cycle_of d.at.address ≢ u
   pub finish : d.at.finish ≢ u
   pub end : d.at.end ≢ u
-  pub apart : d.at.issue ≢ u + 1
-  pub later : d.at.start ≢ u + 1
+  pub no_issue_next : d.at.issue ≢ u + 1
+  pub no_start_next : d.at.start ≢ u + 1
 
 abbrev pub AllQuiet : ℕ → List Done → Type 0
 AllQuiet u h = AllByRecursion (IsQuiet u) h

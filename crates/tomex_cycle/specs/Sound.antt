@@ -12,7 +12,7 @@ use Rattle.tomex_cycle.specs.declared.inner.Inner.{Inner}
 use Rattle.tomex_cycle.specs.declared.progress.Progress.{Progress}
 use Rattle.tomex_cycle.specs.declared.progress.Progress.TheVariants.{Running, Ended}
 use Rattle.tomex_cycle.specs.declared.finishes.Finishes.{Finishes}
-use Rattle.tomex_cycle.specs.Finishes.{AreKnown}
+use Rattle.tomex_cycle.specs.Finishes.{IsTimetableOf}
 use Rattle.tomex_cycle.specs.Run.{most_steps, run_to}
 use Rattle.tomex_cycle.specs.Phases.{IsSnapshot}
 use Rattle.tomex_tags.specs.Pools.{Pools}
@@ -41,4 +41,4 @@ IsSoundWith i config cycle status inner =
 
 -- as long as it runs, what is known of the finishes ahead is right
 abbrev pub IsTurning : Progress → List (Option Station) → ℕ → Finishes → Type 0
-IsTurning status slots next known = status ≡ Running → AreKnown slots next known
+IsTurning status slots next known = status ≡ Running → IsTimetableOf slots next known

@@ -4,8 +4,9 @@ ghost use Rattle.std.specs.Prelude.{◌≡◌, ◌<◌, ◌≤◌, ◌^◌, ◌=
 ghost use Rattle.tomex_sets.specs.Sets.{has};
 ghost use Rattle.tomex_tags.specs.Operands.{only};
 ghost use Rattle.tomex_tags.specs.Pools.{AreBusy};
-ghost use Rattle.tomex_cycle.specs.Ends.{AreDone, AreEnding, AreNamed, EndsIn, Follows, Hears, IsDoneBranch, sends_of, sent_below, target_in};
-ghost use Rattle.tomex_cycle.specs.Finishes.{AreTurned, LeavesKnown};
+ghost use Rattle.tomex_cycle.specs.Ends.{AreDone, AreEnding, AreNamed, EndsIn, Follows, Hears};
+ghost use Rattle.tomex_cycle.specs.Ends.{IsDoneBranch, sends_of, sent_below, target_in};
+ghost use Rattle.tomex_cycle.specs.Finishes.{AreTurned, LeavesTimetable};
 ghost use Rattle.tomex_cycle.specs.Starts.{AreLow};
 ghost use Rattle.tomex_tags.specs.Contents.{slot};
 
@@ -35,7 +36,7 @@ pub fn settle(pools: &Pools, finishes: &mut Finishes, due: u128, buses: u8, cycl
     ensures due { AreDone pools.now.slots cycle result.due }
     ensures ending { AreEnding pools.now buses cycle result.ending }
     ensures busy { AreBusy pools.now.slots pools.now.busy pools.now.issue_numbers }
-    ensures known { LeavesKnown pools.now.slots cycle result.ending finishes.new }
+    ensures known { LeavesTimetable pools.now.slots cycle result.ending finishes.new }
     ensures quiet { result.ending ≡ 0 → result.due ≡ 0 → finishes.new.ready ≡ 0 }
     ensures fits { (result.due < 2 ^ 128) × (result.ending < 2 ^ 128) }
 {

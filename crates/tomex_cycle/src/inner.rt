@@ -7,7 +7,7 @@ ghost use Rattle.tomex_timing.specs.declared.times.Done.{Done};
 ghost use Rattle.tomex_cycle.specs.Run.{AreIssuedBy, IsHistory};
 ghost use Rattle.tomex_cycle.specs.Views.{clocks, ShowsStations, ShowsRegisters};
 ghost use Rattle.tomex_cycle.specs.Phases.{is_done};
-ghost use Rattle.tomex_cycle.specs.Finishes.{AreKnown};
+ghost use Rattle.tomex_cycle.specs.Finishes.{IsTimetableOf};
 ghost use Rattle.tomex_cycle.specs.CycleOutcome.{progress_of};
 ghost use Rattle.tomex_cycle.specs.Inner.{GivesEnd, IsFresh, MakesCycle};
 ghost use Rattle.tomex_cycle.specs.declared.progress.Progress.{Progress};
@@ -52,9 +52,12 @@ pub struct Inner<A: Allocator = Global> {
 }
 
 impl<A: Allocator> Inner<A> {
-    /// Makes a cycle by its phases, or only counts one that the caller has made.
+    /// Makes a cycle by its phases, or only counts one that the caller has made, and answers what the cycle leaves: a
+    /// program that runs on, its end, or a fault. Of a program that faults or doesn't end in time only the count is
+    /// told.
     ///
-    /// Inlined, so that each of its two calls has only what its kind of cycle needs.
+    /// The one call that changes the state, so that every change is counted. Inlined, so that each of its two calls
+    /// has only what its kind of cycle needs.
     #[inline(always)]
     pub(crate) fn make_cycle<B: Allocator>(
         &mut self,
@@ -66,12 +69,12 @@ impl<A: Allocator> Inner<A> {
     ) -> CycleOutcome
         requires low { cycle < 2 ^ 41 }
         requires fits { self.old.worked < 2 ^ 41 }
-        requires known { how ≡ Cycle.ByPhases → AreKnown self.old.pools.slots cycle finishes.old }
+        requires known { how ≡ Cycle.ByPhases → IsTimetableOf self.old.pools.slots cycle finishes.old }
         ensures worked { self.new.worked ≡ self.old.worked + 1 }
         ensures makes { how ≡ Cycle.ByPhases
             → MakesCycle fetcher.old config.now cycle self.old result self.new }
         ensures known { how ≡ Cycle.ByPhases → progress_of result ≡ Progress.Running
-            → AreKnown self.new.pools.slots (cycle + 1) finishes.new }
+            → IsTimetableOf self.new.pools.slots (cycle + 1) finishes.new }
         ensures quiet { how ≡ Cycle.ByPhases → result ≡ CycleOutcome.Quiet
             → finishes.new.ready ≡ 0 }
         ensures counts { how ≡ Cycle.CountOnly → (result ≡ CycleOutcome.Active)

@@ -1,7 +1,7 @@
 //! The issue of one instruction, and of more in the same cycle.
 
 ghost use Rattle.std.specs.Prelude.{ℕ, ◌≡◌, Ok, false};
-ghost use Rattle.tomex_cycle.specs.Finishes.{KeepsKnown};
+ghost use Rattle.tomex_cycle.specs.Finishes.{KeepsTimetable};
 ghost use Rattle.tomex_cycle.specs.Issue.{IssuesMore, IssuesNext};
 
 use crate::fetch::Fetch;
@@ -25,7 +25,7 @@ pub fn issue_next<A: Allocator>(
     ensures issues { IssuesNext fetcher.old config.now count
         pools.old registers.old fetch.old result pools.new registers.new fetch.new }
     ensures none { result ≡ Ok false → pools.new ≡ pools.old }
-    ensures known { (cycle : ℕ) → KeepsKnown cycle pools.old.slots pools.new.slots }
+    ensures known { (cycle : ℕ) → KeepsTimetable cycle pools.old.slots pools.new.slots }
     ensures same { fetcher.new ≡ fetcher.old }
 {
     let pc = match *fetch {
@@ -69,7 +69,7 @@ pub fn issue_more<A: Allocator>(
 )
     ensures issues { IssuesMore fetcher.old config.now
         count.old pools.old registers.old fetch.old count.new pools.new registers.new fetch.new }
-    ensures known { (cycle : ℕ) → KeepsKnown cycle pools.old.slots pools.new.slots }
+    ensures known { (cycle : ℕ) → KeepsTimetable cycle pools.old.slots pools.new.slots }
     ensures same { fetcher.new ≡ fetcher.old }
 {
     let width = config.width();

@@ -191,7 +191,8 @@ impl<'a, A: Allocator> Machine<'a, A> {
         }
     }
 
-    /// Goes on to cycle `to`, or to the machine's end or fault if that comes first. Quiet cycles are skipped.
+    /// Goes on to cycle `to`, or to the machine's end or fault if that comes first. Quiet cycles are skipped. A machine
+    /// that is there already, or is over, stays as it is. Up to 2^40 the count of cycles can't overflow.
     pub fn advance(&mut self, to: u64) -> Progress
         requires { to ≤ 2 ^ 40 }
         ensures answer { result ≡ self.new.status }

@@ -1,8 +1,9 @@
 //! The phases of a cycle. Each reads only what no earlier one of the cycle has changed.
 
 ghost use Rattle.std.specs.Prelude.{ℕ, ◌≡◌, ◌<◌, ◌+◌, ◌^◌, IfSome, None, Ok, Some, false, true};
-ghost use Rattle.tomex_cycle.specs.Finishes.{AreKnown, KeepsKnown};
-ghost use Rattle.tomex_cycle.specs.Phases.{AddressHappens, EndsHappen, MakesStarts, MakesAddress, MakesIssue, MakesEnds, StartsHappen};
+ghost use Rattle.tomex_cycle.specs.Finishes.{IsTimetableOf, KeepsTimetable};
+ghost use Rattle.tomex_cycle.specs.Phases.{AddressHappens, EndsHappen, MakesStarts, MakesAddress};
+ghost use Rattle.tomex_cycle.specs.Phases.{MakesIssue, MakesEnds, StartsHappen};
 ghost use Rattle.tomex_cycle.specs.Starts.{IsAccessFault};
 
 use crate::fetch::Fetch;
@@ -33,13 +34,13 @@ pub fn start<A: Allocator>(
     cycle: u64,
 ) -> Starts
     requires low { cycle < 2 ^ 41 }
-    requires known { AreKnown pools.old.slots cycle finishes.old }
+    requires known { IsTimetableOf pools.old.slots cycle finishes.old }
     ensures starts { MakesStarts config.now cycle
         pools.old memory.old result.fault pools.new memory.new }
     ensures none { result.any ≡ false → pools.new.slots ≡ pools.old.slots }
     ensures any { result.any ≡ true → StartsHappen config.now cycle pools.old }
     ensures fault { IfSome result.fault (λ f. (x : ℕ) × IsAccessFault pools.old memory.old x f) }
-    ensures known { result.fault ≡ None → AreKnown pools.new.slots cycle finishes.new }
+    ensures known { result.fault ≡ None → IsTimetableOf pools.new.slots cycle finishes.new }
 {
     let starting = starts::starting(pools, config, cycle);
     if starting == 0 {
@@ -58,7 +59,7 @@ pub fn address(pools: &mut Pools, cycle: u64) -> bool
     ensures addresses { MakesAddress cycle pools.old pools.new }
     ensures none { result ≡ false → pools.new.slots ≡ pools.old.slots }
     ensures any { result ≡ true → AddressHappens cycle pools.old }
-    ensures known { KeepsKnown cycle pools.old.slots pools.new.slots }
+    ensures known { KeepsTimetable cycle pools.old.slots pools.new.slots }
 {
     match address_next(pools) {
         Some(place) => {
@@ -84,7 +85,7 @@ pub fn issue<A: Allocator>(
         count.old pools.old registers.old fetch.old
         result count.new pools.new registers.new fetch.new }
     ensures none { result ≡ Ok false → pools.new.slots ≡ pools.old.slots }
-    ensures known { (cycle : ℕ) → KeepsKnown cycle pools.old.slots pools.new.slots }
+    ensures known { (cycle : ℕ) → KeepsTimetable cycle pools.old.slots pools.new.slots }
     ensures same { fetcher.new ≡ fetcher.old }
 {
     if !issue_next(pools, registers, fetch, *count, fetcher, config)? {
@@ -108,12 +109,12 @@ pub fn end(
     config: &Config,
     cycle: u64,
 ) -> bool
-    requires known { AreKnown pools.old.slots cycle finishes.old }
+    requires known { IsTimetableOf pools.old.slots cycle finishes.old }
     ensures ends { MakesEnds config.now cycle
         pools.old registers.old fetch.old pools.new registers.new fetch.new }
     ensures none { result ≡ false → pools.new.slots ≡ pools.old.slots }
     ensures any { result ≡ true → EndsHappen config.now cycle pools.old }
-    ensures known { AreKnown pools.new.slots (cycle + 1) finishes.new }
+    ensures known { IsTimetableOf pools.new.slots (cycle + 1) finishes.new }
     ensures quiet { result ≡ false → finishes.new.ready ≡ 0 }
 {
     let due = finishes.turn();

@@ -1,7 +1,7 @@
 //! Skipping the quiet cycles.
 
 ghost use Rattle.std.specs.Prelude.{ℕ, ◌≡◌, ◌<◌, ◌≤◌, ◌+◌, ◌-◌, ◌^◌, true, false};
-ghost use Rattle.tomex_cycle.specs.Finishes.{AreKnown, AreResults, FinishesSoon, IsFree, IsIdle, IsSkipped};
+ghost use Rattle.tomex_cycle.specs.Finishes.{IsTimetableOf, AreResults, FinishesSoon, IsFree, IsIdle, IsSkipped};
 
 use crate::finishes::Finishes;
 use crate::inner::{Cycle, Inner};
@@ -27,13 +27,13 @@ fn idle(ahead: Option<u32>, most: u64) -> u64
 /// the cycle that it comes to.
 fn skip_idle(finishes: &mut Finishes, pools: &Pools, cycle: u64, to: u64) -> u64
     requires ahead { cycle ≤ to }
-    requires known { AreKnown pools.now.slots (cycle + 1) finishes.old }
+    requires known { IsTimetableOf pools.now.slots (cycle + 1) finishes.old }
     requires quiet { finishes.old.ready ≡ 0 }
     ensures least { cycle ≤ result }
     ensures most { result ≤ to }
     ensures free { IsFree pools.now.slots cycle result }
     ensures stops { result < to → FinishesSoon pools.now.slots cycle result }
-    ensures known { AreKnown pools.now.slots (result + 1) finishes.new }
+    ensures known { IsTimetableOf pools.now.slots (result + 1) finishes.new }
     ensures quiet { finishes.new.ready ≡ 0 }
 {
     let idle = idle(finishes.wheel.next(), to - cycle);
@@ -47,10 +47,10 @@ fn skip_idle(finishes: &mut Finishes, pools: &Pools, cycle: u64, to: u64) -> u64
 fn take_results(finishes: &mut Finishes, pools: &Pools) -> bool
     requires { finishes.old.ready ≡ 0 }
     ensures none { result ≡ false → finishes.new ≡ finishes.old }
-    ensures others { result ≡ false → (cycle : ℕ) → AreKnown pools.now.slots cycle finishes.old
+    ensures others { result ≡ false → (cycle : ℕ) → IsTimetableOf pools.now.slots cycle finishes.old
         → AreResults pools.now.slots cycle → ⊥ }
-    ensures results { result ≡ true → (cycle : ℕ) → AreKnown pools.now.slots cycle finishes.old
-        → AreResults pools.now.slots cycle × AreKnown pools.now.slots (cycle + 1) finishes.new }
+    ensures results { result ≡ true → (cycle : ℕ) → IsTimetableOf pools.now.slots cycle finishes.old
+        → AreResults pools.now.slots cycle × IsTimetableOf pools.now.slots (cycle + 1) finishes.new }
 {
     let results = difference(pools.writing(), served_by(UnitId::Bru));
     let others = difference(finishes.wheel.first(), results);
@@ -75,13 +75,13 @@ pub(crate) fn skip_quiet<A: Allocator, B: Allocator>(
     requires ahead { cycle ≤ to }
     requires fits { inner.old.worked < 2 ^ 41 }
     requires low { to < 2 ^ 41 }
-    requires known { AreKnown inner.old.pools.slots (cycle + 1) finishes.old }
+    requires known { IsTimetableOf inner.old.pools.slots (cycle + 1) finishes.old }
     requires quiet { finishes.old.ready ≡ 0 }
     ensures least { cycle ≤ result }
     ensures most { result ≤ to }
     ensures skipped { IsSkipped inner.old.pools.slots cycle to result
         inner.old.worked inner.new.worked }
-    ensures known { AreKnown inner.old.pools.slots (result + 1) finishes.new }
+    ensures known { IsTimetableOf inner.old.pools.slots (result + 1) finishes.new }
     ensures inner { inner.new ≡ record inner.old { worked = inner.new.worked } }
     ensures same { fetcher.new ≡ fetcher.old }
 {

@@ -1,6 +1,7 @@
 //! Which operations start in a cycle, and what they do.
 
-ghost use Rattle.std.specs.Prelude.{ℕ, ◌≡◌, ◌≢◌, ◌<◌, ◌≤◌, ◌+◌, ◌-◌, ◌/◌, ◌^◌, IfSome, IsSome, None, Some, slice_set, length, true, ◌||◌};
+ghost use Rattle.std.specs.Prelude.{ℕ, ◌≡◌, ◌≢◌, ◌<◌, ◌≤◌, ◌+◌, ◌-◌, ◌/◌, ◌^◌, IfSome};
+ghost use Rattle.std.specs.Prelude.{IsSome, None, Some, slice_set, length, true, ◌||◌};
 ghost use Rattle.tomex_sets.specs.Sets.{has};
 ghost use Rattle.tomex_tags.specs.Contents.{slot, started, step_in};
 ghost use Rattle.tomex_tags.specs.Places.{pool_at};
@@ -9,8 +10,10 @@ ghost use Rattle.tomex_tags.specs.WaitSets.{IsSetOf, waits_for};
 ghost use Rattle.tomex_rvdec.specs.Operands.{pool_of, unit_of, unit_of_pool};
 ghost use Rattle.tomex_rvexec.specs.Access.{HasStored, IsInside};
 ghost use Rattle.tomex_rvexec.specs.Flow.{byte_in, result_of};
-ghost use Rattle.tomex_cycle.specs.Finishes.{AreKnown};
-ghost use Rattle.tomex_cycle.specs.Starts.{AllCanBegin, AllInside, AllWaitFor, AreLow, AreReadyFor, CanBegin, HaveBegun, HaveStored, IsAccessFault, IsStarting, IsWanted, access_fault, begun};
+ghost use Rattle.tomex_cycle.specs.Finishes.{IsTimetableOf};
+ghost use Rattle.tomex_cycle.specs.Starts.{AllCanBegin, AllInside, AllWaitFor, AreLow, AreReadyFor, CanBegin};
+ghost use Rattle.tomex_cycle.specs.Starts.{HaveBegun, HaveStored, IsAccessFault, IsStarting, IsWanted};
+ghost use Rattle.tomex_cycle.specs.Starts.{access_fault, begun};
 
 use crate::finishes::Finishes;
 use std::alloc::Allocator;
@@ -180,7 +183,7 @@ fn begin_at<A: Allocator>(
     cycle: u64,
 ) -> Option<Fault>
     requires low { cycle < 2 ^ 41 }
-    requires known { AreKnown pools.old.slots cycle finishes.old }
+    requires known { IsTimetableOf pools.old.slots cycle finishes.old }
     ensures slots { (s : Station) → slot pools.old.slots place ≡ Some s → CanBegin memory.now s
         → pools.new.slots
         ≡ slice_set pools.old.slots place (Some (begun config.now cycle memory.now s)) }
@@ -191,7 +194,7 @@ fn begin_at<A: Allocator>(
     ensures fault { (s : Station) → slot pools.old.slots place ≡ Some s → s.finish ≡ None
         → (IsInside memory.now (step_in s) → ⊥) → result ≡ Some (access_fault s) }
     ensures issue_numbers { pools.new.issue_numbers ≡ pools.old.issue_numbers }
-    ensures known { result ≡ None → AreKnown pools.new.slots cycle finishes.new }
+    ensures known { result ≡ None → IsTimetableOf pools.new.slots cycle finishes.new }
 {
     let Some(station) = pools.at(place) else {
         return None;
@@ -222,7 +225,7 @@ pub fn begin<A: Allocator>(
     cycle: u64,
 ) -> Option<Fault>
     requires low { cycle < 2 ^ 41 }
-    requires known { AreKnown pools.old.slots cycle finishes.old }
+    requires known { IsTimetableOf pools.old.slots cycle finishes.old }
     ensures begins { length pools.old.slots ≡ 96 → AreLow picked
         → AllCanBegin memory.now picked pools.old.slots
         → HaveBegun config.now cycle memory.now picked 96 pools.old pools.new }
@@ -230,7 +233,7 @@ pub fn begin<A: Allocator>(
         → AllCanBegin memory.now picked pools.old.slots → result ≡ None }
     ensures fault { IfSome result
         (λ f. (x : ℕ) × (has picked x ≡ true) × IsAccessFault pools.old memory.now x f) }
-    ensures known { result ≡ None → AreKnown pools.new.slots cycle finishes.new }
+    ensures known { result ≡ None → IsTimetableOf pools.new.slots cycle finishes.new }
 {
     let mut rest = picked;
     'members: while rest != 0 {

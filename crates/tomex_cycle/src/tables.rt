@@ -19,7 +19,12 @@ impl Model for Tables {
 
     ghost Value = { Tables };
 
-    ghost view = { λ t. record { cycle = t.cycle; busy = filter_map (λ b. b) t.busy; registers = t.registers } };
+    ghost view = { λ t. record {
+      cycle = t.cycle;
+      busy = filter_map
+          (λ b. b) t.busy;
+      registers = t.registers;
+    } };
 }
 
 impl Tables {

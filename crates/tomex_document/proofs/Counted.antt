@@ -1,7 +1,7 @@
 -- A document has as many programs as tables, and so 1 to 8.
 use Rattle.std.proofs.Common.{◌≡◌, ◌==◌, ◌+◌, ◌≤◌, ◌++◌, ◌∙◌, ℕ, true, false, nat_le, List, [], ◌∷◌, length, Ok, Option, Some, None, refl, subst, arith, length-append}
 use Rattle.toml.specs.Data.{Data, Items, no_items, item, Members, as_table, as_array}
-use Rattle.tomex_values.specs.declared.error.StudyError.TheVariants.{MissingKey, Range}
+use Rattle.tomex_values.specs.declared.error.DocumentError.TheVariants.{MissingKey, Range}
 use Rattle.tomex_values.specs.declared.place.Key.TheVariants as key
 use Rattle.tomex_values.specs.declared.place.Place.TheVariants as place
 use Rattle.tomex_values.specs.Table.{value_at}

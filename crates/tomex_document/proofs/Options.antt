@@ -7,7 +7,7 @@ use Rattle.tomex_rvdec.specs.declared.pool.UnitId.{UnitId}
 use Rattle.tomex_rvdec.specs.declared.pool.UnitId.TheVariants as units
 use Rattle.tomex_config.specs.Configuration.{is_between, is_option, most_units, plain_option}
 use Rattle.tomex_config.specs.declared.config.UnitOption.{UnitOption}
-use Rattle.tomex_values.specs.declared.error.StudyError.TheVariants.{Kind, Range}
+use Rattle.tomex_values.specs.declared.error.DocumentError.TheVariants.{Kind, Range}
 use Rattle.tomex_values.specs.declared.place.Key.{Key}
 use Rattle.tomex_values.specs.declared.place.Key.TheVariants as key
 use Rattle.tomex_values.specs.declared.place.Place.{Place}

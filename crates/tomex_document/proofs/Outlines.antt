@@ -2,7 +2,7 @@
 use Rattle.std.proofs.Common.{◌≡◌, Bool, false, List, [], ◌∷◌, Ok, refl, ap, sym, subst}
 use Rattle.toml.specs.Data.{Items, Members}
 use Rattle.tomex_config.specs.Grid.{is_too_large}
-use Rattle.tomex_values.specs.declared.error.StudyError.TheVariants.{TooMany}
+use Rattle.tomex_values.specs.declared.error.DocumentError.TheVariants.{TooMany}
 use Rattle.tomex_values.specs.declared.place.Key.TheVariants as key
 use Rattle.tomex_values.specs.declared.place.Place.TheVariants as place
 use Rattle.tomex_values.specs.Table.{known_keys, table_at}

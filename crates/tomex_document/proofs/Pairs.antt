@@ -5,7 +5,7 @@ use Rattle.toml.specs.declared.value.Value.{Value}
 use Rattle.tomex_image.specs.Window.{Span}
 use Rattle.tomex_values.specs.declared.place.Key.TheVariants as key
 use Rattle.tomex_values.specs.declared.place.Place.{Place}
-use Rattle.tomex_values.specs.declared.error.StudyError.TheVariants.{Range}
+use Rattle.tomex_values.specs.declared.error.DocumentError.TheVariants.{Range}
 use Rattle.tomex_document.specs.Watch.{range_from}
 
 pub pair_short : (place : Place) (window : Span) (vs : List Value) → length vs < 2

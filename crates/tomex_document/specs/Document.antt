@@ -8,7 +8,7 @@ use Rattle.tomex_config.specs.Cost.{PriceList}
 use Rattle.tomex_config.specs.Grid.{Lists, is_too_large}
 use Rattle.tomex_values.specs.declared.place.Key.TheVariants as key
 use Rattle.tomex_values.specs.declared.place.Place.TheVariants as place
-use Rattle.tomex_values.specs.declared.error.StudyError.TheVariants.{Syntax, TooMany}
+use Rattle.tomex_values.specs.declared.error.DocumentError.TheVariants.{Syntax, TooMany}
 use Rattle.tomex_values.specs.Readings.{Reading, ◌>>=◌}
 use Rattle.tomex_values.specs.Table.{has_key, known_keys, table_at}
 use Rattle.tomex_document.specs.Program.{ProgramEntry, program_tables, programs_of}
@@ -50,7 +50,12 @@ outline_of top = do
   axes ← axes_of axis_table unit
   if is_too_large axes
       then Err TooMany
-      else Ok (record { programs = programs; prices = prices; axes = axes; wide = is_wide programs price_table axis_table })
+      else Ok (record {
+        programs = programs;
+        prices = prices;
+        axes = axes;
+        wide = is_wide programs price_table axis_table;
+      })
 
 -- what the bytes stand for
 unfoldable pub document_of : List ℕ → Reading Document

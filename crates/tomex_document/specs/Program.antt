@@ -1,5 +1,6 @@
 -- The programs of a study, as it names them.
-use Rattle.std.specs.Prelude.{◌≡◌, ◌≢◌, ◌≤◌, ℕ, ◌+◌, ◌-◌, min, Bool, true, ◌&&◌, ◌||◌, ◌==◌, nat_le, not, List, [], ◌∷◌, ◌++◌, length, Option, Some, None, Ok, Err, if◌then◌else◌}
+use Rattle.std.specs.Prelude.{◌≡◌, ◌≢◌, ◌≤◌, ℕ, ◌+◌, ◌-◌, min, Bool, true, ◌&&◌, ◌||◌, ◌==◌, nat_le, not}
+use Rattle.std.specs.Prelude.{List, [], ◌∷◌, ◌++◌, length, Option, Some, None, Ok, Err, if◌then◌else◌}
 use Rattle.std.specs.List.{list_any, list_all}
 use Rattle.std.specs.Str.{bytes_eq}
 use Rattle.toml.specs.Data.{Data, Items, no_items, item, Members, as_str, as_table, as_array}
@@ -9,7 +10,7 @@ use Rattle.tomex_values.specs.declared.place.Key.TheVariants as key
 use Rattle.tomex_values.specs.declared.place.Place.{Place}
 use Rattle.tomex_values.specs.declared.place.Place.TheVariants as place
 use Rattle.tomex_study.specs.declared.watch.WatchRange.{WatchRange}
-use Rattle.tomex_values.specs.declared.error.StudyError.TheVariants.{MissingKey, Kind, Range}
+use Rattle.tomex_values.specs.declared.error.DocumentError.TheVariants.{MissingKey, Kind, Range}
 use Rattle.tomex_values.specs.Readings.{Reading, ◌>>=◌}
 use Rattle.tomex_values.specs.Table.{value_at, has_key, known_keys}
 use Rattle.tomex_values.specs.Numbers.{between, words_between, number_at}
@@ -109,7 +110,15 @@ program_of place earlier members = do
   limit ← number_at place key.Limit (between 1 262144) 262144 members
   watch ← watch_at place window members
   weight ← number_at place key.Weight (between 1 1000) 1 members
-  Ok (record { name = name; file = file; window = window; limit = limit; watch = watch; weight = weight; weighed = has_key key.Weight members })
+  Ok (record {
+    name = name;
+    file = file;
+    window = window;
+    limit = limit;
+    watch = watch;
+    weight = weight;
+    weighed = has_key key.Weight members;
+  })
 
 -- a program, or a value that is no table
 abbrev pub program_from : ℕ → List ProgramEntry → Option Members → Reading ProgramEntry

@@ -7,7 +7,7 @@ use Rattle.tomex_config.specs.Configuration.{most_units, plain_option}
 use Rattle.tomex_values.specs.declared.place.Key.TheVariants as key
 use Rattle.tomex_values.specs.declared.place.Place.{Place}
 use Rattle.tomex_values.specs.declared.place.Place.TheVariants as place
-use Rattle.tomex_values.specs.declared.error.StudyError.TheVariants.{Kind}
+use Rattle.tomex_values.specs.declared.error.DocumentError.TheVariants.{Kind}
 use Rattle.tomex_values.specs.Place.{key_of_unit}
 use Rattle.tomex_values.specs.Readings.{Reading, ◌>>=◌}
 use Rattle.tomex_values.specs.Table.{known_keys}

@@ -1,12 +1,13 @@
 -- The ranges of memory that a program's entry asks to be shown.
-use Rattle.std.specs.Prelude.{◌+◌, ◌-◌, Bool, false, nat_le, List, [], length, Option, Some, None, Ok, Err, if◌then◌else◌}
+use Rattle.std.specs.Prelude.{◌+◌, ◌-◌, Bool, false, nat_le, List, [], length}
+use Rattle.std.specs.Prelude.{Option, Some, None, Ok, Err, if◌then◌else◌}
 use Rattle.toml.specs.Data.{Data, Items, no_items, item, Members, as_array}
 use Rattle.tomex_image.specs.Window.{Span}
 use Rattle.tomex_values.specs.declared.place.Key.TheVariants as key
 use Rattle.tomex_values.specs.declared.place.Place.{Place}
 use Rattle.tomex_study.specs.Watch.{watched_bytes}
 use Rattle.tomex_study.specs.declared.watch.WatchRange.{WatchRange}
-use Rattle.tomex_values.specs.declared.error.StudyError.TheVariants.{Kind, Range}
+use Rattle.tomex_values.specs.declared.error.DocumentError.TheVariants.{Kind, Range}
 use Rattle.tomex_values.specs.Readings.{Reading, ◌>>=◌}
 use Rattle.tomex_values.specs.Table.{value_at}
 use Rattle.tomex_values.specs.Numbers.{between, number_of}

@@ -22,7 +22,7 @@ use programs::{program_tables, programs_of};
 use std::alloc::{Allocator, Global};
 use std::marker::Model;
 use tomex_config::{Axes, Prices};
-use tomex_values::{Key, Place, StudyError, has_key, known_keys, table_at};
+use tomex_values::{DocumentError, Key, Place, has_key, known_keys, table_at};
 use toml::Table;
 
 /// A study before its programs' files are read.
@@ -40,21 +40,26 @@ impl<A: Allocator> Model for Outline<A> {
 
     ghost Value = { Document };
 
-    ghost view = { λ o. record { programs = o.programs.items; prices = o.prices; axes = lists_of o.axes; wide = o.wide } };
+    ghost view = { λ o. record {
+      programs = o.programs.items;
+      prices = o.prices;
+      axes = lists_of o.axes;
+      wide = o.wide;
+    } };
 }
 
 /// The document that TOML gives for the bytes.
 #[tactic(auto, unfolding(crate::specs::Document::members_of))]
-fn members_of(heap: Global, study: &[u8]) -> Result<Table, StudyError>
+fn members_of(heap: Global, study: &[u8]) -> Result<Table, DocumentError>
     ensures { Gives (λ t. table_view t) result (members_of study.now) }
 {
     match toml::table_from_slice(heap, study) {
         Ok(table) => Ok(table),
         Err(error) => {
             if error.is_memory() {
-                Err(StudyError::Memory)
+                Err(DocumentError::Memory)
             } else {
-                Err(StudyError::Syntax)
+                Err(DocumentError::Syntax)
             }
         }
     }
@@ -79,7 +84,7 @@ fn outline_of<A: Allocator + Clone>(
     alloc: A,
     heap: Global,
     top: &Table,
-) -> Result<Outline<A>, StudyError>
+) -> Result<Outline<A>, DocumentError>
     ensures { Gives (λ o. o) result (outline_of (table_view top.now)) }
 {
     let keys = [Key::Program, Key::Prices, Key::Axes, Key::Unit];
@@ -94,7 +99,7 @@ fn outline_of<A: Allocator + Clone>(
     let axes = axes_of(alloc, axis_table, unit)?;
     let wide = is_wide(programs.as_slice(), price_table, axis_table);
     if axes.is_too_large() {
-        Err(StudyError::TooMany)
+        Err(DocumentError::TooMany)
     } else {
         Ok(Outline {
             programs,
@@ -111,7 +116,7 @@ pub fn document_of<A: Allocator + Clone>(
     alloc: A,
     heap: Global,
     study: &[u8],
-) -> Result<Outline<A>, StudyError>
+) -> Result<Outline<A>, DocumentError>
     ensures { Gives (λ o. o) result (document_of study.now) }
 {
     let top = members_of(heap, study)?;

@@ -1,6 +1,7 @@
 -- The axes of a picture of the front: where costs stand from left to right, and cycles from bottom to top.
 -- All numbers are whole, quotients are rounded down; a picture's y grows downwards.
-use Rattle.std.specs.Prelude.{ℕ, ◌+◌, ◌-◌, ◌*◌, ◌/◌, ◌==◌, min, max, nat_le, not, ◌&&◌, if◌then◌else◌, List, [], ◌∷◌, Option, Some, None}
+use Rattle.std.specs.Prelude.{ℕ, ◌+◌, ◌-◌, ◌*◌, ◌/◌, ◌==◌, min, max, nat_le, not, ◌&&◌}
+use Rattle.std.specs.Prelude.{if◌then◌else◌, List, [], ◌∷◌, Option, Some, None}
 use Rattle.std.specs.List.{fold}
 use Rattle.tomex_sweep.specs.declared.front_row.FrontRow.{FrontRow}
 use Rattle.tomex_fronts.specs.declared.plot.axes.Axes.{Axes}

@@ -1,5 +1,6 @@
 -- The front as a table: of a row's parts those alone in which rows of the study differ.
-use Rattle.std.specs.Prelude.{ℕ, ◌==◌, nat_lt, Bool, false, not, if◌then◌else◌, List, [], ◌∷◌, ◌++◌, codes, length, map, slice_index_or}
+use Rattle.std.specs.Prelude.{ℕ, ◌==◌, nat_lt, Bool, false, not, if◌then◌else◌, List}
+use Rattle.std.specs.Prelude.{[], ◌∷◌, ◌++◌, codes, length, map, slice_index_or}
 use Rattle.std.specs.List.{flat_map, list_any}
 use Rattle.tomex_rvdec.specs.Parts.{name_of_pool, name_of_unit}
 use Rattle.tomex_rvdec.specs.declared.pool.PoolId.TheVariants as pools
@@ -14,7 +15,8 @@ use Rattle.tomex_timing.specs.Needs.{count_of}
 use Rattle.tomex_timing.specs.declared.part.Part.TheVariants.{Stations, Units, Buses, Width}
 use Rattle.tomex_fronts.specs.Table.{NamedNumbers, table_of}
 use Rattle.tomex_fronts.specs.declared.table.heading.Heading.{Heading}
-use Rattle.tomex_fronts.specs.declared.table.heading.Heading.TheVariants.{Row as OfRow, Cost, Cycles, Setting as OfSetting}
+use Rattle.tomex_fronts.specs.declared.table.heading.Heading.TheVariants.{Row as OfRow, Cost, Cycles}
+use Rattle.tomex_fronts.specs.declared.table.heading.Heading.TheVariants.{Setting as OfSetting}
 use Rattle.tomex_fronts.specs.declared.table.heading.Setting.{Setting}
 use Rattle.tomex_fronts.specs.declared.table.heading.Setting.TheVariants.{Count, Latency}
 

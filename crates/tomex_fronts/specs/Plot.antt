@@ -1,7 +1,8 @@
 -- The front as a picture: cost from left to right, cycles from bottom to top, a point a row, and the staircase over
 -- which all rows lie.
 -- Source: Scalable Vector Graphics 1.1, sections 9.3 (paths), 9.2 and 9.4 (basic shapes), 10.5 (text).
-use Rattle.std.specs.Prelude.{ℕ, ◌+◌, ◌-◌, ◌*◌, ◌==◌, nat_le, Bool, true, ◌||◌, if◌then◌else◌, List, [], ◌∷◌, ◌++◌, codes, length, Option, Some, None}
+use Rattle.std.specs.Prelude.{ℕ, ◌+◌, ◌-◌, ◌*◌, ◌==◌, nat_le, Bool, true, ◌||◌, if◌then◌else◌}
+use Rattle.std.specs.Prelude.{List, [], ◌∷◌, ◌++◌, codes, length, Option, Some, None}
 use Rattle.std.specs.List.{flat_map, range_with_len}
 use Rattle.std.specs.Fmt.{decimal}
 use Rattle.tomex_sweep.specs.Front.{front_of_study}

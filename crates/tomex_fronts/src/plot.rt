@@ -2,7 +2,8 @@
 
 ghost use Rattle.std.specs.Prelude.{◌≡◌, ◌++◌, length, OnOk, IfOk, string_bytes};
 ghost use Rattle.tomex_sweep.specs.Front.{front_of_study};
-ghost use Rattle.tomex_fronts.specs.Plot.{front_picture_of, lines_text, picture_of_rows, rows_text, scales_text, shade, sheet, size_text, title_of};
+ghost use Rattle.tomex_fronts.specs.Plot.{front_picture_of, lines_text, picture_of_rows, rows_text};
+ghost use Rattle.tomex_fronts.specs.Plot.{scales_text, shade, sheet, size_text, title_of};
 
 pub mod axes;
 pub mod marks;
@@ -109,7 +110,8 @@ fn push_rows<A: Allocator>(
     stairs: &str,
     rows: &[FrontRow],
 ) -> Result<(), AllocError>
-    ensures { OnOk result (string_bytes text.new ≡ string_bytes text.old ++ rows_text axes.now stairs.now rows.now) }
+    ensures { OnOk result (string_bytes text.new
+        ≡ string_bytes text.old ++ rows_text axes.now stairs.now rows.now) }
 {
     write!(
         text,

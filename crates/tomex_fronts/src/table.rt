@@ -2,7 +2,8 @@
 
 ghost use Rattle.std.specs.Prelude.{◌≡◌, ◌≤◌, ◌<◌, ◌++◌, ◌∷◌, [], length, All, IfOk, OnOk, string_bytes};
 ghost use Rattle.std.specs.List.{flat_map};
-ghost use Rattle.tomex_fronts.specs.Table.{aligned_in, has_line, spaced_in, table_line, table_of, width_of, with_number};
+ghost use Rattle.tomex_fronts.specs.Table.{aligned_in, has_line, spaced_in, table_line};
+ghost use Rattle.tomex_fronts.specs.Table.{table_of, width_of, with_number};
 
 pub mod front;
 pub mod heading;
@@ -74,7 +75,8 @@ impl Column {
         line: Line,
     ) -> Result<(), AllocError>
         requires { has_line line self.now }
-        ensures { OnOk result (string_bytes text.new ≡ string_bytes text.old ++ aligned_in line self.now) }
+        ensures { OnOk result (string_bytes text.new
+            ≡ string_bytes text.old ++ aligned_in line self.now) }
     {
         match line {
             Line::Names => push_aligned(text, self.width, self.name.as_str()),
@@ -97,7 +99,8 @@ fn push_spaced<A: Allocator>(
     line: Line,
 ) -> Result<(), AllocError>
     requires { All (has_line line) columns.now }
-    ensures { OnOk result (string_bytes text.new ≡ string_bytes text.old ++ flat_map (spaced_in line) columns.now) }
+    ensures { OnOk result (string_bytes text.new
+        ≡ string_bytes text.old ++ flat_map (spaced_in line) columns.now) }
 {
     for column in columns {
         text.push_str("  ")?;
@@ -115,7 +118,8 @@ fn push_line<A: Allocator>(
     line: Line,
 ) -> Result<(), AllocError>
     requires { All (has_line line) columns.now }
-    ensures { OnOk result (string_bytes text.new ≡ string_bytes text.old ++ table_line columns.now line) }
+    ensures { OnOk result (string_bytes text.new
+        ≡ string_bytes text.old ++ table_line columns.now line) }
 {
     if let [first, rest @ ..] = columns {
         first.push_entry(text, scratch, line)?;

@@ -1,10 +1,14 @@
 -- The tests of an ELF file in their order, which is this project's own. Sums are those of whole numbers: none wraps.
-use Rattle.std.specs.Prelude.{◌≡◌, ℕ, ◌+◌, ◌*◌, ◌%◌, ◌<◌, ◌≤◌, List, [], ◌∷◌, ◌++◌, length, not, nat_eq, nat_lt, nat_le, ◌&&◌, ◌||◌}
+use Rattle.std.specs.Prelude.{◌≡◌, ℕ, ◌+◌, ◌*◌, ◌%◌, ◌<◌, ◌≤◌, List, [], ◌∷◌, ◌++◌}
+use Rattle.std.specs.Prelude.{length, not, nat_eq, nat_lt, nat_le, ◌&&◌, ◌||◌}
 use Rattle.std.specs.List.{list_any}
-use Rattle.tomex_image.specs.declared.error.ImageError.TheVariants.{Empty, Truncated, NotRiscv, NotExec, HeaderSize, Dynamic, Segment, Overlap, TooManySegments, Entry}
+use Rattle.tomex_image.specs.declared.error.ImageError.TheVariants.{Empty, Truncated, NotRiscv, NotExec, HeaderSize}
+use Rattle.tomex_image.specs.declared.error.ImageError.TheVariants.{Dynamic, Segment, Overlap, TooManySegments}
+use Rattle.tomex_image.specs.declared.error.ImageError.TheVariants.{Entry}
 use Rattle.tomex_image.specs.declared.elf.program_header.ProgramHeader.{ProgramHeader}
 use Rattle.tomex_image.specs.FileHeader.{is_riscv, is_executable, header_offset, header_size, header_count, entry_of}
-use Rattle.tomex_image.specs.ProgramHeader.{headers_from, names_interpreter, is_loadable, takes_memory, with_segment, lies_in, shares_byte}
+use Rattle.tomex_image.specs.ProgramHeader.{headers_from, names_interpreter, is_loadable, takes_memory}
+use Rattle.tomex_image.specs.ProgramHeader.{with_segment, lies_in, shares_byte}
 use Rattle.tomex_image.specs.Tests.{Test, test}
 use Rattle.tomex_image.specs.Window.{Span}
 
@@ -19,7 +23,8 @@ file_tests bytes =
     ∷ test (not (is_riscv bytes)) NotRiscv
     ∷ test (not (is_executable bytes)) NotExec
     ∷ test (nat_lt 0 (header_count bytes) && not (nat_eq (header_size bytes) 32)) HeaderSize
-    ∷ test (nat_lt 0 (header_count bytes) && nat_lt (length bytes) (header_offset bytes + 32 * header_count bytes)) Truncated
+    ∷ test (nat_lt 0 (header_count bytes) && nat_lt (length bytes) (header_offset bytes + 32 * header_count bytes))
+    Truncated
     ∷ []
 
 -- the tests of a program header of a file of len bytes, after the segments of the earlier headers

@@ -1,5 +1,6 @@
 -- What the bytes of a file stand for in a window, and when they are refused.
-use Rattle.std.specs.Prelude.{◌≡◌, ℕ, ◌+◌, ◌-◌, ◌<◌, List, [], ◌∷◌, ◌++◌, length, replicate, Option, Bool, nat_eq, nat_lt, ◌&&◌, if◌then◌else◌, slice_index, MatchBool}
+use Rattle.std.specs.Prelude.{◌≡◌, ℕ, ◌+◌, ◌-◌, ◌<◌, List, [], ◌∷◌, ◌++◌, length, replicate, Option}
+use Rattle.std.specs.Prelude.{Bool, nat_eq, nat_lt, ◌&&◌, if◌then◌else◌, slice_index, MatchBool}
 use Rattle.tomex_image.specs.declared.error.ImageError.{ImageError}
 use Rattle.tomex_image.specs.declared.error.ImageError.TheVariants.{Empty, TooLarge}
 use Rattle.tomex_image.specs.ElfTests.{elf_tests}

@@ -29,7 +29,8 @@ pub fn load_elf<A: Allocator>(
 ) -> Result<Image<A>, ImageError>
     ensures placed { IfOk result (λ i. elf_placed bytes.now window i) }
     ensures passed { IfOk result (λ i. first_failing (elf_tests bytes.now window) ≡ None) }
-    ensures err { IfErr result (λ e. ((e ≡ ImageError.Memory) × (first_failing (elf_tests bytes.now window) ≡ None))
+    ensures err { IfErr result
+        (λ e. ((e ≡ ImageError.Memory) × (first_failing (elf_tests bytes.now window) ≡ None))
         ⊎ (first_failing (elf_tests bytes.now window) ≡ Some e)) }
 {
     let executable = executable_of(bytes, window)?;

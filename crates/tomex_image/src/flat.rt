@@ -27,7 +27,8 @@ pub fn load_flat<A: Allocator>(
 ) -> Result<Image<A>, ImageError>
     ensures placed { IfOk result (λ i. flat_placed bytes.now window i) }
     ensures passed { IfOk result (λ i. first_failing (flat_tests bytes.now window) ≡ None) }
-    ensures err { IfErr result (λ e. ((e ≡ ImageError.Memory) × (first_failing (flat_tests bytes.now window) ≡ None))
+    ensures err { IfErr result
+        (λ e. ((e ≡ ImageError.Memory) × (first_failing (flat_tests bytes.now window) ≡ None))
         ⊎ (first_failing (flat_tests bytes.now window) ≡ Some e)) }
 {
     if bytes.is_empty() {

@@ -45,10 +45,16 @@ impl Window {
         }
     }
 
+    /// A law: a window is within the limits.
+    pub fn keeps_limits(&self)
+        ensures { IsWindow self.now.base self.now.size }
+    {
+        let _size = self.size;
+    }
+
     /// The address of the first byte.
     pub fn base(&self) -> u32
         ensures value { result ≡ self.now.base }
-        ensures limits { IsWindow self.now.base self.now.size }
     {
         self.base
     }
@@ -56,7 +62,6 @@ impl Window {
     /// The number of bytes.
     pub fn size(&self) -> u32
         ensures value { result ≡ self.now.size }
-        ensures limits { IsWindow self.now.base self.now.size }
     {
         self.size
     }

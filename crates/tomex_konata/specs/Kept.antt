@@ -1,6 +1,7 @@
 -- What is kept while a log is made: the youngest writer of each register, and the events of all steps, in the order in
 -- which they are written.
-use Rattle.std.specs.Prelude.{◌≡◌, ℕ, ◌+◌, ◌-◌, ◌==◌, if◌then◌else◌, List, [], ◌∷◌, ◌++◌, IsPermutation, map, max, min, Option, Some, None, slice_index_or, slice_set, unwrap_or}
+use Rattle.std.specs.Prelude.{◌≡◌, ℕ, ◌+◌, ◌-◌, ◌==◌, if◌then◌else◌, List, [], ◌∷◌, ◌++◌, IsPermutation}
+use Rattle.std.specs.Prelude.{map, max, min, Option, Some, None, slice_index_or, slice_set, unwrap_or}
 use Rattle.std.specs.List.{filter, flat_map, list_any, slice_get}
 use Rattle.std.specs.List.Sorted.{IsNonDecreasingBy}
 use Rattle.tomex_rvexec.specs.declared.step.Operand.{Operand}

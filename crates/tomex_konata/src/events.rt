@@ -90,7 +90,8 @@ fn push_all_changes<A: Allocator>(
     entries: &[Entry],
     last: u64,
 ) -> Result<(), AllocError>
-    ensures { OnOk result (events.new.items ≡ events.old.items ++ flat_map (changes_of last) entries.now) }
+    ensures { OnOk result (events.new.items
+        ≡ events.old.items ++ flat_map (changes_of last) entries.now) }
 {
     for entry in entries {
         push_changes(events, entry, last)?;

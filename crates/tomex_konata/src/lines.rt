@@ -1,7 +1,9 @@
 //! The lines of a log.
 
 ghost use Rattle.std.specs.Prelude.{◌≡◌, ◌+◌, ◌<◌, ◌^◌, ◌++◌, OnOk, string_bytes};
-ghost use Rattle.tomex_konata.specs.Konata.{begin_line, end_line, is_shared, issue_lines, name_of_stage, out_lines, place_of_stage, station_line, step_lines, turn_lines, wake_line, wake_lines};
+ghost use Rattle.tomex_konata.specs.Konata.{begin_line, end_line, is_shared, issue_lines, name_of_stage, out_lines};
+ghost use Rattle.tomex_konata.specs.Konata.{place_of_stage, station_line, step_lines, turn_lines, wake_line};
+ghost use Rattle.tomex_konata.specs.Konata.{wake_lines};
 
 use crate::entries::{Entry, Producer};
 use std::alloc::AllocError;
@@ -45,7 +47,8 @@ fn push_station(
     pool: Option<PoolId>,
     station: Option<u8>,
 ) -> Result<(), AllocError>
-    ensures { OnOk result (string_bytes text.new ≡ string_bytes text.old ++ station_line id pool station) }
+    ensures { OnOk result (string_bytes text.new
+        ≡ string_bytes text.old ++ station_line id pool station) }
 {
     if let (Some(pool), Some(station)) = (pool, station) {
         write!(text, "L\t{id}\t1\t{pool}{station}\n")?;
@@ -55,7 +58,8 @@ fn push_station(
 
 /// Adds the lines of a step that issues.
 fn push_issue(text: &mut String, number: u64, entry: &Entry) -> Result<(), AllocError>
-    ensures { OnOk result (string_bytes text.new ≡ string_bytes text.old ++ issue_lines number entry.now) }
+    ensures { OnOk result (string_bytes text.new
+        ≡ string_bytes text.old ++ issue_lines number entry.now) }
 {
     let (id, pc, instr) = (entry.id, entry.step.pc, entry.step.instr);
     write!(text, "I\t{id}\t{number}\t0\n")?;
@@ -134,7 +138,8 @@ fn is_shared(j: Option<Producer>, k: Option<Producer>) -> bool
 
 /// Adds the lines of the values that a step gets in a cycle.
 fn push_wakes(text: &mut String, entry: &Entry, cycle: u64) -> Result<(), AllocError>
-    ensures { OnOk result (string_bytes text.new ≡ string_bytes text.old ++ wake_lines cycle entry.now) }
+    ensures { OnOk result (string_bytes text.new
+        ≡ string_bytes text.old ++ wake_lines cycle entry.now) }
 {
     push_wake(text, entry, cycle, entry.j)?;
     if is_shared(entry.j, entry.k) {
@@ -152,7 +157,8 @@ pub fn push_step(
     entry: &Entry,
 ) -> Result<(), AllocError>
     requires few { number + entry.now.id < 2 ^ 64 }
-    ensures { OnOk result (string_bytes text.new ≡ string_bytes text.old ++ step_lines number cycle entry.now) }
+    ensures { OnOk result (string_bytes text.new
+        ≡ string_bytes text.old ++ step_lines number cycle entry.now) }
 {
     if cycle == entry.at.issue {
         push_issue(text, number + entry.id as u64, entry)?;
@@ -165,7 +171,8 @@ pub fn push_step(
 /// Adds the lines of a step that goes out, so many having gone before it.
 #[tactic(auto, unfolding(crate::specs::Konata::out_lines))]
 pub fn push_out(text: &mut String, gone: u64, entry: &Entry) -> Result<(), AllocError>
-    ensures { OnOk result (string_bytes text.new ≡ string_bytes text.old ++ out_lines gone entry.now) }
+    ensures { OnOk result (string_bytes text.new
+        ≡ string_bytes text.old ++ out_lines gone entry.now) }
 {
     if let Some(stage) = stage_in(&entry.at, entry.at.end) {
         let id = entry.id;

@@ -30,7 +30,8 @@ fn push_event(
 ) -> Result<(), AllocError>
     requires few { number + entry.now.id < 2 ^ 64 }
     ensures { OnOk result (string_bytes text.new
-        ≡ string_bytes text.old ++ event_lines number gone event.now.cycle event.now.kind entry.now) }
+        ≡ string_bytes text.old
+        ++ event_lines number gone event.now.cycle event.now.kind entry.now) }
 {
     match event.kind {
         Kind::Change => push_step(text, number, event.cycle, entry),
@@ -136,8 +137,8 @@ fn log_of<A: Allocator + Clone>(
     Ok(text.into_bytes())
 }
 
-/// The log of some steps of a program's run on a configuration for the viewer Konata, `count` of them at most from step `number`
-/// on; the first step is number 1. Producers are looked for among these steps alone.
+/// The log of some steps of a program's run on a configuration for the viewer Konata, `count` of them at most from
+/// step `number` on; the first step is number 1. Producers are looked for among these steps alone.
 ///
 /// The work grows as n log n with the steps, whatever the number of cycles. What is small is taken of `heap`.
 pub fn konata_text<A: Allocator + Clone>(

@@ -8,7 +8,7 @@ use Rattle.std.proofs.lemmas.List.Elements.{Contains-append_cases, Contains-appe
 use Rattle.atomic_table.specs.Seated.{TableId}
 use Rattle.tomex_board.specs.Known.{Known}
 use Rattle.tomex_board.specs.declared.view.View.{View}
-use Rattle.tomex_board.specs.Views.{Has, IsNoted, IsWhole, Grows, joined_view}
+use Rattle.tomex_board.specs.Views.{Has, KnowsNotOpen, IsWhole, Grows, joined_view}
 use Rattle.tomex_board.proofs.Lists.{left_of, right_of, of_both}
 use Rattle.tomex_board.specs.declared.mark.Mark.{Mark}
 use Rattle.tomex_board.specs.declared.mark.Mark.TheVariants.{Open, Taken, Finished, Dropped}
@@ -27,7 +27,7 @@ pub record IsJoined (board : TableId) (count : ℕ) (seat : Known) (parts : List
   pub hand : seat.view.hand ≡ []
   pub boards : All (λ p. p.seat.board ≡ board) parts
   pub whole : IsWhole (seat.view.share ++ shares parts)
-  pub rows : (row : ℕ) → row < count → IsNoted seat.view row ⊎ Contains (lists parts) row
+  pub rows : (row : ℕ) → row < count → KnowsNotOpen seat.view row ⊎ Contains (lists parts) row
 
 all_left : {X : Type 0} (P : X → Type 0) (xs ys : List X) → All P (xs ++ ys) → All P xs
 all_left P xs ys all = All-weaker (Contains xs) P (λ x h. All-contains P (xs ++ ys) x all (Contains-append_left xs ys x h)) xs (All-contains_itself xs)
@@ -44,7 +44,7 @@ last_lists parts rest last is = ap lists is ∙ (flat_map-append (λ (p : Return
 
 -- at first the seat is that of the last part
 pub first_joined : (board : TableId) (count : ℕ) (parts rest : List Returned) (last : Returned) (seat : Known) → AreWhole board count parts → parts ≡ rest ++ last ∷ []
-    → seat ≡ last.seat → seat.view.hand ≡ [] → All (IsNoted seat.view) last.rows → IsJoined board count seat rest
+    → seat ≡ last.seat → seat.view.hand ≡ [] → All (KnowsNotOpen seat.view) last.rows → IsJoined board count seat rest
 first_joined board count parts rest last seat whole is same empty noted =
     let all : All (λ (p : Returned). p.seat.board ≡ board) (rest ++ last ∷ []) = subst (All (λ (p : Returned). p.seat.board ≡ board)) is whole.boards in
     let share : last.seat.view.share ≡ seat.view.share = ap (λ (k : Known). k.view.share) (sym same) in
@@ -53,7 +53,7 @@ first_joined board count parts rest last seat whole is same empty noted =
       hand = empty;
       boards = all_left (λ (p : Returned). p.seat.board ≡ board) rest (last ∷ []) all;
       whole = subst (λ l. IsWhole (l ++ shares rest)) share (swapped (shares rest) last.seat.view.share (subst IsWhole (last_shares parts rest last is) whole.shares));
-      rows = λ row low. ⊎_elim (λ h. inr h) (λ h. inl (All-contains (IsNoted seat.view) last.rows row noted h))
+      rows = λ row low. ⊎_elim (λ h. inr h) (λ h. inl (All-contains (KnowsNotOpen seat.view) last.rows row noted h))
           (Contains-append_cases (lists rest) last.rows row (subst (λ l. Contains l row) (last_lists parts rest last is) (whole.rows row low)));
     }
 
@@ -64,7 +64,7 @@ part_board board count seat mine part parts rest was is same =
 
 -- one part more is joined
 pub next_joined : (board : TableId) (count : ℕ) (seat mine new : Known) (part : Returned) (parts rest : List Returned) → IsJoined board count seat parts → parts ≡ part ∷ rest
-    → mine ≡ part.seat → All (IsNoted mine.view) part.rows → new.board ≡ board → new.view ≡ joined_view seat.view mine.view → Grows seat.view new.view → Grows mine.view new.view
+    → mine ≡ part.seat → All (KnowsNotOpen mine.view) part.rows → new.board ≡ board → new.view ≡ joined_view seat.view mine.view → Grows seat.view new.view → Grows mine.view new.view
     → IsJoined board count new rest
 next_joined board count seat mine new part parts rest was is same noted at view first second =
     let share : mine.view.share ≡ part.seat.view.share = ap (λ (k : Known). k.view.share) same in
@@ -75,12 +75,12 @@ next_joined board count seat mine new part parts rest was is same noted at view 
       hand = ap (λ (v : View). v.hand) view ∙ was.hand;
       boards = All-tail (λ (p : Returned). p.seat.board ≡ board) part rest (subst (All (λ (p : Returned). p.seat.board ≡ board)) is was.boards);
       whole = subst IsWhole (sym (append_assoc seat.view.share part.seat.view.share (shares rest)) ∙ ap (λ l. l ++ shares rest) (sym joined)) all;
-      rows = λ row low. ⊎_elim (λ h. inl (first.noted row h)) (λ h. ⊎_elim (λ here. inl (second.noted row (All-contains (IsNoted mine.view) part.rows row noted here))) (λ there. inr there)
+      rows = λ row low. ⊎_elim (λ h. inl (first.noted row h)) (λ h. ⊎_elim (λ here. inl (second.noted row (All-contains (KnowsNotOpen mine.view) part.rows row noted here))) (λ there. inr there)
           (Contains-append_cases part.rows (lists rest) row (subst (λ ps. Contains (lists ps) row) is h))) (was.rows row low);
     }
 
 -- no part is left
-none_left : (board : TableId) (count : ℕ) (seat : Known) (parts : List Returned) → IsJoined board count seat parts → length parts ≡ 0 → IsWhole seat.view.share × ((row : ℕ) → row < count → IsNoted seat.view row)
+none_left : (board : TableId) (count : ℕ) (seat : Known) (parts : List Returned) → IsJoined board count seat parts → length parts ≡ 0 → IsWhole seat.view.share × ((row : ℕ) → row < count → KnowsNotOpen seat.view row)
 none_left board count seat [] was none = (subst IsWhole (append-nil seat.view.share) was.whole, λ row low. ⊎_elim (λ h. h) (λ h. absurd (let low' = h.1 in omega arith)) (was.rows row low))
 none_left board count seat (p ∷ ps) was none = absurd (omega arith)
 
@@ -94,7 +94,7 @@ pub record HasAll (board : TableId) (count : ℕ) (seat : Known) : Type 0 where
   pub board_of : seat.board ≡ board
   pub hand : seat.view.hand ≡ []
   pub whole : IsWhole seat.view.share
-  pub noted : (row : ℕ) → row < count → IsNoted seat.view row
+  pub noted : (row : ℕ) → row < count → KnowsNotOpen seat.view row
 
 pub all_joined : (board : TableId) (count : ℕ) (seat : Known) (parts : List Returned) → IsJoined board count seat parts → length parts ≡ 0 → HasAll board count seat
 all_joined board count seat parts was none = let ends = none_left board count seat parts was none in record { board_of = was.board_of; hand = was.hand; whole = ends.0; noted = ends.1 }

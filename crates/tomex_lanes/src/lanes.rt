@@ -17,7 +17,8 @@ fn connect<A: Allocator>(
     requires count { All (λ l. l.count ≡ count) lanes.old.items }
     ensures { (thief victim : Dealt) → slice_get lanes.old.items to ≡ Some thief
         → slice_get lanes.old.items from ≡ Some victim
-        → OnOk result (lanes.new.items ≡ slice_set lanes.old.items to (with_other thief victim.rows)) }
+        → OnOk result (lanes.new.items
+        ≡ slice_set lanes.old.items to (with_other thief victim.rows)) }
 {
     let victim = lanes[from].victim()?;
     lanes[to].add_victim(victim)

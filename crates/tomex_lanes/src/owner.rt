@@ -1,7 +1,8 @@
 //! Steps on a deque of rows.
 
 ghost use Rattle.std.specs.Prelude.{◌≡◌, true, false, [], ◌∷◌, ◌++◌, ◌<◌, IfOk, IfSome, Contains};
-ghost use Rattle.crossbeam_deque.specs.Handles.{view, IsPassOf, worker_deque, worker_flavor, stealer_deque, worker_view};
+ghost use Rattle.crossbeam_deque.specs.Handles.{view, IsPassOf, worker_deque, worker_flavor};
+ghost use Rattle.crossbeam_deque.specs.Handles.{stealer_deque, worker_view};
 ghost use Rattle.tomex_lanes.specs.Rows.{rows_of};
 ghost use Rattle.tomex_lanes.specs.Rule.{known};
 

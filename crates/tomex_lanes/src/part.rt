@@ -2,7 +2,7 @@
 
 ghost use Rattle.std.specs.Prelude.{◌≡◌, ◌<◌, ℕ, [], true, length, All};
 ghost use Rattle.tomex_board.specs.Marks.{AreLawful};
-ghost use Rattle.tomex_board.specs.Views.{IsNoted};
+ghost use Rattle.tomex_board.specs.Views.{KnowsNotOpen};
 ghost use Rattle.tomex_lanes.specs.Parts.{AreWhole, is_closed};
 
 use std::alloc::{Allocator, Global};
@@ -18,21 +18,21 @@ pub struct Part<J: Plan, A: Allocator = Global> {
 
 impl<J: Plan, A: Allocator> Model for Part<J, A> {
     ghost use Rattle.std.specs.Prelude.{◌≡◌, [], All};
-    ghost use Rattle.tomex_board.specs.Views.{IsNoted};
+    ghost use Rattle.tomex_board.specs.Views.{KnowsNotOpen};
     ghost use Rattle.tomex_lanes.specs.Parts.{Returned};
 
     ghost Value = { Returned };
 
     ghost view = { λ p. record { seat = p.seat; rows = p.rows.items } };
 
-    ghost invariant = { λ p. (p.seat.view.hand ≡ []) × All (IsNoted p.seat.view) p.rows.items };
+    ghost invariant = { λ p. (p.seat.view.hand ≡ []) × All (KnowsNotOpen p.seat.view) p.rows.items };
 }
 
 impl<J: Plan, A: Allocator> Part<J, A> {
     /// The part of this seat and these rows.
     pub fn new(seat: Seat<J>, rows: Vec<usize, A>) -> Part<J, A>
         requires hand { seat.view.hand ≡ [] }
-        requires noted { All (IsNoted seat.view) rows.items }
+        requires noted { All (KnowsNotOpen seat.view) rows.items }
         ensures { result ≡ record { seat = seat; rows = rows.items } }
     {
         Part { seat, rows }
@@ -42,7 +42,7 @@ impl<J: Plan, A: Allocator> Part<J, A> {
     pub fn into_seat(self) -> Seat<J>
         ensures seat { result ≡ self.seat }
         ensures hand { result.view.hand ≡ [] }
-        ensures noted { All (IsNoted result.view) self.rows }
+        ensures noted { All (KnowsNotOpen result.view) self.rows }
     {
         self.seat
     }

@@ -3,11 +3,13 @@ use Rattle.std.specs.Prelude.{◌≡◌, ◌⊎◌, List, codes, Option, Some}
 use Rattle.clap.specs.Words.{IsAmong, Row, Text, fault_of, subcommand_of}
 use Rattle.clap.specs.declared.error.kind.ErrorKind.TheVariants.{DisplayHelp, DisplayVersion}
 use Rattle.tomex_line.specs.declared.line.Line.{Line}
-use Rattle.tomex_line.specs.declared.line.Line.TheVariants.{Run, Times, Stalls, Pipeline, Tables, All, Explore, Front, Plot}
+use Rattle.tomex_line.specs.declared.line.Line.TheVariants.{Run, Times, Stalls, Pipeline, Tables}
+use Rattle.tomex_line.specs.declared.line.Line.TheVariants.{All, Explore, Front, Plot}
 use Rattle.tomex_line.specs.declared.line.LineFault.{LineFault}
 use Rattle.tomex_line.specs.declared.line.LineFault.TheVariants.{Help, Usage, Memory}
 use Rattle.tomex_line.specs.Grammar.{tomex_app}
-use Rattle.tomex_line.specs.Values.{IsRunAsked, IsTimesAsked, IsStallsAsked, IsPipelineAsked, IsTablesAsked, IsAllAsked, IsExploreAsked}
+use Rattle.tomex_line.specs.Values.{IsRunAsked, IsTimesAsked, IsStallsAsked, IsPipelineAsked}
+use Rattle.tomex_line.specs.Values.{IsTablesAsked, IsAllAsked, IsExploreAsked}
 
 -- the command of that name with these values
 abbrev pub IsCommand : Option (Text × List Row) → Line → Type 0

@@ -1,5 +1,6 @@
 -- An access waits for older ones that share a byte with it, one of the two being a store.
-use Rattle.std.specs.Prelude.{ℕ, ◌≡◌, ◌<◌, Bool, true, false, not, nat_lt, ◌&&◌, ◌||◌, List, Option, Some, None, slice_index}
+use Rattle.std.specs.Prelude.{ℕ, ◌≡◌, ◌<◌, Bool, true, false, not, nat_lt, ◌&&◌}
+use Rattle.std.specs.Prelude.{◌||◌, List, Option, Some, None, slice_index}
 use Rattle.tomex_rvexec.specs.Steps.{is_store}
 use Rattle.tomex_timing.specs.Recurrence.{shares_byte}
 use Rattle.tomex_sets.specs.Sets.{has}
@@ -18,29 +19,29 @@ abbrev pub stations_conflict : Station → Station → Bool
 stations_conflict other s =
     shares_byte (bytes_in other) (bytes_in s) && (is_store (step_in other) || is_store (step_in s))
 
--- an older station, if there is one, isn't in the way of another
+-- an older station, if there is one, doesn't block another: they don't conflict, or it was finished before the cycle
 abbrev pub lets_pass : Option Station → Station → ℕ → Bool
 lets_pass None s cycle = true
 lets_pass (Some other) s cycle = not (stations_conflict other s) || is_finished_before other.finish cycle
 
--- a station that issued as number n must wait for the one in a place
+-- the station in a place blocks one that issued as number n: it is older, and doesn't let it pass
 abbrev pub blocks : Pools → ℕ → ℕ → Station → ℕ → Bool
 blocks pools other n s cycle =
     nat_lt (slice_index pools.issue_numbers other) n && not (lets_pass (slot pools.slots other) s cycle)
 
--- every older station outside this set isn't in the way of the one in a place
+-- no older station outside this set blocks the one in a place
 abbrev pub AreRivals : Pools → ℕ → Station → ℕ → ℕ → Type 0
 AreRivals pools place s cycle rivals =
     (x : ℕ) → x < 128 → slice_index pools.issue_numbers x < slice_index pools.issue_numbers place → has rivals x ≡ false
     → lets_pass (slot pools.slots x) s cycle ≡ true
 
--- no station that issued before the one in a place is in its way
+-- no station that issued before the one in a place blocks it
 abbrev pub IsClear : List (Option Station) → List ℕ → ℕ → Station → ℕ → Type 0
 IsClear slots issue_numbers place s cycle =
     (x : ℕ) → x < 128 → slice_index issue_numbers x < slice_index issue_numbers place
     → lets_pass (slot slots x) s cycle ≡ true
 
--- so it is of the station in a place, if there is one
+-- if a station stands in a place, no older one blocks it
 abbrev pub IsClearAt : Pools → ℕ → ℕ → Type 0
 IsClearAt pools place cycle =
     (s : Station) → slot pools.slots place ≡ Some s → IsClear pools.slots pools.issue_numbers place s cycle

@@ -3,7 +3,8 @@
 ghost use Rattle.std.specs.Prelude.{ℕ, Decides, Some, ◌≡◌, ◌<◌};
 ghost use Rattle.tomex_sets.specs.Sets.{has};
 ghost use Rattle.tomex_timing.specs.Recurrence.{shares_byte};
-ghost use Rattle.tomex_membuf.specs.Order.{AreRivals, HasOneAccess, IsClear, IsClearAt, blocks, stations_conflict, is_finished_before, lets_pass};
+ghost use Rattle.tomex_membuf.specs.Order.{AreRivals, HasOneAccess, IsClear, IsClearAt, blocks};
+ghost use Rattle.tomex_membuf.specs.Order.{stations_conflict, is_finished_before, lets_pass};
 ghost use Rattle.tomex_tags.specs.Contents.{slot};
 
 use tomex_rvexec::ByteRange;
@@ -113,11 +114,12 @@ fn passes(pools: &Pools, place: usize, rivals: u128, station: &Station, cycle: u
     true
 }
 
-/// Whether no older access is in the way of what stands in a place: true unless an older load or store whose address is
-/// computed, and which isn't finished before the cycle, shares a byte with it, one of the two being a store.
+/// Whether no older access blocks what stands in a place: true unless an older load or store whose address is computed,
+/// and which isn't finished before the cycle, shares a byte with it, one of the two being a store.
 ///
-/// So it is true of a free place, of what is no access, and of an access without its address. Addresses are computed in
-/// program order: once an access has its own, no older one lacks it.
+/// So it is true of a free place, of what is no access, and of an access without its address: whoever asks looks to
+/// that. Addresses are computed in program order (`address_next`), so once an access has its own, no older one lacks
+/// it. Sets of places have 128 members; no station stands in the places from 96 on.
 #[inline(always)]
 pub fn may_access(pools: &Pools, place: usize, cycle: u64) -> bool
     requires { place < 128 }

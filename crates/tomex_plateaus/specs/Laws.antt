@@ -9,10 +9,12 @@ use Rattle.tomex_plateaus.specs.Plateaus.{IsPlateauOf, lies_on, plateau_of}
 
 -- the configuration of a run lies on the plateau that its needs tell
 abbrev pub OwnConfigurationLiesOn : Type 0
-OwnConfigurationLiesOn = (own : Configuration) (steps : List Step) (needs : Needs) → IsWithinLimits own → AreNeeds own (history own steps) needs
+OwnConfigurationLiesOn = (own : Configuration) (steps : List Step) (needs : Needs)
+    → IsWithinLimits own → AreNeeds own (history own steps) needs
     → lies_on own (plateau_of needs own) ≡ true
 
 -- and on each configuration of it the run takes the same cycles
 abbrev pub PlateauTells : Type 0
-PlateauTells = (own : Configuration) (steps : List Step) (needs : Needs) → IsWithinLimits own → AreNeeds own (history own steps) needs
+PlateauTells = (own : Configuration) (steps : List Step) (needs : Needs)
+    → IsWithinLimits own → AreNeeds own (history own steps) needs
     → IsPlateauOf steps (plateau_of needs own)

@@ -1,5 +1,6 @@
 -- Plateaus: configurations on which a program takes the same cycles, as the needs of one run tell them.
-use Rattle.std.specs.Prelude.{◌≡◌, ℕ, min, ◌==◌, nat_le, Bool, true, ◌&&◌, if◌then◌else◌, List, [], ◌∷◌, map, reverse, Option, option_map, slice_index_or}
+use Rattle.std.specs.Prelude.{◌≡◌, ℕ, min, ◌==◌, nat_le, Bool, true, ◌&&◌, if◌then◌else◌, List}
+use Rattle.std.specs.Prelude.{[], ◌∷◌, map, reverse, Option, option_map, slice_index_or}
 use Rattle.std.specs.List.{find, list_all}
 use Rattle.tomex_rvdec.specs.Parts.{place_of_pool, place_of_unit}
 use Rattle.tomex_rvdec.specs.declared.pool.PoolId.{PoolId}
@@ -42,7 +43,8 @@ lies_on config p =
 
 -- on each configuration of it the run of these steps takes its total
 abbrev pub IsPlateauOf : List Step → Plateau → Type 0
-IsPlateauOf steps p = (config : Configuration) → IsWithinLimits config → lies_on config p ≡ true → total_of (times_in config steps) ≡ p.total
+IsPlateauOf steps p = (config : Configuration) → IsWithinLimits config → lies_on config p ≡ true
+    → total_of (times_in config steps) ≡ p.total
 
 -- the total that the newest plateau says on which a configuration lies; the last of the list is the newest
 abbrev pub total_known : Configuration → List Plateau → Option ℕ

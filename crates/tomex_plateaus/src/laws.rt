@@ -2,8 +2,8 @@
 
 ghost use Rattle.tomex_plateaus.specs.Laws.{OwnConfigurationLiesOn, PlateauTells};
 
-/// The needs of a run tell a plateau of its program: its own configuration lies on it, and on each configuration of it the program
-/// takes the run's cycles.
+/// The needs of a run tell a plateau of its program: its own configuration lies on it, and on each configuration of
+/// it the program takes the run's cycles.
 pub fn needs_tell_a_plateau()
     ensures own { OwnConfigurationLiesOn }
     ensures total { PlateauTells }

@@ -1,15 +1,16 @@
 //! One plateau.
 
 ghost use Rattle.std.specs.Prelude.{◌≡◌};
-ghost use Rattle.tomex_plateaus.specs.Plateaus.{counts_of, latencies_of, lies_on, plateau_of, stations_for, units_for, latency_for};
+ghost use Rattle.tomex_plateaus.specs.Plateaus.{counts_of, latencies_of, lies_on, plateau_of};
+ghost use Rattle.tomex_plateaus.specs.Plateaus.{stations_for, units_for, latency_for};
 
 use crate::interval::Interval;
 use tomex_config::Config;
 use tomex_rvdec::{PoolId, UnitId};
 use tomex_timing::{Needs, Part};
 
-/// A region of the design space, given by how many a configuration may have of each part and how long its units may take,
-/// and the cycles that a program takes on each configuration of it.
+/// A region of the design space, given by how many a configuration may have of each part and how long its units may
+/// take, and the cycles that a program takes on each configuration of it.
 #[derive(Clone, Copy, Debug, PartialEq, Eq)]
 pub struct Plateau {
     /// In the order of `PoolId::ALL` and of `UnitId::ALL`.

@@ -47,14 +47,13 @@ impl<'s, A: Allocator> Plateaus<'s, A> {
         }
     }
 
-    /// The cycles that the program takes on a configuration, if the configuration lies on one of its plateaus. The newest are
-    /// asked first.
+    /// The cycles that the program takes on a configuration, if the configuration lies on one of its plateaus. The
+    /// newest are asked first.
     pub fn total_on(&self, config: &Config) -> Option<u64>
         ensures known { result ≡ total_known config.now self.now.found }
         ensures total { IfSome result (λ n. total_of (times_in config.now self.now.steps) ≡ n) }
     {
-        // Read for what the configuration's type keeps, which the proof needs.
-        let _buses = config.buses();
+        config.keeps_limits();
         self.newest_total(config)
     }
 
@@ -72,8 +71,10 @@ impl<'s, A: Allocator> Plateaus<'s, A> {
         requires { IsPlateauOf self.old.steps plateau }
         ensures steps { self.new.steps ≡ self.old.steps }
         ensures kept { AreKept self.new }
-        ensures one_more { OnOk result (length self.old.found < MOST → self.new.found ≡ self.old.found ++ plateau ∷ []) }
-        ensures another { OnOk result (MOST ≤ length self.old.found → self.new.found ≡ slice_set self.old.found self.old.oldest plateau) }
+        ensures one_more { OnOk result (length self.old.found < MOST
+            → self.new.found ≡ self.old.found ++ plateau ∷ []) }
+        ensures another { OnOk result (MOST ≤ length self.old.found
+            → self.new.found ≡ slice_set self.old.found self.old.oldest plateau) }
     {
         if self.found.len() < MOST {
             self.found.push(plateau)?;
@@ -84,15 +85,16 @@ impl<'s, A: Allocator> Plateaus<'s, A> {
         Ok(())
     }
 
-    /// Takes the needs of the program's run on a configuration, and keeps the plateau that they tell. The configuration lies on it.
+    /// Takes the needs of the program's run on a configuration, and keeps the plateau that they tell. The
+    /// configuration lies on it.
     ///
     /// The work is that of `times`, without its list.
     pub fn learn(&mut self, alloc: A, config: &Config) -> Result<(), AllocError>
         ensures steps { self.new.steps ≡ self.old.steps }
-        ensures known { OnOk result (total_known config.now self.new.found ≡ Some (total_of (times_in config.now self.new.steps))) }
+        ensures known { OnOk result
+            (total_known config.now self.new.found ≡ Some (total_of (times_in config.now self.new.steps))) }
     {
-        // Read for what the configuration's type keeps, which the proof needs.
-        let _buses = config.buses();
+        config.keeps_limits();
         let needs = self.run.needs(&alloc, config)?;
         self.keep(Plateau::of(&needs, config))?;
         Ok(())

@@ -1,7 +1,8 @@
 -- Records of CSV, as the crate `csv` writes them by default: commas, a line feed, quotes where needed.
 use Rattle.std.specs.Prelude.{◌≡◌, ℕ, List, ◌++◌, false}
 use Rattle.csv.specs.declared.writer.Writer.{Writer}
-use Rattle.csv.specs.Writing.{row_text, default_writer, writer_setup, writer_under, writer_pending, fields_written, has_written}
+use Rattle.csv.specs.Writing.{row_text, default_writer, writer_setup, writer_under}
+use Rattle.csv.specs.Writing.{writer_pending, fields_written, has_written}
 
 -- the text of a record of these fields
 abbrev pub record_text : List (List ℕ) → List ℕ

@@ -10,7 +10,8 @@ use std::fmt::Write;
 
 /// Adds spaces.
 fn push_spaces<A: Allocator>(text: &mut String<A>, count: usize) -> Result<(), AllocError>
-    ensures { OnOk result (string_bytes text.new ≡ string_bytes text.old ++ repeat count (codes " ")) }
+    ensures { OnOk result (string_bytes text.new
+        ≡ string_bytes text.old ++ repeat count (codes " ")) }
 {
     let mut left = count;
     while left > 0 {
@@ -26,7 +27,8 @@ pub fn push_aligned<A: Allocator>(
     width: usize,
     word: &str,
 ) -> Result<(), AllocError>
-    ensures { OnOk result (string_bytes text.new ≡ string_bytes text.old ++ right_aligned width word.now) }
+    ensures { OnOk result (string_bytes text.new
+        ≡ string_bytes text.old ++ right_aligned width word.now) }
 {
     push_spaces(text, width.saturating_sub(word.as_bytes().len()))?;
     text.push_str(word)
@@ -39,7 +41,8 @@ pub fn push_aligned_number<A: Allocator>(
     width: usize,
     number: u64,
 ) -> Result<(), AllocError>
-    ensures { OnOk result (string_bytes text.new ≡ string_bytes text.old ++ right_aligned width (decimal number)) }
+    ensures { OnOk result (string_bytes text.new
+        ≡ string_bytes text.old ++ right_aligned width (decimal number)) }
 {
     scratch.clear();
     write!(scratch, "{number}")?;

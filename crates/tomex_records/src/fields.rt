@@ -18,7 +18,8 @@ pub fn push_decimal(
     number: u64,
 ) -> Result<(), AllocError>
     requires { partial_of fields.old ≡ [] }
-    ensures fields { OnOk result (fields_of fields.new ≡ fields_of fields.old ++ decimal number ∷ []) }
+    ensures fields { OnOk result (fields_of fields.new
+        ≡ fields_of fields.old ++ decimal number ∷ []) }
     ensures whole { OnOk result (partial_of fields.new ≡ []) }
 {
     scratch.clear();
@@ -49,7 +50,8 @@ pub fn push_instruction(
 /// Adds a field for each of these names.
 pub fn push_names(fields: &mut ByteRecord, names: &[&str]) -> Result<(), AllocError>
     requires { partial_of fields.old ≡ [] }
-    ensures fields { OnOk result (fields_of fields.new ≡ fields_of fields.old ++ map (λ name. name.now) names.now) }
+    ensures fields { OnOk result (fields_of fields.new
+        ≡ fields_of fields.old ++ map (λ name. name.now) names.now) }
     ensures whole { OnOk result (partial_of fields.new ≡ []) }
 {
     for name in names {

@@ -1,4 +1,3 @@
-pub mod Studies
 pub mod Oks
 pub mod Ended
 pub mod Watched

@@ -1,5 +1,6 @@
 -- The front report: a record for each program of each front row.
-use Rattle.std.specs.Prelude.{ℕ, suc, ◌==◌, Bool, true, false, List, [], ◌∷◌, ◌++◌, codes, map, take, drop, if◌then◌else◌, slice_index_or}
+use Rattle.std.specs.Prelude.{ℕ, suc, ◌==◌, Bool, true, false, List, [], ◌∷◌, ◌++◌, codes}
+use Rattle.std.specs.Prelude.{map, take, drop, if◌then◌else◌, slice_index_or}
 use Rattle.std.specs.List.{flat_map}
 use Rattle.std.specs.Fmt.{decimal}
 use Rattle.tomex_rvdec.specs.declared.pool.UnitId.{UnitId}
@@ -44,7 +45,8 @@ row_columns wide = station_columns ++ (unit_columns ++ (codes "buses" ∷ if_wid
 abbrev pub program_columns : Bool → List (List ℕ)
 program_columns wide =
     codes "program"
-    ∷ (if_wide wide (codes "weight") ++ (codes "steps" ∷ codes "program_cycles" ∷ codes "end" ∷ codes "regs" ∷ codes "watch" ∷ []))
+    ∷ (if_wide wide (codes "weight")
+    ++ (codes "steps" ∷ codes "program_cycles" ∷ codes "end" ∷ codes "regs" ∷ codes "watch" ∷ []))
 
 -- a unit option's number of units and latency
 abbrev pub unit_fields : Configuration → UnitId → List (List ℕ)
@@ -58,7 +60,8 @@ station_fields config = map (λ pool. decimal (stations_of config pool)) all_poo
 unfoldable pub row_fields : Bool → FrontRow → Configuration → List (List ℕ)
 row_fields wide r config =
     (decimal r.row ∷ decimal r.cost ∷ decimal r.cycles ∷ [])
-    ++ (station_fields config ++ (flat_map (unit_fields config) all_units ++ (decimal config.buses ∷ if_wide wide (decimal config.width))))
+    ++ (station_fields config
+    ++ (flat_map (unit_fields config) all_units ++ (decimal config.buses ∷ if_wide wide (decimal config.width))))
 
 -- texts joined by one space, or `-` where there is none
 abbrev pub joined : List (List ℕ) → List ℕ
@@ -98,7 +101,8 @@ unfoldable pub program_fields : Bool → Configuration → Workload → List (Li
 program_fields wide config p =
     let s = last_state p.image in
     p.name
-    ∷ (if_wide wide (decimal p.weight) ++ (decimal (count_of p.image) ∷ decimal (total config p.image) ∷ end_text (step_of s)
+    ∷ (if_wide wide (decimal p.weight)
+    ++ (decimal (count_of p.image) ∷ decimal (total config p.image) ∷ end_text (step_of s)
     ∷ joined (nonzero_from 0 s.regs) ∷ joined (map (watch_text p.image.window.base s.memory) p.watch) ∷ []))
 
 -- a program's record on a front row

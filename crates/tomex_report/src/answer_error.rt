@@ -1,7 +1,7 @@
 //! Why there is no report.
 
 use thiserror::Error;
-use tomex_document::StudyError;
+use tomex_reading::StudyError;
 use tomex_sweep::SweepError;
 
 /// Why the bytes of a study have no report.

@@ -5,7 +5,7 @@ ghost use Rattle.tomex_sweep.specs.Front.{front_of_study};
 ghost use Rattle.tomex_sweep.specs.declared.outcome.SweepError.TheVariants.{Memory, Worker};
 ghost use Rattle.tomex_report.specs.declared.answer_error.AnswerError.TheVariants.{Sweep};
 ghost use Rattle.tomex_report.specs.Answer.{IsAnswer, IsAnswerRefusal, IsShown, shown_as};
-ghost use Rattle.tomex_report.specs.Study.{IsStudyOf};
+ghost use Rattle.tomex_reading.specs.Study.{IsStudyOf};
 ghost use Rattle.tomex_report.specs.declared.front_view.FrontView.TheVariants.{Table, Picture};
 ghost use Rattle.tomex_report.specs.FrontReport.{report_of};
 
@@ -13,12 +13,11 @@ use crate::answer_error::AnswerError;
 use crate::front_text::front_report;
 use crate::front_view::{FrontView, cycles_by_program};
 use crate::replaying::replay;
-use crate::study::read_study;
 use std::alloc::{AllocError, Allocator, Global};
 use std::sync::Wait;
 use std::thread::Threads;
-use tomex_document::StudyError;
 use tomex_fronts::{front_picture, front_table};
+use tomex_reading::{StudyError, read_study};
 use tomex_study::Study;
 use tomex_sweep::{FrontRow, Gate, OpenGate, SweepError, explore, run_all_under};
 

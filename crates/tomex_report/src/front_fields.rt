@@ -6,7 +6,8 @@ ghost use Rattle.csv.specs.Records.{fields_of, partial_of};
 ghost use Rattle.tomex_config.specs.Cost.{all_units};
 ghost use Rattle.tomex_study.specs.Watch.{watched_bytes};
 ghost use Rattle.tomex_report.specs.Ends.{IsProgramEnd};
-ghost use Rattle.tomex_report.specs.FrontReport.{end_fields, if_wide, program_fields, row_fields, station_fields, unit_fields};
+ghost use Rattle.tomex_report.specs.FrontReport.{end_fields, if_wide, program_fields, row_fields};
+ghost use Rattle.tomex_report.specs.FrontReport.{station_fields, unit_fields};
 ghost use Rattle.std.specs.Fmt.{decimal};
 
 use crate::end_texts::{registers_text, watch_text};
@@ -28,7 +29,8 @@ fn push_stations(
     config: &Config,
 ) -> Result<(), AllocError>
     requires { partial_of fields.old ≡ [] }
-    ensures fields { OnOk result (fields_of fields.new ≡ fields_of fields.old ++ station_fields config.now) }
+    ensures fields { OnOk result (fields_of fields.new
+        ≡ fields_of fields.old ++ station_fields config.now) }
     ensures whole { OnOk result (partial_of fields.new ≡ []) }
 {
     for pool in PoolId::ALL {
@@ -44,7 +46,8 @@ fn push_units(
     config: &Config,
 ) -> Result<(), AllocError>
     requires { partial_of fields.old ≡ [] }
-    ensures fields { OnOk result (fields_of fields.new ≡ fields_of fields.old ++ flat_map (unit_fields config.now) all_units) }
+    ensures fields { OnOk result
+        (fields_of fields.new ≡ fields_of fields.old ++ flat_map (unit_fields config.now) all_units) }
     ensures whole { OnOk result (partial_of fields.new ≡ []) }
 {
     for unit in UnitId::ALL {
@@ -62,7 +65,8 @@ fn push_if_wide(
     number: u64,
 ) -> Result<(), AllocError>
     requires { partial_of fields.old ≡ [] }
-    ensures fields { OnOk result (fields_of fields.new ≡ fields_of fields.old ++ if_wide wide (decimal number)) }
+    ensures fields { OnOk result (fields_of fields.new
+        ≡ fields_of fields.old ++ if_wide wide (decimal number)) }
     ensures whole { OnOk result (partial_of fields.new ≡ []) }
 {
     if wide {
@@ -80,7 +84,8 @@ fn push_row(
     config: &Config,
 ) -> Result<(), AllocError>
     requires { partial_of fields.old ≡ [] }
-    ensures fields { OnOk result (fields_of fields.new ≡ fields_of fields.old ++ row_fields wide front config.now) }
+    ensures fields { OnOk result (fields_of fields.new
+        ≡ fields_of fields.old ++ row_fields wide front config.now) }
     ensures whole { OnOk result (partial_of fields.new ≡ []) }
 {
     push_decimal(fields, scratch, front.row as u64)?;
@@ -103,7 +108,8 @@ fn push_end<A: Allocator>(
 ) -> Result<(), AllocError>
     requires whole { partial_of fields.old ≡ [] }
     requires watched { length end.now.watched.items ≡ watched_bytes ranges.now }
-    ensures fields { OnOk result (fields_of fields.new ≡ fields_of fields.old ++ end_fields ranges.now end.now) }
+    ensures fields { OnOk result (fields_of fields.new
+        ≡ fields_of fields.old ++ end_fields ranges.now end.now) }
     ensures whole { OnOk result (partial_of fields.new ≡ []) }
 {
     push_decimal(fields, scratch, u64::from(end.steps))?;
@@ -120,7 +126,6 @@ fn push_end<A: Allocator>(
 /// Makes a record the one of a program on a front row.
 pub fn fill_record<A: Allocator>(
     fields: &mut ByteRecord,
-    scratch: &mut String,
     heap: Global,
     wide: bool,
     front: FrontRow,
@@ -129,14 +134,16 @@ pub fn fill_record<A: Allocator>(
     end: &ProgramEnd<A>,
 ) -> Result<(), AllocError>
     requires { IsProgramEnd config.now program.now end.now }
-    ensures { OnOk result (fields_of fields.new ≡ row_fields wide front config.now ++ program_fields wide config.now program.now) }
+    ensures { OnOk result (fields_of fields.new
+        ≡ row_fields wide front config.now ++ program_fields wide config.now program.now) }
 {
     program.keeps_limits();
     program.image().fills_its_window();
+    let mut scratch = String::new(heap);
     fields.clear();
-    push_row(fields, scratch, wide, front, config)?;
+    push_row(fields, &mut scratch, wide, front, config)?;
     fields.push_field(program.name().as_bytes())?;
-    push_if_wide(fields, scratch, wide, u64::from(program.weight()))?;
-    push_end(fields, scratch, heap, program.watch(), end)?;
+    push_if_wide(fields, &mut scratch, wide, u64::from(program.weight()))?;
+    push_end(fields, &mut scratch, heap, program.watch(), end)?;
     Ok(())
 }

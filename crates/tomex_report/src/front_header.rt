@@ -11,7 +11,8 @@ use tomex_records::push_names;
 /// Adds a name to a record of a report that shows widths and weights.
 fn push_if_wide(fields: &mut ByteRecord, wide: bool, name: &str) -> Result<(), AllocError>
     requires { partial_of fields.old ≡ [] }
-    ensures fields { OnOk result (fields_of fields.new ≡ fields_of fields.old ++ if_wide wide name.now) }
+    ensures fields { OnOk result (fields_of fields.new
+        ≡ fields_of fields.old ++ if_wide wide name.now) }
     ensures whole { OnOk result (partial_of fields.new ≡ []) }
 {
     if wide {

@@ -32,14 +32,14 @@ fn put_programs<A: Allocator>(
     requires ready { IsReady writer.old }
     requires ends { AllZip (IsProgramEnd config.now) programs.now ends.now }
     ensures ready { OnOk result (IsReady writer.new) }
-    ensures text { OnOk result (written (λ v. v.items) writer.new ≡ written (λ v. v.items) writer.old ++ flat_map (program_record wide front config.now) programs.now) }
+    ensures text { OnOk result (written (λ v. v.items) writer.new
+        ≡ written (λ v. v.items) writer.old
+        ++ flat_map (program_record wide front config.now) programs.now) }
 {
     let mut record = ByteRecord::new(heap);
-    let mut scratch = String::new(heap);
     for (place, program) in programs.iter().enumerate() {
         fill_record(
             &mut record,
-            &mut scratch,
             heap,
             wide,
             front,
@@ -63,7 +63,8 @@ fn put_row<A: Allocator>(
     requires ready { IsReady writer.old }
     requires ends { AreEndsOf study.now front ends.now }
     ensures ready { OnOk result (IsReady writer.new) }
-    ensures text { OnOk result (written (λ v. v.items) writer.new ≡ written (λ v. v.items) writer.old ++ records_of study.now front) }
+    ensures text { OnOk result (written (λ v. v.items) writer.new
+        ≡ written (λ v. v.items) writer.old ++ records_of study.now front) }
 {
     let config = &study.rows()[front.row];
     put_programs(
@@ -89,7 +90,8 @@ fn put_rows<A: Allocator>(
     requires ready { IsReady writer.old }
     requires ends { AllZip (λ r e. AreEndsOf study.now r e) front.now ends.now }
     ensures ready { OnOk result (IsReady writer.new) }
-    ensures text { OnOk result (written (λ v. v.items) writer.new ≡ written (λ v. v.items) writer.old ++ flat_map (records_of study.now) front.now) }
+    ensures text { OnOk result (written (λ v. v.items) writer.new
+        ≡ written (λ v. v.items) writer.old ++ flat_map (records_of study.now) front.now) }
 {
     for (place, row) in front.iter().enumerate() {
         put_row(writer, heap, study, *row, &ends[place])?;

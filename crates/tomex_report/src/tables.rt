@@ -100,7 +100,8 @@ fn push_stations<A: Allocator>(
     text: &mut String<A>,
     places: &[Option<Busy>],
 ) -> Result<(), AllocError>
-    ensures { OnOk result (string_bytes text.new ≡ string_bytes text.old ++ flat_map station_line (filter_map (λ b. b) places.now)) }
+    ensures { OnOk result (string_bytes text.new
+        ≡ string_bytes text.old ++ flat_map station_line (filter_map (λ b. b) places.now)) }
 {
     for place in places {
         if let Some(busy) = place {
@@ -116,7 +117,8 @@ fn push_register<A: Allocator>(
     register: usize,
     qi: Tag,
 ) -> Result<(), AllocError>
-    ensures { OnOk result (string_bytes text.new ≡ string_bytes text.old ++ register_line register (Some qi)) }
+    ensures { OnOk result (string_bytes text.new
+        ≡ string_bytes text.old ++ register_line register (Some qi)) }
 {
     let station = Station(qi);
     write!(text, "x{register} Qi={station}\n")?;
@@ -128,7 +130,8 @@ fn push_registers<A: Allocator>(
     text: &mut String<A>,
     registers: &[Option<Tag>],
 ) -> Result<(), AllocError>
-    ensures { OnOk result (string_bytes text.new ≡ string_bytes text.old ++ register_lines 0 registers.now) }
+    ensures { OnOk result (string_bytes text.new
+        ≡ string_bytes text.old ++ register_lines 0 registers.now) }
 {
     for (register, qi) in registers.iter().enumerate() {
         if let Some(qi) = qi {

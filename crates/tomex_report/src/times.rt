@@ -3,7 +3,8 @@
 ghost use Rattle.std.specs.Prelude.{◌≡◌, ◌++◌, ◌∷◌, [], IfOk, OnOk, length, codes};
 ghost use Rattle.csv.specs.Records.{fields_of, partial_of};
 ghost use Rattle.tomex_records.specs.Csv.{IsReady, written};
-ghost use Rattle.tomex_report.specs.TimesReport.{cycle_text, station_text, fields_of_step, header, report_of_times, step_records, times_report_of, total_fields};
+ghost use Rattle.tomex_report.specs.TimesReport.{cycle_text, station_text, fields_of_step, header, report_of_times};
+ghost use Rattle.tomex_report.specs.TimesReport.{step_records, times_report_of, total_fields};
 ghost use Rattle.tomex_rvexec.specs.Run.{start_of};
 ghost use Rattle.tomex_rvexec.specs.Steps.{step_pool};
 ghost use Rattle.tomex_rvexec.specs.Trace.{steps_from};
@@ -60,7 +61,8 @@ fn push_cycle(
     cycle: Option<u64>,
 ) -> Result<(), AllocError>
     requires { partial_of fields.old ≡ [] }
-    ensures fields { OnOk result (fields_of fields.new ≡ fields_of fields.old ++ cycle_text cycle ∷ []) }
+    ensures fields { OnOk result (fields_of fields.new
+        ≡ fields_of fields.old ++ cycle_text cycle ∷ []) }
     ensures whole { OnOk result (partial_of fields.new ≡ []) }
 {
     match cycle {
@@ -77,7 +79,8 @@ fn push_station(
     station: Option<u8>,
 ) -> Result<(), AllocError>
     requires { partial_of fields.old ≡ [] }
-    ensures fields { OnOk result (fields_of fields.new ≡ fields_of fields.old ++ station_text (step_pool step.now) station ∷ []) }
+    ensures fields { OnOk result
+        (fields_of fields.new ≡ fields_of fields.old ++ station_text (step_pool step.now) station ∷ []) }
     ensures whole { OnOk result (partial_of fields.new ≡ []) }
 {
     match (step.pool(), station) {
@@ -122,7 +125,8 @@ fn put_steps<A: Allocator>(
     requires ready { IsReady writer.old }
     requires pairs { length times.now ≡ length steps.now }
     ensures ready { OnOk result (IsReady writer.new) }
-    ensures text { OnOk result (written (λ v. v.items) writer.new ≡ written (λ v. v.items) writer.old ++ step_records 1 steps.now times.now) }
+    ensures text { OnOk result (written (λ v. v.items) writer.new
+        ≡ written (λ v. v.items) writer.old ++ step_records 1 steps.now times.now) }
 {
     let mut record = ByteRecord::new(heap);
     let mut scratch = String::new(heap);

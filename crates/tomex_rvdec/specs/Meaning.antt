@@ -1,12 +1,18 @@
 -- The table of the instruction words: which word means which instruction
 -- (the manual's chapter "RV32/64G Instruction Set Listings", the tables of RV32I and RV32M).
 -- A row for each operation gives its fixed bits; a row for each form says where operands stand.
-use Rattle.std.specs.Prelude.{◌≡◌, ℕ, ◌+◌, ◌*◌, ◌^◌, ◌<◌, Option, Some, None, nat_eq, Bool, true, false, IsTrue, ◌&&◌, List, [], ◌∷◌, find, option_map}
+use Rattle.std.specs.Prelude.{◌≡◌, ℕ, ◌+◌, ◌*◌, ◌^◌, ◌<◌, Option, Some, None, nat_eq, Bool}
+use Rattle.std.specs.Prelude.{true, false, IsTrue, ◌&&◌, List, [], ◌∷◌, find, option_map}
 use Rattle.tomex_rvdec.specs.declared.op.Op.{Op}
-use Rattle.tomex_rvdec.specs.declared.op.Op.TheVariants.{Lui, Auipc, Jal, Jalr, Beq, Bne, Blt, Bge, Bltu, Bgeu, Lb, Lh, Lw, Lbu, Lhu, Sb, Sh, Sw, Addi, Slti, Sltiu, Xori, Ori, Andi, Slli, Srli, Srai, Add, Sub, Sll, Slt, Sltu, Xor, Srl, Sra, Or, And, Mul, Mulh, Mulhsu, Mulhu, Div, Divu, Rem, Remu, Fence, Ecall, Ebreak}
+use Rattle.tomex_rvdec.specs.declared.op.Op.TheVariants.{Lui, Auipc, Jal, Jalr, Beq, Bne, Blt, Bge, Bltu, Bgeu, Lb}
+use Rattle.tomex_rvdec.specs.declared.op.Op.TheVariants.{Lh, Lw, Lbu, Lhu, Sb, Sh, Sw, Addi, Slti, Sltiu, Xori, Ori}
+use Rattle.tomex_rvdec.specs.declared.op.Op.TheVariants.{Andi, Slli, Srli, Srai, Add, Sub, Sll, Slt, Sltu, Xor, Srl}
+use Rattle.tomex_rvdec.specs.declared.op.Op.TheVariants.{Sra, Or, And, Mul, Mulh, Mulhsu, Mulhu, Div, Divu, Rem}
+use Rattle.tomex_rvdec.specs.declared.op.Op.TheVariants.{Remu, Fence, Ecall, Ebreak}
 use Rattle.tomex_rvdec.specs.declared.op.Form.{Form}
 use Rattle.tomex_rvdec.specs.declared.op.Form.TheVariants as forms
-use Rattle.tomex_rvdec.specs.Fields.{field, opcode, rd_field, funct3, rs1_field, rs2_field, funct7, imm_i, imm_s, imm_b, imm_u, imm_j}
+use Rattle.tomex_rvdec.specs.Fields.{field, opcode, rd_field, funct3, rs1_field, rs2_field}
+use Rattle.tomex_rvdec.specs.Fields.{funct7, imm_i, imm_s, imm_b, imm_u, imm_j}
 use Rattle.tomex_rvdec.specs.Instruction.{Instruction}
 
 abbrev pub has_opcode : ℕ → ℕ → Bool

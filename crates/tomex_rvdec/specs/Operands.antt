@@ -2,7 +2,9 @@
 -- the registers that it reads and the one that it writes.
 use Rattle.std.specs.Prelude.{ℕ, Option, Some, None, if◌then◌else◌, nat_eq}
 use Rattle.tomex_rvdec.specs.declared.op.Op.{Op}
-use Rattle.tomex_rvdec.specs.declared.op.Op.TheVariants.{Jalr, Beq, Bne, Blt, Bge, Bltu, Bgeu, Lb, Lh, Lw, Lbu, Lhu, Sb, Sh, Sw, Mul, Mulh, Mulhsu, Mulhu, Div, Divu, Rem, Remu, Fence, Ecall, Ebreak}
+use Rattle.tomex_rvdec.specs.declared.op.Op.TheVariants.{Jalr, Beq, Bne, Blt, Bge, Bltu, Bgeu, Lb, Lh, Lw, Lbu, Lhu}
+use Rattle.tomex_rvdec.specs.declared.op.Op.TheVariants.{Sb, Sh, Sw, Mul, Mulh, Mulhsu, Mulhu, Div, Divu, Rem, Remu}
+use Rattle.tomex_rvdec.specs.declared.op.Op.TheVariants.{Fence, Ecall, Ebreak}
 use Rattle.tomex_rvdec.specs.declared.op.Form.{Form}
 use Rattle.tomex_rvdec.specs.declared.op.Form.TheVariants as forms
 use Rattle.tomex_rvdec.specs.declared.pool.PoolId.{PoolId}

@@ -40,7 +40,8 @@ fn opcode_for(op: Op) -> u32
 
 /// The fixed funct3 of an operation whose form has one, else zero.
 fn funct3_for(op: Op) -> u32
-    ensures value { (w : ℕ) → IsTrue (selects op w) → has_fixed_funct3 (form_of op) ≡ true → result ≡ funct3 w }
+    ensures value { (w : ℕ) → IsTrue (selects op w) → has_fixed_funct3 (form_of op) ≡ true → result
+        ≡ funct3 w }
     ensures range { result < 2 ^ 3 }
 {
     match op {
@@ -57,7 +58,8 @@ fn funct3_for(op: Op) -> u32
 
 /// The fixed funct7 of an operation whose form has one, else zero.
 fn funct7_for(op: Op) -> u32
-    ensures value { (w : ℕ) → IsTrue (selects op w) → has_fixed_funct7 (form_of op) ≡ true → result ≡ funct7 w }
+    ensures value { (w : ℕ) → IsTrue (selects op w) → has_fixed_funct7 (form_of op) ≡ true → result
+        ≡ funct7 w }
     ensures range { result < 2 ^ 7 }
 {
     match op {
@@ -72,7 +74,8 @@ fn funct7_for(op: Op) -> u32
 fn six_fields(funct7: u32, rs2: u32, rs1: u32, funct3: u32, rd: u32, opcode: u32) -> u32
     requires high { (funct7 < 2 ^ 7) × (rs2 < 2 ^ 5) × (rs1 < 2 ^ 5) }
     requires low { (funct3 < 2 ^ 3) × (rd < 2 ^ 5) × (opcode < 2 ^ 7) }
-    ensures { result ≡ funct7 * 2 ^ 25 + rs2 * 2 ^ 20 + rs1 * 2 ^ 15 + funct3 * 2 ^ 12 + rd * 2 ^ 7 + opcode }
+    ensures { result
+        ≡ funct7 * 2 ^ 25 + rs2 * 2 ^ 20 + rs1 * 2 ^ 15 + funct3 * 2 ^ 12 + rd * 2 ^ 7 + opcode }
 {
     // From the low end up, a field at a time: so each step is known to be a sum.
     let low = rd << 7 | opcode;
@@ -85,7 +88,8 @@ fn six_fields(funct7: u32, rs2: u32, rs1: u32, funct3: u32, rd: u32, opcode: u32
 /// The word of an operation with these operands.
 fn word_of(op: Op, rd: u32, rs1: u32, rs2: u32, imm: u32) -> u32
     requires registers { (rd < 32) × (rs1 < 32) × (rs2 < 32) }
-    ensures { (w : ℕ) → Means w (record { op = op; rd = rd; rs1 = rs1; rs2 = rs2; imm = imm }) → result ≡ w }
+    ensures { (w : ℕ) → Means w (record { op = op; rd = rd; rs1 = rs1; rs2 = rs2; imm = imm })
+        → result ≡ w }
 {
     let (opcode, funct3, funct7) = (opcode_for(op), funct3_for(op), funct7_for(op));
     match op.form() {

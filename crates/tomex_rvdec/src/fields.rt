@@ -1,7 +1,8 @@
 //! The bit fields of an instruction word, and its immediates.
 
 ghost use Rattle.std.specs.Prelude.{◌≡◌, ◌<◌, ◌^◌, ◌+◌, ◌-◌, ◌*◌, cond, nat_lt};
-ghost use Rattle.tomex_rvdec.specs.Fields.{opcode, rd_field, funct3, rs1_field, rs2_field, funct7, imm_i, imm_s, imm_b, imm_u, imm_j};
+ghost use Rattle.tomex_rvdec.specs.Fields.{opcode, rd_field, funct3, rs1_field, rs2_field};
+ghost use Rattle.tomex_rvdec.specs.Fields.{funct7, imm_i, imm_s, imm_b, imm_u, imm_j};
 
 pub fn opcode_of(word: u32) -> u32
     ensures { result ≡ opcode word }

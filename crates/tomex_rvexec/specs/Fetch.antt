@@ -1,6 +1,7 @@
 -- Which instruction stands at an address of an image as it was loaded (RV32I, section 1.5
 -- "Base Instruction-Length Encoding": parcels are little-endian).
-use Rattle.std.specs.Prelude.{◌≡◌, ◌==◌, ℕ, ◌-◌, ◌/◌, ◌%◌, slice_index_or, if◌then◌else◌, Option, Some, None, Result, Ok, Err, All, ⊤}
+use Rattle.std.specs.Prelude.{◌≡◌, ◌==◌, ℕ, ◌-◌, ◌/◌, ◌%◌, slice_index_or, if◌then◌else◌}
+use Rattle.std.specs.Prelude.{Option, Some, None, Result, Ok, Err, All, ⊤}
 use Rattle.tomex_image.specs.Image.{Loaded}
 use Rattle.tomex_rvdec.specs.Instruction.{Instruction}
 use Rattle.tomex_rvdec.specs.Meaning.{meaning}

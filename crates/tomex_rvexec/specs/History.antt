@@ -1,6 +1,7 @@
 -- A run as the history of its steps, and the values that a history leaves: each register has the
 -- result of the youngest step that writes it, each byte of memory what the youngest store on it left.
-use Rattle.std.specs.Prelude.{◌≡◌, ℕ, zero, suc, ◌-◌, ◌<◌, ◌≤◌, ⊤, IsTrue, List, [], ◌∷◌, Option, Some, if◌then◌else◌, slice_index}
+use Rattle.std.specs.Prelude.{◌≡◌, ℕ, zero, suc, ◌-◌, ◌<◌, ◌≤◌, ⊤, IsTrue, List}
+use Rattle.std.specs.Prelude.{[], ◌∷◌, Option, Some, if◌then◌else◌, slice_index}
 use Rattle.tomex_image.specs.Image.{Loaded}
 use Rattle.tomex_rvdec.specs.Meaning.{meaning}
 use Rattle.tomex_rvexec.specs.declared.step.Step.{Step}

@@ -29,4 +29,5 @@ half_written m i v = slice_set (slice_set m i (v % 256)) (i + 1) (v / 256 % 256)
 
 abbrev pub word_written : List ℕ → ℕ → ℕ → List ℕ
 word_written m i v =
-    slice_set (slice_set (slice_set (slice_set m i (v % 256)) (i + 1) (v / 256 % 256)) (i + 2) (v / 65536 % 256)) (i + 3) (v / 16777216 % 256)
+    slice_set (slice_set (slice_set (slice_set m i (v % 256)) (i + 1) (v / 256 % 256)) (i + 2) (v / 65536 % 256))
+    (i + 3) (v / 16777216 % 256)

@@ -1,10 +1,14 @@
 -- What the operations compute on words of 32 bits, signed values in two's complement
 -- (RV32I, sections 2.4 "Integer Computational Instructions" and 2.5 "Control Transfer
 -- Instructions"; M, sections 7.1 "Multiplication Operations" and 7.2 "Division Operations").
-use Rattle.std.specs.Prelude.{ℕ, ◌+◌, ◌-◌, ◌*◌, ◌/◌, ◌%◌, ◌^◌, ℤ, pos, ◌*ℤ◌, int_lt, int_div, int_rem, bit_and, bit_or, bit_xor, if◌then◌else◌, nat_lt, nat_eq, Bool, false, not}
+use Rattle.std.specs.Prelude.{ℕ, ◌+◌, ◌-◌, ◌*◌, ◌/◌, ◌%◌, ◌^◌, ℤ, pos, ◌*ℤ◌, int_lt, int_div, int_rem, bit_and}
+use Rattle.std.specs.Prelude.{bit_or, bit_xor, if◌then◌else◌, nat_lt, nat_eq, Bool, false, not}
 use Rattle.std.specs.Int.{cast_signed, cast_unsigned, int_shr, w32, w64}
 use Rattle.tomex_rvdec.specs.declared.op.Op.{Op}
-use Rattle.tomex_rvdec.specs.declared.op.Op.TheVariants.{Beq, Bne, Blt, Bge, Bltu, Bgeu, Addi, Slti, Sltiu, Xori, Ori, Andi, Slli, Srli, Srai, Add, Sub, Sll, Slt, Sltu, Xor, Srl, Sra, Or, And, Mul, Mulh, Mulhsu, Mulhu, Div, Divu, Rem, Remu}
+use Rattle.tomex_rvdec.specs.declared.op.Op.TheVariants.{Beq, Bne, Blt, Bge, Bltu, Bgeu, Addi, Slti, Sltiu, Xori}
+use Rattle.tomex_rvdec.specs.declared.op.Op.TheVariants.{Ori, Andi, Slli, Srli, Srai, Add, Sub, Sll, Slt, Sltu, Xor}
+use Rattle.tomex_rvdec.specs.declared.op.Op.TheVariants.{Srl, Sra, Or, And, Mul, Mulh, Mulhsu, Mulhu, Div, Divu}
+use Rattle.tomex_rvdec.specs.declared.op.Op.TheVariants.{Rem, Remu}
 
 -- a word's signed value
 abbrev pub signed : ℕ → ℤ

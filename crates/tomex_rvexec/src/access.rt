@@ -34,7 +34,8 @@ impl<A: Allocator> Memory<A> {
     ghost use Rattle.std.specs.Prelude.{◌≡◌, ◌-◌, true, false};
     ghost use Rattle.tomex_rvexec.specs.Access.{HasStoredAt, HasWritten, IsLoadedFrom};
     ghost use Rattle.tomex_rvexec.specs.Machine.{from_byte, from_half};
-    ghost use Rattle.tomex_rvexec.specs.Memory.{byte_read, half_read, word_read, byte_written, half_written, word_written};
+    ghost use Rattle.tomex_rvexec.specs.Memory.{byte_read, half_read, word_read, byte_written};
+    ghost use Rattle.tomex_rvexec.specs.Memory.{half_written, word_written};
 
     /// The byte at an address, its sign extended; `None` where it lies outside memory.
     #[inline(always)]
@@ -84,7 +85,8 @@ impl<A: Allocator> Memory<A> {
     /// Writes the low byte of a word at an address, and answers whether it lies in memory.
     #[inline(always)]
     pub(crate) fn store_byte(&mut self, address: u32, value: u32) -> bool
-        ensures place { HasStoredAt address 1 (λ m i. byte_written m i value) self.old result self.new }
+        ensures place { HasStoredAt address 1
+            (λ m i. byte_written m i value) self.old result self.new }
         ensures bytes { HasWritten 1 address value self.old self.new }
     {
         match self.place(address, 1) {
@@ -99,7 +101,8 @@ impl<A: Allocator> Memory<A> {
     /// Writes the low two bytes of a word.
     #[inline(always)]
     pub(crate) fn store_half(&mut self, address: u32, value: u32) -> bool
-        ensures place { HasStoredAt address 2 (λ m i. half_written m i value) self.old result self.new }
+        ensures place { HasStoredAt address 2
+            (λ m i. half_written m i value) self.old result self.new }
         ensures bytes { HasWritten 2 address value self.old self.new }
     {
         match self.place(address, 2) {
@@ -114,7 +117,8 @@ impl<A: Allocator> Memory<A> {
     /// Writes a word.
     #[inline(always)]
     pub(crate) fn store_word(&mut self, address: u32, value: u32) -> bool
-        ensures place { HasStoredAt address 4 (λ m i. word_written m i value) self.old result self.new }
+        ensures place { HasStoredAt address 4
+            (λ m i. word_written m i value) self.old result self.new }
         ensures bytes { HasWritten 4 address value self.old self.new }
     {
         match self.place(address, 4) {

@@ -3,7 +3,8 @@
 //!
 //! These functions do nothing: their contracts are the laws.
 
-ghost use Rattle.std.specs.Prelude.{◌≡◌, ℕ, ◌+◌, ◌-◌, ◌^◌, ◌<◌, ◌≤◌, ◌||◌, IfSome, IsSome, List, ◌∷◌, ◌++◌, None, Ok, Some, false, is_some, length, reverse, slice_index, true};
+ghost use Rattle.std.specs.Prelude.{◌≡◌, ℕ, ◌+◌, ◌-◌, ◌^◌, ◌<◌, ◌≤◌, ◌||◌, IfSome, IsSome, List, ◌∷◌, ◌++◌};
+ghost use Rattle.std.specs.Prelude.{None, Ok, Some, false, is_some, length, reverse, slice_index, true};
 ghost use Rattle.std.specs.List.{list_any};
 ghost use Rattle.tomex_image.specs.Image.{Loaded, IsLoaded};
 ghost use Rattle.tomex_image.specs.Window.{IsWindow};
@@ -12,11 +13,14 @@ ghost use Rattle.tomex_rvexec.specs.declared.outcome.EndKind.{EndKind};
 ghost use Rattle.tomex_rvexec.specs.declared.outcome.FaultKind.{FaultKind};
 ghost use Rattle.tomex_rvexec.specs.declared.step.Step.{Step};
 ghost use Rattle.tomex_rvexec.specs.Fetch.{instruction_at};
-ghost use Rattle.tomex_rvexec.specs.Flow.{Changes, HasWords, IsAllowed, IsState, byte_in, covers, end_of, overwrites, result_of, stored_byte};
-ghost use Rattle.tomex_rvexec.specs.History.{Follows, IsFlow, Leaves, byte_after, history, pc_after, register_after, state_after, step_after};
+ghost use Rattle.tomex_rvexec.specs.Flow.{Changes, HasWords, IsAllowed, IsState, byte_in, covers};
+ghost use Rattle.tomex_rvexec.specs.Flow.{end_of, overwrites, result_of, stored_byte};
+ghost use Rattle.tomex_rvexec.specs.History.{Follows, IsFlow, Leaves, byte_after, history, pc_after};
+ghost use Rattle.tomex_rvexec.specs.History.{register_after, state_after, step_after};
 ghost use Rattle.tomex_rvexec.specs.Machine.{State, Ends, Goes, coming_of, step_of};
 ghost use Rattle.tomex_rvexec.specs.Run.{EndsWithin, Leads, RunEnds, RunFaults, start_of};
-ghost use Rattle.tomex_rvexec.specs.Steps.{bytes_of, is_in, is_store, j_of, k_of, step_dest, step_pool, step_unit, is_number};
+ghost use Rattle.tomex_rvexec.specs.Steps.{bytes_of, is_in, is_store, j_of, k_of, step_dest};
+ghost use Rattle.tomex_rvexec.specs.Steps.{step_pool, step_unit, is_number};
 ghost use Rattle.tomex_rvexec.specs.Texts.{hex2, hex8, last_digits};
 ghost use Rattle.tomex_rvexec.specs.Trace.{steps_from};
 

@@ -68,7 +68,8 @@ pub struct Step {
 
 impl Step {
     ghost use Rattle.std.specs.Prelude.{◌≡◌, ◌<◌, ◌≢◌, IfSome};
-    ghost use Rattle.tomex_rvexec.specs.Steps.{step_pool, step_unit, step_dest, j_of, k_of, bytes_of, is_branch, is_store};
+    ghost use Rattle.tomex_rvexec.specs.Steps.{step_pool, step_unit, step_dest, j_of};
+    ghost use Rattle.tomex_rvexec.specs.Steps.{k_of, bytes_of, is_branch, is_store};
 
     /// The pool whose station the step takes, if any.
     pub fn pool(&self) -> Option<PoolId>

@@ -4,7 +4,7 @@ use Rattle.std.proofs.lemmas.List.{length-map}
 use Rattle.std.proofs.lemmas.List.Elements.{All-more, All-weaker}
 use Rattle.tomex_board.specs.Known.{Known}
 use Rattle.tomex_board.specs.declared.view.View.{View}
-use Rattle.tomex_board.specs.Views.{Has, IsNoted, Grows, without}
+use Rattle.tomex_board.specs.Views.{Has, KnowsNotOpen, Grows, without}
 use Rattle.tomex_board.proofs.Closes.{grows_on}
 use Rattle.tomex_config.specs.Configuration.{Configuration}
 use Rattle.tomex_study.specs.Study.{DesignSpace, IsStudy}
@@ -85,8 +85,8 @@ next_running s row first now new run next is seat hand programs same = record {
 }
 
 -- one row more is noted
-pub one_noted : (v w : View) (rows items : List ℕ) (i : ℕ) → items ≡ rows → i < length items → All (IsNoted v) (take i rows) → Grows v w → IsNoted w (get_or items i 0) → All (IsNoted w) (take (i + 1) rows)
+pub one_noted : (v w : View) (rows items : List ℕ) (i : ℕ) → items ≡ rows → i < length items → All (KnowsNotOpen v) (take i rows) → Grows v w → KnowsNotOpen w (get_or items i 0) → All (KnowsNotOpen w) (take (i + 1) rows)
 one_noted v w rows items i same low all grown noted =
     let below : i < length rows = subst (λ (rs : List ℕ). i < length rs) same low in
-    let here : IsNoted w (get_or rows i 0) = subst (λ (rs : List ℕ). IsNoted w (get_or rs i 0)) same noted in
-    All-more (IsNoted w) rows i 0 below (All-weaker (IsNoted v) (IsNoted w) (λ j h. grown.noted j h) (take i rows) all) here
+    let here : KnowsNotOpen w (get_or rows i 0) = subst (λ (rs : List ℕ). KnowsNotOpen w (get_or rs i 0)) same noted in
+    All-more (KnowsNotOpen w) rows i 0 below (All-weaker (KnowsNotOpen v) (KnowsNotOpen w) (λ j h. grown.noted j h) (take i rows) all) here

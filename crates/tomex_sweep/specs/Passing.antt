@@ -1,5 +1,6 @@
 -- One pass over rows in order: which of them stay.
-use Rattle.std.specs.Prelude.{◌≡◌, ℕ, ◌+◌, ◌≤◌, ◌<◌, ◌==◌, ◌⊎◌, nat_lt, Bool, true, ◌&&◌, ◌||◌, List, length, slice_index_or, Option, Some, None}
+use Rattle.std.specs.Prelude.{◌≡◌, ℕ, ◌+◌, ◌≤◌, ◌<◌, ◌==◌, ◌⊎◌, nat_lt, Bool, true, ◌&&◌}
+use Rattle.std.specs.Prelude.{◌||◌, List, length, slice_index_or, Option, Some, None}
 use Rattle.tomex_sweep.specs.declared.front_row.FrontRow.{FrontRow}
 
 -- by cost, then cycles, then number: a may stand before b

@@ -1,7 +1,7 @@
 //! What a worker does with a row: it claims it, runs it, and closes it.
 
 ghost use Rattle.std.specs.Prelude.{◌≡◌, ◌<◌, ◌∷◌, [], length, count_by, take, is_some, not, IfOk, OnOk, All};
-ghost use Rattle.tomex_board.specs.Views.{IsNoted};
+ghost use Rattle.tomex_board.specs.Views.{KnowsNotOpen};
 ghost use Rattle.tomex_sweep.specs.Known.{AreTotalsOn};
 ghost use Rattle.tomex_sweep.specs.Plans.{IsPlanOf};
 ghost use Rattle.tomex_sweep.specs.Seats.{Continues};
@@ -76,8 +76,8 @@ impl<'s, J: Plan, A: Allocator + Clone, G: Gate> Desk<'s, J, A, G> {
         }
     }
 
-    /// Runs a row that the seat has in hand, and closes it. The programs' totals on it are looked up first,
-    /// or learnt.
+    /// Runs a row that the seat has in hand, and closes it. The programs' totals on it are looked up first, or learnt.
+    /// If memory is refused, the row may stay in hand.
     fn run_row(
         &self,
         runs: &mut Runs<'s, A>,
@@ -103,8 +103,9 @@ impl<'s, J: Plan, A: Allocator + Clone, G: Gate> Desk<'s, J, A, G> {
         self.close_row(runs, seat, row, totals)
     }
 
-    /// Claims a row, and runs and closes it if the claim succeeds. On Ok the seat holds nothing, and knows
-    /// that the row isn't open: it may be another worker's.
+    /// Claims a row, and runs and closes it if the claim succeeds: it is finished, or given up for one that is no
+    /// dearer and strictly faster. On Ok the seat holds nothing, and knows that the row isn't open: it may be another
+    /// worker's. If memory is refused, the row may stay in its hand.
     fn try_row(
         &self,
         runs: &mut Runs<'s, A>,
@@ -120,7 +121,7 @@ impl<'s, J: Plan, A: Allocator + Clone, G: Gate> Desk<'s, J, A, G> {
         ensures programs { knowledge.new ≡ knowledge.old }
         ensures seat { Continues seat.old seat.new }
         ensures hand { OnOk result (seat.new.view.hand ≡ []) }
-        ensures noted { OnOk result (IsNoted seat.new.view row) }
+        ensures noted { OnOk result (KnowsNotOpen seat.new.view row) }
     {
         if !self.board.claim(seat, row) {
             return Ok(());
@@ -172,7 +173,7 @@ impl<'s, J: Plan, A: Allocator + Clone, G: Gate> Desk<'s, J, A, G> {
         ensures programs { knowledge.new ≡ knowledge.old }
         ensures seat { Continues seat.old seat.new }
         ensures hand { OnOk result (seat.new.view.hand ≡ []) }
-        ensures noted { OnOk result (All (IsNoted seat.new.view) lane.now.rows) }
+        ensures noted { OnOk result (All (KnowsNotOpen seat.new.view) lane.now.rows) }
     {
         for row in lane.rows() {
             self.try_row(runs, knowledge, seat, *row)?;

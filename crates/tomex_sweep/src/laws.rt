@@ -16,7 +16,8 @@ ghost use Rattle.tomex_sweep.specs.declared.front_row.FrontRow.{FrontRow};
 #[tactic(auto, using(crate::proofs::Totals::total_within))]
 pub fn limit_changes_no_total()
     ensures { (p : Workload) (config : Configuration) → IsProgram p
-        → total config p.image ≡ total_of (times_in config (steps_from p.limit (start_of p.image))) }
+        → total config p.image
+        ≡ total_of (times_in config (steps_from p.limit (start_of p.image))) }
 {}
 
 /// The front of numbered configurations is the configurations that none of them dominates, by cost, then number, and no

@@ -110,7 +110,7 @@ impl<'s, A: Allocator> Reused<'s, A> {
         }
     }
 
-    /// Goes on to a cycle, or to the end of the run before it.
+    /// Goes on to a cycle, or to the run's end if that comes first.
     pub(crate) fn advance(&mut self, to: u64)
         requires { to ≤ 2 ^ 40 }
         ensures { EndsWithin self.old.image 262144

@@ -90,7 +90,8 @@ impl<'s, A: Allocator> RowRun<'s, A> {
         requires few { length programs.now ≤ 8 }
         requires ends { All IsProgram programs.now }
         requires totals { AreTotals programs.now config.now totals }
-        ensures { OnOk result (self.new ≡ record { programs = programs.now; config = config.now; reached = 0 }) }
+        ensures { OnOk result (self.new
+            ≡ record { programs = programs.now; config = config.now; reached = 0 }) }
     {
         config.keeps_limits();
         self.machine
@@ -108,7 +109,8 @@ impl<'s, A: Allocator> RowRun<'s, A> {
     /// Goes on to the next multiple of 1,024 cycles that it makes, where it isn't over before or at it,
     /// or to its end. A run that is over stays so. What it answers are cycles by the programs' weights.
     pub(crate) fn go_on(&mut self) -> Result<Stop, AllocError>
-        ensures parts { (self.new.programs ≡ self.old.programs) × (self.new.config ≡ self.old.config) }
+        ensures parts { (self.new.programs ≡ self.old.programs)
+            × (self.new.config ≡ self.old.config) }
         ensures stop { IfOk result
             (λ p. p ≡ stop_at self.old.programs self.old.config (self.old.reached + 1024)) }
         ensures look { IfOk result (λ p. IsNearer self.old self.new p) }

@@ -1,5 +1,6 @@
 -- The stations of all pools.
-use Rattle.std.specs.Prelude.{ℕ, ◌+◌, ◌*◌, ◌/◌, ◌^◌, ◌<◌, ◌≡◌, Bool, List, [], ◌∷◌, ⊤, Option, Some, None, is_none, is_some, length, option_map}
+use Rattle.std.specs.Prelude.{ℕ, ◌+◌, ◌*◌, ◌/◌, ◌^◌, ◌<◌, ◌≡◌, Bool, List, [], ◌∷◌, ⊤, Option}
+use Rattle.std.specs.Prelude.{Some, None, is_none, is_some, length, option_map}
 use Rattle.std.specs.List.{flat_map}
 use Rattle.tomex_sets.specs.Sets.{has}
 use Rattle.tomex_rvdec.specs.Operands.{pool_of}

@@ -1,6 +1,7 @@
 //! The reservation stations of all pools.
 
-ghost use Rattle.std.specs.Prelude.{ℕ, ◌≡◌, ◌<◌, ◌≤◌, ◌/◌, Some, None, IfSome, IfNone, IsSome, true, false, replicate, slice_index_or, slice_set, length};
+ghost use Rattle.std.specs.Prelude.{ℕ, ◌≡◌, ◌<◌, ◌≤◌, ◌/◌, Some, None, IfSome, IfNone, IsSome};
+ghost use Rattle.std.specs.Prelude.{true, false, replicate, slice_index_or, slice_set, length};
 ghost use Rattle.tomex_timing.specs.Recurrence.{IsLeast};
 ghost use Rattle.tomex_sets.specs.Sets.{IsWith, IsWithout, has};
 ghost use Rattle.tomex_rvdec.specs.Operands.{dest_of, pool_of, unit_of, unit_of_pool};

@@ -2,7 +2,8 @@
 
 ghost use Rattle.std.specs.Prelude.{◌≡◌, Some};
 ghost use Rattle.tomex_tags.specs.Operands.{is_there, value_in, heard, only};
-ghost use Rattle.tomex_tags.specs.Contents.{bytes_in, busy_from, is_memory_op, is_ready, is_waiting, lacks_address, step_in};
+ghost use Rattle.tomex_tags.specs.Contents.{bytes_in, busy_from, is_memory_op, is_ready};
+ghost use Rattle.tomex_tags.specs.Contents.{is_waiting, lacks_address, step_in};
 
 use crate::places::place;
 use tomex_rvdec::{Instr, Op};

@@ -4,7 +4,7 @@ use std::process::Abort;
 use std::sync::Wait;
 use std::test::Fail;
 use std::thread::Threads;
-use tomex_command::command;
+use tomex_command::{Heaps, command};
 use tomex_samples::in_memory::{Narrow, Shelf};
 use tomex_samples::programs::PRODUCT;
 use tomex_streams::{Meter, NoMeter};
@@ -38,8 +38,10 @@ pub fn outcome_of<
     let mut err = Narrow::new(rt.alloc(), 10_000, 1000);
     let status = command(
         rt,
-        heap,
-        rt.alloc(),
+        Heaps {
+            images: heap,
+            texts: rt.alloc(),
+        },
         line.as_slice(),
         &Shelf { files },
         meter,

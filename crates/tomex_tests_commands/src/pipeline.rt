@@ -1,5 +1,5 @@
-//! Pictures of instructions, over studies and programs in memory. Their signs stand in the cycles that the tests of times
-//! reports have.
+//! Pictures of instructions, over studies and programs in memory. Their signs stand in the cycles that the tests of
+//! times reports have.
 use super::commands::comes_to;
 use std::test::Fail;
 use tomex_samples::programs::{LOOP, PRODUCT};

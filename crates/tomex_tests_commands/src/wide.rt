@@ -1,5 +1,5 @@
-//! The product on a machine that issues two instructions in a cycle, over a study and a program in memory. Its cycles are
-//! counted by hand: both factors issue in cycle 1, and the product, which waits for them, with EBREAK in cycle 2.
+//! The product on a machine that issues two instructions in a cycle, over a study and a program in memory. Its cycles
+//! are counted by hand: both factors issue in cycle 1, and the product, which waits for them, with EBREAK in cycle 2.
 use super::commands::comes_to;
 use std::test::Fail;
 use tomex_samples::programs::PRODUCT;

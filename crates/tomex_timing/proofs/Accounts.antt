@@ -16,7 +16,7 @@ use Rattle.tomex_timing.specs.declared.times.Done.{Done}
 use Rattle.tomex_timing.specs.History.{is_of, cycle_of, last_issue, greatest_end}
 use Rattle.tomex_timing.specs.Laws.{IssueCyclesAddUp, StationCyclesAddUp, StationWaitsAreStalls, UnitWaitsAreStalls, work_by}
 use Rattle.tomex_timing.specs.Needs.{lacks_branch, lacks_width, lacks_station, lacks_operand, lacks_address, lacks_memory, lacks_unit, waits_of, pool_stalls, stalls, stalls_by}
-use Rattle.tomex_timing.specs.Recurrence.{IsLeast, IsTimed, AreTimed, can_end, can_issue, can_start, has_slot, are_branches_finished, has_operands, are_conflicts_finished}
+use Rattle.tomex_timing.specs.Recurrence.{IsLeast, IsTimed, AreTimed, can_end, can_issue, can_start, can_issue_another, are_branches_finished, has_operands, are_conflicts_finished}
 use Rattle.tomex_timing.proofs.Bands.{none_of}
 use Rattle.tomex_timing.proofs.Bound.{end_low, issue_low, start_low, timed_by}
 use Rattle.tomex_timing.proofs.Limits.{latency_low}
@@ -59,7 +59,7 @@ issue_ways false w = refl
 
 -- the waits of one issue
 issue_account : (config : Configuration) (older : List Done) (d : Done) → (waits_of config older d).branch + (waits_of config older d).width + (waits_of config older d).station ≡ d.at.issue - max 1 (last_issue older)
-issue_account config older d = three_ways (lacks_branch older) (lacks_width config older) (lacks_station config older) (d.at.issue - max 1 (last_issue older)) (max 1 (last_issue older)) (λ t. issue_ways (are_branches_finished older t) (has_slot config older t))
+issue_account config older d = three_ways (lacks_branch older) (lacks_width config older) (lacks_station config older) (d.at.issue - max 1 (last_issue older)) (max 1 (last_issue older)) (λ t. issue_ways (are_branches_finished older t) (can_issue_another config older t))
 
 -- what needs no station waits for none
 no_station_wait : (config : Configuration) (older : List Done) (d : Done) → step_pool d.step ≡ None → IsTimed config older d.step d.at → (waits_of config older d).station ≡ 0
@@ -75,7 +75,7 @@ no_station_wait config older d none is =
     fails t l m =
         let can : can_issue config older d.step t ≡ false = is.issue.1 t m in
         let can2 = rw (none, lt-ltb 0 t (omega arith)) at can in
-        swap (are_branches_finished older t) (has_slot config older t) can2
+        swap (are_branches_finished older t) (can_issue_another config older t) can2
 
 abbrev in_pools : Option PoolId → ℕ → ℕ
 in_pools x n = cond (is_in pools.Alu x) n 0 + cond (is_in pools.Mul x) n 0 + cond (is_in pools.Div x) n 0 + cond (is_in pools.Load x) n 0 + cond (is_in pools.Store x) n 0 + cond (is_in pools.Bru x) n 0

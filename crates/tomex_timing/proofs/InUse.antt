@@ -15,7 +15,7 @@ use Rattle.tomex_timing.specs.declared.times.Done.{Done}
 use Rattle.tomex_timing.specs.History.{is_of, cycle_of, last_issue}
 use Rattle.tomex_timing.specs.Laws.{StalledPartsAreFull}
 use Rattle.tomex_timing.specs.Needs.{count_of, cycles_that, lacks_width, lacks_station, lacks_unit, peak, stalls, waits_for, waits_of}
-use Rattle.tomex_timing.specs.Recurrence.{IsLeast, IsTimed, AreTimed, EndsAfter, has_slot, are_branches_finished, can_issue, has_operands, are_conflicts_finished, has_unit, can_start, has_bus, can_end}
+use Rattle.tomex_timing.specs.Recurrence.{IsLeast, IsTimed, AreTimed, EndsAfter, can_issue_another, are_branches_finished, can_issue, has_operands, are_conflicts_finished, has_unit, can_start, has_bus, can_end}
 use Rattle.tomex_timing.specs.Station.{has_station, is_held}
 use Rattle.tomex_timing.proofs.Pigeons.{stations_held}
 use Rattle.tomex_timing.proofs.Places.{same_pool, same_unit}
@@ -77,7 +77,7 @@ width_full config older d waits =
     let c = some_that (lacks_width config older) (max 1 (last_issue older)) d.at.issue waits in
     let t : ℕ = c.0 in
     let low : max 1 (last_issue older) ≤ c.0 = c.1 in
-    let fails : not (has_slot config older c.0) ≡ true = (and_parts (are_branches_finished older c.0) (not (has_slot config older c.0)) c.3).1 in
+    let fails : not (can_issue_another config older c.0) ≡ true = (and_parts (are_branches_finished older c.0) (not (can_issue_another config older c.0)) c.3).1 in
     let order : nat_le (last_issue older) c.0 ≡ true = le-leb (last_issue older) c.0 (omega arith) in
     let none : nat_lt (count_by (λ x. x.at.issue == c.0) older) config.width ≡ false = last _ _ order fails in
     let most : count_by (λ x. x.at.issue == c.0) older ≤ peak Width older = issues_most older c.0 in
@@ -99,7 +99,7 @@ station_full config older d pool (Some p) e timed is waits = elim (cases_Bool (p
       let w : 0 < (waits_of config older d).station = rw f at waits in
       let c = some_that (lacks_station config older) (max 1 (last_issue older)) d.at.issue w in
       let low : max 1 (last_issue older) ≤ c.0 = c.1 in
-      let both = and_parts (are_branches_finished older c.0) (has_slot config older c.0) c.3 in
+      let both = and_parts (are_branches_finished older c.0) (can_issue_another config older c.0) c.3 in
       let cannot : can_issue config older d.step c.0 ≡ false = is.issue.1 c.0 c.2 in
       let none : has_station config older (step_pool d.step) c.0 ≡ false = last _ _ _ _ (lt-ltb 0 c.0 (omega arith)) both.1 both.0 cannot in
       let left : nat_lt (count_by (is_held pool c.0) older) (stations_of config pool) ≡ false = rw (e, same) at none in

@@ -15,7 +15,7 @@ use Rattle.tomex_timing.specs.declared.part.Part.TheVariants.{Stations, Units, B
 use Rattle.tomex_timing.specs.declared.times.Done.{Done}
 use Rattle.tomex_timing.specs.History.{is_of, cycle_of, last_issue}
 use Rattle.tomex_timing.specs.Needs.{count_of, cycles_that, lacks_width, lacks_station, lacks_unit, waits_of, stalls, peak, Serves}
-use Rattle.tomex_timing.specs.Recurrence.{IsLeast, IsTimed, AreTimed, EndsAfter, has_slot, are_branches_finished, can_issue, has_operands, are_conflicts_finished, has_unit, can_start, has_bus, can_end}
+use Rattle.tomex_timing.specs.Recurrence.{IsLeast, IsTimed, AreTimed, EndsAfter, can_issue_another, are_branches_finished, can_issue, has_operands, are_conflicts_finished, has_unit, can_start, has_bus, can_end}
 use Rattle.tomex_timing.specs.Search.{history, timed_of, times_in, total_of}
 use Rattle.tomex_timing.specs.Station.{has_station, is_held, is_free}
 use Rattle.tomex_timing.proofs.Histories.{are_timed}
@@ -44,18 +44,18 @@ Stands config other part older d = (count_of other part ≡ count_of config part
 
 -- width
 
-slot_same : (config other : Configuration) (older : List Done) (t : ℕ) → other.width ≡ config.width → has_slot other older t ≡ has_slot config older t
+slot_same : (config other : Configuration) (older : List Done) (t : ℕ) → other.width ≡ config.width → can_issue_another other older t ≡ can_issue_another config older t
 slot_same config other older t e = rw e refl
 
 slot_still : (config other : Configuration) (older : List Done) (d : Done) (t : ℕ) → Stands config other Width older d → max 1 (last_issue older) ≤ t → t < d.at.issue
-    → are_branches_finished older t ≡ true → has_slot config older t ≡ false → has_slot other older t ≡ false
+    → are_branches_finished older t ≡ true → can_issue_another config older t ≡ false → can_issue_another other older t ≡ false
 slot_still config other older d t (inl same) low high branches fails = slot_same config other older t same ∙ fails
 slot_still config other older d t (inr none) low high branches fails =
     let no : (waits_of config older d).width ≡ 0 = let z = none.0 in omega arith in
     let f : lacks_width config older t ≡ false = none_that (lacks_width config older) (max 1 (last_issue older)) d.at.issue t no low high in
     let g : true ≡ false = rw (branches, fails) at f in absurd (cc)
 
-slot_there : (config other : Configuration) (older : List Done) (d : Done) → Stands config other Width older d → has_slot config older d.at.issue ≡ true → has_slot other older d.at.issue ≡ true
+slot_there : (config other : Configuration) (older : List Done) (d : Done) → Stands config other Width older d → can_issue_another config older d.at.issue ≡ true → can_issue_another other older d.at.issue ≡ true
 slot_there config other older d (inl same) there = slot_same config other older d.at.issue same ∙ there
 slot_there config other older d (inr none) there =
     let order : nat_le (last_issue older) d.at.issue ≡ true = (and_parts _ _ there).0 in
@@ -72,7 +72,7 @@ own_pool p = eq-eqb _ _ refl
 
 station_still : (config other : Configuration) (older : List Done) (d : Done) (x : Option PoolId) (t : ℕ) → step_pool d.step ≡ x → ((part : Part) → Stands config other part older d)
     → max 1 (last_issue older) ≤ t → t < d.at.issue
-    → are_branches_finished older t ≡ true → has_slot config older t ≡ true → has_station config older x t ≡ false → has_station other older x t ≡ false
+    → are_branches_finished older t ≡ true → can_issue_another config older t ≡ true → has_station config older x t ≡ false → has_station other older x t ≡ false
 station_still config other older d None t e stands low high branches slot fails = fails
 station_still config other older d (Some p) t e stands low high branches slot fails = elim (stands (Stations p)) [
   | inl same ↦ station_same config other older p t same ∙ fails
@@ -108,13 +108,13 @@ cannot_issue config other older d t stands high fails = elim (cases_Bool (nat_lt
         let after : last_issue older ≤ t = leb-true (last_issue older) t f in
         let low : max 1 (last_issue older) ≤ t = omega arith in
         elim (cases_Bool (are_branches_finished older t)) [
-          | inr b ↦ and_left _ (has_station other older (step_pool d.step) t) (and_right (nat_lt 0 t && has_slot other older t) (are_branches_finished older t) b)
-          | inl b ↦ elim (cases_Bool (has_slot config older t)) [
+          | inr b ↦ and_left _ (has_station other older (step_pool d.step) t) (and_right (nat_lt 0 t && can_issue_another other older t) (are_branches_finished older t) b)
+          | inl b ↦ elim (cases_Bool (can_issue_another config older t)) [
             | inr w ↦
-                let z : has_slot other older t ≡ false = slot_still config other older d t (stands Width) low high b w in
-                and_left _ (has_station other older (step_pool d.step) t) (and_left _ (are_branches_finished older t) (and_right (nat_lt 0 t) (has_slot other older t) z))
+                let z : can_issue_another other older t ≡ false = slot_still config other older d t (stands Width) low high b w in
+                and_left _ (has_station other older (step_pool d.step) t) (and_left _ (are_branches_finished older t) (and_right (nat_lt 0 t) (can_issue_another other older t) z))
             | inl w ↦
-                let s : has_station config older (step_pool d.step) t ≡ false = last (nat_lt 0 t) (has_slot config older t) (are_branches_finished older t) (has_station config older (step_pool d.step) t) e w b fails in
+                let s : has_station config older (step_pool d.step) t ≡ false = last (nat_lt 0 t) (can_issue_another config older t) (are_branches_finished older t) (has_station config older (step_pool d.step) t) e w b fails in
                 and_right _ (has_station other older (step_pool d.step) t) (station_still config other older d (step_pool d.step) t refl stands low high b w s)
           ]
         ]
@@ -128,7 +128,7 @@ issues : (config other : Configuration) (older : List Done) (d : Done) → ((par
 issues config other older d stands timed is =
     let three = and_parts _ (has_station config older (step_pool d.step) d.at.issue) is.issue.0 in
     let two = and_parts _ (are_branches_finished older d.at.issue) three.0 in
-    let one = and_parts (nat_lt 0 d.at.issue) (has_slot config older d.at.issue) two.0 in
+    let one = and_parts (nat_lt 0 d.at.issue) (can_issue_another config older d.at.issue) two.0 in
     let l : last_issue older ≤ d.at.issue = issue_from config older d.step d.at.issue is.issue.0 in (
       and_from _ _ (and_from _ _ (and_from _ _ one.0 (slot_there config other older d (stands Width) one.1)) two.1) (station_there config other older d (step_pool d.step) refl stands timed l is.station three.1),
       λ t high. cannot_issue config other older d t stands high (is.issue.1 t high),

@@ -13,7 +13,7 @@ use Rattle.tomex_config.specs.Configuration.{Configuration, IsWithinLimits, stat
 use Rattle.tomex_timing.specs.declared.times.Done.{Done}
 use Rattle.tomex_timing.specs.History.{is_of, is_memory, cycle_of, writer_end, source_end, last_issue, last_address}
 use Rattle.tomex_timing.specs.Station.{is_held, has_station}
-use Rattle.tomex_timing.specs.Recurrence.{can_issue, can_address, can_start, can_end, has_slot, has_unit, are_branches_finished, conflicts, are_conflicts_finished}
+use Rattle.tomex_timing.specs.Recurrence.{can_issue, can_address, can_start, can_end, can_issue_another, has_unit, are_branches_finished, conflicts, are_conflicts_finished}
 use Rattle.tomex_timing.proofs.Limits.{stations_low, units_low, buses_low, width_low}
 
 -- no time of the step lies past the cycle
@@ -58,7 +58,7 @@ pub all_pass : {X : Type 0} (p : X → Bool) (P : X → Type 0) → ((x : X) →
 all_pass p P always [] h = refl
 all_pass p P always (x ∷ xs) h = rw (always x h.0) (all_pass p P always xs h.1)
 
-has_slot_after : (config : Configuration) (older : List Done) (g t : ℕ) → IsWithinLimits config → AllBy g older → g < t → has_slot config older t ≡ true
+has_slot_after : (config : Configuration) (older : List Done) (g t : ℕ) → IsWithinLimits config → AllBy g older → g < t → can_issue_another config older t ≡ true
 has_slot_after config older g t good h l =
     let by : last_issue older ≤ g = last_issue_by g older h in
     and_from _ _ (le-leb (last_issue older) t (omega arith))

@@ -14,7 +14,7 @@ use Rattle.tomex_timing.specs.declared.times.Done.{Done}
 use Rattle.tomex_timing.specs.History.{is_of, cycle_of, last_issue}
 use Rattle.tomex_timing.specs.Laws.{PeakIsWithin}
 use Rattle.tomex_timing.specs.Needs.{count_of, peak, stations_up_to, taken_by}
-use Rattle.tomex_timing.specs.Recurrence.{IsLeast, IsTimed, are_branches_finished, can_end, can_start, has_bus, has_slot, has_unit}
+use Rattle.tomex_timing.specs.Recurrence.{IsLeast, IsTimed, are_branches_finished, can_end, can_start, has_bus, can_issue_another, has_unit}
 use Rattle.tomex_timing.specs.Station.{has_station, is_free}
 use Rattle.tomex_timing.proofs.Holders.{number_low}
 use Rattle.tomex_timing.proofs.Orders.{dest_unit}
@@ -66,9 +66,9 @@ taken_within config older d (Stations pool) is = station_within config older d p
 taken_within config older d (Units unit) is = unit_within config older d unit (step_unit d.step) is.start
 taken_within config older d Buses is = bus_within config older d (step_unit d.step) refl is.end
 taken_within config older d Width is =
-    let most = and_parts (nat_lt 0 d.at.issue && has_slot config older d.at.issue && are_branches_finished older d.at.issue) (has_station config older (step_pool d.step) d.at.issue) is.issue.0 in
-    let first = and_parts (nat_lt 0 d.at.issue && has_slot config older d.at.issue) (are_branches_finished older d.at.issue) most.0 in
-    let slot : has_slot config older d.at.issue ≡ true = (and_parts (nat_lt 0 d.at.issue) (has_slot config older d.at.issue) first.0).1 in
+    let most = and_parts (nat_lt 0 d.at.issue && can_issue_another config older d.at.issue && are_branches_finished older d.at.issue) (has_station config older (step_pool d.step) d.at.issue) is.issue.0 in
+    let first = and_parts (nat_lt 0 d.at.issue && can_issue_another config older d.at.issue) (are_branches_finished older d.at.issue) most.0 in
+    let slot : can_issue_another config older d.at.issue ≡ true = (and_parts (nat_lt 0 d.at.issue) (can_issue_another config older d.at.issue) first.0).1 in
     let l : count_by (λ x. x.at.issue == d.at.issue) older < config.width = ltb-true (count_by (λ x. x.at.issue == d.at.issue) older) config.width (and_parts (nat_le (last_issue older) d.at.issue) (nat_lt (count_by (λ x. x.at.issue == d.at.issue) older) config.width) slot).1 in
     omega arith
 

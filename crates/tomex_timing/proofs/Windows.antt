@@ -20,7 +20,7 @@ use Rattle.tomex_timing.specs.declared.times.Times.{Times}
 use Rattle.tomex_timing.specs.declared.window.Latest.{Latest}
 use Rattle.tomex_timing.specs.History.{is_of, is_memory, cycle_of, writer_end, source_end, last_issue, last_address, greatest_end}
 use Rattle.tomex_timing.specs.Station.{has_station, is_free}
-use Rattle.tomex_timing.specs.Recurrence.{IsLeast, IsTimed, AreTimed, can_issue, can_address, can_start, can_end, has_slot, are_branches_finished}
+use Rattle.tomex_timing.specs.Recurrence.{IsLeast, IsTimed, AreTimed, can_issue, can_address, can_start, can_end, can_issue_another, are_branches_finished}
 use Rattle.tomex_timing.specs.Window.{Live, facts_of, live_of, recent, is_held_by, has_station_among, is_free_among, branch_finish, is_finished_conflict, starts_in, may_start, sends_in, has_bus_among, IsFirst, end_among, IsNext, IsKept, written_by, addressed_by, latest_after}
 use Rattle.tomex_timing.specs.Laws.{InReach}
 use Rattle.tomex_timing.proofs.Bound.{in_reach, timed_by}
@@ -108,7 +108,7 @@ after_split a t = elim (cases_Bool (nat_lt a t)) [
 
 -- the room for an issue is in the cycle of the last issue, where fewer than the width have it, and in each later one
 pub slot_split : (config : Configuration) (h : List Done) (t : ℕ) → IsWithinLimits config → AreTimed config h
-    → nat_le (cond (nat_lt (count_by (λ d. d.at.issue == last_issue h) h) config.width) (last_issue h) (last_issue h + 1)) t ≡ has_slot config h t
+    → nat_le (cond (nat_lt (count_by (λ d. d.at.issue == last_issue h) h) config.width) (last_issue h) (last_issue h + 1)) t ≡ can_issue_another config h t
 slot_split config h t good timed = elim (cases_order (last_issue h) t) [
   | inl e ↦ elim (cases_Bool (nat_lt (count_by (λ d. d.at.issue == last_issue h) h) config.width)) [
     | inl f ↦ rw (f, ← e, f, le-leb (last_issue h) (last_issue h) (omega arith)) refl
@@ -154,7 +154,7 @@ pub issue_agree : (config : Configuration) (h : List Done) (s : Step) (t : ℕ) 
 issue_agree config h s t good timed close =
     rw (max_split (cond (nat_lt (count_by (λ d. d.at.issue == last_issue h) h) config.width) (last_issue h) (last_issue h + 1)) (branch_finish h + 1) t, slot_split config h t good timed, branch_split h t)
     (elim (cases_Bool (nat_le (last_issue h) t)) [
-      | inl e ↦ rw (station_agree config h (step_pool s) (last_issue h) t close (leb-true (last_issue h) t e)) (reorder (has_slot config h t) (nat_lt 0 t) (are_branches_finished h t) (has_station config h (step_pool s) t))
+      | inl e ↦ rw (station_agree config h (step_pool s) (last_issue h) t close (leb-true (last_issue h) t e)) (reorder (can_issue_another config h t) (nat_lt 0 t) (are_branches_finished h t) (has_station config h (step_pool s) t))
       | inr e ↦ elim (cases_Bool (nat_lt 0 t)) [ inl f ↦ rw (e, f) refl | inr f ↦ rw (e, f) refl ]
     ])
 

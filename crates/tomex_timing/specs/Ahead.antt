@@ -1,6 +1,8 @@
 -- What the evaluator holds of the steps before, in place of a list of them: the reservation table of the cycles
 -- ahead, the ends of the stations' steps, and the accesses under way.
-use Rattle.std.specs.Prelude.{ℕ, ◌+◌, ◌*◌, ◌-◌, ◌^◌, ◌<◌, ◌≤◌, ◌≡◌, ◌==◌, nat_lt, nat_le, Bool, not, ◌&&◌, ◌||◌, if◌then◌else◌, List, [], ◌∷◌, ◌++◌, Option, Some, None, is_some, IfSome, slice_index, slice_index_or, slice_set, replicate, MatchOption, All}
+use Rattle.std.specs.Prelude.{ℕ, ◌+◌, ◌*◌, ◌-◌, ◌^◌, ◌<◌, ◌≤◌, ◌≡◌, ◌==◌, nat_lt, nat_le, Bool, not, ◌&&◌}
+use Rattle.std.specs.Prelude.{◌||◌, if◌then◌else◌, List, [], ◌∷◌, ◌++◌, Option, Some, None, is_some, IfSome}
+use Rattle.std.specs.Prelude.{slice_index, slice_index_or, slice_set, replicate, MatchOption, All}
 use Rattle.std.specs.Bool.{MatchBool}
 use Rattle.std.specs.List.{list_all, filter}
 use Rattle.tomex_rvdec.specs.Parts.{place_of_pool, place_of_unit}
@@ -144,7 +146,8 @@ pub record IsIdle (next : Next) : Type 0 where
   pub buses : next.buses ≡ 0
 
 -- what runs on a unit of this kind, given the ends of its operands' producers
-pub record RunsOn (config : Configuration) (table : Reserved) (accesses : List Access) (f : Facts) (j k : ℕ) (next : Next)
+pub record RunsOn
+    (config : Configuration) (table : Reserved) (accesses : List Access) (f : Facts) (j k : ℕ) (next : Next)
     (unit : UnitId) : Type 0 where
   pub operands : next.marks.operands ≡ operands_from next.at.issue j k
   pub ready : next.marks.ready ≡ ready_from next.at.issue next.at.address j k
@@ -155,7 +158,8 @@ pub record RunsOn (config : Configuration) (table : Reserved) (accesses : List A
   pub units : next.units ≡ with_own table (place_of_unit unit) next.at.start
 
 -- the times of a next step, its marks and what it takes, by what is held
-pub record IsNextBy (config : Configuration) (latest : Latest) (table : Reserved) (ends : List ℕ) (accesses : List Access)
+pub record IsNextBy
+    (config : Configuration) (latest : Latest) (table : Reserved) (ends : List ℕ) (accesses : List Access)
     (f : Facts) (next : Next) : Type 0 where
   pub from : next.marks.from ≡ issue_from config latest
   pub issue : TakesStation config ends f.pool next.marks.from next.at.issue next.at.station

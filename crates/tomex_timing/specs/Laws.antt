@@ -1,5 +1,6 @@
 -- Laws of the recurrence.
-use Rattle.std.specs.Prelude.{ℕ, ◌+◌, ◌-◌, ◌*◌, ◌<◌, ◌≤◌, ◌≡◌, ◌==◌, nat_lt, Bool, true, ◌&&◌, ◌||◌, if◌then◌else◌, List, [], ◌∷◌, ◌++◌, Option, Some, None, is_some, length, map, count_by, sum_by}
+use Rattle.std.specs.Prelude.{ℕ, ◌+◌, ◌-◌, ◌*◌, ◌<◌, ◌≤◌, ◌≡◌, ◌==◌, nat_lt, Bool, true, ◌&&◌, ◌||◌, if◌then◌else◌}
+use Rattle.std.specs.Prelude.{List, [], ◌∷◌, ◌++◌, Option, Some, None, is_some, length, map, count_by, sum_by}
 use Rattle.tomex_rvdec.specs.declared.pool.PoolId.{PoolId}
 use Rattle.tomex_rvdec.specs.declared.pool.UnitId.{UnitId}
 use Rattle.tomex_rvexec.specs.Flow.{covers}
@@ -14,9 +15,11 @@ use Rattle.tomex_timing.specs.declared.tables.Tag.{Tag}
 use Rattle.tomex_timing.specs.declared.times.Done.{Done}
 use Rattle.tomex_timing.specs.declared.times.Times.{Times}
 use Rattle.tomex_timing.specs.History.{cycle_of, is_memory, last_address, last_issue, greatest_end}
-use Rattle.tomex_timing.specs.Needs.{AreNeeds, Serves, count_of, drain, peak, pool_stalls, stalls, stalls_by, suffice, unit_stalls, waits_in}
+use Rattle.tomex_timing.specs.Needs.{AreNeeds, Serves, count_of, drain, peak, pool_stalls}
+use Rattle.tomex_timing.specs.Needs.{stalls, stalls_by, suffice, unit_stalls, waits_in}
 use Rattle.tomex_timing.specs.Station.{has_station, is_free}
-use Rattle.tomex_timing.specs.Recurrence.{IsTimed, AreTimed, can_issue, are_branches_finished, are_conflicts_finished, conflicts}
+use Rattle.tomex_timing.specs.Recurrence.{IsTimed, AreTimed, can_issue, are_branches_finished}
+use Rattle.tomex_timing.specs.Recurrence.{are_conflicts_finished, conflicts}
 use Rattle.tomex_timing.specs.Search.{history, timed_of, times_in, total_of}
 use Rattle.tomex_timing.specs.Tables.{tag_of}
 
@@ -32,7 +35,8 @@ TimesAreUnique = (config : Configuration) (older : List Done) (s : Step) (a b : 
 
 -- the function gives the times of the relation
 abbrev pub SearchIsTimed : Type 0
-SearchIsTimed = (config : Configuration) (steps : List Step) → IsWithinLimits config → AreTimed config (timed_of config steps)
+SearchIsTimed = (config : Configuration) (steps : List Step)
+    → IsWithinLimits config → AreTimed config (timed_of config steps)
 
 -- and a history with the times of the relation is the function's
 abbrev pub TimedIsSearch : Type 0
@@ -93,7 +97,8 @@ pub record InReach (g : ℕ) (at : Times) : Type 0 where
 
 -- so it is of each step
 abbrev pub TimesAreInReach : Type 0
-TimesAreInReach = (config : Configuration) (d : Done) (older : List Done) → IsWithinLimits config → AreTimed config (d ∷ older)
+TimesAreInReach = (config : Configuration) (d : Done) (older : List Done)
+    → IsWithinLimits config → AreTimed config (d ∷ older)
     → InReach (greatest_end older) d.at
 
 -- what uses a unit starts after its issue, and after its address where it has one
@@ -142,7 +147,8 @@ ConflictsAreFinished = (config : Configuration) (d : Done) (older : List Done) �
 
 -- a history takes no more of a part than its configuration has
 abbrev pub PeakIsWithin : Type 0
-PeakIsWithin = (config : Configuration) (h : List Done) (part : Part) → AreTimed config h → peak part h ≤ count_of config part
+PeakIsWithin = (config : Configuration) (h : List Done) (part : Part)
+    → AreTimed config h → peak part h ≤ count_of config part
 
 -- and all that its configuration has, where steps wait for it
 abbrev pub StalledPartsAreFull : Type 0
@@ -151,18 +157,21 @@ StalledPartsAreFull = (config : Configuration) (h : List Done) (part : Part) →
 
 -- a configuration that serves a history as its own configuration does gives each step of it the same times
 abbrev pub ServedTimesAreSame : Type 0
-ServedTimesAreSame = (config other : Configuration) (h : List Done) → AreTimed config h → Serves config other h → AreTimed other h
+ServedTimesAreSame = (config other : Configuration) (h : List Done)
+    → AreTimed config h → Serves config other h → AreTimed other h
 
 -- so a run has one history, and one total, on both
 abbrev pub ServedRunsAreSame : Type 0
 ServedRunsAreSame = (config other : Configuration) (steps : List Step) → IsWithinLimits config → IsWithinLimits other
     → Serves config other (history config steps)
-    → (history other steps ≡ history config steps) × (total_of (times_in other steps) ≡ total_of (times_in config steps))
+    → (history other steps ≡ history config steps)
+    × (total_of (times_in other steps) ≡ total_of (times_in config steps))
 
 -- Issue accounting: each cycle of a run is one in which something waits to issue, the one in which the last step
 -- issues but for waits, or one of the drain after its last issue.
 abbrev pub IssueCyclesAddUp : Type 0
-IssueCyclesAddUp = (config : Configuration) (d : Done) (older : List Done) → IsWithinLimits config → AreTimed config (d ∷ older)
+IssueCyclesAddUp = (config : Configuration) (d : Done) (older : List Done)
+    → IsWithinLimits config → AreTimed config (d ∷ older)
     → stalls_by (λ w. w.branch) config (d ∷ older) + stalls config Width (d ∷ older) + pool_stalls config (d ∷ older)
     + drain (d ∷ older) + 1 ≡ greatest_end (d ∷ older)
 
@@ -178,7 +187,8 @@ work_by config (Some unit) dest = (option_of config unit).latency + (if dest the
 
 abbrev pub work_cycles : Configuration → List Done → ℕ
 work_cycles config [] = 0
-work_cycles config (d ∷ older) = work_by config (step_unit d.step) (is_some (step_dest d.step)) + work_cycles config older
+work_cycles config (d ∷ older) =
+    work_by config (step_unit d.step) (is_some (step_dest d.step)) + work_cycles config older
 
 -- Station accounting: the others are waits.
 abbrev pub StationCyclesAddUp : Type 0
@@ -189,7 +199,8 @@ StationCyclesAddUp = (config : Configuration) (h : List Done) → IsWithinLimits
 
 -- needs of a run that suffice for another configuration tell that its times are the same there
 abbrev pub NeedsTell : Type 0
-NeedsTell = (config other : Configuration) (h : List Done) (needs : Needs) → AreNeeds config h needs → suffice needs config other ≡ true
+NeedsTell = (config other : Configuration) (h : List Done) (needs : Needs)
+    → AreNeeds config h needs → suffice needs config other ≡ true
     → Serves config other h
 
 -- the waits of a run's steps for one cause add up to its stalls by that cause
@@ -212,4 +223,5 @@ abbrev pub BusWaitsAreStalls : Type 0
 BusWaitsAreStalls = (config : Configuration) (h : List Done) → stalls_by (λ w. w.bus) config h ≡ stalls config Buses h
 
 abbrev pub WidthWaitsAreStalls : Type 0
-WidthWaitsAreStalls = (config : Configuration) (h : List Done) → stalls_by (λ w. w.width) config h ≡ stalls config Width h
+WidthWaitsAreStalls = (config : Configuration) (h : List Done)
+    → stalls_by (λ w. w.width) config h ≡ stalls config Width h

@@ -1,7 +1,9 @@
 -- What a run takes of a machine's parts, and how long its steps wait for each of them. Every cycle in which a step
 -- waits is charged to one thing: the first that it lacks, in the order below. This order is the project's choice; the
 -- last thing is charged with what is left, since a step that lacked nothing would have gone on.
-use Rattle.std.specs.Prelude.{ℕ, ◌+◌, ◌-◌, ◌≤◌, ◌≡◌, ◌⊎◌, ◌==◌, nat_lt, nat_le, Bool, not, ◌&&◌, ◌||◌, if◌then◌else◌, List, [], ◌∷◌, Option, Some, None, count_by, is_some, max, length, reverse, slice_index_or}
+use Rattle.std.specs.Prelude.{ℕ, ◌+◌, ◌-◌, ◌≤◌, ◌≡◌, ◌⊎◌, ◌==◌, nat_lt, nat_le, Bool, not, ◌&&◌, ◌||◌}
+use Rattle.std.specs.Prelude.{if◌then◌else◌, List, [], ◌∷◌, Option, Some, None, count_by, is_some, max, length}
+use Rattle.std.specs.Prelude.{reverse, slice_index_or}
 use Rattle.std.specs.List.{list_all, range_with_len}
 use Rattle.tomex_rvdec.specs.Parts.{place_of_pool, place_of_unit}
 use Rattle.tomex_rvdec.specs.declared.pool.PoolId.TheVariants as pools
@@ -17,7 +19,8 @@ use Rattle.tomex_timing.specs.declared.part.Part.TheVariants.{Stations, Units, B
 use Rattle.tomex_timing.specs.declared.part.Waits.{Waits}
 use Rattle.tomex_timing.specs.declared.times.Done.{Done}
 use Rattle.tomex_timing.specs.History.{is_of, cycle_of, greatest_end, last_issue}
-use Rattle.tomex_timing.specs.Recurrence.{has_slot, are_branches_finished, has_operands, are_conflicts_finished}
+use Rattle.tomex_timing.specs.Recurrence.{can_issue_another, are_branches_finished}
+use Rattle.tomex_timing.specs.Recurrence.{has_operands, are_conflicts_finished}
 use Rattle.tomex_timing.specs.Search.{history}
 
 -- how many of a part a configuration has
@@ -37,10 +40,10 @@ abbrev pub lacks_branch : List Done → ℕ → Bool
 lacks_branch older t = not (are_branches_finished older t)
 
 abbrev pub lacks_width : Configuration → List Done → ℕ → Bool
-lacks_width config older t = are_branches_finished older t && not (has_slot config older t)
+lacks_width config older t = are_branches_finished older t && not (can_issue_another config older t)
 
 abbrev pub lacks_station : Configuration → List Done → ℕ → Bool
-lacks_station config older t = are_branches_finished older t && has_slot config older t
+lacks_station config older t = are_branches_finished older t && can_issue_another config older t
 
 abbrev pub issue_waits : List Done → Done → (ℕ → Bool) → ℕ
 issue_waits older d lacks = cycles_that lacks (max 1 (last_issue older)) d.at.issue
@@ -110,7 +113,8 @@ stalls_by cause config h = sum_over (λ older d. cause (waits_of config older d)
 abbrev pub pool_stalls : Configuration → List Done → ℕ
 pool_stalls config h =
     stalls config (Stations pools.Alu) h + stalls config (Stations pools.Mul) h + stalls config (Stations pools.Div) h
-    + stalls config (Stations pools.Load) h + stalls config (Stations pools.Store) h + stalls config (Stations pools.Bru) h
+    + stalls config (Stations pools.Load) h + stalls config (Stations pools.Store) h
+    + stalls config (Stations pools.Bru) h
 
 abbrev pub unit_stalls : Configuration → List Done → ℕ
 unit_stalls config h =
@@ -145,11 +149,13 @@ abbrev pub peak : Part → List Done → ℕ
 peak part [] = 0
 peak part (d ∷ older) = max (taken_by part older d) (peak part older)
 
--- A second configuration serves a history as the first does: of each part it has as many, or the history has no stalls of
--- it and takes no more of it than the second configuration has; and each kind of unit that is used has the same latency.
+-- A second configuration serves a history as the first does: of each part it has as many, or the history has no stalls
+-- of it and takes no more of it than the second configuration has; and each kind of unit that is used has the same
+-- latency.
 pub record Serves (config other : Configuration) (h : List Done) : Type 0 where
   pub parts : (part : Part)
-      → (count_of other part ≡ count_of config part) ⊎ ((stalls config part h ≡ 0) × (peak part h ≤ count_of other part))
+      → (count_of other part ≡ count_of config part)
+      ⊎ ((stalls config part h ≡ 0) × (peak part h ≤ count_of other part))
   pub latencies : (unit : UnitId)
       → ((option_of other unit).latency ≡ (option_of config unit).latency) ⊎ (peak (Units unit) h ≡ 0)
 

@@ -3,7 +3,8 @@
 -- Sources: R. M. Tomasulo, "An Efficient Algorithm for Exploiting Multiple Arithmetic Units", 1967;
 -- Hennessy and Patterson, "Computer Architecture: A Quantitative Approach", the chapter on Tomasulo's
 -- algorithm. What they leave open this project chooses, and says so.
-use Rattle.std.specs.Prelude.{ℕ, ◌+◌, ◌-◌, ◌<◌, ◌≡◌, ◌==◌, nat_lt, nat_le, Bool, false, not, ◌&&◌, ◌||◌, IsTrue, List, [], ◌∷◌, Option, Some, None, count_by, is_some, MatchOption}
+use Rattle.std.specs.Prelude.{ℕ, ◌+◌, ◌-◌, ◌<◌, ◌≡◌, ◌==◌, nat_lt, nat_le, Bool, false, not, ◌&&◌, ◌||◌}
+use Rattle.std.specs.Prelude.{IsTrue, List, [], ◌∷◌, Option, Some, None, count_by, is_some, MatchOption}
 use Rattle.std.specs.Bool.{MatchBool}
 use Rattle.std.specs.List.{list_all}
 use Rattle.tomex_rvdec.specs.declared.pool.UnitId.{UnitId}
@@ -21,8 +22,9 @@ abbrev pub IsLeast : (ℕ → Bool) → ℕ → Type 0
 IsLeast p t = IsTrue (p t) × ((s : ℕ) → s < t → p s ≡ false)
 
 -- no earlier than the one before, and fewer than the width of the older ones issue in the cycle
-abbrev pub has_slot : Configuration → List Done → ℕ → Bool
-has_slot config older t = nat_le (last_issue older) t && nat_lt (count_by (λ d. d.at.issue == t) older) config.width
+abbrev pub can_issue_another : Configuration → List Done → ℕ → Bool
+can_issue_another config older t =
+    nat_le (last_issue older) t && nat_lt (count_by (λ d. d.at.issue == t) older) config.width
 
 -- each older branch, a conditional one or JALR, has finished
 abbrev pub are_branches_finished : List Done → ℕ → Bool
@@ -33,7 +35,8 @@ are_branches_finished older t = list_all (λ d. not (is_branch d.step) || nat_lt
 -- finish of each older branch.
 abbrev pub can_issue : Configuration → List Done → Step → ℕ → Bool
 can_issue config older s t =
-    nat_lt 0 t && has_slot config older t && are_branches_finished older t && has_station config older (step_pool s) t
+    nat_lt 0 t && can_issue_another config older t && are_branches_finished older t
+    && has_station config older (step_pool s) t
 
 -- Address. Hennessy and Patterson: loads and stores compute their addresses in program order, from the
 -- base register. This project: one in a cycle.
@@ -66,7 +69,8 @@ has_unit config older unit t =
 -- pipelined, and the oldest operations are served first.
 abbrev pub can_start : Configuration → List Done → Step → UnitId → ℕ → ℕ → ℕ → Bool
 can_start config older s unit issue address t =
-    nat_lt issue t && nat_lt address t && has_operands older s t && are_conflicts_finished older s t && has_unit config older unit t
+    nat_lt issue t && nat_lt address t && has_operands older s t && are_conflicts_finished older s t
+    && has_unit config older unit t
 
 -- a bus is left
 abbrev pub has_bus : Configuration → List Done → ℕ → Bool

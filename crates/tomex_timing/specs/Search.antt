@@ -1,5 +1,6 @@
 -- The same times as a function: each is searched for up to a cycle in which nothing older is in the way any more.
-use Rattle.std.specs.Prelude.{ℕ, zero, suc, ◌+◌, ◌-◌, Bool, if◌then◌else◌, List, [], ◌∷◌, Option, Some, None, is_some, map, reverse, max}
+use Rattle.std.specs.Prelude.{ℕ, zero, suc, ◌+◌, ◌-◌, Bool, if◌then◌else◌, List, []}
+use Rattle.std.specs.Prelude.{◌∷◌, Option, Some, None, is_some, map, reverse, max}
 use Rattle.tomex_rvdec.specs.declared.pool.PoolId.{PoolId}
 use Rattle.tomex_rvdec.specs.declared.pool.UnitId.{UnitId}
 use Rattle.tomex_rvexec.specs.Steps.{step_pool, step_unit, step_dest}
@@ -67,7 +68,8 @@ times_of config older s =
 -- steps, the youngest first, with their times
 abbrev pub timed_of : Configuration → List Step → List Done
 timed_of config [] = []
-timed_of config (s ∷ older) = record { step = s; at = times_of config (timed_of config older) s } ∷ timed_of config older
+timed_of config (s ∷ older) =
+    record { step = s; at = times_of config (timed_of config older) s } ∷ timed_of config older
 
 -- the history of a run, whose steps stand in program order
 abbrev pub history : Configuration → List Step → List Done

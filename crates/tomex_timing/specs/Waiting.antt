@@ -1,5 +1,6 @@
 -- The needs of a run as they are counted: a step's waits are differences of cycles that the evaluator has at hand.
-use Rattle.std.specs.Prelude.{ℕ, ◌+◌, ◌-◌, ◌≤◌, ◌==◌, if◌then◌else◌, List, [], ◌∷◌, Option, Some, None, count_by, is_some, max, replicate, slice_index_or, slice_set}
+use Rattle.std.specs.Prelude.{ℕ, ◌+◌, ◌-◌, ◌≤◌, ◌==◌, if◌then◌else◌, List, [], ◌∷◌, Option, Some}
+use Rattle.std.specs.Prelude.{None, count_by, is_some, max, replicate, slice_index_or, slice_set}
 use Rattle.tomex_rvdec.specs.Parts.{place_of_pool, place_of_unit}
 use Rattle.tomex_rvdec.specs.declared.pool.PoolId.{PoolId}
 use Rattle.tomex_rvdec.specs.declared.pool.UnitId.{UnitId}
@@ -17,7 +18,8 @@ use Rattle.tomex_timing.specs.declared.waiting.Taken.{Taken}
 use Rattle.tomex_timing.specs.declared.window.Facts.{Facts}
 use Rattle.tomex_timing.specs.declared.window.Latest.{Latest}
 use Rattle.tomex_timing.specs.Needs.{no_need, need_of, stations_up_to}
-use Rattle.tomex_timing.specs.Window.{Live, facts_of, issue_from, conflicts_with, starts_in, sends_in, end_among, ready_from}
+use Rattle.tomex_timing.specs.Window.{Live, facts_of, issue_from, conflicts_with}
+use Rattle.tomex_timing.specs.Window.{starts_in, sends_in, end_among, ready_from}
 
 -- the first cycle from this one on that is later than the finish of each conflicting access
 abbrev pub clear_among : Facts → List Live → ℕ → ℕ

@@ -1,12 +1,15 @@
 -- What matters of a history to a next step: the steps that may still be in its way, and what is latest. The tests are
 -- those of the recurrence over these.
-use Rattle.std.specs.Prelude.{ℕ, ◌-◌, ◌+◌, ◌<◌, ◌≤◌, ◌≡◌, ◌==◌, nat_lt, nat_le, Bool, true, not, ◌&&◌, ◌||◌, if◌then◌else◌, List, [], ◌∷◌, ◌++◌, Option, Some, None, slice_index, slice_set, replicate, map, max, length, is_some, count_by, MatchOption, IfSome, All}
+use Rattle.std.specs.Prelude.{ℕ, ◌-◌, ◌+◌, ◌<◌, ◌≤◌, ◌≡◌, ◌==◌, nat_lt, nat_le, Bool, true, not, ◌&&◌, ◌||◌}
+use Rattle.std.specs.Prelude.{if◌then◌else◌, List, [], ◌∷◌, ◌++◌, Option, Some, None, slice_index, slice_set}
+use Rattle.std.specs.Prelude.{replicate, map, max, length, is_some, count_by, MatchOption, IfSome, All}
 use Rattle.std.specs.Bool.{MatchBool}
 use Rattle.std.specs.List.{list_all}
 use Rattle.tomex_rvdec.specs.declared.pool.PoolId.{PoolId}
 use Rattle.tomex_rvdec.specs.declared.pool.PoolId.TheVariants.{Load, Store}
 use Rattle.tomex_rvdec.specs.declared.pool.UnitId.{UnitId}
-use Rattle.tomex_rvexec.specs.Steps.{step_pool, step_unit, step_dest, j_of, k_of, bytes_of, is_branch, is_store, is_in, is_number}
+use Rattle.tomex_rvexec.specs.Steps.{step_pool, step_unit, step_dest, j_of, k_of, bytes_of}
+use Rattle.tomex_rvexec.specs.Steps.{is_branch, is_store, is_in, is_number}
 use Rattle.tomex_rvexec.specs.declared.step.Operand.{Operand}
 use Rattle.tomex_rvexec.specs.declared.step.Step.{Step}
 use Rattle.tomex_config.specs.Configuration.{Configuration, stations_of, option_of}

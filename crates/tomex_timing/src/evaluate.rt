@@ -36,8 +36,7 @@ pub fn times<A: Allocator + Clone>(
 {
     let mut result = Vec::new(alloc.clone()?);
     let mut window = Window::new(&alloc, &alloc);
-    // Read for what the configuration's type keeps, which the proof needs.
-    let _buses = config.buses();
+    config.keeps_limits();
     for step in steps {
         let facts = Facts::of(step);
         let at = next_step(config, &window, &facts).at;
@@ -62,8 +61,7 @@ pub fn waits<A: Allocator + Clone>(
 {
     let mut result: Vec<Waits, A> = Vec::new(alloc.clone()?);
     let mut window = Window::new(&alloc, &alloc);
-    // Read for what the configuration's type keeps, which the proof needs.
-    let _buses = config.buses();
+    config.keeps_limits();
     for step in steps {
         let facts = Facts::of(step);
         let next = next_step(config, &window, &facts);
@@ -99,8 +97,7 @@ pub(crate) fn needs_of<A: Allocator>(
 {
     let mut window = Window::new(alloc, alloc);
     let mut needs = Needs::none();
-    // Read for what the configuration's type keeps, which the proof needs.
-    let _buses = config.buses();
+    config.keeps_limits();
     for step in facts {
         let next = next_step(config, &window, step);
         let waits = waits_of(&window.latest, &next);

@@ -2,7 +2,14 @@
 
 ghost use Rattle.std.specs.Prelude.{◌≡◌};
 ghost use Rattle.tomex_timing.specs.Needs.{all_parts};
-ghost use Rattle.tomex_timing.specs.Laws.{TimesExist, TimesAreUnique, SearchIsTimed, TimedIsSearch, TotalIsBounded, TotalIsGreatestEnd, YoungerChangeNothing, IssuesAlone, IssuesRise, IssuesStandInOrder, IssuesFitTheWidth, TimesAreInReach, StartsComeLater, ResultsComeLater, AddressesRise, NumbersAreLow, StationsAreApart, StationsAreThere, AccessesConflict, ConflictsAreFinished, PeakIsWithin, StalledPartsAreFull, NeedsTell, ServedTimesAreSame, ServedRunsAreSame, IssueCyclesAddUp, StationCyclesAddUp, WaitsAddUp, StationWaitsAreStalls, UnitWaitsAreStalls, BusWaitsAreStalls, WidthWaitsAreStalls};
+ghost use Rattle.tomex_timing.specs.Laws.{TimesExist, TimesAreUnique, SearchIsTimed, TimedIsSearch, TotalIsBounded};
+ghost use Rattle.tomex_timing.specs.Laws.{TotalIsGreatestEnd, YoungerChangeNothing, IssuesAlone, IssuesRise};
+ghost use Rattle.tomex_timing.specs.Laws.{IssuesStandInOrder, IssuesFitTheWidth, TimesAreInReach, StartsComeLater};
+ghost use Rattle.tomex_timing.specs.Laws.{ResultsComeLater, AddressesRise, NumbersAreLow, StationsAreApart};
+ghost use Rattle.tomex_timing.specs.Laws.{StationsAreThere, AccessesConflict, ConflictsAreFinished, PeakIsWithin};
+ghost use Rattle.tomex_timing.specs.Laws.{StalledPartsAreFull, NeedsTell, ServedTimesAreSame, ServedRunsAreSame};
+ghost use Rattle.tomex_timing.specs.Laws.{IssueCyclesAddUp, StationCyclesAddUp, WaitsAddUp, StationWaitsAreStalls};
+ghost use Rattle.tomex_timing.specs.Laws.{UnitWaitsAreStalls, BusWaitsAreStalls, WidthWaitsAreStalls};
 
 use crate::part::Part;
 

@@ -5,7 +5,8 @@ ghost use Rattle.tomex_rvdec.specs.Parts.{place_of_pool, place_of_unit};
 ghost use Rattle.tomex_rvdec.specs.declared.pool.PoolId.{PoolId};
 ghost use Rattle.tomex_rvdec.specs.declared.pool.UnitId.{UnitId};
 ghost use Rattle.tomex_timing.specs.Needs.{no_need, need_of, allows, suffice};
-ghost use Rattle.tomex_timing.specs.Waiting.{AreWithin, IsWithin, nothing_needed, need_after, needs_after, stations_after, units_after};
+ghost use Rattle.tomex_timing.specs.Waiting.{AreWithin, IsWithin, nothing_needed, need_after};
+ghost use Rattle.tomex_timing.specs.Waiting.{needs_after, stations_after, units_after};
 
 use crate::part::{Need, Part, Waits};
 use crate::times::Times;

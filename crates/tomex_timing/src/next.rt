@@ -3,7 +3,8 @@
 ghost use Rattle.std.specs.Prelude.{◌≡◌, ℕ, ◌+◌, ◌-◌, ◌^◌, ◌<◌, ◌≤◌, None, max, IfSome};
 ghost use Rattle.tomex_config.specs.Configuration.{IsWithinLimits, option_of};
 ghost use Rattle.tomex_rvdec.specs.Parts.{place_of_unit};
-ghost use Rattle.tomex_timing.specs.Ahead.{IsNextBy, IsSettledBy, TakesBus, TakesStation, bus_line, end_at, end_in, taken_at};
+ghost use Rattle.tomex_timing.specs.Ahead.{IsNextBy, IsSettledBy, TakesBus, TakesStation};
+ghost use Rattle.tomex_timing.specs.Ahead.{bus_line, end_at, end_in, taken_at};
 ghost use Rattle.tomex_timing.specs.History.{cycle_of};
 ghost use Rattle.tomex_timing.specs.Window.{HasRegisters, address_among, is_memory_pool, issue_from, ready_from};
 

@@ -7,7 +7,7 @@ use Rattle.toml.specs.View.{view, items_view}
 use Rattle.toml.specs.declared.value.Value.{Value}
 use Rattle.tomex_values.specs.declared.place.Key.{Key}
 use Rattle.tomex_values.specs.declared.place.Place.{Place}
-use Rattle.tomex_values.specs.declared.error.StudyError.{StudyError}
+use Rattle.tomex_values.specs.declared.error.DocumentError.{DocumentError}
 use Rattle.tomex_values.specs.Readings.{Reading, ◌>>=◌, with_front}
 use Rattle.tomex_values.specs.Numbers.{between, number_of}
 use Rattle.tomex_values.specs.Lists.{items_count, all_items, each, some_counts}
@@ -54,7 +54,7 @@ each_next read front after vs index v x whole within is given grown so_far =
     rw (add-one, grown) (each_more read front vs index v x whole within is given so_far)
 
 -- the fault of one is the fault of all
-pub each_fault : {X : Type 0} (read : Data → Reading X) (front : List X) (vs : List Value) (index : ℕ) (v : Value) (error : StudyError) (whole : Reading (List X))
+pub each_fault : {X : Type 0} (read : Data → Reading X) (front : List X) (vs : List Value) (index : ℕ) (v : Value) (error : DocumentError) (whole : Reading (List X))
     → index < length vs → v ≡ get_or vs index v → read (view v) ≡ Err error
     → with_front front (each read (items_view (drop index vs))) ≡ whole → whole ≡ Err error
 each_fault read front [] index v error whole within is fault so_far = absurd (omega (arith, within))

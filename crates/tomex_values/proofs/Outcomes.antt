@@ -1,11 +1,11 @@
 -- What a reading that gives a value has met on its way.
 use Rattle.std.proofs.Common.{◌≡◌, Bool, true, false, Ok, Err, refl}
 use Rattle.std.specs.Prelude.{if◌then◌else◌}
-use Rattle.tomex_values.specs.declared.error.StudyError.{StudyError}
+use Rattle.tomex_values.specs.declared.error.DocumentError.{DocumentError}
 use Rattle.tomex_values.specs.Readings.{Reading, ◌>>=◌}
 
 -- a fault is no value
-pub fault_is_no_value : {X : Type 0} (error : StudyError) (x : X) → Err error ≡ Ok x → ⊥
+pub fault_is_no_value : {X : Type 0} (error : DocumentError) (x : X) → Err error ≡ Ok x → ⊥
 fault_is_no_value error x given = cc
 
 pub same_value : {X : Type 0} (x y : X) (reading : Reading X) → reading ≡ Ok x → reading ≡ Ok y → x ≡ y
@@ -18,13 +18,13 @@ first_value (Ok x) next y given = (x, (refl, given))
 first_value (Err error) next y given = absurd (fault_is_no_value error y given)
 
 -- a test was passed
-pub passed : {X : Type 0} (test : Bool) (x y : X) (error : StudyError) → (if test then Ok x else Err error) ≡ Ok y
+pub passed : {X : Type 0} (test : Bool) (x y : X) (error : DocumentError) → (if test then Ok x else Err error) ≡ Ok y
     → (test ≡ true) × (x ≡ y)
 passed true x y error given = (refl, same_value x y (Ok x) refl given)
 passed false x y error given = absurd (fault_is_no_value error y given)
 
 -- a test for a fault was failed
-pub not_met : {X : Type 0} (test : Bool) (x y : X) (error : StudyError) → (if test then Err error else Ok x) ≡ Ok y
+pub not_met : {X : Type 0} (test : Bool) (x y : X) (error : DocumentError) → (if test then Err error else Ok x) ≡ Ok y
     → (test ≡ false) × (x ≡ y)
 not_met false x y error given = (refl, same_value x y (Ok x) refl given)
 not_met true x y error given = absurd (fault_is_no_value error y given)
@@ -33,5 +33,5 @@ not_met true x y error given = absurd (fault_is_no_value error y given)
 pub goes_on : {X Y : Type 0} (reading : Reading X) (next : X → Reading Y) (x : X) (whole : Reading Y) → reading ≡ Ok x → next x ≡ whole → (reading >>= next) ≡ whole
 goes_on reading next x whole given rest = rw given rest
 
-pub stops : {X Y : Type 0} (reading : Reading X) (next : X → Reading Y) (error : StudyError) → reading ≡ Err error → (reading >>= next) ≡ Err error
+pub stops : {X Y : Type 0} (reading : Reading X) (next : X → Reading Y) (error : DocumentError) → reading ≡ Err error → (reading >>= next) ≡ Err error
 stops reading next error fault = rw fault refl

@@ -5,7 +5,7 @@ use Rattle.std.specs.List.{list_all}
 use Rattle.toml.specs.Data.{Data, string, integer, float, boolean, datetime, array, table, Items, no_items, item, Members, as_array}
 use Rattle.tomex_config.specs.Configuration.{is_between}
 use Rattle.tomex_values.specs.declared.numbers.Limits.{Limits}
-use Rattle.tomex_values.specs.declared.error.StudyError.TheVariants.{Kind, Range}
+use Rattle.tomex_values.specs.declared.error.DocumentError.TheVariants.{Kind, Range}
 use Rattle.tomex_values.specs.declared.place.Key.{Key}
 use Rattle.tomex_values.specs.declared.place.Place.{Place}
 use Rattle.tomex_values.specs.Readings.{Reading, ◌>>=◌}

@@ -1,9 +1,10 @@
 -- Arrays of the document: of integers, and of tables.
-use Rattle.std.specs.Prelude.{ℕ, suc, Bool, true, ◌&&◌, ◌==◌, List, [], ◌∷◌, Option, Some, None, Ok, Err, is_some, if◌then◌else◌}
+use Rattle.std.specs.Prelude.{ℕ, suc, Bool, true, ◌&&◌, ◌==◌, List, [], ◌∷◌, Option}
+use Rattle.std.specs.Prelude.{Some, None, Ok, Err, is_some, if◌then◌else◌}
 use Rattle.toml.specs.Data.{Data, Items, no_items, item, Members, as_integer, as_array, as_table}
 use Rattle.tomex_values.specs.declared.place.Key.{Key}
 use Rattle.tomex_values.specs.declared.place.Place.{Place}
-use Rattle.tomex_values.specs.declared.error.StudyError.TheVariants.{Kind, Range}
+use Rattle.tomex_values.specs.declared.error.DocumentError.TheVariants.{Kind, Range}
 use Rattle.tomex_values.specs.Readings.{Reading, ◌>>=◌}
 use Rattle.tomex_values.specs.Table.{value_at}
 use Rattle.tomex_values.specs.Numbers.{between, number_of}

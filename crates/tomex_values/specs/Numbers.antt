@@ -4,7 +4,7 @@ use Rattle.toml.specs.Data.{Data, integer, Members}
 use Rattle.tomex_values.specs.declared.place.Key.{Key}
 use Rattle.tomex_values.specs.declared.place.Place.{Place}
 use Rattle.tomex_values.specs.declared.numbers.Limits.{Limits}
-use Rattle.tomex_values.specs.declared.error.StudyError.TheVariants.{Kind, Range}
+use Rattle.tomex_values.specs.declared.error.DocumentError.TheVariants.{Kind, Range}
 use Rattle.tomex_values.specs.Readings.{Reading}
 use Rattle.tomex_values.specs.Table.{value_at}
 

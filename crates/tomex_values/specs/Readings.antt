@@ -1,11 +1,11 @@
 -- Readings of a document: each gives a value, or the first fault that it meets.
 use Rattle.std.specs.Prelude.{◌≡◌, ◌≢◌, List, ◌++◌, Result, Ok, Err}
-use Rattle.tomex_values.specs.declared.error.StudyError.{StudyError}
-use Rattle.tomex_values.specs.declared.error.StudyError.TheVariants.{Memory}
+use Rattle.tomex_values.specs.declared.error.DocumentError.{DocumentError}
+use Rattle.tomex_values.specs.declared.error.DocumentError.TheVariants.{Memory}
 
 -- a value of this type, or a fault of the study
 abbrev pub Reading : Type 0 → Type 0
-Reading X = Result X StudyError
+Reading X = Result X DocumentError
 
 -- one reading, and then the one that goes on with its value
 infixl 10 ◌>>=◌

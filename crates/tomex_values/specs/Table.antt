@@ -5,7 +5,7 @@ use Rattle.std.specs.Str.{bytes_eq}
 use Rattle.toml.specs.Data.{Data, Members, no_members, member, get_member, as_table}
 use Rattle.tomex_values.specs.declared.place.Key.{Key}
 use Rattle.tomex_values.specs.declared.place.Place.{Place}
-use Rattle.tomex_values.specs.declared.error.StudyError.TheVariants.{UnknownKey, Kind}
+use Rattle.tomex_values.specs.declared.error.DocumentError.TheVariants.{UnknownKey, Kind}
 use Rattle.tomex_values.specs.Place.{key_text}
 use Rattle.tomex_values.specs.Readings.{Reading}
 

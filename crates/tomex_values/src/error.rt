@@ -1,66 +1,42 @@
-//! Why the bytes of a study, or the files that it names, are refused.
+//! Why the bytes of a study are no document of one.
 
 ghost use Rattle.std.specs.Prelude.{◌≡◌};
-ghost use Rattle.tomex_values.specs.declared.error.StudyError.TheVariants.{Memory};
+ghost use Rattle.tomex_values.specs.declared.error.DocumentError.TheVariants.{Memory};
 
 use crate::place::{Key, Place};
 use std::alloc::{AllocError, AllocFailed};
-use thiserror::Error;
-use tomex_image::ImageError;
-use tomex_rvexec::Fault;
 
-/// The first test that a study fails. The tests up to `TooMany` are those of the document alone;
-/// those from `Files` on are of its programs' files. The texts of three variants begin with the
-/// program's name.
-#[derive(Debug, Drop, Error)]
-pub enum StudyError {
+/// The first test that a study's document fails.
+#[derive(Debug, Drop)]
+pub enum DocumentError {
     /// The bytes are no TOML document.
-    #[error("study: not TOML")]
     Syntax,
     /// The place has a key that no study has there.
-    #[error("study: {0}: unknown key")]
     UnknownKey(Place),
     /// The place lacks a key that every study has there.
-    #[error("study: {0}: {1} missing")]
     MissingKey(Place, Key),
     /// The value of the key is of another kind than a study has there.
-    #[error("study: {0}: {1} of wrong kind")]
     Kind(Place, Key),
     /// The value of the key is of its kind and outside its limits.
-    #[error("study: {0}: {1} out of range")]
     Range(Place, Key),
     /// The axes span more than 16,384 configurations.
-    #[error("study: too many configurations")]
     TooMany,
-    /// There are more or fewer files than programs.
-    #[error("study: wrong number of files")]
-    Files,
-    /// The file of the named program is no image of its window. Never `ImageError::Memory`.
-    #[error("program {0}: image: {1}")]
-    Image(String, ImageError),
-    /// The named program ends by a fault.
-    #[error("program {0}: fault: {1}")]
-    Fault(String, Fault),
-    /// The named program doesn't end within its limit.
-    #[error("program {0}: too long")]
-    TooLong(String),
     /// Memory was refused. It says nothing of the study.
-    #[error("out of memory")]
     Memory,
 }
 
-impl From<AllocError> for StudyError {
+impl From<AllocError> for DocumentError {
     ghost from_gives = { λ _ e. e ≡ Memory };
 
     fn from(_error: AllocError) -> Self {
-        StudyError::Memory
+        DocumentError::Memory
     }
 }
 
-impl<T: Drop> From<AllocFailed<T>> for StudyError {
+impl<T: Drop> From<AllocFailed<T>> for DocumentError {
     ghost from_gives = { λ _ e. e ≡ Memory };
 
     fn from(_error: AllocFailed<T>) -> Self {
-        StudyError::Memory
+        DocumentError::Memory
     }
 }

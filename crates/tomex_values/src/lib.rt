@@ -8,7 +8,7 @@ mod numbers;
 mod place;
 mod table;
 
-pub use error::StudyError;
+pub use error::DocumentError;
 pub use lists::{are_integers, counts_at, items_count, tables_at, tables_from};
 pub use numbers::{Limits, number_at, number_of};
 pub use place::{Key, Place};

@@ -6,9 +6,10 @@ ghost use Rattle.toml.specs.Data.{as_array};
 ghost use Rattle.toml.specs.View.{view, table_view, items_view};
 ghost use Rattle.tomex_values.specs.Readings.{Gives, Reads};
 ghost use Rattle.tomex_values.specs.Numbers.{between, number_of};
-ghost use Rattle.tomex_values.specs.Lists.{items_count, all_items, is_integer, is_table, each, some_counts, counts_from, counts_at, tables_from, tables_at};
+ghost use Rattle.tomex_values.specs.Lists.{items_count, all_items, is_integer, is_table, each, some_counts};
+ghost use Rattle.tomex_values.specs.Lists.{counts_from, counts_at, tables_from, tables_at};
 
-use crate::error::StudyError;
+use crate::error::DocumentError;
 use crate::numbers::{Limits, number_of};
 use crate::place::{Key, Place};
 use crate::table::value_at;
@@ -54,7 +55,7 @@ fn counts_of<A: Allocator>(
     place: Place,
     key: Key,
     most: u8,
-) -> Result<Vec<u8, A>, StudyError>
+) -> Result<Vec<u8, A>, DocumentError>
     ensures { Gives (λ v. v.items) result (each (number_of place key (between 1 most)) (items_view values.now)) }
 {
     let mut counts = Vec::new(alloc);
@@ -71,11 +72,11 @@ fn some_counts<A: Allocator>(
     place: Place,
     key: Key,
     most: u8,
-) -> Result<Vec<u8, A>, StudyError>
+) -> Result<Vec<u8, A>, DocumentError>
     ensures { Gives (λ v. v.items) result (some_counts place key most (items_view values.now)) }
 {
     if values.is_empty() {
-        return Err(StudyError::Range(place, key));
+        return Err(DocumentError::Range(place, key));
     }
     counts_of(alloc, values, place, key, most)
 }
@@ -86,14 +87,14 @@ fn counts_from<A: Allocator>(
     place: Place,
     key: Key,
     most: u8,
-) -> Result<Vec<u8, A>, StudyError>
+) -> Result<Vec<u8, A>, DocumentError>
     ensures { Gives (λ v. v.items) result (counts_from place key most (as_array (view value.now))) }
 {
     let Some(values) = value.as_array() else {
-        return Err(StudyError::Kind(place, key));
+        return Err(DocumentError::Kind(place, key));
     };
     if !are_integers(values) {
-        return Err(StudyError::Kind(place, key));
+        return Err(DocumentError::Kind(place, key));
     }
     some_counts(alloc, values, place, key, most)
 }
@@ -107,7 +108,7 @@ pub fn counts_at<A: Allocator>(
     place: Place,
     key: Key,
     most: u8,
-) -> Result<Vec<u8, A>, StudyError>
+) -> Result<Vec<u8, A>, DocumentError>
     ensures { Gives (λ v. v.items) result (counts_at place key most (table_view table.now)) }
 {
     match value_at(table, key) {
@@ -117,17 +118,22 @@ pub fn counts_at<A: Allocator>(
 }
 
 /// The tables of an array that has some, and nothing else.
-pub fn tables_from<'a>(value: &'a Value, place: Place, key: Key) -> Result<&'a [Value], StudyError>
-    ensures { Reads (λ s. items_view s.now) result (tables_from place key (as_array (view value.now))) }
+pub fn tables_from<'a>(
+    value: &'a Value,
+    place: Place,
+    key: Key,
+) -> Result<&'a [Value], DocumentError>
+    ensures { Reads
+        (λ s. items_view s.now) result (tables_from place key (as_array (view value.now))) }
 {
     let Some(values) = value.as_array() else {
-        return Err(StudyError::Kind(place, key));
+        return Err(DocumentError::Kind(place, key));
     };
     if !are_tables(values) {
-        return Err(StudyError::Kind(place, key));
+        return Err(DocumentError::Kind(place, key));
     }
     if items_count(values) == 0 {
-        Err(StudyError::Range(place, key))
+        Err(DocumentError::Range(place, key))
     } else {
         Ok(values)
     }
@@ -139,8 +145,9 @@ pub fn tables_at<'a>(
     table: &'a Table,
     place: Place,
     key: Key,
-) -> Result<Option<&'a [Value]>, StudyError>
-    ensures { Reads (λ o. option_map (λ s. items_view s.now) o) result (tables_at place key (table_view table.now)) }
+) -> Result<Option<&'a [Value]>, DocumentError>
+    ensures { Reads (λ o. option_map
+        (λ s. items_view s.now) o) result (tables_at place key (table_view table.now)) }
 {
     match value_at(table, key) {
         None => Ok(None),

@@ -4,7 +4,7 @@ ghost use Rattle.std.specs.Prelude.{◌≡◌, ◌<◌, IfOk, true};
 ghost use Rattle.toml.specs.View.{view, table_view};
 ghost use Rattle.tomex_values.specs.Numbers.{between, words_between, is_within, number_from, number_of, number_at};
 
-use crate::error::StudyError;
+use crate::error::DocumentError;
 use crate::place::{Key, Place};
 use crate::table::value_at;
 use toml::{Table, Value};
@@ -40,7 +40,7 @@ impl Limits {
     }
 }
 
-fn number_from(number: u32, place: Place, key: Key, limits: Limits) -> Result<u32, StudyError>
+fn number_from(number: u32, place: Place, key: Key, limits: Limits) -> Result<u32, DocumentError>
     requires { 0 < limits.step }
     ensures read { result ≡ number_from place key limits number }
     ensures within { IfOk result (λ n. is_within limits n ≡ true) }
@@ -48,23 +48,28 @@ fn number_from(number: u32, place: Place, key: Key, limits: Limits) -> Result<u3
     if limits.contain(number) {
         Ok(number)
     } else {
-        Err(StudyError::Range(place, key))
+        Err(DocumentError::Range(place, key))
     }
 }
 
 /// An integer within the limits.
-pub fn number_of(value: &Value, place: Place, key: Key, limits: Limits) -> Result<u32, StudyError>
+pub fn number_of(
+    value: &Value,
+    place: Place,
+    key: Key,
+    limits: Limits,
+) -> Result<u32, DocumentError>
     requires { 0 < limits.step }
     ensures read { result ≡ number_of place key limits (view value.now) }
     ensures within { IfOk result (λ n. is_within limits n ≡ true) }
 {
     match value.as_integer() {
-        None => Err(StudyError::Kind(place, key)),
+        None => Err(DocumentError::Kind(place, key)),
         Some(number) => {
             if number >= i64::from(limits.low) && number <= i64::from(limits.high) {
                 number_from(number as u32, place, key, limits)
             } else {
-                Err(StudyError::Range(place, key))
+                Err(DocumentError::Range(place, key))
             }
         }
     }
@@ -78,7 +83,7 @@ pub fn number_at(
     key: Key,
     limits: Limits,
     default: u32,
-) -> Result<u32, StudyError>
+) -> Result<u32, DocumentError>
     requires { 0 < limits.step }
     ensures read { result ≡ number_at place key limits default (table_view table.now) }
     ensures within { IfOk result (λ n. is_within limits n ≡ true) }

@@ -8,7 +8,7 @@ ghost use Rattle.toml.specs.View.{view, table_view};
 ghost use Rattle.tomex_values.specs.Readings.{Reads};
 ghost use Rattle.tomex_values.specs.Table.{has_key, value_at, is_one_of, has_other_key, known_keys, table_at};
 
-use crate::error::StudyError;
+use crate::error::DocumentError;
 use crate::place::{Key, Place};
 use toml::{Table, Value};
 
@@ -53,11 +53,11 @@ fn has_other_key(table: &Table, keys: &[Key]) -> bool
 
 /// The first test of a place: that it has no keys but these.
 #[tactic(auto, unfolding(crate::specs::Table::known_keys))]
-pub fn known_keys(table: &Table, place: Place, keys: &[Key]) -> Result<(), StudyError>
+pub fn known_keys(table: &Table, place: Place, keys: &[Key]) -> Result<(), DocumentError>
     ensures { result ≡ known_keys place keys.now (table_view table.now) }
 {
     if has_other_key(table, keys) {
-        Err(StudyError::UnknownKey(place))
+        Err(DocumentError::UnknownKey(place))
     } else {
         Ok(())
     }
@@ -70,14 +70,14 @@ pub fn table_at<'a>(
     place: Place,
     key: Key,
     empty: &'a Table,
-) -> Result<&'a Table, StudyError>
+) -> Result<&'a Table, DocumentError>
     requires { table_view empty.now ≡ no_members }
     ensures { Reads (λ t. table_view t.now) result (table_at place key (table_view table.now)) }
 {
     match value_at(table, key) {
         None => Ok(empty),
         Some(value) => match value.as_table() {
-            None => Err(StudyError::Kind(place, key)),
+            None => Err(DocumentError::Kind(place, key)),
             Some(found) => Ok(found),
         },
     }

@@ -44,7 +44,8 @@ other_records needs =
     ++ (other_record (codes "drain") (needs.total - needs.last_issue) ++ other_record (codes "total") needs.total))))
 
 abbrev pub report_of_needs : Configuration → Needs → List ℕ
-report_of_needs config needs = record_text header ++ (flat_map (part_record config needs) all_parts ++ other_records needs)
+report_of_needs config needs =
+    record_text header ++ (flat_map (part_record config needs) all_parts ++ other_records needs)
 
 -- the text is the report of what a run's steps need on a configuration
 abbrev pub IsStallsReport : Configuration → List Step → List ℕ → Type 0

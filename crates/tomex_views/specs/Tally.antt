@@ -50,7 +50,8 @@ total_fields all = codes "total" ∷ codes "-" ∷ sum_fields all.steps all.wait
 abbrev pub report_of_tally : {A : Type 0} → Tally A → List ℕ
 report_of_tally tally =
     record_text header
-    ++ (flat_map (λ place. record_text (place_fields place)) (values tally.places) ++ record_text (total_fields tally.all))
+    ++ (flat_map (λ place. record_text (place_fields place)) (values tally.places)
+    ++ record_text (total_fields tally.all))
 
 -- what visits come to
 pub record IsTally {A : Type 0} (visits : List Visit) (tally : Tally A) : Type 0 where

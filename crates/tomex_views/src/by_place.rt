@@ -74,7 +74,8 @@ fn put_places<A: Allocator>(
     requires ready { IsReady writer.old }
     ensures ready { OnOk result (IsReady writer.new) }
     ensures text { OnOk result (written (λ v. v.items) writer.new
-        ≡ written (λ v. v.items) writer.old ++ flat_map (λ place. record_text (place_fields place)) (values tally.now.places)) }
+        ≡ written (λ v. v.items) writer.old
+        ++ flat_map (λ place. record_text (place_fields place)) (values tally.now.places)) }
     ensures rising { OnOk result (IsOrdered nat_cmp tally.now.places) }
 {
     let mut record = ByteRecord::new(heap);
@@ -112,9 +113,9 @@ fn text_of_tally<A: Allocator>(
     into_text(writer)
 }
 
-/// The stalls report of a program on a configuration by place in the program: CSV with a header, a record for each address at
-/// which the run has a step, rising, with how many steps it has there and for how many cycles they wait for what, and
-/// last the same of all steps.
+/// The stalls report of a program on a configuration by place in the program: CSV with a header, a record for each
+/// address at which the run has a step, rising, with how many steps it has there and for how many cycles they wait
+/// for what, and last the same of all steps.
 ///
 /// What `csv` needs for its records it takes of `heap`.
 pub fn stalls_by_pc<A: Allocator + Clone>(

@@ -28,7 +28,8 @@ fn push_chart<A: Allocator>(
     from: u64,
     until: u64,
 ) -> Result<(), AllocError>
-    ensures { OnOk result (string_bytes text.new ≡ string_bytes text.old ++ chart at.now from until) }
+    ensures { OnOk result (string_bytes text.new
+        ≡ string_bytes text.old ++ chart at.now from until) }
 {
     for cycle in from..until {
         text.push_str(sign_in(at, cycle))?;
@@ -46,7 +47,8 @@ fn push_line<A: Allocator>(
     step: &Step,
     at: &Times,
 ) -> Result<(), AllocError>
-    ensures { OnOk result (string_bytes text.new ≡ string_bytes text.old ++ line_of frame.now number step.now at.now) }
+    ensures { OnOk result (string_bytes text.new
+        ≡ string_bytes text.old ++ line_of frame.now number step.now at.now) }
 {
     let (pc, instr) = (step.pc, step.instr);
     push_aligned_number(text, scratch, frame.digits, number)?;

@@ -4,7 +4,8 @@ ghost use Rattle.std.specs.Prelude.{◌≡◌, ◌+◌, ◌<◌, ◌≤◌, ◌^
 ghost use Rattle.tomex_rvexec.specs.Run.{start_of};
 ghost use Rattle.tomex_rvexec.specs.Trace.{steps_from};
 ghost use Rattle.tomex_timing.specs.Search.{total_of};
-ghost use Rattle.tomex_views.specs.Chart.{IsPictureOf, IsUnpictured, first_issue, frame_of, most_signs, picture_of, signs_of};
+ghost use Rattle.tomex_views.specs.Chart.{IsPictureOf, IsUnpictured, first_issue, frame_of};
+ghost use Rattle.tomex_views.specs.Chart.{most_signs, picture_of, signs_of};
 
 use crate::lines::{Frame, push_lines};
 use crate::picture_error::PictureError;
@@ -89,9 +90,9 @@ fn picture_of<A: Allocator>(
     Ok(text.into_bytes())
 }
 
-/// The picture of some steps of a program's run on a configuration, `count` of them at most from step `number` on; the first step
-/// is number 1. A line with the cycles, from the first step's issue to the greatest end, and then a line a step: its
-/// number, a sign for each cycle, its address and its instruction.
+/// The picture of some steps of a program's run on a configuration, `count` of them at most from step `number` on;
+/// the first step is number 1. A line with the cycles, from the first step's issue to the greatest end, and then a
+/// line a step: its number, a sign for each cycle, its address and its instruction.
 ///
 /// A picture of more than 2^24 signs isn't made. What is small is taken of `heap`.
 pub fn pipeline_text<A: Allocator + Clone>(

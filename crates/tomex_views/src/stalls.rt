@@ -7,7 +7,8 @@ ghost use Rattle.tomex_rvexec.specs.Run.{start_of};
 ghost use Rattle.tomex_rvexec.specs.Trace.{steps_from};
 ghost use Rattle.tomex_timing.specs.Needs.{all_parts};
 ghost use Rattle.tomex_records.specs.Csv.{IsReady, written};
-ghost use Rattle.tomex_views.specs.StallsReport.{IsStallsReport, header, name_of_part, other_record, other_records, part_fields, part_record, report_of_needs};
+ghost use Rattle.tomex_views.specs.StallsReport.{IsStallsReport, header, name_of_part, other_record, other_records};
+ghost use Rattle.tomex_views.specs.StallsReport.{part_fields, part_record, report_of_needs};
 
 use crate::steps::steps_of;
 use csv::{ByteRecord, Writer};
@@ -31,7 +32,8 @@ fn header_of(heap: Global) -> Result<ByteRecord, AllocError>
 /// Adds a part's name.
 fn push_part(fields: &mut ByteRecord, scratch: &mut String, part: Part) -> Result<(), AllocError>
     requires { partial_of fields.old ≡ [] }
-    ensures fields { OnOk result (fields_of fields.new ≡ fields_of fields.old ++ name_of_part part ∷ []) }
+    ensures fields { OnOk result (fields_of fields.new
+        ≡ fields_of fields.old ++ name_of_part part ∷ []) }
     ensures whole { OnOk result (partial_of fields.new ≡ []) }
 {
     scratch.clear();
@@ -92,7 +94,8 @@ fn put_parts<A: Allocator>(
     requires ready { IsReady writer.old }
     ensures ready { OnOk result (IsReady writer.new) }
     ensures text { OnOk result (written (λ v. v.items) writer.new
-        ≡ written (λ v. v.items) writer.old ++ flat_map (part_record config.now needs.now) all_parts) }
+        ≡ written (λ v. v.items) writer.old
+        ++ flat_map (part_record config.now needs.now) all_parts) }
 {
     let mut record = ByteRecord::new(heap);
     let mut scratch = String::new(heap);
@@ -156,9 +159,10 @@ fn text_of_needs<A: Allocator>(
     into_text(writer)
 }
 
-/// The stalls report of a program on a configuration: CSV with a header, a record for each part with how many the configuration has, how
-/// many of them the run takes at once at most, and for how many cycles its steps wait for one; then the cycles that
-/// they wait for what is no part, the drain, which is the cycles after the last issue, and the total.
+/// The stalls report of a program on a configuration: CSV with a header, a record for each part with how many the
+/// configuration has, how many of them the run takes at once at most, and for how many cycles its steps wait for one;
+/// then the cycles that they wait for what is no part, the drain, which is the cycles after the last issue, and the
+/// total.
 ///
 /// What `csv` needs for its records it takes of `heap`.
 pub fn stalls_report<A: Allocator + Clone>(

@@ -62,7 +62,8 @@ impl<J: Plan, A: Allocator> Board<J, A> {
         ensures hand { seat.new.view.hand ≡ seat.old.view.hand }
         ensures share { seat.new.view.share ≡ seat.old.view.share }
         ensures grown { Grows seat.old.view seat.new.view }
-        ensures seen { (v : View) → SeesEach (floors_of J.costs) (slice_index J.costs i) k v seat.old.view
+        ensures seen { (v : View)
+            → SeesEach (floors_of J.costs) (slice_index J.costs i) k v seat.old.view
             → SeesEach (floors_of J.costs) (slice_index J.costs i) (k + 1) v seat.new.view }
         ensures so_far { IsLeastSoFar J.costs J.cycles (floors_of J.costs) (slice_index J.costs i) (k + 1)
             seat.new.view result }

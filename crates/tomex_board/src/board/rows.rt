@@ -5,7 +5,8 @@ ghost use Rattle.tomex_board.specs.Words.{band_word};
 ghost use Rattle.tomex_board.specs.Bands.{floors_of, IsBandOf};
 ghost use Rattle.tomex_board.specs.Looking.{IsBound};
 ghost use Rattle.tomex_board.specs.Finishing.{IsFinishing};
-ghost use Rattle.tomex_board.specs.Views.{Has, IsNoted, after_claim, after_failed_claim, after_closing, without, Grows, best};
+ghost use Rattle.tomex_board.specs.Views.{Has, KnowsNotOpen, after_claim, after_failed_claim};
+ghost use Rattle.tomex_board.specs.Views.{after_closing, without, Grows, best};
 ghost use Rattle.tomex_board.specs.declared.mark.Mark.{Mark};
 ghost use Rattle.tomex_board.specs.declared.mark.Mark.TheVariants.{Open, Finished, Dropped};
 
@@ -26,9 +27,9 @@ impl<J: Plan, A: Allocator> Board<J, A> {
         requires row { i < length J.costs }
         ensures board { seat.new.board ≡ seat.old.board }
         ensures taken { MatchBool result
-            ((seat.new.view ≡ after_claim i seat.old.view) × ¬ IsNoted seat.old.view i)
+            ((seat.new.view ≡ after_claim i seat.old.view) × ¬ KnowsNotOpen seat.old.view i)
             ((m : Mark) × (m ≢ Open) × (seat.new.view ≡ after_failed_claim i m seat.old.view)) }
-        ensures noted { IsNoted seat.new.view i }
+        ensures noted { KnowsNotOpen seat.new.view i }
         ensures grown { Grows seat.old.view seat.new.view }
     {
         let words = &self.table.shared;

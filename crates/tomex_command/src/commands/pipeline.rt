@@ -11,8 +11,8 @@ use tomex_line::PipelineLine;
 use tomex_streams::Files;
 use tomex_views::pipeline_text;
 
-/// The text that `pipeline` prints, a picture or a log. The step is looked for after the program, and last the size of a
-/// picture.
+/// The text that `pipeline` prints, a picture or a log. The step is looked for after the program, and last the size
+/// of a picture.
 pub fn text_of_pipeline<F: Files, A: Allocator + Clone>(
     alloc: A,
     heap: Global,

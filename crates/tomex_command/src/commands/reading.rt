@@ -32,7 +32,8 @@ pub fn read_all<F: Files, A: Allocator + Clone>(
     names: &[String<A>],
 ) -> Result<Vec<Vec<u8, A>, A>, Failure>
     ensures read { IfOk result
-        (λ contents. AreRead (F.file files.now) (map string_bytes names.now) (map (λ bytes. bytes.items) contents.items)) }
+        (λ contents. AreRead (F.file files.now) (map string_bytes names.now)
+        (map (λ bytes. bytes.items) contents.items)) }
     ensures unread { IfErr result
         (λ failure. AreUnread (F.file files.now) (map string_bytes names.now) failure) }
 {

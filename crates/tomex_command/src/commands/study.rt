@@ -24,7 +24,8 @@ pub fn sources_in<F: Files, A: Allocator + Clone>(
     name: &str,
 ) -> Result<Sources<A>, Failure>
     ensures read { IfOk result
-        (λ sources. AreSources (F.file files.now) name.now sources.study.items (map (λ bytes. bytes.items) sources.files.items)) }
+        (λ sources. AreSources (F.file files.now) name.now sources.study.items
+        (map (λ bytes. bytes.items) sources.files.items)) }
     ensures failure { IfErr result (λ failure. IsStudyFailure (F.file files.now) name.now failure) }
 {
     let study = read(alloc.clone()?, heap, files, name)?;

@@ -10,7 +10,7 @@ use super::units::{options_of, unit_tables};
 use std::alloc::Allocator;
 use tomex_config::Axes;
 use tomex_rvdec::UnitId;
-use tomex_values::{Key, Place, StudyError, counts_at, known_keys};
+use tomex_values::{DocumentError, Key, Place, counts_at, known_keys};
 use toml::Table;
 
 /// The counts of stations and buses, and the widths.
@@ -28,8 +28,9 @@ struct Counts<A: Allocator> {
 
 /// The counts that the table of axes gives.
 #[tactic(auto, unfolding(crate::specs::Axes::axis_counts))]
-fn axis_counts<A: Allocator + Clone>(alloc: A, table: &Table) -> Result<Counts<A>, StudyError>
-    ensures { Gives (λ c. counts_of c.alu.items c.mul.items c.div.items c.load.items c.store.items c.bru.items
+fn axis_counts<A: Allocator + Clone>(alloc: A, table: &Table) -> Result<Counts<A>, DocumentError>
+    ensures { Gives
+        (λ c. counts_of c.alu.items c.mul.items c.div.items c.load.items c.store.items c.bru.items
         c.buses.items c.width.items) result (axis_counts (table_view table.now)) }
 {
     let keys = [
@@ -69,7 +70,7 @@ pub fn axes_of<A: Allocator + Clone>(
     alloc: A,
     axes: &Table,
     unit: &Table,
-) -> Result<Axes<A>, StudyError>
+) -> Result<Axes<A>, DocumentError>
     ensures { Gives lists_of result (axes_of (table_view axes.now) (table_view unit.now)) }
 {
     let counts = axis_counts(alloc.clone()?, axes)?;

@@ -57,8 +57,7 @@ impl<A: Allocator> Entry<A> {
         ensures { result
             ≡ entry_of (string_bytes name) (string_bytes file) window limit watch.items weight weighed }
     {
-        // Read for what the window's type keeps, which the proof needs.
-        let _size = window.size();
+        window.keeps_limits();
         Entry {
             name,
             file,
@@ -70,10 +69,16 @@ impl<A: Allocator> Entry<A> {
         }
     }
 
+    /// A law: a program that a study names is within the limits.
+    pub fn keeps_limits(&self)
+        ensures { IsProgramEntry self.now }
+    {
+        let _limit = self.limit;
+    }
+
     /// The name, which no other program of the study has.
     pub fn name(&self) -> &str
         ensures value { result.now ≡ self.now.name }
-        ensures lawful { IsProgramEntry self.now }
     {
         self.name.as_str()
     }
@@ -81,7 +86,6 @@ impl<A: Allocator> Entry<A> {
     /// The window that the program's image stands in.
     pub fn window(&self) -> Window
         ensures value { result ≡ self.now.window }
-        ensures lawful { IsProgramEntry self.now }
     {
         self.window
     }
@@ -89,7 +93,6 @@ impl<A: Allocator> Entry<A> {
     /// The number of steps within which the program has to end.
     pub fn limit(&self) -> u32
         ensures value { result ≡ self.now.limit }
-        ensures lawful { IsProgramEntry self.now }
     {
         self.limit
     }
@@ -97,7 +100,6 @@ impl<A: Allocator> Entry<A> {
     /// The ranges of memory to be shown.
     pub fn watch(&self) -> &[WatchRange]
         ensures value { result.now ≡ self.now.watch }
-        ensures lawful { IsProgramEntry self.now }
     {
         self.watch.as_slice()
     }
@@ -105,7 +107,6 @@ impl<A: Allocator> Entry<A> {
     /// How often the program's cycles count.
     pub fn weight(&self) -> u32
         ensures value { result ≡ self.now.weight }
-        ensures lawful { IsProgramEntry self.now }
     {
         self.weight
     }

@@ -7,10 +7,10 @@ ghost use Rattle.tomex_values.specs.Readings.{Reads};
 ghost use Rattle.tomex_document.specs.Prices.{price_at, prices_of};
 
 use tomex_config::Prices;
-use tomex_values::{Key, Limits, Place, StudyError, known_keys, number_at};
+use tomex_values::{DocumentError, Key, Limits, Place, known_keys, number_at};
 use toml::Table;
 
-fn price_at(table: &Table, key: Key) -> Result<u32, StudyError>
+fn price_at(table: &Table, key: Key) -> Result<u32, DocumentError>
     ensures read { result ≡ price_at key (table_view table.now) }
     ensures lawful { IfOk result (λ n. is_price n ≡ true) }
 {
@@ -19,7 +19,7 @@ fn price_at(table: &Table, key: Key) -> Result<u32, StudyError>
 
 /// The prices of a table.
 #[tactic(auto, unfolding(crate::specs::Prices::prices_of))]
-pub fn prices_of(table: &Table) -> Result<Prices, StudyError>
+pub fn prices_of(table: &Table) -> Result<Prices, DocumentError>
     ensures { Reads (λ p. p) result (prices_of (table_view table.now)) }
 {
     let keys = [

@@ -5,14 +5,15 @@ ghost use Rattle.std.specs.List.{list_all, list_any};
 ghost use Rattle.std.specs.Str.{bytes_eq};
 ghost use Rattle.toml.specs.View.{table_view, items_view};
 ghost use Rattle.tomex_values.specs.Readings.{Gives, Reads};
-ghost use Rattle.tomex_document.specs.Program.{is_name, is_name_byte, is_taken, size_most, text_at, name_at, file_at, window_at, program_of, programs_of, program_tables};
+ghost use Rattle.tomex_document.specs.Program.{is_name, is_name_byte, is_taken, size_most, text_at, name_at};
+ghost use Rattle.tomex_document.specs.Program.{file_at, window_at, program_of, programs_of, program_tables};
 
 use super::entry::Entry;
 use super::watch::watch_at;
 use std::alloc::Allocator;
 use tomex_image::Window;
 use tomex_values::{
-    Key, Limits, Place, StudyError, has_key, items_count, known_keys, number_at, tables_from,
+    DocumentError, Key, Limits, Place, has_key, items_count, known_keys, number_at, tables_from,
     value_at,
 };
 use toml::{Table, Value};
@@ -42,13 +43,13 @@ fn is_taken<A: Allocator>(earlier: &[Entry<A>], text: &str) -> bool
 }
 
 #[tactic(auto, unfolding(crate::specs::Program::text_at))]
-fn text_at<'a>(table: &'a Table, place: Place, key: Key) -> Result<&'a str, StudyError>
+fn text_at<'a>(table: &'a Table, place: Place, key: Key) -> Result<&'a str, DocumentError>
     ensures { Reads (λ s. s.now) result (text_at place key (table_view table.now)) }
 {
     match value_at(table, key) {
-        None => Err(StudyError::MissingKey(place, key)),
+        None => Err(DocumentError::MissingKey(place, key)),
         Some(value) => match value.as_str() {
-            None => Err(StudyError::Kind(place, key)),
+            None => Err(DocumentError::Kind(place, key)),
             Some(text) => Ok(text),
         },
     }
@@ -60,7 +61,7 @@ fn name_at<A: Allocator>(
     table: &Table,
     place: Place,
     earlier: &[Entry<A>],
-) -> Result<String<A>, StudyError>
+) -> Result<String<A>, DocumentError>
     ensures read { Gives string_bytes result (name_at place earlier.now (table_view table.now)) }
     ensures lawful { IfOk result (λ s. is_name (string_bytes s) ≡ true) }
 {
@@ -68,18 +69,18 @@ fn name_at<A: Allocator>(
     if is_name(name) && !is_taken(earlier, name) {
         Ok(String::from_str(alloc, name)?)
     } else {
-        Err(StudyError::Range(place, Key::Name))
+        Err(DocumentError::Range(place, Key::Name))
     }
 }
 
 #[tactic(auto, unfolding(crate::specs::Program::file_at))]
-fn file_at<A: Allocator>(alloc: A, table: &Table, place: Place) -> Result<String<A>, StudyError>
+fn file_at<A: Allocator>(alloc: A, table: &Table, place: Place) -> Result<String<A>, DocumentError>
     ensures read { Gives string_bytes result (file_at place (table_view table.now)) }
     ensures named { IfOk result (λ s. string_bytes s ≢ []) }
 {
     let file = text_at(table, place, Key::File)?;
     if file.is_empty() {
-        Err(StudyError::Range(place, Key::File))
+        Err(DocumentError::Range(place, Key::File))
     } else {
         Ok(String::from_str(alloc, file)?)
     }
@@ -100,7 +101,7 @@ fn size_most(base: u32) -> u32
 }
 
 #[tactic(auto, unfolding(crate::specs::Program::window_at))]
-fn window_at(table: &Table, place: Place) -> Result<Window, StudyError>
+fn window_at(table: &Table, place: Place) -> Result<Window, DocumentError>
     ensures { Reads (λ w. w) result (window_at place (table_view table.now)) }
 {
     let base = number_at(
@@ -124,7 +125,7 @@ fn program_of<A: Allocator + Clone>(
     table: &Table,
     place: Place,
     earlier: &[Entry<A>],
-) -> Result<Entry<A>, StudyError>
+) -> Result<Entry<A>, DocumentError>
     ensures { Gives (λ e. e) result (program_of place earlier.now (table_view table.now)) }
 {
     let keys = [
@@ -157,7 +158,7 @@ fn program_of<A: Allocator + Clone>(
 pub fn programs_of<A: Allocator + Clone>(
     alloc: A,
     values: &[Value],
-) -> Result<Vec<Entry<A>, A>, StudyError>
+) -> Result<Vec<Entry<A>, A>, DocumentError>
     requires { length values.now ≤ 8 }
     ensures { Gives (λ v. v.items) result (programs_of 1 [] (items_view values.now)) }
 {
@@ -165,7 +166,7 @@ pub fn programs_of<A: Allocator + Clone>(
     let mut number = 1u8;
     for value in values {
         let Some(table) = value.as_table() else {
-            return Err(StudyError::Kind(Place::Top, Key::Program));
+            return Err(DocumentError::Kind(Place::Top, Key::Program));
         };
         let entry = program_of(
             alloc.clone()?,
@@ -181,17 +182,17 @@ pub fn programs_of<A: Allocator + Clone>(
 
 /// The tables of the programs: 1 to 8.
 #[tactic(auto, unfolding(crate::specs::Program::program_tables))]
-pub fn program_tables(table: &Table) -> Result<&[Value], StudyError>
+pub fn program_tables(table: &Table) -> Result<&[Value], DocumentError>
     ensures read { Reads (λ s. items_view s.now) result (program_tables (table_view table.now)) }
     ensures few { IfOk result (λ s. length s.now ≤ 8) }
 {
     let Some(value) = value_at(table, Key::Program) else {
-        return Err(StudyError::MissingKey(Place::Top, Key::Program));
+        return Err(DocumentError::MissingKey(Place::Top, Key::Program));
     };
     let values = tables_from(value, Place::Top, Key::Program)?;
     if items_count(values) <= 8 {
         Ok(values)
     } else {
-        Err(StudyError::Range(Place::Top, Key::Program))
+        Err(DocumentError::Range(Place::Top, Key::Program))
     }
 }

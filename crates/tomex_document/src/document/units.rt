@@ -9,7 +9,7 @@ ghost use Rattle.tomex_document.specs.Units.{unit_tables, option_of, options_fro
 use std::alloc::Allocator;
 use tomex_config::UnitOption;
 use tomex_rvdec::UnitId;
-use tomex_values::{Key, Limits, Place, StudyError, known_keys, number_at, tables_at};
+use tomex_values::{DocumentError, Key, Limits, Place, known_keys, number_at, tables_at};
 use toml::{Table, Value};
 
 /// The tables of each kind, where they are there.
@@ -24,7 +24,7 @@ pub struct UnitTables<'a> {
 
 /// The tables of options that the table of units gives.
 #[tactic(auto, unfolding(crate::specs::Units::unit_tables))]
-pub fn unit_tables<'a>(table: &'a Table) -> Result<UnitTables<'a>, StudyError>
+pub fn unit_tables<'a>(table: &'a Table) -> Result<UnitTables<'a>, DocumentError>
     ensures { Reads (λ k. tables_of (λ s. items_view s.now) k.alu k.mul k.div k.mem k.bru)
         result (unit_tables (table_view table.now)) }
 {
@@ -55,7 +55,7 @@ fn most_units(unit: UnitId) -> u8
 }
 
 #[tactic(auto, unfolding(crate::specs::Units::option_of))]
-fn option_of(table: &Table, place: Place, most: u8) -> Result<UnitOption, StudyError>
+fn option_of(table: &Table, place: Place, most: u8) -> Result<UnitOption, DocumentError>
     ensures { result ≡ option_of place most (table_view table.now) }
 {
     known_keys(
@@ -83,14 +83,14 @@ fn options_from<A: Allocator>(
     alloc: A,
     values: &[Value],
     unit: UnitId,
-) -> Result<Vec<UnitOption, A>, StudyError>
+) -> Result<Vec<UnitOption, A>, DocumentError>
     ensures { Gives (λ v. v.items) result (options_from unit 1 (items_view values.now)) }
 {
     let mut options = Vec::new(alloc);
     let mut number = 1usize;
     for value in values {
         let Some(table) = value.as_table() else {
-            return Err(StudyError::Kind(Place::Unit, Key::of_unit(unit)));
+            return Err(DocumentError::Kind(Place::Unit, Key::of_unit(unit)));
         };
         options.push(option_of(table, Place::Option(unit, number), most_units(unit))?)?;
         number += 1;
@@ -103,8 +103,9 @@ pub fn options_of<A: Allocator>(
     alloc: A,
     values: Option<&[Value]>,
     unit: UnitId,
-) -> Result<Vec<UnitOption, A>, StudyError>
-    ensures { Gives (λ v. v.items) result (options_of unit (option_map (λ s. items_view s.now) values.entry)) }
+) -> Result<Vec<UnitOption, A>, DocumentError>
+    ensures { Gives
+        (λ v. v.items) result (options_of unit (option_map (λ s. items_view s.now) values.entry)) }
 {
     match values {
         None => {

@@ -8,13 +8,14 @@ ghost use Rattle.tomex_image.specs.Window.{IsWindow};
 ghost use Rattle.tomex_values.specs.Readings.{Gives};
 ghost use Rattle.tomex_values.specs.Lists.{all_items, each};
 ghost use Rattle.tomex_study.specs.Watch.{IsWatch, is_watchable, watched_bytes};
-ghost use Rattle.tomex_document.specs.Watch.{is_integers, range_from, range_of, few_bytes, ranges_of, watch_from, watch_at};
+ghost use Rattle.tomex_document.specs.Watch.{is_integers, range_from, range_of, few_bytes};
+ghost use Rattle.tomex_document.specs.Watch.{ranges_of, watch_from, watch_at};
 
 use std::alloc::Allocator;
 use tomex_image::Window;
 use tomex_study::{WatchRange, watched_bytes};
 use tomex_values::{
-    Key, Limits, Place, StudyError, are_integers, items_count, number_of, value_at,
+    DocumentError, Key, Limits, Place, are_integers, items_count, number_of, value_at,
 };
 use toml::{Table, Value};
 
@@ -41,11 +42,11 @@ fn are_lists(values: &[Value]) -> bool
 
 /// An address and a length inside the window.
 #[tactic(auto, using(crate::proofs::Pairs::pair_short, crate::proofs::Pairs::pair_long))]
-fn range_of(value: &Value, place: Place, window: Window) -> Result<WatchRange, StudyError>
+fn range_of(value: &Value, place: Place, window: Window) -> Result<WatchRange, DocumentError>
     ensures read { result ≡ range_of place window (view value.now) }
     ensures inside { IfOk result (λ r. is_watchable window r ≡ true) }
 {
-    let out = Err(StudyError::Range(place, Key::Watch));
+    let out = Err(DocumentError::Range(place, Key::Watch));
     let Some(values) = value.as_array() else {
         return out;
     };
@@ -68,8 +69,9 @@ fn each_range<A: Allocator>(
     values: &[Value],
     place: Place,
     window: Window,
-) -> Result<Vec<WatchRange, A>, StudyError>
-    ensures read { Gives (λ v. v.items) result (each (range_of place window) (items_view values.now)) }
+) -> Result<Vec<WatchRange, A>, DocumentError>
+    ensures read { Gives
+        (λ v. v.items) result (each (range_of place window) (items_view values.now)) }
     ensures count { IfOk result (λ v. length v.items ≤ length values.now) }
     ensures inside { IfOk result (λ v. All (λ r. is_watchable window r ≡ true) v.items) }
 {
@@ -83,7 +85,7 @@ fn each_range<A: Allocator>(
 fn few_bytes<A: Allocator>(
     ranges: Vec<WatchRange, A>,
     place: Place,
-) -> Result<Vec<WatchRange, A>, StudyError>
+) -> Result<Vec<WatchRange, A>, DocumentError>
     requires { length ranges.items ≤ 8 }
     ensures read { Gives (λ v. v.items) result (few_bytes place ranges.items) }
     ensures few { IfOk result (λ v. watched_bytes v.items ≤ 4096) }
@@ -92,7 +94,7 @@ fn few_bytes<A: Allocator>(
     if watched_bytes(&ranges) <= 4096 {
         Ok(ranges)
     } else {
-        Err(StudyError::Range(place, Key::Watch))
+        Err(DocumentError::Range(place, Key::Watch))
     }
 }
 
@@ -101,7 +103,7 @@ fn ranges_of<A: Allocator>(
     values: &[Value],
     place: Place,
     window: Window,
-) -> Result<Vec<WatchRange, A>, StudyError>
+) -> Result<Vec<WatchRange, A>, DocumentError>
     ensures read { Gives (λ v. v.items) result (ranges_of place window (items_view values.now)) }
     ensures lawful { IfOk result (λ v. IsWatch window v.items) }
 {
@@ -109,7 +111,7 @@ fn ranges_of<A: Allocator>(
         let ranges = each_range(alloc, values, place, window)?;
         few_bytes(ranges, place)
     } else {
-        Err(StudyError::Range(place, Key::Watch))
+        Err(DocumentError::Range(place, Key::Watch))
     }
 }
 
@@ -118,17 +120,18 @@ fn watch_from<A: Allocator>(
     value: &Value,
     place: Place,
     window: Window,
-) -> Result<Vec<WatchRange, A>, StudyError>
-    ensures read { Gives (λ v. v.items) result (watch_from place window (as_array (view value.now))) }
+) -> Result<Vec<WatchRange, A>, DocumentError>
+    ensures read { Gives
+        (λ v. v.items) result (watch_from place window (as_array (view value.now))) }
     ensures lawful { IfOk result (λ v. IsWatch window v.items) }
 {
     let Some(values) = value.as_array() else {
-        return Err(StudyError::Kind(place, Key::Watch));
+        return Err(DocumentError::Kind(place, Key::Watch));
     };
     if are_lists(values) {
         ranges_of(alloc, values, place, window)
     } else {
-        Err(StudyError::Kind(place, Key::Watch))
+        Err(DocumentError::Kind(place, Key::Watch))
     }
 }
 
@@ -139,7 +142,7 @@ pub fn watch_at<A: Allocator>(
     table: &Table,
     place: Place,
     window: Window,
-) -> Result<Vec<WatchRange, A>, StudyError>
+) -> Result<Vec<WatchRange, A>, DocumentError>
     ensures read { Gives (λ v. v.items) result (watch_at place window (table_view table.now)) }
     ensures lawful { IfOk result (λ v. IsWatch window v.items) }
 {

@@ -2,7 +2,8 @@
 
 ghost use Rattle.std.specs.Prelude.{◌≡◌, ◌≤◌};
 ghost use Rattle.std.specs.List.{fold};
-ghost use Rattle.tomex_fronts.specs.Axes.{along, axes_of, new_quarter, only, point_of, quarter, widened, with_row, x_of, y_of};
+ghost use Rattle.tomex_fronts.specs.Axes.{along, axes_of, new_quarter, only, point_of};
+ghost use Rattle.tomex_fronts.specs.Axes.{quarter, widened, with_row, x_of, y_of};
 
 use tomex_sweep::FrontRow;
 
@@ -48,7 +49,8 @@ impl Span {
         }
     }
 
-    /// How far a value of the span is from the least, if the greatest is so far from it; halfway where it is the only one.
+    /// How far a value of the span is from the least, if the greatest is so far from it; halfway where it is the only
+    /// one.
     #[tactic(auto, unfolding(crate::specs::Axes::along))]
     fn along(self, far: u64, value: u64) -> u64
         ensures inside { result ≤ far }

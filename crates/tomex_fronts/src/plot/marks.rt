@@ -34,7 +34,8 @@ fn push_mark_at<A: Allocator>(
     mark: Mark,
     value: u64,
 ) -> Result<(), AllocError>
-    ensures { OnOk result (string_bytes text.new ≡ string_bytes text.old ++ mark_at axes.now mark value) }
+    ensures { OnOk result (string_bytes text.new
+        ≡ string_bytes text.old ++ mark_at axes.now mark value) }
 {
     let (x, y) = (axes.x_of(value), axes.y_of(value));
     match mark {
@@ -57,7 +58,8 @@ fn push_mark<A: Allocator>(
     k: u64,
 ) -> Result<(), AllocError>
     requires { k ≤ 4 }
-    ensures { OnOk result (string_bytes text.new ≡ string_bytes text.old ++ mark_of axes.now mark k) }
+    ensures { OnOk result (string_bytes text.new
+        ≡ string_bytes text.old ++ mark_of axes.now mark k) }
 {
     match span_of(axes, mark).new_quarter(k) {
         Some(value) => push_mark_at(text, axes, mark, value),
@@ -71,7 +73,8 @@ pub fn push_marks<A: Allocator>(
     axes: &Axes,
     mark: Mark,
 ) -> Result<(), AllocError>
-    ensures { OnOk result (string_bytes text.new ≡ string_bytes text.old ++ marks_of axes.now mark) }
+    ensures { OnOk result (string_bytes text.new
+        ≡ string_bytes text.old ++ marks_of axes.now mark) }
 {
     for k in 0..5 {
         push_mark(text, axes, mark, k)?;

@@ -2,7 +2,8 @@
 
 ghost use Rattle.std.specs.Prelude.{◌≡◌, ◌≤◌, ◌++◌, length, None, IfOk, OnOk, string_bytes};
 ghost use Rattle.std.specs.List.{flat_map};
-ghost use Rattle.tomex_fronts.specs.Plot.{circle, circle_at, has_room, named_at, number_at, numbers_of, radius_of, row_title};
+ghost use Rattle.tomex_fronts.specs.Plot.{circle, circle_at, has_room, named_at, number_at};
+ghost use Rattle.tomex_fronts.specs.Plot.{numbers_of, radius_of, row_title};
 
 use crate::plot::axes::{Axes, Point};
 use std::alloc::{AllocError, Allocator, Global};
@@ -50,7 +51,8 @@ fn push_circle<A: Allocator>(
     radius: u64,
     row: FrontRow,
 ) -> Result<(), AllocError>
-    ensures { OnOk result (string_bytes text.new ≡ string_bytes text.old ++ circle axes.now radius row) }
+    ensures { OnOk result (string_bytes text.new
+        ≡ string_bytes text.old ++ circle axes.now radius row) }
 {
     push_circle_at(text, axes.point_of(row), radius)?;
     push_row_title(text, row)
@@ -63,7 +65,8 @@ pub fn push_circles<A: Allocator>(
     rows: &[FrontRow],
 ) -> Result<(), AllocError>
     ensures { OnOk result (string_bytes text.new
-        ≡ string_bytes text.old ++ flat_map (circle axes.now (radius_of (length rows.now))) rows.now) }
+        ≡ string_bytes text.old
+        ++ flat_map (circle axes.now (radius_of (length rows.now))) rows.now) }
 {
     let radius = if rows.len() <= 64 { 4 } else { 2 };
     for row in rows {
@@ -114,7 +117,8 @@ pub fn push_numbers<A: Allocator>(
     axes: &Axes,
     rows: &[FrontRow],
 ) -> Result<(), AllocError>
-    ensures { OnOk result (string_bytes text.new ≡ string_bytes text.old ++ numbers_of axes.now None rows.now) }
+    ensures { OnOk result (string_bytes text.new
+        ≡ string_bytes text.old ++ numbers_of axes.now None rows.now) }
 {
     let mut last = None;
     for row in rows {

@@ -11,7 +11,8 @@ use tomex_sweep::FrontRow;
 /// Adds a move to the right, unless it has no length.
 #[tactic(auto, unfolding(crate::specs::Plot::move_to))]
 fn push_right<A: Allocator>(text: &mut String<A>, from: u64, to: u64) -> Result<(), AllocError>
-    ensures { OnOk result (string_bytes text.new ≡ string_bytes text.old ++ move_to (codes "H") from to) }
+    ensures { OnOk result (string_bytes text.new
+        ≡ string_bytes text.old ++ move_to (codes "H") from to) }
 {
     if from != to {
         write!(text, "H{to}")?;
@@ -22,7 +23,8 @@ fn push_right<A: Allocator>(text: &mut String<A>, from: u64, to: u64) -> Result<
 /// Adds a move up or down, unless it has no length.
 #[tactic(auto, unfolding(crate::specs::Plot::move_to))]
 fn push_down<A: Allocator>(text: &mut String<A>, from: u64, to: u64) -> Result<(), AllocError>
-    ensures { OnOk result (string_bytes text.new ≡ string_bytes text.old ++ move_to (codes "V") from to) }
+    ensures { OnOk result (string_bytes text.new
+        ≡ string_bytes text.old ++ move_to (codes "V") from to) }
 {
     if from != to {
         write!(text, "V{to}")?;
@@ -37,7 +39,8 @@ fn push_steps<A: Allocator>(
     from: Point,
     rows: &[FrontRow],
 ) -> Result<(), AllocError>
-    ensures { OnOk result (string_bytes text.new ≡ string_bytes text.old ++ steps_down axes.now from rows.now) }
+    ensures { OnOk result (string_bytes text.new
+        ≡ string_bytes text.old ++ steps_down axes.now from rows.now) }
 {
     let mut at = from;
     for row in rows {
@@ -56,7 +59,8 @@ pub fn push_staircase<A: Allocator>(
     axes: &Axes,
     rows: &[FrontRow],
 ) -> Result<(), AllocError>
-    ensures { OnOk result (string_bytes text.new ≡ string_bytes text.old ++ staircase axes.now rows.now) }
+    ensures { OnOk result (string_bytes text.new
+        ≡ string_bytes text.old ++ staircase axes.now rows.now) }
 {
     let Some(first) = rows.first() else {
         return Ok(());

@@ -3,7 +3,9 @@
 ghost use Rattle.std.specs.Prelude.{◌≡◌, ◌<◌, ◌++◌, length, map, All, IfOk, OnOk};
 ghost use Rattle.std.specs.List.{AllZip, flat_map};
 ghost use Rattle.tomex_sweep.specs.Front.{front_of_study};
-ghost use Rattle.tomex_fronts.specs.FrontTable.{all_settings, cycles_on, front_table_of, heading_column, number_under, own_columns, program_column, program_columns, setting_columns};
+ghost use Rattle.tomex_fronts.specs.FrontTable.{all_settings, cycles_on, front_table_of, heading_column};
+ghost use Rattle.tomex_fronts.specs.FrontTable.{number_under, own_columns, program_column, program_columns};
+ghost use Rattle.tomex_fronts.specs.FrontTable.{setting_columns};
 
 use super::heading::{Heading, Setting};
 use super::{Column, table_of};
@@ -71,7 +73,8 @@ fn push_setting<A: Allocator>(
     setting: Setting,
 ) -> Result<(), AllocError>
     requires { All (λ r. r.row < length study.now.rows) front.now }
-    ensures { OnOk result (columns.new.items ≡ columns.old.items ++ setting_columns study.now front.now setting) }
+    ensures { OnOk result (columns.new.items
+        ≡ columns.old.items ++ setting_columns study.now front.now setting) }
 {
     if setting.differs(study.rows()) {
         columns.push(heading_column(heap, study, front, Heading::Setting(setting))?)?;
@@ -116,8 +119,10 @@ fn push_programs<A: Allocator>(
     front: &[FrontRow],
     cycles: &[Vec<u64, A>],
 ) -> Result<(), AllocError>
-    requires { AllZip (λ p c. c.items ≡ cycles_on study.now front.now p) study.now.programs cycles.now }
-    ensures { OnOk result (columns.new.items ≡ columns.old.items ++ program_columns study.now front.now) }
+    requires { AllZip
+        (λ p c. c.items ≡ cycles_on study.now front.now p) study.now.programs cycles.now }
+    ensures { OnOk result (columns.new.items
+        ≡ columns.old.items ++ program_columns study.now front.now) }
 {
     if study.programs().len() > 1 {
         push_each_program(columns, heap, study, front, cycles)?;
@@ -133,7 +138,8 @@ fn push_each_program<A: Allocator>(
     front: &[FrontRow],
     cycles: &[Vec<u64, A>],
 ) -> Result<(), AllocError>
-    requires { AllZip (λ p c. c.items ≡ cycles_on study.now front.now p) study.now.programs cycles.now }
+    requires { AllZip
+        (λ p c. c.items ≡ cycles_on study.now front.now p) study.now.programs cycles.now }
     ensures { OnOk result (columns.new.items
         ≡ columns.old.items ++ map (program_column study.now front.now) study.now.programs) }
 {
@@ -156,7 +162,8 @@ pub fn front_table<A: Allocator>(
     cycles: &[Vec<u64, A>],
 ) -> Result<Vec<u8, A>, AllocError>
     requires front { front.now ≡ front_of_study study.now }
-    requires cycles { AllZip (λ p c. c.items ≡ cycles_on study.now front.now p) study.now.programs cycles.now }
+    requires cycles { AllZip
+        (λ p c. c.items ≡ cycles_on study.now front.now p) study.now.programs cycles.now }
     ensures { IfOk result (λ text. text.items ≡ front_table_of study.now) }
 {
     study.keeps_limits();

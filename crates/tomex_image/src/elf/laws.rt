@@ -12,7 +12,8 @@ ghost use Rattle.tomex_image.specs.Window.{Span};
 /// test for an overlap is for. The function does nothing: its contract is the law.
 #[tactic(auto, using(crate::proofs::Standing::segments_stand, crate::proofs::Standing::rest_is_zero))]
 pub fn segments_stand_at_their_addresses()
-    ensures segments { (bytes : List ℕ) (window : Span) (image : Loaded) → IsElfImage bytes window image
+    ensures segments { (bytes : List ℕ) (window : Span) (image : Loaded)
+        → IsElfImage bytes window image
         → All (StandsIn bytes image) (segments_of bytes) }
     ensures rest { (bytes : List ℕ) (window : Span) (image : Loaded) → IsElfImage bytes window image
         → IsZeroOutside (segments_of bytes) image }

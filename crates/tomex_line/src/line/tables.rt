@@ -98,7 +98,8 @@ pub(super) fn line_of<'a>(
     matches: &ArgMatches<'a>,
 ) -> Result<TablesLine<'a>, LineFault>
     ensures line { IfOk result
-        (λ line. IsTablesAsked (rows_of (found_of matches.now)) line.study.now line.config line.program.now line.cycle) }
+        (λ line. IsTablesAsked (rows_of (found_of matches.now))
+        line.study.now line.config line.program.now line.cycle) }
     ensures refused { IfErr result IsRefusal }
 {
     Ok(TablesLine {

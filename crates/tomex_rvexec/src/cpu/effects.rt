@@ -6,8 +6,10 @@ use std::alloc::Allocator;
 
 impl<'a, A: Allocator> Cpu<'a, A> {
     ghost use Rattle.std.specs.Prelude.{◌≡◌, IfOk, IfErr, ◌%◌, ◌<◌, true, false, nat_eq};
-    ghost use Rattle.tomex_rvexec.specs.Machine.{writes, jumps, branches, loads, stores, next_pc, with_register, from_byte, from_half};
-    ghost use Rattle.tomex_rvexec.specs.Memory.{byte_read, half_read, word_read, byte_written, half_written, word_written};
+    ghost use Rattle.tomex_rvexec.specs.Machine.{writes, jumps, branches, loads, stores, next_pc};
+    ghost use Rattle.tomex_rvexec.specs.Machine.{with_register, from_byte, from_half};
+    ghost use Rattle.tomex_rvexec.specs.Memory.{byte_read, half_read, word_read, byte_written};
+    ghost use Rattle.tomex_rvexec.specs.Memory.{half_written, word_written};
     ghost use Rattle.tomex_rvexec.specs.Run.{Answers};
 
     fn write_register(&mut self, r: u8, value: u32)
@@ -77,7 +79,8 @@ impl<'a, A: Allocator> Cpu<'a, A> {
     /// Loads a byte and extends its sign.
     pub(super) fn load_byte(&mut self, r: u8, address: u32) -> Result<Stepped, Fault>
         requires { r < 32 }
-        ensures { Answers (loads self.old r address 1 (λ m i. from_byte (byte_read m i))) self.old result self.new }
+        ensures { Answers (loads self.old r address 1
+            (λ m i. from_byte (byte_read m i))) self.old result self.new }
     {
         match self.memory.load_byte(address) {
             Some(value) => self.write(r, value),
@@ -88,7 +91,8 @@ impl<'a, A: Allocator> Cpu<'a, A> {
     /// Loads two bytes and extends their sign.
     pub(super) fn load_half(&mut self, r: u8, address: u32) -> Result<Stepped, Fault>
         requires { r < 32 }
-        ensures { Answers (loads self.old r address 2 (λ m i. from_half (half_read m i))) self.old result self.new }
+        ensures { Answers (loads self.old r address 2
+            (λ m i. from_half (half_read m i))) self.old result self.new }
     {
         match self.memory.load_half(address) {
             Some(value) => self.write(r, value),
@@ -99,7 +103,8 @@ impl<'a, A: Allocator> Cpu<'a, A> {
     /// Loads four bytes.
     pub(super) fn load_word(&mut self, r: u8, address: u32) -> Result<Stepped, Fault>
         requires { r < 32 }
-        ensures { Answers (loads self.old r address 4 (λ m i. word_read m i)) self.old result self.new }
+        ensures { Answers (loads self.old r address 4
+            (λ m i. word_read m i)) self.old result self.new }
     {
         match self.memory.load_word(address) {
             Some(value) => self.write(r, value),
@@ -110,7 +115,8 @@ impl<'a, A: Allocator> Cpu<'a, A> {
     /// Loads a byte and extends it with zeros.
     pub(super) fn load_byte_unsigned(&mut self, r: u8, address: u32) -> Result<Stepped, Fault>
         requires { r < 32 }
-        ensures { Answers (loads self.old r address 1 (λ m i. byte_read m i)) self.old result self.new }
+        ensures { Answers (loads self.old r address 1
+            (λ m i. byte_read m i)) self.old result self.new }
     {
         match self.memory.load_byte_unsigned(address) {
             Some(value) => self.write(r, value),
@@ -121,7 +127,8 @@ impl<'a, A: Allocator> Cpu<'a, A> {
     /// Loads two bytes and extends them with zeros.
     pub(super) fn load_half_unsigned(&mut self, r: u8, address: u32) -> Result<Stepped, Fault>
         requires { r < 32 }
-        ensures { Answers (loads self.old r address 2 (λ m i. half_read m i)) self.old result self.new }
+        ensures { Answers (loads self.old r address 2
+            (λ m i. half_read m i)) self.old result self.new }
     {
         match self.memory.load_half_unsigned(address) {
             Some(value) => self.write(r, value),
@@ -131,7 +138,8 @@ impl<'a, A: Allocator> Cpu<'a, A> {
 
     /// Stores the low byte of a word.
     pub(super) fn store_byte(&mut self, address: u32, value: u32) -> Result<Stepped, Fault>
-        ensures { Answers (stores self.old address 1 (λ m i. byte_written m i value)) self.old result self.new }
+        ensures { Answers (stores self.old address 1
+            (λ m i. byte_written m i value)) self.old result self.new }
     {
         if self.memory.store_byte(address, value) {
             Ok(self.go_on())
@@ -142,7 +150,8 @@ impl<'a, A: Allocator> Cpu<'a, A> {
 
     /// Stores the low two bytes of a word.
     pub(super) fn store_half(&mut self, address: u32, value: u32) -> Result<Stepped, Fault>
-        ensures { Answers (stores self.old address 2 (λ m i. half_written m i value)) self.old result self.new }
+        ensures { Answers (stores self.old address 2
+            (λ m i. half_written m i value)) self.old result self.new }
     {
         if self.memory.store_half(address, value) {
             Ok(self.go_on())
@@ -153,7 +162,8 @@ impl<'a, A: Allocator> Cpu<'a, A> {
 
     /// Stores a word.
     pub(super) fn store_word(&mut self, address: u32, value: u32) -> Result<Stepped, Fault>
-        ensures { Answers (stores self.old address 4 (λ m i. word_written m i value)) self.old result self.new }
+        ensures { Answers (stores self.old address 4
+            (λ m i. word_written m i value)) self.old result self.new }
     {
         if self.memory.store_word(address, value) {
             Ok(self.go_on())

@@ -1,6 +1,6 @@
 -- As many issues of the cycle are made as are counted.
 use Rattle.std.proofs.Common.{ℕ, ◌≡◌, ◌-◌}
-use Rattle.tomex_cycle.specs.Finishes.{AreKnown}
+use Rattle.tomex_cycle.specs.Finishes.{IsTimetableOf}
 use Rattle.tomex_cycle.specs.Issue.{IssuesOn}
 use Rattle.tomex_cycle.specs.declared.finishes.Finishes.{Finishes}
 use Rattle.tomex_cycle.proofs.issue.issue_more.Given as goal
@@ -8,7 +8,7 @@ use Rattle.tomex_cycle.proofs.issue.issue_more.Given as goal
 abbrev pub invariant-issues : goal.invariant-issues
 invariant-issues g l = record {
   on : IssuesOn l.fn.fetcher l.config l.fn.count l.fn.pools l.fn.registers l.fn.fetch l.made l.count l.pools l.registers l.fetch;
-  known : (next : ℕ) (f : Finishes) → AreKnown l.fn.pools.slots next f → AreKnown l.pools.slots next f;
+  known : (next : ℕ) (f : Finishes) → IsTimetableOf l.fn.pools.slots next f → IsTimetableOf l.pools.slots next f;
   same : l.fetcher ≡ l.fn.fetcher;
 }
 

@@ -1,6 +1,6 @@
 use Rattle.std.proofs.Common.{ℕ, ◌≡◌, ◌<◌, None, length, slice_index_or, true}
 use Rattle.tomex_sets.specs.Sets.{has}
-use Rattle.tomex_cycle.specs.Finishes.{AreKnown}
+use Rattle.tomex_cycle.specs.Finishes.{IsTimetableOf}
 use Rattle.tomex_cycle.specs.Starts.{AllCanBegin, AreLow}
 use Rattle.tomex_cycle.proofs.StartsBegun.{IsBegun}
 use Rattle.tomex_cycle.proofs.starts.begin.Given as goal
@@ -9,7 +9,7 @@ use Rattle.tomex_cycle.proofs.starts.begin.Given as goal
 abbrev pub invariant-members : goal.invariant-members
 invariant-members g l = record {
   begun : length l.initial.pools.slots ≡ 96 → AreLow l.picked → AllCanBegin l.memory l.picked l.initial.pools.slots → IsBegun l.config l.cycle l.memory l.picked l.rest l.initial.pools l.pools;
-  known : AreKnown l.pools.slots l.cycle l.finishes;
+  known : IsTimetableOf l.pools.slots l.cycle l.finishes;
   kept : (x : ℕ) → x < 128 → has l.rest x ≡ true → slice_index_or l.pools.slots x None ≡ slice_index_or l.initial.pools.slots x None;
   inside : (x : ℕ) → x < 128 → has l.rest x ≡ true → has l.picked x ≡ true;
 }

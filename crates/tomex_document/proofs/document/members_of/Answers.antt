@@ -6,7 +6,7 @@ use Rattle.std.specs.Str.{is_utf8, IsUtf8}
 use Rattle.toml.specs.Data.{Members}
 use Rattle.toml.specs.Parse.{parse_document}
 use Rattle.tomex_document.specs.Document.{members_of}
-use Rattle.tomex_values.specs.declared.error.StudyError.TheVariants.{Syntax}
+use Rattle.tomex_values.specs.declared.error.DocumentError.TheVariants.{Syntax}
 use Rattle.tomex_document.proofs.document.members_of.Goals as goal
 
 members_of-some : (bytes : List ℕ) (document : Members) → IsUtf8 bytes → parse_document bytes ≡ Some document → members_of bytes ≡ Ok document

@@ -16,23 +16,23 @@ loop-step-init g c = record {
 
 pub next_step-requires-clause-settled : goal.next_step-requires-clause-settled
 next_step-requires-clause-settled g c =
-    settled_there c.args.config.now c.args.steps.now c.loop-step.step-index _ _ _ _ c.buses-buses.ensures.lawful c.loop-step.invariant.shown
+    settled_there c.args.config.now c.args.steps.now c.loop-step.step-index _ _ _ _ c.keeps_limits.ensures c.loop-step.invariant.shown
 
 pub next_step-requires-clause-small : goal.next_step-requires-clause-small
 next_step-requires-clause-small g c =
-    let by : c.loop-step.window.latest.end ≤ 67 * c.loop-step.step-index = end_bound c.args.config.now c.args.steps.now c.loop-step.step-index _ c.loop-step.window.latest c.buses-buses.ensures.lawful (omega arith) c.loop-step.invariant.shown.kept in
+    let by : c.loop-step.window.latest.end ≤ 67 * c.loop-step.step-index = end_bound c.args.config.now c.args.steps.now c.loop-step.step-index _ c.loop-step.window.latest c.keeps_limits.ensures (omega arith) c.loop-step.invariant.shown.kept in
     omega arith
 
 pub keep-requires : goal.keep-requires
 keep-requires g c =
     let is : slice_index_or c.args.steps.now c.loop-step.step-index c.step-item.result ≡ c.step-item.result = search rules in
-    let step : IsStep c.args.config.now c.args.steps.now c.loop-step.step-index c.step-item.result c.of-facts.result = record { good = c.buses-buses.ensures.lawful; place = c.loop-step-test.true; at = is; facts = c.of-facts.ensures.facts; registers = c.of-facts.ensures.registers } in
+    let step : IsStep c.args.config.now c.args.steps.now c.loop-step.step-index c.step-item.result c.of-facts.result = record { good = c.keeps_limits.ensures; place = c.loop-step-test.true; at = is; facts = c.of-facts.ensures.facts; registers = c.of-facts.ensures.registers } in
     can_keep c.args.config.now c.args.steps.now c.loop-step.step-index c.step-item.result c.of-facts.result _ _ _ _ c.next_step.result c.requires.few step c.loop-step.invariant.shown c.next_step.ensures
 
 pub loop-step-preserved : goal.loop-step-preserved
 loop-step-preserved g c =
     let is : slice_index_or c.args.steps.now c.loop-step.step-index c.step-item.result ≡ c.step-item.result = search rules in
-    let step : IsStep c.args.config.now c.args.steps.now c.loop-step.step-index c.step-item.result c.of-facts.result = record { good = c.buses-buses.ensures.lawful; place = c.loop-step-test.true; at = is; facts = c.of-facts.ensures.facts; registers = c.of-facts.ensures.registers } in
+    let step : IsStep c.args.config.now c.args.steps.now c.loop-step.step-index c.step-item.result c.of-facts.result = record { good = c.keeps_limits.ensures; place = c.loop-step-test.true; at = is; facts = c.of-facts.ensures.facts; registers = c.of-facts.ensures.registers } in
     let turn = held_turn c.args.config.now c.args.steps.now c.loop-step.step-index c.step-item.result c.of-facts.result _ _ _ _ _ c.next_step.result step c.loop-step.invariant.shown c.next_step.ensures c.in_ok-keep.ensures.table in
     record {
       shown = rw (c.in_ok-keep.ensures.latest, c.in_ok-keep.ensures.stations, c.in_ok-keep.ensures.accesses) turn.0;
@@ -40,7 +40,7 @@ loop-step-preserved g c =
     }
 
 pub returns-clause-recurrence : goal.returns-clause-recurrence
-returns-clause-recurrence g c = are_timed c.args.config.now c.args.steps.now c.buses-buses.ensures.lawful
+returns-clause-recurrence g c = are_timed c.args.config.now c.args.steps.now c.keeps_limits.ensures
 
 pub returns-clause-pairs : goal.returns-clause-pairs
 returns-clause-pairs g c =
@@ -50,4 +50,4 @@ returns-clause-pairs g c =
 pub returns-clause-bound : goal.returns-clause-bound
 returns-clause-bound g c =
     let e : c.loop-step.result.items ≡ times_in c.args.config.now c.args.steps.now = grind (arith, common_steps) in
-    rw e (times_bound c.args.config.now c.args.steps.now c.buses-buses.ensures.lawful)
+    rw e (times_bound c.args.config.now c.args.steps.now c.keeps_limits.ensures)

@@ -17,23 +17,23 @@ loop-step-init g c = record {
 
 pub next_step-next-requires-clause-settled : goal.next_step-next-requires-clause-settled
 next_step-next-requires-clause-settled g c =
-    settled_there c.args.config.now c.args.steps.now c.loop-step.step-index _ _ _ _ c.buses-buses.ensures.lawful c.loop-step.invariant.shown
+    settled_there c.args.config.now c.args.steps.now c.loop-step.step-index _ _ _ _ c.keeps_limits.ensures c.loop-step.invariant.shown
 
 pub next_step-next-requires-clause-small : goal.next_step-next-requires-clause-small
 next_step-next-requires-clause-small g c =
-    let by : c.loop-step.window.latest.end ≤ 67 * c.loop-step.step-index = end_bound c.args.config.now c.args.steps.now c.loop-step.step-index _ c.loop-step.window.latest c.buses-buses.ensures.lawful (omega arith) c.loop-step.invariant.shown.kept in
+    let by : c.loop-step.window.latest.end ≤ 67 * c.loop-step.step-index = end_bound c.args.config.now c.args.steps.now c.loop-step.step-index _ c.loop-step.window.latest c.keeps_limits.ensures (omega arith) c.loop-step.invariant.shown.kept in
     omega arith
 
 pub keep-requires : goal.keep-requires
 keep-requires g c =
     let is : slice_index_or c.args.steps.now c.loop-step.step-index c.step-item.result ≡ c.step-item.result = search rules in
-    let step : IsStep c.args.config.now c.args.steps.now c.loop-step.step-index c.step-item.result c.of-facts.result = record { good = c.buses-buses.ensures.lawful; place = c.loop-step-test.true; at = is; facts = c.of-facts.ensures.facts; registers = c.of-facts.ensures.registers } in
+    let step : IsStep c.args.config.now c.args.steps.now c.loop-step.step-index c.step-item.result c.of-facts.result = record { good = c.keeps_limits.ensures; place = c.loop-step-test.true; at = is; facts = c.of-facts.ensures.facts; registers = c.of-facts.ensures.registers } in
     can_keep c.args.config.now c.args.steps.now c.loop-step.step-index c.step-item.result c.of-facts.result _ _ _ _ c.next_step-next.result c.requires.few step c.loop-step.invariant.shown c.next_step-next.ensures
 
 pub loop-step-preserved : goal.loop-step-preserved
 loop-step-preserved g c =
     let is : slice_index_or c.args.steps.now c.loop-step.step-index c.step-item.result ≡ c.step-item.result = search rules in
-    let step : IsStep c.args.config.now c.args.steps.now c.loop-step.step-index c.step-item.result c.of-facts.result = record { good = c.buses-buses.ensures.lawful; place = c.loop-step-test.true; at = is; facts = c.of-facts.ensures.facts; registers = c.of-facts.ensures.registers } in
+    let step : IsStep c.args.config.now c.args.steps.now c.loop-step.step-index c.step-item.result c.of-facts.result = record { good = c.keeps_limits.ensures; place = c.loop-step-test.true; at = is; facts = c.of-facts.ensures.facts; registers = c.of-facts.ensures.registers } in
     let turn = held_turn c.args.config.now c.args.steps.now c.loop-step.step-index c.step-item.result c.of-facts.result _ _ _ _ _ c.next_step-next.result step c.loop-step.invariant.shown c.next_step-next.ensures c.in_ok-keep.ensures.table in
     let waits = held_waits c.args.config.now c.args.steps.now c.loop-step.step-index c.step-item.result c.of-facts.result _ _ _ _ c.next_step-next.result c.waits_of-waits.result step c.loop-step.invariant.shown c.next_step-next.ensures c.waits_of-waits.ensures in
     record {
@@ -43,9 +43,9 @@ loop-step-preserved g c =
 
 pub waits_of-waits-requires : goal.waits_of-waits-requires
 waits_of-waits-requires g c =
-    let s = settled_there c.args.config.now c.args.steps.now c.loop-step.step-index _ _ _ _ c.buses-buses.ensures.lawful c.loop-step.invariant.shown in
+    let s = settled_there c.args.config.now c.args.steps.now c.loop-step.step-index _ _ _ _ c.keeps_limits.ensures c.loop-step.invariant.shown in
     let b : c.loop-step.window.latest.branch ≤ c.loop-step.window.latest.end = s.branch in
-    let by : c.loop-step.window.latest.end ≤ 67 * c.loop-step.step-index = end_bound c.args.config.now c.args.steps.now c.loop-step.step-index _ c.loop-step.window.latest c.buses-buses.ensures.lawful (omega arith) c.loop-step.invariant.shown.kept in
+    let by : c.loop-step.window.latest.end ≤ 67 * c.loop-step.step-index = end_bound c.args.config.now c.args.steps.now c.loop-step.step-index _ c.loop-step.window.latest c.keeps_limits.ensures (omega arith) c.loop-step.invariant.shown.kept in
     record { branch = omega arith }
 
 pub returns-clause-pairs : goal.returns-clause-pairs
@@ -56,4 +56,4 @@ returns-clause-pairs g c =
 pub returns-clause-bound : goal.returns-clause-bound
 returns-clause-bound g c =
     let e : c.loop-step.result.items ≡ waits_in c.args.config.now c.args.steps.now = grind (arith, common_steps) in
-    rw e (waits_in_within c.args.config.now c.args.steps.now c.buses-buses.ensures.lawful)
+    rw e (waits_in_within c.args.config.now c.args.steps.now c.keeps_limits.ensures)

@@ -1,4 +1,3 @@
-use Rattle.std.proofs.Common.{rules}
 -- The counts are read first, then the options kind by kind, up to the first fault.
 use Rattle.std.proofs.lemmas.Result.{err_from_is_err_and}
 use Rattle.tomex_document.specs.Axes.{axes_of}
@@ -42,4 +41,6 @@ returns-in_err-bru_units g c =
 
 pub returns-in_err-tables : goal.returns-in_err-tables
 unfolding axes_of
-returns-in_err-tables g c = search rules fits 100
+returns-in_err-tables g c =
+    let p = err_from_is_err_and c.from_residual-in_err-tables.result c.from_residual-in_err-tables.ensures.1 in
+    rw (p.1, p.2) (λ other. goes_on _ _ _ _ c.in_ok-counts.ensures (stops _ _ _ c.in_err-tables.ensures))

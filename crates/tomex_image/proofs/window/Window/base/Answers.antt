@@ -2,5 +2,5 @@
 use Rattle.std.proofs.Common.{rules}
 use Rattle.tomex_image.proofs.window.Window.base.Goals as goal
 
-pub returns-clause-value : goal.returns-clause-value
-returns-clause-value c = search rules fits 100
+pub returns : goal.returns
+returns c = search rules fits 100

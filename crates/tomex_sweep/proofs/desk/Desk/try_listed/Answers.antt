@@ -1,7 +1,7 @@
 -- One row more is noted; at the end all are.
 use Rattle.std.proofs.Common.{◌∙◌, ◌≤◌, ℕ, List, length, subst, All}
 use Rattle.std.proofs.lemmas.List.{take_all}
-use Rattle.tomex_board.specs.Views.{IsNoted}
+use Rattle.tomex_board.specs.Views.{KnowsNotOpen}
 use Rattle.tomex_sweep.proofs.Closing.{continues_itself, continues_on, one_noted}
 use Rattle.tomex_sweep.proofs.desk.Desk.try_listed.Goals as goal
 
@@ -16,4 +16,4 @@ loop-row-preserved g c = record {
 pub returns-clause-noted : goal.returns-clause-noted
 returns-clause-noted g c =
     let past : length c.args.lane.now.rows ≤ c.loop-row.row-index = subst (λ (rs : List ℕ). length rs ≤ c.loop-row.row-index) c.rows-row-items.ensures.value c.loop-row-test.false in
-    subst (All (IsNoted c.loop-row.seat.view)) (take_all c.loop-row.row-index c.args.lane.now.rows past) c.loop-row.invariant.noted
+    subst (All (KnowsNotOpen c.loop-row.seat.view)) (take_all c.loop-row.row-index c.args.lane.now.rows past) c.loop-row.invariant.noted

@@ -1,6 +1,6 @@
 -- The rows so far are noted, and the hand is empty.
 use Rattle.std.proofs.Common.{◌≡◌, [], All, take}
-use Rattle.tomex_board.specs.Views.{IsNoted}
+use Rattle.tomex_board.specs.Views.{KnowsNotOpen}
 use Rattle.tomex_sweep.specs.Seats.{Continues}
 use Rattle.tomex_sweep.proofs.desk.Desk.try_listed.Given as goal
 
@@ -8,6 +8,6 @@ abbrev pub invariant-loop-row : goal.invariant-loop-row
 invariant-loop-row g l = record {
   seat : Continues l.initial.seat l.seat;
   hand : l.seat.view.hand ≡ [];
-  noted : All (IsNoted l.seat.view) (take l.row-index l.lane.rows);
+  noted : All (KnowsNotOpen l.seat.view) (take l.row-index l.lane.rows);
   programs : l.knowledge ≡ l.initial.knowledge;
 }

@@ -1,5 +1,6 @@
 -- What the bytes of a study and of its programs' files stand for, or the first test that they fail.
-use Rattle.std.specs.Prelude.{◌≡◌, ◌≢◌, ◌⊎◌, ℕ, List, [], ◌∷◌, length, take, slice_get, Some, None, Ok, Err, string_bytes, ⊤}
+use Rattle.std.specs.Prelude.{◌≡◌, ◌≢◌, ◌⊎◌, ℕ, List, [], ◌∷◌, length, take, slice_get}
+use Rattle.std.specs.Prelude.{Some, None, Ok, string_bytes, ⊤}
 use Rattle.tomex_image.specs.Image.{Loaded}
 use Rattle.tomex_image.specs.Loading.{placed, refused}
 use Rattle.tomex_image.specs.declared.error.ImageError.TheVariants as images
@@ -9,10 +10,11 @@ use Rattle.tomex_rvexec.specs.declared.end.RunError.TheVariants as runs
 use Rattle.tomex_config.specs.Grid.{grid_of}
 use Rattle.tomex_study.specs.Program.{Workload}
 use Rattle.tomex_study.specs.Study.{DesignSpace, costs_of}
-use Rattle.tomex_values.specs.declared.error.StudyError.{StudyError}
-use Rattle.tomex_values.specs.declared.error.StudyError.TheVariants.{Files, Image, Fault, TooLong, Memory}
+use Rattle.tomex_reading.specs.declared.error.StudyError.{StudyError}
+use Rattle.tomex_reading.specs.declared.error.StudyError.TheVariants.{Files, Image, Fault, TooLong, Memory}
 use Rattle.tomex_document.specs.Program.{ProgramEntry}
 use Rattle.tomex_document.specs.Document.{Document, document_of}
+use Rattle.tomex_reading.specs.Refusals.{IsDocumentRefusal}
 
 -- the file is what the entry asks for: it is an image of its window, which ends within its limit
 pub record IsProgramOf (entry : ProgramEntry) (file : List ℕ) (program : Workload) : Type 0 where
@@ -76,5 +78,5 @@ IsRefusalOfFiles document files error =
 abbrev pub IsStudyRefusal : List ℕ → List (List ℕ) → StudyError → Type 0
 IsStudyRefusal bytes files error =
     (error ≡ Memory)
-    ⊎ ((document_of bytes ≡ Err error)
+    ⊎ (IsDocumentRefusal bytes error
     ⊎ ((document : Document) × (document_of bytes ≡ Ok document) × IsRefusalOfFiles document files error))

@@ -1,7 +1,7 @@
 -- The parts of a program are its entry's and its image, and its run is of that image.
 use Rattle.std.proofs.Common.{◌≡◌, ◌∙◌}
-use Rattle.tomex_report.proofs.Studies.{in_window}
-use Rattle.tomex_report.proofs.study.program_of.Goals as goal
+use Rattle.tomex_reading.proofs.Studies.{in_window}
+use Rattle.tomex_reading.proofs.study.program_of.Goals as goal
 
 pub returns-in-Err-clause-err : goal.returns-in-Err-clause-err
 returns-in-Err-clause-err g c =
@@ -21,19 +21,19 @@ returns-in-Ok-clause-ok g c =
     })
 
 pub new-requires-clause-some_steps : goal.new-requires-clause-some_steps
-new-requires-clause-some_steps g c = rw c.limit.ensures.value c.limit.ensures.lawful.least_limit
+new-requires-clause-some_steps g c = rw c.limit.ensures.value c.keeps_limits.ensures.least_limit
 
 pub new-requires-clause-few_steps : goal.new-requires-clause-few_steps
-new-requires-clause-few_steps g c = rw c.limit.ensures.value c.limit.ensures.lawful.most_limit
+new-requires-clause-few_steps g c = rw c.limit.ensures.value c.keeps_limits.ensures.most_limit
 
 pub new-requires-clause-watch : goal.new-requires-clause-watch
 new-requires-clause-watch g c =
     let window = in_window c.args.file.now c.args.entry.now.window c.in_ok-image.image c.in_ok-image.ensures.ok.0 in
     let watch : c.extend_from_slice.new.self.items ≡ c.args.entry.now.watch = rw (c.in_ok-extend_from_slice.ensures.items, c.new-watch.ensures.items) c.watch.ensures.value in
-    rw (window, watch) c.limit.ensures.lawful.watch
+    rw (window, watch) c.keeps_limits.ensures.watch
 
 pub new-requires-clause-some_weight : goal.new-requires-clause-some_weight
-new-requires-clause-some_weight g c = rw c.weight.ensures.value c.weight.ensures.lawful.least_weight
+new-requires-clause-some_weight g c = rw c.weight.ensures.value c.keeps_limits.ensures.least_weight
 
 pub new-requires-clause-most_weight : goal.new-requires-clause-most_weight
-new-requires-clause-most_weight g c = rw c.weight.ensures.value c.weight.ensures.lawful.most_weight
+new-requires-clause-most_weight g c = rw c.weight.ensures.value c.keeps_limits.ensures.most_weight

@@ -1,6 +1,6 @@
 -- The files before the one at hand are programs; it is one more, or the first that is refused.
-use Rattle.tomex_report.proofs.Studies.{all_programs, first_refusal, item_is, pushed, seen_is}
-use Rattle.tomex_report.proofs.study.programs_of.Goals as goal
+use Rattle.tomex_reading.proofs.Studies.{all_programs, first_refusal, item_is, pushed, seen_is}
+use Rattle.tomex_reading.proofs.study.programs_of.Goals as goal
 
 pub returns-in-Err-clause-err : goal.returns-in-Err-clause-err
 returns-in-Err-clause-err g c =

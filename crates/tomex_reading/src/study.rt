@@ -3,12 +3,13 @@
 ghost use Rattle.std.specs.Prelude.{◌≡◌, ◌≢◌, ◌≤◌, ◌⊎◌, length, map, IfOk, IfErr, None, string_bytes};
 ghost use Rattle.tomex_image.specs.Loading.{placed, refused};
 ghost use Rattle.tomex_study.specs.Program.{refusal_of};
-ghost use Rattle.tomex_report.specs.Study.{AreProgramsOf, FailsToEnd, IsFileRefusal, IsFirstRefusal};
-ghost use Rattle.tomex_report.specs.Study.{IsProgramOf, IsStudyOf, IsStudyRefusal};
+ghost use Rattle.tomex_reading.specs.Study.{AreProgramsOf, FailsToEnd, IsFileRefusal, IsFirstRefusal};
+ghost use Rattle.tomex_reading.specs.Study.{IsProgramOf, IsStudyOf, IsStudyRefusal};
 
+use crate::error::StudyError;
 use std::alloc::{Allocator, Global};
 use tomex_config::grid;
-use tomex_document::{Entry, StudyError, document_of};
+use tomex_document::{Entry, document_of};
 use tomex_image::{Image, ImageError, load};
 use tomex_study::{Program, ProgramError, Study};
 
@@ -58,6 +59,7 @@ fn program_of<A: Allocator + Clone>(
     ensures err { IfErr result
         (λ error. (error ≡ StudyError.Memory) ⊎ IsFileRefusal entry.now file.now error) }
 {
+    entry.keeps_limits();
     let image = image_of(alloc.clone()?, heap, entry, file)?;
     let name = String::from_str(alloc.clone()?, entry.name())?;
     let mut watch = Vec::new(alloc.clone()?);

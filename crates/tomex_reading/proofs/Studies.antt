@@ -1,5 +1,5 @@
 -- Files that are not what their entries ask for, and programs one after another.
-use Rattle.std.proofs.Common.{◌≡◌, ◌≢◌, ◌⊎◌, Ok, Err, inl, inr, ℕ, zero, suc, List, [], ◌∷◌, ◌++◌, take, Some, None, ◌+◌, ◌<◌, ◌≤◌, ◌∙◌, ap, sym, refl, arith, add-one, length, get_or, map}
+use Rattle.std.proofs.Common.{⊎_elim, ◌≡◌, ◌≢◌, ◌⊎◌, Ok, Err, inl, inr, ℕ, zero, suc, List, [], ◌∷◌, ◌++◌, take, Some, None, ◌+◌, ◌<◌, ◌≤◌, ◌∙◌, ap, sym, refl, arith, add-one, length, get_or, map}
 use Rattle.std.specs.Prelude.{slice_get, Bool, true, false, MatchBool}
 use Rattle.std.proofs.lemmas.List.{length-map, take_all}
 use Rattle.std.proofs.lemmas.Option.{slice_get_read, slice_get-map}
@@ -8,9 +8,12 @@ use Rattle.tomex_image.specs.Window.{Span}
 use Rattle.tomex_image.specs.Loading.{elf_placed, flat_placed, is_elf, placed}
 use Rattle.tomex_study.specs.Program.{Workload}
 use Rattle.tomex_document.specs.Program.{ProgramEntry}
-use Rattle.tomex_report.specs.Study.{AreProgramsOf, IsFileRefusal, IsFirstRefusal, IsProgramOf, IsStudyRefusal}
-use Rattle.tomex_values.specs.declared.error.StudyError.{StudyError}
-use Rattle.tomex_values.specs.declared.error.StudyError.TheVariants.{Syntax, UnknownKey, MissingKey, Kind, Range, TooMany, Files, Image, Fault, TooLong, Memory}
+use Rattle.tomex_reading.specs.Study.{AreProgramsOf, IsFileRefusal, IsFirstRefusal, IsProgramOf, IsStudyRefusal}
+use Rattle.tomex_reading.specs.declared.error.StudyError.{StudyError}
+use Rattle.tomex_reading.specs.declared.error.StudyError.TheVariants.{Files, Memory}
+use Rattle.tomex_values.specs.declared.error.DocumentError.{DocumentError}
+use Rattle.tomex_values.specs.declared.error.DocumentError.TheVariants as documents
+use Rattle.tomex_reading.specs.Refusals.{IsDocumentRefusal, told_as}
 use Rattle.tomex_document.specs.Document.{Document, document_of}
 use Rattle.tomex_document.proofs.Counted.{document_has_programs}
 
@@ -74,19 +77,21 @@ seen_is seen xs n place x y count within read is =
     let there : place < length xs = omega (arith, count, within) in
     slice_get-map seen xs place ∙ rw (item_is xs place x there read) (ap Some (sym is))
 
--- a refused document
-pub document_refused : (bytes : List ℕ) (files : List (List ℕ)) (error : StudyError) → (error ≢ Memory → document_of bytes ≡ Err error) → IsStudyRefusal bytes files error
-document_refused bytes files Memory given = inl refl
-document_refused bytes files Syntax given = inr (inl (given (λ h. cc)))
-document_refused bytes files (UnknownKey place) given = inr (inl (given (λ h. cc)))
-document_refused bytes files (MissingKey place key) given = inr (inl (given (λ h. cc)))
-document_refused bytes files (Kind place key) given = inr (inl (given (λ h. cc)))
-document_refused bytes files (Range place key) given = inr (inl (given (λ h. cc)))
-document_refused bytes files TooMany given = inr (inl (given (λ h. cc)))
-document_refused bytes files Files given = inr (inl (given (λ h. cc)))
-document_refused bytes files (Image name error) given = inr (inl (given (λ h. cc)))
-document_refused bytes files (Fault name fault) given = inr (inl (given (λ h. cc)))
-document_refused bytes files (TooLong name) given = inr (inl (given (λ h. cc)))
+-- a refused document: memory was refused, or its test is told
+pub names_refused : (bytes : List ℕ) (fault : DocumentError) (error : StudyError) → error ≡ told_as fault
+    → (fault ≢ documents.Memory → document_of bytes ≡ Err fault) → (error ≡ Memory) ⊎ IsDocumentRefusal bytes error
+names_refused bytes documents.Memory error told given = inl told
+names_refused bytes documents.Syntax error told given = inr (documents.Syntax, given (λ h. cc), told)
+names_refused bytes (documents.UnknownKey place) error told given = inr (documents.UnknownKey place, given (λ h. cc), told)
+names_refused bytes (documents.MissingKey place key) error told given = inr (documents.MissingKey place key, given (λ h. cc), told)
+names_refused bytes (documents.Kind place key) error told given = inr (documents.Kind place key, given (λ h. cc), told)
+names_refused bytes (documents.Range place key) error told given = inr (documents.Range place key, given (λ h. cc), told)
+names_refused bytes documents.TooMany error told given = inr (documents.TooMany, given (λ h. cc), told)
+
+-- so the study is refused
+pub document_refused : (bytes : List ℕ) (files : List (List ℕ)) (fault : DocumentError) (error : StudyError) → error ≡ told_as fault
+    → (fault ≢ documents.Memory → document_of bytes ≡ Err fault) → IsStudyRefusal bytes files error
+document_refused bytes files fault error told given = ⊎_elim (λ memory. inl memory) (λ refusal. inr (inl refusal)) (names_refused bytes fault error told given)
 
 -- as many files as programs, one of which is refused
 pub file_refused : (bytes : List ℕ) (files : List (List ℕ)) (document : Document) (error : StudyError) → document_of bytes ≡ Ok document → length files ≡ length document.programs
