@@ -1,5 +1,7 @@
 -- The floors of the bands: how many there are, and that they rise.
-use Rattle.std.proofs.Common.{◌≡◌, ℕ, zero, suc, ◌+◌, ◌*◌, ◌/◌, ◌<◌, ◌≤◌, true, false, nat_le, if◌then◌else◌, List, [], ◌∷◌, map, length, get_or, sym, refl, ap, ◌∙◌, arith, slice_index, slice_get, drop, Some, None}
+use Rattle.std.proofs.Common.{◌≡◌, ℕ, zero, suc, ◌+◌, ◌*◌, ◌/◌, ◌<◌, ◌≤◌, true, false, nat_le, if◌then◌else◌, List, []}
+use Rattle.std.proofs.Common.{◌∷◌, map, length, get_or, sym, refl, ap, ◌∙◌, arith, slice_index, slice_get, drop, Some}
+use Rattle.std.proofs.Common.{None}
 use Rattle.std.specs.List.{range_with_len}
 use Rattle.std.specs.Ordering.{nat_cmp, match_ordering}
 use Rattle.std.specs.declared.cmp.Ordering.{Ordering}
@@ -16,23 +18,32 @@ abbrev pub spread_among : List ℕ → List ℕ
 spread_among rising = map (λ k. slice_index rising (k * length rising / 64)) (range_with_len 0 64)
 
 pub among_few : (rising : List ℕ) → length rising ≤ 64 → floors_among rising ≡ rising
-among_few rising few = let test : nat_le (length rising) 64 ≡ true = grind (arith, nat_tests) in ap (λ b. if b then rising else spread_among rising) test
+among_few rising few = let test : nat_le (length rising) 64 ≡ true = grind (arith, nat_tests) in
+    ap (λ b. if b then rising else spread_among rising) test
 
 pub among_many : (rising : List ℕ) → 64 < length rising → floors_among rising ≡ spread_among rising
-among_many rising many = let test : nat_le (length rising) 64 ≡ false = grind (arith, nat_tests) in ap (λ b. if b then rising else spread_among rising) test
+among_many rising many = let test : nat_le (length rising) 64 ≡ false = grind (arith, nat_tests) in
+    ap (λ b. if b then rising else spread_among rising) test
 
-spread_from : (rising : List ℕ) (a n k : ℕ) → k < n → slice_get (map (λ k. slice_index rising (k * length rising / 64)) (range_with_len a n)) k ≡ Some (slice_index rising ((a + k) * length rising / 64))
+spread_from : (rising : List ℕ) (a n k : ℕ) → k < n
+    → slice_get (map (λ k. slice_index rising (k * length rising / 64)) (range_with_len a n)) k
+    ≡ Some (slice_index rising ((a + k) * length rising / 64))
 spread_from rising a zero k h = absurd (omega arith)
-spread_from rising a (suc n) zero h = let e : a + 0 ≡ a = omega arith in ap (λ (z : ℕ). Some (slice_index rising (z * length rising / 64))) (sym e)
-spread_from rising a (suc n) (suc k) h = let e : (a + 1) + k ≡ a + suc k = omega arith in spread_from rising (a + 1) n k (omega arith) ∙ ap (λ (z : ℕ). Some (slice_index rising (z * length rising / 64))) e
+spread_from rising a (suc n) zero h = let e : a + 0 ≡ a = omega arith in
+    ap (λ (z : ℕ). Some (slice_index rising (z * length rising / 64))) (sym e)
+spread_from rising a (suc n) (suc k) h = let e : (a + 1) + k ≡ a + suc k = omega arith in
+    spread_from rising (a + 1) n k (omega arith) ∙ ap (λ (z : ℕ). Some (slice_index rising (z * length rising / 64))) e
 
-spread_past : (rising : List ℕ) (a n k : ℕ) → n ≤ k → slice_get (map (λ k. slice_index rising (k * length rising / 64)) (range_with_len a n)) k ≡ None
+spread_past : (rising : List ℕ) (a n k : ℕ) → n ≤ k
+    → slice_get (map (λ k. slice_index rising (k * length rising / 64)) (range_with_len a n)) k ≡ None
 spread_past rising a zero k h = refl
 spread_past rising a (suc n) zero h = absurd (omega arith)
 spread_past rising a (suc n) (suc k) h = spread_past rising (a + 1) n k (omega arith)
 
-pub spread_has : (rising : List ℕ) (k : ℕ) → k < 64 → slice_get (spread_among rising) k ≡ Some (slice_index rising (k * length rising / 64))
-spread_has rising k h = let e : 0 + k ≡ k = omega arith in spread_from rising 0 64 k h ∙ ap (λ (z : ℕ). Some (slice_index rising (z * length rising / 64))) e
+pub spread_has : (rising : List ℕ) (k : ℕ) → k < 64
+    → slice_get (spread_among rising) k ≡ Some (slice_index rising (k * length rising / 64))
+spread_has rising k h = let e : 0 + k ≡ k = omega arith in
+    spread_from rising 0 64 k h ∙ ap (λ (z : ℕ). Some (slice_index rising (z * length rising / 64))) e
 
 pub spread_ends : (rising : List ℕ) (k : ℕ) → 64 ≤ k → slice_get (spread_among rising) k ≡ None
 spread_ends rising k h = spread_past rising 0 64 k h
@@ -40,7 +51,8 @@ spread_ends rising k h = spread_past rising 0 64 k h
 pub next_cost : (xs : List ℕ) (i : ℕ) → i < length xs → drop i xs ≡ get_or xs i 0 ∷ drop (i + 1) xs
 next_cost [] i h = absurd (omega arith)
 next_cost (x ∷ xs) zero h = refl
-next_cost (x ∷ xs) (suc i) h = let e : suc i + 1 ≡ suc (i + 1) = omega arith in next_cost xs i (omega arith) ∙ ap (λ (z : ℕ). get_or xs i 0 ∷ drop z (x ∷ xs)) (sym e)
+next_cost (x ∷ xs) (suc i) h = let e : suc i + 1 ≡ suc (i + 1) = omega arith in
+    next_cost xs i (omega arith) ∙ ap (λ (z : ℕ). get_or xs i 0 ∷ drop z (x ∷ xs)) (sym e)
 
 pub all_dropped : (xs : List ℕ) (i : ℕ) → length xs ≤ i → drop i xs ≡ []
 all_dropped [] zero h = refl
@@ -52,24 +64,28 @@ inserted_length : (xs : List ℕ) (c : ℕ) → length (insert_key nat_cmp xs c)
 inserted_length [] c = omega arith
 inserted_length (x ∷ xs) c = by (nat_cmp c x) (inserted_length xs c)
   where
-    by : (r : Ordering) → length (insert_key nat_cmp xs c) ≤ length xs + 1 → length (match_ordering r (c ∷ x ∷ xs) (x ∷ xs) (x ∷ insert_key nat_cmp xs c)) ≤ length (x ∷ xs) + 1
+    by : (r : Ordering) → length (insert_key nat_cmp xs c) ≤ length xs + 1
+        → length (match_ordering r (c ∷ x ∷ xs) (x ∷ xs) (x ∷ insert_key nat_cmp xs c)) ≤ length (x ∷ xs) + 1
     by Less h = omega arith
     by Equal h = omega arith
     by Greater h = omega arith
 
 pub with_length : (rising costs : List ℕ) → length (with_costs rising costs) ≤ length rising + length costs
 with_length rising [] = omega arith
-with_length rising (c ∷ costs) = let a = inserted_length rising c in let b = with_length (insert_key nat_cmp rising c) costs in omega arith
+with_length rising (c ∷ costs) = let a = inserted_length rising c in
+    let b = with_length (insert_key nat_cmp rising c) costs in omega arith
 
 -- there are at most 64
 among_length : (rising : List ℕ) → length (floors_among rising) ≤ 64
 among_length rising = dite (dec_le (length rising) 64)
     (λ few. let e = ap (λ (l : List ℕ). length l) (among_few rising few) in omega arith)
-    (λ many. let e = ap (λ (l : List ℕ). length l) (among_many rising (omega arith)) in let n = length-map-range_with_len (λ k. slice_index rising (k * length rising / 64)) 0 64 in omega arith)
+    (λ many. let e = ap (λ (l : List ℕ). length l) (among_many rising (omega arith)) in
+    let n = length-map-range_with_len (λ k. slice_index rising (k * length rising / 64)) 0 64 in omega arith)
 
 pub floors_are : (costs : List ℕ) → floors_of costs ≡ floors_among (distinct_costs costs)
 unfolding floors_of
 floors_are costs = refl
 
 pub floors_few : (costs : List ℕ) → length (floors_of costs) ≤ 64
-floors_few costs = let e = ap (λ (l : List ℕ). length l) (floors_are costs) in let few = among_length (distinct_costs costs) in omega arith
+floors_few costs = let e = ap (λ (l : List ℕ). length l) (floors_are costs) in
+    let few = among_length (distinct_costs costs) in omega arith

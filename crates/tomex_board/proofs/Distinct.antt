@@ -12,25 +12,35 @@ of_inserted : (xs : List ℕ) (c d : ℕ) → Has (insert_key nat_cmp xs c) d �
 of_inserted [] c d h = h
 of_inserted (x ∷ xs) c d h = by (nat_cmp c x) (of_inserted xs c d) h
   where
-    by : (r : Ordering) → (Has (insert_key nat_cmp xs c) d → (c ≡ d) ⊎ Has xs d) → Has (match_ordering r (c ∷ x ∷ xs) (x ∷ xs) (x ∷ insert_key nat_cmp xs c)) d → (c ≡ d) ⊎ Has (x ∷ xs) d
+    by : (r : Ordering) → (Has (insert_key nat_cmp xs c) d → (c ≡ d) ⊎ Has xs d)
+        → Has (match_ordering r (c ∷ x ∷ xs) (x ∷ xs) (x ∷ insert_key nat_cmp xs c)) d → (c ≡ d) ⊎ Has (x ∷ xs) d
     by Less rec h = h
     by Equal rec h = inr h
-    by Greater rec h = ⊎_elim (λ (e : x ≡ d). inr (inl e)) (λ k. ⊎_elim (λ (e : c ≡ d). inl e) (λ (q : Has xs d). inr (inr q)) (rec k)) h
+    by Greater rec h = ⊎_elim (λ (e : x ≡ d). inr (inl e))
+        (λ k. ⊎_elim (λ (e : c ≡ d). inl e) (λ (q : Has xs d). inr (inr q)) (rec k)) h
 
 inserted : (xs : List ℕ) (c d : ℕ) → (c ≡ d) ⊎ Has xs d → Has (insert_key nat_cmp xs c) d
 inserted [] c d h = h
 inserted (x ∷ xs) c d h = by (nat_cmp c x) (ranked c x (nat_cmp c x) refl) (inserted xs c d) h
   where
-    by : (r : Ordering) → MatchOrdering r (c < x) (c ≡ x) (x < c) → ((c ≡ d) ⊎ Has xs d → Has (insert_key nat_cmp xs c) d) → (c ≡ d) ⊎ Has (x ∷ xs) d → Has (match_ordering r (c ∷ x ∷ xs) (x ∷ xs) (x ∷ insert_key nat_cmp xs c)) d
+    by : (r : Ordering) → MatchOrdering r (c < x) (c ≡ x) (x < c)
+        → ((c ≡ d) ⊎ Has xs d → Has (insert_key nat_cmp xs c) d) → (c ≡ d) ⊎ Has (x ∷ xs) d
+        → Has (match_ordering r (c ∷ x ∷ xs) (x ∷ xs) (x ∷ insert_key nat_cmp xs c)) d
     by Less m rec h = h
     by Equal m rec h = ⊎_elim (λ (e : c ≡ d). inl (sym m ∙ e)) (λ (q : Has (x ∷ xs) d). q) h
-    by Greater m rec h = ⊎_elim (λ (e : c ≡ d). inr (rec (inl e))) (λ (q : Has (x ∷ xs) d). ⊎_elim (λ (e : x ≡ d). inl e) (λ (z : Has xs d). inr (rec (inr z))) q) h
+    by Greater m rec h = ⊎_elim (λ (e : c ≡ d). inr (rec (inl e)))
+        (λ (q : Has (x ∷ xs) d). ⊎_elim (λ (e : x ≡ d). inl e) (λ (z : Has xs d). inr (rec (inr z))) q) h
 
 pub of_with : (rising costs : List ℕ) (d : ℕ) → Has (with_costs rising costs) d → Has rising d ⊎ Has costs d
 of_with rising [] d h = inl h
-of_with rising (c ∷ costs) d h = ⊎_elim (λ (q : Has (insert_key nat_cmp rising c) d). ⊎_elim (λ (e : c ≡ d). inr (inl e)) (λ (z : Has rising d). inl z) (of_inserted rising c d q)) (λ (q : Has costs d). inr (inr q)) (of_with (insert_key nat_cmp rising c) costs d h)
+of_with rising (c ∷ costs) d h =
+    ⊎_elim (λ (q : Has (insert_key nat_cmp rising c) d). ⊎_elim (λ (e : c ≡ d). inr (inl e))
+    (λ (z : Has rising d). inl z) (of_inserted rising c d q)) (λ (q : Has costs d). inr (inr q))
+    (of_with (insert_key nat_cmp rising c) costs d h)
 
 pub in_with : (rising costs : List ℕ) (d : ℕ) → Has rising d ⊎ Has costs d → Has (with_costs rising costs) d
 in_with rising [] d h = ⊎_elim (λ (q : Has rising d). q) (λ f. absurd f) h
 in_with rising (c ∷ costs) d h = in_with (insert_key nat_cmp rising c) costs d
-    (⊎_elim (λ (q : Has rising d). inl (inserted rising c d (inr q))) (λ (q : Has (c ∷ costs) d). ⊎_elim (λ (e : c ≡ d). inl (inserted rising c d (inl e))) (λ (z : Has costs d). inr z) q) h)
+    (⊎_elim (λ (q : Has rising d). inl (inserted rising c d (inr q)))
+    (λ (q : Has (c ∷ costs) d). ⊎_elim (λ (e : c ≡ d). inl (inserted rising c d (inl e)))
+    (λ (z : Has costs d). inr z) q) h)

@@ -13,16 +13,23 @@ use Rattle.tomex_board.specs.Finishing.{IsFinishing}
 one_band : (floors : List ℕ) (cost j k : ℕ) → IsBandOf floors cost j → IsBandOf floors cost k → j ≡ k
 one_band floors cost j k a b = dite (dec_le (j + 1) k)
     (λ less. let p = b.2 j (omega arith) in let q = a.1 in absurd (omega arith))
-    (λ no. dite (dec_le (k + 1) j) (λ more. let p = a.2 k (omega arith) in let q = b.1 in absurd (omega arith)) (λ neither. omega arith))
+    (λ no. dite (dec_le (k + 1) j) (λ more. let p = a.2 k (omega arith) in let q = b.1 in
+    absurd (omega arith)) (λ neither. omega arith))
 
-pub in_its_band : (floors : List ℕ) (cost i y k : ℕ) (v u w : View) → IsBandOf floors cost k → u ≡ after_closing i (Finished y) v → (found : ℕ) × (w ≡ after_seeing k (min found (band_word y i)) u) → IsFinishing floors cost i y v w
+pub in_its_band : (floors : List ℕ) (cost i y k : ℕ) (v u w : View) → IsBandOf floors cost k
+    → u ≡ after_closing i (Finished y) v → (found : ℕ) × (w ≡ after_seeing k (min found (band_word y i)) u)
+    → IsFinishing floors cost i y v w
 in_its_band floors cost i y k v u w band closed seen = record {
-  published = λ j b. subst (λ (z : ℕ). (found : ℕ) × (w ≡ after_seeing z (min found (band_word y i)) (after_closing i (Finished y) v))) (one_band floors cost k j band b)
+  published = λ j b. subst (λ (z : ℕ). (found : ℕ)
+      × (w ≡ after_seeing z (min found (band_word y i)) (after_closing i (Finished y) v)))
+      (one_band floors cost k j band b)
       (seen.0, seen.1 ∙ ap (after_seeing k (min seen.0 (band_word y i))) closed);
   unpublished = λ none. absurd (none k band);
 }
 
-pub in_no_band : (floors : List ℕ) (cost i y : ℕ) (v w : View) → ((k : ℕ) → k < length floors → get_or floors k 0 < cost) → w ≡ after_closing i (Finished y) v → IsFinishing floors cost i y v w
+pub in_no_band : (floors : List ℕ) (cost i y : ℕ) (v w : View)
+    → ((k : ℕ) → k < length floors → get_or floors k 0 < cost) → w ≡ after_closing i (Finished y) v
+    → IsFinishing floors cost i y v w
 in_no_band floors cost i y v w dear closed = record {
   published = λ j b. let p = dear j b.0 in let q = b.1 in absurd (omega arith);
   unpublished = λ none. closed;

@@ -1,5 +1,7 @@
 -- The marks that the rows' words say, and that they are lawful at every moment.
-use Rattle.std.proofs.Common.{◌≡◌, ◌≢◌, ℕ, zero, suc, ◌+◌, ◌*◌, ◌/◌, ◌%◌, ◌<◌, ◌≤◌, ◌⊎◌, eqb, cond, List, [], ◌∷◌, ◌++◌, map, take, length, get_or, sym, refl, ap, ◌∙◌, subst, inl, inr, ⊎_elim, arith, eq-eqb, ne_eqb, Some, None, slice_get}
+use Rattle.std.proofs.Common.{◌≡◌, ◌≢◌, ℕ, zero, suc, ◌+◌, ◌*◌, ◌/◌, ◌%◌, ◌<◌, ◌≤◌, ◌⊎◌, eqb, cond, List, [], ◌∷◌, ◌++◌}
+use Rattle.std.proofs.Common.{map, take, length, get_or, sym, refl, ap, ◌∙◌, subst, inl, inr, ⊎_elim, arith, eq-eqb}
+use Rattle.std.proofs.Common.{ne_eqb, Some, None, slice_get}
 use Rattle.std.proofs.lemmas.Option.{none-some}
 use mathlib.Core.Option.{some, some-injective, some-ne-none}
 use lib.ListN.{get_elem?}
@@ -11,12 +13,14 @@ use Rattle.tomex_board.specs.Words.{mark_of, mark_word}
 use Rattle.tomex_board.specs.Marks.{AreLawful}
 use Rattle.tomex_board.specs.Rule.{Drops, FitsRow, IsLawful}
 
-pub snoc_at : (ws : List ℕ) (i w : ℕ) → get_elem? ws i ≡ some w → map mark_of (take (suc i) ws) ≡ map mark_of (take i ws) ++ mark_of w ∷ []
+pub snoc_at : (ws : List ℕ) (i w : ℕ) → get_elem? ws i ≡ some w
+    → map mark_of (take (suc i) ws) ≡ map mark_of (take i ws) ++ mark_of w ∷ []
 snoc_at [] i w e = absurd (some-ne-none w (sym e))
 snoc_at (x ∷ xs) zero w e = ap (λ (k : ℕ). mark_of k ∷ []) (some-injective x w e)
 snoc_at (x ∷ xs) (suc i) w e = ap (λ (l : List Mark). mark_of x ∷ l) (snoc_at xs i w e)
 
-pub at_mark : (ws : List ℕ) (n i : ℕ) → i < n → n ≤ length ws → slice_get (map mark_of (take n ws)) i ≡ Some (mark_of (get_or ws i 0))
+pub at_mark : (ws : List ℕ) (n i : ℕ) → i < n → n ≤ length ws
+    → slice_get (map mark_of (take n ws)) i ≡ Some (mark_of (get_or ws i 0))
 at_mark ws zero i h long = absurd (omega arith)
 at_mark [] (suc n) i h long = absurd (omega arith)
 at_mark (x ∷ xs) (suc n) zero h long = refl
@@ -45,11 +49,16 @@ or_open None = Open
 or_open (Some m) = m
 
 pub finished_mark : (w y : ℕ) → w ≡ 4 * y + 2 → mark_of w ≡ Finished y
-finished_mark w y e = subst (λ b. cond b (Finished (w / 4)) (cond (eqb (w % 4) 3) (Dropped (w / 4)) (cond (eqb w 0) Open Taken)) ≡ Finished y) (sym (eq-eqb (w % 4) 2 (omega arith))) (let q : w / 4 ≡ y = omega arith in ap Finished q)
+finished_mark w y e = subst (λ b. cond b (Finished (w / 4))
+    (cond (eqb (w % 4) 3) (Dropped (w / 4)) (cond (eqb w 0) Open Taken)) ≡ Finished y)
+    (sym (eq-eqb (w % 4) 2 (omega arith))) (let q : w / 4 ≡ y = omega arith in ap Finished q)
 
 pub dropped_mark : (w j : ℕ) → w ≡ 4 * j + 3 → mark_of w ≡ Dropped j
-dropped_mark w j e = subst (λ b. cond b (Finished (w / 4)) (cond (eqb (w % 4) 3) (Dropped (w / 4)) (cond (eqb w 0) Open Taken)) ≡ Dropped j) (sym (ne_eqb (w % 4) 2 (λ h. omega arith)))
-    (subst (λ b. cond b (Dropped (w / 4)) (cond (eqb w 0) Open Taken) ≡ Dropped j) (sym (eq-eqb (w % 4) 3 (omega arith))) (let q : w / 4 ≡ j = omega arith in ap Dropped q))
+dropped_mark w j e = subst (λ b. cond b (Finished (w / 4))
+    (cond (eqb (w % 4) 3) (Dropped (w / 4)) (cond (eqb w 0) Open Taken)) ≡ Dropped j)
+    (sym (ne_eqb (w % 4) 2 (λ h. omega arith)))
+    (subst (λ b. cond b (Dropped (w / 4)) (cond (eqb w 0) Open Taken) ≡ Dropped j)
+    (sym (eq-eqb (w % 4) 3 (omega arith))) (let q : w / 4 ≡ j = omega arith in ap Dropped q))
 
 -- the word of a mark says that mark
 pub word_says : (m : Mark) → mark_of (mark_word m) ≡ m
@@ -80,13 +89,20 @@ module _ (costs cycles : List ℕ) (s : State ℕ View) (o : IsLawful costs cycl
   pub lawful_now : AreLawful costs cycles marks
   lawful_now = record {
     finished = λ i y e. let t = at i (Finished y) e in let w : ℕ = get_or ws i 0 in
-        ⊎_elim (λ (a : w ≡ 0). let k = ap kind (ap mark_of (sym a) ∙ t.1) in absurd (omega arith)) (⊎_elim (λ (a : w ≡ 1). let k = ap kind (ap mark_of (sym a) ∙ t.1) in absurd (omega arith))
+        ⊎_elim (λ (a : w ≡ 0). let k = ap kind (ap mark_of (sym a) ∙ t.1) in
+        absurd (omega arith)) (⊎_elim (λ (a : w ≡ 1). let k = ap kind (ap mark_of (sym a) ∙ t.1) in
+        absurd (omega arith))
         (⊎_elim (λ a. ap number (sym t.1 ∙ finished_mark w (get_or cycles i 0) a))
-        (λ (d : Drops costs cycles ws i w). let k = ap kind (sym (dropped_mark w d.0 d.1) ∙ t.1) in absurd (omega arith)))) (row i t.0);
+        (λ (d : Drops costs cycles ws i w). let k = ap kind (sym (dropped_mark w d.0 d.1) ∙ t.1) in
+        absurd (omega arith)))) (row i t.0);
     dropped = λ i j e. let t = at i (Dropped j) e in let w : ℕ = get_or ws i 0 in
-        ⊎_elim (λ (a : w ≡ 0). let k = ap kind (ap mark_of (sym a) ∙ t.1) in absurd (omega arith)) (⊎_elim (λ (a : w ≡ 1). let k = ap kind (ap mark_of (sym a) ∙ t.1) in absurd (omega arith))
+        ⊎_elim (λ (a : w ≡ 0). let k = ap kind (ap mark_of (sym a) ∙ t.1) in
+        absurd (omega arith)) (⊎_elim (λ (a : w ≡ 1). let k = ap kind (ap mark_of (sym a) ∙ t.1) in
+        absurd (omega arith))
         (⊎_elim (λ a. let k = ap kind (sym (finished_mark w (get_or cycles i 0) a) ∙ t.1) in absurd (omega arith))
         (λ (d : Drops costs cycles ws i w). let same : d.0 ≡ j = ap number (sym (dropped_mark w d.0 d.1) ∙ t.1) in
         let says = at_mark ws n d.0 d.2 long ∙ ap Some (finished_mark (get_or ws d.0 0) (get_or cycles d.0 0) d.3) in
-        subst (λ (k : ℕ). (slice_get marks k ≡ Some (Finished (get_or cycles k 0))) × (get_or costs k 0 ≤ get_or costs i 0) × (get_or cycles k 0 < get_or cycles i 0)) same (says, d.4, d.5)))) (row i t.0);
+        subst (λ (k : ℕ). (slice_get marks k ≡ Some (Finished (get_or cycles k 0)))
+        × (get_or costs k 0 ≤ get_or costs i 0) × (get_or cycles k 0 < get_or cycles i 0)) same (says, d.4, d.5))))
+        (row i t.0);
   }

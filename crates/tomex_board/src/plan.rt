@@ -2,8 +2,8 @@
 
 use std::marker::Brand;
 
-/// What each row costs and how many cycles it takes to its end, which contracts alone see. A board
-/// carries its plan by its type, so that whoever works on it speaks of the same cycles.
+/// What each row costs and how many cycles it takes to its end, as contracts speak of them. A board carries
+/// its plan by its type, so that whoever works on it speaks of the same cycles; no code has to know them.
 pub trait Plan {
     ghost use Rattle.std.specs.Prelude.{List, ℕ};
 

@@ -1,5 +1,6 @@
 -- How many of a listing in issue order pass a test.
-use Rattle.std.proofs.Common.{ℕ, ◌+◌, Bool, true, false, ◌≡◌, ◌<◌, ◌∙◌, arith, inl, inr, ap, refl, sym, List, [], ◌∷◌, slice_index, length}
+use Rattle.std.proofs.Common.{ℕ, ◌+◌, Bool, true, false, ◌≡◌, ◌<◌, ◌∙◌, arith, inl, inr, ap, refl, sym, List, [], ◌∷◌}
+use Rattle.std.proofs.Common.{slice_index, length}
 use Rattle.std.specs.Prelude.{◌==◌, ◌≢◌, ◌&&◌, not, count_by}
 use Rattle.std.proofs.lemmas.Bool.{cases_Bool, both_ways, eq-eqb, eqb-true, and_parts, or_right}
 use Rattle.std.proofs.lemmas.List.Sums.{sum_by-cons}
@@ -26,7 +27,8 @@ not_again issue_numbers x xs rises = elim (cases_Bool (is_listed xs x)) [
   | inl e ↦ let less : slice_index issue_numbers x < slice_index issue_numbers x = rises.0 x e in absurd (omega arith)
 ]
 
-count_agree : (f g : ℕ → Bool) (xs : List ℕ) → ((x : ℕ) → is_listed xs x ≡ true → f x ≡ g x) → count_by f xs ≡ count_by g xs
+count_agree : (f g : ℕ → Bool) (xs : List ℕ) → ((x : ℕ) → is_listed xs x ≡ true → f x ≡ g x)
+    → count_by f xs ≡ count_by g xs
 count_agree f g [] each = refl
 count_agree f g (x ∷ xs) each =
     let rest : count_by f xs ≡ count_by g xs = count_agree f g xs (λ y h. each y (in_tail x y xs h)) in
@@ -36,7 +38,8 @@ count_agree f g (x ∷ xs) each =
       | inr e ↦ count_off f x xs (same ∙ e) ∙ (rest ∙ sym (count_off g x xs e))
     ]
 
-pub count_all : (f : ℕ → Bool) (xs : List ℕ) → ((x : ℕ) → is_listed xs x ≡ true → f x ≡ true) → count_by f xs ≡ length xs
+pub count_all : (f : ℕ → Bool) (xs : List ℕ) → ((x : ℕ) → is_listed xs x ≡ true → f x ≡ true)
+    → count_by f xs ≡ length xs
 count_all f [] each = refl
 count_all f (x ∷ xs) each =
     let rest : count_by f xs ≡ length xs = count_all f xs (λ y h. each y (in_tail x y xs h)) in
@@ -64,7 +67,8 @@ but_same f y = rw (eq-eqb y y refl) (and_false (f y))
     and_false false = refl
 
 -- what passes a test is counted in a listing that has it
-pub count_listed : (f : ℕ → Bool) (issue_numbers xs : List ℕ) → Rises issue_numbers xs → ((x : ℕ) → is_listed xs x ≡ true → x < 128)
+pub count_listed : (f : ℕ → Bool) (issue_numbers xs : List ℕ) → Rises issue_numbers xs
+    → ((x : ℕ) → is_listed xs x ≡ true → x < 128)
     → ((x : ℕ) → x < 128 → f x ≡ true → is_listed xs x ≡ true) → count_below f 128 ≡ count_by f xs
 count_listed f issue_numbers [] rises low listed = count_none f 128 (λ x l. elim (cases_Bool (f x)) [
   | inr e ↦ e
@@ -73,17 +77,24 @@ count_listed f issue_numbers [] rises low listed = count_none f 128 (λ x l. eli
 count_listed f issue_numbers (y ∷ ys) rises low listed = elim (cases_Bool (f y)) [
   | inl on ↦
       let small : y < 128 = low y (in_head y ys) in
-      let rest : count_below (but f y) 128 ≡ count_by (but f y) ys = count_listed (but f y) issue_numbers ys rises.1 (λ x h. low x (in_tail y x ys h)) (λ x l e. behind x l (and_parts (f x) (not (x == y)) e)) in
-      let same : count_by (but f y) ys ≡ count_by f ys = count_agree (but f y) f ys (λ x h. but_other f y x (λ z. both_ways (is_listed ys y) (not_again issue_numbers y ys rises) (rw z at h))) in
-      let more : count_below f 128 ≡ count_below (but f y) 128 + 1 = count_one (but f y) f y 128 small (but_same f y) on (λ x l apart. sym (but_other f y x apart)) in
+      let rest : count_below (but f y) 128 ≡ count_by (but f y) ys =
+      count_listed (but f y) issue_numbers ys rises.1 (λ x h. low x (in_tail y x ys h))
+      (λ x l e. behind x l (and_parts (f x) (not (x == y)) e)) in
+      let same : count_by (but f y) ys ≡ count_by f ys =
+      count_agree (but f y) f ys (λ x h. but_other f y x
+      (λ z. both_ways (is_listed ys y) (not_again issue_numbers y ys rises) (rw z at h))) in
+      let more : count_below f 128 ≡ count_below (but f y) 128 + 1 =
+      count_one (but f y) f y 128 small (but_same f y) on (λ x l apart. sym (but_other f y x apart)) in
       let here : count_by f (y ∷ ys) ≡ 1 + count_by f ys = count_on f y ys on in
       omega arith
-  | inr off ↦ count_listed f issue_numbers ys rises.1 (λ x h. low x (in_tail y x ys h)) (λ x l e. later x (listed x l e) e off) ∙ sym (count_off f y ys off)
+  | inr off ↦ count_listed f issue_numbers ys rises.1 (λ x h. low x (in_tail y x ys h))
+      (λ x l e. later x (listed x l e) e off) ∙ sym (count_off f y ys off)
 ]
   where
     behind : (x : ℕ) → x < 128 → (f x ≡ true) × (not (x == y) ≡ true) → is_listed ys x ≡ true
     behind x l two = elim (cases_Bool (y == x)) [
-      | inl e ↦ let same : x ≡ y = sym (eqb-true y x e) in absurd (both_ways (not (x == y)) (rw (eq-eqb x y same) refl) two.1)
+      | inl e ↦ let same : x ≡ y = sym (eqb-true y x e) in
+          absurd (both_ways (not (x == y)) (rw (eq-eqb x y same) refl) two.1)
       | inr e ↦ rw e at (listed x l two.0)
     ]
 

@@ -1,5 +1,6 @@
 -- Turns of the search for the oldest, and what is picked of a listing in issue order.
-use Rattle.std.proofs.Common.{ℕ, zero, suc, ◌+◌, Bool, true, false, ◌≡◌, ◌≤◌, ◌<◌, ◌∙◌, ◌⊎◌, arith, inl, inr, ap, refl, sym, List, [], ◌∷◌, take, slice_index, length}
+use Rattle.std.proofs.Common.{ℕ, zero, suc, ◌+◌, Bool, true, false, ◌≡◌, ◌≤◌, ◌<◌, ◌∙◌, ◌⊎◌, arith, inl, inr, ap, refl}
+use Rattle.std.proofs.Common.{sym, List, [], ◌∷◌, take, slice_index, length}
 use Rattle.std.specs.Prelude.{◌==◌, ◌≢◌, min, count_by}
 use Rattle.std.proofs.lemmas.Bool.{cases_Bool, both_ways, eqb-true, eqb-false}
 use Rattle.std.proofs.lemmas.List.Sums.{sum_by-cons}
@@ -10,8 +11,13 @@ use Rattle.tomex_bus.specs.Picks.{IsInIssueOrder, IsPicked, Rises, is_listed}
 use Rattle.tomex_bus.proofs.Listings.{count_all, count_listed, in_head, in_tail, none_counted, some_counted}
 
 -- of the members that were looked at none is less by a measure than the best, one more of which is looked at
-pub best_left : (set rest left x best now : ℕ) (issue_numbers : List ℕ) → ((i : ℕ) → i < 128 → has set i ≡ true → (has rest i ≡ true) ⊎ (slice_index issue_numbers best ≤ slice_index issue_numbers i)) → IsWithout rest x left → slice_index issue_numbers now ≤ slice_index issue_numbers best → slice_index issue_numbers now ≤ slice_index issue_numbers x
-    → (i : ℕ) → i < 128 → has set i ≡ true → (has left i ≡ true) ⊎ (slice_index issue_numbers now ≤ slice_index issue_numbers i)
+pub best_left : (set rest left x best now : ℕ) (issue_numbers : List ℕ)
+    → ((i : ℕ) → i < 128 → has set i ≡ true → (has rest i ≡ true)
+    ⊎ (slice_index issue_numbers best ≤ slice_index issue_numbers i)) → IsWithout rest x left
+    → slice_index issue_numbers now ≤ slice_index issue_numbers best
+    → slice_index issue_numbers now ≤ slice_index issue_numbers x
+    → (i : ℕ) → i < 128 → has set i ≡ true → (has left i ≡ true)
+    ⊎ (slice_index issue_numbers now ≤ slice_index issue_numbers i)
 best_left set rest left x best now issue_numbers looked without less here i l member = elim (cases_Bool (x == i)) [
   | inl k ↦ let same : x ≡ i = eqb-true x i k in inr (rw same at here)
   | inr k ↦ elim (looked i l member) [
@@ -26,7 +32,8 @@ pub record AreMade (ready : ℕ) (issue_numbers : List ℕ) (turn rest picked : 
   pub picked_in : (x : ℕ) → x < 128 → has picked x ≡ true → has ready x ≡ true
   pub apart : (x : ℕ) → x < 128 → has rest x ≡ true → has picked x ≡ false
   pub left : (x : ℕ) → x < 128 → has ready x ≡ true → has picked x ≡ false → has rest x ≡ true
-  pub oldest : (x y : ℕ) → x < 128 → y < 128 → has picked x ≡ true → has rest y ≡ true → slice_index issue_numbers x ≤ slice_index issue_numbers y
+  pub oldest : (x y : ℕ) → x < 128 → y < 128 → has picked x ≡ true → has rest y ≡ true
+      → slice_index issue_numbers x ≤ slice_index issue_numbers y
   pub taken : size_of picked ≡ turn
   pub all : size_of picked + size_of rest ≡ size_of ready
 
@@ -48,8 +55,10 @@ same_without rest b new x l without e = elim (cases_Bool (b == x)) [
   | inr k ↦ sym (without.others x l (λ z. eqb-false b x k (sym z))) ∙ e
 ]
 
-pub one_more : (ready : ℕ) (issue_numbers : List ℕ) (turn rest picked b left with : ℕ) → AreMade ready issue_numbers turn rest picked → b < 128 → has rest b ≡ true
-    → ((i : ℕ) → i < 128 → has rest i ≡ true → slice_index issue_numbers b ≤ slice_index issue_numbers i) → IsWithout rest b left → IsWith picked b with
+pub one_more : (ready : ℕ) (issue_numbers : List ℕ) (turn rest picked b left with : ℕ)
+    → AreMade ready issue_numbers turn rest picked → b < 128 → has rest b ≡ true
+    → ((i : ℕ) → i < 128 → has rest i ≡ true → slice_index issue_numbers b ≤ slice_index issue_numbers i)
+    → IsWithout rest b left → IsWith picked b with
     → AreMade ready issue_numbers (turn + 1) left with
 one_more ready issue_numbers turn rest picked b left with made small member least without more =
     let off : has picked b ≡ false = made.apart b small member in
@@ -85,21 +94,25 @@ one_more ready issue_numbers turn rest picked b left with made small member leas
     before x k e = sym (more.others x (λ z. eqb-false b x k (sym z))) ∙ e
 
 -- all turns are made, or none is left
-pub picked_by : (ready : ℕ) (issue_numbers : List ℕ) (turn n rest picked : ℕ) → AreMade ready issue_numbers turn rest picked → size_of picked ≡ min n (size_of ready) → IsPicked ready issue_numbers n picked
+pub picked_by : (ready : ℕ) (issue_numbers : List ℕ) (turn n rest picked : ℕ)
+    → AreMade ready issue_numbers turn rest picked → size_of picked ≡ min n (size_of ready)
+    → IsPicked ready issue_numbers n picked
 picked_by ready issue_numbers turn n rest picked made count = record {
   inside = made.picked_in;
   oldest = λ x y l m e f g. made.oldest x y l m e (made.left y m f g);
   count = count;
 }
 
-pub all_taken : (ready : ℕ) (issue_numbers : List ℕ) (turn n rest picked : ℕ) → AreMade ready issue_numbers turn rest picked → rest ≡ 0 → turn ≤ n → IsPicked ready issue_numbers n picked
+pub all_taken : (ready : ℕ) (issue_numbers : List ℕ) (turn n rest picked : ℕ)
+    → AreMade ready issue_numbers turn rest picked → rest ≡ 0 → turn ≤ n → IsPicked ready issue_numbers n picked
 all_taken ready issue_numbers turn n rest picked made empty l =
     let none : size_of rest ≡ 0 = size_none rest empty in
     let taken : size_of picked ≡ turn = made.taken in
     let all : size_of picked + size_of rest ≡ size_of ready = made.all in
     picked_by ready issue_numbers turn n rest picked made (omega arith)
 
-pub n_taken : (ready : ℕ) (issue_numbers : List ℕ) (n rest picked : ℕ) → AreMade ready issue_numbers n rest picked → IsPicked ready issue_numbers n picked
+pub n_taken : (ready : ℕ) (issue_numbers : List ℕ) (n rest picked : ℕ) → AreMade ready issue_numbers n rest picked
+    → IsPicked ready issue_numbers n picked
 n_taken ready issue_numbers n rest picked made =
     let taken : size_of picked ≡ n = made.taken in
     let all : size_of picked + size_of rest ≡ size_of ready = made.all in
@@ -116,7 +129,8 @@ none_picked set n issue_numbers e =
     }
 
 -- of one member the oldest is that one
-pub single_picked : (set n : ℕ) (issue_numbers : List ℕ) → 0 < n → ((a b : ℕ) → a < 128 → b < 128 → has set a ≡ true → has set b ≡ true → a ≡ b) → IsPicked set issue_numbers n set
+pub single_picked : (set n : ℕ) (issue_numbers : List ℕ) → 0 < n
+    → ((a b : ℕ) → a < 128 → b < 128 → has set a ≡ true → has set b ≡ true → a ≡ b) → IsPicked set issue_numbers n set
 single_picked set n issue_numbers some single =
     let few : size_of set ≤ 1 = count_single (has set) 128 single in record {
       inside = λ x l e. e;
@@ -125,7 +139,8 @@ single_picked set n issue_numbers some single =
     }
 
 -- of a set that isn't empty some are taken by the time that none is left
-pub taken_some : (ready turn rest picked : ℕ) → (turn ≡ 0 → rest ≡ ready) → (0 < turn → picked ≢ 0) → rest ≡ 0 → ready ≢ 0 → picked ≢ 0
+pub taken_some : (ready turn rest picked : ℕ) → (turn ≡ 0 → rest ≡ ready) → (0 < turn → picked ≢ 0) → rest ≡ 0
+    → ready ≢ 0 → picked ≢ 0
 taken_some ready zero rest picked first some none apart = absurd (apart (sym (first refl) ∙ none))
 taken_some ready (suc turn) rest picked first some none apart = some (omega arith)
 
@@ -140,7 +155,8 @@ take_inside (suc n) x (y ∷ ys) e = elim (cases_Bool (y == x)) [
 ]
 
 first_taken : (p : ℕ → Bool) (issue_numbers : List ℕ) (n : ℕ) (xs : List ℕ) → Rises issue_numbers xs
-    → ((x y : ℕ) → is_listed xs x ≡ true → is_listed xs y ≡ true → p x ≡ true → p y ≡ false → slice_index issue_numbers x ≤ slice_index issue_numbers y)
+    → ((x y : ℕ) → is_listed xs x ≡ true → is_listed xs y ≡ true → p x ≡ true → p y ≡ false
+    → slice_index issue_numbers x ≤ slice_index issue_numbers y)
     → count_by p xs ≡ min n (length xs) → (x : ℕ) → is_listed xs x ≡ true → p x ≡ is_listed (take n xs) x
 first_taken p issue_numbers n [] rises oldest count x h = absurd (cc)
 first_taken p issue_numbers zero (y ∷ ys) rises oldest count x h = none_counted p (y ∷ ys) x (count ∙ omega arith) h
@@ -151,22 +167,28 @@ first_taken p issue_numbers (suc n) (y ∷ ys) rises oldest count x h = elim (ca
       elim (cases_Bool (y == x)) [
         | inl k ↦ ap p (sym (eqb-true y x k)) ∙ (on ∙ sym (rw k refl))
         | inr k ↦
-            first_taken p issue_numbers n ys rises.1 (λ a b i j. oldest a b (in_tail y a ys i) (in_tail y b ys j)) rest x (rw k at h)
+            first_taken p issue_numbers n ys rises.1 (λ a b i j. oldest a b (in_tail y a ys i) (in_tail y b ys j)) rest
+            x (rw k at h)
             ∙ sym (rw k refl)
       ]
   | inr off ↦
       let same : count_by p (y ∷ ys) ≡ count_by p ys = rw (sum_by-cons, off) (omega arith) in
       let some = some_counted p ys (omega arith) in
-      let older : slice_index issue_numbers some.0 ≤ slice_index issue_numbers y = oldest some.0 y (in_tail y some.0 ys some.1) (in_head y ys) some.2 off in
+      let older : slice_index issue_numbers some.0 ≤ slice_index issue_numbers y =
+      oldest some.0 y (in_tail y some.0 ys some.1) (in_head y ys) some.2 off in
       let younger : slice_index issue_numbers y < slice_index issue_numbers some.0 = rises.0 some.0 some.1 in
       absurd (omega arith)
 ]
 
-pub first_picked : (set n picked : ℕ) (issue_numbers xs : List ℕ) → IsPicked set issue_numbers n picked → IsInIssueOrder set issue_numbers xs → (x : ℕ) → x < 128 → has picked x ≡ is_listed (take n xs) x
+pub first_picked : (set n picked : ℕ) (issue_numbers xs : List ℕ) → IsPicked set issue_numbers n picked
+    → IsInIssueOrder set issue_numbers xs → (x : ℕ) → x < 128 → has picked x ≡ is_listed (take n xs) x
 first_picked set n picked issue_numbers xs pick by x l =
-    let size : size_of set ≡ length xs = count_listed (has set) issue_numbers xs by.rises by.low (λ y m e. sym (by.members y m) ∙ e)
+    let size : size_of set ≡ length xs =
+    count_listed (has set) issue_numbers xs by.rises by.low (λ y m e. sym (by.members y m) ∙ e)
     ∙ count_all (has set) xs (λ y h. by.members y (by.low y h) ∙ h) in
-    let some : size_of picked ≡ count_by (has picked) xs = count_listed (has picked) issue_numbers xs by.rises by.low (λ y m e. sym (by.members y m) ∙ pick.inside y m e) in
+    let some : size_of picked ≡ count_by (has picked) xs =
+    count_listed (has picked) issue_numbers xs by.rises by.low (λ y m e. sym (by.members y m) ∙ pick.inside y m e)
+    in
     let count : size_of picked ≡ min n (size_of set) = pick.count in
     elim (cases_Bool (is_listed xs x)) [
       | inl h ↦

@@ -19,10 +19,14 @@ pub record HasAdvanced (config : Configuration) (p : Workload) (to : ℕ) (n : S
   pub config_is : n.config ≡ config
   pub cycle : n.cycle ≡ min to (total config p.image)
 
-pub has_advanced : (config : Configuration) (p : Workload) (m n : Seen) (to : ℕ) → IsProgram p → m ≡ record { image = p.image; config = config; cycle = 0; status = Running } → Advances m n to → HasAdvanced config p to n
+pub has_advanced : (config : Configuration) (p : Workload) (m n : Seen) (to : ℕ) → IsProgram p
+    → m ≡ record { image = p.image; config = config; cycle = 0; status = Running } → Advances m n to
+    → HasAdvanced config p to n
 has_advanced config p m n to program is goes =
     let start : m.cycle ≡ 0 = ap (λ (s : Seen). s.cycle) is in
-    let at : n ≡ seen_after p.image config to = advanced_from p config m n to program (ap (λ (s : Seen). s.image) is) (ap (λ (s : Seen). s.config) is) (omega (arith, start)) goes in
+    let at : n ≡ seen_after p.image config to =
+    advanced_from p config m n to program (ap (λ (s : Seen). s.image) is) (ap (λ (s : Seen). s.config) is)
+    (omega (arith, start)) goes in
     record {
       image = ap (λ (s : Seen). s.image) at;
       config_is = ap (λ (s : Seen). s.config) at;
@@ -30,13 +34,18 @@ has_advanced config p m n to program is goes =
     }
 
 -- where it came to the cycle it shows the tables of that cycle
-pub is_text : (config : Configuration) (p : Workload) (to : ℕ) (n : Seen) (t : Tables) (text : List ℕ) → IsProgram p → HasAdvanced config p to n → (n.cycle < to → ⊥)
-    → (EndsWithin n.image 262144 → t ≡ tables_of n.cycle (run_of n.config n.image)) → text ≡ tables_text_of t → IsTextAfter config p to text
+pub is_text : (config : Configuration) (p : Workload) (to : ℕ) (n : Seen) (t : Tables) (text : List ℕ) → IsProgram p
+    → HasAdvanced config p to n → (n.cycle < to → ⊥)
+    → (EndsWithin n.image 262144 → t ≡ tables_of n.cycle (run_of n.config n.image)) → text ≡ tables_text_of t
+    → IsTextAfter config p to text
 is_text config p to n t text program has not_short shows text_is =
     let cycle = has.cycle in
     let there : n.cycle ≡ to = omega (arith, cycle, not_short) in
-    let ends : EndsWithin n.image 262144 = subst (λ (i : Loaded). EndsWithin i 262144) (sym has.image) (ends_at_most p program) in
-    let same : t ≡ tables_of to (run_of config p.image) = shows ends ∙ (ap (λ (k : ℕ). tables_of k (run_of n.config n.image)) there ∙ ap₂ (λ (r : Configuration) (i : Loaded). tables_of to (run_of r i)) has.config_is has.image) in
+    let ends : EndsWithin n.image 262144 =
+    subst (λ (i : Loaded). EndsWithin i 262144) (sym has.image) (ends_at_most p program) in
+    let same : t ≡ tables_of to (run_of config p.image) =
+    shows ends ∙ (ap (λ (k : ℕ). tables_of k (run_of n.config n.image)) there
+    ∙ ap₂ (λ (r : Configuration) (i : Loaded). tables_of to (run_of r i)) has.config_is has.image) in
     record {
       reached = omega (arith, cycle, there);
       tables = text_is ∙ ap tables_text_of same;

@@ -1,29 +1,35 @@
 -- Files that are read one after another.
-use Rattle.std.proofs.Common.{◌≡◌, ◌<◌, ◌+◌, ◌∙◌, ap, sym, ℕ, zero, suc, List, [], ◌∷◌, ◌++◌, length, map, take, get_or, add-one, subst, arith}
+use Rattle.std.proofs.Common.{◌≡◌, ◌<◌, ◌+◌, ◌∙◌, ap, sym, ℕ, zero, suc, List, [], ◌∷◌, ◌++◌, length, map, take, get_or}
+use Rattle.std.proofs.Common.{add-one, subst, arith}
 use Rattle.std.proofs.lemmas.List.{length-map, get_or-map, map_push}
 use Rattle.tomex_command.specs.Reading.{AreRead}
 use Rattle.tomex_streams.specs.Files.{Told, IsRead}
 
-one_more_suc : (file : List ℕ → Told) (names : List (List ℕ)) (k : ℕ) (name : List ℕ) (contents : List (List ℕ)) (bytes : List ℕ)
+one_more_suc : (file : List ℕ → Told) (names : List (List ℕ)) (k : ℕ) (name : List ℕ) (contents : List (List ℕ))
+    (bytes : List ℕ)
     → k < length names → name ≡ get_or names k name → AreRead file (take k names) contents → IsRead (file name) bytes
     → AreRead file (take (suc k) names) (contents ++ bytes ∷ [])
 one_more_suc file [] k name contents bytes inside is older read = absurd (omega (arith, inside))
-one_more_suc file (n ∷ ns) zero name [] bytes inside is older read = (subst (λ (n : List ℕ). IsRead (file n) bytes) is read, tt)
+one_more_suc file (n ∷ ns) zero name [] bytes inside is older read =
+    (subst (λ (n : List ℕ). IsRead (file n) bytes) is read, tt)
 one_more_suc file (n ∷ ns) zero name (c ∷ cs) bytes inside is older read = absurd older
 one_more_suc file (n ∷ ns) (suc k) name [] bytes inside is older read = absurd older
 one_more_suc file (n ∷ ns) (suc k) name (c ∷ cs) bytes inside is older read =
     (older.0, one_more_suc file ns k name cs bytes (omega (arith, inside)) is older.1 read)
 
 -- the file at hand is one more
-pub one_more : (file : List ℕ → Told) (names : List (List ℕ)) (k : ℕ) (name : List ℕ) (contents : List (List ℕ)) (bytes : List ℕ)
+pub one_more : (file : List ℕ → Told) (names : List (List ℕ)) (k : ℕ) (name : List ℕ) (contents : List (List ℕ))
+    (bytes : List ℕ)
     → k < length names → name ≡ get_or names k name → AreRead file (take k names) contents → IsRead (file name) bytes
     → AreRead file (take (k + 1) names) (contents ++ bytes ∷ [])
 one_more file names k name contents bytes inside is older read =
     rw (add-one) (one_more_suc file names k name contents bytes inside is older read)
 
 -- the same of lists that are seen by f and g
-pub one_more_of : {X Y : Type 0} (f : X → List ℕ) (g : Y → List ℕ) (file : List ℕ → Told) (names : List X) (k : ℕ) (name : X) (shown : List ℕ) (contents : List Y) (value : Y) (grown : List Y)
-    → k < length names → name ≡ get_or names k name → shown ≡ f name → AreRead file (take k (map f names)) (map g contents) → IsRead (file shown) (g value)
+pub one_more_of : {X Y : Type 0} (f : X → List ℕ) (g : Y → List ℕ) (file : List ℕ → Told) (names : List X) (k : ℕ)
+    (name : X) (shown : List ℕ) (contents : List Y) (value : Y) (grown : List Y)
+    → k < length names → name ≡ get_or names k name → shown ≡ f name
+    → AreRead file (take k (map f names)) (map g contents) → IsRead (file shown) (g value)
     → grown ≡ contents ++ value ∷ [] → AreRead file (take (k + 1) (map f names)) (map g grown)
 one_more_of f g file names k name shown contents value grown inside is shown_is older read grown_is =
     let there : k < length (map f names) = omega (arith, inside, length-map names f) in

@@ -6,7 +6,8 @@ use Rattle.tomex_config.specs.Grid.{Lists, rows_of, lengths, product, has_empty,
 use Rattle.tomex_config.proofs.Lengths.{product_positive}
 use Rattle.tomex_config.proofs.Varied.{Axis, counts, options, chosen, all_axes}
 
-length-flat_map-same : {V : Type 0} (follows : V → List Configuration) (n : ℕ) → ((value : V) → length (follows value) ≡ n)
+length-flat_map-same : {V : Type 0} (follows : V → List Configuration) (n : ℕ)
+    → ((value : V) → length (follows value) ≡ n)
     → (values : List V) → length (flat_map follows values) ≡ length values * n
 length-flat_map-same follows n same [] = omega arith
 length-flat_map-same follows n same (value ∷ values) =
@@ -16,13 +17,16 @@ axis_length : Axis → ℕ
 axis_length (counts part values) = length values
 axis_length (options part values) = length values
 
-length-chosen : (axes : List Axis) (config : Configuration) → length (chosen axes config) ≡ product (map axis_length axes)
+length-chosen : (axes : List Axis) (config : Configuration)
+    → length (chosen axes config) ≡ product (map axis_length axes)
 unfolding axis_length
 length-chosen [] config = refl
 length-chosen (counts part values ∷ axes) config =
-    length-flat_map-same (λ value. chosen axes (part config value)) (product (map axis_length axes)) (λ value. length-chosen axes (part config value)) values
+    length-flat_map-same (λ value. chosen axes (part config value)) (product (map axis_length axes))
+    (λ value. length-chosen axes (part config value)) values
 length-chosen (options part values ∷ axes) config =
-    length-flat_map-same (λ value. chosen axes (part config value)) (product (map axis_length axes)) (λ value. length-chosen axes (part config value)) values
+    length-flat_map-same (λ value. chosen axes (part config value)) (product (map axis_length axes))
+    (λ value. length-chosen axes (part config value)) values
 
 length-rows_of : (axes : Lists) → length (rows_of axes) ≡ product (lengths axes)
 unfolding rows_of axis_length

@@ -1,5 +1,6 @@
 -- The product of the axes' lengths, with a length of 0 and without.
-use Rattle.std.proofs.Common.{◌≡◌, ◌≢◌, ◌==◌, ◌||◌, ◌+◌, ◌*◌, ◌<◌, ◌≤◌, ◌∙◌, ℕ, suc, Bool, true, false, List, [], ◌∷◌, length, get_or, drop, nat_lt, refl, sym, ap, arith, drop-cons, inl, inr}
+use Rattle.std.proofs.Common.{◌≡◌, ◌≢◌, ◌==◌, ◌||◌, ◌+◌, ◌*◌, ◌<◌, ◌≤◌, ◌∙◌, ℕ, suc, Bool, true, false, List, [], ◌∷◌}
+use Rattle.std.proofs.Common.{length, get_or, drop, nat_lt, refl, sym, ap, arith, drop-cons, inl, inr}
 use Rattle.std.proofs.Math.Nat.{mul-le-mul_left, mul-le-mul}
 use Rattle.std.proofs.lemmas.Bool.{false≢true, cases_Bool, eqb-true, eqb-false}
 use Rattle.std.proofs.lemmas.Bool.Decides.{nat_tests}
@@ -33,10 +34,12 @@ pub record Splits (rows i : ℕ) (ns : List ℕ) : Type 0 where
   pub rest : has_zero (drop (i + 1) ns) ≡ false
   pub whole : rows * get_or ns i 0 * product (drop (i + 1) ns) ≡ product ns
 
-pub splits : (rows i : ℕ) (ns : List ℕ) → i < length ns → has_zero (drop i ns) ≡ false → rows * product (drop i ns) ≡ product ns → Splits rows i ns
+pub splits : (rows i : ℕ) (ns : List ℕ) → i < length ns → has_zero (drop i ns) ≡ false
+    → rows * product (drop i ns) ≡ product ns → Splits rows i ns
 splits rows i ns lt none whole =
     let next_is : suc i ≡ i + 1 = omega arith in
-    let cons : drop i ns ≡ get_or ns i 0 ∷ drop (i + 1) ns = drop-cons ns i 0 lt ∙ ap (λ k. get_or ns i 0 ∷ drop k ns) next_is in
+    let cons : drop i ns ≡ get_or ns i 0 ∷ drop (i + 1) ns =
+    drop-cons ns i 0 lt ∙ ap (λ k. get_or ns i 0 ∷ drop k ns) next_is in
     let h = rw cons at none in
     let (head, rest) = both_false (get_or ns i 0 == 0) (has_zero (drop (i + 1) ns)) h in
     let some : get_or ns i 0 ≢ 0 = eqb-false (get_or ns i 0) 0 head in
@@ -44,7 +47,8 @@ splits rows i ns lt none whole =
     record { positive = omega (arith, some); rest = rest; whole = omega (arith, whole, ap (λ p. rows * p) product_is) }
 
 -- configurations that are too many stay too many with the lengths to come
-pub too_many : (rows n rest whole : ℕ) → 1 ≤ rest → 16384 < rows * n → rows * n * rest ≡ whole → true ≡ nat_lt 16384 whole
+pub too_many : (rows n rest whole : ℕ) → 1 ≤ rest → 16384 < rows * n → rows * n * rest ≡ whole
+    → true ≡ nat_lt 16384 whole
 too_many rows n rest whole positive above product_is =
     let some : rows * n * 1 ≤ rows * n * rest = mul-le-mul_left (rows * n) positive in
     let lt : 16384 < whole = omega (arith, some, product_is) in

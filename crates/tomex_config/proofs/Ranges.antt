@@ -14,7 +14,8 @@ use Rattle.tomex_config.specs.Configuration.{is_option, most_units, plain_option
 pub each_passes : {X : Type 0} (p : X → Bool) (xs : List X) → list_all p xs ≡ true → All (λ x. p x ≡ true) xs
 each_passes p xs h = AllPass-from_list_all p xs h
 
-pub passes_at : {X : Type 0} (p : X → Bool) (xs : List X) (k : ℕ) (d : X) → list_all p xs ≡ true → k < length xs → p (get_or xs k d) ≡ true
+pub passes_at : {X : Type 0} (p : X → Bool) (xs : List X) (k : ℕ) (d : X) → list_all p xs ≡ true → k < length xs
+    → p (get_or xs k d) ≡ true
 passes_at p xs k d h within = All-get_or (λ x. p x ≡ true) xs k d within (each_passes p xs h)
 
 -- an option for any kind has at most 8 units

@@ -33,13 +33,16 @@ flat_map-self [] = refl
 flat_map-self (config ∷ rows) = ap (λ rest. config ∷ rest) (flat_map-self rows)
 
 -- one more axis, before those to come
-flat_map-vary : {V : Type 0} (follows : Configuration → List Configuration) (part : Configuration → V → Configuration) (values : List V) (rows : List Configuration)
-    → flat_map follows (vary part values rows) ≡ flat_map (λ config. flat_map (λ value. follows (part config value)) values) rows
+flat_map-vary : {V : Type 0} (follows : Configuration → List Configuration) (part : Configuration → V → Configuration)
+    (values : List V) (rows : List Configuration)
+    → flat_map follows (vary part values rows)
+    ≡ flat_map (λ config. flat_map (λ value. follows (part config value)) values) rows
 flat_map-vary follows part values [] = refl
 flat_map-vary follows part values (config ∷ rows) =
     flat_map-append follows (map (part config) values) (vary part values rows)
     ∙ ap (λ first. first ++ flat_map follows (vary part values rows)) (flat_map-map follows (part config) values)
-    ∙ ap (λ rest. flat_map (λ value. follows (part config value)) values ++ rest) (flat_map-vary follows part values rows)
+    ∙ ap (λ rest. flat_map (λ value. follows (part config value)) values ++ rest)
+    (flat_map-vary follows part values rows)
 
 chained-chosen : (axes : List Axis) (rows : List Configuration) → chained axes rows ≡ flat_map (chosen axes) rows
 chained-chosen [] rows = sym (flat_map-self rows)
@@ -65,7 +68,8 @@ all_axes axes =
     ∷ counts with_width axes.width
     ∷ []
 
-flat_map-one : (follows : Configuration → List Configuration) (config : Configuration) → flat_map follows (config ∷ []) ≡ follows config
+flat_map-one : (follows : Configuration → List Configuration) (config : Configuration)
+    → flat_map follows (config ∷ []) ≡ follows config
 flat_map-one follows config = append-nil (follows config)
 
 pub varied_rows : (axes : Lists) → vary with_width axes.width (bus_rows axes) ≡ rows_of axes

@@ -47,7 +47,8 @@ unfolding rows_of
 value_twice = refl
 
 -- the width varies faster than the buses
-width_fastest : map {B = ℕ × ℕ} (λ config. (config.buses, config.width)) (rows_of (record single { buses = 1 ∷ 3 ∷ []; width = 4 ∷ 2 ∷ [] }))
+width_fastest : map {B = ℕ × ℕ} (λ config. (config.buses, config.width))
+    (rows_of (record single { buses = 1 ∷ 3 ∷ []; width = 4 ∷ 2 ∷ [] }))
     ≡ (1, 4) ∷ (1, 2) ∷ (3, 4) ∷ (3, 2) ∷ []
 unfolding rows_of
 width_fastest = refl
@@ -64,7 +65,8 @@ unfolding rows_of
 costs = refl
 
 -- with the price of the width at 1000, a width of 1 and one of 4
-width_costs : map (λ config. cost_of config (record prices { width = 1000 })) (rows_of (record priced_rows { alu = 1 ∷ []; width = 1 ∷ 4 ∷ [] })) ≡ 1174 ∷ 4174 ∷ []
+width_costs : map (λ config. cost_of config (record prices { width = 1000 }))
+    (rows_of (record priced_rows { alu = 1 ∷ []; width = 1 ∷ 4 ∷ [] })) ≡ 1174 ∷ 4174 ∷ []
 unfolding rows_of
 width_costs = refl
 
@@ -86,7 +88,8 @@ empty_first = refl
 abbrev sixteen : List ℕ
 sixteen = replicate 16 1
 
-range_second : grid_of (record single { alu = sixteen; mul = sixteen; div = sixteen; buses = 1 ∷ 1 ∷ 1 ∷ 1 ∷ 9 ∷ [] }) ≡ Err OutOfRange
+range_second : grid_of (record single { alu = sixteen; mul = sixteen; div = sixteen; buses = 1 ∷ 1 ∷ 1 ∷ 1 ∷ 9 ∷ [] })
+    ≡ Err OutOfRange
 unfolding grid_of has_empty in_range
 range_second = refl
 
@@ -103,6 +106,7 @@ unfolding grid_of has_empty in_range
 five_wide = refl
 
 -- 16 * 16 * 16 * 4 configurations aren't too many
-most_rows : is_above_limit (lengths (record single { alu = sixteen; mul = sixteen; div = sixteen; buses = replicate 4 1 })) ≡ false
+most_rows : is_above_limit (lengths
+    (record single { alu = sixteen; mul = sixteen; div = sixteen; buses = replicate 4 1 })) ≡ false
 unfolding is_above_limit
 most_rows = refl

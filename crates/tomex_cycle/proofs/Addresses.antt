@@ -1,35 +1,28 @@
 -- The oldest load or store without an address gets it just where the recurrence says.
-use Rattle.std.proofs.Common.{length, slice_index_or, slice_set, append_assoc, ℕ, ◌+◌, ◌<◌, ◌≤◌, ◌≡◌, ◌∙◌, Bool, true, false, arith, refl, List, [], ◌∷◌, ◌++◌, Option, Some, None, ap, sym, inl, inr, slice_index}
+use Rattle.std.proofs.Common.{length, slice_index_or, slice_set, append_assoc, ℕ, ◌+◌, ◌<◌, ◌≤◌, ◌≡◌, ◌∙◌, Bool, true}
+use Rattle.std.proofs.Common.{false, arith, refl, List, [], ◌∷◌, ◌++◌, Option, Some, None, ap, sym, inl, inr}
+use Rattle.std.proofs.Common.{slice_index}
 use Rattle.std.specs.Prelude.{nat_lt, nat_le, if◌then◌else◌, ◌&&◌, ◌==◌, not, is_some}
-use Rattle.std.specs.Bool.{MatchBool}
-use Rattle.std.proofs.lemmas.Bool.{cases_Bool, ltb-true, lt-ltb, leb-true, leb-false, le-leb, lt-leb, and_parts, and_right, eq-eqb, eqb-true, eqb-false, ne_eqb, both_ways}
+use Rattle.std.proofs.lemmas.Bool.{cases_Bool, ltb-true, leb-true, le-leb, and_parts}
+use Rattle.std.proofs.lemmas.Bool.{eq-eqb, eqb-true, eqb-false, ne_eqb, both_ways}
 use Rattle.std.proofs.lemmas.List.{get_or-set_same, get_or-set_other, length-set}
 use Rattle.tomex_rvexec.specs.Steps.{step_pool}
 use Rattle.tomex_cycle.specs.Phases.{MakesAddress}
 use Rattle.tomex_config.specs.Configuration.{Configuration, IsWithinLimits}
 use Rattle.tomex_timing.specs.declared.times.Done.{Done}
 use Rattle.tomex_timing.specs.History.{cycle_of, is_memory, last_address}
-use Rattle.tomex_timing.specs.Recurrence.{AreTimed, IsTimed, IsLeast, can_address}
+use Rattle.tomex_timing.specs.Recurrence.{AreTimed}
 use Rattle.tomex_cycle.specs.Run.{AreIssuedBy}
 use Rattle.tomex_cycle.specs.Views.{place_of, holds_place, order_of, ShowsStations, station_at, station_of, clocks}
 use Rattle.tomex_image.specs.Image.{Loaded}
-use Rattle.tomex_timing.specs.declared.tables.Tag.{Tag}
 use Rattle.std.specs.Prelude.{option_map}
-use Rattle.tomex_rvdec.specs.declared.op.Op.{Op}
-use Rattle.tomex_rvdec.specs.declared.op.Op.TheVariants as ops
-use Rattle.tomex_rvdec.specs.Meaning.{form_of}
-use Rattle.tomex_rvdec.specs.Operands.{sources_at}
-use Rattle.tomex_rvexec.specs.declared.step.Step.{Step}
-use Rattle.tomex_rvexec.specs.Steps.{address_of, is_number, j_of, operand}
-use Rattle.tomex_timing.specs.History.{source_end}
-use Rattle.tomex_timing.specs.Tables.{field_of, field_from, producer}
-use Rattle.tomex_cycle.proofs.Fields.{there_test, tag_there, timed_part, issued_part}
-use Rattle.tomex_cycle.proofs.Places.{place_low, low, station_here, is_vacant, vacant, least_test}
-use Rattle.tomex_cycle.proofs.Totals.{reach, place_there, issued_more}
+use Rattle.tomex_rvexec.specs.Steps.{address_of, is_number}
+use Rattle.tomex_cycle.proofs.Fields.{tag_there, timed_part, issued_part}
+use Rattle.tomex_cycle.proofs.Places.{place_low, low, station_here, is_vacant, vacant}
+use Rattle.tomex_cycle.proofs.Totals.{issued_more}
 use Rattle.tomex_membuf.specs.Addresses.{has_base, is_value}
 use Rattle.tomex_cycle.proofs.IssueOrder.{first_waiting, next_address, where_base_is_there}
-use Rattle.tomex_tags.specs.Contents.{address_from, is_memory_op, lacks_address, with_address}
-use Rattle.tomex_tags.specs.Operands.{is_there}
+use Rattle.tomex_tags.specs.Contents.{lacks_address, with_address}
 use Rattle.tomex_tags.specs.Places.{place_at, place_of_tag}
 use Rattle.tomex_tags.specs.Pools.{Pools, AreBusy}
 use Rattle.tomex_tags.specs.declared.station.Station.{Station}
@@ -37,178 +30,9 @@ use Rattle.tomex_timing.specs.declared.tables.Field.{Field}
 use Rattle.tomex_timing.specs.declared.tables.Field.TheVariants.{Value, Waits, Unread}
 use Rattle.tomex_bus.specs.Picks.{IsInIssueOrder}
 use Rattle.tomex_cycle.proofs.Orders.{order_is}
-
-abbrev pub or_else : Option ℕ → Option ℕ → Option ℕ
-or_else None y = y
-or_else (Some x) y = Some x
-
--- the step is busy, and its address is still to come
-abbrev pub waits_for_address : ℕ → Done → Bool
-waits_for_address t d = nat_lt t d.at.end && (is_memory d.step && not (nat_le (cycle_of d.at.address) t))
-
--- the place of the oldest such step
-abbrev pub chosen : ℕ → List Done → Option ℕ
-chosen t [] = None
-chosen t (d ∷ older) = or_else (chosen t older) (if waits_for_address t d then place_of d else None)
-
-address_least : (d : Done) (older : List Done) (memory : Bool) → memory ≡ true → MatchBool memory (IsLeast (can_address older d.step d.at.issue) (cycle_of d.at.address)) (d.at.address ≡ None) → IsLeast (can_address older d.step d.at.issue) (cycle_of d.at.address)
-address_least d older true e h = h
-address_least d older false e h = absurd (cc)
-
-pub address_is : (config : Configuration) (d : Done) (older : List Done) → IsTimed config older d.step d.at → is_memory d.step ≡ true → IsLeast (can_address older d.step d.at.issue) (cycle_of d.at.address)
-address_is config d older timed e = address_least d older (is_memory d.step) e timed.address
-
--- addresses are computed in program order
-pub address_rises : (config : Configuration) (d : Done) (older : List Done) → IsTimed config older d.step d.at → is_memory d.step ≡ true → last_address older < cycle_of d.at.address
-address_rises config d older timed e =
-    let l = address_is config d older timed e in
-    let two = and_parts _ (nat_lt (last_address older) (cycle_of d.at.address)) l.0 in
-    ltb-true _ _ two.1
-
-pub some_none_of : {A : Type 0} (x : A) (o : Option A) → is_some o ≡ true → o ≡ None → ⊥
-some_none_of x None e f = cc
-some_none_of x (Some y) e f = cc
-
-or_none : (a b : Option ℕ) → or_else a b ≡ None → (a ≡ None) × (b ≡ None)
-or_none None b e = (refl, e)
-or_none (Some x) b e = absurd (cc)
-
--- where none waits all addresses are made
-pub none_waits : (config : Configuration) (t : ℕ) (h : List Done) → IsWithinLimits config → AreTimed config h → AreIssuedBy t h → chosen t h ≡ None → last_address h ≤ t
-none_waits config t [] good timed issued e = omega arith
-none_waits config t (d ∷ older) good timed issued e =
-    let two = or_none (chosen t older) (if waits_for_address t d then place_of d else None) e in
-    elim (cases_Bool (is_memory d.step)) [
-      | inr m ↦ rw m (none_waits config t older good timed.1 issued.1 two.0)
-      | inl m ↦ rw m (elim (cases_Bool (nat_le (cycle_of d.at.address) t)) [
-        | inl l ↦ leb-true _ _ l
-        | inr l ↦
-            let k : t < cycle_of d.at.address = leb-false _ _ l in
-            let r : cycle_of d.at.address ≤ d.at.end = (reach config d older good timed).address in
-            let busy : waits_for_address t d ≡ true = rw (lt-ltb t d.at.end (omega arith), m, l) refl in
-            let f : place_of d ≡ None = rw busy at two.1 in
-            absurd (some_none_of 0 (place_of d) (place_there config d older timed.0 (let i : d.at.issue ≤ t = issued.0 in omega arith)) f)
-      ])
-    ]
-
-or_else_none : (a : Option ℕ) → or_else a None ≡ a
-or_else_none None = refl
-or_else_none (Some x) = refl
-
-pub not_le : (a b : ℕ) → not (nat_le a b) ≡ true → b < a
-not_le a b e = elim (cases_Bool (nat_le a b)) [
-  | inl l ↦ let f : not true ≡ true = rw l at e in absurd (cc)
-  | inr l ↦ leb-false a b l
-]
-
-and_true : (a : Bool) → a ≡ ((true && a) && true)
-and_true true = refl
-and_true false = refl
-
-some_waits_by : (config : Configuration) (t y : ℕ) (d : Done) (older : List Done) (o : Option ℕ) → IsTimed config older d.step d.at → chosen t older ≡ o → ((z : ℕ) → chosen t older ≡ Some z → t < last_address older) → or_else o (if waits_for_address t d then place_of d else None) ≡ Some y → t < last_address (d ∷ older)
-some_waits_by config t y d older (Some z) timed e before f =
-    let l : t < last_address older = before z e in
-    elim (cases_Bool (is_memory d.step)) [
-      | inr m ↦ rw m l
-      | inl m ↦ let k : last_address older < cycle_of d.at.address = address_rises config d older timed m in rw m (omega arith)
-    ]
-some_waits_by config t y d older None timed e before f = elim (cases_Bool (waits_for_address t d)) [
-  | inr w ↦ let g : None ≡ Some y = rw w at f in absurd (cc)
-  | inl w ↦
-      let a = and_parts (nat_lt t d.at.end) (is_memory d.step && not (nat_le (cycle_of d.at.address) t)) w in
-      let b = and_parts (is_memory d.step) (not (nat_le (cycle_of d.at.address) t)) a.1 in
-      let l : t < cycle_of d.at.address = not_le (cycle_of d.at.address) t b.1 in
-      rw b.0 l
-]
-
--- and where one waits the last address is still to come
-pub some_waits : (config : Configuration) (t y : ℕ) (h : List Done) → AreTimed config h → chosen t h ≡ Some y → t < last_address h
-some_waits config t y [] timed e = absurd (cc)
-some_waits config t y (d ∷ older) timed e = some_waits_by config t y d older (chosen t older) timed.0 refl (λ z f. some_waits config t z older timed.1 f) e
-
-pub holds_by : (t y : ℕ) (d : Done) → place_of d ≡ Some y → waits_for_address t d ≡ true → holds_place t y d ≡ true
-holds_by t y d e w =
-    let a = and_parts (nat_lt t d.at.end) (is_memory d.step && not (nat_le (cycle_of d.at.address) t)) w in
-    rw (e, a.0, eq-eqb y y refl) refl
-
-chosen_by : (t y : ℕ) (d : Done) (older : List Done) (o : Option ℕ) → chosen t older ≡ o → (chosen t older ≡ Some y → is_vacant t y older ≡ true → ⊥) → or_else o (if waits_for_address t d then place_of d else None) ≡ Some y → is_vacant t y (d ∷ older) ≡ true → ⊥
-chosen_by t y d older (Some z) e before f free =
-    let g : chosen t older ≡ Some y = e ∙ f in
-    before g (and_parts (not (holds_place t y d)) (is_vacant t y older) free).1
-chosen_by t y d older None e before f free = elim (cases_Bool (waits_for_address t d)) [
-  | inr w ↦ let g : None ≡ Some y = rw w at f in absurd (cc)
-  | inl w ↦
-      let g : place_of d ≡ Some y = rw w at f in
-      let held : holds_place t y d ≡ true = holds_by t y d g w in
-      let z : not (holds_place t y d) ≡ true = (and_parts (not (holds_place t y d)) (is_vacant t y older) free).0 in
-      let k : not true ≡ true = rw held at z in
-      absurd (cc)
-]
-
--- the place that is chosen is held
-pub chosen_held : (t y : ℕ) (h : List Done) → chosen t h ≡ Some y → is_vacant t y h ≡ true → ⊥
-chosen_held t y [] e free = cc
-chosen_held t y (d ∷ older) e free = chosen_by t y d older (chosen t older) refl (chosen_held t y older) e free
-
-memory_j_op : (op : Op) (rs1 rs2 : ℕ) → is_memory_op op ≡ true → (sources_at (form_of op) rs1 rs2).j ≡ Some rs1
-memory_j_op ops.Lb rs1 rs2 e = refl
-memory_j_op ops.Lh rs1 rs2 e = refl
-memory_j_op ops.Lw rs1 rs2 e = refl
-memory_j_op ops.Lbu rs1 rs2 e = refl
-memory_j_op ops.Lhu rs1 rs2 e = refl
-memory_j_op ops.Sb rs1 rs2 e = refl
-memory_j_op ops.Sh rs1 rs2 e = refl
-memory_j_op ops.Sw rs1 rs2 e = refl
-memory_j_op _ rs1 rs2 e = absurd (cc)
-
--- a load or store reads its base
-pub memory_j : (x : Step) → is_memory x ≡ true → j_of x ≡ Some (operand x.vj x.instr.rs1)
-memory_j x e = ap (option_map (operand x.vj)) (memory_j_op x.instr.op x.instr.rs1 x.instr.rs2 e)
-
--- the address test of the next cycle, where no older address is to come
-pub test_is : (config : Configuration) (t u : ℕ) (d : Done) (older : List Done) → IsTimed config older d.step d.at → AreTimed config older → AreIssuedBy t (d ∷ older) → u ≡ t + 1 → is_memory d.step ≡ true → last_address older ≤ t → t < cycle_of d.at.address
-    → is_there (field_of t older (j_of d.step)) ≡ (cycle_of d.at.address == u)
-test_is config t u d older timed before issued e m last late =
-    let test : can_address older d.step d.at.issue u ≡ (cycle_of d.at.address == u) = least_test (can_address older d.step d.at.issue) (cycle_of d.at.address) u (address_is config d older timed m) (omega arith) in
-    let there : is_there (field_of t older (j_of d.step)) ≡ nat_lt (source_end older (j_of d.step)) (t + 1) = there_test config t older (j_of d.step) before issued.1 in
-    let i : d.at.issue ≤ t = issued.0 in
-    there ∙ (rw (← e) (and_true (nat_lt (source_end older (j_of d.step)) u)) ∙ rw (lt-ltb d.at.issue u (omega arith), lt-ltb (last_address older) u (omega arith)) at test)
-
--- A of a station by the address clock
-abbrev a_by : ℕ → Done → Option ℕ
-a_by t d = if is_memory d.step && nat_le (cycle_of d.at.address) t then Some (address_of d.step) else None
-
-with_a : (i : Loaded) (u t : ℕ) (d : Done) (older : List Done) → a_by u d ≡ a_by t d → station_of i (clocks u u t) d older ≡ station_of i (clocks u t t) d older
-with_a i u t d older e =
-    let set : Option ℕ → Station = λ x. record (station_of i (clocks u t t) d older) { address = x } in
-    ap set e
-
-a_none : (t : ℕ) (d : Done) → t < cycle_of d.at.address → a_by t d ≡ None
-a_none t d l = rw (lt-leb (cycle_of d.at.address) t l, and_right (is_memory d.step) false refl) refl
-
-a_some : (t : ℕ) (d : Done) → is_memory d.step ≡ true → cycle_of d.at.address ≤ t → a_by t d ≡ Some (address_of d.step)
-a_some t d m l = rw (m, le-leb (cycle_of d.at.address) t l) refl
-
-given_by : (i : Loaded) (u t : ℕ) (d : Done) (older : List Done) (p : Option Tag) → field_of t older (j_of d.step) ≡ field_from d.step.vj p → is_there (field_of t older (j_of d.step)) ≡ (cycle_of d.at.address == u) → t < cycle_of d.at.address → u ≡ t + 1 → is_memory d.step ≡ true
-    → station_of i (clocks u u t) d older ≡ address_from (station_of i (clocks u t t) d older) (field_from d.step.vj p)
-given_by i u t d older None f there late e m =
-    let g : true ≡ (cycle_of d.at.address == u) = rw f at there in
-    let at : cycle_of d.at.address ≡ u = eqb-true _ _ (sym g) in
-    let set : Option ℕ → Station = λ x. record (station_of i (clocks u t t) d older) { address = x } in
-    ap set (a_some u d m (omega arith))
-given_by i u t d older (Some tag) f there late e m =
-    let g : false ≡ (cycle_of d.at.address == u) = rw f at there in
-    let at : cycle_of d.at.address ≡ u → ⊥ = eqb-false _ _ (sym g) in
-    with_a i u t d older (a_none u d (omega arith) ∙ sym (a_none t d late))
-
-field_parts : (t : ℕ) (d : Done) (older : List Done) → is_memory d.step ≡ true → field_of t older (j_of d.step) ≡ field_from d.step.vj (producer t older d.step.instr.rs1)
-field_parts t d older m = rw (memory_j d.step m) refl
-
-given : (i : Loaded) (u t : ℕ) (d : Done) (older : List Done) → is_there (field_of t older (j_of d.step)) ≡ (cycle_of d.at.address == u) → t < cycle_of d.at.address → u ≡ t + 1 → is_memory d.step ≡ true
-    → station_of i (clocks u u t) d older ≡ with_address (station_of i (clocks u t t) d older)
-given i u t d older there late e m =
-    let f : field_of t older (j_of d.step) ≡ field_from d.step.vj (producer t older d.step.instr.rs1) = field_parts t d older m in
-    given_by i u t d older (producer t older d.step.instr.rs1) f there late e m ∙ ap (address_from (station_of i (clocks u t t) d older)) (sym f)
+use Rattle.tomex_cycle.proofs.AddressChosen.{or_else, waits_for_address, chosen, address_rises, none_waits}
+use Rattle.tomex_cycle.proofs.AddressChosen.{or_else_none, not_le, some_waits, holds_by, chosen_held, test_is, a_by}
+use Rattle.tomex_cycle.proofs.AddressChosen.{with_a, a_none, given}
 
 -- what a phase makes of a place
 abbrev pub given_at : Option ℕ → ℕ → Option Station → Option Station
@@ -229,21 +53,25 @@ number_is_some (Some y) x e = ap (λ (k : ℕ). Some k) (eqb-true y x e)
 place_by : (d : Done) (t x : ℕ) → holds_place t x d ≡ true → place_of d ≡ Some x
 place_by d t x e = number_is_some (place_of d) x (and_parts (is_number (place_of d) x) (nat_lt t d.at.end) e).0
 
-idle_by : (t u cycle address : ℕ) (memory : Bool) → u ≡ t + 1 → (memory && not (nat_le cycle t)) ≡ false → (if memory && nat_le cycle u then Some address else None) ≡ (if memory && nat_le cycle t then Some address else None)
+idle_by : (t u cycle address : ℕ) (memory : Bool) → u ≡ t + 1 → (memory && not (nat_le cycle t)) ≡ false
+    → (if memory && nat_le cycle u then Some address else None)
+    ≡ (if memory && nat_le cycle t then Some address else None)
 idle_by t u cycle address false e w = refl
 idle_by t u cycle address true e w = elim (cases_Bool (nat_le cycle t)) [
   | inl l ↦ let k : cycle ≤ t = leb-true _ _ l in rw (l, le-leb cycle u (omega arith)) refl
   | inr l ↦ let f : not false ≡ false = rw l at w in absurd (cc)
 ]
 
-idle_same : (t u : ℕ) (d : Done) (x : ℕ) → holds_place t x d ≡ true → u ≡ t + 1 → waits_for_address t d ≡ false → a_by u d ≡ a_by t d
+idle_same : (t u : ℕ) (d : Done) (x : ℕ) → holds_place t x d ≡ true → u ≡ t + 1 → waits_for_address t d ≡ false
+    → a_by u d ≡ a_by t d
 idle_same t u d x held e w =
     let busy : nat_lt t d.at.end ≡ true = (and_parts (is_number (place_of d) x) (nat_lt t d.at.end) held).1 in
     let f : (is_memory d.step && not (nat_le (cycle_of d.at.address) t)) ≡ false = rw busy at w in
     idle_by t u (cycle_of d.at.address) (address_of d.step) (is_memory d.step) e f
 
 -- what doesn't hold the place isn't chosen there
-free_by : (t x : ℕ) (d : Done) (o : Option ℕ) (s : Option Station) → holds_place t x d ≡ false → given_at o x s ≡ given_at (or_else o (if waits_for_address t d then place_of d else None)) x s
+free_by : (t x : ℕ) (d : Done) (o : Option ℕ) (s : Option Station) → holds_place t x d ≡ false
+    → given_at o x s ≡ given_at (or_else o (if waits_for_address t d then place_of d else None)) x s
 free_by t x d (Some y) s free = refl
 free_by t x d None s free = elim (cases_Bool (waits_for_address t d)) [
   | inr w ↦ rw w refl
@@ -251,17 +79,24 @@ free_by t x d None s free = elim (cases_Bool (waits_for_address t d)) [
 ]
 
 -- a busy step's station, where an older step waits or none does
-held_by : (i : Loaded) (config : Configuration) (t u x : ℕ) (d : Done) (older : List Done) (o : Option ℕ) → IsWithinLimits config → AreTimed config (d ∷ older) → AreIssuedBy t (d ∷ older) → u ≡ t + 1 → holds_place t x d ≡ true → chosen t older ≡ o
-    → Some (station_of i (clocks u u t) d older) ≡ given_at (or_else o (if waits_for_address t d then place_of d else None)) x (Some (station_of i (clocks u t t) d older))
+held_by : (i : Loaded) (config : Configuration) (t u x : ℕ) (d : Done) (older : List Done) (o : Option ℕ)
+    → IsWithinLimits config → AreTimed config (d ∷ older) → AreIssuedBy t (d ∷ older) → u ≡ t + 1
+    → holds_place t x d ≡ true → chosen t older ≡ o
+    → Some (station_of i (clocks u u t) d older)
+    ≡ given_at (or_else o (if waits_for_address t d then place_of d else None)) x
+    (Some (station_of i (clocks u t t) d older))
 held_by i config t u x d older (Some y) good timed issued e held c =
-    let free : is_vacant t x older ≡ true = vacant config d older t x good timed (let l : d.at.issue ≤ t = issued.0 in omega arith) (and_parts (is_number (place_of d) x) (nat_lt t d.at.end) held).0 in
+    let free : is_vacant t x older ≡ true = vacant config d older t x good timed (let l : d.at.issue ≤ t = issued.0 in
+    omega arith) (and_parts (is_number (place_of d) x) (nat_lt t d.at.end) held).0 in
     let other : Some y ≡ Some x → ⊥ = λ z. chosen_held t x older (c ∙ z) free in
     let last : t < last_address older = some_waits config t y older timed.1 c in
     let same : a_by u d ≡ a_by t d = elim (cases_Bool (is_memory d.step)) [
       | inr m ↦ rw m refl
-      | inl m ↦ let k : last_address older < cycle_of d.at.address = address_rises config d older timed.0 m in a_none u d (omega arith) ∙ sym (a_none t d (omega arith))
+      | inl m ↦ let k : last_address older < cycle_of d.at.address = address_rises config d older timed.0 m in
+          a_none u d (omega arith) ∙ sym (a_none t d (omega arith))
     ] in
-    ap (λ (k : Station). Some k) (with_a i u t d older same) ∙ sym (given_other (Some y) x (Some (station_of i (clocks u t t) d older)) other)
+    ap (λ (k : Station). Some k) (with_a i u t d older same)
+    ∙ sym (given_other (Some y) x (Some (station_of i (clocks u t t) d older)) other)
 held_by i config t u x d older None good timed issued e held c = elim (cases_Bool (waits_for_address t d)) [
   | inr w ↦ rw w (ap (λ (k : Station). Some k) (with_a i u t d older (idle_same t u d x held e w)))
   | inl w ↦
@@ -270,37 +105,49 @@ held_by i config t u x d older None good timed issued e held c = elim (cases_Boo
       let late : t < cycle_of d.at.address = not_le (cycle_of d.at.address) t b.1 in
       let last : last_address older ≤ t = none_waits config t older good timed.1 issued.1 c in
       let there = test_is config t u d older timed.0 timed.1 issued e b.0 last late in
-      rw (w, given_here (place_of d) x (Some (station_of i (clocks u t t) d older)) (place_by d t x held)) (ap (λ (k : Station). Some k) (given i u t d older there late e b.0))
+      rw (w, given_here (place_of d) x (Some (station_of i (clocks u t t) d older)) (place_by d t x held))
+      (ap (λ (k : Station). Some k) (given i u t d older there late e b.0))
 ]
 
 -- the chosen place gets its address, and no other
-pub addresses_at : (i : Loaded) (config : Configuration) (t u x : ℕ) (h : List Done) → IsWithinLimits config → AreTimed config h → AreIssuedBy t h → u ≡ t + 1 → station_at i (clocks u u t) h x ≡ given_at (chosen t h) x (station_at i (clocks u t t) h x)
+pub addresses_at : (i : Loaded) (config : Configuration) (t u x : ℕ) (h : List Done) → IsWithinLimits config
+    → AreTimed config h → AreIssuedBy t h → u ≡ t + 1
+    → station_at i (clocks u u t) h x ≡ given_at (chosen t h) x (station_at i (clocks u t t) h x)
 addresses_at i config t u x [] good timed issued e = refl
 addresses_at i config t u x (d ∷ older) good timed issued e = elim (cases_Bool (holds_place t x d)) [
   | inl held ↦ rw held (held_by i config t u x d older (chosen t older) good timed issued e held refl)
-  | inr free ↦ rw free (addresses_at i config t u x older good timed.1 issued.1 e ∙ free_by t x d (chosen t older) (station_at i (clocks u t t) older x) free)
+  | inr free ↦ rw free (addresses_at i config t u x older good timed.1 issued.1 e
+      ∙ free_by t x d (chosen t older) (station_at i (clocks u t t) older x) free)
 ]
 
-first-append : (slots : List (Option Station)) (xs : List ℕ) (x : ℕ) → first_waiting slots (xs ++ (x ∷ [])) ≡ or_else (first_waiting slots xs) (if lacks_address (slice_index_or slots x None) then Some x else None)
+first-append : (slots : List (Option Station)) (xs : List ℕ) (x : ℕ)
+    → first_waiting slots (xs ++ (x ∷ [])) ≡ or_else (first_waiting slots xs)
+    (if lacks_address (slice_index_or slots x None) then Some x else None)
 first-append slots [] x = refl
 first-append slots (y ∷ xs) x = elim (cases_Bool (lacks_address (slice_index_or slots y None))) [
   | inl e ↦ rw e refl
   | inr e ↦ rw e (first-append slots xs x)
 ]
 
-lacks_by : (memory made : Bool) (address : ℕ) → (memory && not (is_some (if memory && made then Some address else None))) ≡ (memory && not made)
+lacks_by : (memory made : Bool) (address : ℕ)
+    → (memory && not (is_some (if memory && made then Some address else None))) ≡ (memory && not made)
 lacks_by false made address = refl
 lacks_by true false address = refl
 lacks_by true true address = refl
 
-pub order_here : (t x : ℕ) (d : Done) (older : List Done) → place_of d ≡ Some x → nat_lt t d.at.end ≡ true → order_of t (d ∷ older) ≡ order_of t older ++ (x ∷ [])
+pub order_here : (t x : ℕ) (d : Done) (older : List Done) → place_of d ≡ Some x → nat_lt t d.at.end ≡ true
+    → order_of t (d ∷ older) ≡ order_of t older ++ (x ∷ [])
 order_here t x d older e l = rw (l, e) refl
 
 -- the pass over the order finds what the history says
-pub waiting_is : (i : Loaded) (config : Configuration) (t u : ℕ) (st : Pools) (h newer part : List Done) → IsWithinLimits config → AreTimed config h → AreIssuedBy t h → ShowsStations i (clocks u t t) h st → h ≡ newer ++ part → first_waiting st.slots (order_of t part) ≡ chosen t part
+pub waiting_is : (i : Loaded) (config : Configuration) (t u : ℕ) (st : Pools) (h newer part : List Done)
+    → IsWithinLimits config → AreTimed config h → AreIssuedBy t h → ShowsStations i (clocks u t t) h st → h ≡ newer
+    ++ part → first_waiting st.slots (order_of t part) ≡ chosen t part
 waiting_is i config t u st h newer [] good timed issued shown e = refl
 waiting_is i config t u st h newer (d ∷ older) good timed issued shown e =
-    let before : first_waiting st.slots (order_of t older) ≡ chosen t older = waiting_is i config t u st h (newer ++ (d ∷ [])) older good timed issued shown (e ∙ sym (append_assoc newer (d ∷ []) older)) in
+    let before : first_waiting st.slots (order_of t older) ≡ chosen t older =
+    waiting_is i config t u st h (newer ++ (d ∷ [])) older good timed issued shown
+    (e ∙ sym (append_assoc newer (d ∷ []) older)) in
     let here : AreTimed config (newer ++ (d ∷ older)) = rw e at timed in
     let by : AreIssuedBy t (newer ++ (d ∷ older)) = rw e at issued in
     elim (cases_Bool (nat_lt t d.at.end)) [
@@ -311,15 +158,27 @@ waiting_is i config t u st h newer (d ∷ older) good timed issued shown e =
           let at : d.at.issue ≤ t = (issued_part t newer (d ∷ older) by).0 in
           let tag = tag_there config d older t part.0 at k in
           let place : place_of d ≡ Some (place_of_tag tag.0) = ap place_at tag.1 in
-          let held : holds_place t (place_of_tag tag.0) d ≡ true = rw (place, l, eq-eqb (place_of_tag tag.0) (place_of_tag tag.0) refl) refl in
-          let small : place_of_tag tag.0 < 96 = place_low (step_pool d.step) d.at.station (place_of_tag tag.0) (low config (d ∷ older) good part).0 place in
-          let there : station_at i (clocks u t t) (newer ++ (d ∷ older)) (place_of_tag tag.0) ≡ Some (station_of i (clocks u t t) d older) = station_here i config (clocks u t t) newer d older (place_of_tag tag.0) good here (issued_more t (t + 1) (newer ++ (d ∷ older)) (omega arith) by) held in
-          let slot : slice_index_or st.slots (place_of_tag tag.0) None ≡ Some (station_of i (clocks u t t) d older) = shown.slots (place_of_tag tag.0) small ∙ (ap (λ xs. station_at i (clocks u t t) xs (place_of_tag tag.0)) e ∙ there) in
-          let same : lacks_address (slice_index_or st.slots (place_of_tag tag.0) None) ≡ waits_for_address t d = rw (slot, l) (lacks_by (is_memory d.step) (nat_le (cycle_of d.at.address) t) (address_of d.step)) in
-          ap (first_waiting st.slots) (order_here t (place_of_tag tag.0) d older place l) ∙ (first-append st.slots (order_of t older) (place_of_tag tag.0) ∙ rw (before, same, place) refl)
+          let held : holds_place t (place_of_tag tag.0) d ≡ true =
+          rw (place, l, eq-eqb (place_of_tag tag.0) (place_of_tag tag.0) refl) refl in
+          let small : place_of_tag tag.0 < 96 =
+          place_low (step_pool d.step) d.at.station (place_of_tag tag.0) (low config (d ∷ older) good part).0 place
+          in
+          let there : station_at i (clocks u t t) (newer ++ (d ∷ older)) (place_of_tag tag.0)
+          ≡ Some (station_of i (clocks u t t) d older) =
+          station_here i config (clocks u t t) newer d older (place_of_tag tag.0) good here
+          (issued_more t (t + 1) (newer ++ (d ∷ older)) (omega arith) by) held in
+          let slot : slice_index_or st.slots (place_of_tag tag.0) None ≡ Some (station_of i (clocks u t t) d older) =
+          shown.slots (place_of_tag tag.0) small
+          ∙ (ap (λ xs. station_at i (clocks u t t) xs (place_of_tag tag.0)) e ∙ there) in
+          let same : lacks_address (slice_index_or st.slots (place_of_tag tag.0) None) ≡ waits_for_address t d =
+          rw (slot, l) (lacks_by (is_memory d.step) (nat_le (cycle_of d.at.address) t) (address_of d.step)) in
+          ap (first_waiting st.slots) (order_here t (place_of_tag tag.0) d older place l)
+          ∙ (first-append st.slots (order_of t older) (place_of_tag tag.0) ∙ rw (before, same, place) refl)
     ]
 
-set_at_place : (xs : List (Option Station)) (x y : ℕ) (o : Option Station) → x < length xs → o ≡ option_map with_address (slice_index_or xs x None) → slice_index_or (slice_set xs x o) y None ≡ given_at (Some x) y (slice_index_or xs y None)
+set_at_place : (xs : List (Option Station)) (x y : ℕ) (o : Option Station) → x < length xs
+    → o ≡ option_map with_address (slice_index_or xs x None) → slice_index_or (slice_set xs x o) y None
+    ≡ given_at (Some x) y (slice_index_or xs y None)
 set_at_place xs x y o l same = elim (cases_Bool (x == y)) [
   | inl e ↦ let f : x ≡ y = eqb-true x y e in rw (e, ← f) (get_or-set_same xs x o None l ∙ same)
   | inr e ↦ rw e (get_or-set_other xs x y o None (λ z. eqb-false x y e (sym z)))
@@ -335,53 +194,75 @@ no_base (Some s) e = ap (λ (z : Station). Some z) (no_base_in s s.j refl e)
     no_base_in s (Waits tag) f g = rw f refl
     no_base_in s Unread f g = rw f refl
 
-given_none : (x y : ℕ) (slots : List (Option Station)) → has_base (slice_index_or slots x None) ≡ false → slice_index_or slots y None ≡ given_at (Some x) y (slice_index_or slots y None)
+given_none : (x y : ℕ) (slots : List (Option Station)) → has_base (slice_index_or slots x None) ≡ false
+    → slice_index_or slots y None ≡ given_at (Some x) y (slice_index_or slots y None)
 given_none x y slots none = elim (cases_Bool (x == y)) [
   | inl e ↦ let f : x ≡ y = eqb-true x y e in rw (e, ← f) (sym (no_base (slice_index_or slots x None) none))
   | inr e ↦ rw e refl
 ]
 
 -- the phase, by the search for the next address
-pub made_none : (next : ℕ) (old : Pools) → AreBusy old.slots old.busy old.issue_numbers → ((order : List ℕ) → IsInIssueOrder old.busy old.issue_numbers order → None ≡ next_address old.slots order) → MakesAddress next old old
+pub made_none : (next : ℕ) (old : Pools) → AreBusy old.slots old.busy old.issue_numbers
+    → ((order : List ℕ) → IsInIssueOrder old.busy old.issue_numbers order → None ≡ next_address old.slots order)
+    → MakesAddress next old old
 made_none next old filled none i config h t e past issued shown =
-    let by : IsInIssueOrder old.busy old.issue_numbers (order_of t h) = order_is i config (clocks next t t) h old past.lawful past.timed (issued_more t (t + 1) h (omega arith) issued) shown filled in
-    let waits : first_waiting old.slots (order_of t h) ≡ chosen t h = waiting_is i config t next old h [] h past.lawful past.timed issued shown refl in
+    let by : IsInIssueOrder old.busy old.issue_numbers (order_of t h) =
+    order_is i config (clocks next t t) h old past.lawful past.timed (issued_more t (t + 1) h (omega arith) issued)
+    shown filled in
+    let waits : first_waiting old.slots (order_of t h) ≡ chosen t h =
+    waiting_is i config t next old h [] h past.lawful past.timed issued shown refl in
     record {
       places = shown.places;
-      slots = λ x l. shown.slots x l ∙ sym (addresses_at i config t next x h past.lawful past.timed issued e ∙ sym (unmoved i t next x h old (chosen t h) (rw waits at (none (order_of t h) by)) (shown.slots x l)));
+      slots = λ x l. shown.slots x l ∙ sym (addresses_at i config t next x h past.lawful past.timed issued e
+          ∙ sym (unmoved i t next x h old (chosen t h) (rw waits at (none (order_of t h) by)) (shown.slots x l)));
       order_count = shown.order_count;
       issue_numbers = shown.issue_numbers;
     }
   where
-    unmoved : (i : Loaded) (t next x : ℕ) (h : List Done) (old : Pools) (o : Option ℕ) → None ≡ where_base_is_there old.slots o → slice_index_or old.slots x None ≡ station_at i (clocks next t t) h x → station_at i (clocks next t t) h x ≡ given_at o x (station_at i (clocks next t t) h x)
+    unmoved : (i : Loaded) (t next x : ℕ) (h : List Done) (old : Pools) (o : Option ℕ)
+        → None ≡ where_base_is_there old.slots o → slice_index_or old.slots x None ≡ station_at i (clocks next t t) h x
+        → station_at i (clocks next t t) h x ≡ given_at o x (station_at i (clocks next t t) h x)
     unmoved i t next x h old None e same = refl
     unmoved i t next x h old (Some y) e same = elim (cases_Bool (has_base (slice_index_or old.slots y None))) [
       | inl k ↦ let z : None ≡ Some y = rw k at e in absurd (cc)
       | inr k ↦ rw (← same) (given_none y x old.slots k)
     ]
 
-low_by : (config : Configuration) (t x : ℕ) (d : Done) (older : List Done) (o : Option ℕ) → IsWithinLimits config → AreTimed config (d ∷ older) → ((y : ℕ) → o ≡ Some y → y < 96) → or_else o (if waits_for_address t d then place_of d else None) ≡ Some x → x < 96
+low_by : (config : Configuration) (t x : ℕ) (d : Done) (older : List Done) (o : Option ℕ) → IsWithinLimits config
+    → AreTimed config (d ∷ older) → ((y : ℕ) → o ≡ Some y → y < 96)
+    → or_else o (if waits_for_address t d then place_of d else None) ≡ Some x → x < 96
 low_by config t x d older (Some y) good timed before e = let f : y ≡ x = cc in rw (← f) (before y refl)
 low_by config t x d older None good timed before e = elim (cases_Bool (waits_for_address t d)) [
   | inr w ↦ let z : None ≡ Some x = rw w at e in absurd (cc)
-  | inl w ↦ let f : place_of d ≡ Some x = rw w at e in place_low (step_pool d.step) d.at.station x (low config (d ∷ older) good timed).0 f
+  | inl w ↦ let f : place_of d ≡ Some x = rw w at e in
+      place_low (step_pool d.step) d.at.station x (low config (d ∷ older) good timed).0 f
 ]
 
-chosen_low : (config : Configuration) (t x : ℕ) (h : List Done) → IsWithinLimits config → AreTimed config h → chosen t h ≡ Some x → x < 96
+chosen_low : (config : Configuration) (t x : ℕ) (h : List Done) → IsWithinLimits config → AreTimed config h
+    → chosen t h ≡ Some x → x < 96
 chosen_low config t x [] good timed e = absurd (cc)
-chosen_low config t x (d ∷ older) good timed e = low_by config t x d older (chosen t older) good timed (λ y f. chosen_low config t y older good timed.1 f) e
+chosen_low config t x (d ∷ older) good timed e =
+    low_by config t x d older (chosen t older) good timed (λ y f. chosen_low config t y older good timed.1 f) e
 
-pub made_some : (next x : ℕ) (old new : Pools) (o : Option Station) → AreBusy old.slots old.busy old.issue_numbers → ((order : List ℕ) → IsInIssueOrder old.busy old.issue_numbers order → Some x ≡ next_address old.slots order)
-    → o ≡ option_map with_address (slice_index_or old.slots x None) → new.slots ≡ slice_set old.slots x o → new.issue_numbers ≡ old.issue_numbers → MakesAddress next old new
+pub made_some : (next x : ℕ) (old new : Pools) (o : Option Station) → AreBusy old.slots old.busy old.issue_numbers
+    → ((order : List ℕ) → IsInIssueOrder old.busy old.issue_numbers order → Some x ≡ next_address old.slots order)
+    → o ≡ option_map with_address (slice_index_or old.slots x None) → new.slots ≡ slice_set old.slots x o
+    → new.issue_numbers ≡ old.issue_numbers → MakesAddress next old new
 made_some next x old new o filled some same slots issue_numbers i config h t e past issued shown =
-    let by : IsInIssueOrder old.busy old.issue_numbers (order_of t h) = order_is i config (clocks next t t) h old past.lawful past.timed (issued_more t (t + 1) h (omega arith) issued) shown filled in
-    let waits : first_waiting old.slots (order_of t h) ≡ chosen t h = waiting_is i config t next old h [] h past.lawful past.timed issued shown refl in
+    let by : IsInIssueOrder old.busy old.issue_numbers (order_of t h) =
+    order_is i config (clocks next t t) h old past.lawful past.timed (issued_more t (t + 1) h (omega arith) issued)
+    shown filled in
+    let waits : first_waiting old.slots (order_of t h) ≡ chosen t h =
+    waiting_is i config t next old h [] h past.lawful past.timed issued shown refl in
     let c : chosen t h ≡ Some x = found x old.slots (chosen t h) (rw waits at (some (order_of t h) by)) in
     let count : length old.slots ≡ 96 = shown.places in
     let small : x < 96 = chosen_low config t x h past.lawful past.timed c in
     record {
       places = ap length slots ∙ (length-set old.slots x o ∙ shown.places);
-      slots = λ y l. ap (λ xs. slice_index_or xs y None) slots ∙ (set_at_place old.slots x y o (omega arith) same ∙ (ap (given_at (Some x) y) (shown.slots y l) ∙ sym (addresses_at i config t next y h past.lawful past.timed issued e ∙ rw c refl)));
+      slots = λ y l. ap (λ xs. slice_index_or xs y None) slots
+          ∙ (set_at_place old.slots x y o (omega arith) same
+          ∙ (ap (given_at (Some x) y) (shown.slots y l)
+          ∙ sym (addresses_at i config t next y h past.lawful past.timed issued e ∙ rw c refl)));
       order_count = ap length issue_numbers ∙ shown.order_count;
       issue_numbers = λ y l. ap (λ xs. slice_index xs y) issue_numbers ∙ shown.issue_numbers y l;
     }

@@ -1,5 +1,6 @@
 -- The phases, one after the other, make a cycle.
-use Rattle.std.proofs.Common.{ℕ, ◌+◌, ◌<◌, ◌≤◌, ◌≡◌, ◌∙◌, Bool, true, false, arith, refl, List, [], ◌∷◌, ◌++◌, Option, Some, None, sym, inl, inr}
+use Rattle.std.proofs.Common.{ℕ, ◌+◌, ◌<◌, ◌≤◌, ◌≡◌, ◌∙◌, Bool, true, false, arith, refl, List, [], ◌∷◌, ◌++◌, Option}
+use Rattle.std.proofs.Common.{Some, None, sym, inl, inr}
 use Rattle.std.specs.Prelude.{nat_lt, MatchOption, if◌then◌else◌, Result, Ok, Err, not}
 use Rattle.std.proofs.lemmas.Bool.{cases_Bool, ltb-true, lt-leb, and_parts}
 use Rattle.tomex_image.specs.Image.{Loaded, IsLoaded}
@@ -19,9 +20,10 @@ use Rattle.tomex_timing.specs.declared.times.Done.{Done}
 use Rattle.tomex_timing.specs.History.{cycle_of}
 use Rattle.tomex_timing.specs.Recurrence.{AreTimed, IsTimed, IsLeast, can_start}
 use Rattle.tomex_cycle.specs.declared.fetch.Fetch.{Fetch}
-use Rattle.tomex_cycle.specs.Run.{run_to, byte_at, IsHistory}
+use Rattle.tomex_cycle.specs.Run.{RunEndsAfter, first_timed, byte_at, IsHistory}
 use Rattle.tomex_cycle.specs.Views.{clocks, ShowsMemory}
-use Rattle.tomex_cycle.specs.Phases.{IsIssuedTo, IsSnapshot, IsYetToIssue, MakesStarts, MakesAddress, MakesIssue, MakesEnds}
+use Rattle.tomex_cycle.specs.Phases.{IsIssuedTo, IsSnapshot, IsYetToIssue, MakesStarts, MakesAddress, MakesIssue}
+use Rattle.tomex_cycle.specs.Phases.{MakesEnds}
 use Rattle.tomex_timing.specs.History.{greatest_end}
 use Rattle.tomex_cycle.specs.Phases.{is_done}
 use Rattle.tomex_cycle.specs.declared.progress.Progress.{Progress}
@@ -32,22 +34,29 @@ use Rattle.tomex_tags.specs.Pools.{AreBusy, Pools}
 use Rattle.tomex_tags.specs.declared.register_status.RegStatus.{RegStatus}
 
 start_later : (pool : Option PoolId) (issue start : ℕ) (older : List Done) (P : UnitId → ℕ → Bool)
-    → ((u : UnitId) (x : ℕ) → P u x ≡ true → issue < x) → is_in pools.Store pool ≡ true → MatchOption (unit_at pool) (start ≡ issue) (λ u. IsLeast (P u) start) → issue < start
+    → ((u : UnitId) (x : ℕ) → P u x ≡ true → issue < x) → is_in pools.Store pool ≡ true
+    → MatchOption (unit_at pool) (start ≡ issue) (λ u. IsLeast (P u) start) → issue < start
 start_later None issue start older P later store timed = absurd (cc)
 start_later (Some pool) issue start older P later store timed = later _ start timed.0
 
-pub can_start_later : (config : Configuration) (d : Done) (older : List Done) (u : UnitId) (t : ℕ) → can_start config older d.step u d.at.issue (cycle_of d.at.address) t ≡ true → d.at.issue < t
+pub can_start_later : (config : Configuration) (d : Done) (older : List Done) (u : UnitId) (t : ℕ)
+    → can_start config older d.step u d.at.issue (cycle_of d.at.address) t ≡ true → d.at.issue < t
 can_start_later config d older u t h =
-    let two = and_parts (nat_lt d.at.issue t) (nat_lt (cycle_of d.at.address) t) (and_parts _ _ (and_parts _ _ (and_parts _ _ h).0).0).0 in
+    let two = and_parts (nat_lt d.at.issue t) (nat_lt (cycle_of d.at.address) t)
+    (and_parts _ _ (and_parts _ _ (and_parts _ _ h).0).0).0 in
     ltb-true d.at.issue t two.0
 
 -- a store starts after its issue
-pub store_later : (config : Configuration) (d : Done) (older : List Done) → IsTimed config older d.step d.at → is_store d.step ≡ true → d.at.issue < d.at.start
+pub store_later : (config : Configuration) (d : Done) (older : List Done) → IsTimed config older d.step d.at
+    → is_store d.step ≡ true → d.at.issue < d.at.start
 store_later config d older timed store =
-    start_later (step_pool d.step) d.at.issue d.at.start older (λ u. can_start config older d.step u d.at.issue (cycle_of d.at.address)) (can_start_later config d older) store timed.start
+    start_later (step_pool d.step) d.at.issue d.at.start older
+    (λ u. can_start config older d.step u d.at.issue (cycle_of d.at.address)) (can_start_later config d older) store
+    timed.start
 
 -- what issues later hasn't written memory yet
-bytes_later : (config : Configuration) (i : Loaded) (newer h : List Done) (t u a : ℕ) → AreTimed config (newer ++ h) → AreLater t newer → u ≡ t + 1 → byte_at i u (newer ++ h) a ≡ byte_at i u h a
+bytes_later : (config : Configuration) (i : Loaded) (newer h : List Done) (t u a : ℕ) → AreTimed config (newer ++ h)
+    → AreLater t newer → u ≡ t + 1 → byte_at i u (newer ++ h) a ≡ byte_at i u h a
 bytes_later config i [] h t u a timed later e = refl
 bytes_later config i (d ∷ newer) h t u a timed later e =
     let rest : byte_at i u (newer ++ h) a ≡ byte_at i u h a = bytes_later config i newer h t u a timed.1 later.1 e in
@@ -60,54 +69,81 @@ bytes_later config i (d ∷ newer) h t u a timed later e =
       | inr o ↦ rw o rest
     ]
 
-memory_issued : (config : Configuration) (i : Loaded) (n k m t u : ℕ) (s : State) (kind : EndKind) (bytes : Bytes) → IsWithinLimits config → RunEnds i n s kind → (k ≤ n → IsYetToIssue i config k t) → k ≤ m → m ≤ n + 1 → u ≡ t + 1
-    → ShowsMemory i u (run_to config i k) bytes → ShowsMemory i u (run_to config i m) bytes
+memory_issued : (config : Configuration) (i : Loaded) (n k m t u : ℕ) (s : State) (kind : EndKind) (bytes : Bytes)
+    → IsWithinLimits config → RunEnds i n s kind → (k ≤ n → IsYetToIssue i config k t) → k ≤ m → m ≤ n + 1 → u ≡ t + 1
+    → ShowsMemory i u (first_timed config i k) bytes → ShowsMemory i u (first_timed config i m) bytes
 memory_issued config i n k m t u s kind bytes good ends next low high e shown =
     let rest = rest_to config i n k m t s kind good ends next low high in
-    let timed : AreTimed config (rest.0 ++ run_to config i k) = rw (← rest.1.same) (run_timed config i m good) in
+    let timed : AreTimed config (rest.0 ++ first_timed config i k) = rw (← rest.1.same) (run_timed config i m good) in
     record {
       base = shown.base;
       size = shown.size;
-      bytes = λ a from to. shown.bytes a from to ∙ rw rest.1.same (sym (bytes_later config i rest.0 (run_to config i k) t u a timed rest.1.later e));
+      bytes = λ a from to. shown.bytes a from to
+          ∙ rw rest.1.same (sym (bytes_later config i rest.0 (first_timed config i k) t u a timed rest.1.later e));
     }
 
 -- what a cycle makes of a snapshot up to its issue
-pub record IsUnderWay (i : Loaded) (config : Configuration) (n t next before count : ℕ) (fault : Option Fault) (stations : Pools) (registers : RegStatus) (fetch : Fetch) (memory : Bytes) : Type 0 where
+pub record IsUnderWay (i : Loaded) (config : Configuration) (n t next before count : ℕ) (fault : Option Fault)
+    (stations : Pools) (registers : RegStatus) (fetch : Fetch) (memory : Bytes) : Type 0 where
   pub good : fault ≡ None
   pub low : before ≤ count
   pub after : IsIssuedTo i config n next (clocks next next t) count stations registers fetch
-  pub bytes : ShowsMemory i next (run_to config i count) memory
+  pub bytes : ShowsMemory i next (first_timed config i count) memory
 
-pub issue_made : (i : Loaded) (config : Configuration) (n t next count counted : ℕ) (s : State) (kind : EndKind) (fault : Option Fault) (result : Result Bool Fault)
+pub issue_made : (i : Loaded) (config : Configuration) (n t next count counted : ℕ) (fault : Option Fault)
+    (result : Result Bool Fault)
     (st0 st1 st2 st3 : Pools) (rg0 rg1 : RegStatus) (ft0 ft1 : Fetch) (m0 m1 : Bytes)
-    → MakesStarts config next st0 m0 fault st1 m1 → MakesAddress next st1 st2 → MakesIssue i config next count st2 rg0 ft0 result counted st3 rg1 ft1
-    → RunEnds i n s kind → n < 262144 → next ≡ t + 1 → IsWithinLimits config → IsLoaded i.window i.memory i.entry → IsSnapshot i config n t count st0 rg0 ft0 m0
+    → MakesStarts config next st0 m0 fault st1 m1 → MakesAddress next st1 st2
+    → MakesIssue i config next count st2 rg0 ft0 result counted st3 rg1 ft1
+    → RunEndsAfter i config n → next ≡ t + 1 → IsSnapshot i config n t count st0 rg0 ft0 m0
     → (result ≡ Ok (nat_lt count counted)) × IsUnderWay i config n t next count counted fault st3 rg1 ft1 m1
-issue_made i config n t next count counted s kind fault result st0 st1 st2 st3 rg0 rg1 ft0 ft1 m0 m1 starts addresses issues ends l e good loaded old =
+issue_made i config n t next count counted fault result st0 st1 st2 st3 rg0 rg1 ft0 ft1 m0 m1 starts addresses issues
+    run e old =
     let few : count ≤ n + 1 = old.issue.few in
-    let h0 : IsHistory i config (run_to config i count) = run_history config i n count s kind good loaded ends few in
-    let a = starts i (run_to config i count) t e h0 old.issue.issued old.issue.slots old.bytes in
-    let b = addresses i config (run_to config i count) t e h0 old.issue.issued a.1 in
-    let shown : IsIssuedTo i config n t (clocks next next t) count st2 rg0 ft0 = record { few = few; slots = b; status = old.issue.status; from = old.issue.from; issued = old.issue.issued; next = old.issue.next } in
-    let d = issues n s kind t ends l e good loaded shown in (
+    let h0 : IsHistory i config (first_timed config i count) =
+    run_history config i n count run.state run.kind run.lawful run.loaded run.ends few in
+    let a = starts i (first_timed config i count) t e h0 old.issue.issued old.issue.slots old.bytes in
+    let b = addresses i config (first_timed config i count) t e h0 old.issue.issued a.1 in
+    let shown : IsIssuedTo i config n t (clocks next next t) count st2 rg0 ft0 =
+    record {
+      few = few;
+      slots = b;
+      status = old.issue.status;
+      from = old.issue.from;
+      issued = old.issue.issued;
+      next = old.issue.next;
+    } in
+    let d = issues n t run e shown in (
       d.0,
       record {
         good = a.0;
         low = d.1;
         after = d.2;
-        bytes = memory_issued config i n count counted t next s kind m1 good ends old.issue.next d.1 d.2.few e a.2;
+        bytes = memory_issued config i n count counted t next run.state run.kind m1 run.lawful run.ends old.issue.next
+            d.1 d.2.few e a.2;
       },
     )
 
-pub cycle_made : (i : Loaded) (config : Configuration) (n t next count counted : ℕ) (s : State) (kind : EndKind) (fault : Option Fault)
+pub cycle_made : (i : Loaded) (config : Configuration) (n t next count counted : ℕ) (s : State) (kind : EndKind)
+    (fault : Option Fault)
     (st3 st4 : Pools) (rg1 rg2 : RegStatus) (ft1 ft2 : Fetch) (m1 : Bytes)
     → IsUnderWay i config n t next count counted fault st3 rg1 ft1 m1 → MakesEnds config next st3 rg1 ft1 st4 rg2 ft2
-    → RunEnds i n s kind → next ≡ t + 1 → IsWithinLimits config → IsLoaded i.window i.memory i.entry → IsSnapshot i config n next counted st4 rg2 ft2 m1
+    → RunEnds i n s kind → next ≡ t + 1 → IsWithinLimits config → IsLoaded i.window i.memory i.entry
+    → IsSnapshot i config n next counted st4 rg2 ft2 m1
 cycle_made i config n t next count counted s kind fault st3 st4 rg1 rg2 ft1 ft2 m1 on end_phase ends e good loaded =
-    let h1 : IsHistory i config (run_to config i counted) = run_history config i n counted s kind good loaded ends on.after.few in
-    let f = end_phase i (run_to config i counted) t e h1 on.after.issued on.after.slots on.after.status on.after.from in
+    let h1 : IsHistory i config (first_timed config i counted) =
+    run_history config i n counted s kind good loaded ends on.after.few in
+    let f = end_phase i (first_timed config i counted) t e h1 on.after.issued on.after.slots on.after.status
+    on.after.from in
     record {
-      issue = record { few = on.after.few; slots = f.0; status = f.1; from = f.2; issued = on.after.issued; next = on.after.next };
+      issue = record {
+        few = on.after.few;
+        slots = f.0;
+        status = f.1;
+        from = f.2;
+        issued = on.after.issued;
+        next = on.after.next;
+      };
       bytes = on.bytes;
     }
 
@@ -121,18 +157,25 @@ pub ok_same : {A E : Type 0} (r : Result A E) (x y : A) → r ≡ Ok x → r ≡
 ok_same r x y e f = cc
 
 -- nothing that starts in a run faults
-pub starts_good : (i : Loaded) (config : Configuration) (n t next count : ℕ) (s : State) (kind : EndKind) (fault : Option Fault) (st0 st1 : Pools) (rg0 : RegStatus) (ft0 : Fetch) (m0 m1 : Bytes)
-    → MakesStarts config next st0 m0 fault st1 m1 → RunEnds i n s kind → next ≡ t + 1 → IsWithinLimits config → IsLoaded i.window i.memory i.entry → IsSnapshot i config n t count st0 rg0 ft0 m0 → fault ≡ None
+pub starts_good : (i : Loaded) (config : Configuration) (n t next count : ℕ) (s : State) (kind : EndKind)
+    (fault : Option Fault) (st0 st1 : Pools) (rg0 : RegStatus) (ft0 : Fetch) (m0 m1 : Bytes)
+    → MakesStarts config next st0 m0 fault st1 m1 → RunEnds i n s kind → next ≡ t + 1 → IsWithinLimits config
+    → IsLoaded i.window i.memory i.entry → IsSnapshot i config n t count st0 rg0 ft0 m0 → fault ≡ None
 starts_good i config n t next count s kind fault st0 st1 rg0 ft0 m0 m1 starts ends e good loaded old =
-    (starts i (run_to config i count) t e (run_history config i n count s kind good loaded ends old.issue.few) old.issue.issued old.issue.slots old.bytes).0
+    (starts i (first_timed config i count) t e (run_history config i n count s kind good loaded ends old.issue.few)
+    old.issue.issued old.issue.slots old.bytes).0
 
-progress_same : (a : Bool) (over : Bool) (p : Progress) → over ≡ not a → p ≡ (if over then Ended else Running) → p ≡ (if a then Running else Ended)
+progress_same : (a : Bool) (over : Bool) (p : Progress) → over ≡ not a → p ≡ (if over then Ended else Running)
+    → p ≡ (if a then Running else Ended)
 progress_same true over p e f = rw e at f
 progress_same false over p e f = rw e at f
 
-pub cycle_answer : (i : Loaded) (config : Configuration) (n next count : ℕ) (s : State) (kind : EndKind) (st : Pools) (rg : RegStatus) (ft : Fetch) (m : Bytes) (over : Bool) (p : Progress)
-    → IsSnapshot i config n next count st rg ft m → RunEnds i n s kind → IsWithinLimits config → IsLoaded i.window i.memory i.entry
+pub cycle_answer : (i : Loaded) (config : Configuration) (n next count : ℕ) (s : State) (kind : EndKind) (st : Pools)
+    (rg : RegStatus) (ft : Fetch) (m : Bytes) (over : Bool) (p : Progress)
+    → IsSnapshot i config n next count st rg ft m → RunEnds i n s kind → IsWithinLimits config
+    → IsLoaded i.window i.memory i.entry
     → AreBusy st.slots st.busy st.issue_numbers → over ≡ is_done ft st.busy → p ≡ (if over then Ended else Running)
-    → p ≡ (if nat_lt next (greatest_end (run_to config i (n + 1))) then Running else Ended)
+    → p ≡ (if nat_lt next (greatest_end (first_timed config i (n + 1))) then Running else Ended)
 cycle_answer i config n next count s kind st rg ft m over p shown ends good loaded filled e f =
-    progress_same (nat_lt next (greatest_end (run_to config i (n + 1)))) over p (e ∙ done_is config i n next count s kind st rg ft good loaded ends shown.issue filled) f
+    progress_same (nat_lt next (greatest_end (first_timed config i (n + 1)))) over p
+    (e ∙ done_is config i n next count s kind st rg ft good loaded ends shown.issue filled) f

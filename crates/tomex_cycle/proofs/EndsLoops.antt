@@ -1,14 +1,15 @@
 -- What the loops of the end of a cycle have made so far.
-use Rattle.std.proofs.Common.{ℕ, ◌+◌, ◌<◌, ◌≤◌, ◌≡◌, ◌∙◌, Bool, true, false, arith, refl, List, Option, Some, None, ap, sym, inl, inr, length, slice_index, slice_index_or, slice_set, option_map}
-use Rattle.std.specs.Prelude.{nat_lt, if◌then◌else◌, ◌&&◌, ◌||◌, ◌==◌}
-use Rattle.std.proofs.lemmas.Bool.{cases_Bool, cases_order, lt-ltb, le-ltb, eqb-true, eqb-false, eq-eqb, ne_eqb, both_ways, ltb-true, ltb-false}
+use Rattle.std.proofs.Common.{ℕ, ◌+◌, ◌<◌, ◌≤◌, ◌≡◌, ◌∙◌, Bool, true, false, arith, refl, List, Option, Some, None, ap}
+use Rattle.std.proofs.Common.{sym, inl, inr, length, slice_index, slice_index_or, slice_set, option_map}
+use Rattle.std.specs.Prelude.{nat_lt, if◌then◌else◌, ◌&&◌, ◌==◌}
+use Rattle.std.proofs.lemmas.Bool.{cases_Bool, lt-ltb, le-ltb, eqb-true, eqb-false}
+use Rattle.std.proofs.lemmas.Bool.{both_ways, ltb-true, ltb-false}
 use Rattle.std.proofs.lemmas.List.{get_or-set_same, get_or-set_other, length-set, get_or_past}
 use Rattle.tomex_timing.specs.Tables.{field_from}
 use Rattle.tomex_timing.specs.declared.tables.Field.{Field}
 use Rattle.tomex_timing.specs.declared.tables.Field.TheVariants.{Value, Waits, Unread}
 use Rattle.tomex_timing.specs.declared.tables.Tag.{Tag}
 use Rattle.tomex_rvexec.specs.Steps.{is_number}
-use Rattle.tomex_cycle.proofs.Addresses.{or_else}
 use Rattle.tomex_cycle.specs.Ends.{EndsIn, Hears, after_ends, sends_of, sent_below, AreEnded, AreNamed, HaveReceived}
 use Rattle.tomex_tags.specs.Contents.{hears}
 use Rattle.tomex_tags.specs.Operands.{heard, only, taken}
@@ -17,159 +18,13 @@ use Rattle.tomex_tags.specs.Pools.{Pools, HaveHeard}
 use Rattle.tomex_tags.specs.declared.register_status.RegStatus.{RegStatus}
 use Rattle.tomex_tags.specs.declared.station.Station.{Station}
 use Rattle.tomex_sets.specs.Sets.{has, IsWithout}
-use Rattle.tomex_sets.proofs.Members.{AreFrom, all_left, least_from, least_in, left_from, none_after, none_between, skip_to}
+use Rattle.tomex_sets.proofs.Members.{AreFrom, all_left, least_from, least_in, left_from, none_after, none_between}
+use Rattle.tomex_sets.proofs.Members.{skip_to}
 use Rattle.tomex_tags.specs.Registers.{names, received}
 use Rattle.tomex_rvdec.specs.Operands.{dest_of}
 use Rattle.tomex_cycle.specs.Starts.{AreLow}
-
--- A broadcast to registers.
-
-abbrev pub reg_field : List ℕ → List (Option Tag) → ℕ → Field
-reg_field values tags r = field_from (slice_index values r) (slice_index_or tags r None)
-
--- All ends of a cycle.
-
-pub record AreEndedBelow (picked : ℕ) (n : ℕ) (old new : Pools) : Type 0 where
-  pub places : length new.slots ≡ 96
-  pub slots : (x : ℕ) → x < 96 → slice_index_or new.slots x None ≡ after_ends (nat_lt x n && has picked x) (sent_below old.slots picked n) (slice_index_or old.slots x None)
-  pub issue_numbers : new.issue_numbers ≡ old.issue_numbers
-
--- A register that hears a value, or not.
-
-heard_yes : (from value v : ℕ) (tag : Option Tag) → is_number (place_at tag) from ≡ true → heard (only from (Some value)) (field_from v tag) ≡ Value value
-heard_yes from value v None e = absurd (cc)
-heard_yes from value v (Some tag) e =
-    let f : place_of_tag tag ≡ from = eqb-true _ _ e in
-    rw (eq-eqb from (place_of_tag tag) (sym f)) refl
-
-heard_no : (from value v : ℕ) (tag : Option Tag) → is_number (place_at tag) from ≡ false → heard (only from (Some value)) (field_from v tag) ≡ field_from v tag
-heard_no from value v None e = refl
-heard_no from value v (Some tag) e = rw (ne_eqb from (place_of_tag tag) (λ z. eqb-false _ _ e (sym z))) refl
-
--- One end after others.
-
-then_by : (g : ℕ → Option ℕ) (p : ℕ) (f k : Option ℕ) (tag : Tag) → p ≡ place_of_tag tag → k ≡ or_else f (g p) → heard g (taken f tag) ≡ taken k tag
-then_by g p None k tag at e = rw (e, at) refl
-then_by g p (Some v) k tag at e = rw e refl
-
-heard_then : (f g k : ℕ → Option ℕ) (field : Field) → ((y : ℕ) → k y ≡ or_else (f y) (g y)) → heard g (heard f field) ≡ heard k field
-heard_then f g k (Value v) e = refl
-heard_then f g k Unread e = refl
-heard_then f g k (Waits tag) e = then_by g (place_of_tag tag) (f (place_of_tag tag)) (k (place_of_tag tag)) tag refl (e (place_of_tag tag))
-
-heard_same : (f k : ℕ → Option ℕ) (field : Field) → ((y : ℕ) → k y ≡ f y) → heard f field ≡ heard k field
-heard_same f k (Value v) e = refl
-heard_same f k Unread e = refl
-heard_same f k (Waits tag) e = ap (λ o. taken o tag) (sym (e (place_of_tag tag)))
-
-hears_then : (f g k : ℕ → Option ℕ) (s : Station) → ((y : ℕ) → k y ≡ or_else (f y) (g y)) → hears g (hears f s) ≡ hears k s
-hears_then f g k s e =
-    let a : Field → Station = λ x. record s { j = x; k = heard g (heard f s.k) } in
-    let b : Field → Station = λ x. record s { j = heard k s.j; k = x } in
-    ap a (heard_then f g k s.j e) ∙ ap b (heard_then f g k s.k e)
-
-hears_same : (f k : ℕ → Option ℕ) (s : Station) → ((y : ℕ) → k y ≡ f y) → hears f s ≡ hears k s
-hears_same f k s e =
-    let a : Field → Station = λ x. record s { j = x; k = heard f s.k } in
-    let b : Field → Station = λ x. record s { j = heard k s.j; k = x } in
-    ap a (heard_same f k s.j e) ∙ ap b (heard_same f k s.k e)
-
-ends_then : (a b : Bool) (f g k : ℕ → Option ℕ) (o : Option Station) → ((y : ℕ) → k y ≡ or_else (f y) (g y)) → after_ends b g (after_ends a f o) ≡ after_ends (b || a) k o
-ends_then a true f g k o e = refl
-ends_then true false f g k o e = refl
-ends_then false false f g k None e = refl
-ends_then false false f g k (Some s) e = ap (λ (x : Station). Some x) (hears_then f g k s e)
-
-pub ends_same : (a : Bool) (f k : ℕ → Option ℕ) (o : Option Station) → ((y : ℕ) → k y ≡ f y) → after_ends a f o ≡ after_ends a k o
-ends_same true f k o e = refl
-ends_same false f k None e = refl
-ends_same false f k (Some s) e = ap (λ (x : Station). Some x) (hears_same f k s e)
-
-or_none : (a : Option ℕ) → a ≡ or_else a None
-or_none None = refl
-or_none (Some x) = refl
-
-and_false : (a : Bool) → (a && false) ≡ false
-and_false true = refl
-and_false false = refl
-
--- what is sent below the next place
-sent_yes : (slots : List (Option Station)) (picked : ℕ) (n y : ℕ) (s : Option ℕ) → has picked n ≡ true → s ≡ sends_of (slice_index_or slots n None) → sent_below slots picked (n + 1) y ≡ or_else (sent_below slots picked n y) (only n s y)
-sent_yes slots picked n y s e f = elim (cases_order y n) [
-  | inl z ↦ rw (z, e, f, lt-ltb n (n + 1) (omega arith), le-ltb n n (omega arith), eq-eqb n n refl) refl
-  | inr (inl l) ↦ rw (lt-ltb y (n + 1) (omega arith), lt-ltb y n l, ne_eqb n y (λ z. absurd (omega arith))) (or_none (if has picked y then sends_of (slice_index_or slots y None) else None))
-  | inr (inr l) ↦ rw (le-ltb y (n + 1) (omega arith), le-ltb y n (omega arith), ne_eqb n y (λ z. absurd (omega arith))) refl
-]
-
-sent_no : (slots : List (Option Station)) (picked : ℕ) (n y : ℕ) → has picked n ≡ false → sent_below slots picked (n + 1) y ≡ sent_below slots picked n y
-sent_no slots picked n y e = elim (cases_order y n) [
-  | inl z ↦ rw (z, e, lt-ltb n (n + 1) (omega arith), le-ltb n n (omega arith)) refl
-  | inr (inl l) ↦ rw (lt-ltb y (n + 1) (omega arith), lt-ltb y n l) refl
-  | inr (inr l) ↦ rw (le-ltb y (n + 1) (omega arith), le-ltb y n (omega arith)) refl
-]
-
-below_yes : (picked : ℕ) (n x : ℕ) → has picked n ≡ true → ((n == x) || (nat_lt x n && has picked x)) ≡ (nat_lt x (n + 1) && has picked x)
-below_yes picked n x e = elim (cases_order x n) [
-  | inl z ↦ rw (z, e, lt-ltb n (n + 1) (omega arith), eq-eqb n n refl) refl
-  | inr (inl l) ↦ rw (lt-ltb x (n + 1) (omega arith), lt-ltb x n l, ne_eqb n x (λ z. absurd (omega arith))) refl
-  | inr (inr l) ↦ rw (le-ltb x (n + 1) (omega arith), le-ltb x n (omega arith), ne_eqb n x (λ z. absurd (omega arith))) refl
-]
-
-below_no : (picked : ℕ) (n x : ℕ) → has picked n ≡ false → (nat_lt x n && has picked x) ≡ (nat_lt x (n + 1) && has picked x)
-below_no picked n x e = elim (cases_order x n) [
-  | inl z ↦ rw (z, e, lt-ltb n (n + 1) (omega arith), le-ltb n n (omega arith)) refl
-  | inr (inl l) ↦ rw (lt-ltb x (n + 1) (omega arith), lt-ltb x n l) refl
-  | inr (inr l) ↦ rw (le-ltb x (n + 1) (omega arith), le-ltb x n (omega arith)) refl
-]
-
-sends_after : (f : ℕ → Option ℕ) (o : Option Station) → sends_of (option_map (hears f) o) ≡ sends_of o
-sends_after f None = refl
-sends_after f (Some s) = refl
-
--- what the next place sends is what it had at first
-sends_still : (picked : ℕ) (n : ℕ) (old s : Pools) → n < 96 → AreEndedBelow picked n old s → sends_of (slice_index_or s.slots n None) ≡ sends_of (slice_index_or old.slots n None)
-sends_still picked n old s l so = ap sends_of (so.slots n l) ∙ rw (le-ltb n n (omega arith)) (sends_after (sent_below old.slots picked n) (slice_index_or old.slots n None))
-
-pub apply_yes : (picked : ℕ) (n : ℕ) (old s new : Pools) → n < 96 → has picked n ≡ true → AreEndedBelow picked n old s → EndsIn (λ x. n == x) (only n (sends_of (slice_index_or s.slots n None))) s new → AreEndedBelow picked (n + 1) old new
-apply_yes picked n old s new l e so made =
-    let m = made so.places in
-    let sent : sends_of (slice_index_or s.slots n None) ≡ sends_of (slice_index_or old.slots n None) = sends_still picked n old s l so in
-    record {
-      places = m.places;
-      slots = λ x k. m.slots x k ∙ (ap (after_ends (n == x) (only n (sends_of (slice_index_or s.slots n None)))) (so.slots x k)
-          ∙ (ends_then (nat_lt x n && has picked x) (n == x) (sent_below old.slots picked n) (only n (sends_of (slice_index_or s.slots n None))) (sent_below old.slots picked (n + 1)) (slice_index_or old.slots x None) (λ y. sent_yes old.slots picked n y (sends_of (slice_index_or s.slots n None)) e sent)
-          ∙ ap (λ b. after_ends b (sent_below old.slots picked (n + 1)) (slice_index_or old.slots x None)) (below_yes picked n x e)));
-      issue_numbers = m.issue_numbers ∙ so.issue_numbers;
-    }
-
-pub apply_no : (picked : ℕ) (n : ℕ) (old s : Pools) → has picked n ≡ false → AreEndedBelow picked n old s → AreEndedBelow picked (n + 1) old s
-apply_no picked n old s e so = record {
-  places = so.places;
-  slots = λ x k. so.slots x k ∙ (ends_same (nat_lt x n && has picked x) (sent_below old.slots picked n) (sent_below old.slots picked (n + 1)) (slice_index_or old.slots x None) (λ y. sent_no old.slots picked n y e)
-      ∙ ap (λ b. after_ends b (sent_below old.slots picked (n + 1)) (slice_index_or old.slots x None)) (below_no picked n x e));
-  issue_numbers = so.issue_numbers;
-}
-
-pub hear_yes : (picked : ℕ) (n : ℕ) (old s : Pools) (first r new : RegStatus) → n < 96 → has picked n ≡ true → AreEndedBelow picked n old s → Hears (sent_below old.slots picked n) first r → Hears (only n (sends_of (slice_index_or s.slots n None))) r new → Hears (sent_below old.slots picked (n + 1)) first new
-hear_yes picked n old s first r new l e so before made count status =
-    let b = before count status in
-    let m = made b.count b.status in
-    let sent : sends_of (slice_index_or s.slots n None) ≡ sends_of (slice_index_or old.slots n None) = sends_still picked n old s l so in
-    record {
-      count = m.count;
-      status = m.status;
-      fields = λ q k. m.fields q k ∙ (ap (heard (only n (sends_of (slice_index_or s.slots n None)))) (b.fields q k)
-          ∙ heard_then (sent_below old.slots picked n) (only n (sends_of (slice_index_or s.slots n None))) (sent_below old.slots picked (n + 1)) (reg_field first.values first.tags q) (λ y. sent_yes old.slots picked n y (sends_of (slice_index_or s.slots n None)) e sent));
-    }
-
-pub hear_no : (picked : ℕ) (n : ℕ) (old : Pools) (first r : RegStatus) → has picked n ≡ false → Hears (sent_below old.slots picked n) first r → Hears (sent_below old.slots picked (n + 1)) first r
-hear_no picked n old first r e before count status =
-    let b = before count status in
-    record {
-      count = b.count;
-      status = b.status;
-      fields = λ q k. b.fields q k ∙ heard_same (sent_below old.slots picked n) (sent_below old.slots picked (n + 1)) (reg_field first.values first.tags q) (λ y. sent_no old.slots picked n y e);
-    }
+use Rattle.tomex_cycle.proofs.EndsInTurn.{reg_field, AreEndedBelow, heard_yes, heard_no, apply_yes, apply_no, hear_yes}
+use Rattle.tomex_cycle.proofs.EndsInTurn.{hear_no}
 
 -- A place ends.
 
@@ -190,7 +45,8 @@ none_hears p (Some s) =
     ap (λ (z : Station). Some z) (ap a (none_heard p s.j) ∙ ap b (none_heard p s.k))
 
 -- nothing stands in the place
-pub ends_nothing : (p : ℕ) (st : Pools) → p < 96 → slice_index_or st.slots p None ≡ None → EndsIn (λ x. p == x) (only p (sends_of (slice_index_or st.slots p None))) st st
+pub ends_nothing : (p : ℕ) (st : Pools) → p < 96 → slice_index_or st.slots p None ≡ None
+    → EndsIn (λ x. p == x) (only p (sends_of (slice_index_or st.slots p None))) st st
 ends_nothing p st l none count = record {
   places = count;
   slots = λ x k. elim (cases_Bool (p == x)) [
@@ -200,47 +56,59 @@ ends_nothing p st l none count = record {
   issue_numbers = refl;
 }
 
-released_at : (xs : List (Option Station)) (p x : ℕ) → p < length xs → slice_index_or (slice_set xs p None) x None ≡ (if p == x then None else slice_index_or xs x None)
+released_at : (xs : List (Option Station)) (p x : ℕ) → p < length xs → slice_index_or (slice_set xs p None) x None
+    ≡ (if p == x then None else slice_index_or xs x None)
 released_at xs p x l = elim (cases_Bool (p == x)) [
   | inl e ↦ let same : p ≡ x = eqb-true p x e in rw (e, ← same) (get_or-set_same xs p None None l)
   | inr e ↦ rw e (get_or-set_other xs p x None None (λ z. eqb-false p x e (sym z)))
 ]
 
 -- what has nothing to send is released
-pub ends_silent : (p : ℕ) (old new : Pools) (s : Station) → p < 96 → slice_index_or old.slots p None ≡ Some s → dest_of s.instr ≡ None → new.slots ≡ slice_set old.slots p None → new.issue_numbers ≡ old.issue_numbers → EndsIn (λ x. p == x) (only p (sends_of (slice_index_or old.slots p None))) old new
+pub ends_silent : (p : ℕ) (old new : Pools) (s : Station) → p < 96 → slice_index_or old.slots p None ≡ Some s
+    → dest_of s.instr ≡ None → new.slots ≡ slice_set old.slots p None → new.issue_numbers ≡ old.issue_numbers
+    → EndsIn (λ x. p == x) (only p (sends_of (slice_index_or old.slots p None))) old new
 ends_silent p old new s l here dest slots issue_numbers count = record {
   places = ap length slots ∙ (length-set old.slots p None ∙ count);
-  slots = λ x k. ap (λ xs. slice_index_or xs x None) slots ∙ (released_at old.slots p x (omega arith) ∙ elim (cases_Bool (p == x)) [
-    | inl e ↦ rw e refl
-    | inr e ↦ rw (e, here, dest) (sym (none_hears p (slice_index_or old.slots x None)))
-  ]);
+  slots = λ x k. ap (λ xs. slice_index_or xs x None) slots
+      ∙ (released_at old.slots p x (omega arith) ∙ elim (cases_Bool (p == x)) [
+        | inl e ↦ rw e refl
+        | inr e ↦ rw (e, here, dest) (sym (none_hears p (slice_index_or old.slots x None)))
+      ]);
   issue_numbers = issue_numbers;
 }
 
 -- what has a destination is released and heard
-pub ends_sending : (p r : ℕ) (old middle new : Pools) (s : Station) → p < 96 → slice_index_or old.slots p None ≡ Some s → dest_of s.instr ≡ Some r → middle.slots ≡ slice_set old.slots p None → middle.issue_numbers ≡ old.issue_numbers → HaveHeard (only p (Some s.value)) middle new
+pub ends_sending : (p r : ℕ) (old middle new : Pools) (s : Station) → p < 96 → slice_index_or old.slots p None ≡ Some s
+    → dest_of s.instr ≡ Some r → middle.slots ≡ slice_set old.slots p None → middle.issue_numbers ≡ old.issue_numbers
+    → HaveHeard (only p (Some s.value)) middle new
     → EndsIn (λ x. p == x) (only p (sends_of (slice_index_or old.slots p None))) old new
 ends_sending p r old middle new s l here dest slots issue_numbers heard_ count = record {
   places = heard_.places;
-  slots = λ x k. heard_.slots x k ∙ (ap (λ xs. option_map (hears (only p (Some s.value))) (slice_index_or xs x None)) slots ∙ (ap (option_map (hears (only p (Some s.value)))) (released_at old.slots p x (omega arith)) ∙ elim (cases_Bool (p == x)) [
-    | inl e ↦ rw e refl
-    | inr e ↦ rw (e, here, dest) refl
-  ]));
+  slots = λ x k. heard_.slots x k
+      ∙ (ap (λ xs. option_map (hears (only p (Some s.value))) (slice_index_or xs x None)) slots
+      ∙ (ap (option_map (hears (only p (Some s.value)))) (released_at old.slots p x (omega arith))
+      ∙ elim (cases_Bool (p == x)) [
+        | inl e ↦ rw e refl
+        | inr e ↦ rw (e, here, dest) refl
+      ]));
   issue_numbers = heard_.issue_numbers ∙ issue_numbers;
 }
 
 -- The register of its destination, where its Qi still names the place.
 
 none_received : (p : ℕ) (rg : RegStatus) → Hears (only p None) rg rg
-none_received p rg count status = record { count = count; status = status; fields = λ r l. sym (none_heard p (reg_field rg.values rg.tags r)) }
+none_received p rg count status =
+    record { count = count; status = status; fields = λ r l. sym (none_heard p (reg_field rg.values rg.tags r)) }
 
 pub hears_nothing : (p : ℕ) (o : Option Station) (rg : RegStatus) → o ≡ None → Hears (only p (sends_of o)) rg rg
 hears_nothing p o rg e = rw e (none_received p rg)
 
-pub hears_silent : (p : ℕ) (o : Option Station) (s : Station) (rg : RegStatus) → o ≡ Some s → dest_of s.instr ≡ None → Hears (only p (sends_of o)) rg rg
+pub hears_silent : (p : ℕ) (o : Option Station) (s : Station) (rg : RegStatus) → o ≡ Some s → dest_of s.instr ≡ None
+    → Hears (only p (sends_of o)) rg rg
 hears_silent p o s rg e dest = rw (e, dest) (none_received p rg)
 
-received_hears : (p r v : ℕ) (rg : RegStatus) → r < 32 → ((q : ℕ) → q < 32 → names rg q p ≡ true → q ≡ r) → Hears (only p (Some v)) rg (received rg r p v)
+received_hears : (p r v : ℕ) (rg : RegStatus) → r < 32 → ((q : ℕ) → q < 32 → names rg q p ≡ true → q ≡ r)
+    → Hears (only p (Some v)) rg (received rg r p v)
 received_hears p r v rg l named count status = elim (cases_Bool (names rg r p)) [
   | inr e ↦ rw e (record {
     count = count;
@@ -256,10 +124,12 @@ received_hears p r v rg l named count status = elim (cases_Bool (names rg r p)) 
     fields = λ q k. elim (cases_Bool (r == q)) [
       | inl f ↦
           let same : r ≡ q = eqb-true r q f in
-          rw (← same, get_or-set_same rg.values r v 0 (omega arith), get_or-set_same rg.tags r None None (omega arith)) (sym (heard_yes p v (slice_index rg.values r) (slice_index_or rg.tags r None) e))
+          rw (← same, get_or-set_same rg.values r v 0 (omega arith), get_or-set_same rg.tags r None None (omega arith))
+          (sym (heard_yes p v (slice_index rg.values r) (slice_index_or rg.tags r None) e))
       | inr f ↦
           let apart : q ≡ r → ⊥ = λ z. eqb-false r q f (sym z) in
-          rw (get_or-set_other rg.values r q v 0 apart, get_or-set_other rg.tags r q None None apart) (elim (cases_Bool (names rg q p)) [
+          rw (get_or-set_other rg.values r q v 0 apart, get_or-set_other rg.tags r q None None apart)
+          (elim (cases_Bool (names rg q p)) [
             | inr g ↦ sym (heard_no p v (slice_index rg.values q) (slice_index_or rg.tags q None) g)
             | inl g ↦ absurd (apart (named q k g))
           ])
@@ -267,8 +137,12 @@ received_hears p r v rg l named count status = elim (cases_Bool (names rg r p)) 
   })
 ]
 
-pub hears_sending : (p r : ℕ) (slots : List (Option Station)) (s : Station) (rg new : RegStatus) → slice_index_or slots p None ≡ Some s → dest_of s.instr ≡ Some r → r < 32 → new ≡ received rg r p s.value → AreNamed slots rg → Hears (only p (sends_of (slice_index_or slots p None))) rg new
-hears_sending p r slots s rg new here dest l made named = rw (here, dest, made) (received_hears p r s.value rg l (λ q k e. let f : dest_of s.instr ≡ Some q = named q p k e s here in one_register (dest_of s.instr) q r f dest))
+pub hears_sending : (p r : ℕ) (slots : List (Option Station)) (s : Station) (rg new : RegStatus)
+    → slice_index_or slots p None ≡ Some s → dest_of s.instr ≡ Some r → r < 32 → new ≡ received rg r p s.value
+    → AreNamed slots rg → Hears (only p (sends_of (slice_index_or slots p None))) rg new
+hears_sending p r slots s rg new here dest l made named =
+    rw (here, dest, made) (received_hears p r s.value rg l (λ q k e. let f : dest_of s.instr ≡ Some q =
+    named q p k e s here in one_register (dest_of s.instr) q r f dest))
   where
     one_register : (o : Option ℕ) (q r : ℕ) → o ≡ Some q → o ≡ Some r → q ≡ r
     one_register o q r e f = cc
@@ -288,31 +162,42 @@ none_ended sent (Some s) none =
 some_none : (s : Station) (o : Option Station) → o ≡ Some s → o ≡ None → ⊥
 some_none s o e f = cc
 
-wait_sets : (xs : List (Option Station)) (x : ℕ) (s : Station) → length xs ≡ 96 → slice_index_or xs x None ≡ Some s → x < 96
+wait_sets : (xs : List (Option Station)) (x : ℕ) (s : Station) → length xs ≡ 96 → slice_index_or xs x None ≡ Some s
+    → x < 96
 wait_sets xs x s count e = elim (cases_Bool (nat_lt x 96)) [
   | inl l ↦ ltb-true x 96 l
-  | inr l ↦ let high : 96 ≤ x = ltb-false x 96 l in let none : slice_index_or xs x None ≡ None = get_or_past xs x None (omega arith) in absurd (some_none s (slice_index_or xs x None) e none)
+  | inr l ↦ let high : 96 ≤ x = ltb-false x 96 l in
+      let none : slice_index_or xs x None ≡ None = get_or_past xs x None (omega arith) in
+      absurd (some_none s (slice_index_or xs x None) e none)
 ]
 
-same_tag : (o : Option ℕ) (u t : Tag) (x : ℕ) → Waits t ≡ taken o u → is_number (place_at (Some t)) x ≡ true → is_number (place_at (Some u)) x ≡ true
+same_tag : (o : Option ℕ) (u t : Tag) (x : ℕ) → Waits t ≡ taken o u → is_number (place_at (Some t)) x ≡ true
+    → is_number (place_at (Some u)) x ≡ true
 same_tag None u t x e f = let g : t ≡ u = cc in rw (← g) f
 same_tag (Some v) u t x e f = absurd (cc)
 
 -- registers still name who they named
-named_still : (picked k : ℕ) (old s : Pools) (first r : RegStatus) → AreNamed old.slots first → AreEndedBelow picked k old s → length s.slots ≡ 96 → HaveReceived (sent_below old.slots picked k) first r → AreNamed s.slots r
+named_still : (picked k : ℕ) (old s : Pools) (first r : RegStatus) → AreNamed old.slots first
+    → AreEndedBelow picked k old s → length s.slots ≡ 96 → HaveReceived (sent_below old.slots picked k) first r
+    → AreNamed s.slots r
 named_still picked k old s first r named so count heard_ q x l e station here =
     let low : x < 96 = wait_sets s.slots x station count here in
-    let before : names first q x ≡ true = named_by (sent_below old.slots picked k) (slice_index first.values q) (slice_index r.values q) (slice_index_or first.tags q None) (slice_index_or r.tags q None) x (heard_.fields q l) e in
-    let from = stood (nat_lt x k && has picked x) (sent_below old.slots picked k) (slice_index_or old.slots x None) station (sym (so.slots x low) ∙ here) in
+    let before : names first q x ≡ true =
+    named_by (sent_below old.slots picked k) (slice_index first.values q) (slice_index r.values q)
+    (slice_index_or first.tags q None) (slice_index_or r.tags q None) x (heard_.fields q l) e in
+    let from = stood (nat_lt x k && has picked x) (sent_below old.slots picked k) (slice_index_or old.slots x None)
+    station (sym (so.slots x low) ∙ here) in
     let dest : dest_of from.0.instr ≡ Some q = named q x l before from.0 from.1 in
     ap dest_of from.2 ∙ dest
   where
-    stood : (b : Bool) (sent : ℕ → Option ℕ) (o : Option Station) (s : Station) → after_ends b sent o ≡ Some s → (z : Station) × (o ≡ Some z) × (s.instr ≡ z.instr)
+    stood : (b : Bool) (sent : ℕ → Option ℕ) (o : Option Station) (s : Station) → after_ends b sent o ≡ Some s
+        → (z : Station) × (o ≡ Some z) × (s.instr ≡ z.instr)
     stood true sent o s e = absurd (cc)
     stood false sent None s e = absurd (cc)
     stood false sent (Some z) s e = let f : hears sent z ≡ s = cc in (z, refl, ap (λ (y : Station). y.instr) (sym f))
 
-    named_by : (sent : ℕ → Option ℕ) (a b : ℕ) (p q : Option Tag) (x : ℕ) → field_from b q ≡ heard sent (field_from a p) → is_number (place_at q) x ≡ true → is_number (place_at p) x ≡ true
+    named_by : (sent : ℕ → Option ℕ) (a b : ℕ) (p q : Option Tag) (x : ℕ) → field_from b q ≡ heard sent (field_from a p)
+        → is_number (place_at q) x ≡ true → is_number (place_at p) x ≡ true
     named_by sent a b p None x e f = absurd (cc)
     named_by sent a b None (Some t) x e f = absurd (cc)
     named_by sent a b (Some u) (Some t) x e f = same_tag (sent (place_of_tag u)) u t x e f
@@ -326,44 +211,77 @@ pub record AreApplied (picked rest : ℕ) (old s : Pools) (first r : RegStatus) 
   pub stations : AreEndedBelow picked k old s
   pub registers : AreNamed old.slots first → Hears (sent_below old.slots picked k) first r
 
-pub first_applied : (picked : ℕ) (st : Pools) (rg : RegStatus) → length st.slots ≡ 96 → AreApplied picked picked st st rg rg
+pub first_applied : (picked : ℕ) (st : Pools) (rg : RegStatus) → length st.slots ≡ 96
+    → AreApplied picked picked st st rg rg
 first_applied picked st rg count = record {
   k = 0;
   from = all_left picked;
   high = omega arith;
-  stations = record { places = count; slots = λ x l. none_ended (sent_below st.slots picked 0) (slice_index_or st.slots x None) (λ y. rw (le-ltb y 0 (omega arith)) refl) ∙ sym (ap (λ b. after_ends (b && has picked x) (sent_below st.slots picked 0) (slice_index_or st.slots x None)) (le-ltb x 0 (omega arith))); issue_numbers = refl };
-  registers = λ named n m. record { count = n; status = m; fields = λ r l. none_sent (sent_below st.slots picked 0) (reg_field rg.values rg.tags r) (λ y. rw (le-ltb y 0 (omega arith)) refl) };
+  stations = record {
+    places = count;
+    slots =
+        λ x l. none_ended (sent_below st.slots picked 0) (slice_index_or st.slots x None)
+        (λ y. rw (le-ltb y 0 (omega arith)) refl)
+        ∙ sym (ap (λ b. after_ends (b && has picked x) (sent_below st.slots picked 0) (slice_index_or st.slots x None))
+        (le-ltb x 0 (omega arith)));
+    issue_numbers = refl;
+  };
+  registers = λ named n m. record {
+    count = n;
+    status = m;
+    fields =
+        λ r l. none_sent (sent_below st.slots picked 0) (reg_field rg.values rg.tags r)
+        (λ y. rw (le-ltb y 0 (omega arith)) refl);
+  };
 }
 
 -- one place more
-pub one_applied : (picked rest left x : ℕ) (old s new : Pools) (first r status : RegStatus) → AreLow picked → AreApplied picked rest old s first r → x < 128 → has rest x ≡ true → ((i : ℕ) → i < x → has rest i ≡ false) → IsWithout rest x left
-    → EndsIn (λ y. x == y) (only x (sends_of (slice_index_or s.slots x None))) s new → (AreNamed s.slots r → Hears (only x (sends_of (slice_index_or s.slots x None))) r status) → AreApplied picked left old new first status
+pub one_applied : (picked rest left x : ℕ) (old s new : Pools) (first r status : RegStatus) → AreLow picked
+    → AreApplied picked rest old s first r → x < 128 → has rest x ≡ true → ((i : ℕ) → i < x → has rest i ≡ false)
+    → IsWithout rest x left
+    → EndsIn (λ y. x == y) (only x (sends_of (slice_index_or s.slots x None))) s new
+    → (AreNamed s.slots r → Hears (only x (sends_of (slice_index_or s.slots x None))) r status)
+    → AreApplied picked left old new first status
 one_applied picked rest left x old s new first r status low so small member least without ends hears_ =
     let from : so.k ≤ x = least_from picked rest so.k x so.from small member in
     let pick : has picked x ≡ true = least_in picked rest so.k x so.from small member in
     let below : x < 96 = low x small pick in
-    let none : (j : ℕ) → so.k ≤ j → j < x → has picked j ≡ false = none_between picked rest so.k x so.from small least in
-    let here : AreEndedBelow picked x old s = skip_to (λ j. AreEndedBelow picked j old s) picked so.k x from none (λ j e b. apply_no picked j old s e b) so.stations in
+    let none : (j : ℕ) → so.k ≤ j → j < x → has picked j ≡ false =
+    none_between picked rest so.k x so.from small least in
+    let here : AreEndedBelow picked x old s =
+    skip_to (λ j. AreEndedBelow picked j old s) picked so.k x from none (λ j e b. apply_no picked j old s e b)
+    so.stations in
     record {
       k = x + 1;
       from = left_from picked rest left so.k x so.from small member least without;
       high = omega arith;
       stations = apply_yes picked x old s new below pick here ends;
       registers = λ named count tags.
-          let heard_ : Hears (sent_below old.slots picked x) first r = skip_to (λ j. Hears (sent_below old.slots picked j) first r) picked so.k x from none (λ j e b. hear_no picked j old first r e b) (so.registers named) in
-          hear_yes picked x old s first r status below pick here heard_ (hears_ (named_still picked x old s first r named here here.places (heard_ count tags))) count tags;
+          let heard_ : Hears (sent_below old.slots picked x) first r =
+          skip_to (λ j. Hears (sent_below old.slots picked j) first r) picked so.k x from none
+          (λ j e b. hear_no picked j old first r e b) (so.registers named) in
+          hear_yes picked x old s first r status below pick here heard_
+          (hears_ (named_still picked x old s first r named here here.places (heard_ count tags))) count tags;
     }
 
-pub all_applied : (picked rest : ℕ) (old s : Pools) (first r : RegStatus) → AreLow picked → AreApplied picked rest old s first r → rest ≡ 0 → AreEndedBelow picked 96 old s × (AreNamed old.slots first → Hears (sent_below old.slots picked 96) first r)
+pub all_applied : (picked rest : ℕ) (old s : Pools) (first r : RegStatus) → AreLow picked
+    → AreApplied picked rest old s first r → rest ≡ 0 → AreEndedBelow picked 96 old s
+    × (AreNamed old.slots first → Hears (sent_below old.slots picked 96) first r)
 all_applied picked rest old s first r low so empty =
-    let none : (j : ℕ) → so.k ≤ j → j < 96 → has picked j ≡ false = λ j from to. none_after picked rest so.k so.from empty j from (omega arith) in (
-      skip_to (λ j. AreEndedBelow picked j old s) picked so.k 96 so.high none (λ j e b. apply_no picked j old s e b) so.stations,
-      λ named. skip_to (λ j. Hears (sent_below old.slots picked j) first r) picked so.k 96 so.high none (λ j e b. hear_no picked j old first r e b) (so.registers named),
+    let none : (j : ℕ) → so.k ≤ j → j < 96 → has picked j ≡ false =
+    λ j from to. none_after picked rest so.k so.from empty j from (omega arith) in (
+      skip_to (λ j. AreEndedBelow picked j old s) picked so.k 96 so.high none (λ j e b. apply_no picked j old s e b)
+          so.stations,
+      λ named. skip_to (λ j. Hears (sent_below old.slots picked j) first r) picked so.k 96 so.high none
+          (λ j e b. hear_no picked j old first r e b) (so.registers named),
     )
 
-pub ended_below : (picked : ℕ) (old new : Pools) → AreEndedBelow picked 96 old new → AreEnded (λ x. has picked x) (sent_below old.slots picked 96) old new
+pub ended_below : (picked : ℕ) (old new : Pools) → AreEndedBelow picked 96 old new
+    → AreEnded (λ x. has picked x) (sent_below old.slots picked 96) old new
 ended_below picked old new so = record {
   places = so.places;
-  slots = λ x l. so.slots x l ∙ ap (λ b. after_ends (b && has picked x) (sent_below old.slots picked 96) (slice_index_or old.slots x None)) (lt-ltb x 96 l);
+  slots = λ x l. so.slots x l ∙ ap
+      (λ b. after_ends (b && has picked x) (sent_below old.slots picked 96) (slice_index_or old.slots x None))
+      (lt-ltb x 96 l);
   issue_numbers = so.issue_numbers;
 }

@@ -1,5 +1,6 @@
 -- Where nothing ends, nothing changes.
-use Rattle.std.proofs.Common.{ℕ, ◌+◌, ◌≡◌, arith, ◌∙◌, false, refl, List, Option, Some, None, ap, sym, length, slice_index, slice_index_or, option_map}
+use Rattle.std.proofs.Common.{ℕ, ◌+◌, ◌≡◌, arith, ◌∙◌, false, refl, List, Option, Some, None, ap, sym, length}
+use Rattle.std.proofs.Common.{slice_index, slice_index_or, option_map}
 use Rattle.std.specs.Prelude.{nat_lt, ◌&&◌, if◌then◌else◌}
 use Rattle.std.proofs.lemmas.Bool.{and_right}
 use Rattle.tomex_config.specs.Configuration.{Configuration}
@@ -35,27 +36,45 @@ hears_none sent (Some s) none =
     ap (λ (z : Station). Some z) (ap f (heard_none sent s.j none) ∙ ap g (heard_none sent s.k none))
 
 none_sent : (slots : List (Option Station)) (n y : ℕ) → sent_below slots 0 n y ≡ None
-none_sent slots n y = ap (λ b. if b then sends_of (slice_index_or slots y None) else None) (ap (λ b. nat_lt y n && b) (none_in y) ∙ and_right (nat_lt y n) false refl)
+none_sent slots n y = ap (λ b. if b then sends_of (slice_index_or slots y None) else None)
+    (ap (λ b. nat_lt y n && b) (none_in y) ∙ and_right (nat_lt y n) false refl)
 
 none_ended : (old : Pools) → EndsIn (λ x. has 0 x) (sent_below old.slots 0 96) old old
 none_ended old count = record {
   places = count;
-  slots = λ x l. sym (ap (λ b. after_ends b (sent_below old.slots 0 96) (slice_index_or old.slots x None)) (none_in x) ∙ sym (hears_none (sent_below old.slots 0 96) (slice_index_or old.slots x None) (none_sent old.slots 96)));
+  slots = λ x l. sym (ap (λ b. after_ends b (sent_below old.slots 0 96) (slice_index_or old.slots x None)) (none_in x)
+      ∙ sym (hears_none (sent_below old.slots 0 96) (slice_index_or old.slots x None) (none_sent old.slots 96)));
   issue_numbers = refl;
 }
 
-none_received : (slots : List (Option Station)) (registers : RegStatus) → Hears (sent_below slots 0 96) registers registers
-none_received slots registers count status = record { count = count; status = status; fields = λ r l. heard_none (sent_below slots 0 96) (field_from (slice_index registers.values r) (slice_index_or registers.tags r None)) (none_sent slots 96) }
+none_received : (slots : List (Option Station)) (registers : RegStatus)
+    → Hears (sent_below slots 0 96) registers registers
+none_received slots registers count status =
+    record {
+      count = count;
+      status = status;
+      fields =
+          λ r l. heard_none (sent_below slots 0 96)
+          (field_from (slice_index registers.values r) (slice_index_or registers.tags r None)) (none_sent slots 96);
+    }
 
-pub ends_none : (config : Configuration) (next ending : ℕ) (old : Pools) (registers : RegStatus) (fetch result : Fetch) → AreEnding old config.buses next ending → AreBusy old.slots old.busy old.issue_numbers → Follows next old.slots fetch result → ending ≡ 0 → MakesEnds config next old registers fetch old registers result
+pub ends_none : (config : Configuration) (next ending : ℕ) (old : Pools) (registers : RegStatus) (fetch result : Fetch)
+    → AreEnding old config.buses next ending → AreBusy old.slots old.busy old.issue_numbers
+    → Follows next old.slots fetch result → ending ≡ 0 → MakesEnds config next old registers fetch old registers result
 ends_none config next ending old registers fetch result ends filled follows e =
-    made_ends config next old old registers registers fetch result 0 (rw e at ends) filled follows (λ low. none_ended old) (λ count low named. none_received old.slots registers)
+    made_ends config next old old registers registers fetch result 0 (rw e at ends) filled follows
+    (λ low. none_ended old) (λ count low named. none_received old.slots registers)
 
-pub none_over : (slots : List (Option Station)) (next ending : ℕ) (f : Finishes) → length slots ≡ 96 → LeavesTimetable slots next ending f → ending ≡ 0 → IsTimetableOf slots (next + 1) f
-none_over slots next ending f count leaves e = leaves slots (λ y. None) count (λ x l. rw (e, none_in x) (hears_none (λ y. None) (slice_index_or slots x None) (λ y. refl)))
+pub none_over : (slots : List (Option Station)) (next ending : ℕ) (f : Finishes) → length slots ≡ 96
+    → LeavesTimetable slots next ending f → ending ≡ 0 → IsTimetableOf slots (next + 1) f
+none_over slots next ending f count leaves e =
+    leaves slots (λ y. None) count (λ x l. rw (e, none_in x)
+    (hears_none (λ y. None) (slice_index_or slots x None) (λ y. refl)))
 
 -- where nothing finishes, no branch is followed
-pub none_followed : (next due : ℕ) (slots : List (Option Station)) (fetch : Fetch) → AreDone slots next due → due ≡ 0 → Follows next slots fetch fetch
+pub none_followed : (next due : ℕ) (slots : List (Option Station)) (fetch : Fetch) → AreDone slots next due → due ≡ 0
+    → Follows next slots fetch fetch
 none_followed next due slots (from.At pc) done e = refl
 none_followed next due slots (from.Stopped kind pc) done e = refl
-none_followed next due slots from.Waits done e = (None, (λ x low high. sym (done x (omega arith)) ∙ rw e (none_in x)), refl)
+none_followed next due slots from.Waits done e =
+    (None, (λ x low high. sym (done x (omega arith)) ∙ rw e (none_in x)), refl)

@@ -1,8 +1,10 @@
 -- What ends in a cycle: the recurrence's test, by the buses that are left.
-use Rattle.std.proofs.Common.{ℕ, ◌+◌, ◌<◌, ◌≤◌, ◌≡◌, ◌∙◌, Bool, true, false, arith, refl, List, [], ◌∷◌, ◌++◌, Option, Some, None, ap, sym, inl, inr, ◌⊎◌, append_assoc, slice_index_or}
+use Rattle.std.proofs.Common.{ℕ, ◌+◌, ◌<◌, ◌≤◌, ◌≡◌, ◌∙◌, Bool, true, false, arith, refl, List, [], ◌∷◌, ◌++◌, Option}
+use Rattle.std.proofs.Common.{Some, None, ap, sym, inl, inr, ◌⊎◌, append_assoc, slice_index_or}
 use Rattle.std.specs.Prelude.{nat_lt, nat_le, if◌then◌else◌, ◌&&◌, ◌||◌, ◌==◌, is_some, count_by, MatchOption, not}
 use Rattle.std.specs.Bool.{MatchBool}
-use Rattle.std.proofs.lemmas.Bool.{cases_Bool, cases_order, ltb-true, ltb-false, lt-ltb, le-ltb, leb-false, le-leb, lt-leb, and_parts, eq-eqb, eqb-true, eqb-false, ne_eqb, both_ways}
+use Rattle.std.proofs.lemmas.Bool.{cases_Bool, cases_order, ltb-true, ltb-false, lt-ltb, le-ltb, leb-false, le-leb}
+use Rattle.std.proofs.lemmas.Bool.{lt-leb, and_parts, eq-eqb, eqb-true, eqb-false, ne_eqb, both_ways}
 use Rattle.tomex_image.specs.Image.{Loaded}
 use Rattle.tomex_config.specs.Configuration.{Configuration, IsWithinLimits}
 use Rattle.tomex_rvdec.specs.declared.pool.PoolId.{PoolId}
@@ -15,7 +17,8 @@ use Rattle.tomex_cycle.specs.Run.{AreIssuedBy}
 use Rattle.tomex_cycle.specs.Views.{clocks, holds_place, order_of, place_of, station_at, station_of, ShowsStations}
 use Rattle.tomex_cycle.specs.Ends.{is_finished_by, AreEnding, can_send, ends_alone}
 use Rattle.tomex_membuf.specs.Order.{is_finished_before}
-use Rattle.tomex_cycle.proofs.Addresses.{some_none_of, number_is_some}
+use Rattle.tomex_cycle.proofs.AddressChosen.{some_none_of}
+use Rattle.tomex_cycle.proofs.Addresses.{number_is_some}
 use Rattle.tomex_cycle.proofs.Places.{place_low, is_vacant, vacant}
 use Rattle.tomex_cycle.proofs.Fields.{dest_later, timed_part}
 use Rattle.tomex_cycle.proofs.Places.{least_test, low, station_here}
@@ -48,7 +51,9 @@ and_false false = refl
 
 -- The test of a turn.
 
-end_clause : (pool : Option PoolId) (station : Option ℕ) (p : ℕ) (A B C : Type 0) (dest : Bool) → place_at (tag_at pool station) ≡ Some p → MatchOption (unit_at pool) A (λ u. MatchBool dest B C) → MatchBool dest B C
+end_clause : (pool : Option PoolId) (station : Option ℕ) (p : ℕ) (A B C : Type 0) (dest : Bool)
+    → place_at (tag_at pool station) ≡ Some p → MatchOption (unit_at pool) A (λ u. MatchBool dest B C)
+    → MatchBool dest B C
 end_clause None station p A B C dest e h = absurd (cc)
 end_clause (Some q) station p A B C dest e h = h
 
@@ -60,13 +65,15 @@ clause_false : (B C : Type 0) (dest : Bool) → dest ≡ false → MatchBool des
 clause_false B C false e h = h
 clause_false B C true e h = absurd (cc)
 
-before_is : (u start finish : ℕ) → start ≤ finish → is_finished_before (if nat_le start u then Some finish else None) u ≡ nat_lt finish u
+before_is : (u start finish : ℕ) → start ≤ finish → is_finished_before (if nat_le start u then Some finish else None) u
+    ≡ nat_lt finish u
 before_is u start finish l = elim (cases_Bool (nat_le start u)) [
   | inl e ↦ rw e refl
   | inr e ↦ let k : u < start = leb-false start u e in rw (e, le-ltb finish u (omega arith)) refl
 ]
 
-by_is : (u start finish : ℕ) → start ≤ finish → is_finished_by (if nat_le start u then Some finish else None) u ≡ nat_le finish u
+by_is : (u start finish : ℕ) → start ≤ finish → is_finished_by (if nat_le start u then Some finish else None) u
+    ≡ nat_le finish u
 by_is u start finish l = elim (cases_Bool (nat_le start u)) [
   | inl e ↦ rw e refl
   | inr e ↦ let k : u < start = leb-false start u e in rw (e, lt-leb finish u (omega arith)) refl
@@ -83,26 +90,41 @@ last_is t u end e l = elim (cases_Bool (end == u)) [
 ]
 
 -- whether a busy step ends, as its station shows it
-one_ends : (i : Loaded) (config : Configuration) (t u p : ℕ) (d : Done) (older : List Done) → IsWithinLimits config → AreTimed config (d ∷ older) → place_of d ≡ Some p → u ≡ t + 1 → t < d.at.end → (sends_in u d || ends_alone u (Some (station_of i (clocks u u t) d older))) ≡ (d.at.end == u)
+one_ends : (i : Loaded) (config : Configuration) (t u p : ℕ) (d : Done) (older : List Done) → IsWithinLimits config
+    → AreTimed config (d ∷ older) → place_of d ≡ Some p → u ≡ t + 1 → t < d.at.end
+    → (sends_in u d || ends_alone u (Some (station_of i (clocks u u t) d older))) ≡ (d.at.end == u)
 one_ends i config t u p d older good timed place next late =
     let l : d.at.start ≤ d.at.finish = (reach config d older good timed).order in
     elim (cases_Bool (is_some (step_dest d.step))) [
       | inl dest ↦ rw dest (or_false (d.at.end == u))
       | inr dest ↦
-          let clause = end_clause (step_pool d.step) d.at.station p (d.at.end ≡ d.at.issue) (IsLeast (can_end config older d.at.finish) d.at.end) (d.at.end ≡ d.at.finish) (is_some (step_dest d.step)) place timed.0.end in
-          let same : d.at.end ≡ d.at.finish = clause_false (IsLeast (can_end config older d.at.finish) d.at.end) (d.at.end ≡ d.at.finish) (is_some (step_dest d.step)) dest clause in
-          let done : is_finished_by (if nat_le d.at.start u then Some d.at.finish else None) u ≡ (d.at.end == u) = by_is u d.at.start d.at.finish l ∙ (ap (λ k. nat_le k u) (sym same) ∙ last_is t u d.at.end next late) in
+          let clause = end_clause (step_pool d.step) d.at.station p (d.at.end ≡ d.at.issue)
+          (IsLeast (can_end config older d.at.finish) d.at.end) (d.at.end ≡ d.at.finish)
+          (is_some (step_dest d.step)) place timed.0.end in
+          let same : d.at.end ≡ d.at.finish =
+          clause_false (IsLeast (can_end config older d.at.finish) d.at.end) (d.at.end ≡ d.at.finish)
+          (is_some (step_dest d.step)) dest clause in
+          let done : is_finished_by (if nat_le d.at.start u then Some d.at.finish else None) u ≡ (d.at.end == u) =
+          by_is u d.at.start d.at.finish l ∙ (ap (λ k. nat_le k u) (sym same) ∙ last_is t u d.at.end next late) in
           rw (dest, done) refl
     ]
 
 -- whether it sends: the recurrence's test
-one_sends : (config : Configuration) (t u p : ℕ) (d : Done) (older : List Done) → IsWithinLimits config → AreTimed config (d ∷ older) → place_of d ≡ Some p → u ≡ t + 1 → t < d.at.end → sends_in u d ≡ ((is_some (step_dest d.step) && nat_lt d.at.finish u) && nat_lt (count_by (sends_in u) older) config.buses)
+one_sends : (config : Configuration) (t u p : ℕ) (d : Done) (older : List Done) → IsWithinLimits config
+    → AreTimed config (d ∷ older) → place_of d ≡ Some p → u ≡ t + 1 → t < d.at.end
+    → sends_in u d ≡ ((is_some (step_dest d.step) && nat_lt d.at.finish u) && nat_lt (count_by (sends_in u) older)
+    config.buses)
 one_sends config t u p d older good timed place next late = elim (cases_Bool (is_some (step_dest d.step))) [
   | inr dest ↦ rw dest refl
   | inl dest ↦
-      let clause = end_clause (step_pool d.step) d.at.station p (d.at.end ≡ d.at.issue) (IsLeast (can_end config older d.at.finish) d.at.end) (d.at.end ≡ d.at.finish) (is_some (step_dest d.step)) place timed.0.end in
-      let least : IsLeast (can_end config older d.at.finish) d.at.end = clause_true (IsLeast (can_end config older d.at.finish) d.at.end) (d.at.end ≡ d.at.finish) (is_some (step_dest d.step)) dest clause in
-      let test : can_end config older d.at.finish u ≡ (d.at.end == u) = least_test (can_end config older d.at.finish) d.at.end u least (omega arith) in
+      let clause = end_clause (step_pool d.step) d.at.station p (d.at.end ≡ d.at.issue)
+      (IsLeast (can_end config older d.at.finish) d.at.end) (d.at.end ≡ d.at.finish) (is_some (step_dest d.step))
+      place timed.0.end in
+      let least : IsLeast (can_end config older d.at.finish) d.at.end =
+      clause_true (IsLeast (can_end config older d.at.finish) d.at.end) (d.at.end ≡ d.at.finish)
+      (is_some (step_dest d.step)) dest clause in
+      let test : can_end config older d.at.finish u ≡ (d.at.end == u) =
+      least_test (can_end config older d.at.finish) d.at.end u least (omega arith) in
       rw dest (sym test)
 ]
 
@@ -113,14 +135,18 @@ option_cases None = inl refl
 option_cases (Some p) = inr (p, refl)
 
 -- what holds no station sends nothing
-no_dest : (config : Configuration) (d : Done) (older : List Done) → IsWithinLimits config → AreTimed config (d ∷ older) → place_of d ≡ None → is_some (step_dest d.step) ≡ false
+no_dest : (config : Configuration) (d : Done) (older : List Done) → IsWithinLimits config → AreTimed config (d ∷ older)
+    → place_of d ≡ None → is_some (step_dest d.step) ≡ false
 no_dest config d older good timed e = elim (cases_Bool (is_some (step_dest d.step))) [
   | inr k ↦ k
-  | inl k ↦ absurd (some_none_of 0 (place_of d) (place_there config d older timed.0 (dest_later config d older good timed k)) e)
+  | inl k ↦ absurd (some_none_of 0 (place_of d)
+      (place_there config d older timed.0 (dest_later config d older good timed k)) e)
 ]
 
 -- a place that is held is one of the 96, and the state shows the station
-pub slot_here : (i : Loaded) (config : Configuration) (t u p : ℕ) (st : Pools) (h newer : List Done) (d : Done) (older : List Done) → IsWithinLimits config → AreTimed config h → AreIssuedBy u h → u ≡ t + 1 → ShowsStations i (clocks u u t) h st → h ≡ newer ++ (d ∷ older) → place_of d ≡ Some p → t < d.at.end
+pub slot_here : (i : Loaded) (config : Configuration) (t u p : ℕ) (st : Pools) (h newer : List Done) (d : Done)
+    (older : List Done) → IsWithinLimits config → AreTimed config h → AreIssuedBy u h → u ≡ t + 1
+    → ShowsStations i (clocks u u t) h st → h ≡ newer ++ (d ∷ older) → place_of d ≡ Some p → t < d.at.end
     → (p < 96) × (slice_index_or st.slots p None ≡ Some (station_of i (clocks u u t) d older))
 slot_here i config t u p st h newer d older good timed issued next shown e place late =
     let here : AreTimed config (newer ++ (d ∷ older)) = rw e at timed in
@@ -128,16 +154,21 @@ slot_here i config t u p st h newer d older good timed issued next shown e place
     let part : AreTimed config (d ∷ older) = timed_part config newer (d ∷ older) here in
     let held : holds_place t p d ≡ true = rw (place, lt-ltb t d.at.end late, eq-eqb p p refl) refl in
     let small : p < 96 = place_low (step_pool d.step) d.at.station p (low config (d ∷ older) good part).0 place in
-    let there : station_at i (clocks u u t) (newer ++ (d ∷ older)) p ≡ Some (station_of i (clocks u u t) d older) = station_here i config (clocks u u t) newer d older p good here (rw next at by) held in
+    let there : station_at i (clocks u u t) (newer ++ (d ∷ older)) p ≡ Some (station_of i (clocks u u t) d older) =
+    station_here i config (clocks u u t) newer d older p good here (rw next at by) held in
     (small, shown.slots p small ∙ (ap (λ xs. station_at i (clocks u u t) xs p) e ∙ there))
 
 -- the busy steps whose results are ready are served by the recurrence
-send_serves : (i : Loaded) (config : Configuration) (t u ready : ℕ) (st : Pools) (h newer : List Done) (d : Done) (older : List Done) → IsWithinLimits config → AreTimed config h → AreIssuedBy u h → u ≡ t + 1 → ShowsStations i (clocks u u t) h st → AreBusy st.slots st.busy st.issue_numbers
-    → ((x : ℕ) → x < 128 → has ready x ≡ (has st.busy x && can_send u (slice_index_or st.slots x None))) → h ≡ newer ++ (d ∷ older) → Serves t config.buses ready (sends_in u) d older
+send_serves : (i : Loaded) (config : Configuration) (t u ready : ℕ) (st : Pools) (h newer : List Done) (d : Done)
+    (older : List Done) → IsWithinLimits config → AreTimed config h → AreIssuedBy u h → u ≡ t + 1
+    → ShowsStations i (clocks u u t) h st → AreBusy st.slots st.busy st.issue_numbers
+    → ((x : ℕ) → x < 128 → has ready x ≡ (has st.busy x && can_send u (slice_index_or st.slots x None))) → h ≡ newer
+    ++ (d ∷ older) → Serves t config.buses ready (sends_in u) d older
 send_serves i config t u ready st h newer d older good timed issued next shown filled said e =
     let part : AreTimed config (d ∷ older) = timed_part config newer (d ∷ older) (rw e at timed) in
     record {
-      idle = λ l. let k : d.at.end ≤ t = ltb-false _ _ l in rw (ne_eqb d.at.end u (λ (z : d.at.end ≡ u). absurd (omega arith))) (and_false (is_some (step_dest d.step)));
+      idle = λ l. let k : d.at.end ≤ t = ltb-false _ _ l in
+          rw (ne_eqb d.at.end u (λ (z : d.at.end ≡ u). absurd (omega arith))) (and_false (is_some (step_dest d.step)));
       nowhere = λ none. rw (no_dest config d older good part none) refl;
       ready = λ x held.
           let two = and_parts (is_number (place_of d) x) (nat_lt t d.at.end) held in
@@ -147,15 +178,21 @@ send_serves i config t u ready st h newer d older good timed issued next shown f
           let l : d.at.start ≤ d.at.finish = (reach config d older good part).order in
           let small : x < 96 = there.0 in
           let busy : has st.busy x ≡ true = filled.each x (omega arith) ∙ ap is_some there.1 in
-          one_sends config t u x d older good part place next late ∙ sym (ap (λ b. b && nat_lt (count_by (sends_in u) older) config.buses) (said x (omega arith) ∙ rw (busy, there.1, before_is u d.at.start d.at.finish l) refl));
+          one_sends config t u x d older good part place next late
+          ∙ sym (ap (λ b. b && nat_lt (count_by (sends_in u) older) config.buses) (said x (omega arith)
+          ∙ rw (busy, there.1, before_is u d.at.start d.at.finish l) refl));
     }
 
-all_send : (i : Loaded) (config : Configuration) (t u ready : ℕ) (st : Pools) (h newer part : List Done) → IsWithinLimits config → AreTimed config h → AreIssuedBy u h → u ≡ t + 1 → ShowsStations i (clocks u u t) h st → AreBusy st.slots st.busy st.issue_numbers
-    → ((x : ℕ) → x < 128 → has ready x ≡ (has st.busy x && can_send u (slice_index_or st.slots x None))) → h ≡ newer ++ part → AreServed t config.buses ready (sends_in u) part
+all_send : (i : Loaded) (config : Configuration) (t u ready : ℕ) (st : Pools) (h newer part : List Done)
+    → IsWithinLimits config → AreTimed config h → AreIssuedBy u h → u ≡ t + 1 → ShowsStations i (clocks u u t) h st
+    → AreBusy st.slots st.busy st.issue_numbers
+    → ((x : ℕ) → x < 128 → has ready x ≡ (has st.busy x && can_send u (slice_index_or st.slots x None))) → h ≡ newer
+    ++ part → AreServed t config.buses ready (sends_in u) part
 all_send i config t u ready st h newer [] good timed issued next shown filled said e = tt
 all_send i config t u ready st h newer (d ∷ older) good timed issued next shown filled said e = (
   send_serves i config t u ready st h newer d older good timed issued next shown filled said e,
-  all_send i config t u ready st h (newer ++ (d ∷ [])) older good timed issued next shown filled said (e ∙ sym (append_assoc newer (d ∷ []) older)),
+  all_send i config t u ready st h (newer ++ (d ∷ [])) older good timed issued next shown filled said
+      (e ∙ sym (append_assoc newer (d ∷ []) older)),
 )
 
 pub idle_ends : (t u x : ℕ) (h : List Done) → u ≡ t + 1 → is_vacant t x h ≡ true → ends_in u h x ≡ false
@@ -171,7 +208,9 @@ idle_ends t u x (d ∷ older) e free = elim (cases_Bool (is_number (place_of d) 
 ]
 
 -- what sends and what ends alone end in the cycle
-both_end : (i : Loaded) (config : Configuration) (t u x : ℕ) (h : List Done) → IsWithinLimits config → AreTimed config h → AreIssuedBy u h → u ≡ t + 1 → (goes_at t (sends_in u) h x || ends_alone u (station_at i (clocks u u t) h x)) ≡ ends_in u h x
+both_end : (i : Loaded) (config : Configuration) (t u x : ℕ) (h : List Done) → IsWithinLimits config → AreTimed config h
+    → AreIssuedBy u h → u ≡ t + 1 → (goes_at t (sends_in u) h x || ends_alone u (station_at i (clocks u u t) h x))
+    ≡ ends_in u h x
 both_end i config t u x [] good timed issued next = refl
 both_end i config t u x (d ∷ older) good timed issued next =
     let before = both_end i config t u x older good timed.1 issued.1 next in
@@ -180,12 +219,16 @@ both_end i config t u x (d ∷ older) good timed issued next =
           let two = and_parts (is_number (place_of d) x) (nat_lt t d.at.end) held in
           let place : place_of d ≡ Some x = number_is_some (place_of d) x two.0 in
           let late : t < d.at.end = ltb-true _ _ two.1 in
-          let free : is_vacant t x older ≡ true = vacant config d older t x good timed (let l : d.at.issue ≤ u = issued.0 in omega arith) two.0 in
-          rw (held, two.0, idle_ends t u x older next free) (one_ends i config t u x d older good timed place next late ∙ sym (or_false (d.at.end == u)))
+          let free : is_vacant t x older ≡ true =
+          vacant config d older t x good timed (let l : d.at.issue ≤ u = issued.0 in omega arith) two.0 in
+          rw (held, two.0, idle_ends t u x older next free) (one_ends i config t u x d older good timed place next late
+          ∙ sym (or_false (d.at.end == u)))
       | inr held ↦ elim (cases_Bool (is_number (place_of d) x)) [
         | inr at ↦ rw (held, at) before
         | inl at ↦
-            let over : nat_lt t d.at.end ≡ false = elim (cases_Bool (nat_lt t d.at.end)) [ inr l ↦ l | inl l ↦ absurd (both_ways (holds_place t x d) held (rw (at, l) refl)) ] in
+            let over : nat_lt t d.at.end ≡ false =
+            elim (cases_Bool (nat_lt t d.at.end))
+            [ inr l ↦ l | inl l ↦ absurd (both_ways (holds_place t x d) held (rw (at, l) refl)) ] in
             let k : d.at.end ≤ t = ltb-false _ _ over in
             rw (held, at, ne_eqb d.at.end u (λ (z : d.at.end ≡ u). absurd (omega arith))) before
       ]
@@ -196,12 +239,22 @@ and_alone None u = refl
 and_alone (Some s) u = refl
 
 -- the places that end are those whose steps end
-pub ending_is : (i : Loaded) (config : Configuration) (t u x : ℕ) (st : Pools) (h : List Done) (ending : ℕ) → IsWithinLimits config → AreTimed config h → AreIssuedBy u h → u ≡ t + 1 → ShowsStations i (clocks u u t) h st → AreBusy st.slots st.busy st.issue_numbers → AreEnding st config.buses u ending → x < 96
+pub ending_is : (i : Loaded) (config : Configuration) (t u x : ℕ) (st : Pools) (h : List Done) (ending : ℕ)
+    → IsWithinLimits config → AreTimed config h → AreIssuedBy u h → u ≡ t + 1 → ShowsStations i (clocks u u t) h st
+    → AreBusy st.slots st.busy st.issue_numbers → AreEnding st config.buses u ending → x < 96
     → has ending x ≡ ends_in u h x
 ending_is i config t u x st h ending good timed issued next shown filled ends l =
     let more : AreIssuedBy (t + 1) h = rw next at issued in
-    let by : IsInIssueOrder st.busy st.issue_numbers (order_of t h) = order_is i config (clocks u u t) h st good timed more shown filled in
-    let sends : has ends.sending x ≡ goes_at t (sends_in u) h x = picked_goes t config.buses st.busy ends.ready ends.sending st.issue_numbers (sends_in u) h by (λ y m k. (and_parts (has st.busy y) (can_send u (slice_index_or st.slots y None)) (sym (ends.are_ready y m) ∙ k)).0) ends.sent
-    (all_send i config t u ends.ready st h [] h good timed issued next shown filled ends.are_ready refl) (all_alone config t (sends_in u) h good timed more) x (omega arith) in
-    let alone : (has st.busy x && ends_alone u (slice_index_or st.slots x None)) ≡ ends_alone u (station_at i (clocks u u t) h x) = ap (λ b. b && ends_alone u (slice_index_or st.slots x None)) (filled.each x (omega arith)) ∙ (and_alone (slice_index_or st.slots x None) u ∙ ap (ends_alone u) (shown.slots x l)) in
+    let by : IsInIssueOrder st.busy st.issue_numbers (order_of t h) =
+    order_is i config (clocks u u t) h st good timed more shown filled in
+    let sends : has ends.sending x ≡ goes_at t (sends_in u) h x =
+    picked_goes t config.buses st.busy ends.unsent ends.sending st.issue_numbers (sends_in u) h by
+    (λ y m k. (and_parts (has st.busy y) (can_send u (slice_index_or st.slots y None)) (sym (ends.are_unsent y m)
+    ∙ k)).0) ends.sent
+    (all_send i config t u ends.unsent st h [] h good timed issued next shown filled ends.are_unsent refl)
+    (all_alone config t (sends_in u) h good timed more) x (omega arith) in
+    let alone : (has st.busy x && ends_alone u (slice_index_or st.slots x None))
+    ≡ ends_alone u (station_at i (clocks u u t) h x) =
+    ap (λ b. b && ends_alone u (slice_index_or st.slots x None)) (filled.each x (omega arith))
+    ∙ (and_alone (slice_index_or st.slots x None) u ∙ ap (ends_alone u) (shown.slots x l)) in
     ends.all x (omega arith) ∙ (rw (sends, alone) (both_end i config t u x h good timed issued next))

@@ -1,7 +1,9 @@
 -- Operands: which are there, and what a broadcast makes of those that wait.
-use Rattle.std.proofs.Common.{ℕ, ◌+◌, ◌<◌, ◌≤◌, ◌≡◌, ◌∙◌, Bool, true, false, arith, refl, List, [], ◌∷◌, ◌++◌, Option, Some, None, ap, sym, inl, inr, append_assoc, ◌⊎◌}
+use Rattle.std.proofs.Common.{ℕ, ◌+◌, ◌<◌, ◌≤◌, ◌≡◌, ◌∙◌, Bool, true, false, arith, refl, List, [], ◌∷◌, ◌++◌, Option}
+use Rattle.std.proofs.Common.{Some, None, ap, sym, inl, inr, append_assoc, ◌⊎◌}
 use Rattle.std.specs.Prelude.{nat_lt, if◌then◌else◌, ◌&&◌, ◌==◌, not, is_some, is_none, MatchOption}
-use Rattle.std.proofs.lemmas.Bool.{cases_Bool, ltb-true, ltb-false, lt-ltb, le-ltb, both_ways, and_parts, eqb-true, eqb-false, eq-eqb}
+use Rattle.std.proofs.lemmas.Bool.{cases_Bool, ltb-true, ltb-false, lt-ltb, le-ltb, both_ways, and_parts, eqb-true}
+use Rattle.std.proofs.lemmas.Bool.{eqb-false, eq-eqb}
 use Rattle.tomex_image.specs.Image.{Loaded}
 use Rattle.tomex_config.specs.Configuration.{Configuration, IsWithinLimits}
 use Rattle.tomex_rvdec.specs.declared.pool.PoolId.{PoolId}
@@ -33,10 +35,12 @@ tag_from : (tag : Option Tag) → is_some (place_at tag) ≡ true → (t : Tag) 
 tag_from None e = absurd (cc)
 tag_from (Some t) e = (t, refl)
 
-pub tag_there : (config : Configuration) (d : Done) (older : List Done) (t : ℕ) → IsTimed config older d.step d.at → d.at.issue ≤ t → t < d.at.end → (tag : Tag) × (tag_of d ≡ Some tag)
+pub tag_there : (config : Configuration) (d : Done) (older : List Done) (t : ℕ) → IsTimed config older d.step d.at
+    → d.at.issue ≤ t → t < d.at.end → (tag : Tag) × (tag_of d ≡ Some tag)
 tag_there config d older t timed l k = tag_from (tag_of d) (place_there config d older timed (omega arith))
 
-none_test : (config : Configuration) (t : ℕ) (h : List Done) (r : ℕ) → AreTimed config h → AreIssuedBy t h → is_none (producer t h r) ≡ nat_lt (writer_end h r) (t + 1)
+none_test : (config : Configuration) (t : ℕ) (h : List Done) (r : ℕ) → AreTimed config h → AreIssuedBy t h
+    → is_none (producer t h r) ≡ nat_lt (writer_end h r) (t + 1)
 none_test config t [] r timed issued = rw (lt-ltb 0 (t + 1) (omega arith)) refl
 none_test config t (d ∷ older) r timed issued = elim (cases_Bool (is_number (step_dest d.step) r)) [
   | inr e ↦ rw e (none_test config t older r timed.1 issued.1)
@@ -56,29 +60,34 @@ there_from v None = refl
 there_from v (Some tag) = refl
 
 -- an operand is there after cycle t just where its producer has ended before the next one: the recurrence's test
-pub there_test : (config : Configuration) (t : ℕ) (h : List Done) (o : Option Operand) → AreTimed config h → AreIssuedBy t h → is_there (field_of t h o) ≡ nat_lt (source_end h o) (t + 1)
+pub there_test : (config : Configuration) (t : ℕ) (h : List Done) (o : Option Operand) → AreTimed config h
+    → AreIssuedBy t h → is_there (field_of t h o) ≡ nat_lt (source_end h o) (t + 1)
 there_test config t h None timed issued = rw (lt-ltb 0 (t + 1) (omega arith)) refl
-there_test config t h (Some o) timed issued = there_from o.value (producer t h o.register) ∙ none_test config t h o.register timed issued
+there_test config t h (Some o) timed issued = there_from o.value (producer t h o.register)
+    ∙ none_test config t h o.register timed issued
 
 -- who holds no place sends nothing from it
 pub silent : (i : Loaded) (t u x : ℕ) (h : List Done) → u ≡ t + 1 → is_vacant t x h ≡ true → sent_at i u h x ≡ None
 silent i t u x [] e free = refl
-silent i t u x (d ∷ older) e free = elim (cases_Bool (is_number (place_of d) x && (is_some (step_dest d.step) && (d.at.end == u)))) [
-  | inr k ↦ rw k (silent i t u x older e (and_parts (not (holds_place t x d)) (is_vacant t x older) free).1)
-  | inl k ↦
-      let a = and_parts (is_number (place_of d) x) (is_some (step_dest d.step) && (d.at.end == u)) k in
-      let b : d.at.end ≡ u = eqb-true _ _ (and_parts (is_some (step_dest d.step)) (d.at.end == u) a.1).1 in
-      let held : holds_place t x d ≡ true = rw (a.0, lt-ltb t d.at.end (omega arith)) refl in
-      let z : not (holds_place t x d) ≡ true = (and_parts (not (holds_place t x d)) (is_vacant t x older) free).0 in
-      let f : not true ≡ true = rw held at z in
-      absurd (cc)
-]
+silent i t u x (d ∷ older) e free =
+    elim (cases_Bool (is_number (place_of d) x && (is_some (step_dest d.step) && (d.at.end == u)))) [
+      | inr k ↦ rw k (silent i t u x older e (and_parts (not (holds_place t x d)) (is_vacant t x older) free).1)
+      | inl k ↦
+          let a = and_parts (is_number (place_of d) x) (is_some (step_dest d.step) && (d.at.end == u)) k in
+          let b : d.at.end ≡ u = eqb-true _ _ (and_parts (is_some (step_dest d.step)) (d.at.end == u) a.1).1 in
+          let held : holds_place t x d ≡ true = rw (a.0, lt-ltb t d.at.end (omega arith)) refl in
+          let z : not (holds_place t x d) ≡ true = (and_parts (not (holds_place t x d)) (is_vacant t x older) free).0 in
+          let f : not true ≡ true = rw held at z in
+          absurd (cc)
+    ]
 
 -- what w sends from its place in cycle u
 abbrev sends : Loaded → ℕ → Done → List Done → Option ℕ
 sends i u w older = if w.at.end == u then Some (result_of w.step (byte_after i (steps_in older))) else None
 
-sent_here : (i : Loaded) (config : Configuration) (t u x : ℕ) (w : Done) (older : List Done) → IsWithinLimits config → AreTimed config (w ∷ older) → w.at.issue ≤ u → u ≡ t + 1 → is_some (step_dest w.step) ≡ true → is_number (place_of w) x ≡ true → sent_at i u (w ∷ older) x ≡ sends i u w older
+sent_here : (i : Loaded) (config : Configuration) (t u x : ℕ) (w : Done) (older : List Done) → IsWithinLimits config
+    → AreTimed config (w ∷ older) → w.at.issue ≤ u → u ≡ t + 1 → is_some (step_dest w.step) ≡ true
+    → is_number (place_of w) x ≡ true → sent_at i u (w ∷ older) x ≡ sends i u w older
 sent_here i config t u x w older good timed l e dest at = elim (cases_Bool (w.at.end == u)) [
   | inl k ↦ rw (at, dest, k) refl
   | inr k ↦ rw (at, dest, k) (silent i t u x older e (vacant config w older t x good timed (omega arith) at))
@@ -88,19 +97,27 @@ some_false : {A : Type 0} (x : A) (b : Bool) → b ≡ true → b ≡ false → 
 some_false x b e f = both_ways b f e
 
 -- and nothing younger is sent from it
-pub sent_newer : (i : Loaded) (config : Configuration) (t u x : ℕ) (newer h : List Done) → IsWithinLimits config → AreTimed config (newer ++ h) → AreIssuedBy u (newer ++ h) → u ≡ t + 1 → ((n : Done) (between : List Done) → is_vacant t x (between ++ h) ≡ true → ⊥) → sent_at i u (newer ++ h) x ≡ sent_at i u h x
+pub sent_newer : (i : Loaded) (config : Configuration) (t u x : ℕ) (newer h : List Done) → IsWithinLimits config
+    → AreTimed config (newer ++ h) → AreIssuedBy u (newer ++ h) → u ≡ t + 1
+    → ((n : Done) (between : List Done) → is_vacant t x (between ++ h) ≡ true → ⊥)
+    → sent_at i u (newer ++ h) x ≡ sent_at i u h x
 sent_newer i config t u x [] h good timed issued e held = refl
 sent_newer i config t u x (n ∷ newer) h good timed issued e held = elim (cases_Bool (is_number (place_of n) x)) [
-  | inl at ↦ absurd (held n newer (vacant config n (newer ++ h) t x good timed (let l : n.at.issue ≤ u = issued.0 in omega arith) at))
+  | inl at ↦ absurd (held n newer (vacant config n (newer ++ h) t x good timed (let l : n.at.issue ≤ u = issued.0 in
+      omega arith) at))
   | inr at ↦ rw at (sent_newer i config t u x newer h good timed.1 issued.1 e held)
 ]
 
 -- what a broadcast makes of an operand that waits for w
-heard_one : (v u t : ℕ) (tag : Tag) (w : ℕ) (sent : ℕ → Option ℕ) (b : Bool) → sent (place_of_tag tag) ≡ (if b then Some v else None) → heard sent (Waits tag) ≡ field_from v (if b then None else Some tag)
+heard_one : (v u t : ℕ) (tag : Tag) (w : ℕ) (sent : ℕ → Option ℕ) (b : Bool)
+    → sent (place_of_tag tag) ≡ (if b then Some v else None)
+    → heard sent (Waits tag) ≡ field_from v (if b then None else Some tag)
 heard_one v u t tag w sent true e = rw e refl
 heard_one v u t tag w sent false e = rw e refl
 
-pub unit_later : (pool : Option PoolId) (issue start : ℕ) (P : UnitId → ℕ → Bool) → ((u : UnitId) (x : ℕ) → P u x ≡ true → issue < x) → is_some pool ≡ true → MatchOption (unit_at pool) (start ≡ issue) (λ u. IsLeast (P u) start) → issue < start
+pub unit_later : (pool : Option PoolId) (issue start : ℕ) (P : UnitId → ℕ → Bool)
+    → ((u : UnitId) (x : ℕ) → P u x ≡ true → issue < x) → is_some pool ≡ true
+    → MatchOption (unit_at pool) (start ≡ issue) (λ u. IsLeast (P u) start) → issue < start
 unit_later None issue start P later some timed = absurd (cc)
 unit_later (Some pool) issue start P later some timed = later _ start timed.0
 
@@ -109,7 +126,8 @@ pool_cases None = inl refl
 pool_cases (Some p) = inr refl
 
 -- what writes a register ends after its issue
-pub dest_later : (config : Configuration) (d : Done) (older : List Done) → IsWithinLimits config → AreTimed config (d ∷ older) → is_some (step_dest d.step) ≡ true → d.at.issue < d.at.end
+pub dest_later : (config : Configuration) (d : Done) (older : List Done) → IsWithinLimits config
+    → AreTimed config (d ∷ older) → is_some (step_dest d.step) ≡ true → d.at.issue < d.at.end
 dest_later config d older good timed dest = elim (pool_cases (step_pool d.step)) [
   | inl e ↦
       let z : step_dest d.step ≡ None = dest_needs_pool d.step e in
@@ -117,7 +135,10 @@ dest_later config d older good timed dest = elim (pool_cases (step_pool d.step))
       absurd (cc)
   | inr e ↦
       let r = reach config d older good timed in
-      let l : d.at.issue < d.at.start = unit_later (step_pool d.step) d.at.issue d.at.start (λ u. can_start config older d.step u d.at.issue (cycle_of d.at.address)) (can_start_later config d older) e timed.0.start in
+      let l : d.at.issue < d.at.start =
+      unit_later (step_pool d.step) d.at.issue d.at.start
+      (λ u. can_start config older d.step u d.at.issue (cycle_of d.at.address)) (can_start_later config d older) e
+      timed.0.start in
       let k : d.at.start ≤ d.at.end = r.start in
       omega arith
 ]
@@ -125,16 +146,19 @@ dest_later config d older good timed dest = elim (pool_cases (step_pool d.step))
 -- the youngest writer of a register, if any
 pub data Writer (i : Loaded) (r : ℕ) (h : List Done) : Type 0 where
   nobody : ((t : ℕ) → producer t h r ≡ None) → Writer i r h
-  writes : (newer : List Done) (w : Done) (older : List Done) → h ≡ newer ++ (w ∷ older) → is_some (step_dest w.step) ≡ true → ((t : ℕ) → producer t h r ≡ unsent_tag t w)
+  writes : (newer : List Done) (w : Done) (older : List Done) → h ≡ newer ++ (w ∷ older)
+      → is_some (step_dest w.step) ≡ true → ((t : ℕ) → producer t h r ≡ unsent_tag t w)
       → register_after i (steps_in h) r ≡ result_of w.step (byte_after i (steps_in older)) → Writer i r h
 
 dest_some : (o : Option ℕ) (r : ℕ) → is_number o r ≡ true → is_some o ≡ true
 dest_some None r e = e
 dest_some (Some q) r e = refl
 
-writer_on : (i : Loaded) (r : ℕ) (d : Done) (older : List Done) → is_number (step_dest d.step) r ≡ false → Writer i r older → Writer i r (d ∷ older)
+writer_on : (i : Loaded) (r : ℕ) (d : Done) (older : List Done) → is_number (step_dest d.step) r ≡ false
+    → Writer i r older → Writer i r (d ∷ older)
 writer_on i r d older e (nobody none) = nobody (λ t. rw e (none t))
-writer_on i r d older e (writes newer w o split dest from value) = writes (d ∷ newer) w o (ap (λ xs. d ∷ xs) split) dest (λ t. rw e (from t)) (rw e value)
+writer_on i r d older e (writes newer w o split dest from value) =
+    writes (d ∷ newer) w o (ap (λ xs. d ∷ xs) split) dest (λ t. rw e (from t)) (rw e value)
 
 pub writer_is : (i : Loaded) (r : ℕ) (h : List Done) → Writer i r h
 writer_is i r [] = nobody (λ t. refl)
@@ -143,12 +167,15 @@ writer_is i r (d ∷ older) = elim (cases_Bool (is_number (step_dest d.step) r))
   | inr e ↦ writer_on i r d older e (writer_is i r older)
 ]
 
-pub not_vacant : (t x : ℕ) (newer : List Done) (w : Done) (older : List Done) → holds_place t x w ≡ true → is_vacant t x (newer ++ (w ∷ older)) ≡ true → ⊥
+pub not_vacant : (t x : ℕ) (newer : List Done) (w : Done) (older : List Done) → holds_place t x w ≡ true
+    → is_vacant t x (newer ++ (w ∷ older)) ≡ true → ⊥
 not_vacant t x [] w older held free =
     let z : not (holds_place t x w) ≡ true = (and_parts (not (holds_place t x w)) (is_vacant t x older) free).0 in
     let f : not true ≡ true = rw held at z in
     absurd (cc)
-not_vacant t x (n ∷ newer) w older held free = not_vacant t x newer w older held (and_parts (not (holds_place t x n)) (is_vacant t x (newer ++ (w ∷ older))) free).1
+not_vacant t x (n ∷ newer) w older held free =
+    not_vacant t x newer w older held
+    (and_parts (not (holds_place t x n)) (is_vacant t x (newer ++ (w ∷ older))) free).1
 
 pub timed_part : (config : Configuration) (newer h : List Done) → AreTimed config (newer ++ h) → AreTimed config h
 timed_part config [] h timed = timed
@@ -159,24 +186,31 @@ issued_part t [] h issued = issued
 issued_part t (d ∷ newer) h issued = issued_part t newer h issued.1
 
 -- what is sent from the place of w, which holds it
-pub sent_by : (i : Loaded) (config : Configuration) (t u x : ℕ) (newer : List Done) (w : Done) (older : List Done) → IsWithinLimits config → AreTimed config (newer ++ (w ∷ older)) → AreIssuedBy u (newer ++ (w ∷ older)) → u ≡ t + 1 → is_some (step_dest w.step) ≡ true → holds_place t x w ≡ true
+pub sent_by : (i : Loaded) (config : Configuration) (t u x : ℕ) (newer : List Done) (w : Done) (older : List Done)
+    → IsWithinLimits config → AreTimed config (newer ++ (w ∷ older)) → AreIssuedBy u (newer ++ (w ∷ older)) → u ≡ t + 1
+    → is_some (step_dest w.step) ≡ true → holds_place t x w ≡ true
     → sent_at i u (newer ++ (w ∷ older)) x ≡ sends i u w older
 sent_by i config t u x newer w older good timed issued e dest held =
     let at : is_number (place_of w) x ≡ true = (and_parts (is_number (place_of w) x) (nat_lt t w.at.end) held).0 in
     let l : w.at.issue ≤ u = (issued_part u newer (w ∷ older) issued).0 in
-    sent_newer i config t u x newer (w ∷ older) good timed issued e (λ n between free. not_vacant t x between w older held free)
+    sent_newer i config t u x newer (w ∷ older) good timed issued e
+    (λ n between free. not_vacant t x between w older held free)
     ∙ sent_here i config t u x w older good (timed_part config newer (w ∷ older) timed) l e dest at
 
-waits_of : (v : ℕ) (w : Done) (t : ℕ) (tag : Tag) → tag_of w ≡ Some tag → t < w.at.end → field_from v (unsent_tag t w) ≡ Waits tag
+waits_of : (v : ℕ) (w : Done) (t : ℕ) (tag : Tag) → tag_of w ≡ Some tag → t < w.at.end
+    → field_from v (unsent_tag t w) ≡ Waits tag
 waits_of v w t tag e l = rw (lt-ltb t w.at.end l, e) refl
 
 value_of : (v : ℕ) (w : Done) (t : ℕ) → w.at.end ≤ t → field_from v (unsent_tag t w) ≡ Value v
 value_of v w t l = rw (le-ltb t w.at.end l) refl
 
-place_is : (w : Done) (tag : Tag) (t : ℕ) → tag_of w ≡ Some tag → t < w.at.end → holds_place t (place_of_tag tag) w ≡ true
+place_is : (w : Done) (tag : Tag) (t : ℕ) → tag_of w ≡ Some tag → t < w.at.end
+    → holds_place t (place_of_tag tag) w ≡ true
 place_is w tag t e l = rw (e, lt-ltb t w.at.end l, eq-eqb (place_of_tag tag) (place_of_tag tag) refl) refl
 
-heard_from : (i : Loaded) (config : Configuration) (t u v : ℕ) (newer : List Done) (w : Done) (older : List Done) → IsWithinLimits config → AreTimed config (newer ++ (w ∷ older)) → AreIssuedBy u (newer ++ (w ∷ older)) → u ≡ t + 1 → is_some (step_dest w.step) ≡ true → v ≡ result_of w.step (byte_after i (steps_in older))
+heard_from : (i : Loaded) (config : Configuration) (t u v : ℕ) (newer : List Done) (w : Done) (older : List Done)
+    → IsWithinLimits config → AreTimed config (newer ++ (w ∷ older)) → AreIssuedBy u (newer ++ (w ∷ older)) → u ≡ t + 1
+    → is_some (step_dest w.step) ≡ true → v ≡ result_of w.step (byte_after i (steps_in older))
     → heard (sent_at i u (newer ++ (w ∷ older))) (field_from v (unsent_tag t w)) ≡ field_from v (unsent_tag u w)
 heard_from i config t u v newer w older good timed issued e dest value = elim (cases_Bool (nat_lt t w.at.end)) [
   | inr l ↦
@@ -184,9 +218,12 @@ heard_from i config t u v newer w older good timed issued e dest value = elim (c
       rw (value_of v w t k, value_of v w u (omega arith)) refl
   | inl l ↦
       let k : t < w.at.end = ltb-true _ _ l in
-      let late : w.at.issue < w.at.end = dest_later config w older good (timed_part config newer (w ∷ older) timed) dest in
+      let late : w.at.issue < w.at.end =
+      dest_later config w older good (timed_part config newer (w ∷ older) timed) dest in
       let tag = tag_from (tag_of w) (place_there config w older (timed_part config newer (w ∷ older) timed).0 late) in
-      let sent : sent_at i u (newer ++ (w ∷ older)) (place_of_tag tag.0) ≡ sends i u w older = sent_by i config t u (place_of_tag tag.0) newer w older good timed issued e dest (place_is w tag.0 t tag.1 k) in
+      let sent : sent_at i u (newer ++ (w ∷ older)) (place_of_tag tag.0) ≡ sends i u w older =
+      sent_by i config t u (place_of_tag tag.0) newer w older good timed issued e dest (place_is w tag.0 t tag.1 k)
+      in
       elim (cases_Bool (w.at.end == u)) [
         | inl m ↦
             let n : w.at.end ≡ u = eqb-true _ _ m in
@@ -199,16 +236,24 @@ heard_from i config t u v newer w older good timed issued e dest value = elim (c
       ]
 ]
 
-heard_by : (i : Loaded) (config : Configuration) (t u : ℕ) (newer older : List Done) (o : Operand) → IsWithinLimits config → AreTimed config (newer ++ older) → AreIssuedBy u (newer ++ older) → u ≡ t + 1 → o.value ≡ register_after i (steps_in older) o.register → Writer i o.register older
+heard_by : (i : Loaded) (config : Configuration) (t u : ℕ) (newer older : List Done) (o : Operand)
+    → IsWithinLimits config → AreTimed config (newer ++ older) → AreIssuedBy u (newer ++ older) → u ≡ t + 1
+    → o.value ≡ register_after i (steps_in older) o.register → Writer i o.register older
     → heard (sent_at i u (newer ++ older)) (field_of t older (Some o)) ≡ field_of u older (Some o)
 heard_by i config t u newer older o good timed issued e value (nobody none) = rw (none t, none u) refl
 heard_by i config t u newer older o good timed issued e value (writes between w behind split dest from result) =
-    let whole : newer ++ older ≡ (newer ++ between) ++ (w ∷ behind) = ap (λ xs. newer ++ xs) split ∙ sym (append_assoc newer between (w ∷ behind)) in
-    let one : heard (sent_at i u ((newer ++ between) ++ (w ∷ behind))) (field_from o.value (unsent_tag t w)) ≡ field_from o.value (unsent_tag u w)
-    = heard_from i config t u o.value (newer ++ between) w behind good (rw (← whole) timed) (rw (← whole) issued) e dest (value ∙ result) in
+    let whole : newer ++ older ≡ (newer ++ between) ++ (w ∷ behind) =
+    ap (λ xs. newer ++ xs) split ∙ sym (append_assoc newer between (w ∷ behind)) in
+    let one : heard (sent_at i u ((newer ++ between) ++ (w ∷ behind))) (field_from o.value (unsent_tag t w))
+    ≡ field_from o.value (unsent_tag u w)
+    = heard_from i config t u o.value (newer ++ between) w behind good (rw (← whole) timed) (rw (← whole) issued) e dest
+    (value ∙ result) in
     rw (from t, from u, whole) one
 
 -- the broadcasts of a cycle make each operand what it is after that cycle
-pub heard_is : (i : Loaded) (config : Configuration) (t u : ℕ) (newer older : List Done) (o : Operand) → IsWithinLimits config → AreTimed config (newer ++ older) → AreIssuedBy u (newer ++ older) → u ≡ t + 1 → o.value ≡ register_after i (steps_in older) o.register
+pub heard_is : (i : Loaded) (config : Configuration) (t u : ℕ) (newer older : List Done) (o : Operand)
+    → IsWithinLimits config → AreTimed config (newer ++ older) → AreIssuedBy u (newer ++ older) → u ≡ t + 1
+    → o.value ≡ register_after i (steps_in older) o.register
     → heard (sent_at i u (newer ++ older)) (field_of t older (Some o)) ≡ field_of u older (Some o)
-heard_is i config t u newer older o good timed issued e value = heard_by i config t u newer older o good timed issued e value (writer_is i o.register older)
+heard_is i config t u newer older o good timed issued e value =
+    heard_by i config t u newer older o good timed issued e value (writer_is i o.register older)

@@ -1,5 +1,6 @@
 -- What a phase or a station shows is an event of the cycle.
-use Rattle.std.proofs.Common.{ℕ, ◌+◌, ◌^◌, ◌<◌, ◌≤◌, ◌≡◌, ◌∙◌, Bool, true, false, arith, refl, List, [], ◌∷◌, ◌++◌, Option, Some, None, ap, sym, inl, inr, ◌⊎◌, append_assoc, slice_index_or, length, max}
+use Rattle.std.proofs.Common.{ℕ, ◌+◌, ◌^◌, ◌<◌, ◌≤◌, ◌≡◌, ◌∙◌, Bool, true, false, arith, refl, List, [], ◌∷◌, ◌++◌}
+use Rattle.std.proofs.Common.{Option, Some, None, ap, sym, inl, inr, ◌⊎◌, append_assoc, slice_index_or, length, max}
 use Rattle.std.specs.Prelude.{◌≢◌, nat_lt, nat_le, ◌&&◌, ◌==◌, if◌then◌else◌, is_some, not}
 use Rattle.std.specs.Int.{w128, trailing_zeros}
 use Rattle.std.proofs.lemmas.Nat.Bits.{bit_at-trailing_zeros, bit_at_above}
@@ -33,15 +34,16 @@ use Rattle.tomex_cycle.specs.declared.fetch.Fetch.{Fetch}
 use Rattle.tomex_rvexec.specs.Memory.{Bytes}
 use Rattle.tomex_rvexec.specs.declared.outcome.Fault.{Fault}
 use Rattle.tomex_tags.specs.declared.register_status.RegStatus.{RegStatus}
-use Rattle.tomex_cycle.specs.Run.{AreIssuedBy, IsHistory, run_to}
+use Rattle.tomex_cycle.specs.Run.{AreIssuedBy, IsHistory, first_timed}
 use Rattle.tomex_cycle.specs.Starts.{IsStarting}
-use Rattle.tomex_cycle.specs.Views.{Clocks, clocks, holds_place, order_of, place_of, station_at, station_of, ShowsStations}
-use Rattle.tomex_cycle.proofs.Addresses.{chosen, holds_by, none_waits, not_le, test_is, waits_for_address}
+use Rattle.tomex_cycle.specs.Views.{Clocks, clocks, holds_place, order_of, place_of, station_at, station_of}
+use Rattle.tomex_cycle.specs.Views.{ShowsStations}
+use Rattle.tomex_cycle.proofs.AddressChosen.{chosen, holds_by, none_waits, not_le, or_else, test_is, waits_for_address}
 use Rattle.tomex_cycle.proofs.EndsFetch.{ending_low}
 use Rattle.tomex_cycle.proofs.EndsPass.{ending_is, ends_in}
 use Rattle.tomex_cycle.proofs.Fields.{timed_part, issued_part}
 use Rattle.tomex_cycle.proofs.Places.{low, place_low, station_here}
-use Rattle.tomex_cycle.proofs.Quiet.{AllStill}
+use Rattle.tomex_cycle.proofs.Quiet.{AllQuiet}
 use Rattle.tomex_cycle.proofs.Runs.{rest_to, run_history}
 use Rattle.tomex_cycle.proofs.StartsPicked.{starting_is, starts_at}
 use Rattle.tomex_cycle.proofs.Totals.{issued_more}
@@ -67,9 +69,16 @@ finish_event u at e = rw (eq-eqb at.finish u e) (omega arith)
 end_event : (u : ℕ) (at : Times) → at.end ≡ u → 0 < events_of u at
 end_event u at e = rw (eq-eqb at.end u e) (omega arith)
 
-pub still_none : (u : ℕ) (h : List Done) → AllStill u h → events_in u h ≡ 0
-still_none u [] still = refl
-still_none u (d ∷ h) still = rw (ne_eqb d.at.issue u still.0.issue, ne_eqb (cycle_of d.at.address) u still.0.address, ne_eqb d.at.start u still.0.start, ne_eqb d.at.finish u still.0.finish, ne_eqb d.at.end u still.0.end) (let z : events_in u h ≡ 0 = still_none u h still.1 in omega arith)
+pub quiet_none : (u : ℕ) (h : List Done) → AllQuiet u h → events_in u h ≡ 0
+quiet_none u [] quiet = refl
+quiet_none u (d ∷ h) quiet = rw (
+  ne_eqb d.at.issue u quiet.0.issue,
+  ne_eqb (cycle_of d.at.address) u quiet.0.address,
+  ne_eqb d.at.start u quiet.0.start,
+  ne_eqb d.at.finish u quiet.0.finish,
+  ne_eqb d.at.end u quiet.0.end,
+)
+    (let z : events_in u h ≡ 0 = quiet_none u h quiet.1 in omega arith)
 
 pub events_older : (u : ℕ) (newer h : List Done) → events_in u h ≤ events_in u (newer ++ h)
 events_older u [] h = omega arith
@@ -111,14 +120,20 @@ member_of set fits some =
     let here : has set (trailing_zeros w128 set) ≡ true = has_one set (trailing_zeros w128 set) one.1 in
     let small : trailing_zeros w128 set < 128 = elim (cases_Bool (nat_lt (trailing_zeros w128 set) 128)) [
       | inl l ↦ ltb-true _ _ l
-      | inr l ↦ absurd (both_ways (has set (trailing_zeros w128 set)) (has_none set (trailing_zeros w128 set) (bit_at_above set 128 (trailing_zeros w128 set) fits (ltb-false _ _ l))) here)
+      | inr l ↦ absurd (both_ways (has set (trailing_zeros w128 set))
+          (has_none set (trailing_zeros w128 set)
+          (bit_at_above set 128 (trailing_zeros w128 set) fits (ltb-false _ _ l))) here)
     ] in
     (trailing_zeros w128 set, small, here)
 
-pub start_happens : (i : Loaded) (config : Configuration) (t u : ℕ) (st : Pools) (h : List Done) (starting : ℕ) → IsHistory i config h → AreIssuedBy t h → ShowsStations i (clocks t t t) h st → AreBusy st.slots st.busy st.issue_numbers → IsStarting config st u starting → u ≡ t + 1 → starting < 2 ^ 128 → starting ≢ 0 → 0 < events_in u h
+pub start_happens : (i : Loaded) (config : Configuration) (t u : ℕ) (st : Pools) (h : List Done) (starting : ℕ)
+    → IsHistory i config h → AreIssuedBy t h → ShowsStations i (clocks t t t) h st
+    → AreBusy st.slots st.busy st.issue_numbers → IsStarting config st u starting → u ≡ t + 1 → starting < 2 ^ 128
+    → starting ≢ 0 → 0 < events_in u h
 start_happens i config t u st h starting past issued shown filled begins e fits some =
     let x = member_of starting fits some in
-    starts_happen t u x.0 h (sym (starting_is i config t u x.0 st h starting past.lawful past.timed issued shown filled begins e x.1) ∙ x.2)
+    starts_happen t u x.0 h (sym (starting_is i config t u x.0 st h starting past.lawful past.timed issued shown filled
+    begins e x.1) ∙ x.2)
 
 -- Ends.
 
@@ -132,10 +147,14 @@ ends_happen u x (d ∷ h) e = elim (cases_Bool (is_number (place_of d) x && (d.a
   | inr k ↦ let more : 0 < events_in u h = ends_happen u x h (rw k at e) in omega arith
 ]
 
-pub end_happens : (i : Loaded) (config : Configuration) (t u : ℕ) (st : Pools) (h : List Done) (ending : ℕ) → IsHistory i config h → AreIssuedBy u h → ShowsStations i (clocks u u t) h st → AreBusy st.slots st.busy st.issue_numbers → AreEnding st config.buses u ending → u ≡ t + 1 → ending < 2 ^ 128 → ending ≢ 0 → 0 < events_in u h
+pub end_happens : (i : Loaded) (config : Configuration) (t u : ℕ) (st : Pools) (h : List Done) (ending : ℕ)
+    → IsHistory i config h → AreIssuedBy u h → ShowsStations i (clocks u u t) h st
+    → AreBusy st.slots st.busy st.issue_numbers → AreEnding st config.buses u ending → u ≡ t + 1 → ending < 2 ^ 128
+    → ending ≢ 0 → 0 < events_in u h
 end_happens i config t u st h ending past issued shown filled ends e fits some =
     let x = member_of ending fits some in
-    ends_happen u x.0 h (sym (ending_is i config t u x.0 st h ending past.lawful past.timed issued e shown filled ends (ending_low st config.buses u ending ends filled x.0 x.1 x.2)) ∙ x.2)
+    ends_happen u x.0 h (sym (ending_is i config t u x.0 st h ending past.lawful past.timed issued e shown filled ends
+    (ending_low st config.buses u ending ends filled x.0 x.1 x.2)) ∙ x.2)
 
 -- Finishes.
 
@@ -145,7 +164,8 @@ done_in c start finish v e = elim (cases_Bool (nat_le start c)) [
   | inr l ↦ let f : false ≡ true = rw l at e in absurd (cc)
 ]
 
-pub finish_happens : (i : Loaded) (c : Clocks) (v x : ℕ) (h : List Done) → finishes v (station_at i c h x) ≡ true → 0 < events_in v h
+pub finish_happens : (i : Loaded) (c : Clocks) (v x : ℕ) (h : List Done) → finishes v (station_at i c h x) ≡ true
+    → 0 < events_in v h
 finish_happens i c v x [] e = absurd (cc)
 finish_happens i c v x (d ∷ h) e = elim (cases_Bool (holds_place c.end x d)) [
   | inl k ↦
@@ -158,24 +178,31 @@ finish_happens i c v x (d ∷ h) e = elim (cases_Bool (holds_place c.end x d)) [
 pub not_zero : (n : ℕ) → not (n == 0) ≡ true → n ≢ 0
 not_zero n e z = let f : false ≡ true = rw (eq-eqb n 0 z) at e in absurd (cc)
 
-pub due_happens : (i : Loaded) (t u : ℕ) (st : Pools) (h : List Done) (due : ℕ) → ShowsStations i (clocks u u t) h st → AreDone st.slots u due → due < 2 ^ 128 → due ≢ 0 → 0 < events_in u h
+pub due_happens : (i : Loaded) (t u : ℕ) (st : Pools) (h : List Done) (due : ℕ) → ShowsStations i (clocks u u t) h st
+    → AreDone st.slots u due → due < 2 ^ 128 → due ≢ 0 → 0 < events_in u h
 due_happens i t u st h due shown done fits some =
     let x = member_of due fits some in
     let finishes_now : finishes u (slice_index_or st.slots x.0 None) ≡ true = sym (done x.0 x.1) ∙ x.2 in
     let low : x.0 < 96 = elim (cases_Bool (nat_lt x.0 96)) [
       | inl l ↦ ltb-true _ _ l
-      | inr l ↦ let count : length st.slots ≡ 96 = shown.places in let high : 96 ≤ x.0 = ltb-false _ _ l in absurd (both_ways _ (ap (finishes u) (get_or_past st.slots x.0 None (omega arith))) finishes_now)
+      | inr l ↦ let count : length st.slots ≡ 96 = shown.places in let high : 96 ≤ x.0 = ltb-false _ _ l in
+          absurd (both_ways _ (ap (finishes u) (get_or_past st.slots x.0 None (omega arith))) finishes_now)
     ] in
     finish_happens i (clocks u u t) u x.0 h (ap (finishes u) (sym (shown.slots x.0 low)) ∙ finishes_now)
 
 -- Issues.
 
-pub issue_happens : (i : Loaded) (config : Configuration) (n t u count more : ℕ) (s : State) (kind : EndKind) → IsWithinLimits config → RunEnds i n s kind → u ≡ t + 1 → (count ≤ n → IsYetToIssue i config count t) → count ≤ more → more ≤ n + 1 → more ≢ count → AreIssuedBy u (run_to config i more) → 0 < events_in u (run_to config i more)
+pub issue_happens : (i : Loaded) (config : Configuration) (n t u count more : ℕ) (s : State) (kind : EndKind)
+    → IsWithinLimits config → RunEnds i n s kind → u ≡ t + 1 → (count ≤ n → IsYetToIssue i config count t)
+    → count ≤ more → more ≤ n + 1 → more ≢ count → AreIssuedBy u (first_timed config i more)
+    → 0 < events_in u (first_timed config i more)
 issue_happens i config n t u count more s kind good ends e yet l few apart issued =
     let rest = rest_to config i n count more t s kind good ends yet l few in
-    rw rest.1.same (some_issue t u rest.0 (run_to config i count) e rest.1.later (rw rest.1.same at issued) (let c : more ≡ length rest.0 + count = rest.1.count in omega arith))
+    rw rest.1.same (some_issue t u rest.0 (first_timed config i count) e rest.1.later (rw rest.1.same at issued)
+    (let c : more ≡ length rest.0 + count = rest.1.count in omega arith))
   where
-    some_issue : (t u : ℕ) (newer h : List Done) → u ≡ t + 1 → Rattle.tomex_cycle.proofs.Runs.AreLater t newer → AreIssuedBy u (newer ++ h) → 0 < length newer → 0 < events_in u (newer ++ h)
+    some_issue : (t u : ℕ) (newer h : List Done) → u ≡ t + 1 → Rattle.tomex_cycle.proofs.Runs.AreLater t newer
+        → AreIssuedBy u (newer ++ h) → 0 < length newer → 0 < events_in u (newer ++ h)
     some_issue t u [] h e later issued l = absurd (omega arith)
     some_issue t u (d ∷ newer) h e later issued l =
         let a : t < d.at.issue = later.0 in
@@ -190,13 +217,18 @@ there_by (Value v) e = refl
 there_by (Waits tag) e = absurd (cc)
 there_by Unread e = refl
 
-pub chosen_happens : (i : Loaded) (config : Configuration) (t u x : ℕ) (st : Pools) (h newer part : List Done) → IsWithinLimits config → AreTimed config h → AreIssuedBy t h → u ≡ t + 1 → ShowsStations i (clocks u t t) h st → h ≡ newer ++ part
+pub chosen_happens : (i : Loaded) (config : Configuration) (t u x : ℕ) (st : Pools) (h newer part : List Done)
+    → IsWithinLimits config → AreTimed config h → AreIssuedBy t h → u ≡ t + 1 → ShowsStations i (clocks u t t) h st
+    → h ≡ newer ++ part
     → chosen t part ≡ Some x → has_base (slice_index_or st.slots x None) ≡ true → 0 < events_in u part
 chosen_happens i config t u x st h newer [] good timed issued e shown split c base = absurd (cc)
 chosen_happens i config t u x st h newer (d ∷ older) good timed issued e shown split c base =
-    elder (chosen t older) refl c (λ k. chosen_happens i config t u x st h (newer ++ (d ∷ [])) older good timed issued e shown (split ∙ sym (append_assoc newer (d ∷ []) older)) k base)
+    elder (chosen t older) refl c (λ k. chosen_happens i config t u x st h (newer ++ (d ∷ [])) older good timed issued e
+    shown (split ∙ sym (append_assoc newer (d ∷ []) older)) k base)
   where
-    elder : (o : Option ℕ) → chosen t older ≡ o → Rattle.tomex_cycle.proofs.Addresses.or_else o (if waits_for_address t d then place_of d else None) ≡ Some x → (chosen t older ≡ Some x → 0 < events_in u older) → 0 < events_in u (d ∷ older)
+    elder : (o : Option ℕ) → chosen t older ≡ o
+        → or_else o (if waits_for_address t d then place_of d else None) ≡ Some x
+        → (chosen t older ≡ Some x → 0 < events_in u older) → 0 < events_in u (d ∷ older)
     elder (Some z) f c again =
         let same : z ≡ x = cc in
         let more : 0 < events_in u older = again (f ∙ ap (λ (k : ℕ). Some k) same) in
@@ -216,23 +248,33 @@ chosen_happens i config t u x st h newer (d ∷ older) good timed issued e shown
           let test = test_is config t u d older part.0 part.1 mine e b.0 last late in
           let held : holds_place t x d ≡ true = holds_by t x d place w in
           let small : x < 96 = place_low (step_pool d.step) d.at.station x (low config (d ∷ older) good part).0 place in
-          let there : station_at i (clocks u t t) (newer ++ (d ∷ older)) x ≡ Some (station_of i (clocks u t t) d older) = station_here i config (clocks u t t) newer d older x good here (issued_more t (t + 1) (newer ++ (d ∷ older)) (omega arith) by) held in
-          let slot : slice_index_or st.slots x None ≡ Some (station_of i (clocks u t t) d older) = shown.slots x small ∙ (ap (λ xs. station_at i (clocks u t t) xs x) split ∙ there) in
+          let there : station_at i (clocks u t t) (newer ++ (d ∷ older)) x ≡ Some (station_of i (clocks u t t) d older)
+          = station_here i config (clocks u t t) newer d older x good here
+          (issued_more t (t + 1) (newer ++ (d ∷ older)) (omega arith) by) held in
+          let slot : slice_index_or st.slots x None ≡ Some (station_of i (clocks u t t) d older) =
+          shown.slots x small ∙ (ap (λ xs. station_at i (clocks u t t) xs x) split ∙ there) in
           let value : is_value (field_of t older (j_of d.step)) ≡ true = ap has_base (sym slot) ∙ base in
-          let at : cycle_of d.at.address ≡ u = eqb-true _ _ (sym test ∙ there_by (field_of t older (j_of d.step)) value) in
+          let at : cycle_of d.at.address ≡ u =
+          eqb-true _ _ (sym test ∙ there_by (field_of t older (j_of d.step)) value) in
           let one : 0 < events_of u d.at = address_event u d.at at in
           omega arith
     ]
 
 -- the phase, by the search for the next address
-pub address_happens : (next x : ℕ) (old : Pools) → AreBusy old.slots old.busy old.issue_numbers → ((order : List ℕ) → IsInIssueOrder old.busy old.issue_numbers order → Some x ≡ next_address old.slots order) → AddressHappens next old
+pub address_happens : (next x : ℕ) (old : Pools) → AreBusy old.slots old.busy old.issue_numbers
+    → ((order : List ℕ) → IsInIssueOrder old.busy old.issue_numbers order → Some x ≡ next_address old.slots order)
+    → AddressHappens next old
 address_happens next x old filled some i config h t e past issued shown =
-    let by : IsInIssueOrder old.busy old.issue_numbers (order_of t h) = order_is i config (clocks next t t) h old past.lawful past.timed (issued_more t (t + 1) h (omega arith) issued) shown filled in
-    let waits : first_waiting old.slots (order_of t h) ≡ chosen t h = waiting_is i config t next old h [] h past.lawful past.timed issued shown refl in
+    let by : IsInIssueOrder old.busy old.issue_numbers (order_of t h) =
+    order_is i config (clocks next t t) h old past.lawful past.timed (issued_more t (t + 1) h (omega arith) issued)
+    shown filled in
+    let waits : first_waiting old.slots (order_of t h) ≡ chosen t h =
+    waiting_is i config t next old h [] h past.lawful past.timed issued shown refl in
     let found = here old.slots (chosen t h) (rw waits at (some (order_of t h) by)) in
     chosen_happens i config t next x old h [] h past.lawful past.timed issued e shown refl found.0 found.1
   where
-    here : (slots : List (Option Station)) (o : Option ℕ) → Some x ≡ where_base_is_there slots o → (o ≡ Some x) × (has_base (slice_index_or slots x None) ≡ true)
+    here : (slots : List (Option Station)) (o : Option ℕ) → Some x ≡ where_base_is_there slots o → (o ≡ Some x)
+        × (has_base (slice_index_or slots x None) ≡ true)
     here slots None e = absurd (cc)
     here slots (Some y) e = elim (cases_Bool (has_base (slice_index_or slots y None))) [
       | inl k ↦
@@ -243,30 +285,44 @@ address_happens next x old filled some i config h t e past issued shown =
     ]
 
 -- what happens in a part of a run happens in the run
-pub run_happens : (config : Configuration) (i : Loaded) (n k u : ℕ) (s : State) (kind : EndKind) → RunEnds i n s kind → k ≤ n + 1 → 0 < events_in u (run_to config i k) → 0 < events_in u (run_to config i (n + 1))
+pub run_happens : (config : Configuration) (i : Loaded) (n k u : ℕ) (s : State) (kind : EndKind) → RunEnds i n s kind
+    → k ≤ n + 1 → 0 < events_in u (first_timed config i k) → 0 < events_in u (first_timed config i (n + 1))
 run_happens config i n k u s kind ends l some =
     let part = run_split config i n k (n + 1) s kind ends l (omega arith) in
-    let more : events_in u (run_to config i k) ≤ events_in u (part.0 ++ run_to config i k) = events_older u part.0 (run_to config i k) in
+    let more : events_in u (first_timed config i k) ≤ events_in u (part.0 ++ first_timed config i k) =
+    events_older u part.0 (first_timed config i k) in
     rw part.1 (omega arith)
 
 -- a cycle whose phases tell of something has an event
-pub cycle_happens : (i : Loaded) (config : Configuration) (n t next count c : ℕ) (s : State) (kind : EndKind) (fault : Option Fault) (any addressed ended : Bool)
+pub cycle_happens : (i : Loaded) (config : Configuration) (n t next count c : ℕ) (s : State) (kind : EndKind)
+    (fault : Option Fault) (any addressed ended : Bool)
     (st0 st1 st3 : Pools) (rg0 rg1 : RegStatus) (ft0 ft1 : Fetch) (m0 m1 : Bytes)
-    → MakesStarts config next st0 m0 fault st1 m1 → (any ≡ true → StartsHappen config next st0) → (addressed ≡ true → AddressHappens next st1) → (ended ≡ true → EndsHappen config next st3)
-    → IsUnderWay i config n t next count c fault st3 rg1 ft1 m1 → RunEnds i n s kind → next ≡ t + 1 → IsWithinLimits config → IsLoaded i.window i.memory i.entry → IsSnapshot i config n t count st0 rg0 ft0 m0
-    → (any ≡ true) ⊎ ((addressed ≡ true) ⊎ ((c ≢ count) ⊎ (ended ≡ true))) → 0 < events_in next (run_to config i (n + 1))
-cycle_happens i config n t next count c s kind fault any addressed ended st0 st1 st3 rg0 rg1 ft0 ft1 m0 m1 starts a b d on ends e good loaded old which =
+    → MakesStarts config next st0 m0 fault st1 m1 → (any ≡ true → StartsHappen config next st0)
+    → (addressed ≡ true → AddressHappens next st1) → (ended ≡ true → EndsHappen config next st3)
+    → IsUnderWay i config n t next count c fault st3 rg1 ft1 m1 → RunEnds i n s kind → next ≡ t + 1
+    → IsWithinLimits config → IsLoaded i.window i.memory i.entry → IsSnapshot i config n t count st0 rg0 ft0 m0
+    → (any ≡ true) ⊎ ((addressed ≡ true) ⊎ ((c ≢ count) ⊎ (ended ≡ true)))
+    → 0 < events_in next (first_timed config i (n + 1))
+cycle_happens i config n t next count c s kind fault any addressed ended st0 st1 st3 rg0 rg1 ft0 ft1 m0 m1 starts a b d
+    on ends e good loaded old which =
     let few : count ≤ n + 1 = old.issue.few in
-    let h0 : IsHistory i config (run_to config i count) = run_history config i n count s kind good loaded ends few in
+    let h0 : IsHistory i config (first_timed config i count) =
+    run_history config i n count s kind good loaded ends few in
     elim which [
-      | inl k ↦ run_happens config i n count next s kind ends few (a k i (run_to config i count) t e h0 old.issue.issued old.issue.slots)
+      | inl k ↦ run_happens config i n count next s kind ends few
+          (a k i (first_timed config i count) t e h0 old.issue.issued old.issue.slots)
       | inr other ↦ elim other [
         | inl k ↦
-            let made = starts i (run_to config i count) t e h0 old.issue.issued old.issue.slots old.bytes in
-            run_happens config i n count next s kind ends few (b k i config (run_to config i count) t e h0 old.issue.issued made.1)
+            let made = starts i (first_timed config i count) t e h0 old.issue.issued old.issue.slots old.bytes in
+            run_happens config i n count next s kind ends few
+            (b k i config (first_timed config i count) t e h0 old.issue.issued made.1)
         | inr other ↦ elim other [
-          | inl k ↦ run_happens config i n c next s kind ends on.after.few (issue_happens i config n t next count c s kind good ends e old.issue.next on.low on.after.few k on.after.issued)
-          | inr k ↦ run_happens config i n c next s kind ends on.after.few (d k i (run_to config i c) t e (run_history config i n c s kind good loaded ends on.after.few) on.after.issued on.after.slots)
+          | inl k ↦ run_happens config i n c next s kind ends on.after.few
+              (issue_happens i config n t next count c s kind good ends e old.issue.next on.low on.after.few k
+              on.after.issued)
+          | inr k ↦ run_happens config i n c next s kind ends on.after.few
+              (d k i (first_timed config i c) t e (run_history config i n c s kind good loaded ends on.after.few)
+              on.after.issued on.after.slots)
         ]
       ]
     ]

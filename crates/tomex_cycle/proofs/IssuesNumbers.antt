@@ -1,8 +1,10 @@
 -- The numbers of a pool's stations: which are free, and how many are held.
-use Rattle.std.proofs.Common.{ℕ, zero, suc, ◌+◌, ◌*◌, ◌<◌, ◌≤◌, ◌≡◌, ◌∙◌, Bool, true, false, cond, arith, refl, List, [], ◌∷◌, Option, Some, None, ap, sym, inl, inr}
+use Rattle.std.proofs.Common.{ℕ, zero, suc, ◌+◌, ◌*◌, ◌<◌, ◌≤◌, ◌≡◌, ◌∙◌, Bool, true, false, cond, arith, refl, List}
+use Rattle.std.proofs.Common.{[], ◌∷◌, Option, Some, None, ap, sym, inl, inr}
 use Rattle.std.specs.Prelude.{nat_lt, nat_le, ◌&&◌, ◌==◌, not, count_by, is_none, MatchOption}
 use Rattle.std.specs.List.{list_all}
-use Rattle.std.proofs.lemmas.Bool.{cases_Bool, cases_order, ltb-true, lt-ltb, le-ltb, leb-true, leb-false, le-leb, lt-leb, and_parts, eqb-true, eq-eqb, ne_eqb, both_ways}
+use Rattle.std.proofs.lemmas.Bool.{cases_Bool, cases_order, ltb-true, lt-ltb, le-ltb, leb-true, leb-false, le-leb}
+use Rattle.std.proofs.lemmas.Bool.{lt-leb, and_parts, eqb-true, eq-eqb, ne_eqb, both_ways}
 use Rattle.std.proofs.lemmas.List.Sums.{sum_by-cons}
 use Rattle.tomex_image.specs.Image.{Loaded}
 use Rattle.tomex_config.specs.Configuration.{Configuration, stations_of}
@@ -50,21 +52,28 @@ count_later p t u (d ∷ h) l =
     let b : one (is_held p u d) ≤ one (is_held p t d) = one_le (is_held p u d) (is_held p t d) (held_later p t u d l) in
     rw (sum_by-cons, sum_by-cons) (omega arith)
 
-room_of : (config : Configuration) (older : List Done) (p : PoolId) (pool : Option PoolId) (t : ℕ) → is_in p pool ≡ true → has_station config older pool t ≡ true → count_by (is_held p t) older < stations_of config p
+room_of : (config : Configuration) (older : List Done) (p : PoolId) (pool : Option PoolId) (t : ℕ) → is_in p pool ≡ true
+    → has_station config older pool t ≡ true → count_by (is_held p t) older < stations_of config p
 room_of config older p None t e has = absurd (cc)
-room_of config older p (Some q) t e has = rw (same_pool p q e) at (ltb-true (count_by (is_held q t) older) (stations_of config q) has)
+room_of config older p (Some q) t e has =
+    rw (same_pool p q e) at (ltb-true (count_by (is_held q t) older) (stations_of config q) has)
 
 -- a pool's stations are enough for those that are held
-pub held_most : (config : Configuration) (p : PoolId) (u : ℕ) (h : List Done) → AreTimed config h → AreIssuedBy u h → count_by (is_held p u) h ≤ stations_of config p
+pub held_most : (config : Configuration) (p : PoolId) (u : ℕ) (h : List Done) → AreTimed config h → AreIssuedBy u h
+    → count_by (is_held p u) h ≤ stations_of config p
 held_most config p u [] timed issued = omega arith
 held_most config p u (d ∷ older) timed issued = elim (cases_Bool (is_held p u d)) [
   | inr e ↦
       let k : count_by (is_held p u) older ≤ stations_of config p = held_most config p u older timed.1 issued.1 in
       rw (sum_by-cons, e) (omega arith)
   | inl e ↦
-      let has : has_station config older (step_pool d.step) d.at.issue ≡ true = issue_station config older d.step d.at.issue timed.0.issue.0 in
-      let f : count_by (is_held p d.at.issue) older < stations_of config p = room_of config older p (step_pool d.step) d.at.issue (and_parts (is_in p (step_pool d.step)) (nat_le u d.at.end) e).0 has in
-      let m : count_by (is_held p u) older ≤ count_by (is_held p d.at.issue) older = count_later p d.at.issue u older issued.0 in
+      let has : has_station config older (step_pool d.step) d.at.issue ≡ true =
+      issue_station config older d.step d.at.issue timed.0.issue.0 in
+      let f : count_by (is_held p d.at.issue) older < stations_of config p =
+      room_of config older p (step_pool d.step) d.at.issue
+      (and_parts (is_in p (step_pool d.step)) (nat_le u d.at.end) e).0 has in
+      let m : count_by (is_held p u) older ≤ count_by (is_held p d.at.issue) older =
+      count_later p d.at.issue u older issued.0 in
       rw (sum_by-cons, e) (omega arith)
 ]
 
@@ -77,11 +86,18 @@ lower (Some m) n = nat_lt m n
 split_number : (m n : ℕ) → one (nat_lt m (suc n)) ≡ one (nat_lt m n) + one (m == n)
 split_number m n = elim (cases_order m n) [
   | inl e ↦ rw (e, lt-ltb n (suc n) (omega arith), le-ltb n n (omega arith), eq-eqb n n refl) refl
-  | inr (inl l) ↦ rw (lt-ltb m (suc n) (omega arith), lt-ltb m n l, ne_eqb m n (λ (e : m ≡ n). absurd (omega arith))) refl
-  | inr (inr l) ↦ rw (le-ltb m (suc n) (omega arith), le-ltb m n (omega arith), ne_eqb m n (λ (e : m ≡ n). absurd (omega arith))) refl
+  | inr (inl l) ↦ rw (lt-ltb m (suc n) (omega arith), lt-ltb m n l, ne_eqb m n (λ (e : m ≡ n). absurd (omega arith)))
+      refl
+  | inr (inr l) ↦ rw (
+    le-ltb m (suc n) (omega arith),
+    le-ltb m n (omega arith),
+    ne_eqb m n
+        (λ (e : m ≡ n). absurd (omega arith)),
+  ) refl
 ]
 
-split_one : (b : Bool) (st : Option ℕ) (n : ℕ) → one (b && lower st (suc n)) ≡ one (b && lower st n) + one (b && is_number st n)
+split_one : (b : Bool) (st : Option ℕ) (n : ℕ) → one (b && lower st (suc n)) ≡ one (b && lower st n)
+    + one (b && is_number st n)
 split_one false st n = refl
 split_one true None n = refl
 split_one true (Some m) n = split_number m n
@@ -92,11 +108,13 @@ below p u n d = is_held p u d && lower d.at.station n
 abbrev numbered : PoolId → ℕ → ℕ → Done → Bool
 numbered p u k d = is_held p u d && is_number d.at.station k
 
-split_count : (p : PoolId) (u n : ℕ) (h : List Done) → count_by (below p u (suc n)) h ≡ count_by (below p u n) h + count_by (numbered p u n) h
+split_count : (p : PoolId) (u n : ℕ) (h : List Done) → count_by (below p u (suc n)) h ≡ count_by (below p u n) h
+    + count_by (numbered p u n) h
 split_count p u n [] = refl
 split_count p u n (d ∷ h) =
     let e = split_count p u n h in
-    let f : one (is_held p u d && lower d.at.station (suc n)) ≡ one (is_held p u d && lower d.at.station n) + one (is_held p u d && is_number d.at.station n) = split_one (is_held p u d) d.at.station n in
+    let f : one (is_held p u d && lower d.at.station (suc n)) ≡ one (is_held p u d && lower d.at.station n)
+    + one (is_held p u d && is_number d.at.station n) = split_one (is_held p u d) d.at.station n in
     rw (sum_by-cons, sum_by-cons, sum_by-cons) (omega arith)
 
 none_below : (p : PoolId) (u : ℕ) (h : List Done) → count_by (below p u 0) h ≡ 0
@@ -108,7 +126,8 @@ none_below p u (d ∷ h) = rw (sum_by-cons, none_below p u h) (zero_one (is_held
     zero_one true None = refl
     zero_one true (Some m) = rw (le-ltb m 0 (omega arith)) refl
 
-few_below : (p : PoolId) (u n : ℕ) (h : List Done) → ((k : ℕ) → count_by (numbered p u k) h ≤ 1) → count_by (below p u n) h ≤ n
+few_below : (p : PoolId) (u n : ℕ) (h : List Done) → ((k : ℕ) → count_by (numbered p u k) h ≤ 1)
+    → count_by (below p u n) h ≤ n
 few_below p u zero h each = let e = none_below p u h in omega arith
 few_below p u (suc n) h each =
     let a : count_by (below p u n) h ≤ n = few_below p u n h each in
@@ -116,7 +135,8 @@ few_below p u (suc n) h each =
     let e = split_count p u n h in
     omega arith
 
-less_below : (p : PoolId) (u n m : ℕ) (h : List Done) → ((k : ℕ) → count_by (numbered p u k) h ≤ 1) → m < n → count_by (numbered p u m) h ≡ 0 → count_by (below p u n) h < n
+less_below : (p : PoolId) (u n m : ℕ) (h : List Done) → ((k : ℕ) → count_by (numbered p u k) h ≤ 1) → m < n
+    → count_by (numbered p u m) h ≡ 0 → count_by (below p u n) h < n
 less_below p u zero m h each l none = absurd (omega arith)
 less_below p u (suc n) m h each l none =
     let e = split_count p u n h in
@@ -151,30 +171,40 @@ free_later : (p : PoolId) (t u k : ℕ) (h : List Done) → t ≤ u → is_free 
 free_later p t u k [] l e = refl
 free_later p t u k (d ∷ h) l e =
     let two = and_parts (not (is_held p t d && is_number d.at.station k)) (is_free p h t k) e in
-    rw (free_one (is_held p t d) (is_held p u d) (is_number d.at.station k) (held_later p t u d l) two.0, free_later p t u k h l two.1) refl
+    rw (
+      free_one (is_held p t d) (is_held p u d) (is_number d.at.station k) (held_later p t u d l) two.0,
+      free_later p t
+          u k h l two.1,
+    ) refl
 
 number_same : (station : Option ℕ) (n k : ℕ) → station ≡ Some n → is_number station k ≡ true → n ≡ k
 number_same None n k e f = absurd (cc)
 number_same (Some m) n k e f = let g : m ≡ k = eqb-true m k f in let s : m ≡ n = cc in sym s ∙ g
 
 -- the number that a step takes is free of older ones, and is one of the pool's
-taken_free : (older : List Done) (pool : Option PoolId) (station : Option ℕ) (issue k : ℕ) (p : PoolId) → is_in p pool ≡ true → is_number station k ≡ true
-    → MatchOption pool (station ≡ None) (λ p. (n : ℕ) × (station ≡ Some n) × IsLeast (is_free p older issue) n) → is_free p older issue k ≡ true
+taken_free : (older : List Done) (pool : Option PoolId) (station : Option ℕ) (issue k : ℕ) (p : PoolId)
+    → is_in p pool ≡ true → is_number station k ≡ true
+    → MatchOption pool (station ≡ None) (λ p. (n : ℕ) × (station ≡ Some n) × IsLeast (is_free p older issue) n)
+    → is_free p older issue k ≡ true
 taken_free older None station issue k p e f is = absurd (cc)
 taken_free older (Some q) station issue k p e f is = rw (same_pool p q e, number_same station is.0 k is.1 f) at is.2.0
 
-taken_low : (config : Configuration) (older : List Done) (pool : Option PoolId) (station : Option ℕ) (issue : ℕ) (p : PoolId) → is_in p pool ≡ true → has_station config older pool issue ≡ true
-    → MatchOption pool (station ≡ None) (λ p. (n : ℕ) × (station ≡ Some n) × IsLeast (is_free p older issue) n) → lower station (stations_of config p) ≡ true
+taken_low : (config : Configuration) (older : List Done) (pool : Option PoolId) (station : Option ℕ) (issue : ℕ)
+    (p : PoolId) → is_in p pool ≡ true → has_station config older pool issue ≡ true
+    → MatchOption pool (station ≡ None) (λ p. (n : ℕ) × (station ≡ Some n) × IsLeast (is_free p older issue) n)
+    → lower station (stations_of config p) ≡ true
 taken_low config older None station issue p e has is = absurd (cc)
 taken_low config older (Some q) station issue p e has is =
     let found = number_is config older q issue has in
-    let same : is.0 ≡ least (is_free q older issue) (stations_of config q) = least_same (is_free q older issue) _ _ is.2 found.0 in
+    let same : is.0 ≡ least (is_free q older issue) (stations_of config q) =
+    least_same (is_free q older issue) _ _ is.2 found.0 in
     let few : least (is_free q older issue) (stations_of config q) < stations_of config q = found.1 in
     let f : stations_of config q ≡ stations_of config p = ap (stations_of config) (same_pool p q e) in
     let s : station ≡ Some is.0 = is.1 in
     rw (s, lt-ltb is.0 (stations_of config p) (omega arith)) refl
 
-one_each : (config : Configuration) (p : PoolId) (u k : ℕ) (h : List Done) → AreTimed config h → AreIssuedBy u h → count_by (numbered p u k) h ≤ 1
+one_each : (config : Configuration) (p : PoolId) (u k : ℕ) (h : List Done) → AreTimed config h → AreIssuedBy u h
+    → count_by (numbered p u k) h ≤ 1
 one_each config p u k [] timed issued = omega arith
 one_each config p u k (d ∷ older) timed issued = elim (cases_Bool (numbered p u k d)) [
   | inr e ↦
@@ -183,28 +213,38 @@ one_each config p u k (d ∷ older) timed issued = elim (cases_Bool (numbered p 
   | inl e ↦
       let two = and_parts (is_held p u d) (is_number d.at.station k) e in
       let three = and_parts (is_in p (step_pool d.step)) (nat_le u d.at.end) two.0 in
-      let free : is_free p older d.at.issue k ≡ true = taken_free older (step_pool d.step) d.at.station d.at.issue k p three.0 two.1 timed.0.station in
-      let a : count_by (numbered p u k) older ≡ 0 = none_counted (numbered p u k) older (free_later p d.at.issue u k older issued.0 free) in
+      let free : is_free p older d.at.issue k ≡ true =
+      taken_free older (step_pool d.step) d.at.station d.at.issue k p three.0 two.1 timed.0.station in
+      let a : count_by (numbered p u k) older ≡ 0 =
+      none_counted (numbered p u k) older (free_later p d.at.issue u k older issued.0 free) in
       rw (sum_by-cons, e) (omega arith)
 ]
 
-all_below : (config : Configuration) (p : PoolId) (u : ℕ) (h : List Done) → AreTimed config h → count_by (is_held p u) h ≤ count_by (below p u (stations_of config p)) h
+all_below : (config : Configuration) (p : PoolId) (u : ℕ) (h : List Done) → AreTimed config h
+    → count_by (is_held p u) h ≤ count_by (below p u (stations_of config p)) h
 all_below config p u [] timed = omega arith
 all_below config p u (d ∷ older) timed =
-    let a : count_by (is_held p u) older ≤ count_by (below p u (stations_of config p)) older = all_below config p u older timed.1 in
+    let a : count_by (is_held p u) older ≤ count_by (below p u (stations_of config p)) older =
+    all_below config p u older timed.1 in
     elim (cases_Bool (is_held p u d)) [
       | inr e ↦ rw (sum_by-cons, sum_by-cons, e) (omega arith)
       | inl e ↦
-          let has : has_station config older (step_pool d.step) d.at.issue ≡ true = issue_station config older d.step d.at.issue timed.0.issue.0 in
-          let f : lower d.at.station (stations_of config p) ≡ true = taken_low config older (step_pool d.step) d.at.station d.at.issue p (and_parts (is_in p (step_pool d.step)) (nat_le u d.at.end) e).0 has timed.0.station in
+          let has : has_station config older (step_pool d.step) d.at.issue ≡ true =
+          issue_station config older d.step d.at.issue timed.0.issue.0 in
+          let f : lower d.at.station (stations_of config p) ≡ true =
+          taken_low config older (step_pool d.step) d.at.station d.at.issue p
+          (and_parts (is_in p (step_pool d.step)) (nat_le u d.at.end) e).0 has timed.0.station in
           rw (sum_by-cons, sum_by-cons, e, f) (omega arith)
     ]
 
 -- where a number of the pool is free, fewer stations are held than there are
-pub room : (config : Configuration) (p : PoolId) (u n : ℕ) (h : List Done) → AreTimed config h → AreIssuedBy u h → n < stations_of config p → is_free p h u n ≡ true → count_by (is_held p u) h < stations_of config p
+pub room : (config : Configuration) (p : PoolId) (u n : ℕ) (h : List Done) → AreTimed config h → AreIssuedBy u h
+    → n < stations_of config p → is_free p h u n ≡ true → count_by (is_held p u) h < stations_of config p
 room config p u n h timed issued l free =
     let a : count_by (is_held p u) h ≤ count_by (below p u (stations_of config p)) h = all_below config p u h timed in
-    let b : count_by (below p u (stations_of config p)) h < stations_of config p = less_below p u (stations_of config p) n h (λ k. one_each config p u k h timed issued) l (none_counted (numbered p u n) h free) in
+    let b : count_by (below p u (stations_of config p)) h < stations_of config p =
+    less_below p u (stations_of config p) n h (λ k. one_each config p u k h timed issued) l
+    (none_counted (numbered p u n) h free) in
     omega arith
 
 -- A number is free just where no station stands in its place.
@@ -225,14 +265,18 @@ swap_and true true false = refl
 swap_and true false true = refl
 swap_and true false false = refl
 
-holds_is : (p : PoolId) (t u n : ℕ) (d : Done) → u ≡ t + 1 → n < 16 → ((m : ℕ) → d.at.station ≡ Some m → m < 16) → (is_held p u d && is_number d.at.station n) ≡ holds_place t (16 * place_of_pool p + n) d
+holds_is : (p : PoolId) (t u n : ℕ) (d : Done) → u ≡ t + 1 → n < 16 → ((m : ℕ) → d.at.station ≡ Some m → m < 16)
+    → (is_held p u d && is_number d.at.station n) ≡ holds_place t (16 * place_of_pool p + n) d
 holds_is p t u n d e l low =
-    rw (same_place p n (step_pool d.step) d.at.station l low, still t u d.at.end e) (swap_and (is_in p (step_pool d.step)) (nat_lt t d.at.end) (is_number d.at.station n))
+    rw (same_place p n (step_pool d.step) d.at.station l low, still t u d.at.end e)
+    (swap_and (is_in p (step_pool d.step)) (nat_lt t d.at.end) (is_number d.at.station n))
 
-pub free_is : (i : Loaded) (p : PoolId) (t u n : ℕ) (h : List Done) → u ≡ t + 1 → n < 16 → AreLow h → is_free p h u n ≡ is_none (station_at i (clocks u u t) h (16 * place_of_pool p + n))
+pub free_is : (i : Loaded) (p : PoolId) (t u n : ℕ) (h : List Done) → u ≡ t + 1 → n < 16 → AreLow h
+    → is_free p h u n ≡ is_none (station_at i (clocks u u t) h (16 * place_of_pool p + n))
 free_is i p t u n [] e l low = refl
 free_is i p t u n (d ∷ h) e l low =
-    let same : (is_held p u d && is_number d.at.station n) ≡ holds_place t (16 * place_of_pool p + n) d = holds_is p t u n d e l low.0 in
+    let same : (is_held p u d && is_number d.at.station n) ≡ holds_place t (16 * place_of_pool p + n) d =
+    holds_is p t u n d e l low.0 in
     elim (cases_Bool (holds_place t (16 * place_of_pool p + n) d)) [
       | inl k ↦ rw (same, k) refl
       | inr k ↦ rw (same, k) (free_is i p t u n h e l low.1)

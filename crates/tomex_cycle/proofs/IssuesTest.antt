@@ -1,5 +1,6 @@
 -- Whether the next step can issue in a cycle: fetch and the pool's stations say so.
-use Rattle.std.proofs.Common.{ℕ, ◌+◌, ◌<◌, ◌≤◌, ◌≡◌, ◌∙◌, Bool, true, false, arith, refl, List, [], ◌∷◌, Option, Some, None, sym, inl, inr}
+use Rattle.std.proofs.Common.{ℕ, ◌+◌, ◌<◌, ◌≤◌, ◌≡◌, ◌∙◌, Bool, true, false, arith, refl, List, [], ◌∷◌, Option, Some}
+use Rattle.std.proofs.Common.{None, sym, inl, inr}
 use Rattle.std.specs.Prelude.{nat_lt, ◌&&◌, ◌||◌, not, Ok}
 use Rattle.std.proofs.lemmas.Bool.{cases_Bool, cases_order, ltb-true, ltb-false, lt-ltb, le-ltb, and_parts}
 use Rattle.tomex_image.specs.Image.{Loaded, IsLoaded}
@@ -22,7 +23,7 @@ use Rattle.tomex_timing.proofs.Search.{times_are}
 use Rattle.tomex_cycle.specs.declared.fetch.Fetch.{Fetch}
 use Rattle.tomex_cycle.specs.declared.fetch.Fetch.TheVariants.{At, Waits, Stopped}
 use Rattle.tomex_cycle.specs.Phases.{IsYetToIssue}
-use Rattle.tomex_cycle.specs.Run.{AreIssuedBy, run_to, steps_in}
+use Rattle.tomex_cycle.specs.Run.{AreIssuedBy, first_timed, steps_in}
 use Rattle.tomex_cycle.specs.Views.{fetch_after, fetch_of}
 use Rattle.tomex_cycle.proofs.Runs.{step_is, steps_are}
 use Rattle.tomex_cycle.proofs.Totals.{stops}
@@ -42,10 +43,12 @@ finished_later t u (d ∷ h) l e =
     let two = and_parts (not (is_branch d.step) || nat_lt d.at.finish t) (are_branches_finished h t) e in
     rw (done_later (is_branch d.step) t u d.at.finish l two.0, finished_later t u h l two.1) refl
 
-finished_from : (config : Configuration) (older : List Done) (x : Step) (t : ℕ) → can_issue config older x t ≡ true → are_branches_finished older t ≡ true
+finished_from : (config : Configuration) (older : List Done) (x : Step) (t : ℕ) → can_issue config older x t ≡ true
+    → are_branches_finished older t ≡ true
 finished_from config older x t e = (and_parts _ (are_branches_finished older t) (and_parts _ _ e).0).1
 
-finished_test : (b : Bool) (t u finish : ℕ) → u ≡ t + 1 → ((not b || nat_lt finish u) && true) ≡ not (b && nat_lt t finish)
+finished_test : (b : Bool) (t u finish : ℕ) → u ≡ t + 1
+    → ((not b || nat_lt finish u) && true) ≡ not (b && nat_lt t finish)
 finished_test false t u finish e = refl
 finished_test true t u finish e = elim (cases_Bool (nat_lt t finish)) [
   | inl l ↦ let k : t < finish = ltb-true t finish l in rw (l, le-ltb finish u (omega arith)) refl
@@ -53,25 +56,37 @@ finished_test true t u finish e = elim (cases_Bool (nat_lt t finish)) [
 ]
 
 -- only the youngest step can be a branch that hasn't finished
-pub branches_is : (config : Configuration) (t u : ℕ) (h : List Done) → AreTimed config h → AreIssuedBy u h → u ≡ t + 1 → are_branches_finished h u ≡ not (is_waiting t h)
+pub branches_is : (config : Configuration) (t u : ℕ) (h : List Done) → AreTimed config h → AreIssuedBy u h → u ≡ t + 1
+    → are_branches_finished h u ≡ not (is_waiting t h)
 branches_is config t u [] timed issued e = refl
 branches_is config t u (d ∷ older) timed issued e =
-    let before : are_branches_finished older u ≡ true = finished_later d.at.issue u older issued.0 (finished_from config older d.step d.at.issue timed.0.issue.0) in
+    let before : are_branches_finished older u ≡ true =
+    finished_later d.at.issue u older issued.0 (finished_from config older d.step d.at.issue timed.0.issue.0) in
     rw before (finished_test (is_branch d.step) t u d.at.finish e)
 
-can_from : (config : Configuration) (h : List Done) (x : Step) (u : ℕ) (b s : Bool) → 0 < u → can_issue_another config h u ≡ true → are_branches_finished h u ≡ b → has_station config h (step_pool x) u ≡ s → can_issue config h x u ≡ (b && s)
+can_from : (config : Configuration) (h : List Done) (x : Step) (u : ℕ) (b s : Bool) → 0 < u
+    → can_issue_another config h u ≡ true → are_branches_finished h u ≡ b → has_station config h (step_pool x) u ≡ s
+    → can_issue config h x u ≡ (b && s)
 can_from config h x u b s l slot e f = rw (lt-ltb 0 u l, slot, e, f) refl
 
 -- the test for issue in the cycle, where the width leaves one
-pub can_is : (config : Configuration) (h : List Done) (x : Step) (t u : ℕ) → AreTimed config h → AreIssuedBy u h → u ≡ t + 1 → can_issue_another config h u ≡ true → can_issue config h x u ≡ (not (is_waiting t h) && has_station config h (step_pool x) u)
-can_is config h x t u timed issued e slot = can_from config h x u _ _ (omega arith) slot (branches_is config t u h timed issued e) refl
+pub can_is : (config : Configuration) (h : List Done) (x : Step) (t u : ℕ) → AreTimed config h → AreIssuedBy u h → u ≡ t
+    + 1 → can_issue_another config h u ≡ true
+    → can_issue config h x u ≡ (not (is_waiting t h) && has_station config h (step_pool x) u)
+can_is config h x t u timed issued e slot =
+    can_from config h x u _ _ (omega arith) slot (branches_is config t u h timed issued e) refl
 
 -- what couldn't issue by t and can in the next cycle issues then
-pub issues_at : (config : Configuration) (h : List Done) (x : Step) (t u : ℕ) → IsWithinLimits config → AreTimed config h → u ≡ t + 1 → ((s : ℕ) → s ≤ t → can_issue config h x s ≡ false) → can_issue config h x u ≡ true → (times_of config h x).issue ≡ u
-issues_at config h x t u good timed e never can = least_same (can_issue config h x) _ u (times_are config h x good timed).issue (can, λ s l. never s (omega arith))
+pub issues_at : (config : Configuration) (h : List Done) (x : Step) (t u : ℕ) → IsWithinLimits config
+    → AreTimed config h → u ≡ t + 1 → ((s : ℕ) → s ≤ t → can_issue config h x s ≡ false) → can_issue config h x u ≡ true
+    → (times_of config h x).issue ≡ u
+issues_at config h x t u good timed e never can =
+    least_same (can_issue config h x) _ u (times_are config h x good timed).issue (can, λ s l. never s (omega arith))
 
 -- and what can't doesn't by then
-pub yet_more : (i : Loaded) (config : Configuration) (count t u : ℕ) → IsYetToIssue i config count t → ((x : Step) → step_after i count ≡ Some x → can_issue config (run_to config i count) x u ≡ false) → u ≡ t + 1 → IsYetToIssue i config count u
+pub yet_more : (i : Loaded) (config : Configuration) (count t u : ℕ) → IsYetToIssue i config count t
+    → ((x : Step) → step_after i count ≡ Some x → can_issue config (first_timed config i count) x u ≡ false) → u ≡ t + 1
+    → IsYetToIssue i config count u
 yet_more i config count t u yet never e x is s l = elim (cases_order s u) [
   | inl same ↦ rw same (never x is)
   | inr (inl less) ↦ yet x is s (omega arith)
@@ -80,7 +95,8 @@ yet_more i config count t u yet never e x is s l = elim (cases_order s u) [
 
 -- Fetch.
 
-at_parts : (x : Step) (w : Bool) (o : Option EndKind) (pc : ℕ) → fetch_after x w o ≡ At pc → (pc ≡ next_pc_of x) × (w ≡ false)
+at_parts : (x : Step) (w : Bool) (o : Option EndKind) (pc : ℕ) → fetch_after x w o ≡ At pc → (pc ≡ next_pc_of x)
+    × (w ≡ false)
 at_parts x w (Some kind) pc e = absurd (cc)
 at_parts x true None pc e = absurd (cc)
 at_parts x false None pc e = (cc, refl)
@@ -90,7 +106,8 @@ waits_parts x w (Some kind) e = absurd (cc)
 waits_parts x true None e = refl
 waits_parts x false None e = absurd (cc)
 
-pub at_is : (i : Loaded) (t pc : ℕ) (h : List Done) → fetch_of i t h ≡ At pc → (pc ≡ pc_after i (steps_in h)) × (is_waiting t h ≡ false)
+pub at_is : (i : Loaded) (t pc : ℕ) (h : List Done) → fetch_of i t h ≡ At pc → (pc ≡ pc_after i (steps_in h))
+    × (is_waiting t h ≡ false)
 at_is i t pc [] e = (cc, refl)
 at_is i t pc (d ∷ older) e = at_parts d.step (is_branch d.step && nat_lt t d.at.finish) (end_of d.step) pc e
 
@@ -102,17 +119,19 @@ at_stopped : (f : Fetch) (pc p : ℕ) (kind : EndKind) → f ≡ At pc → f ≡
 at_stopped f pc p kind e g = cc
 
 -- while fetch has an address steps are left
-pub left : (config : Configuration) (i : Loaded) (n t count pc : ℕ) (s : State) (kind : EndKind) → RunEnds i n s kind → count ≤ n + 1 → fetch_of i t (run_to config i count) ≡ At pc → count ≤ n
+pub left : (config : Configuration) (i : Loaded) (n t count pc : ℕ) (s : State) (kind : EndKind) → RunEnds i n s kind
+    → count ≤ n + 1 → fetch_of i t (first_timed config i count) ≡ At pc → count ≤ n
 left config i n t count pc s kind ends few e = elim (cases_order count (n + 1)) [
   | inl k ↦
       let z = stops config i n t s kind ends in
-      let f : fetch_of i t (run_to config i count) ≡ Stopped kind z.0.pc = rw k z.2 in
-      absurd (at_stopped (fetch_of i t (run_to config i count)) pc z.0.pc kind e f)
+      let f : fetch_of i t (first_timed config i count) ≡ Stopped kind z.0.pc = rw k z.2 in
+      absurd (at_stopped (fetch_of i t (first_timed config i count)) pc z.0.pc kind e f)
   | inr (inl less) ↦ omega arith
   | inr (inr more) ↦ absurd (omega arith)
 ]
 
-fetched_by : (i : Loaded) (older : List Step) (x : Step) (pc : ℕ) → Follows i older x → pc ≡ pc_after i older → (pc ≡ x.pc) × (instruction_at i pc ≡ Ok x.instr)
+fetched_by : (i : Loaded) (older : List Step) (x : Step) (pc : ℕ) → Follows i older x → pc ≡ pc_after i older
+    → (pc ≡ x.pc) × (instruction_at i pc ≡ Ok x.instr)
 fetched_by i older x pc follows e =
     let same : pc ≡ x.pc = e ∙ sym follows.pc in
     (same, rw same (rw (follows.fetch, follows.instr) refl))
@@ -121,16 +140,19 @@ fetched_by i older x pc follows e =
 pub record IsComing (i : Loaded) (config : Configuration) (n t count pc : ℕ) (x : Step) : Type 0 where
   pub less : count ≤ n
   pub is : step_after i count ≡ Some x
-  pub follows : Follows i (steps_in (run_to config i count)) x
+  pub follows : Follows i (steps_in (first_timed config i count)) x
   pub at : pc ≡ x.pc
   pub fetched : instruction_at i pc ≡ Ok x.instr
-  pub goes : is_waiting t (run_to config i count) ≡ false
+  pub goes : is_waiting t (first_timed config i count) ≡ false
 
-pub coming : (config : Configuration) (i : Loaded) (n t count pc : ℕ) (s : State) (kind : EndKind) → IsLoaded i.window i.memory i.entry → RunEnds i n s kind → count ≤ n + 1 → fetch_of i t (run_to config i count) ≡ At pc → (x : Step) × IsComing i config n t count pc x
+pub coming : (config : Configuration) (i : Loaded) (n t count pc : ℕ) (s : State) (kind : EndKind)
+    → IsLoaded i.window i.memory i.entry → RunEnds i n s kind → count ≤ n + 1
+    → fetch_of i t (first_timed config i count) ≡ At pc → (x : Step) × IsComing i config n t count pc x
 coming config i n t count pc s kind loaded ends few e =
     let less : count ≤ n = left config i n t count pc s kind ends few e in
     let x = step_is i n count s kind ends less in
-    let follows : Follows i (steps_in (run_to config i count)) x.0 = rw (steps_are config i count) (step_follows i n count s kind x.0 loaded ends less x.1) in
-    let at = at_is i t pc (run_to config i count) e in
-    let f = fetched_by i (steps_in (run_to config i count)) x.0 pc follows at.0 in
+    let follows : Follows i (steps_in (first_timed config i count)) x.0 =
+    rw (steps_are config i count) (step_follows i n count s kind x.0 loaded ends less x.1) in
+    let at = at_is i t pc (first_timed config i count) e in
+    let f = fetched_by i (steps_in (first_timed config i count)) x.0 pc follows at.0 in
     (x.0, record { less = less; is = x.1; follows = follows; at = f.0; fetched = f.1; goes = at.1 })

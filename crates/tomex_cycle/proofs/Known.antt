@@ -1,7 +1,10 @@
--- What is known of the finishes ahead, as stations come and their operations start. It follows from the stations and the cycle alone.
-use Rattle.std.proofs.Common.{ℕ, ◌+◌, ◌-◌, ◌*◌, ◌<◌, ◌≤◌, ◌≡◌, ◌∙◌, Bool, true, false, arith, refl, ap, sym, inl, inr, List, Option, Some, None, length, slice_index_or, slice_set, option_map, replicate}
+-- What is known of the finishes ahead, as stations come and their operations start. It follows from the stations and
+-- the cycle alone.
+use Rattle.std.proofs.Common.{ℕ, ◌+◌, ◌-◌, ◌*◌, ◌<◌, ◌≤◌, ◌≡◌, ◌∙◌, Bool, true, false, arith, refl, ap, sym, inl, inr}
+use Rattle.std.proofs.Common.{List, Option, Some, None, length, slice_index_or, slice_set, option_map, replicate}
 use Rattle.std.specs.Prelude.{nat_lt, ◌==◌, ◌≢◌, ◌&&◌, ◌||◌, not, is_none, is_some, IsSome}
-use Rattle.std.proofs.lemmas.Bool.{and_right, both_ways, cases_Bool, eq-eqb, eqb-true, eqb-false, le-ltb, ltb-true, ltb-false, ne_eqb}
+use Rattle.std.proofs.lemmas.Bool.{and_right, both_ways, cases_Bool, eq-eqb, eqb-true, eqb-false, le-ltb, ltb-true}
+use Rattle.std.proofs.lemmas.Bool.{ltb-false, ne_eqb}
 use Rattle.std.proofs.lemmas.List.{get_or-replicate, get_or-set_same, get_or-set_other, get_or_past, length-set}
 use Rattle.tomex_rvdec.specs.Operands.{dest_of}
 use Rattle.tomex_rvdec.specs.Parts.{place_of_pool}
@@ -23,25 +26,31 @@ use Rattle.tomex_cycle.proofs.Places.{pool_low}
 
 -- A test of what stands in each place, once this stands in one.
 
-kept_test : (test : Option Station → Bool) (slots : List (Option Station)) (x y : ℕ) (o : Option Station) → x < length slots → test o ≡ test (slice_index_or slots x None) → test (slice_index_or (slice_set slots x o) y None) ≡ test (slice_index_or slots y None)
+kept_test : (test : Option Station → Bool) (slots : List (Option Station)) (x y : ℕ) (o : Option Station)
+    → x < length slots → test o ≡ test (slice_index_or slots x None)
+    → test (slice_index_or (slice_set slots x o) y None) ≡ test (slice_index_or slots y None)
 kept_test test slots x y o l same = elim (cases_Bool (x == y)) [
   | inl e ↦ let at : x ≡ y = eqb-true x y e in rw (← at) (ap test (get_or-set_same slots x o None l) ∙ same)
   | inr e ↦ ap test (get_or-set_other slots x y o None (λ z. eqb-false x y e (sym z)))
 ]
 
-pub known_same : (slots : List (Option Station)) (x next : ℕ) (o : Option Station) (f : Finishes) → x < length slots → IsTimetableOf slots next f → ((v : ℕ) → finishes v o ≡ finishes v (slice_index_or slots x None)) → can_send next o ≡ can_send next (slice_index_or slots x None) → has_stayed next o ≡ has_stayed next (slice_index_or slots x None)
+pub known_same : (slots : List (Option Station)) (x next : ℕ) (o : Option Station) (f : Finishes) → x < length slots
+    → IsTimetableOf slots next f → ((v : ℕ) → finishes v o ≡ finishes v (slice_index_or slots x None))
+    → can_send next o ≡ can_send next (slice_index_or slots x None)
+    → has_stayed next o ≡ has_stayed next (slice_index_or slots x None)
     → IsTimetableOf (slice_set slots x o) next f
 known_same slots x next o f l known fin send stay = record {
   places = length-set slots x o ∙ known.places;
   ahead = λ a y m k. known.ahead a y m k ∙ sym (kept_test (finishes (next + a)) slots x y o l (fin (next + a)));
   near = λ y v m e. known.near y v m (sym (kept_test (finishes v) slots x y o l (fin v)) ∙ e);
   low = known.low;
-  ready = λ y m. known.ready y m ∙ sym (kept_test (can_send next) slots x y o l send);
+  unsent = λ y m. known.unsent y m ∙ sym (kept_test (can_send next) slots x y o l send);
   gone = λ y m. kept_test (has_stayed next) slots x y o l stay ∙ known.gone y m;
 }
 
 -- a place in which something stands
-pub inside_of : (slots : List (Option Station)) (x : ℕ) (s : Station) → slice_index_or slots x None ≡ Some s → x < length slots
+pub inside_of : (slots : List (Option Station)) (x : ℕ) (s : Station) → slice_index_or slots x None ≡ Some s
+    → x < length slots
 inside_of slots x s at = elim (cases_Bool (nat_lt x (length slots))) [
   | inl l ↦ ltb-true _ _ l
   | inr l ↦ let z : Some s ≡ None = sym at ∙ get_or_past slots x None (ltb-false _ _ l) in absurd (cc)
@@ -53,13 +62,17 @@ none_finishes : (v : ℕ) (s : Station) → s.finish ≡ None → finishes v (So
 none_finishes v s e = ap (λ (z : Option ℕ). is_number z v) e
 
 none_sends : (next : ℕ) (s : Station) → s.finish ≡ None → can_send next (Some s) ≡ false
-none_sends next s e = ap (λ (z : Option ℕ). is_some (dest_of s.instr) && is_finished_before z next) e ∙ and_right (is_some (dest_of s.instr)) false refl
+none_sends next s e = ap (λ (z : Option ℕ). is_some (dest_of s.instr) && is_finished_before z next) e
+    ∙ and_right (is_some (dest_of s.instr)) false refl
 
 none_stays : (next : ℕ) (s : Station) → s.finish ≡ None → has_stayed next (Some s) ≡ false
-none_stays next s e = ap (λ (z : Option ℕ). not (is_some (dest_of s.instr)) && is_finished_before z next) e ∙ and_right (not (is_some (dest_of s.instr))) false refl
+none_stays next s e = ap (λ (z : Option ℕ). not (is_some (dest_of s.instr)) && is_finished_before z next) e
+    ∙ and_right (not (is_some (dest_of s.instr))) false refl
 
 -- an instruction issues to a place in which nothing stands
-pub known_issued : (slots : List (Option Station)) (x next : ℕ) (s : Station) (f : Finishes) → x < length slots → IsTimetableOf slots next f → slice_index_or slots x None ≡ None → s.finish ≡ None → IsTimetableOf (slice_set slots x (Some s)) next f
+pub known_issued : (slots : List (Option Station)) (x next : ℕ) (s : Station) (f : Finishes) → x < length slots
+    → IsTimetableOf slots next f → slice_index_or slots x None ≡ None → s.finish ≡ None
+    → IsTimetableOf (slice_set slots x (Some s)) next f
 known_issued slots x next s f l known empty idle = known_same slots x next (Some s) f l known
     (λ v. none_finishes v s idle ∙ sym (ap (finishes v) empty))
     (none_sends next s idle ∙ sym (ap (can_send next) empty))
@@ -69,25 +82,35 @@ none_of : (o : Option Station) → is_none o ≡ true → o ≡ None
 none_of None e = refl
 none_of (Some s) e = let z : false ≡ true = e in absurd (cc)
 
-pub known_taken : (slots new : List (Option Station)) (next number count : ℕ) (pool : PoolId) (s : Station) (f : Finishes) → new ≡ slice_set slots (16 * place_of_pool pool + number) (Some s) → is_open slots pool number ≡ true → number < count → count ≤ 16 → s.finish ≡ None → IsTimetableOf slots next f → IsTimetableOf new next f
+pub known_taken : (slots new : List (Option Station)) (next number count : ℕ) (pool : PoolId) (s : Station)
+    (f : Finishes) → new ≡ slice_set slots (16 * place_of_pool pool + number) (Some s)
+    → is_open slots pool number ≡ true → number < count → count ≤ 16 → s.finish ≡ None → IsTimetableOf slots next f
+    → IsTimetableOf new next f
 known_taken slots new next number count pool s f made empty less few idle known =
     let low : place_of_pool pool < 6 = pool_low pool in
     let places : length slots ≡ 96 = known.places in
-    rw made (known_issued slots (16 * place_of_pool pool + number) next s f (omega arith) known (none_of (slice_index_or slots (16 * place_of_pool pool + number) None) empty) idle)
+    rw made (known_issued slots (16 * place_of_pool pool + number) next s f (omega arith) known
+    (none_of (slice_index_or slots (16 * place_of_pool pool + number) None) empty) idle)
 
-address_keeps : (s : Station) → ((with_address s).finish ≡ s.finish) × (dest_of (with_address s).instr ≡ dest_of s.instr)
+address_keeps : (s : Station) → ((with_address s).finish ≡ s.finish)
+    × (dest_of (with_address s).instr ≡ dest_of s.instr)
 address_keeps s = of s.j refl
   where
-    of : (j : Field) → s.j ≡ j → ((with_address s).finish ≡ s.finish) × (dest_of (with_address s).instr ≡ dest_of s.instr)
+    of : (j : Field) → s.j ≡ j → ((with_address s).finish ≡ s.finish)
+        × (dest_of (with_address s).instr ≡ dest_of s.instr)
     of (Value v) e = rw e (refl, refl)
     of (Waits tag) e = rw e (refl, refl)
     of Unread e = rw e (refl, refl)
 
 -- an address is computed
-pub known_addressed : (slots new : List (Option Station)) (x next : ℕ) (f : Finishes) → IsSome (slice_index_or slots x None) → new ≡ slice_set slots x (option_map with_address (slice_index_or slots x None)) → IsTimetableOf slots next f → IsTimetableOf new next f
+pub known_addressed : (slots new : List (Option Station)) (x next : ℕ) (f : Finishes)
+    → IsSome (slice_index_or slots x None)
+    → new ≡ slice_set slots x (option_map with_address (slice_index_or slots x None)) → IsTimetableOf slots next f
+    → IsTimetableOf new next f
 known_addressed slots new x next f some made known = rw made (of (slice_index_or slots x None) refl)
   where
-    of : (o : Option Station) → slice_index_or slots x None ≡ o → IsTimetableOf (slice_set slots x (option_map with_address o)) next f
+    of : (o : Option Station) → slice_index_or slots x None ≡ o
+        → IsTimetableOf (slice_set slots x (option_map with_address o)) next f
     of None e = let z : false ≡ true = rw e at some in absurd (cc)
     of (Some s) e =
         let keeps = address_keeps s in
@@ -98,7 +121,8 @@ known_addressed slots new x next f some made known = rw made (of (slice_index_or
 
 -- An operation starts.
 
-pub lacks_idle : (slots : List (Option Station)) (x next : ℕ) (s : Station) (f : Finishes) → x < 96 → IsTimetableOf slots next f → slice_index_or slots x None ≡ Some s → s.finish ≡ None → Lacks f.wheel x
+pub lacks_idle : (slots : List (Option Station)) (x next : ℕ) (s : Station) (f : Finishes) → x < 96
+    → IsTimetableOf slots next f → slice_index_or slots x None ≡ Some s → s.finish ≡ None → Lacks f.wheel x
 lacks_idle slots x next s f l known at idle a = elim (cases_Bool (nat_lt a 64)) [
   | inl k ↦ known.ahead a x (ltb-true a 64 k) l ∙ (ap (finishes (next + a)) at ∙ none_finishes (next + a) s idle)
   | inr k ↦ rw k refl
@@ -106,39 +130,62 @@ lacks_idle slots x next s f l known at idle a = elim (cases_Bool (nat_lt a 64)) 
 
 shift_test : (next a latency : ℕ) → 1 ≤ latency → (a == latency - 1) ≡ ((next + latency - 1) == (next + a))
 shift_test next a latency some = elim (cases_Bool (a == latency - 1)) [
-  | inl e ↦ let f : a ≡ latency - 1 = eqb-true a (latency - 1) e in e ∙ sym (eq-eqb (next + latency - 1) (next + a) (omega arith))
-  | inr e ↦ let f : a ≢ latency - 1 = eqb-false a (latency - 1) e in e ∙ sym (ne_eqb (next + latency - 1) (next + a) (λ z. f (omega arith)))
+  | inl e ↦ let f : a ≡ latency - 1 = eqb-true a (latency - 1) e in
+      e ∙ sym (eq-eqb (next + latency - 1) (next + a) (omega arith))
+  | inr e ↦ let f : a ≢ latency - 1 = eqb-false a (latency - 1) e in
+      e ∙ sym (ne_eqb (next + latency - 1) (next + a) (λ z. f (omega arith)))
 ]
 
-pub known_started : (slots : List (Option Station)) (x next latency : ℕ) (s t : Station) (f g : Finishes) → x < length slots → x < 96 → IsTimetableOf slots next f → slice_index_or slots x None ≡ Some s → s.finish ≡ None → t.finish ≡ Some (next + latency - 1) → 1 ≤ latency → latency ≤ 64
-    → HasPut (latency - 1) x f.wheel g.wheel → g.ready ≡ f.ready → IsTimetableOf (slice_set slots x (Some t)) next g
-known_started slots x next latency s t f g l m known at idle fin some few put ready = record {
+pub known_started : (slots : List (Option Station)) (x next latency : ℕ) (s t : Station) (f g : Finishes)
+    → x < length slots → x < 96 → IsTimetableOf slots next f → slice_index_or slots x None ≡ Some s → s.finish ≡ None
+    → t.finish ≡ Some (next + latency - 1) → 1 ≤ latency → latency ≤ 64
+    → HasPut (latency - 1) x f.wheel g.wheel → g.unsent ≡ f.unsent → IsTimetableOf (slice_set slots x (Some t)) next g
+known_started slots x next latency s t f g l m known at idle fin some few put unsent = record {
   places = length-set slots x (Some t) ∙ known.places;
   ahead = λ a y k n. put a y ∙ elim (cases_Bool (x == y)) [
     | inl e ↦
         let same : x ≡ y = eqb-true x y e in
         let none : is_due f.wheel a x ≡ false = lacks_idle slots x next s f m known at idle a in
-        rw (← same, none, eq-eqb x x refl, get_or-set_same slots x (Some t) None l, fin, ← shift_test next a latency some) (and_true (a == latency - 1))
+        rw (
+          ← same,
+          none,
+          eq-eqb x x refl,
+          get_or-set_same slots x (Some t) None l,
+          fin,
+          ← shift_test next a latency
+              some,
+        ) (and_true (a == latency - 1))
     | inr e ↦
         let apart : (y == x) ≡ false = ne_eqb y x (λ z. eqb-false x y e (sym z)) in
-        rw (apart, and_right (a == latency - 1) false refl, get_or-set_other slots x y (Some t) None (λ z. eqb-false x y e (sym z))) (or_false (is_due f.wheel a y) ∙ known.ahead a y k n)
+        rw (
+          apart,
+          and_right (a == latency - 1) false refl,
+          get_or-set_other slots x y (Some t) None
+              (λ z. eqb-false x y e (sym z)),
+        ) (or_false (is_due f.wheel a y) ∙ known.ahead a y k n)
   ];
   near = λ y v n e. elim (cases_Bool (x == y)) [
     | inl k ↦
         let same : x ≡ y = eqb-true x y k in
-        let done : ((next + latency - 1) == v) ≡ true = rw (← same, get_or-set_same slots x (Some t) None l, fin) at e in
+        let done : ((next + latency - 1) == v) ≡ true =
+        rw (← same, get_or-set_same slots x (Some t) None l, fin) at e in
         let at : next + latency - 1 ≡ v = eqb-true (next + latency - 1) v done in
         omega arith
-    | inr k ↦ known.near y v n (sym (ap (finishes v) (get_or-set_other slots x y (Some t) None (λ z. eqb-false x y k (sym z)))) ∙ e)
+    | inr k ↦ known.near y v n (sym
+        (ap (finishes v) (get_or-set_other slots x y (Some t) None (λ z. eqb-false x y k (sym z)))) ∙ e)
   ];
   low = λ a y e. elim (cases_Bool (x == y)) [
     | inl k ↦ let same : x ≡ y = eqb-true x y k in rw (← same) m
     | inr k ↦
         let apart : (y == x) ≡ false = ne_eqb y x (λ z. eqb-false x y k (sym z)) in
-        known.low a y (sym (put a y ∙ rw (apart, and_right (a == latency - 1) false refl) (or_false (is_due f.wheel a y))) ∙ e)
+        known.low a y (sym (put a y ∙ rw (apart, and_right (a == latency - 1) false refl)
+        (or_false (is_due f.wheel a y))) ∙ e)
   ];
-  ready = λ y n. ap (λ z. has z y) ready ∙ (known.ready y n ∙ sym (kept_test (can_send next) slots x y (Some t) l (late (is_some (dest_of t.instr)) ∙ sym (ap (can_send next) at ∙ none_sends next s idle))));
-  gone = λ y n. kept_test (has_stayed next) slots x y (Some t) l (late (not (is_some (dest_of t.instr))) ∙ sym (ap (has_stayed next) at ∙ none_stays next s idle)) ∙ known.gone y n;
+  unsent = λ y n. ap (λ z. has z y) unsent
+      ∙ (known.unsent y n ∙ sym (kept_test (can_send next) slots x y (Some t) l (late (is_some (dest_of t.instr))
+      ∙ sym (ap (can_send next) at ∙ none_sends next s idle))));
+  gone = λ y n. kept_test (has_stayed next) slots x y (Some t) l (late (not (is_some (dest_of t.instr)))
+      ∙ sym (ap (has_stayed next) at ∙ none_stays next s idle)) ∙ known.gone y n;
 }
   where
     and_true : (b : Bool) → (false || (b && true)) ≡ b
@@ -160,22 +207,25 @@ none_stands x = elim (cases_Bool (nat_lt x 96)) [
   | inr l ↦ let high : 96 ≤ x = ltb-false _ _ l in get_or_past (replicate 96 None) x None high
 ]
 
-pub known_first : (slots : List (Option Station)) (f : Finishes) → slots ≡ replicate 96 None → IsEmpty f.wheel → f.ready ≡ 0 → IsTimetableOf slots 1 f
-known_first slots f e empty ready = rw e (record {
+pub known_first : (slots : List (Option Station)) (f : Finishes) → slots ≡ replicate 96 None → IsEmpty f.wheel
+    → f.unsent ≡ 0 → IsTimetableOf slots 1 f
+known_first slots f e empty unsent = rw e (record {
   places = refl;
   ahead = λ a x l m. empty a x ∙ sym (ap (finishes (1 + a)) (none_stands x));
   near = λ x v l e. absurd (both_ways _ (ap (finishes v) (none_stands x)) e);
   low = λ a x e. absurd (both_ways _ (empty a x) e);
-  ready = λ x l. rw ready (none_in x) ∙ sym (ap (can_send 1) (none_stands x));
+  unsent = λ x l. rw unsent (none_in x) ∙ sym (ap (can_send 1) (none_stands x));
   gone = λ x l. ap (has_stayed 1) (none_stands x);
 })
 
 -- Beyond the wheel nothing finishes.
-pub all_ahead : (slots : List (Option Station)) (next a x : ℕ) (f : Finishes) → IsTimetableOf slots next f → x < 96 → is_due f.wheel a x ≡ finishes (next + a) (slice_index_or slots x None)
+pub all_ahead : (slots : List (Option Station)) (next a x : ℕ) (f : Finishes) → IsTimetableOf slots next f → x < 96
+    → is_due f.wheel a x ≡ finishes (next + a) (slice_index_or slots x None)
 all_ahead slots next a x f known l = elim (cases_Bool (nat_lt a 64)) [
   | inl k ↦ known.ahead a x (ltb-true a 64 k) l
   | inr k ↦ rw k (sym (elim (cases_Bool (finishes (next + a) (slice_index_or slots x None))) [
     | inr e ↦ e
-    | inl e ↦ let near : next + a < next + 64 = known.near x (next + a) l e in let far : 64 ≤ a = ltb-false a 64 k in absurd (omega arith)
+    | inl e ↦ let near : next + a < next + 64 = known.near x (next + a) l e in let far : 64 ≤ a = ltb-false a 64 k in
+        absurd (omega arith)
   ]))
 ]

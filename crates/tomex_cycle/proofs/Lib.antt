@@ -8,16 +8,19 @@ pub mod Fields
 pub mod Accesses
 pub mod Shows
 pub mod IssueOrder
+pub mod AddressChosen
 pub mod Addresses
 pub mod IssuesNumbers
 pub mod IssuesTest
 pub mod Issues
 pub mod IssuesCases
 pub mod IssuesPhase
+pub mod EndsInTurn
 pub mod EndsLoops
 pub mod EndsPass
 pub mod EndsState
 pub mod EndsFetch
+pub mod StartsTests
 pub mod StartsPicked
 pub mod StartsBegun
 pub mod StartsStored
@@ -26,11 +29,11 @@ pub mod StartsWritten
 pub mod StartsDone
 pub mod Orders
 pub mod Serving
-pub mod StartsReady
+pub mod Startable
 pub mod Quiet
 pub mod Shifting
-pub mod Stillness
-mod Calmness
+pub mod SettledStations
+mod Settling
 pub mod StartsNone
 pub mod EndsNone
 pub mod Skips
@@ -40,5 +43,5 @@ pub mod Moves
 pub mod Known
 pub mod KnownEnds
 pub mod Moved
-pub mod KnownIdle
+pub mod KnownFree
 pub mod KnownResults

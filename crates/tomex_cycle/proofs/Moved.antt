@@ -9,7 +9,9 @@ abbrev pub noted : (any addressed made : Bool) → Activity
 noted any addressed made = if made then More else (if addressed then More else (if any then Starts else Nothing))
 
 -- where something is noted, ends or starts, something has changed
-pub what_moved : (any addressed made ended : Bool) (before now : ℕ) → (made ≡ true → now ≢ before) → (noted any addressed made ≡ More) ⊎ ((ended ≡ true) ⊎ (noted any addressed made ≡ Starts)) → (any ≡ true) ⊎ ((addressed ≡ true) ⊎ ((now ≢ before) ⊎ (ended ≡ true)))
+pub what_moved : (any addressed made ended : Bool) (before now : ℕ) → (made ≡ true → now ≢ before)
+    → (noted any addressed made ≡ More) ⊎ ((ended ≡ true) ⊎ (noted any addressed made ≡ Starts)) → (any ≡ true)
+    ⊎ ((addressed ≡ true) ⊎ ((now ≢ before) ⊎ (ended ≡ true)))
 what_moved any addressed made ended before now counted (inr (inl e)) = inr (inr (inr e))
 what_moved any addressed true ended before now counted (inl e) = inr (inr (inl (counted refl)))
 what_moved any true false ended before now counted (inl e) = inr (inl refl)

@@ -1,5 +1,6 @@
 -- The first snapshot, the end and the tables.
-use Rattle.std.proofs.Common.{ℕ, ◌+◌, ◌<◌, ◌≤◌, ◌≡◌, ◌∙◌, false, arith, refl, List, [], ◌∷◌, ◌++◌, Option, Some, None, ap, sym, inl, inr, length, replicate, slice_index_or, subst}
+use Rattle.std.proofs.Common.{ℕ, ◌+◌, ◌<◌, ◌≤◌, ◌≡◌, ◌∙◌, false, arith, refl, List, [], ◌∷◌, ◌++◌, Option, Some, None}
+use Rattle.std.proofs.Common.{ap, sym, inl, inr, length, replicate, slice_index_or, subst}
 use Rattle.std.specs.Prelude.{slice_index, map}
 use Rattle.std.specs.List.{filter_map, range_with_len}
 use Rattle.std.proofs.lemmas.Bool.{cases_Bool, cases_order, lt-ltb, le-ltb, lt-leb, le-leb}
@@ -22,7 +23,7 @@ use Rattle.tomex_cycle.specs.declared.fetch.Fetch.{Fetch}
 use Rattle.tomex_cycle.specs.declared.fetch.Fetch.TheVariants.{At, Stopped}
 use Rattle.tomex_cycle.specs.declared.progress.Progress.{Progress}
 use Rattle.tomex_cycle.specs.declared.progress.Progress.TheVariants.{Running}
-use Rattle.tomex_cycle.specs.Run.{run_to, run_of, AreIssuedBy, IsHistory}
+use Rattle.tomex_cycle.specs.Run.{first_timed, run_of, AreIssuedBy, IsHistory}
 use Rattle.tomex_cycle.specs.Views.{clocks, ShowsRegisters, ShowsStations}
 use Rattle.tomex_cycle.specs.Phases.{IsIssuedTo, IsSnapshot, IsYetToIssue}
 use Rattle.tomex_cycle.specs.Seen.{Seen}
@@ -49,11 +50,20 @@ none_issued config i x e s l =
     let z : s ≡ 0 = omega arith in
     rw z refl
 
-none_at : {A : Type 0} (n : ℕ) (xs : List (Option A)) → xs ≡ replicate n None → (x : ℕ) → x < n → slice_index_or xs x None ≡ None
+none_at : {A : Type 0} (n : ℕ) (xs : List (Option A)) → xs ≡ replicate n None → (x : ℕ) → x < n
+    → slice_index_or xs x None ≡ None
 none_at n xs e x l = rw (e, get_or-replicate) refl
 
-shows_none : (i : Loaded) (st : Pools) → length st.slots ≡ 96 → ((x : ℕ) → x < 96 → slice_index_or st.slots x None ≡ None) → st.issue_numbers ≡ replicate 128 0 → ShowsStations i (clocks 0 0 0) [] st
-shows_none i st places slots issue_numbers = record { places = places; slots = slots; order_count = rw issue_numbers refl; issue_numbers = λ x l. rw issue_numbers (get_or-replicate 128 x 0 0 (omega arith)) }
+shows_none : (i : Loaded) (st : Pools) → length st.slots ≡ 96
+    → ((x : ℕ) → x < 96 → slice_index_or st.slots x None ≡ None) → st.issue_numbers ≡ replicate 128 0
+    → ShowsStations i (clocks 0 0 0) [] st
+shows_none i st places slots issue_numbers =
+    record {
+      places = places;
+      slots = slots;
+      order_count = rw issue_numbers refl;
+      issue_numbers = λ x l. rw issue_numbers (get_or-replicate 128 x 0 0 (omega arith));
+    }
 
 slots_count : length (replicate {A = Option Station} 96 None) ≡ 96
 slots_count = refl
@@ -66,15 +76,22 @@ start_count i = refl
 
 -- before the first cycle
 pub start_shown : (i : Loaded) (config : Configuration) (n : ℕ) (st : Pools) (rg : RegStatus) (ft : Fetch) (m : Bytes)
-    → st.slots ≡ replicate 96 None → st.issue_numbers ≡ replicate 128 0 → rg.tags ≡ replicate 32 None → rg.values ≡ (start_of i).regs
-    → ft ≡ At i.entry → m.base ≡ i.window.base → m.bytes ≡ i.memory → length i.memory ≡ i.window.size → IsSnapshot i config n 0 0 st rg ft m
+    → st.slots ≡ replicate 96 None → st.issue_numbers ≡ replicate 128 0 → rg.tags ≡ replicate 32 None
+    → rg.values ≡ (start_of i).regs
+    → ft ≡ At i.entry → m.base ≡ i.window.base → m.bytes ≡ i.memory → length i.memory ≡ i.window.size
+    → IsSnapshot i config n 0 0 st rg ft m
 start_shown i config n st rg ft m slots issue_numbers tags values from base bytes size =
-    let e : run_to config i 0 ≡ [] = run_none config i in
+    let e : first_timed config i 0 ≡ [] = run_none config i in
     record {
       issue = record {
         few = omega arith;
         slots = rw e (shows_none i st (ap length slots ∙ slots_count) (none_at 96 st.slots slots) issue_numbers);
-        status = rw e (record { count = ap length values ∙ start_count i; status = ap length tags ∙ tags_count; tags = none_at 32 rg.tags tags; values = λ r l q. ap (λ xs. slice_index xs r) values });
+        status = rw e (record {
+          count = ap length values ∙ start_count i;
+          status = ap length tags ∙ tags_count;
+          tags = none_at 32 rg.tags tags;
+          values = λ r l q. ap (λ xs. slice_index xs r) values;
+        });
         from = rw e from;
         issued = rw e tt;
         next = λ l. none_issued config i;
@@ -82,15 +99,22 @@ start_shown i config n st rg ft m slots issue_numbers tags values from base byte
       bytes = rw e (record { base = base; size = ap length bytes ∙ size; bytes = λ a low high. rw (base, bytes) refl });
     }
 
-pub sound_start : (i : Loaded) (config : Configuration) (count : ℕ) (st : Pools) (rg : RegStatus) (ft : Fetch) (m : Bytes) → IsWithinLimits config → IsLoaded i.window i.memory i.entry
-    → ((r : Configuration) (n : ℕ) → IsSnapshot i r n 0 count st rg ft m) → count ≡ 0 → IsSound i config 0 Running count st rg ft m
+pub sound_start : (i : Loaded) (config : Configuration) (count : ℕ) (st : Pools) (rg : RegStatus) (ft : Fetch)
+    (m : Bytes) → IsWithinLimits config → IsLoaded i.window i.memory i.entry
+    → ((r : Configuration) (n : ℕ) → IsSnapshot i r n 0 count st rg ft m) → count ≡ 0
+    → IsSound i config 0 Running count st rg ft m
 sound_start i config count st rg ft m good loaded seen none = record {
   lawful = good;
   loaded = loaded;
   low = omega arith;
   after = λ n s kind l ends.
-      let k : 0 < greatest_end (run_to config i (n + 1)) = more_left config i n count 0 s kind good ends (omega arith) (seen config n).issue.next in
-      record { high = omega arith; answer = rw (lt-ltb 0 (greatest_end (run_to config i (n + 1))) k) refl; snapshot = seen config n };
+      let k : 0 < greatest_end (first_timed config i (n + 1)) =
+      more_left config i n count 0 s kind good ends (omega arith) (seen config n).issue.next in
+      record {
+        high = omega arith;
+        answer = rw (lt-ltb 0 (greatest_end (first_timed config i (n + 1))) k) refl;
+        snapshot = seen config n;
+      };
 }
 
 -- what issues later isn't in the tables
@@ -102,7 +126,8 @@ qi_later : (t : ℕ) (newer h : List Done) (r : ℕ) → AreLater t newer → qi
 qi_later t [] h r later = refl
 qi_later t (d ∷ newer) h r later = rw (lt-leb d.at.issue t later.0) (qi_later t newer h r later.1)
 
-filter_same : {A B : Type 0} (f g : A → Option B) → ((x : A) → f x ≡ g x) → (xs : List A) → filter_map f xs ≡ filter_map g xs
+filter_same : {A B : Type 0} (f g : A → Option B) → ((x : A) → f x ≡ g x) → (xs : List A)
+    → filter_map f xs ≡ filter_map g xs
 filter_same f g same [] = refl
 filter_same f g same (x ∷ xs) = rw (same x, filter_same f g same xs) refl
 
@@ -112,33 +137,50 @@ map_same f g same (x ∷ xs) = rw (same x, map_same f g same xs) refl
 
 tables_later : (t : ℕ) (newer h : List Done) → AreLater t newer → tables_of t (newer ++ h) ≡ tables_of t h
 tables_later t newer h later =
-    let a : filter_map (shown t (newer ++ h)) all_tags ≡ filter_map (shown t h) all_tags = filter_same (shown t (newer ++ h)) (shown t h) (λ tag. shown_later t newer h tag later) all_tags in
-    let b : map (qi_of t (newer ++ h)) (range_with_len 0 32) ≡ map (qi_of t h) (range_with_len 0 32) = map_same (qi_of t (newer ++ h)) (qi_of t h) (λ r. qi_later t newer h r later) (range_with_len 0 32) in
-    let f : List Busy → Tables = λ x. record { cycle = t; busy = x; registers = map (qi_of t (newer ++ h)) (range_with_len 0 32) } in
-    let g : List (Option Tag) → Tables = λ x. record { cycle = t; busy = filter_map (shown t h) all_tags; registers = x } in
+    let a : filter_map (shown t (newer ++ h)) all_tags ≡ filter_map (shown t h) all_tags =
+    filter_same (shown t (newer ++ h)) (shown t h) (λ tag. shown_later t newer h tag later) all_tags in
+    let b : map (qi_of t (newer ++ h)) (range_with_len 0 32) ≡ map (qi_of t h) (range_with_len 0 32) =
+    map_same (qi_of t (newer ++ h)) (qi_of t h) (λ r. qi_later t newer h r later) (range_with_len 0 32) in
+    let f : List Busy → Tables = λ x. record {
+      cycle = t;
+      busy = x;
+      registers = map (qi_of t (newer ++ h)) (range_with_len 0 32);
+    } in
+    let g : List (Option Tag) → Tables =
+    λ x. record { cycle = t; busy = filter_map (shown t h) all_tags; registers = x } in
     ap f a ∙ ap g b
 
 -- the tables of the whole run are those of what has issued
-pub tables_whole : (config : Configuration) (i : Loaded) (n count t : ℕ) (s : State) (kind : EndKind) → IsWithinLimits config → RunEnds i n s kind → n < 262144 → count ≤ n + 1 → (count ≤ n → IsYetToIssue i config count t) → tables_of t (run_of config i) ≡ tables_of t (run_to config i count)
+pub tables_whole : (config : Configuration) (i : Loaded) (n count t : ℕ) (s : State) (kind : EndKind)
+    → IsWithinLimits config → RunEnds i n s kind → n < 262144 → count ≤ n + 1
+    → (count ≤ n → IsYetToIssue i config count t)
+    → tables_of t (run_of config i) ≡ tables_of t (first_timed config i count)
 tables_whole config i n count t s kind good ends l few next =
     let rest = rest_to config i n count (n + 1) t s kind good ends next few (omega arith) in
-    let e : run_of config i ≡ rest.0 ++ run_to config i count = run_whole config i n s kind ends l ∙ rest.1.same in
-    ap (tables_of t) e ∙ tables_later t rest.0 (run_to config i count) rest.1.later
+    let e : run_of config i ≡ rest.0 ++ first_timed config i count = run_whole config i n s kind ends l ∙ rest.1.same in
+    ap (tables_of t) e ∙ tables_later t rest.0 (first_timed config i count) rest.1.later
 
 -- the machine's tables, pointwise
-pub whole_tables : (config : Configuration) (i : Loaded) (cycle : ℕ) (last : Progress) (count : ℕ) (st : Pools) (rg : RegStatus) (ft : Fetch) (m : Bytes) (tables : Tables)
-    → ((i : Loaded) (h : List Done) (config : Configuration) → IsHistory i config h → AreIssuedBy cycle h → ShowsStations i (clocks cycle cycle cycle) h st → ShowsRegisters i cycle h rg → tables ≡ tables_of cycle h)
+pub whole_tables : (config : Configuration) (i : Loaded) (cycle : ℕ) (last : Progress) (count : ℕ) (st : Pools)
+    (rg : RegStatus) (ft : Fetch) (m : Bytes) (tables : Tables)
+    → ((i : Loaded) (h : List Done) (config : Configuration) → IsHistory i config h → AreIssuedBy cycle h
+    → ShowsStations i (clocks cycle cycle cycle) h st → ShowsRegisters i cycle h rg → tables ≡ tables_of cycle h)
     → IsSound i config cycle last count st rg ft m → EndsWithin i 262144 → tables ≡ tables_of cycle (run_of config i)
 whole_tables config i cycle last count st rg ft m tables made sound ends =
     let after : IsAfter i config ends.0 cycle last count st rg ft m = sound.after ends.0 ends.1 ends.2 ends.3 ends.4 in
     let shot : IsIssuedTo i config ends.0 cycle (clocks cycle cycle cycle) count st rg ft = after.snapshot.issue in
-    let h : IsHistory i config (run_to config i count) = run_history config i ends.0 count ends.1 ends.2 sound.lawful sound.loaded ends.4 shot.few in
-    made i (run_to config i count) config h shot.issued shot.slots shot.status ∙ sym (tables_whole config i ends.0 count cycle ends.1 ends.2 sound.lawful ends.4 ends.3 shot.few shot.next)
+    let h : IsHistory i config (first_timed config i count) =
+    run_history config i ends.0 count ends.1 ends.2 sound.lawful sound.loaded ends.4 shot.few in
+    made i (first_timed config i count) config h shot.issued shot.slots shot.status
+    ∙ sym (tables_whole config i ends.0 count cycle ends.1 ends.2 sound.lawful ends.4 ends.3 shot.few shot.next)
 
-pub tables_seen : (config : Configuration) (i : Loaded) (cycle : ℕ) (last : Progress) (seen : Seen) (count : ℕ) (st : Pools) (rg : RegStatus) (ft : Fetch) (m : Bytes) (tables : Tables)
+pub tables_seen : (config : Configuration) (i : Loaded) (cycle : ℕ) (last : Progress) (seen : Seen) (count : ℕ)
+    (st : Pools) (rg : RegStatus) (ft : Fetch) (m : Bytes) (tables : Tables)
     → ◌≡◌ {A = Seen} (record { image = i; config = config; cycle = cycle; status = last }) seen
-    → ((i : Loaded) (h : List Done) (config : Configuration) → IsHistory i config h → AreIssuedBy cycle h → ShowsStations i (clocks cycle cycle cycle) h st → ShowsRegisters i cycle h rg → tables ≡ tables_of cycle h)
-    → IsSound i config cycle last count st rg ft m → EndsWithin seen.image 262144 → tables ≡ tables_of seen.cycle (run_of seen.config seen.image)
+    → ((i : Loaded) (h : List Done) (config : Configuration) → IsHistory i config h → AreIssuedBy cycle h
+    → ShowsStations i (clocks cycle cycle cycle) h st → ShowsRegisters i cycle h rg → tables ≡ tables_of cycle h)
+    → IsSound i config cycle last count st rg ft m → EndsWithin seen.image 262144
+    → tables ≡ tables_of seen.cycle (run_of seen.config seen.image)
 tables_seen config i cycle last seen count st rg ft m tables e made sound =
     let P : Seen → Type 0 = λ x. EndsWithin x.image 262144 → tables ≡ tables_of x.cycle (run_of x.config x.image) in
     subst P e (λ ends. whole_tables config i cycle last count st rg ft m tables made sound ends)
@@ -150,10 +192,12 @@ no_writer t (d ∷ older) r l = elim (cases_Bool (is_number (step_dest d.step) r
   | inr e ↦ rw e (no_writer t older r (omega arith))
 ]
 
-end_values : (i : Loaded) (x : Step) (steps : List Step) (r : ℕ) → step_dest x ≡ None → register_after i (x ∷ steps) r ≡ register_after i steps r
+end_values : (i : Loaded) (x : Step) (steps : List Step) (r : ℕ) → step_dest x ≡ None
+    → register_after i (x ∷ steps) r ≡ register_after i steps r
 end_values i x steps r e = rw e refl
 
-bytes_ended : (i : Loaded) (t g a : ℕ) (h : List Done) → AllBy g h → g ≤ t → byte_at i t h a ≡ byte_after i (steps_in h) a
+bytes_ended : (i : Loaded) (t g a : ℕ) (h : List Done) → AllBy g h → g ≤ t
+    → byte_at i t h a ≡ byte_after i (steps_in h) a
 bytes_ended i t g a [] by l = refl
 bytes_ended i t g a (d ∷ older) by l =
     let k : d.at.start ≤ g = by.0.start in
@@ -162,36 +206,48 @@ bytes_ended i t g a (d ∷ older) by l =
       | inr e ↦ rw e (bytes_ended i t g a older by.1 l)
     ]
 
-bytes_kept : (i : Loaded) (x : Step) (steps : List Step) (a : ℕ) → is_store x ≡ false → byte_after i (x ∷ steps) a ≡ byte_after i steps a
+bytes_kept : (i : Loaded) (x : Step) (steps : List Step) (a : ℕ) → is_store x ≡ false
+    → byte_after i (x ∷ steps) a ≡ byte_after i steps a
 bytes_kept i x steps a e = rw e refl
 
 -- what a run that is over leaves
-pub record IsOver (i : Loaded) (n : ℕ) (s : State) (kind : EndKind) (count : ℕ) (rg : RegStatus) (ft : Fetch) (m : Bytes) : Type 0 where
+pub record IsOver (i : Loaded) (n : ℕ) (s : State) (kind : EndKind) (count : ℕ) (rg : RegStatus) (ft : Fetch)
+    (m : Bytes) : Type 0 where
   pub steps : count ≡ n + 1
   pub stopped : ft ≡ Stopped kind s.pc
   pub regs : rg.values ≡ s.regs
   pub base : m.base ≡ s.image.window.base
   pub bytes : m.bytes ≡ s.memory
 
-all_issued : (config : Configuration) (i : Loaded) (n t count : ℕ) (s : State) (kind : EndKind) (st : Pools) (rg : RegStatus) (ft : Fetch) → IsWithinLimits config → RunEnds i n s kind → IsIssuedTo i config n t (clocks t t t) count st rg ft → greatest_end (run_to config i (n + 1)) ≤ t → count ≡ n + 1
+all_issued : (config : Configuration) (i : Loaded) (n t count : ℕ) (s : State) (kind : EndKind) (st : Pools)
+    (rg : RegStatus) (ft : Fetch) → IsWithinLimits config → RunEnds i n s kind
+    → IsIssuedTo i config n t (clocks t t t) count st rg ft → greatest_end (first_timed config i (n + 1)) ≤ t
+    → count ≡ n + 1
 all_issued config i n t count s kind st rg ft good ends shot l = elim (cases_order count (n + 1)) [
   | inl e ↦ e
-  | inr (inl less) ↦ let k : t < greatest_end (run_to config i (n + 1)) = more_left config i n count t s kind good ends (omega arith) shot.next in absurd (omega arith)
+  | inr (inl less) ↦ let k : t < greatest_end (first_timed config i (n + 1)) =
+      more_left config i n count t s kind good ends (omega arith) shot.next in absurd (omega arith)
   | inr (inr more) ↦ let k : count ≤ n + 1 = shot.few in absurd (omega arith)
 ]
 
-steps_last : (config : Configuration) (i : Loaded) (n : ℕ) (x : Step) → step_after i n ≡ Some x → steps_in (run_to config i (n + 1)) ≡ x ∷ first_steps i n
+steps_last : (config : Configuration) (i : Loaded) (n : ℕ) (x : Step) → step_after i n ≡ Some x
+    → steps_in (first_timed config i (n + 1)) ≡ x ∷ first_steps i n
 steps_last config i n x e = steps_are config i (n + 1) ∙ step_joins i n x e
 
-over_at : (config : Configuration) (i : Loaded) (n t : ℕ) (s : State) (kind : EndKind) (st : Pools) (rg : RegStatus) (ft : Fetch) (m : Bytes) → IsWithinLimits config → IsLoaded i.window i.memory i.entry → RunEnds i n s kind → IsSnapshot i config n t (n + 1) st rg ft m → greatest_end (run_to config i (n + 1)) ≤ t → IsOver i n s kind (n + 1) rg ft m
+over_at : (config : Configuration) (i : Loaded) (n t : ℕ) (s : State) (kind : EndKind) (st : Pools) (rg : RegStatus)
+    (ft : Fetch) (m : Bytes) → IsWithinLimits config → IsLoaded i.window i.memory i.entry → RunEnds i n s kind
+    → IsSnapshot i config n t (n + 1) st rg ft m → greatest_end (first_timed config i (n + 1)) ≤ t
+    → IsOver i n s kind (n + 1) rg ft m
 over_at config i n t s kind st rg ft m good loaded ends shot l =
-    let h : List Done = run_to config i (n + 1) in
+    let h : List Done = first_timed config i (n + 1) in
     let last = stops config i n t s kind ends in
     let kind_is = step_ends_it i n s kind last.0 ends last.1 in
-    let steps : steps_in (run_to config i (n + 1)) ≡ last.0 ∷ first_steps i n = steps_last config i n last.0 last.1 in
+    let steps : steps_in (first_timed config i (n + 1)) ≡ last.0 ∷ first_steps i n =
+    steps_last config i n last.0 last.1 in
     let leaves : Leaves i (first_steps i n) s = end_is i n s kind loaded ends in
     let state : IsState s = run_state i n s loaded ends.leads in
-    let follows : Follows i (first_steps i n) last.0 = step_follows i n n s kind last.0 loaded ends (omega arith) last.1 in
+    let follows : Follows i (first_steps i n) last.0 =
+    step_follows i n n s kind last.0 loaded ends (omega arith) last.1 in
     let pc : last.0.pc ≡ s.pc = follows.pc ∙ sym leaves.pc in
     let no_dest : step_dest last.0 ≡ None = end_writes_no_register last.0 kind kind_is in
     let no_store : is_store last.0 ≡ false = end_writes_no_byte last.0 kind kind_is in
@@ -202,16 +258,27 @@ over_at config i n t s kind st rg ft m good loaded ends shot l =
     record {
       steps = refl;
       stopped = fetch ∙ ap (λ (x : ℕ). Stopped kind x) pc;
-      regs = same_registers i (first_steps i n) s rg.values leaves state shot.issue.status.count (λ r k. shot.issue.status.values r k (no_writer t h r l) ∙ (ap (λ xs. register_after i xs r) steps ∙ end_values i last.0 (first_steps i n) r no_dest));
+      regs = same_registers i (first_steps i n) s rg.values leaves state shot.issue.status.count
+          (λ r k. shot.issue.status.values r k (no_writer t h r l)
+          ∙ (ap (λ xs. register_after i xs r) steps ∙ end_values i last.0 (first_steps i n) r no_dest));
       base = base ∙ sym (ap (λ x. x.window.base) leaves.image);
-      bytes = same_memory i (first_steps i n) s m.bytes leaves state size (λ a low high. rw base at (shot.bytes.bytes a low high) ∙ (bytes_ended i t (greatest_end h) a h by l ∙ (ap (λ xs. byte_after i xs a) steps ∙ bytes_kept i last.0 (first_steps i n) a no_store)));
+      bytes = same_memory i (first_steps i n) s m.bytes leaves state (record {
+        count = size;
+        each = λ a low high. rw base at (shot.bytes.bytes a low high)
+            ∙ (bytes_ended i t (greatest_end h) a h by l
+            ∙ (ap (λ xs. byte_after i xs a) steps ∙ bytes_kept i last.0 (first_steps i n) a no_store));
+      });
     }
 
-pub is_over_at : (config : Configuration) (i : Loaded) (n t count : ℕ) (s : State) (kind : EndKind) (st : Pools) (rg : RegStatus) (ft : Fetch) (m : Bytes) → IsWithinLimits config → IsLoaded i.window i.memory i.entry → RunEnds i n s kind → IsSnapshot i config n t count st rg ft m → greatest_end (run_to config i (n + 1)) ≤ t → IsOver i n s kind count rg ft m
+pub is_over_at : (config : Configuration) (i : Loaded) (n t count : ℕ) (s : State) (kind : EndKind) (st : Pools)
+    (rg : RegStatus) (ft : Fetch) (m : Bytes) → IsWithinLimits config → IsLoaded i.window i.memory i.entry
+    → RunEnds i n s kind → IsSnapshot i config n t count st rg ft m → greatest_end (first_timed config i (n + 1)) ≤ t
+    → IsOver i n s kind count rg ft m
 is_over_at config i n t count s kind st rg ft m good loaded ends shot l =
     let e : count ≡ n + 1 = all_issued config i n t count s kind st rg ft good ends shot.issue l in
     let P : ℕ → Type 0 = λ x. IsSnapshot i config n t x st rg ft m → IsOver i n s kind x rg ft m in
     subst P (sym e) (λ seen. over_at config i n t s kind st rg ft m good loaded ends seen l) shot
 
-pub stopped_same : (kind k : EndKind) (pc p : ℕ) (ft : Fetch) → ft ≡ Stopped kind pc → ft ≡ Stopped k p → (k ≡ kind) × (p ≡ pc)
+pub stopped_same : (kind k : EndKind) (pc p : ℕ) (ft : Fetch) → ft ≡ Stopped kind pc → ft ≡ Stopped k p → (k ≡ kind)
+    × (p ≡ pc)
 stopped_same kind k pc p ft e f = (cc, cc)

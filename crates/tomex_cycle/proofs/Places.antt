@@ -1,8 +1,10 @@
 -- A place is held by one step at a time, and the order of the busy places is that of the history.
-use Rattle.std.proofs.Common.{ℕ, ◌+◌, ◌*◌, ◌<◌, ◌≤◌, ◌≡◌, ◌∙◌, Bool, true, false, arith, refl, List, [], ◌∷◌, ◌++◌, Option, Some, None, ap, sym, inl, inr, append_assoc}
+use Rattle.std.proofs.Common.{ℕ, ◌+◌, ◌*◌, ◌<◌, ◌≤◌, ◌≡◌, ◌∙◌, Bool, true, false, arith, refl, List, [], ◌∷◌, ◌++◌}
+use Rattle.std.proofs.Common.{Option, Some, None, ap, sym, inl, inr, append_assoc}
 use Rattle.std.specs.Prelude.{nat_lt, nat_le, ◌&&◌, ◌==◌, not, MatchOption, ⊤}
 use Rattle.std.specs.List.{list_all}
-use Rattle.std.proofs.lemmas.Bool.{cases_Bool, cases_order, ltb-true, le-leb, both_ways, and_parts, eqb-true, eq-eqb, ne_eqb, and_right}
+use Rattle.std.proofs.lemmas.Bool.{cases_Bool, cases_order, ltb-true, le-leb, both_ways, and_parts, eqb-true, eq-eqb}
+use Rattle.std.proofs.lemmas.Bool.{ne_eqb, and_right}
 use Rattle.std.proofs.lemmas.List.{append-nil}
 use Rattle.tomex_image.specs.Image.{Loaded}
 use Rattle.tomex_config.specs.Configuration.{Configuration, IsWithinLimits, stations_of}
@@ -31,7 +33,8 @@ pub record IsPlace (pool : Option PoolId) (station : Option ℕ) (x : ℕ) : Typ
   pub station_is : station ≡ Some n
   pub sum : 16 * place_of_pool p + n ≡ x
 
-place_parts : (pool : Option PoolId) (station : Option ℕ) (x : ℕ) → is_number (place_at (tag_at pool station)) x ≡ true → IsPlace pool station x
+place_parts : (pool : Option PoolId) (station : Option ℕ) (x : ℕ) → is_number (place_at (tag_at pool station)) x ≡ true
+    → IsPlace pool station x
 place_parts None station x e = absurd (cc)
 place_parts (Some p) None x e = absurd (cc)
 place_parts (Some p) (Some n) x e = record { p = p; n = n; pool_is = refl; station_is = refl; sum = eqb-true _ _ e }
@@ -44,12 +47,15 @@ abbrev pub AreLow : List Done → Type 0
 AreLow [] = ⊤
 AreLow (d ∷ older) = IsLow d × AreLow older
 
-station_low : (config : Configuration) (older : List Done) (pool : Option PoolId) (station : Option ℕ) (issue : ℕ) → IsWithinLimits config → has_station config older pool issue ≡ true
-    → MatchOption pool (station ≡ None) (λ p. (n : ℕ) × (station ≡ Some n) × IsLeast (is_free p older issue) n) → (n : ℕ) → station ≡ Some n → n < 16
+station_low : (config : Configuration) (older : List Done) (pool : Option PoolId) (station : Option ℕ) (issue : ℕ)
+    → IsWithinLimits config → has_station config older pool issue ≡ true
+    → MatchOption pool (station ≡ None) (λ p. (n : ℕ) × (station ≡ Some n) × IsLeast (is_free p older issue) n)
+    → (n : ℕ) → station ≡ Some n → n < 16
 station_low config older None station issue good has is n e = let f : station ≡ None = is in absurd (cc)
 station_low config older (Some p) station issue good has is n e =
     let found = number_is config older p issue has in
-    let same : is.0 ≡ least (is_free p older issue) (stations_of config p) = least_same (is_free p older issue) _ _ is.2 found.0 in
+    let same : is.0 ≡ least (is_free p older issue) (stations_of config p) =
+    least_same (is_free p older issue) _ _ is.2 found.0 in
     let f : station ≡ Some is.0 = is.1 in
     let g : n ≡ is.0 = cc in
     let l : least (is_free p older issue) (stations_of config p) < stations_of config p = found.1 in
@@ -58,7 +64,11 @@ station_low config older (Some p) station issue good has is n e =
 
 pub low : (config : Configuration) (h : List Done) → IsWithinLimits config → AreTimed config h → AreLow h
 low config [] good timed = tt
-low config (d ∷ older) good timed = (station_low config older (step_pool d.step) d.at.station d.at.issue good (issue_station config older d.step d.at.issue timed.0.issue.0) timed.0.station, low config older good timed.1)
+low config (d ∷ older) good timed = (
+  station_low config older (step_pool d.step) d.at.station d.at.issue good
+      (issue_station config older d.step d.at.issue timed.0.issue.0) timed.0.station,
+  low config older good timed.1,
+)
 
 pub pool_low : (p : PoolId) → place_of_pool p < 6
 pool_low pools.Alu = omega arith
@@ -68,7 +78,8 @@ pool_low pools.Load = omega arith
 pool_low pools.Store = omega arith
 pool_low pools.Bru = omega arith
 
-pub place_low : (pool : Option PoolId) (station : Option ℕ) (x : ℕ) → ((n : ℕ) → station ≡ Some n → n < 16) → place_at (tag_at pool station) ≡ Some x → x < 96
+pub place_low : (pool : Option PoolId) (station : Option ℕ) (x : ℕ) → ((n : ℕ) → station ≡ Some n → n < 16)
+    → place_at (tag_at pool station) ≡ Some x → x < 96
 place_low None station x few e = absurd (cc)
 place_low (Some p) None x few e = absurd (cc)
 place_low (Some p) (Some n) x few e =
@@ -81,14 +92,19 @@ place_low (Some p) (Some n) x few e =
 abbrev pub is_vacant : ℕ → ℕ → List Done → Bool
 is_vacant end x h = list_all (λ e. not (holds_place end x e)) h
 
-held_same : (p q : PoolId) (m n x issue end : ℕ) → m < 16 → n < 16 → 16 * place_of_pool p + m ≡ x → 16 * place_of_pool q + n ≡ x → issue ≤ end → (((place_of_pool q == place_of_pool p) && nat_le issue end) && (n == m)) ≡ true
-held_same p q m n x issue end lm ln a b l = rw (eq-eqb (place_of_pool q) (place_of_pool p) (omega arith), eq-eqb n m (omega arith), le-leb issue end l) refl
+held_same : (p q : PoolId) (m n x issue end : ℕ) → m < 16 → n < 16 → 16 * place_of_pool p + m ≡ x → 16 * place_of_pool q
+    + n ≡ x → issue ≤ end → (((place_of_pool q == place_of_pool p) && nat_le issue end) && (n == m)) ≡ true
+held_same p q m n x issue end lm ln a b l =
+    rw (eq-eqb (place_of_pool q) (place_of_pool p) (omega arith), eq-eqb n m (omega arith), le-leb issue end l) refl
 
-held_with : (pool : Option PoolId) (station : Option ℕ) (p q : PoolId) (m n issue end : ℕ) → pool ≡ Some q → station ≡ Some m → (((place_of_pool q == place_of_pool p) && nat_le issue end) && (m == n)) ≡ true → ((is_in p pool && nat_le issue end) && is_number station n) ≡ true
+held_with : (pool : Option PoolId) (station : Option ℕ) (p q : PoolId) (m n issue end : ℕ) → pool ≡ Some q
+    → station ≡ Some m → (((place_of_pool q == place_of_pool p) && nat_le issue end) && (m == n)) ≡ true
+    → ((is_in p pool && nat_le issue end) && is_number station n) ≡ true
 held_with pool station p q m n issue end e f h = rw (e, f) h
 
 -- what is free for a step that issues isn't held by an older one
-vacant_one : (p : PoolId) (n x issue end : ℕ) (e : Done) → IsLow e → n < 16 → 16 * place_of_pool p + n ≡ x → issue ≤ end + 1 → not (is_held p issue e && is_number e.at.station n) ≡ true → not (holds_place end x e) ≡ true
+vacant_one : (p : PoolId) (n x issue end : ℕ) (e : Done) → IsLow e → n < 16 → 16 * place_of_pool p + n ≡ x → issue ≤ end
+    + 1 → not (is_held p issue e && is_number e.at.station n) ≡ true → not (holds_place end x e) ≡ true
 vacant_one p n x issue end e few small sum l free = elim (cases_Bool (holds_place end x e)) [
   | inr h ↦ rw h refl
   | inl h ↦
@@ -96,20 +112,25 @@ vacant_one p n x issue end e few small sum l free = elim (cases_Bool (holds_plac
       let late : end < e.at.end = ltb-true _ _ two.1 in
       let at : IsPlace (step_pool e.step) e.at.station x = place_parts (step_pool e.step) e.at.station x two.0 in
       let less : at.n < 16 = few at.n at.station_is in
-      let held : (((place_of_pool at.p == place_of_pool p) && nat_le issue e.at.end) && (at.n == n)) ≡ true = held_same p at.p n at.n x issue e.at.end small less sum at.sum (omega arith) in
-      let f : (is_held p issue e && is_number e.at.station n) ≡ true = held_with (step_pool e.step) e.at.station p at.p at.n n issue e.at.end at.pool_is at.station_is held in
+      let held : (((place_of_pool at.p == place_of_pool p) && nat_le issue e.at.end) && (at.n == n)) ≡ true =
+      held_same p at.p n at.n x issue e.at.end small less sum at.sum (omega arith) in
+      let f : (is_held p issue e && is_number e.at.station n) ≡ true =
+      held_with (step_pool e.step) e.at.station p at.p at.n n issue e.at.end at.pool_is at.station_is held in
       let g : not true ≡ true = rw f at free in
       absurd (cc)
 ]
 
-vacant_all : (p : PoolId) (n x issue end : ℕ) (h : List Done) → AreLow h → n < 16 → 16 * place_of_pool p + n ≡ x → issue ≤ end + 1 → is_free p h issue n ≡ true → is_vacant end x h ≡ true
+vacant_all : (p : PoolId) (n x issue end : ℕ) (h : List Done) → AreLow h → n < 16 → 16 * place_of_pool p + n ≡ x
+    → issue ≤ end + 1 → is_free p h issue n ≡ true → is_vacant end x h ≡ true
 vacant_all p n x issue end [] few small sum l free = refl
 vacant_all p n x issue end (e ∷ h) few small sum l free =
     let two = and_parts (not (is_held p issue e && is_number e.at.station n)) (is_free p h issue n) free in
     rw (vacant_one p n x issue end e few.0 small sum l two.0, vacant_all p n x issue end h few.1 small sum l two.1) refl
 
-free_here : (older : List Done) (pool : Option PoolId) (station : Option ℕ) (issue n : ℕ) (p : PoolId) → pool ≡ Some p → station ≡ Some n
-    → MatchOption pool (station ≡ None) (λ p. (n : ℕ) × (station ≡ Some n) × IsLeast (is_free p older issue) n) → is_free p older issue n ≡ true
+free_here : (older : List Done) (pool : Option PoolId) (station : Option ℕ) (issue n : ℕ) (p : PoolId) → pool ≡ Some p
+    → station ≡ Some n
+    → MatchOption pool (station ≡ None) (λ p. (n : ℕ) × (station ≡ Some n) × IsLeast (is_free p older issue) n)
+    → is_free p older issue n ≡ true
 free_here older None station issue n p a b is = absurd (cc)
 free_here older (Some q) station issue n p a b is =
     let f : station ≡ Some is.0 = is.1 in
@@ -118,13 +139,17 @@ free_here older (Some q) station issue n p a b is =
     rw (← s, ← g) is.2.0
 
 -- a step's place is vacant of older ones as long as it is the step's
-pub vacant : (config : Configuration) (d : Done) (older : List Done) (end x : ℕ) → IsWithinLimits config → AreTimed config (d ∷ older) → d.at.issue ≤ end + 1 → is_number (place_of d) x ≡ true → is_vacant end x older ≡ true
+pub vacant : (config : Configuration) (d : Done) (older : List Done) (end x : ℕ) → IsWithinLimits config
+    → AreTimed config (d ∷ older) → d.at.issue ≤ end + 1 → is_number (place_of d) x ≡ true
+    → is_vacant end x older ≡ true
 vacant config d older end x good timed l e =
     let at : IsPlace (step_pool d.step) d.at.station x = place_parts (step_pool d.step) d.at.station x e in
     let all = low config (d ∷ older) good timed in
-    vacant_all at.p at.n x d.at.issue end older all.1 (all.0 at.n at.station_is) at.sum l (free_here older (step_pool d.step) d.at.station d.at.issue at.n at.p at.pool_is at.station_is timed.0.station)
+    vacant_all at.p at.n x d.at.issue end older all.1 (all.0 at.n at.station_is) at.sum l
+    (free_here older (step_pool d.step) d.at.station d.at.issue at.n at.p at.pool_is at.station_is timed.0.station)
 
-pub vacant_none : (i : Loaded) (c : Clocks) (h : List Done) (x : ℕ) → is_vacant c.end x h ≡ true → station_at i c h x ≡ None
+pub vacant_none : (i : Loaded) (c : Clocks) (h : List Done) (x : ℕ) → is_vacant c.end x h ≡ true
+    → station_at i c h x ≡ None
 vacant_none i c [] x e = refl
 vacant_none i c (d ∷ older) x e = elim (cases_Bool (holds_place c.end x d)) [
   | inl h ↦
@@ -134,21 +159,25 @@ vacant_none i c (d ∷ older) x e = elim (cases_Bool (holds_place c.end x d)) [
   | inr h ↦ rw h (vacant_none i c older x (and_parts (not (holds_place c.end x d)) (is_vacant c.end x older) e).1)
 ]
 
-pub holds_here : (i : Loaded) (c : Clocks) (d : Done) (older : List Done) (x : ℕ) → holds_place c.end x d ≡ true → station_at i c (d ∷ older) x ≡ Some (station_of i c d older)
+pub holds_here : (i : Loaded) (c : Clocks) (d : Done) (older : List Done) (x : ℕ) → holds_place c.end x d ≡ true
+    → station_at i c (d ∷ older) x ≡ Some (station_of i c d older)
 holds_here i c d older x e = rw e refl
 
 some_is_none : {A : Type 0} (x : A) → Some x ≡ None → ⊥
 some_is_none x e = cc
 
 -- the station of a step that holds a place stands there, whatever is younger
-pub station_here : (i : Loaded) (config : Configuration) (c : Clocks) (newer : List Done) (d : Done) (older : List Done) (x : ℕ) → IsWithinLimits config → AreTimed config (newer ++ (d ∷ older)) → AreIssuedBy (c.end + 1) (newer ++ (d ∷ older)) → holds_place c.end x d ≡ true
+pub station_here : (i : Loaded) (config : Configuration) (c : Clocks) (newer : List Done) (d : Done) (older : List Done)
+    (x : ℕ) → IsWithinLimits config → AreTimed config (newer ++ (d ∷ older))
+    → AreIssuedBy (c.end + 1) (newer ++ (d ∷ older)) → holds_place c.end x d ≡ true
     → station_at i c (newer ++ (d ∷ older)) x ≡ Some (station_of i c d older)
 station_here i config c [] d older x good timed issued e = holds_here i c d older x e
 station_here i config c (n ∷ newer) d older x good timed issued e = elim (cases_Bool (holds_place c.end x n)) [
   | inr h ↦ rw h (station_here i config c newer d older x good timed.1 issued.1 e)
   | inl h ↦
       let two = and_parts (is_number (place_of n) x) (nat_lt c.end n.at.end) h in
-      let free : is_vacant c.end x (newer ++ (d ∷ older)) ≡ true = vacant config n (newer ++ (d ∷ older)) c.end x good timed issued.0 two.0 in
+      let free : is_vacant c.end x (newer ++ (d ∷ older)) ≡ true =
+      vacant config n (newer ++ (d ∷ older)) c.end x good timed issued.0 two.0 in
       let z : station_at i c (newer ++ (d ∷ older)) x ≡ None = vacant_none i c (newer ++ (d ∷ older)) x free in
       let f = station_here i config c newer d older x good timed.1 issued.1 e in
       absurd (some_is_none (station_of i c d older) (sym f ∙ z))
@@ -179,10 +208,13 @@ pub record IsFirstBusy (end : ℕ) (part : List Done) (x : ℕ) (rest : List ℕ
 
 -- a step at the head of a part is busy or not
 data Head (end : ℕ) (d : Done) (older : List Done) : Type 0 where
-  stays : order_of end (d ∷ older) ≡ order_of end older → ((after : List Done) → order_of end (d ∷ after) ≡ order_of end after) → Head end d older
-  adds : (x : ℕ) → holds_place end x d ≡ true → order_of end (d ∷ older) ≡ order_of end older ++ (x ∷ []) → ((after : List Done) → order_of end (d ∷ after) ≡ order_of end after ++ (x ∷ [])) → Head end d older
+  stays : order_of end (d ∷ older) ≡ order_of end older
+      → ((after : List Done) → order_of end (d ∷ after) ≡ order_of end after) → Head end d older
+  adds : (x : ℕ) → holds_place end x d ≡ true → order_of end (d ∷ older) ≡ order_of end older ++ (x ∷ [])
+      → ((after : List Done) → order_of end (d ∷ after) ≡ order_of end after ++ (x ∷ [])) → Head end d older
 
-head_with : (end : ℕ) (d : Done) (older : List Done) (o : Option ℕ) → place_of d ≡ o → nat_lt end d.at.end ≡ true → Head end d older
+head_with : (end : ℕ) (d : Done) (older : List Done) (o : Option ℕ) → place_of d ≡ o → nat_lt end d.at.end ≡ true
+    → Head end d older
 head_with end d older None e l = stays (rw (l, e) refl) (λ after. rw (l, e) refl)
 head_with end d older (Some x) e l = adds x (rw (l, e, eq-eqb x x refl) refl) (rw (l, e) refl) (λ after. rw (l, e) refl)
 
@@ -192,11 +224,25 @@ head_is end d older = elim (cases_Bool (nat_lt end d.at.end)) [
   | inr l ↦ stays (rw l refl) (λ after. rw l refl)
 ]
 
-busy_more : (end : ℕ) (d : Done) (older : List Done) (x : ℕ) (rest : List ℕ) → order_of end (d ∷ older) ≡ order_of end older → ((after : List Done) → order_of end (d ∷ after) ≡ order_of end after) → IsFirstBusy end older x rest → IsFirstBusy end (d ∷ older) x rest
-busy_more end d older x rest same more r = record { after = d ∷ r.after; d = r.d; skipped = r.skipped; split = ap (λ xs. d ∷ xs) r.split; idle = r.idle; holds = r.holds; left = more r.after ∙ r.left }
+busy_more : (end : ℕ) (d : Done) (older : List Done) (x : ℕ) (rest : List ℕ)
+    → order_of end (d ∷ older) ≡ order_of end older
+    → ((after : List Done) → order_of end (d ∷ after) ≡ order_of end after) → IsFirstBusy end older x rest
+    → IsFirstBusy end (d ∷ older) x rest
+busy_more end d older x rest same more r =
+    record {
+      after = d ∷ r.after;
+      d = r.d;
+      skipped = r.skipped;
+      split = ap (λ xs. d ∷ xs) r.split;
+      idle = r.idle;
+      holds = r.holds;
+      left = more r.after ∙ r.left;
+    }
 
-busy_last : (end : ℕ) (d : Done) (older : List Done) (p x : ℕ) (rest ys : List ℕ) → holds_place end p d ≡ true → ((after : List Done) → order_of end (d ∷ after) ≡ order_of end after ++ (p ∷ []))
-    → ((y : ℕ) (zs : List ℕ) → order_of end older ≡ y ∷ zs → IsFirstBusy end older y zs) → order_of end older ≡ ys → ys ++ (p ∷ []) ≡ x ∷ rest → IsFirstBusy end (d ∷ older) x rest
+busy_last : (end : ℕ) (d : Done) (older : List Done) (p x : ℕ) (rest ys : List ℕ) → holds_place end p d ≡ true
+    → ((after : List Done) → order_of end (d ∷ after) ≡ order_of end after ++ (p ∷ []))
+    → ((y : ℕ) (zs : List ℕ) → order_of end older ≡ y ∷ zs → IsFirstBusy end older y zs) → order_of end older ≡ ys → ys
+    ++ (p ∷ []) ≡ x ∷ rest → IsFirstBusy end (d ∷ older) x rest
 busy_last end d older p x rest [] holds more before idle e =
     let same : p ≡ x = cc in
     let none : [] ≡ rest = cc in
@@ -205,14 +251,27 @@ busy_last end d older p x rest (y ∷ zs) holds more before busy e =
     let same : y ≡ x = cc in
     let tail : zs ++ (p ∷ []) ≡ rest = cc in
     let r : IsFirstBusy end older y zs = before y zs busy in
-    record { after = d ∷ r.after; d = r.d; skipped = r.skipped; split = ap (λ xs. d ∷ xs) r.split; idle = r.idle; holds = rw (← same) r.holds; left = more r.after ∙ (ap (λ xs. xs ++ (p ∷ [])) r.left ∙ tail) }
+    record {
+      after = d ∷ r.after;
+      d = r.d;
+      skipped = r.skipped;
+      split = ap (λ xs. d ∷ xs) r.split;
+      idle = r.idle;
+      holds = rw (← same) r.holds;
+      left = more r.after ∙ (ap (λ xs. xs ++ (p ∷ [])) r.left ∙ tail);
+    }
 
-eventful_by : (end : ℕ) (d : Done) (older : List Done) (x : ℕ) (rest : List ℕ) → Head end d older → ((y : ℕ) (zs : List ℕ) → order_of end older ≡ y ∷ zs → IsFirstBusy end older y zs) → order_of end (d ∷ older) ≡ x ∷ rest → IsFirstBusy end (d ∷ older) x rest
-eventful_by end d older x rest (stays same more) before e = busy_more end d older x rest same more (before x rest (sym same ∙ e))
-eventful_by end d older x rest (adds p holds same more) before e = busy_last end d older p x rest (order_of end older) holds more before refl (sym same ∙ e)
+eventful_by : (end : ℕ) (d : Done) (older : List Done) (x : ℕ) (rest : List ℕ) → Head end d older
+    → ((y : ℕ) (zs : List ℕ) → order_of end older ≡ y ∷ zs → IsFirstBusy end older y zs) → order_of end (d ∷ older) ≡ x
+    ∷ rest → IsFirstBusy end (d ∷ older) x rest
+eventful_by end d older x rest (stays same more) before e =
+    busy_more end d older x rest same more (before x rest (sym same ∙ e))
+eventful_by end d older x rest (adds p holds same more) before e =
+    busy_last end d older p x rest (order_of end older) holds more before refl (sym same ∙ e)
 
 -- the next step of a pass over the order
-pub first_busy : (end : ℕ) (part : List Done) (x : ℕ) (rest : List ℕ) → order_of end part ≡ x ∷ rest → IsFirstBusy end part x rest
+pub first_busy : (end : ℕ) (part : List Done) (x : ℕ) (rest : List ℕ) → order_of end part ≡ x ∷ rest
+    → IsFirstBusy end part x rest
 first_busy end [] x rest e = absurd (cc)
 first_busy end (d ∷ older) x rest e = eventful_by end d older x rest (head_is end d older) (first_busy end older) e
 
@@ -226,9 +285,11 @@ least_test p a u l le = elim (cases_order a u) [
 
 -- Tables.
 
-same_tag : (p q : PoolId) (m n : ℕ) → m < 16 → n < 16 → (16 * place_of_pool q + n == 16 * place_of_pool p + m) ≡ ((place_of_pool q == place_of_pool p) && (n == m))
+same_tag : (p q : PoolId) (m n : ℕ) → m < 16 → n < 16 → (16 * place_of_pool q + n == 16 * place_of_pool p + m)
+    ≡ ((place_of_pool q == place_of_pool p) && (n == m))
 same_tag p q m n a b = elim (cases_Bool (16 * place_of_pool q + n == 16 * place_of_pool p + m)) [
-  | inl e ↦ let f : 16 * place_of_pool q + n ≡ 16 * place_of_pool p + m = eqb-true _ _ e in rw (e, eq-eqb (place_of_pool q) (place_of_pool p) (omega arith), eq-eqb n m (omega arith)) refl
+  | inl e ↦ let f : 16 * place_of_pool q + n ≡ 16 * place_of_pool p + m = eqb-true _ _ e in
+      rw (e, eq-eqb (place_of_pool q) (place_of_pool p) (omega arith), eq-eqb n m (omega arith)) refl
   | inr e ↦ elim (cases_Bool (place_of_pool q == place_of_pool p)) [
     | inr f ↦ rw (e, f) refl
     | inl f ↦ elim (cases_Bool (n == m)) [
@@ -241,7 +302,9 @@ same_tag p q m n a b = elim (cases_Bool (16 * place_of_pool q + n == 16 * place_
   ]
 ]
 
-pub same_place : (p : PoolId) (m : ℕ) (pool : Option PoolId) (station : Option ℕ) → m < 16 → ((n : ℕ) → station ≡ Some n → n < 16) → is_number (place_at (tag_at pool station)) (16 * place_of_pool p + m) ≡ (is_in p pool && is_number station m)
+pub same_place : (p : PoolId) (m : ℕ) (pool : Option PoolId) (station : Option ℕ) → m < 16
+    → ((n : ℕ) → station ≡ Some n → n < 16) → is_number (place_at (tag_at pool station)) (16 * place_of_pool p + m)
+    ≡ (is_in p pool && is_number station m)
 same_place p m None station a b = refl
 same_place p m (Some q) None a b = sym (and_right (place_of_pool q == place_of_pool p) false refl)
 same_place p m (Some q) (Some n) a b = same_tag p q m n a (b n refl)

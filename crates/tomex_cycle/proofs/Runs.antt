@@ -1,5 +1,6 @@
 -- The history of a run's beginning, as laws of the run and of the recurrence give it.
-use Rattle.std.proofs.Common.{ℕ, zero, suc, ◌+◌, ◌-◌, ◌<◌, ◌≤◌, ◌≡◌, ◌∙◌, true, false, arith, refl, List, [], ◌∷◌, ◌++◌, Some, None, ap, sym, inl, inr, length, subst}
+use Rattle.std.proofs.Common.{ℕ, zero, suc, ◌+◌, ◌-◌, ◌<◌, ◌≤◌, ◌≡◌, ◌∙◌, true, false, arith, refl, List, [], ◌∷◌, ◌++◌}
+use Rattle.std.proofs.Common.{Some, None, ap, sym, inl, inr, length, subst}
 use Rattle.std.specs.Prelude.{nat_lt, ⊤, IsSome}
 use Rattle.std.proofs.lemmas.Bool.{cases_Bool, cases_order, both_ways, ltb-true, ltb-false}
 use Rattle.std.proofs.lemmas.List.{reverse-reverse}
@@ -18,41 +19,47 @@ use Rattle.tomex_timing.specs.Recurrence.{AreTimed, can_issue}
 use Rattle.tomex_timing.specs.Search.{timed_of, times_of, history}
 use Rattle.tomex_timing.proofs.Search.{timed_is, times_are}
 use Rattle.tomex_timing.proofs.Width.{issue_from}
-use Rattle.tomex_cycle.specs.Run.{run_of, run_to, steps_in, ArePast, IsHistory}
+use Rattle.tomex_cycle.specs.Run.{run_of, first_timed, steps_in, ArePast, IsHistory}
 use Rattle.tomex_cycle.specs.Phases.{IsYetToIssue}
 
 -- the next step with its times
 abbrev pub next_done : Configuration → List Done → Step → Done
 next_done config h x = record { step = x; at = times_of config h x }
 
-pub run_next : (config : Configuration) (i : Loaded) (k : ℕ) (x : Step) → step_after i k ≡ Some x → run_to config i (k + 1) ≡ next_done config (run_to config i k) x ∷ run_to config i k
-unfolding run_to
+pub run_next : (config : Configuration) (i : Loaded) (k : ℕ) (x : Step) → step_after i k ≡ Some x
+    → first_timed config i (k + 1) ≡ next_done config (first_timed config i k) x ∷ first_timed config i k
+unfolding first_timed
 run_next config i k x e = ap (timed_of config) (step_joins i k x e)
 
 steps_timed : (config : Configuration) (xs : List Step) → steps_in (timed_of config xs) ≡ xs
 steps_timed config [] = refl
 steps_timed config (x ∷ xs) = ap (λ ys. x ∷ ys) (steps_timed config xs)
 
-pub steps_are : (config : Configuration) (i : Loaded) (k : ℕ) → steps_in (run_to config i k) ≡ first_steps i k
-unfolding run_to
+pub steps_are : (config : Configuration) (i : Loaded) (k : ℕ) → steps_in (first_timed config i k) ≡ first_steps i k
+unfolding first_timed
 steps_are config i k = steps_timed config (first_steps i k)
 
-pub run_none : (config : Configuration) (i : Loaded) → run_to config i 0 ≡ []
-unfolding run_to
+pub run_none : (config : Configuration) (i : Loaded) → first_timed config i 0 ≡ []
+unfolding first_timed
 run_none config i = refl
 
-pub run_timed : (config : Configuration) (i : Loaded) (k : ℕ) → IsWithinLimits config → AreTimed config (run_to config i k)
-unfolding run_to
+pub run_timed : (config : Configuration) (i : Loaded) (k : ℕ) → IsWithinLimits config
+    → AreTimed config (first_timed config i k)
+unfolding first_timed
 run_timed config i k good = timed_is config (first_steps i k) good
 
 -- the run to its end
-pub run_whole : (config : Configuration) (i : Loaded) (n : ℕ) (s : State) (kind : EndKind) → RunEnds i n s kind → n < 262144 → run_of config i ≡ run_to config i (n + 1)
-unfolding run_of run_to
-run_whole config i n s kind ends l = ap (history config) (steps_to_end i n 262144 s kind ends l) ∙ ap (timed_of config) (reverse-reverse (first_steps i (n + 1)))
+pub run_whole : (config : Configuration) (i : Loaded) (n : ℕ) (s : State) (kind : EndKind) → RunEnds i n s kind
+    → n < 262144 → run_of config i ≡ first_timed config i (n + 1)
+unfolding run_of first_timed
+run_whole config i n s kind ends l = ap (history config) (steps_to_end i n 262144 s kind ends l)
+    ∙ ap (timed_of config) (reverse-reverse (first_steps i (n + 1)))
 
 -- the step after so many
-pub step_is : (i : Loaded) (n k : ℕ) (s : State) (kind : EndKind) → RunEnds i n s kind → k ≤ n → (x : Step) × (step_after i k ≡ Some x)
-step_is i n k s kind ends l = elim (step_after i k) as (λ o. IsSome o → (x : Step) × (o ≡ Some x)) [ None ↦ λ h. absurd (cc) | Some x ↦ λ h. (x, refl) ] (step_comes i n k s kind ends l)
+pub step_is : (i : Loaded) (n k : ℕ) (s : State) (kind : EndKind) → RunEnds i n s kind → k ≤ n → (x : Step)
+    × (step_after i k ≡ Some x)
+step_is i n k s kind ends l = elim (step_after i k) as (λ o. IsSome o → (x : Step) × (o ≡ Some x))
+    [ None ↦ λ h. absurd (cc) | Some x ↦ λ h. (x, refl) ] (step_comes i n k s kind ends l)
 
 some_same : {A : Type 0} (a b : A) → Some a ≡ Some b → a ≡ b
 some_same a b e = cc
@@ -61,7 +68,8 @@ none_other : (x : EndKind) → None ≡ Some x → ⊥
 none_other x e = cc
 
 -- what doesn't end the program goes on
-goes_on : (i : Loaded) (n k : ℕ) (s : State) (kind : EndKind) (x : Step) → IsLoaded i.window i.memory i.entry → RunEnds i n s kind → k ≤ n → step_after i k ≡ Some x → end_of x ≡ None → IsAllowed i x
+goes_on : (i : Loaded) (n k : ℕ) (s : State) (kind : EndKind) (x : Step) → IsLoaded i.window i.memory i.entry
+    → RunEnds i n s kind → k ≤ n → step_after i k ≡ Some x → end_of x ≡ None → IsAllowed i x
 goes_on i n k s kind x loaded ends l e none = elim (cases_order k n) [
   | inl same ↦
       let f : step_after i n ≡ Some x = rw (← same) e in
@@ -72,19 +80,28 @@ goes_on i n k s kind x loaded ends l e none = elim (cases_order k n) [
   | inr (inr more) ↦ absurd (omega arith)
 ]
 
-past_on : (config : Configuration) (i : Loaded) (n k : ℕ) (s : State) (kind : EndKind) (x : Step) → IsLoaded i.window i.memory i.entry → RunEnds i n s kind → k ≤ n → step_after i k ≡ Some x → ArePast i (run_to config i k) → ArePast i (next_done config (run_to config i k) x ∷ run_to config i k)
-past_on config i n k s kind x loaded ends l e past = (rw steps_are (step_follows i n k s kind x loaded ends l e), goes_on i n k s kind x loaded ends l e, past)
+past_on : (config : Configuration) (i : Loaded) (n k : ℕ) (s : State) (kind : EndKind) (x : Step)
+    → IsLoaded i.window i.memory i.entry → RunEnds i n s kind → k ≤ n → step_after i k ≡ Some x
+    → ArePast i (first_timed config i k)
+    → ArePast i (next_done config (first_timed config i k) x ∷ first_timed config i k)
+past_on config i n k s kind x loaded ends l e past =
+    (rw steps_are (step_follows i n k s kind x loaded ends l e), goes_on i n k s kind x loaded ends l e, past)
 
-pub run_past : (config : Configuration) (i : Loaded) (n k : ℕ) (s : State) (kind : EndKind) → IsLoaded i.window i.memory i.entry → RunEnds i n s kind → k ≤ n + 1 → ArePast i (run_to config i k)
+pub run_past : (config : Configuration) (i : Loaded) (n k : ℕ) (s : State) (kind : EndKind)
+    → IsLoaded i.window i.memory i.entry → RunEnds i n s kind → k ≤ n + 1 → ArePast i (first_timed config i k)
 run_past config i n zero s kind loaded ends l = rw (run_none config i) tt
 run_past config i n (suc k) s kind loaded ends l =
     let x = step_is i n k s kind ends (omega arith) in
     let f : suc k ≡ k + 1 = omega arith in
-    let g : run_to config i (k + 1) ≡ next_done config (run_to config i k) x.0 ∷ run_to config i k = run_next config i k x.0 x.1 in
-    rw (f, g) (past_on config i n k s kind x.0 loaded ends (omega arith) x.1 (run_past config i n k s kind loaded ends (omega arith)))
+    let g : first_timed config i (k + 1) ≡ next_done config (first_timed config i k) x.0 ∷ first_timed config i k =
+    run_next config i k x.0 x.1 in
+    rw (f, g) (past_on config i n k s kind x.0 loaded ends (omega arith) x.1
+    (run_past config i n k s kind loaded ends (omega arith)))
 
-pub run_history : (config : Configuration) (i : Loaded) (n k : ℕ) (s : State) (kind : EndKind) → IsWithinLimits config → IsLoaded i.window i.memory i.entry → RunEnds i n s kind → k ≤ n + 1 → IsHistory i config (run_to config i k)
-run_history config i n k s kind good loaded ends l = record { lawful = good; timed = run_timed config i k good; past = run_past config i n k s kind loaded ends l }
+pub run_history : (config : Configuration) (i : Loaded) (n k : ℕ) (s : State) (kind : EndKind) → IsWithinLimits config
+    → IsLoaded i.window i.memory i.entry → RunEnds i n s kind → k ≤ n + 1 → IsHistory i config (first_timed config i k)
+run_history config i n k s kind good loaded ends l =
+    record { lawful = good; timed = run_timed config i k good; past = run_past config i n k s kind loaded ends l }
 
 -- issued after the cycle
 abbrev pub AreLater : ℕ → List Done → Type 0
@@ -93,14 +110,16 @@ AreLater t (d ∷ older) = (t < d.at.issue) × AreLater t older
 
 -- what comes after the first k steps
 pub record IsRest (config : Configuration) (i : Loaded) (k m t : ℕ) (newer : List Done) : Type 0 where
-  pub same : run_to config i m ≡ newer ++ run_to config i k
+  pub same : first_timed config i m ≡ newer ++ first_timed config i k
   pub later : AreLater t newer
   pub count : m ≡ length newer + k
 
-issue_is : (config : Configuration) (h : List Done) (x : Step) → IsWithinLimits config → AreTimed config h → can_issue config h x (times_of config h x).issue ≡ true
+issue_is : (config : Configuration) (h : List Done) (x : Step) → IsWithinLimits config → AreTimed config h
+    → can_issue config h x (times_of config h x).issue ≡ true
 issue_is config h x good timed = (times_are config h x good timed).issue.0
 
-pub not_by : (config : Configuration) (h : List Done) (x : Step) (t : ℕ) → IsWithinLimits config → AreTimed config h → ((s : ℕ) → s ≤ t → can_issue config h x s ≡ false) → t < (times_of config h x).issue
+pub not_by : (config : Configuration) (h : List Done) (x : Step) (t : ℕ) → IsWithinLimits config → AreTimed config h
+    → ((s : ℕ) → s ≤ t → can_issue config h x s ≡ false) → t < (times_of config h x).issue
 not_by config h x t good timed never = elim (cases_Bool (nat_lt t (times_of config h x).issue)) [
   | inl e ↦ ltb-true _ _ e
   | inr e ↦
@@ -109,20 +128,26 @@ not_by config h x t good timed never = elim (cases_Bool (nat_lt t (times_of conf
 ]
 
 -- the step after the rest issues later too
-late : (config : Configuration) (i : Loaded) (k m t : ℕ) (x : Step) (newer : List Done) → IsWithinLimits config → IsRest config i k m t newer → step_after i m ≡ Some x → (m ≡ k → IsYetToIssue i config k t) → t < (times_of config (run_to config i m) x).issue
+late : (config : Configuration) (i : Loaded) (k m t : ℕ) (x : Step) (newer : List Done) → IsWithinLimits config
+    → IsRest config i k m t newer → step_after i m ≡ Some x → (m ≡ k → IsYetToIssue i config k t)
+    → t < (times_of config (first_timed config i m) x).issue
 late config i k m t x [] good rest e next =
     let c : m ≡ 0 + k = rest.count in
     let same : m ≡ k = omega arith in
     let yet : IsYetToIssue i config m t = rw same (next same) in
-    not_by config (run_to config i m) x t good (run_timed config i m good) (yet x e)
+    not_by config (first_timed config i m) x t good (run_timed config i m good) (yet x e)
 late config i k m t x (d ∷ newer) good rest e next =
-    let can : last_issue (run_to config i m) ≤ (times_of config (run_to config i m) x).issue = issue_from config (run_to config i m) x _ (issue_is config (run_to config i m) x good (run_timed config i m good)) in
-    let b : last_issue (run_to config i m) ≡ d.at.issue = ap last_issue rest.same in
+    let can : last_issue (first_timed config i m) ≤ (times_of config (first_timed config i m) x).issue =
+    issue_from config (first_timed config i m) x _
+    (issue_is config (first_timed config i m) x good (run_timed config i m good)) in
+    let b : last_issue (first_timed config i m) ≡ d.at.issue = ap last_issue rest.same in
     let a : t < d.at.issue = rest.later.0 in
     omega arith
 
 -- the run up to its step m is that up to its step k, and what issues later
-pub rest_is : (config : Configuration) (i : Loaded) (n k j t : ℕ) (s : State) (kind : EndKind) → IsWithinLimits config → RunEnds i n s kind → (k ≤ n → IsYetToIssue i config k t) → j + k ≤ n + 1 → (newer : List Done) × IsRest config i k (j + k) t newer
+pub rest_is : (config : Configuration) (i : Loaded) (n k j t : ℕ) (s : State) (kind : EndKind) → IsWithinLimits config
+    → RunEnds i n s kind → (k ≤ n → IsYetToIssue i config k t) → j + k ≤ n + 1 → (newer : List Done)
+    × IsRest config i k (j + k) t newer
 rest_is config i n k zero t s kind good ends next l =
     let e : 0 + k ≡ k = omega arith in
     ([], record { same = rw e refl; later = tt; count = omega arith })
@@ -130,10 +155,11 @@ rest_is config i n k (suc j) t s kind good ends next l =
     let before = rest_is config i n k j t s kind good ends next (omega arith) in
     let x = step_is i n (j + k) s kind ends (omega arith) in
     let e : suc j + k ≡ j + k + 1 = omega arith in
-    let g : run_to config i (j + k + 1) ≡ next_done config (run_to config i (j + k)) x.0 ∷ run_to config i (j + k) = run_next config i (j + k) x.0 x.1 in
-    let d : Done = next_done config (run_to config i (j + k)) x.0 in
+    let g : first_timed config i (j + k + 1) ≡ next_done config (first_timed config i (j + k)) x.0
+    ∷ first_timed config i (j + k) = run_next config i (j + k) x.0 x.1 in
+    let d : Done = next_done config (first_timed config i (j + k)) x.0 in
     let c : j + k ≡ length before.0 + k = before.1.count in
-    let same : run_to config i (j + k) ≡ before.0 ++ run_to config i k = before.1.same in (
+    let same : first_timed config i (j + k) ≡ before.0 ++ first_timed config i k = before.1.same in (
       d ∷ before.0,
       record {
         same = rw (e, g) (ap (λ xs. d ∷ xs) same);
@@ -142,16 +168,20 @@ rest_is config i n k (suc j) t s kind good ends next l =
       },
     )
 
-pub rest_to : (config : Configuration) (i : Loaded) (n k m t : ℕ) (s : State) (kind : EndKind) → IsWithinLimits config → RunEnds i n s kind → (k ≤ n → IsYetToIssue i config k t) → k ≤ m → m ≤ n + 1 → (newer : List Done) × IsRest config i k m t newer
+pub rest_to : (config : Configuration) (i : Loaded) (n k m t : ℕ) (s : State) (kind : EndKind) → IsWithinLimits config
+    → RunEnds i n s kind → (k ≤ n → IsYetToIssue i config k t) → k ≤ m → m ≤ n + 1 → (newer : List Done)
+    × IsRest config i k m t newer
 rest_to config i n k m t s kind good ends next low high =
     let e : m - k + k ≡ m = omega arith in
-    subst (λ (x : ℕ). (newer : List Done) × IsRest config i k x t newer) e (rest_is config i n k (m - k) t s kind good ends next (omega arith))
+    subst (λ (x : ℕ). (newer : List Done) × IsRest config i k x t newer) e
+    (rest_is config i n k (m - k) t s kind good ends next (omega arith))
 
 -- as many steps are in it as issued
-pub run_count : (i : Loaded) (config : Configuration) (n k : ℕ) (s : State) (kind : EndKind) → RunEnds i n s kind → k ≤ n + 1 → k ≡ length (run_to config i k)
+pub run_count : (i : Loaded) (config : Configuration) (n k : ℕ) (s : State) (kind : EndKind) → RunEnds i n s kind
+    → k ≤ n + 1 → k ≡ length (first_timed config i k)
 run_count i config n zero s kind ends l = rw run_none refl
 run_count i config n (suc k) s kind ends l =
-    let before : k ≡ length (run_to config i k) = run_count i config n k s kind ends (omega arith) in
+    let before : k ≡ length (first_timed config i k) = run_count i config n k s kind ends (omega arith) in
     let x = step_is i n k s kind ends (omega arith) in
     let f : suc k ≡ k + 1 = omega arith in
     rw (f, run_next config i k x.0 x.1) (omega arith)

@@ -1,5 +1,6 @@
 -- What a state shows after a cycle it shows after a later one, where nothing happens between but finishes of results.
-use Rattle.std.proofs.Common.{ℕ, zero, suc, ◌+◌, ◌-◌, ◌<◌, ◌≤◌, ◌≡◌, ◌∙◌, true, arith, refl, List, [], ◌∷◌, ◌++◌, Option, Some, None, ap, inl, inr, subst}
+use Rattle.std.proofs.Common.{ℕ, zero, suc, ◌+◌, ◌-◌, ◌<◌, ◌≤◌, ◌≡◌, ◌∙◌, true, arith, refl, List, [], ◌∷◌, ◌++◌}
+use Rattle.std.proofs.Common.{Option, Some, None, ap, inl, inr, subst}
 use Rattle.std.specs.Prelude.{◌≢◌, nat_lt, nat_le, ◌&&◌}
 use Rattle.std.specs.List.{AllByRecursion}
 use Rattle.std.proofs.lemmas.Bool.{both_ways, cases_Bool, le-ltb, ltb-true, ltb-false, le-leb, leb-true, leb-false}
@@ -19,9 +20,9 @@ use Rattle.tomex_timing.specs.Tables.{field_of, field_from, producer}
 use Rattle.tomex_timing.proofs.Search.{times_are}
 use Rattle.tomex_cycle.specs.declared.fetch.Fetch.{Fetch}
 use Rattle.tomex_cycle.specs.Phases.{IsSnapshot, IsYetToIssue}
-use Rattle.tomex_cycle.specs.Run.{byte_at, run_to}
+use Rattle.tomex_cycle.specs.Run.{byte_at, first_timed}
 use Rattle.tomex_cycle.specs.Views.{clocks, fetch_after, fetch_of, holds_place, place_of, station_at, station_of}
-use Rattle.tomex_cycle.proofs.Quiet.{AllSteady, AllStill}
+use Rattle.tomex_cycle.proofs.Quiet.{AllSteady, AllQuiet}
 use Rattle.tomex_cycle.proofs.Runs.{next_done, not_by, run_next, run_timed, step_is}
 use Rattle.tomex_cycle.proofs.Totals.{issued_more}
 use Rattle.tomex_tags.specs.Pools.{Pools}
@@ -38,8 +39,8 @@ abbrev pub AllAlike : ℕ → ℕ → List Done → Type 0
 AllAlike u w h = AllByRecursion (IsAlike u w) h
 
 -- nothing happens after the cycle u up to w
-abbrev pub AllStillAfter : ℕ → ℕ → List Done → Type 0
-AllStillAfter u w h = (k : ℕ) → u < k → k ≤ w → AllStill k h
+abbrev pub AllQuietAfter : ℕ → ℕ → List Done → Type 0
+AllQuietAfter u w h = (k : ℕ) → u < k → k ≤ w → AllQuiet k h
 
 -- nothing does but finishes of results
 abbrev pub AllSteadyAfter : ℕ → ℕ → List Done → Type 0
@@ -73,7 +74,8 @@ all_alike u w (d ∷ h) l steady = (
   record {
     address = le_alike (cycle_of d.at.address) u w l (λ k a b. (steady k a b).0.address);
     start = le_alike d.at.start u w l (λ k a b. (steady k a b).0.start);
-    finish = λ branch. lt_alike d.at.finish u w l (λ k a b e. both_ways (is_branch d.step) ((steady k a b).0.finish e).1 branch);
+    finish = λ branch. lt_alike d.at.finish u w l
+        (λ k a b e. both_ways (is_branch d.step) ((steady k a b).0.finish e).1 branch);
     end = lt_alike d.at.end u w l (λ k a b. (steady k a b).0.end);
   },
   all_alike u w h l (λ k a b. (steady k a b).1),
@@ -90,10 +92,18 @@ field_alike : (u w : ℕ) (h : List Done) (o : Option Operand) → AllAlike u w 
 field_alike u w h None same = refl
 field_alike u w h (Some o) same = ap (field_from o.value) (producer_alike u w o.register h same)
 
-station_alike : (i : Loaded) (u w : ℕ) (d : Done) (older : List Done) → AllAlike u w (d ∷ older) → station_of i (clocks u u u) d older ≡ station_of i (clocks w w w) d older
-station_alike i u w d older same = rw (field_alike u w older (j_of d.step) same.1, field_alike u w older (k_of d.step) same.1, same.0.address, same.0.start) refl
+station_alike : (i : Loaded) (u w : ℕ) (d : Done) (older : List Done) → AllAlike u w (d ∷ older)
+    → station_of i (clocks u u u) d older ≡ station_of i (clocks w w w) d older
+station_alike i u w d older same =
+    rw (
+      field_alike u w older (j_of d.step) same.1,
+      field_alike u w older (k_of d.step) same.1,
+      same.0.address,
+      same.0.start,
+    ) refl
 
-stations_alike : (i : Loaded) (u w x : ℕ) (h : List Done) → AllAlike u w h → station_at i (clocks u u u) h x ≡ station_at i (clocks w w w) h x
+stations_alike : (i : Loaded) (u w x : ℕ) (h : List Done) → AllAlike u w h
+    → station_at i (clocks u u u) h x ≡ station_at i (clocks w w w) h x
 stations_alike i u w x [] same = refl
 stations_alike i u w x (d ∷ older) same =
     let holds : holds_place u x d ≡ holds_place w x d = ap (λ b. is_number (place_of d) x && b) same.0.end in
@@ -114,36 +124,48 @@ fetch_alike i u w (d ∷ older) same = elim (cases_Bool (is_branch d.step)) [
 ]
 
 -- a run's beginning is a part of the run
-pub run_part : (config : Configuration) (i : Loaded) (n k j : ℕ) (s : State) (kind : EndKind) → RunEnds i n s kind → j + k ≤ n + 1 → (newer : List Done) × (run_to config i (j + k) ≡ newer ++ run_to config i k)
+pub run_part : (config : Configuration) (i : Loaded) (n k j : ℕ) (s : State) (kind : EndKind) → RunEnds i n s kind → j
+    + k ≤ n + 1 → (newer : List Done) × (first_timed config i (j + k) ≡ newer ++ first_timed config i k)
 run_part config i n k zero s kind ends l = let e : 0 + k ≡ k = omega arith in ([], rw e refl)
 run_part config i n k (suc j) s kind ends l =
     let before = run_part config i n k j s kind ends (omega arith) in
     let x = step_is i n (j + k) s kind ends (omega arith) in
     let e : suc j + k ≡ j + k + 1 = omega arith in
-    let g : run_to config i (j + k + 1) ≡ next_done config (run_to config i (j + k)) x.0 ∷ run_to config i (j + k) = run_next config i (j + k) x.0 x.1 in
-    let same : run_to config i (j + k) ≡ before.0 ++ run_to config i k = before.1 in
-    (next_done config (run_to config i (j + k)) x.0 ∷ before.0, rw (e, g) (ap (λ xs. next_done config (run_to config i (j + k)) x.0 ∷ xs) same))
+    let g : first_timed config i (j + k + 1) ≡ next_done config (first_timed config i (j + k)) x.0
+    ∷ first_timed config i (j + k) = run_next config i (j + k) x.0 x.1 in
+    let same : first_timed config i (j + k) ≡ before.0 ++ first_timed config i k = before.1 in (
+      next_done config (first_timed config i (j + k)) x.0
+          ∷ before.0,
+      rw (e, g) (ap (λ xs. next_done config (first_timed config i (j + k)) x.0 ∷ xs) same),
+    )
 
-pub run_split : (config : Configuration) (i : Loaded) (n k m : ℕ) (s : State) (kind : EndKind) → RunEnds i n s kind → k ≤ m → m ≤ n + 1 → (newer : List Done) × (run_to config i m ≡ newer ++ run_to config i k)
+pub run_split : (config : Configuration) (i : Loaded) (n k m : ℕ) (s : State) (kind : EndKind) → RunEnds i n s kind
+    → k ≤ m → m ≤ n + 1 → (newer : List Done) × (first_timed config i m ≡ newer ++ first_timed config i k)
 run_split config i n k m s kind ends l high =
     let e : m - k + k ≡ m = omega arith in
-    subst (λ (x : ℕ). (newer : List Done) × (run_to config i x ≡ newer ++ run_to config i k)) e (run_part config i n k (m - k) s kind ends (omega arith))
+    subst (λ (x : ℕ). (newer : List Done) × (first_timed config i x ≡ newer ++ first_timed config i k)) e
+    (run_part config i n k (m - k) s kind ends (omega arith))
 
 steady_tail : (k : ℕ) (newer h : List Done) → AllSteady k (newer ++ h) → AllSteady k h
 steady_tail k [] h steady = steady
 steady_tail k (d ∷ newer) h steady = steady_tail k newer h steady.1
 
-steady_part : (config : Configuration) (i : Loaded) (n m k : ℕ) (s : State) (kind : EndKind) → RunEnds i n s kind → m ≤ n + 1 → AllSteady k (run_to config i (n + 1)) → AllSteady k (run_to config i m)
+steady_part : (config : Configuration) (i : Loaded) (n m k : ℕ) (s : State) (kind : EndKind) → RunEnds i n s kind
+    → m ≤ n + 1 → AllSteady k (first_timed config i (n + 1)) → AllSteady k (first_timed config i m)
 steady_part config i n m k s kind ends l steady =
     let part = run_split config i n m (n + 1) s kind ends l (omega arith) in
-    steady_tail k part.0 (run_to config i m) (rw part.1 at steady)
+    steady_tail k part.0 (first_timed config i m) (rw part.1 at steady)
 
 -- the next step doesn't issue there either
-yet_later : (config : Configuration) (i : Loaded) (n count u w : ℕ) (s : State) (kind : EndKind) → IsWithinLimits config → RunEnds i n s kind → count ≤ n → u ≤ w → IsYetToIssue i config count u → AllSteadyAfter u w (run_to config i (n + 1)) → IsYetToIssue i config count w
+yet_later : (config : Configuration) (i : Loaded) (n count u w : ℕ) (s : State) (kind : EndKind) → IsWithinLimits config
+    → RunEnds i n s kind → count ≤ n → u ≤ w → IsYetToIssue i config count u
+    → AllSteadyAfter u w (first_timed config i (n + 1)) → IsYetToIssue i config count w
 yet_later config i n count u w s kind good ends l m yet steady x e v low =
-    let h : List Done = run_to config i count in
+    let h : List Done = first_timed config i count in
     let late : u < (times_of config h x).issue = not_by config h x u good (run_timed config i count good) (yet x e) in
-    let never : (k : ℕ) → u < k → k ≤ w → (times_of config h x).issue ≢ k = λ k a b. (rw (run_next config i count x e) at (steady_part config i n (count + 1) k s kind ends (omega arith) (steady k a b))).0.issue in
+    let never : (k : ℕ) → u < k → k ≤ w → (times_of config h x).issue ≢ k =
+    λ k a b. (rw (run_next config i count x e) at
+    (steady_part config i n (count + 1) k s kind ends (omega arith) (steady k a b))).0.issue in
     let past : w < (times_of config h x).issue = elim (cases_Bool (nat_lt w (times_of config h x).issue)) [
       | inl f ↦ ltb-true _ _ f
       | inr f ↦ absurd (never (times_of config h x).issue late (ltb-false w (times_of config h x).issue f) refl)
@@ -151,15 +173,25 @@ yet_later config i n count u w s kind good ends l m yet steady x e v low =
     (times_are config h x good (run_timed config i count good)).issue.1 v (omega arith)
 
 -- the snapshot after the cycle u is that after w
-pub shifted : (config : Configuration) (i : Loaded) (n u w count : ℕ) (s : State) (kind : EndKind) (st : Pools) (rg : RegStatus) (ft : Fetch) (m : Bytes) → IsWithinLimits config → RunEnds i n s kind → u ≤ w → AllSteadyAfter u w (run_to config i (n + 1)) → IsSnapshot i config n u count st rg ft m → IsSnapshot i config n w count st rg ft m
+pub shifted : (config : Configuration) (i : Loaded) (n u w count : ℕ) (s : State) (kind : EndKind) (st : Pools)
+    (rg : RegStatus) (ft : Fetch) (m : Bytes) → IsWithinLimits config → RunEnds i n s kind → u ≤ w
+    → AllSteadyAfter u w (first_timed config i (n + 1)) → IsSnapshot i config n u count st rg ft m
+    → IsSnapshot i config n w count st rg ft m
 shifted config i n u w count s kind st rg ft m good ends l steady old =
-    let h : List Done = run_to config i count in
+    let h : List Done = first_timed config i count in
     let few : count ≤ n + 1 = old.issue.few in
-    let same : AllAlike u w h = all_alike u w h l (λ k a b. steady_part config i n count k s kind ends few (steady k a b)) in
+    let same : AllAlike u w h = all_alike u w h l
+    (λ k a b. steady_part config i n count k s kind ends few (steady k a b)) in
     record {
       issue = record {
         few = few;
-        slots = record { places = old.issue.slots.places; slots = λ x small. old.issue.slots.slots x small ∙ stations_alike i u w x h same; order_count = old.issue.slots.order_count; issue_numbers = old.issue.slots.issue_numbers };
+        slots = record {
+          places = old.issue.slots.places;
+          slots = λ x small. old.issue.slots.slots x small
+              ∙ stations_alike i u w x h same;
+          order_count = old.issue.slots.order_count;
+          issue_numbers = old.issue.slots.issue_numbers;
+        };
         status = record {
           count = old.issue.status.count;
           status = old.issue.status.status;
@@ -170,5 +202,10 @@ shifted config i n u w count s kind st rg ft m good ends l steady old =
         issued = issued_more u w h l old.issue.issued;
         next = λ less. yet_later config i n count u w s kind good ends less l (old.issue.next less) steady;
       };
-      bytes = record { base = old.bytes.base; size = old.bytes.size; bytes = λ a from to. old.bytes.bytes a from to ∙ byte_alike i u w a h same };
+      bytes = record {
+        base = old.bytes.base;
+        size = old.bytes.size;
+        bytes = λ a from to. old.bytes.bytes a from to
+            ∙ byte_alike i u w a h same;
+      };
     }

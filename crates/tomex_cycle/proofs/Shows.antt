@@ -1,5 +1,6 @@
 -- The tables of what the state shows.
-use Rattle.std.proofs.Common.{ℕ, ◌+◌, ◌*◌, ◌/◌, ◌%◌, ◌<◌, ◌≤◌, ◌≡◌, ◌∙◌, Bool, true, false, arith, refl, List, [], ◌∷◌, Option, Some, None, ap, sym, inl, inr, length, slice_index_or, option_map}
+use Rattle.std.proofs.Common.{ℕ, ◌+◌, ◌*◌, ◌/◌, ◌%◌, ◌<◌, ◌≤◌, ◌≡◌, ◌∙◌, Bool, true, false, arith, refl, List, [], ◌∷◌}
+use Rattle.std.proofs.Common.{Option, Some, None, ap, sym, inl, inr, length, slice_index_or, option_map}
 use Rattle.std.specs.Prelude.{nat_lt, nat_le, if◌then◌else◌, ◌&&◌, map}
 use Rattle.std.specs.List.{filter_map, range_with_len}
 use Rattle.std.proofs.lemmas.List.{ext_get_or}
@@ -22,28 +23,38 @@ use Rattle.tomex_tags.specs.Places.{place_of_tag, pool_at, tag_at_place}
 use Rattle.tomex_tags.specs.Pools.{Pools}
 use Rattle.tomex_tags.specs.declared.register_status.RegStatus.{RegStatus}
 
-a_same : (t imm address cycle : ℕ) (memory : Bool) → (if memory then Some (if nat_lt t cycle then imm else address) else None) ≡ a_from memory (if memory && nat_le cycle t then Some address else None) imm
+a_same : (t imm address cycle : ℕ) (memory : Bool)
+    → (if memory then Some (if nat_lt t cycle then imm else address) else None)
+    ≡ a_from memory (if memory && nat_le cycle t then Some address else None) imm
 a_same t imm address cycle false = refl
 a_same t imm address cycle true = elim (cases_Bool (nat_lt t cycle)) [
   | inl e ↦ let l : t < cycle = ltb-true _ _ e in rw (e, lt-leb cycle t l) refl
   | inr e ↦ let l : cycle ≤ t = ltb-false _ _ e in rw (e, le-leb cycle t l) refl
 ]
 
-busy_same : (i : Loaded) (t : ℕ) (tag : Tag) (d : Done) (older : List Done) → busy_of t tag d older ≡ busy_from tag (station_of i (clocks t t t) d older)
+busy_same : (i : Loaded) (t : ℕ) (tag : Tag) (d : Done) (older : List Done)
+    → busy_of t tag d older ≡ busy_from tag (station_of i (clocks t t t) d older)
 busy_same i t tag d older =
-    let a : a_of t d ≡ a_from (is_memory d.step) (if is_memory d.step && nat_le (cycle_of d.at.address) t then Some (address_of d.step) else None) d.step.instr.imm = a_same t d.step.instr.imm (address_of d.step) (cycle_of d.at.address) (is_memory d.step) in
+    let a : a_of t d ≡ a_from (is_memory d.step)
+    (if is_memory d.step && nat_le (cycle_of d.at.address) t then Some (address_of d.step) else None)
+    d.step.instr.imm = a_same t d.step.instr.imm (address_of d.step) (cycle_of d.at.address) (is_memory d.step) in
     ap (λ (x : Option ℕ). record (busy_of t tag d older) { a = x }) a
 
-holds_test : (t : ℕ) (tag : Tag) (d : Done) → tag.number < 16 → IsLow d → d.at.issue ≤ t → (is_under_way t d && is_in tag.pool (step_pool d.step) && is_number d.at.station tag.number) ≡ holds_place t (place_of_tag tag) d
+holds_test : (t : ℕ) (tag : Tag) (d : Done) → tag.number < 16 → IsLow d → d.at.issue ≤ t
+    → (is_under_way t d && is_in tag.pool (step_pool d.step) && is_number d.at.station tag.number)
+    ≡ holds_place t (place_of_tag tag) d
 holds_test t tag d small few issued =
-    rw (le-leb d.at.issue t issued, same_place tag.pool tag.number (step_pool d.step) d.at.station small few) (turn_and (nat_lt t d.at.end) (is_in tag.pool (step_pool d.step)) (is_number d.at.station tag.number))
+    rw (le-leb d.at.issue t issued, same_place tag.pool tag.number (step_pool d.step) d.at.station small few)
+    (turn_and (nat_lt t d.at.end) (is_in tag.pool (step_pool d.step)) (is_number d.at.station tag.number))
 
 -- what a station shows is what stands in its place
-pub shown_is : (i : Loaded) (t : ℕ) (tag : Tag) (h : List Done) → tag.number < 16 → AreLow h → AreIssuedBy t h → shown t h tag ≡ option_map (busy_from tag) (station_at i (clocks t t t) h (place_of_tag tag))
+pub shown_is : (i : Loaded) (t : ℕ) (tag : Tag) (h : List Done) → tag.number < 16 → AreLow h → AreIssuedBy t h
+    → shown t h tag ≡ option_map (busy_from tag) (station_at i (clocks t t t) h (place_of_tag tag))
 shown_is i t tag [] small few issued = refl
 shown_is i t tag (d ∷ older) small few issued =
     let e = holds_test t tag d small few.0 issued.0 in
-    let rest : shown t older tag ≡ option_map (busy_from tag) (station_at i (clocks t t t) older (place_of_tag tag)) = shown_is i t tag older small few.1 issued.1 in
+    let rest : shown t older tag ≡ option_map (busy_from tag) (station_at i (clocks t t t) older (place_of_tag tag)) =
+    shown_is i t tag older small few.1 issued.1 in
     elim (cases_Bool (holds_place t (place_of_tag tag) d)) [
       | inl h ↦ rw (e, h) (ap (λ (x : Busy). Some x) (busy_same i t tag d older))
       | inr h ↦ rw (e, h) rest
@@ -83,7 +94,8 @@ place_by x q e l = elim (cases_order q 0) [
   ]
 ]
 
-same_tables : (a : Tables) (t : ℕ) (busy : List Busy) (registers : List (Option Tag)) → a.cycle ≡ t → a.busy ≡ busy → a.registers ≡ registers → a ≡ record { cycle = t; busy = busy; registers = registers }
+same_tables : (a : Tables) (t : ℕ) (busy : List Busy) (registers : List (Option Tag)) → a.cycle ≡ t → a.busy ≡ busy
+    → a.registers ≡ registers → a ≡ record { cycle = t; busy = busy; registers = registers }
 same_tables a t busy registers e f g =
     let x : ℕ → Tables = λ k. record { cycle = k; busy = a.busy; registers = a.registers } in
     let y : List Busy → Tables = λ k. record { cycle = t; busy = k; registers = a.registers } in
@@ -93,22 +105,35 @@ same_tables a t busy registers e f g =
 place_back : (x : ℕ) → x < 96 → place_of_tag (tag_at_place x) ≡ x
 place_back x l = place_by x (x / 16) (omega arith) (omega arith)
 
-filter_map-map : {A B C : Type 0} (f : A → B) (g : B → Option C) (xs : List A) → filter_map g (map f xs) ≡ filter_map (λ x. g (f x)) xs
+filter_map-map : {A B C : Type 0} (f : A → B) (g : B → Option C) (xs : List A)
+    → filter_map g (map f xs) ≡ filter_map (λ x. g (f x)) xs
 filter_map-map f g [] = refl
 filter_map-map f g (x ∷ xs) = rw (filter_map-map f g xs) refl
 
-list_by : {A : Type 0} (n : ℕ) (xs : List (Option A)) (f : ℕ → Option A) → length xs ≡ n → ((x : ℕ) → x < n → slice_index_or xs x None ≡ f x) → xs ≡ map f (range_with_len 0 n)
-list_by n xs f count each = ext_get_or None xs (map f (range_with_len 0 n)) (count ∙ sym (length-map-range_with_len f 0 n)) (λ x l. let k : x < n = omega arith in each x k ∙ sym (get_or-map-range_with_len f 0 n x x None k (omega arith)))
+list_by : {A : Type 0} (n : ℕ) (xs : List (Option A)) (f : ℕ → Option A) → length xs ≡ n
+    → ((x : ℕ) → x < n → slice_index_or xs x None ≡ f x) → xs ≡ map f (range_with_len 0 n)
+list_by n xs f count each = ext_get_or None xs (map f (range_with_len 0 n))
+    (count ∙ sym (length-map-range_with_len f 0 n)) (λ x l. let k : x < n = omega arith in
+    each x k ∙ sym (get_or-map-range_with_len f 0 n x x None k (omega arith)))
 
-pub tables_is : (i : Loaded) (config : Configuration) (t : ℕ) (h : List Done) (st : Pools) (rg : RegStatus) (busy : List (Option Busy)) (tables : Tables) → IsHistory i config h → AreIssuedBy t h → ShowsStations i (clocks t t t) h st → ShowsRegisters i t h rg
-    → length busy ≡ 96 → ((x : ℕ) → x < 96 → slice_index_or busy x None ≡ option_map (busy_from (tag_at_place x)) (slice_index_or st.slots x None))
+pub tables_is : (i : Loaded) (config : Configuration) (t : ℕ) (h : List Done) (st : Pools) (rg : RegStatus)
+    (busy : List (Option Busy)) (tables : Tables) → IsHistory i config h → AreIssuedBy t h
+    → ShowsStations i (clocks t t t) h st → ShowsRegisters i t h rg
+    → length busy ≡ 96 → ((x : ℕ) → x < 96 → slice_index_or busy x None ≡ option_map (busy_from (tag_at_place x))
+    (slice_index_or st.slots x None))
     → tables.cycle ≡ t → tables.busy ≡ filter_map (λ b. b) busy → tables.registers ≡ rg.tags → tables ≡ tables_of t h
 tables_is i config t h st rg busy tables past issued slots status count each cycle shows registers =
     let f : ℕ → Option Busy = λ x. shown t h (tag_at_place x) in
     let a : busy ≡ map f (range_with_len 0 96) = list_by 96 busy f count (λ x l.
     let p : place_of_tag (tag_at_place x) ≡ x = place_back x l in
-    let s : shown t h (tag_at_place x) ≡ option_map (busy_from (tag_at_place x)) (station_at i (clocks t t t) h (place_of_tag (tag_at_place x))) = shown_is i t (tag_at_place x) h (omega arith) (low config h past.lawful past.timed) issued in
+    let s : shown t h (tag_at_place x) ≡ option_map (busy_from (tag_at_place x))
+    (station_at i (clocks t t t) h (place_of_tag (tag_at_place x))) =
+    shown_is i t (tag_at_place x) h (omega arith) (low config h past.lawful past.timed) issued in
     each x l ∙ (ap (option_map (busy_from (tag_at_place x))) (slots.slots x l) ∙ sym (rw p at s))) in
-    let b : tables.busy ≡ filter_map (shown t h) all_tags = shows ∙ (ap (filter_map (λ (x : Option Busy). x)) a ∙ (filter_map-map f (λ x. x) (range_with_len 0 96) ∙ sym (filter_map-map tag_at_place (shown t h) (range_with_len 0 96)))) in
-    let c : tables.registers ≡ map (qi_of t h) (range_with_len 0 32) = registers ∙ list_by 32 rg.tags (qi_of t h) status.status (λ r l. status.tags r l ∙ sym (qi_is t h r issued)) in
+    let b : tables.busy ≡ filter_map (shown t h) all_tags =
+    shows ∙ (ap (filter_map (λ (x : Option Busy). x)) a
+    ∙ (filter_map-map f (λ x. x) (range_with_len 0 96)
+    ∙ sym (filter_map-map tag_at_place (shown t h) (range_with_len 0 96)))) in
+    let c : tables.registers ≡ map (qi_of t h) (range_with_len 0 32) =
+    registers ∙ list_by 32 rg.tags (qi_of t h) status.status (λ r l. status.tags r l ∙ sym (qi_is t h r issued)) in
     same_tables tables t (filter_map (shown t h) all_tags) (map (qi_of t h) (range_with_len 0 32)) cycle b c

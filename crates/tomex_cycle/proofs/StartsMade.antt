@@ -1,7 +1,9 @@
 -- What starts has its finish and its result.
-use Rattle.std.proofs.Common.{length, append_assoc, ℕ, ◌+◌, ◌-◌, ◌<◌, ◌≤◌, ◌≡◌, ◌∙◌, true, false, arith, refl, List, [], ◌∷◌, ◌++◌, Option, Some, None, ap, sym, inl, inr}
+use Rattle.std.proofs.Common.{length, append_assoc, ℕ, ◌+◌, ◌-◌, ◌<◌, ◌≤◌, ◌≡◌, ◌∙◌, true, false, arith, refl, List, []}
+use Rattle.std.proofs.Common.{◌∷◌, ◌++◌, Option, Some, None, ap, sym, inl, inr}
 use Rattle.std.specs.Prelude.{nat_lt, nat_le, ◌&&◌, ◌==◌, is_some, MatchOption, option_map, IfSome, IsSome}
-use Rattle.std.proofs.lemmas.Bool.{cases_Bool, ltb-true, lt-ltb, leb-true, leb-false, le-leb, lt-leb, and_parts, eqb-true, eqb-false}
+use Rattle.std.proofs.lemmas.Bool.{cases_Bool, ltb-true, lt-ltb, leb-true, leb-false, le-leb, lt-leb, and_parts}
+use Rattle.std.proofs.lemmas.Bool.{eqb-true, eqb-false}
 use Rattle.tomex_image.specs.Image.{Loaded}
 use Rattle.tomex_config.specs.Configuration.{Configuration, IsWithinLimits, option_of}
 use Rattle.tomex_rvdec.specs.declared.op.Op.{Op}
@@ -28,7 +30,8 @@ use Rattle.tomex_cycle.specs.Views.{ShowsMemory, clocks, holds_place, station_at
 use Rattle.tomex_cycle.proofs.Accesses.{found_is}
 use Rattle.tomex_cycle.proofs.Fields.{there_test, timed_part, issued_part}
 use Rattle.tomex_cycle.proofs.StartsStored.{inside_as}
-use Rattle.tomex_cycle.proofs.StartsPicked.{start_least, starts_at, starts_in, there_value}
+use Rattle.tomex_cycle.proofs.StartsTests.{there_value}
+use Rattle.tomex_cycle.proofs.StartsPicked.{start_least, starts_at, starts_in}
 use Rattle.tomex_tags.specs.Contents.{step_in}
 use Rattle.tomex_tags.specs.Operands.{is_there, value_in}
 use Rattle.tomex_tags.specs.declared.station.Station.{Station}
@@ -42,7 +45,9 @@ unit_some None e = absurd (cc)
 unit_some (Some x) e = (x, refl)
 
 -- both operands of a step that starts in the next cycle are there
-operands_there : (config : Configuration) (t u : ℕ) (d : Done) (older : List Done) → AreTimed config (d ∷ older) → AreIssuedBy t (d ∷ older) → u ≡ t + 1 → starts_in u d ≡ true → (is_there (field_of t older (j_of d.step)) ≡ true) × (is_there (field_of t older (k_of d.step)) ≡ true)
+operands_there : (config : Configuration) (t u : ℕ) (d : Done) (older : List Done) → AreTimed config (d ∷ older)
+    → AreIssuedBy t (d ∷ older) → u ≡ t + 1 → starts_in u d ≡ true → (is_there (field_of t older (j_of d.step)) ≡ true)
+    × (is_there (field_of t older (k_of d.step)) ≡ true)
 operands_there config t u d older timed issued e starts =
     let two = and_parts (is_some (step_unit d.step)) (d.at.start == u) starts in
     let at : d.at.start ≡ u = eqb-true _ _ two.1 in
@@ -51,15 +56,22 @@ operands_there config t u d older timed issued e starts =
     let can : can_start config older d.step unit.0 d.at.issue (cycle_of d.at.address) d.at.start ≡ true = least.0 in
     let a = and_parts _ (has_unit config older unit.0 d.at.start) can in
     let b = and_parts _ (are_conflicts_finished older d.step d.at.start) a.0 in
-    let ops = and_parts (nat_lt d.at.issue d.at.start && nat_lt (cycle_of d.at.address) d.at.start) (nat_lt (source_end older (j_of d.step)) d.at.start && nat_lt (source_end older (k_of d.step)) d.at.start) b.0 in
-    let jk = and_parts (nat_lt (source_end older (j_of d.step)) d.at.start) (nat_lt (source_end older (k_of d.step)) d.at.start) ops.1 in
+    let ops = and_parts (nat_lt d.at.issue d.at.start && nat_lt (cycle_of d.at.address) d.at.start)
+    (nat_lt (source_end older (j_of d.step)) d.at.start && nat_lt (source_end older (k_of d.step)) d.at.start) b.0
+    in
+    let jk = and_parts (nat_lt (source_end older (j_of d.step)) d.at.start)
+    (nat_lt (source_end older (k_of d.step)) d.at.start) ops.1 in
     let j : source_end older (j_of d.step) < d.at.start = ltb-true _ _ jk.0 in
     let k : source_end older (k_of d.step) < d.at.start = ltb-true _ _ jk.1 in (
-      there_test config t older (j_of d.step) timed.1 issued.1 ∙ lt-ltb (source_end older (j_of d.step)) (t + 1) (omega arith),
-      there_test config t older (k_of d.step) timed.1 issued.1 ∙ lt-ltb (source_end older (k_of d.step)) (t + 1) (omega arith),
+      there_test config t older (j_of d.step) timed.1 issued.1
+          ∙ lt-ltb (source_end older (j_of d.step)) (t + 1) (omega arith),
+      there_test config t older (k_of d.step) timed.1 issued.1
+          ∙ lt-ltb (source_end older (k_of d.step)) (t + 1) (omega arith),
     )
 
-value_is : (t v : ℕ) (older : List Done) (source : Option ℕ) → is_there (field_of t older (option_map (operand v) source)) ≡ true → (option_map (operand v) source ≡ None → v ≡ 0) → value_in (field_of t older (option_map (operand v) source)) ≡ v
+value_is : (t v : ℕ) (older : List Done) (source : Option ℕ)
+    → is_there (field_of t older (option_map (operand v) source)) ≡ true
+    → (option_map (operand v) source ≡ None → v ≡ 0) → value_in (field_of t older (option_map (operand v) source)) ≡ v
 value_is t v older None there unread = sym (unread refl)
 value_is t v older (Some r) there unread = there_value v (producer t older r) there
 
@@ -68,12 +80,18 @@ some_is None e = absurd (cc)
 some_is (Some x) e = refl
 
 -- its station holds it
-pub step_is : (i : Loaded) (config : Configuration) (t u : ℕ) (d : Done) (older : List Done) → AreTimed config (d ∷ older) → AreIssuedBy t (d ∷ older) → ArePast i (d ∷ older) → u ≡ t + 1 → starts_in u d ≡ true → step_in (station_of i (clocks t t t) d older) ≡ d.step
+pub step_is : (i : Loaded) (config : Configuration) (t u : ℕ) (d : Done) (older : List Done)
+    → AreTimed config (d ∷ older) → AreIssuedBy t (d ∷ older) → ArePast i (d ∷ older) → u ≡ t + 1 → starts_in u d ≡ true
+    → step_in (station_of i (clocks t t t) d older) ≡ d.step
 step_is i config t u d older timed issued past e starts =
     let there = operands_there config t u d older timed issued e starts in
-    let pool : is_some (step_pool d.step) ≡ true = sym (unit_with_pool d.step) ∙ (and_parts (is_some (step_unit d.step)) (d.at.start == u) starts).0 in
-    let j : value_in (field_of t older (j_of d.step)) ≡ d.step.vj = value_is t d.step.vj older (sources_of d.step.instr).j there.0 (unread_j i (steps_in older) d.step past.0 (some_is (step_pool d.step) pool)) in
-    let k : value_in (field_of t older (k_of d.step)) ≡ d.step.vk = value_is t d.step.vk older (sources_of d.step.instr).k there.1 (unread_k i (steps_in older) d.step past.0) in
+    let pool : is_some (step_pool d.step) ≡ true =
+    sym (unit_with_pool d.step) ∙ (and_parts (is_some (step_unit d.step)) (d.at.start == u) starts).0 in
+    let j : value_in (field_of t older (j_of d.step)) ≡ d.step.vj =
+    value_is t d.step.vj older (sources_of d.step.instr).j there.0
+    (unread_j i (steps_in older) d.step past.0 (some_is (step_pool d.step) pool)) in
+    let k : value_in (field_of t older (k_of d.step)) ≡ d.step.vk =
+    value_is t d.step.vk older (sources_of d.step.instr).k there.1 (unread_k i (steps_in older) d.step past.0) in
     rw (j, k) refl
 
 goes_on : (op : Op) → is_some (unit_of op) ≡ true → end_at op ≡ None
@@ -82,13 +100,16 @@ goes_on ops.Ebreak e = absurd (cc)
 goes_on _ e = refl
 
 -- and its access is inside memory
-pub inside_is : (i : Loaded) (t u : ℕ) (d : Done) (older h : List Done) (m : Bytes) → ArePast i (d ∷ older) → starts_in u d ≡ true → ShowsMemory i t h m → IsInside m d.step
+pub inside_is : (i : Loaded) (t u : ℕ) (d : Done) (older h : List Done) (m : Bytes) → ArePast i (d ∷ older)
+    → starts_in u d ≡ true → ShowsMemory i t h m → IsInside m d.step
 inside_is i t u d older h m past starts shown =
-    let unit : is_some (step_unit d.step) ≡ true = (and_parts (is_some (step_unit d.step)) (d.at.start == u) starts).0 in
+    let unit : is_some (step_unit d.step) ≡ true =
+    (and_parts (is_some (step_unit d.step)) (d.at.start == u) starts).0 in
     let allowed : IsAllowed i d.step = past.1 (goes_on d.step.instr.op unit) in
     inside_as (bytes_of d.step) m.base i.window.base (length m.bytes) i.window.size shown.base shown.size allowed.access
 
-covered : (o : Option ByteRange) (a base size : ℕ) → IfSome o (λ r. (base ≤ r.from) × (r.to ≤ base + size)) → is_among o a ≡ true → (base ≤ a) × (a < base + size)
+covered : (o : Option ByteRange) (a base size : ℕ) → IfSome o (λ r. (base ≤ r.from) × (r.to ≤ base + size))
+    → is_among o a ≡ true → (base ≤ a) × (a < base + size)
 covered None a base size inside e = absurd (cc)
 covered (Some r) a base size inside e =
     let two = and_parts (nat_le r.from a) (nat_lt a r.to) e in
@@ -99,7 +120,9 @@ covered (Some r) a base size inside e =
     (omega arith, omega arith)
 
 -- its result is that of the run
-result_is : (i : Loaded) (config : Configuration) (t u : ℕ) (d : Done) (newer older : List Done) (m : Bytes) → IsWithinLimits config → AreTimed config (newer ++ (d ∷ older)) → ArePast i (newer ++ (d ∷ older)) → u ≡ t + 1 → starts_in u d ≡ true → ShowsMemory i t (newer ++ (d ∷ older)) m
+result_is : (i : Loaded) (config : Configuration) (t u : ℕ) (d : Done) (newer older : List Done) (m : Bytes)
+    → IsWithinLimits config → AreTimed config (newer ++ (d ∷ older)) → ArePast i (newer ++ (d ∷ older)) → u ≡ t + 1
+    → starts_in u d ≡ true → ShowsMemory i t (newer ++ (d ∷ older)) m
     → result_of d.step (byte_in m) ≡ result_of d.step (byte_after i (steps_in older))
 result_is i config t u d newer older m good timed past e starts shown =
     let two = and_parts (is_some (step_unit d.step)) (d.at.start == u) starts in
@@ -109,26 +132,40 @@ result_is i config t u d newer older m good timed past e starts shown =
     let in_window = covered (bytes_of d.step) a i.window.base i.window.size allowed.access c in
     shown.bytes a in_window.0 in_window.1 ∙ found_is i config t a d newer older good timed two.0 c (at ∙ e))
 
-finish_at : (config : Configuration) (finish start issue u : ℕ) (o : Option UnitId) → is_some o ≡ true → MatchOption o (finish ≡ issue) (λ unit. finish ≡ start + (option_of config unit).latency - 1) → start ≡ u → Some finish ≡ finish_from config u o
+finish_at : (config : Configuration) (finish start issue u : ℕ) (o : Option UnitId) → is_some o ≡ true
+    → MatchOption o (finish ≡ issue) (λ unit. finish ≡ start + (option_of config unit).latency - 1) → start ≡ u
+    → Some finish ≡ finish_from config u o
 finish_at config finish start issue u None some timed e = absurd (cc)
-finish_at config finish start issue u (Some unit) some timed e = ap (λ (n : ℕ). Some n) (timed ∙ ap (λ (n : ℕ). n + (option_of config unit).latency - 1) e)
+finish_at config finish start issue u (Some unit) some timed e =
+    ap (λ (n : ℕ). Some n) (timed ∙ ap (λ (n : ℕ). n + (option_of config unit).latency - 1) e)
 
 -- a station as its operation starts
-pub begun_is : (i : Loaded) (config : Configuration) (t u : ℕ) (d : Done) (newer older : List Done) (m : Bytes) → IsWithinLimits config → AreTimed config (newer ++ (d ∷ older)) → AreIssuedBy t (newer ++ (d ∷ older)) → ArePast i (newer ++ (d ∷ older)) → u ≡ t + 1 → starts_in u d ≡ true → ShowsMemory i t (newer ++ (d ∷ older)) m
+pub begun_is : (i : Loaded) (config : Configuration) (t u : ℕ) (d : Done) (newer older : List Done) (m : Bytes)
+    → IsWithinLimits config → AreTimed config (newer ++ (d ∷ older)) → AreIssuedBy t (newer ++ (d ∷ older))
+    → ArePast i (newer ++ (d ∷ older)) → u ≡ t + 1 → starts_in u d ≡ true → ShowsMemory i t (newer ++ (d ∷ older)) m
     → station_of i (clocks u t t) d older ≡ begun config u m (station_of i (clocks t t t) d older)
 begun_is i config t u d newer older m good timed issued past e starts shown =
     let two = and_parts (is_some (step_unit d.step)) (d.at.start == u) starts in
     let at : d.at.start ≡ u = eqb-true _ _ two.1 in
     let here : AreTimed config (d ∷ older) = timed_part config newer (d ∷ older) timed in
-    let step : step_in (station_of i (clocks t t t) d older) ≡ d.step = step_is i config t u d older here (issued_part t newer (d ∷ older) issued) (past_part i newer (d ∷ older) past) e starts in
-    let finish : Some d.at.finish ≡ finish_from config u (step_unit d.step) = finish_at config d.at.finish d.at.start d.at.issue u (step_unit d.step) two.0 here.0.finish at in
-    let value : result_of d.step (byte_after i (steps_in older)) ≡ result_of (step_in (station_of i (clocks t t t) d older)) (byte_in m) = sym (result_is i config t u d newer older m good timed past e starts shown) ∙ ap (λ (x : Step). result_of x (byte_in m)) (sym step) in
+    let step : step_in (station_of i (clocks t t t) d older) ≡ d.step =
+    step_is i config t u d older here (issued_part t newer (d ∷ older) issued) (past_part i newer (d ∷ older) past)
+    e starts in
+    let finish : Some d.at.finish ≡ finish_from config u (step_unit d.step) =
+    finish_at config d.at.finish d.at.start d.at.issue u (step_unit d.step) two.0 here.0.finish at in
+    let value : result_of d.step (byte_after i (steps_in older))
+    ≡ result_of (step_in (station_of i (clocks t t t) d older)) (byte_in m) =
+    sym (result_is i config t u d newer older m good timed past e starts shown)
+    ∙ ap (λ (x : Step). result_of x (byte_in m)) (sym step) in
     let set : Option ℕ → ℕ → Station = λ f v. record (station_of i (clocks t t t) d older) { finish = f; value = v } in
-    let first : station_of i (clocks u t t) d older ≡ set (Some d.at.finish) (result_of d.step (byte_after i (steps_in older))) = rw (le-leb d.at.start u (omega arith)) refl in
-    first ∙ (ap (λ f. set f (result_of d.step (byte_after i (steps_in older)))) finish ∙ ap (set (finish_from config u (step_unit d.step))) value)
+    let first : station_of i (clocks u t t) d older ≡ set (Some d.at.finish)
+    (result_of d.step (byte_after i (steps_in older))) = rw (le-leb d.at.start u (omega arith)) refl in
+    first ∙ (ap (λ f. set f (result_of d.step (byte_after i (steps_in older)))) finish
+    ∙ ap (set (finish_from config u (step_unit d.step))) value)
 
 -- what has no unit issued before
-pub late_unit : (o : Option UnitId) (start issue t u : ℕ) (Q : UnitId → Type 0) → MatchOption o (start ≡ issue) Q → issue ≤ t → u ≡ t + 1 → (is_some o && (start == u)) ≡ false → start ≡ u → ⊥
+pub late_unit : (o : Option UnitId) (start issue t u : ℕ) (Q : UnitId → Type 0) → MatchOption o (start ≡ issue) Q
+    → issue ≤ t → u ≡ t + 1 → (is_some o && (start == u)) ≡ false → start ≡ u → ⊥
 late_unit None start issue t u Q timed l e starts at = let f : start ≡ issue = timed in omega arith
 late_unit (Some v) start issue t u Q timed l e starts at = eqb-false start u starts at
 
@@ -145,19 +182,34 @@ not_u start t u e f = elim (cases_Bool (nat_le start t)) [
 ]
 
 -- the station of a step that doesn't start stays
-pub kept_is : (i : Loaded) (config : Configuration) (t u : ℕ) (d : Done) (older : List Done) → AreTimed config (d ∷ older) → AreIssuedBy t (d ∷ older) → u ≡ t + 1 → starts_in u d ≡ false → station_of i (clocks u t t) d older ≡ station_of i (clocks t t t) d older
+pub kept_is : (i : Loaded) (config : Configuration) (t u : ℕ) (d : Done) (older : List Done)
+    → AreTimed config (d ∷ older) → AreIssuedBy t (d ∷ older) → u ≡ t + 1 → starts_in u d ≡ false
+    → station_of i (clocks u t t) d older ≡ station_of i (clocks t t t) d older
 kept_is i config t u d older timed issued e starts =
-    let same : nat_le d.at.start u ≡ nat_le d.at.start t = not_u d.at.start t u e (late_unit (step_unit d.step) d.at.start d.at.issue t u (λ v. IsLeast (can_start config older d.step v d.at.issue (cycle_of d.at.address)) d.at.start) timed.0.start issued.0 e starts) in
+    let same : nat_le d.at.start u ≡ nat_le d.at.start t =
+    not_u d.at.start t u e (late_unit (step_unit d.step) d.at.start d.at.issue t u
+    (λ v. IsLeast (can_start config older d.step v d.at.issue (cycle_of d.at.address)) d.at.start) timed.0.start
+    issued.0 e starts) in
     rw same refl
 
 -- so each place has its next station
-pub begins_at : (i : Loaded) (config : Configuration) (t u x : ℕ) (h newer part : List Done) (m : Bytes) → IsWithinLimits config → AreTimed config h → AreIssuedBy t h → ArePast i h → u ≡ t + 1 → ShowsMemory i t h m → h ≡ newer ++ part
-    → station_at i (clocks u t t) part x ≡ begun_if config u m (starts_at t u part x) (station_at i (clocks t t t) part x)
+pub begins_at : (i : Loaded) (config : Configuration) (t u x : ℕ) (h newer part : List Done) (m : Bytes)
+    → IsWithinLimits config → AreTimed config h → AreIssuedBy t h → ArePast i h → u ≡ t + 1 → ShowsMemory i t h m
+    → h ≡ newer ++ part
+    → station_at i (clocks u t t) part x ≡ begun_if config u m (starts_at t u part x)
+    (station_at i (clocks t t t) part x)
 begins_at i config t u x h newer [] m good timed issued past e shown f = refl
-begins_at i config t u x h newer (d ∷ older) m good timed issued past e shown f = elim (cases_Bool (holds_place t x d)) [
-  | inr held ↦ rw held (begins_at i config t u x h (newer ++ (d ∷ [])) older m good timed issued past e shown (f ∙ sym (append_assoc newer (d ∷ []) older)))
-  | inl held ↦ elim (cases_Bool (starts_in u d)) [
-    | inl starts ↦ rw (held, starts) (ap (λ (s : Station). Some s) (begun_is i config t u d newer older m good (rw f at timed) (rw f at issued) (rw f at past) e starts (rw f at shown)))
-    | inr starts ↦ rw (held, starts) (ap (λ (s : Station). Some s) (kept_is i config t u d older (timed_part config newer (d ∷ older) (rw f at timed)) (issued_part t newer (d ∷ older) (rw f at issued)) e starts))
-  ]
-]
+begins_at i config t u x h newer (d ∷ older) m good timed issued past e shown f = elim
+    (cases_Bool (holds_place t x d)) [
+      | inr held ↦ rw held (begins_at i config t u x h (newer ++ (d ∷ [])) older m good timed issued past e shown
+          (f ∙ sym (append_assoc newer (d ∷ []) older)))
+      | inl held ↦ elim (cases_Bool (starts_in u d)) [
+        | inl starts ↦ rw (held, starts)
+            (ap (λ (s : Station). Some s) (begun_is i config t u d newer older m good (rw f at timed) (rw f at issued)
+            (rw f at past) e starts (rw f at shown)))
+        | inr starts ↦ rw (held, starts)
+            (ap (λ (s : Station). Some s) (kept_is i config t u d older
+            (timed_part config newer (d ∷ older) (rw f at timed)) (issued_part t newer (d ∷ older) (rw f at issued)) e
+            starts))
+      ]
+    ]

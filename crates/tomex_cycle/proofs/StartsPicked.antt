@@ -1,196 +1,46 @@
 -- The pass over the order picks the stations that the recurrence starts.
-use Rattle.std.proofs.Common.{length, slice_index, slice_index_or, append_assoc, ℕ, ◌+◌, ◌<◌, ◌≤◌, ◌≡◌, ◌∙◌, Bool, true, false, arith, refl, List, [], ◌∷◌, ◌++◌, Option, Some, None, ap, sym, inl, inr}
-use Rattle.std.specs.Prelude.{nat_lt, nat_le, if◌then◌else◌, ◌&&◌, ◌||◌, ◌==◌, not, is_some, is_none, count_by, MatchOption}
-use Rattle.std.proofs.lemmas.Bool.{MatchBool-at_false, cases_Bool, ltb-true, ltb-false, lt-ltb, le-ltb, leb-true, leb-false, le-leb, and_parts, and_right, or_right, eq-eqb, eqb-true, ne_eqb}
+use Rattle.std.proofs.Common.{length, slice_index, slice_index_or, append_assoc, ℕ, ◌+◌, ◌<◌, ◌≤◌, ◌≡◌, ◌∙◌, Bool, true}
+use Rattle.std.proofs.Common.{false, arith, refl, List, [], ◌∷◌, ◌++◌, Option, Some, None, ap, sym, inl, inr}
+use Rattle.std.specs.Prelude.{nat_lt, if◌then◌else◌, ◌&&◌, ◌||◌, ◌==◌, not, is_some, count_by}
+use Rattle.std.specs.Prelude.{MatchOption}
+use Rattle.std.proofs.lemmas.Bool.{cases_Bool, ltb-true, ltb-false, lt-ltb}
+use Rattle.std.proofs.lemmas.Bool.{and_parts, and_right, eqb-true, ne_eqb}
 use Rattle.tomex_image.specs.Image.{Loaded}
 use Rattle.tomex_config.specs.Configuration.{Configuration, IsWithinLimits, option_of}
 use Rattle.tomex_rvdec.specs.declared.pool.UnitId.{UnitId}
 use Rattle.tomex_rvdec.specs.declared.pool.UnitId.TheVariants as units
 use Rattle.tomex_rvdec.specs.Parts.{place_of_unit}
-use Rattle.tomex_rvexec.specs.declared.step.Step.{Step}
-use Rattle.tomex_rvexec.specs.Steps.{address_of, bytes_of, is_number, is_store, j_of, k_of, step_pool, step_unit}
-use Rattle.tomex_rvexec.proofs.FlowFields.{bytes_of_memory, unit_with_pool}
+use Rattle.tomex_rvexec.specs.Steps.{bytes_of, is_number, j_of, k_of, step_pool, step_unit}
+use Rattle.tomex_rvexec.proofs.FlowFields.{unit_with_pool}
 use Rattle.tomex_timing.specs.declared.tables.Tag.{Tag}
 use Rattle.tomex_timing.specs.declared.times.Done.{Done}
 use Rattle.tomex_timing.specs.History.{cycle_of, is_memory, is_of, last_address, source_end}
-use Rattle.tomex_timing.specs.Recurrence.{AreTimed, IsTimed, IsLeast, are_conflicts_finished, can_address, can_start, conflicts, has_unit}
-use Rattle.tomex_timing.specs.Tables.{field_of, field_from, tag_at, tag_of}
+use Rattle.tomex_timing.specs.Recurrence.{AreTimed, IsTimed, IsLeast, are_conflicts_finished, can_start}
+use Rattle.tomex_timing.specs.Recurrence.{has_unit}
+use Rattle.tomex_timing.specs.Tables.{tag_at, tag_of}
 use Rattle.tomex_cycle.specs.Run.{AreIssuedBy}
-use Rattle.tomex_cycle.specs.Starts.{wanted, kind_if, is_among, kind_of, IsStarting, AreReady, is_clear}
-use Rattle.tomex_cycle.specs.Views.{Clocks, ShowsStations, clocks, holds_place, order_of, place_of, station_at, station_of}
-use Rattle.tomex_cycle.proofs.Addresses.{address_rises, order_here, number_is_some}
+use Rattle.tomex_cycle.specs.Starts.{wanted, kind_if, is_among, kind_of, IsStarting, AreStartable, is_clear}
+use Rattle.tomex_cycle.specs.Views.{ShowsStations, clocks, holds_place, order_of, place_of}
+use Rattle.tomex_cycle.specs.Views.{station_of}
+use Rattle.tomex_cycle.proofs.AddressChosen.{address_rises}
+use Rattle.tomex_cycle.proofs.Addresses.{order_here, number_is_some}
 use Rattle.tomex_cycle.proofs.Totals.{issued_more}
-use Rattle.tomex_cycle.proofs.Places.{place_low, order-append}
-use Rattle.tomex_cycle.proofs.Fields.{there_test, tag_there, timed_part, issued_part}
-use Rattle.tomex_cycle.proofs.Places.{low, station_here, is_vacant, vacant, least_test}
+use Rattle.tomex_cycle.proofs.Places.{order-append}
+use Rattle.tomex_cycle.proofs.Fields.{timed_part, issued_part}
+use Rattle.tomex_cycle.proofs.Places.{is_vacant, vacant, least_test}
 use Rattle.tomex_cycle.proofs.Totals.{reach}
-use Rattle.tomex_membuf.proofs.Older.{no_option, share_none}
+use Rattle.tomex_membuf.proofs.Older.{no_option}
 use Rattle.tomex_cycle.proofs.IssueOrder.{no_access}
-use Rattle.tomex_membuf.specs.Order.{is_finished_before, lets_pass}
-use Rattle.tomex_tags.specs.Contents.{bytes_in, is_waiting, step_in}
-use Rattle.tomex_tags.specs.Operands.{is_there, value_in}
-use Rattle.tomex_tags.specs.Places.{place_at, place_of_tag}
+use Rattle.tomex_tags.specs.Contents.{bytes_in, is_waiting}
+use Rattle.tomex_tags.specs.Places.{place_at}
 use Rattle.tomex_tags.specs.Pools.{Pools, AreBusy}
-use Rattle.tomex_tags.specs.declared.station.Station.{Station}
 use Rattle.tomex_bus.specs.Picks.{IsInIssueOrder}
 use Rattle.tomex_cycle.proofs.Serving.{AreAlone, goes_at, AreServed, Serves, picked_goes}
 use Rattle.tomex_sets.specs.Sets.{has}
 use Rattle.tomex_cycle.proofs.Orders.{order_is}
 use Rattle.tomex_rvdec.specs.declared.pool.PoolId.{PoolId}
 use Rattle.tomex_timing.specs.Station.{is_free}
-
-and_swap : (a b c : Bool) → (a && (b && c)) ≡ ((a && b) && c)
-and_swap true b c = refl
-and_swap false b c = refl
-
-and_turn : (a b : Bool) → (a && b) ≡ (b && a)
-and_turn true true = refl
-and_turn true false = refl
-and_turn false true = refl
-and_turn false false = refl
-
-clear-append : (slots : List (Option Station)) (xs : List ℕ) (x : ℕ) (s : Station) (next : ℕ) → is_clear slots (xs ++ (x ∷ [])) s next ≡ (lets_pass (slice_index_or slots x None) s next && is_clear slots xs s next)
-clear-append slots [] x s next = refl
-clear-append slots (y ∷ xs) x s next =
-    let before = clear-append slots xs x s next in
-    ap (λ b. lets_pass (slice_index_or slots y None) s next && b) before
-    ∙ (and_swap (lets_pass (slice_index_or slots y None) s next) (lets_pass (slice_index_or slots x None) s next) (is_clear slots xs s next)
-    ∙ (ap (λ b. b && is_clear slots xs s next) (and_turn (lets_pass (slice_index_or slots y None) s next) (lets_pass (slice_index_or slots x None) s next))
-    ∙ sym (and_swap (lets_pass (slice_index_or slots x None) s next) (lets_pass (slice_index_or slots y None) s next) (is_clear slots xs s next))))
-
--- Readiness.
-
-finish_is : (start t finish : ℕ) → is_none (if nat_le start t then Some finish else None) ≡ nat_lt t start
-finish_is start t finish = elim (cases_Bool (nat_le start t)) [
-  | inl e ↦ let l : start ≤ t = leb-true _ _ e in rw (e, le-ltb t start l) refl
-  | inr e ↦ let l : t < start = leb-false _ _ e in rw (e, lt-ltb t start l) refl
-]
-
-addressed_is : (memory : Bool) (a t u address : ℕ) → u ≡ t + 1 → (memory ≡ false → a ≡ 0) → (not memory || is_some (if memory && nat_le a t then Some address else None)) ≡ nat_lt a u
-addressed_is false a t u address e none = let z : a ≡ 0 = none refl in rw (lt-ltb a u (omega arith)) refl
-addressed_is true a t u address e none = elim (cases_Bool (nat_le a t)) [
-  | inl l ↦ let k : a ≤ t = leb-true _ _ l in rw (l, lt-ltb a u (omega arith)) refl
-  | inr l ↦ let k : t < a = leb-false _ _ l in rw (l, le-ltb a u (omega arith)) refl
-]
-
-no_address : (config : Configuration) (d : Done) (older : List Done) → IsTimed config older d.step d.at → is_memory d.step ≡ false → cycle_of d.at.address ≡ 0
-no_address config d older timed e =
-    let z : d.at.address ≡ None = MatchBool-at_false (IsLeast (can_address older d.step d.at.issue) (cycle_of d.at.address)) _ e timed.address in
-    rw z refl
-
-regroup : (a j k m n : Bool) → m ≡ n → ((a && (j && k)) && m) ≡ (((a && j) && k) && n)
-regroup true j k m n e = ap (λ b. (j && k) && b) e
-regroup false j k m n e = refl
-
--- the operands are there, the address is, and it hasn't started
-pub ready_is : (i : Loaded) (config : Configuration) (t u : ℕ) (d : Done) (older : List Done) → AreTimed config (d ∷ older) → AreIssuedBy t (d ∷ older) → u ≡ t + 1
-    → is_waiting (station_of i (clocks t t t) d older) ≡ (nat_lt t d.at.start && nat_lt (source_end older (j_of d.step)) u && nat_lt (source_end older (k_of d.step)) u && nat_lt (cycle_of d.at.address) u)
-ready_is i config t u d older timed issued e =
-    let j : is_there (field_of t older (j_of d.step)) ≡ nat_lt (source_end older (j_of d.step)) (t + 1) = there_test config t older (j_of d.step) timed.1 issued.1 in
-    let k : is_there (field_of t older (k_of d.step)) ≡ nat_lt (source_end older (k_of d.step)) (t + 1) = there_test config t older (k_of d.step) timed.1 issued.1 in
-    let a = addressed_is (is_memory d.step) (cycle_of d.at.address) t u (address_of d.step) e (no_address config d older timed.0) in
-    rw (e, j, k, finish_is d.at.start t d.at.finish) (regroup (nat_lt t d.at.start) (nat_lt (source_end older (j_of d.step)) (t + 1)) (nat_lt (source_end older (k_of d.step)) (t + 1)) _ _ (rw e at a))
-
--- Older accesses.
-
-pub there_value : (v : ℕ) (p : Option Tag) → is_there (field_from v p) ≡ true → value_in (field_from v p) ≡ v
-there_value v None e = refl
-there_value v (Some tag) e = absurd (cc)
-
-no_bytes : (x : Step) → is_memory x ≡ false → bytes_of x ≡ None
-no_bytes x e = no_option (bytes_of x) (bytes_of_memory x ∙ e)
-
--- an older access shows its bytes once its address is computed
-bytes_are : (i : Loaded) (config : Configuration) (t : ℕ) (d : Done) (older : List Done) → AreTimed config (d ∷ older) → AreIssuedBy t (d ∷ older) → (is_memory d.step ≡ true → cycle_of d.at.address ≤ t) → bytes_in (station_of i (clocks t t t) d older) ≡ bytes_of d.step
-bytes_are i config t d older timed issued l = elim (cases_Bool (is_memory d.step)) [
-  | inr m ↦ rw m (sym (no_bytes d.step m))
-  | inl m ↦ rw (m, le-leb (cycle_of d.at.address) t (l m)) refl
-]
-
-before_is : (start finish t u : ℕ) → u ≡ t + 1 → start ≤ finish → is_finished_before (if nat_le start t then Some finish else None) u ≡ nat_lt finish u
-before_is start finish t u e l = elim (cases_Bool (nat_le start t)) [
-  | inl k ↦ rw k refl
-  | inr k ↦ let m : t < start = leb-false _ _ k in rw (k, le-ltb finish u (omega arith)) refl
-]
-
--- no access: nothing to wait for
-conflicts_none : (h : List Done) (x : Step) (u : ℕ) → bytes_of x ≡ None → are_conflicts_finished h x u ≡ true
-conflicts_none [] x u e = refl
-conflicts_none (d ∷ older) x u e =
-    let one : (not (conflicts d.step x) || nat_lt d.at.finish u) ≡ true = rw (e, share_none (bytes_of d.step)) refl in
-    rw one (conflicts_none older x u e)
-
-lets_is : (i : Loaded) (config : Configuration) (t u : ℕ) (d : Done) (older : List Done) (s : Station) (x : Step) → IsWithinLimits config → AreTimed config (d ∷ older) → AreIssuedBy t (d ∷ older) → u ≡ t + 1 → (is_memory d.step ≡ true → cycle_of d.at.address ≤ t)
-    → bytes_in s ≡ bytes_of x → is_store (step_in s) ≡ is_store x → lets_pass (Some (station_of i (clocks t t t) d older)) s u ≡ (not (conflicts d.step x) || nat_lt d.at.finish u)
-lets_is i config t u d older s x good timed issued e l bytes store =
-    let order : d.at.start ≤ d.at.finish = (reach config d older good timed).order in
-    rw (bytes_are i config t d older timed issued l, bytes, store, before_is d.at.start d.at.finish t u e order) refl
-
--- a busy step of a history, in its place, whatever starts and addresses are made
-pub record IsHeld (i : Loaded) (c : Clocks) (st : Pools) (d : Done) (older : List Done) : Type 0 where
-  pub x : ℕ
-  pub place : place_of d ≡ Some x
-  pub small : x < 96
-  pub held : holds_place c.end x d ≡ true
-  pub slot : slice_index_or st.slots x None ≡ Some (station_of i c d older)
-
-pub held_at : (i : Loaded) (config : Configuration) (c : Clocks) (st : Pools) (h newer : List Done) (d : Done) (older : List Done) → IsWithinLimits config → AreTimed config h → AreIssuedBy c.end h → ShowsStations i c h st → h ≡ newer ++ (d ∷ older) → nat_lt c.end d.at.end ≡ true → IsHeld i c st d older
-held_at i config c st h newer d older good timed issued shown e l =
-    let here : AreTimed config (newer ++ (d ∷ older)) = rw e at timed in
-    let by : AreIssuedBy c.end (newer ++ (d ∷ older)) = rw e at issued in
-    let k : c.end < d.at.end = ltb-true _ _ l in
-    let part : AreTimed config (d ∷ older) = timed_part config newer (d ∷ older) here in
-    let at : d.at.issue ≤ c.end = (issued_part c.end newer (d ∷ older) by).0 in
-    let tag = tag_there config d older c.end part.0 at k in
-    let place : place_of d ≡ Some (place_of_tag tag.0) = ap place_at tag.1 in
-    let held : holds_place c.end (place_of_tag tag.0) d ≡ true = rw (place, l, eq-eqb (place_of_tag tag.0) (place_of_tag tag.0) refl) refl in
-    let small : place_of_tag tag.0 < 96 = place_low (step_pool d.step) d.at.station (place_of_tag tag.0) (low config (d ∷ older) good part).0 place in
-    let there : station_at i c (newer ++ (d ∷ older)) (place_of_tag tag.0) ≡ Some (station_of i c d older) = station_here i config c newer d older (place_of_tag tag.0) good here (issued_more c.end (c.end + 1) (newer ++ (d ∷ older)) (omega arith) by) held in
-    record {
-      x = place_of_tag tag.0;
-      place = place;
-      small = small;
-      held = held;
-      slot = shown.slots (place_of_tag tag.0) small ∙ (ap (λ xs. station_at i c xs (place_of_tag tag.0)) e ∙ there);
-    }
-
--- and in issue order
-pub record IsSeen (i : Loaded) (t : ℕ) (st : Pools) (d : Done) (older : List Done) : Type 0 where
-  pub x : ℕ
-  pub place : place_of d ≡ Some x
-  pub small : x < 96
-  pub held : holds_place t x d ≡ true
-  pub slot : slice_index_or st.slots x None ≡ Some (station_of i (clocks t t t) d older)
-  pub order : order_of t (d ∷ older) ≡ order_of t older ++ (x ∷ [])
-
-pub seen : (i : Loaded) (config : Configuration) (t : ℕ) (st : Pools) (h newer : List Done) (d : Done) (older : List Done) → IsWithinLimits config → AreTimed config h → AreIssuedBy t h → ShowsStations i (clocks t t t) h st → h ≡ newer ++ (d ∷ older) → nat_lt t d.at.end ≡ true → IsSeen i t st d older
-seen i config t st h newer d older good timed issued shown e l =
-    let at : IsHeld i (clocks t t t) st d older = held_at i config (clocks t t t) st h newer d older good timed issued shown e l in
-    record { x = at.x; place = at.place; small = at.small; held = at.held; slot = at.slot; order = order_here t at.x d older at.place l }
-
--- the older accesses that a station with an address waits for are those of the recurrence
-pub clear_is : (i : Loaded) (config : Configuration) (t u : ℕ) (st : Pools) (h newer part : List Done) (s : Station) (x : Step) → IsWithinLimits config → AreTimed config h → AreIssuedBy t h → ShowsStations i (clocks t t t) h st → h ≡ newer ++ part → u ≡ t + 1
-    → last_address part ≤ t → bytes_in s ≡ bytes_of x → is_store (step_in s) ≡ is_store x → is_clear st.slots (order_of t part) s u ≡ are_conflicts_finished part x u
-clear_is i config t u st h newer [] s x good timed issued shown e f last bytes store = refl
-clear_is i config t u st h newer (d ∷ older) s x good timed issued shown e f last bytes store =
-    let part : AreTimed config (d ∷ older) = timed_part config newer (d ∷ older) (rw e at timed) in
-    let by : AreIssuedBy t (d ∷ older) = issued_part t newer (d ∷ older) (rw e at issued) in
-    let made : is_memory d.step ≡ true → cycle_of d.at.address ≤ t = λ m. rw m at last in
-    let before : last_address older ≤ t = elim (cases_Bool (is_memory d.step)) [
-      | inl m ↦ let k : last_address older < cycle_of d.at.address = address_rises config d older part.0 m in let l : cycle_of d.at.address ≤ t = made m in omega arith
-      | inr m ↦ rw m at last
-    ] in
-    let rest : is_clear st.slots (order_of t older) s u ≡ are_conflicts_finished older x u = clear_is i config t u st h (newer ++ (d ∷ [])) older s x good timed issued shown (e ∙ sym (append_assoc newer (d ∷ []) older)) f before bytes store in
-    elim (cases_Bool (nat_lt t d.at.end)) [
-      | inr l ↦
-          let k : d.at.end ≤ t = ltb-false _ _ l in
-          let r : d.at.finish ≤ d.at.end = (reach config d older good part).finish in
-          rw (l, lt-ltb d.at.finish u (omega arith), or_right (not (conflicts d.step x)) true refl) rest
-      | inl l ↦
-          let at = seen i config t st h newer d older good timed issued shown e l in
-          let one : lets_pass (slice_index_or st.slots at.x None) s u ≡ (not (conflicts d.step x) || nat_lt d.at.finish u) = ap (λ o. lets_pass o s u) (at.slot) ∙ lets_is i config t u d older s x good part by f made bytes store in
-          ap (λ xs. is_clear st.slots xs s u) at.order ∙ (clear-append st.slots (order_of t older) at.x s u ∙ rw (one, rest) refl)
-    ]
+use Rattle.tomex_cycle.proofs.StartsTests.{ready_is, no_bytes, bytes_are, conflicts_none, seen, clear_is}
 
 -- Which start.
 
@@ -207,7 +57,8 @@ starts_at t u (d ∷ older) x = if holds_place t x d then starts_in u d else sta
 abbrev pub count_of : UnitId → ℕ → List Done → ℕ
 count_of unit u h = count_by (λ d. is_of unit (step_unit d.step) && (d.at.start == u)) h
 
-tests_three : (i a c b w : Bool) → i ≡ true → (a ≡ true → c ≡ b) → ((((((true && true) && true) && a) && c) && w) ≡ ((((i && a) && (true && true)) && b) && w))
+tests_three : (i a c b w : Bool) → i ≡ true → (a ≡ true → c ≡ b)
+    → ((((((true && true) && true) && a) && c) && w) ≡ ((((i && a) && (true && true)) && b) && w))
 tests_three i true c b w e f = rw (e, f refl) refl
 tests_three i false c b w e f = rw e refl
 
@@ -216,37 +67,53 @@ tests_off true b w = refl
 tests_off false b w = refl
 
 -- the tests of the pass and of the recurrence, one after the other
-tests_same : (i a j k c b w : Bool) → i ≡ true → (a ≡ true → j ≡ true → k ≡ true → c ≡ b) → ((((((true && j) && k) && a) && c) && w) ≡ ((((i && a) && (j && k)) && b) && w))
+tests_same : (i a j k c b w : Bool) → i ≡ true → (a ≡ true → j ≡ true → k ≡ true → c ≡ b)
+    → ((((((true && j) && k) && a) && c) && w) ≡ ((((i && a) && (j && k)) && b) && w))
 tests_same i a true true c b w e f = tests_three i a c b w e (λ z. f z refl refl)
 tests_same i a true false c b w e f = rw e (tests_off a b w)
 tests_same i a false k c b w e f = rw e (tests_off a b w)
 
-least_from : (o : Option UnitId) (unit : UnitId) (P : Type 0) (Q : UnitId → Type 0) → o ≡ Some unit → MatchOption o P Q → Q unit
+least_from : (o : Option UnitId) (unit : UnitId) (P : Type 0) (Q : UnitId → Type 0) → o ≡ Some unit → MatchOption o P Q
+    → Q unit
 least_from None unit P Q e h = absurd (cc)
 least_from (Some v) unit P Q e h = let f : v ≡ unit = cc in rw (← f) h
 
-pub start_least : (config : Configuration) (d : Done) (older : List Done) (unit : UnitId) → IsTimed config older d.step d.at → step_unit d.step ≡ Some unit → IsLeast (can_start config older d.step unit d.at.issue (cycle_of d.at.address)) d.at.start
-start_least config d older unit timed e = least_from (step_unit d.step) unit (d.at.start ≡ d.at.issue) (λ v. IsLeast (can_start config older d.step v d.at.issue (cycle_of d.at.address)) d.at.start) e timed.start
+pub start_least : (config : Configuration) (d : Done) (older : List Done) (unit : UnitId)
+    → IsTimed config older d.step d.at → step_unit d.step ≡ Some unit
+    → IsLeast (can_start config older d.step unit d.at.issue (cycle_of d.at.address)) d.at.start
+start_least config d older unit timed e =
+    least_from (step_unit d.step) unit (d.at.start ≡ d.at.issue)
+    (λ v. IsLeast (can_start config older d.step v d.at.issue (cycle_of d.at.address)) d.at.start) e timed.start
 
-clear_here : (i : Loaded) (config : Configuration) (t u : ℕ) (st : Pools) (h newer : List Done) (d : Done) (older : List Done) → IsWithinLimits config → AreTimed config h → AreIssuedBy t h → ShowsStations i (clocks t t t) h st → h ≡ newer ++ (d ∷ older) → u ≡ t + 1 → cycle_of d.at.address < u
-    → is_clear st.slots (order_of t older) (station_of i (clocks t t t) d older) u ≡ are_conflicts_finished older d.step u
+clear_here : (i : Loaded) (config : Configuration) (t u : ℕ) (st : Pools) (h newer : List Done) (d : Done)
+    (older : List Done) → IsWithinLimits config → AreTimed config h → AreIssuedBy t h
+    → ShowsStations i (clocks t t t) h st → h ≡ newer ++ (d ∷ older) → u ≡ t + 1 → cycle_of d.at.address < u
+    → is_clear st.slots (order_of t older) (station_of i (clocks t t t) d older) u ≡ are_conflicts_finished older d.step
+    u
 clear_here i config t u st h newer d older good timed issued shown e f l =
     let part : AreTimed config (d ∷ older) = timed_part config newer (d ∷ older) (rw e at timed) in
     let by : AreIssuedBy t (d ∷ older) = issued_part t newer (d ∷ older) (rw e at issued) in
-    let bytes : bytes_in (station_of i (clocks t t t) d older) ≡ bytes_of d.step = bytes_are i config t d older part by (λ m. omega arith) in
+    let bytes : bytes_in (station_of i (clocks t t t) d older) ≡ bytes_of d.step =
+    bytes_are i config t d older part by (λ m. omega arith) in
     elim (cases_Bool (is_memory d.step)) [
       | inr m ↦
           let none : bytes_of d.step ≡ None = no_bytes d.step m in
-          no_access st.slots (order_of t older) (station_of i (clocks t t t) d older) u (bytes ∙ none) ∙ sym (conflicts_none older d.step u none)
+          no_access st.slots (order_of t older) (station_of i (clocks t t t) d older) u (bytes ∙ none)
+          ∙ sym (conflicts_none older d.step u none)
       | inl m ↦
           let k : last_address older < cycle_of d.at.address = address_rises config d older part.0 m in
-          clear_is i config t u st h (newer ++ (d ∷ [])) older (station_of i (clocks t t t) d older) d.step good timed issued shown (e ∙ sym (append_assoc newer (d ∷ []) older)) f (omega arith) bytes refl
+          clear_is i config t u st h (newer ++ (d ∷ [])) older (station_of i (clocks t t t) d older) d.step good timed
+          issued shown (e ∙ sym (append_assoc newer (d ∷ []) older)) f (omega arith) bytes refl
     ]
 
 -- an operation that is ready starts where a unit of its kind is left: the recurrence's test
-pub begins_is : (i : Loaded) (config : Configuration) (t u : ℕ) (st : Pools) (h newer : List Done) (d : Done) (older : List Done) (unit : UnitId) → IsWithinLimits config → AreTimed config h → AreIssuedBy t h → ShowsStations i (clocks t t t) h st → h ≡ newer ++ (d ∷ older) → u ≡ t + 1
+pub begins_is : (i : Loaded) (config : Configuration) (t u : ℕ) (st : Pools) (h newer : List Done) (d : Done)
+    (older : List Done) (unit : UnitId) → IsWithinLimits config → AreTimed config h → AreIssuedBy t h
+    → ShowsStations i (clocks t t t) h st → h ≡ newer ++ (d ∷ older) → u ≡ t + 1
     → step_unit d.step ≡ Some unit
-    → (is_waiting (station_of i (clocks t t t) d older) && is_clear st.slots (order_of t older) (station_of i (clocks t t t) d older) u && nat_lt (count_of unit u older) (option_of config unit).units) ≡ (d.at.start == u)
+    → (is_waiting (station_of i (clocks t t t) d older) && is_clear st.slots (order_of t older)
+    (station_of i (clocks t t t) d older) u && nat_lt (count_of unit u older) (option_of config unit).units)
+    ≡ (d.at.start == u)
 begins_is i config t u st h newer d older unit good timed issued shown e f some =
     let part : AreTimed config (d ∷ older) = timed_part config newer (d ∷ older) (rw e at timed) in
     let by : AreIssuedBy t (d ∷ older) = issued_part t newer (d ∷ older) (rw e at issued) in
@@ -257,10 +124,17 @@ begins_is i config t u st h newer d older unit good timed issued shown e f some 
           rw (ready, l, ne_eqb d.at.start u (λ (z : d.at.start ≡ u). absurd (omega arith))) refl
       | inl l ↦
           let k : t < d.at.start = ltb-true _ _ l in
-          let test : can_start config older d.step unit d.at.issue (cycle_of d.at.address) u ≡ (d.at.start == u) = least_test (can_start config older d.step unit d.at.issue (cycle_of d.at.address)) d.at.start u (start_least config d older unit part.0 some) (omega arith) in
+          let test : can_start config older d.step unit d.at.issue (cycle_of d.at.address) u ≡ (d.at.start == u) =
+          least_test (can_start config older d.step unit d.at.issue (cycle_of d.at.address)) d.at.start u
+          (start_least config d older unit part.0 some) (omega arith) in
           let issue : nat_lt d.at.issue u ≡ true = lt-ltb d.at.issue u (let z : d.at.issue ≤ t = by.0 in omega arith) in
-          let clear : nat_lt (cycle_of d.at.address) u ≡ true → is_clear st.slots (order_of t older) (station_of i (clocks t t t) d older) u ≡ are_conflicts_finished older d.step u = λ a. clear_here i config t u st h newer d older good timed issued shown e f (ltb-true _ _ a) in
-          rw (ready, l) (tests_same (nat_lt d.at.issue u) (nat_lt (cycle_of d.at.address) u) (nat_lt (source_end older (j_of d.step)) u) (nat_lt (source_end older (k_of d.step)) u) _ _ (has_unit config older unit u) issue (λ a b c. clear a) ∙ test)
+          let clear : nat_lt (cycle_of d.at.address) u ≡ true
+          → is_clear st.slots (order_of t older) (station_of i (clocks t t t) d older) u ≡ are_conflicts_finished
+          older d.step u = λ a. clear_here i config t u st h newer d older good timed issued shown e f
+          (ltb-true _ _ a) in
+          rw (ready, l) (tests_same (nat_lt d.at.issue u) (nat_lt (cycle_of d.at.address) u)
+          (nat_lt (source_end older (j_of d.step)) u) (nat_lt (source_end older (k_of d.step)) u) _ _
+          (has_unit config older unit u) issue (λ a b c. clear a) ∙ test)
     ]
 
 -- operations of one kind that start in the cycle
@@ -274,7 +148,8 @@ unit_low units.Div = omega arith
 unit_low units.Mem = omega arith
 unit_low units.Bru = omega arith
 
-none_of_start : (u start : ℕ) (unit : UnitId) (o : Option UnitId) → (start == u) ≡ false → (is_of unit o && (start == u)) ≡ false
+none_of_start : (u start : ℕ) (unit : UnitId) (o : Option UnitId) → (start == u) ≡ false
+    → (is_of unit o && (start == u)) ≡ false
 none_of_start u start unit o e = rw e (and_right (is_of unit o) false refl)
 
 pub unit_same : (v w : UnitId) → place_of_unit v ≡ place_of_unit w → v ≡ w
@@ -317,23 +192,30 @@ kind_here true w k n e = rw e refl
 kind_here false w k n e = refl
 
 -- what is wanted for the station of a step
-wants_is : (ready b : Bool) (unit : UnitId) (o : Option UnitId) (left : UnitId → Bool) → ((v : UnitId) → o ≡ Some v → (ready && left v) ≡ b) → (is_number (kind_if ready (kind_of o)) (place_of_unit unit) && left unit) ≡ (is_of unit o && b)
+wants_is : (ready b : Bool) (unit : UnitId) (o : Option UnitId) (left : UnitId → Bool)
+    → ((v : UnitId) → o ≡ Some v → (ready && left v) ≡ b)
+    → (is_number (kind_if ready (kind_of o)) (place_of_unit unit) && left unit) ≡ (is_of unit o && b)
 wants_is ready b unit None left test = kind_none ready (place_of_unit unit) (left unit)
 wants_is ready b unit (Some v) left test = elim (cases_Bool (place_of_unit v == place_of_unit unit)) [
   | inr e ↦ rw e (kind_other ready (left unit) (place_of_unit v) (place_of_unit unit) e)
   | inl e ↦
       let same : v ≡ unit = unit_same v unit (eqb-true _ _ e) in
-      kind_here ready (left unit) (place_of_unit v) (place_of_unit unit) e ∙ (ap (λ u. ready && left u) (sym same) ∙ (test v refl ∙ sym (rw e refl)))
+      kind_here ready (left unit) (place_of_unit v) (place_of_unit unit) e
+      ∙ (ap (λ u. ready && left u) (sym same) ∙ (test v refl ∙ sym (rw e refl)))
 ]
 
 -- a busy place splits the order into its elders and the others
-order_split : (t p : ℕ) (newer : List Done) (d : Done) (older : List Done) → holds_place t p d ≡ true → order_of t (newer ++ (d ∷ older)) ≡ order_of t older ++ (p ∷ order_of t newer)
+order_split : (t p : ℕ) (newer : List Done) (d : Done) (older : List Done) → holds_place t p d ≡ true
+    → order_of t (newer ++ (d ∷ older)) ≡ order_of t older ++ (p ∷ order_of t newer)
 order_split t p newer d older held =
     let two = and_parts (is_number (place_of d) p) (nat_lt t d.at.end) held in
     let place : place_of d ≡ Some p = number_is_some (place_of d) p two.0 in
-    order-append t newer (d ∷ older) ∙ (ap (λ xs. xs ++ order_of t newer) (order_here t p d older place two.1) ∙ append_assoc (order_of t older) (p ∷ []) (order_of t newer))
+    order-append t newer (d ∷ older)
+    ∙ (ap (λ xs. xs ++ order_of t newer) (order_here t p d older place two.1)
+    ∙ append_assoc (order_of t older) (p ∷ []) (order_of t newer))
 
-none_with : (pool : Option PoolId) (station : Option ℕ) (p : PoolId) (R : PoolId → ℕ → Type 0) → pool ≡ Some p → tag_at pool station ≡ None → MatchOption pool (station ≡ None) (λ p. (n : ℕ) × (station ≡ Some n) × R p n) → ⊥
+none_with : (pool : Option PoolId) (station : Option ℕ) (p : PoolId) (R : PoolId → ℕ → Type 0) → pool ≡ Some p
+    → tag_at pool station ≡ None → MatchOption pool (station ≡ None) (λ p. (n : ℕ) × (station ≡ Some n) × R p n) → ⊥
 none_with None station p R e f s = cc
 none_with (Some q) None p R e f s = let g : None ≡ Some s.0 = s.1 in cc
 none_with (Some q) (Some n) p R e f s = cc
@@ -347,31 +229,47 @@ pool_none None never = refl
 pool_none (Some p) never = absurd (never p refl)
 
 -- what has no station uses no unit
-no_pool_unit : (config : Configuration) (d : Done) (older : List Done) → IsTimed config older d.step d.at → place_of d ≡ None → step_unit d.step ≡ None
+no_pool_unit : (config : Configuration) (d : Done) (older : List Done) → IsTimed config older d.step d.at
+    → place_of d ≡ None → step_unit d.step ≡ None
 no_pool_unit config d older timed e =
     let none : tag_of d ≡ None = place_none (tag_of d) e in
-    let pool : step_pool d.step ≡ None = pool_none (step_pool d.step) (λ p f. none_with (step_pool d.step) d.at.station p (λ p n. IsLeast (is_free p older d.at.issue) n) f none timed.station) in
+    let pool : step_pool d.step ≡ None =
+    pool_none (step_pool d.step) (λ p f. none_with (step_pool d.step) d.at.station p
+    (λ p n. IsLeast (is_free p older d.at.issue) n) f none timed.station) in
     no_option (step_unit d.step) (unit_with_pool d.step ∙ ap is_some pool)
 
 -- one step of a kind is served by the recurrence
-one_serves : (i : Loaded) (config : Configuration) (t u : ℕ) (st : Pools) (sets : List ℕ) (unit : UnitId) (h newer : List Done) (d : Done) (older : List Done) → IsWithinLimits config → AreTimed config h → AreIssuedBy t h → ShowsStations i (clocks t t t) h st → IsInIssueOrder st.busy st.issue_numbers (order_of t h) → AreReady st u sets → u ≡ t + 1 → h ≡ newer ++ (d ∷ older)
+one_serves : (i : Loaded) (config : Configuration) (t u : ℕ) (st : Pools) (sets : List ℕ) (unit : UnitId)
+    (h newer : List Done) (d : Done) (older : List Done) → IsWithinLimits config → AreTimed config h → AreIssuedBy t h
+    → ShowsStations i (clocks t t t) h st → IsInIssueOrder st.busy st.issue_numbers (order_of t h)
+    → AreStartable st u sets → u ≡ t + 1 → h ≡ newer ++ (d ∷ older)
     → Serves t (option_of config unit).units (slice_index sets (place_of_unit unit)) (starts_of unit u) d older
 one_serves i config t u st sets unit h newer d older good timed issued shown by ready f e =
     let part : AreTimed config (d ∷ older) = timed_part config newer (d ∷ older) (rw e at timed) in
     let reached = reach config d older good part in
     record {
-      idle = λ l. let k : d.at.end ≤ t = ltb-false _ _ l in let r : d.at.start ≤ d.at.end = reached.start in none_of_start u d.at.start unit (step_unit d.step) (ne_eqb d.at.start u (λ (z : d.at.start ≡ u). absurd (omega arith)));
+      idle = λ l. let k : d.at.end ≤ t = ltb-false _ _ l in let r : d.at.start ≤ d.at.end = reached.start in
+          none_of_start u d.at.start unit (step_unit d.step)
+          (ne_eqb d.at.start u (λ (z : d.at.start ≡ u). absurd (omega arith)));
       nowhere = λ none. no_unit (step_unit d.step) (no_pool_unit config d older part.0 none);
       ready = λ x held.
           let late : nat_lt t d.at.end ≡ true = (and_parts (is_number (place_of d) x) (nat_lt t d.at.end) held).1 in
           let at = seen i config t st h newer d older good timed issued shown e late in
-          let same : at.x ≡ x = one_place (place_of d) at.x x at.place (and_parts (is_number (place_of d) x) (nat_lt t d.at.end) held).0 in
+          let same : at.x ≡ x = one_place (place_of d) at.x x at.place
+          (and_parts (is_number (place_of d) x) (nat_lt t d.at.end) held).0 in
           let small : x < 96 = rw same at at.small in
           let slot : slice_index_or st.slots x None ≡ Some (station_of i (clocks t t t) d older) = rw same at at.slot in
-          let order : order_of t h ≡ order_of t older ++ (x ∷ order_of t newer) = ap (order_of t) e ∙ order_split t x newer d older held in
-          let wants : has (slice_index sets (place_of_unit unit)) x ≡ is_number (wanted st.slots (order_of t older) u (slice_index_or st.slots x None)) (place_of_unit unit) = (ready unit).wants x (omega arith) (order_of t older) (order_of t newer) (rw order at by) in
-          sym (ap (λ b. b && nat_lt (count_by (starts_of unit u) older) (option_of config unit).units) (wants ∙ ap (λ o. is_number (wanted st.slots (order_of t older) u o) (place_of_unit unit)) slot)
-          ∙ wants_is (is_waiting (station_of i (clocks t t t) d older) && is_clear st.slots (order_of t older) (station_of i (clocks t t t) d older) u) (d.at.start == u) unit (step_unit d.step) (λ v. nat_lt (count_of v u older) (option_of config v).units) (λ v some. begins_is i config t u st h newer d older v good timed issued shown e f some));
+          let order : order_of t h ≡ order_of t older ++ (x ∷ order_of t newer) =
+          ap (order_of t) e ∙ order_split t x newer d older held in
+          let wants : has (slice_index sets (place_of_unit unit)) x
+          ≡ is_number (wanted st.slots (order_of t older) u (slice_index_or st.slots x None)) (place_of_unit unit) =
+          (ready unit).wants x (omega arith) (order_of t older) (order_of t newer) (rw order at by) in
+          sym (ap (λ b. b && nat_lt (count_by (starts_of unit u) older) (option_of config unit).units)
+          (wants ∙ ap (λ o. is_number (wanted st.slots (order_of t older) u o) (place_of_unit unit)) slot)
+          ∙ wants_is (is_waiting (station_of i (clocks t t t) d older) && is_clear st.slots (order_of t older)
+          (station_of i (clocks t t t) d older) u) (d.at.start == u) unit (step_unit d.step)
+          (λ v. nat_lt (count_of v u older) (option_of config v).units)
+          (λ v some. begins_is i config t u st h newer d older v good timed issued shown e f some));
     }
   where
     one_place : (o : Option ℕ) (a b : ℕ) → o ≡ Some a → is_number o b ≡ true → a ≡ b
@@ -381,12 +279,16 @@ one_serves i config t u st sets unit h newer d older good timed issued shown by 
     no_unit : (o : Option UnitId) → o ≡ None → (is_of unit o && (d.at.start == u)) ≡ false
     no_unit o e = rw e refl
 
-all_serve : (i : Loaded) (config : Configuration) (t u : ℕ) (st : Pools) (sets : List ℕ) (unit : UnitId) (h newer part : List Done) → IsWithinLimits config → AreTimed config h → AreIssuedBy t h → ShowsStations i (clocks t t t) h st → IsInIssueOrder st.busy st.issue_numbers (order_of t h) → AreReady st u sets → u ≡ t + 1 → h ≡ newer ++ part
+all_serve : (i : Loaded) (config : Configuration) (t u : ℕ) (st : Pools) (sets : List ℕ) (unit : UnitId)
+    (h newer part : List Done) → IsWithinLimits config → AreTimed config h → AreIssuedBy t h
+    → ShowsStations i (clocks t t t) h st → IsInIssueOrder st.busy st.issue_numbers (order_of t h)
+    → AreStartable st u sets → u ≡ t + 1 → h ≡ newer ++ part
     → AreServed t (option_of config unit).units (slice_index sets (place_of_unit unit)) (starts_of unit u) part
 all_serve i config t u st sets unit h newer [] good timed issued shown by ready f e = tt
 all_serve i config t u st sets unit h newer (d ∷ older) good timed issued shown by ready f e = (
   one_serves i config t u st sets unit h newer d older good timed issued shown by ready f e,
-  all_serve i config t u st sets unit h (newer ++ (d ∷ [])) older good timed issued shown by ready f (e ∙ sym (append_assoc newer (d ∷ []) older)),
+  all_serve i config t u st sets unit h (newer ++ (d ∷ [])) older good timed issued shown by ready f
+      (e ∙ sym (append_assoc newer (d ∷ []) older)),
 )
 
 -- nobody older goes from a place that is held
@@ -394,25 +296,36 @@ goes_free : (t x : ℕ) (goes : Done → Bool) (h : List Done) → is_vacant t x
 goes_free t x goes [] e = refl
 goes_free t x goes (d ∷ older) e = elim (cases_Bool (holds_place t x d)) [
   | inr h ↦ rw h (goes_free t x goes older (and_parts (not (holds_place t x d)) (is_vacant t x older) e).1)
-  | inl h ↦ let g : not true ≡ true = rw h at (and_parts (not (holds_place t x d)) (is_vacant t x older) e).0 in absurd (cc)
+  | inl h ↦ let g : not true ≡ true = rw h at (and_parts (not (holds_place t x d)) (is_vacant t x older) e).0 in
+      absurd (cc)
 ]
 
-pub all_alone : (config : Configuration) (t : ℕ) (goes : Done → Bool) (h : List Done) → IsWithinLimits config → AreTimed config h → AreIssuedBy (t + 1) h → AreAlone t goes h
+pub all_alone : (config : Configuration) (t : ℕ) (goes : Done → Bool) (h : List Done) → IsWithinLimits config
+    → AreTimed config h → AreIssuedBy (t + 1) h → AreAlone t goes h
 all_alone config t goes [] good timed issued = tt
 all_alone config t goes (d ∷ older) good timed issued = (
-  (λ x held. goes_free t x goes older (vacant config d older t x good timed issued.0 (and_parts (is_number (place_of d) x) (nat_lt t d.at.end) held).0)),
+  (λ x held. goes_free t x goes older
+      (vacant config d older t x good timed issued.0
+      (and_parts (is_number (place_of d) x) (nat_lt t d.at.end) held).0)),
   all_alone config t goes older good timed.1 issued.1,
 )
 
 -- of all kinds together
-kinds_at : (t u : ℕ) (h : List Done) (x : ℕ) → (goes_at t (starts_of units.Alu u) h x || (goes_at t (starts_of units.Mul u) h x || (goes_at t (starts_of units.Div u) h x || (goes_at t (starts_of units.Mem u) h x || (goes_at t (starts_of units.Bru u) h x || false))))) ≡ starts_at t u h x
+kinds_at : (t u : ℕ) (h : List Done) (x : ℕ)
+    → (goes_at t (starts_of units.Alu u) h x ||
+    (goes_at t (starts_of units.Mul u) h x ||
+    (goes_at t (starts_of units.Div u) h x ||
+    (goes_at t (starts_of units.Mem u) h x || (goes_at t (starts_of units.Bru u) h x || false))))) ≡ starts_at t u h x
 kinds_at t u [] x = refl
 kinds_at t u (d ∷ older) x = elim (cases_Bool (holds_place t x d)) [
   | inr h ↦ rw h (kinds_at t u older x)
   | inl h ↦ rw h (one_kind (step_unit d.step) (d.at.start == u))
 ]
   where
-    one_kind : (o : Option UnitId) (b : Bool) → ((is_of units.Alu o && b) || ((is_of units.Mul o && b) || ((is_of units.Div o && b) || ((is_of units.Mem o && b) || ((is_of units.Bru o && b) || false))))) ≡ (is_some o && b)
+    one_kind : (o : Option UnitId) (b : Bool)
+        → ((is_of units.Alu o && b) || ((is_of units.Mul o && b) ||
+        ((is_of units.Div o && b) || ((is_of units.Mem o && b) || ((is_of units.Bru o && b) || false)))))
+        ≡ (is_some o && b)
     one_kind None b = refl
     one_kind (Some units.Alu) false = refl
     one_kind (Some units.Mul) false = refl
@@ -425,17 +338,28 @@ kinds_at t u (d ∷ older) x = elim (cases_Bool (holds_place t x d)) [
     one_kind (Some units.Mem) true = refl
     one_kind (Some units.Bru) true = refl
 
-pub five : (xs : List ℕ) (x : ℕ) → length xs ≡ 5 → is_among xs x ≡ (has (slice_index xs 0) x || (has (slice_index xs 1) x || (has (slice_index xs 2) x || (has (slice_index xs 3) x || (has (slice_index xs 4) x || false)))))
+pub five : (xs : List ℕ) (x : ℕ) → length xs ≡ 5
+    → is_among xs x ≡ (has (slice_index xs 0) x ||
+    (has (slice_index xs 1) x || (has (slice_index xs 2) x ||
+    (has (slice_index xs 3) x || (has (slice_index xs 4) x || false)))))
 five (a ∷ b ∷ c ∷ d ∷ e ∷ []) x count = refl
 five _ x count = absurd (omega arith)
 
 -- the places that start are those whose steps start
-pub starting_is : (i : Loaded) (config : Configuration) (t u x : ℕ) (st : Pools) (h : List Done) (starting : ℕ) → IsWithinLimits config → AreTimed config h → AreIssuedBy t h → ShowsStations i (clocks t t t) h st → AreBusy st.slots st.busy st.issue_numbers → IsStarting config st u starting → u ≡ t + 1 → x < 128
+pub starting_is : (i : Loaded) (config : Configuration) (t u x : ℕ) (st : Pools) (h : List Done) (starting : ℕ)
+    → IsWithinLimits config → AreTimed config h → AreIssuedBy t h → ShowsStations i (clocks t t t) h st
+    → AreBusy st.slots st.busy st.issue_numbers → IsStarting config st u starting → u ≡ t + 1 → x < 128
     → has starting x ≡ starts_at t u h x
 starting_is i config t u x st h starting good timed issued shown filled begins e l =
     let more : AreIssuedBy (t + 1) h = issued_more t (t + 1) h (omega arith) issued in
-    let by : IsInIssueOrder st.busy st.issue_numbers (order_of t h) = order_is i config (clocks t t t) h st good timed more shown filled in
-    let kind : (unit : UnitId) → has (slice_index begins.kinds (place_of_unit unit)) x ≡ goes_at t (starts_of unit u) h x = λ unit.
-    picked_goes t (option_of config unit).units st.busy (slice_index begins.ready (place_of_unit unit)) (slice_index begins.kinds (place_of_unit unit)) st.issue_numbers (starts_of unit u) h by (begins.are_ready unit).inside (begins.units unit)
-    (all_serve i config t u st begins.ready unit h [] h good timed issued shown by begins.are_ready e refl) (all_alone config t (starts_of unit u) h good timed more) x l in
-    begins.all x l ∙ (five begins.kinds x begins.count ∙ (rw (kind units.Alu, kind units.Mul, kind units.Div, kind units.Mem, kind units.Bru) (kinds_at t u h x)))
+    let by : IsInIssueOrder st.busy st.issue_numbers (order_of t h) =
+    order_is i config (clocks t t t) h st good timed more shown filled in
+    let kind : (unit : UnitId) → has (slice_index begins.kinds (place_of_unit unit)) x ≡ goes_at t (starts_of unit u) h
+    x = λ unit.
+    picked_goes t (option_of config unit).units st.busy (slice_index begins.startable (place_of_unit unit))
+    (slice_index begins.kinds (place_of_unit unit)) st.issue_numbers (starts_of unit u) h by
+    (begins.are_startable unit).inside (begins.units unit)
+    (all_serve i config t u st begins.startable unit h [] h good timed issued shown by begins.are_startable e refl)
+    (all_alone config t (starts_of unit u) h good timed more) x l in
+    begins.all x l ∙ (five begins.kinds x begins.count
+    ∙ (rw (kind units.Alu, kind units.Mul, kind units.Div, kind units.Mem, kind units.Bru) (kinds_at t u h x)))

@@ -1,5 +1,6 @@
 -- What a store leaves in memory.
-use Rattle.std.proofs.Common.{length, slice_index_or, zero, suc, Option, Some, None, ℕ, ◌+◌, ◌<◌, ◌≤◌, ◌≡◌, ◌∙◌, Bool, true, false, arith, refl, List, ap, sym}
+use Rattle.std.proofs.Common.{length, slice_index_or, zero, suc, Option, Some, None, ℕ, ◌+◌, ◌<◌, ◌≤◌, ◌≡◌, ◌∙◌, Bool}
+use Rattle.std.proofs.Common.{true, false, arith, refl, List, ap, sym}
 use Rattle.std.specs.Prelude.{if◌then◌else◌, ◌&&◌, IfSome}
 use Rattle.std.proofs.lemmas.Bool.{and_parts}
 use Rattle.tomex_rvexec.specs.declared.step.ByteRange.{ByteRange}
@@ -12,38 +13,49 @@ use Rattle.tomex_tags.specs.Contents.{step_in}
 use Rattle.tomex_tags.specs.WaitSets.{IsSetOf, holds_store}
 use Rattle.tomex_tags.specs.declared.station.Station.{Station}
 use Rattle.tomex_sets.specs.Sets.{has, IsWithout}
-use Rattle.tomex_sets.proofs.Members.{AreFrom, all_left, least_from, least_in, left_from, none_after, none_between, skip_to}
+use Rattle.tomex_sets.proofs.Members.{AreFrom, all_left, least_from, least_in, left_from, none_after, none_between}
+use Rattle.tomex_sets.proofs.Members.{skip_to}
 
 -- The stores of the picked places, one after the other.
 
-pub inside_as : (o : Option ByteRange) (a b m n : ℕ) → a ≡ b → m ≡ n → IfSome o (λ r. (b ≤ r.from) × (r.to ≤ b + n)) → IfSome o (λ r. (a ≤ r.from) × (r.to ≤ a + m))
+pub inside_as : (o : Option ByteRange) (a b m n : ℕ) → a ≡ b → m ≡ n → IfSome o (λ r. (b ≤ r.from) × (r.to ≤ b + n))
+    → IfSome o (λ r. (a ≤ r.from) × (r.to ≤ a + m))
 inside_as o a b m n e f inside = rw (e, f) inside
 
 pub none_stored : (slots : List (Option Station)) (picked : ℕ) (m : Bytes) → HaveStored slots picked 0 m m
 none_stored slots picked m = record { base = refl; size = refl; bytes = λ a l. refl }
 
-written_more : (slots : List (Option Station)) (picked : ℕ) (byte : ℕ → ℕ) (k a : ℕ) → written_by slots picked byte (k + 1) a ≡ stored_at (has picked k) (slice_index_or slots k None) a (written_by slots picked byte k a)
+written_more : (slots : List (Option Station)) (picked : ℕ) (byte : ℕ → ℕ) (k a : ℕ)
+    → written_by slots picked byte (k + 1) a ≡ stored_at (has picked k) (slice_index_or slots k None) a
+    (written_by slots picked byte k a)
 written_more slots picked byte k a = let e : k + 1 ≡ suc k = omega arith in rw e refl
 
 stored_skip : (o : Option Station) (a before : ℕ) → stored_at false o a before ≡ before
 stored_skip None a before = refl
 stored_skip (Some s) a before = refl
 
-pub skip_stored : (slots : List (Option Station)) (picked : ℕ) (k : ℕ) (old now : Bytes) → has picked k ≡ false → HaveStored slots picked k old now → HaveStored slots picked (k + 1) old now
+pub skip_stored : (slots : List (Option Station)) (picked : ℕ) (k : ℕ) (old now : Bytes) → has picked k ≡ false
+    → HaveStored slots picked k old now → HaveStored slots picked (k + 1) old now
 skip_stored slots picked k old now e before = record {
   base = before.base;
   size = before.size;
-  bytes = λ a l. before.bytes a l ∙ sym (written_more slots picked (byte_in old) k a ∙ rw e (stored_skip (slice_index_or slots k None) a (written_by slots picked (byte_in old) k a)));
+  bytes = λ a l. before.bytes a l
+      ∙ sym (written_more slots picked (byte_in old) k a
+      ∙ rw e (stored_skip (slice_index_or slots k None) a (written_by slots picked (byte_in old) k a)));
 }
 
-stored_by : (slots : List (Option Station)) (picked : ℕ) (k : ℕ) (old now new : Bytes) (o : Option Station) → slice_index_or slots k None ≡ o → has picked k ≡ true
-    → ((s : Station) → o ≡ Some s → HasStored (step_in s) now new) → (o ≡ None → new ≡ now) → ((s : Station) → o ≡ Some s → IsInside old (step_in s)) → HaveStored slots picked k old now → HaveStored slots picked (k + 1) old new
+stored_by : (slots : List (Option Station)) (picked : ℕ) (k : ℕ) (old now new : Bytes) (o : Option Station)
+    → slice_index_or slots k None ≡ o → has picked k ≡ true
+    → ((s : Station) → o ≡ Some s → HasStored (step_in s) now new) → (o ≡ None → new ≡ now)
+    → ((s : Station) → o ≡ Some s → IsInside old (step_in s)) → HaveStored slots picked k old now
+    → HaveStored slots picked (k + 1) old new
 stored_by slots picked k old now new None e pick some none inside before =
     let same : new ≡ now = none refl in
     record {
       base = ap (λ (m : Bytes). m.base) same ∙ before.base;
       size = ap (λ (m : Bytes). length m.bytes) same ∙ before.size;
-      bytes = λ a l. ap (λ (m : Bytes). byte_in m a) same ∙ (before.bytes a l ∙ sym (written_more slots picked (byte_in old) k a ∙ rw e refl));
+      bytes = λ a l. ap (λ (m : Bytes). byte_in m a) same
+          ∙ (before.bytes a l ∙ sym (written_more slots picked (byte_in old) k a ∙ rw e refl));
     }
 stored_by slots picked k old now new (Some s) e pick some none inside before =
     let one : HasStored (step_in s) now new = some s refl in
@@ -52,13 +64,19 @@ stored_by slots picked k old now new (Some s) e pick some none inside before =
       base = one.base ∙ before.base;
       size = one.size ∙ before.size;
       bytes = λ a l.
-          one.bytes (inside_as (bytes_of (step_in s)) now.base old.base (length now.bytes) (length old.bytes) before.base before.size (inside s refl)) a (omega arith)
-          ∙ (ap (λ (n : ℕ). if overwrites (step_in s) a then stored_byte (step_in s) a else n) (before.bytes a l) ∙ sym (written_more slots picked (byte_in old) k a ∙ rw (e, pick) refl));
+          one.bytes (inside_as (bytes_of (step_in s)) now.base old.base (length now.bytes) (length old.bytes)
+          before.base before.size (inside s refl)) a (omega arith)
+          ∙ (ap (λ (n : ℕ). if overwrites (step_in s) a then stored_byte (step_in s) a else n) (before.bytes a l)
+          ∙ sym (written_more slots picked (byte_in old) k a ∙ rw (e, pick) refl));
     }
 
-pub more_stored : (slots : List (Option Station)) (picked : ℕ) (k : ℕ) (old now new : Bytes) → k < 96 → has picked k ≡ true
-    → ((s : Station) → slice_index_or slots k None ≡ Some s → HasStored (step_in s) now new) → (slice_index_or slots k None ≡ None → new ≡ now) → AllInside old picked slots → HaveStored slots picked k old now → HaveStored slots picked (k + 1) old new
-more_stored slots picked k old now new l pick some none inside before = stored_by slots picked k old now new (slice_index_or slots k None) refl pick some none (inside k l pick) before
+pub more_stored : (slots : List (Option Station)) (picked : ℕ) (k : ℕ) (old now new : Bytes) → k < 96
+    → has picked k ≡ true
+    → ((s : Station) → slice_index_or slots k None ≡ Some s → HasStored (step_in s) now new)
+    → (slice_index_or slots k None ≡ None → new ≡ now) → AllInside old picked slots → HaveStored slots picked k old now
+    → HaveStored slots picked (k + 1) old new
+more_stored slots picked k old now new l pick some none inside before =
+    stored_by slots picked k old now new (slice_index_or slots k None) refl pick some none (inside k l pick) before
 
 -- The loop over the picked places, the least first.
 
@@ -69,14 +87,25 @@ pub record IsStored (slots : List (Option Station)) (picked rest : ℕ) (old now
   pub stored : HaveStored slots picked k old now
 
 pub first_stored : (slots : List (Option Station)) (picked : ℕ) (m : Bytes) → IsStored slots picked picked m m
-first_stored slots picked m = record { k = 0; from = all_left picked; high = omega arith; stored = none_stored slots picked m }
+first_stored slots picked m = record {
+  k = 0;
+  from = all_left picked;
+  high = omega arith;
+  stored = none_stored slots picked m;
+}
 
-pub member_stored : (slots : List (Option Station)) (picked rest left x : ℕ) (old now new : Bytes) → AreLow picked → AllInside old picked slots → x < 128 → has rest x ≡ true → ((i : ℕ) → i < x → has rest i ≡ false) → IsWithout rest x left
-    → ((s : Station) → slice_index_or slots x None ≡ Some s → HasStored (step_in s) now new) → (slice_index_or slots x None ≡ None → new ≡ now) → IsStored slots picked rest old now → IsStored slots picked left old new
+pub member_stored : (slots : List (Option Station)) (picked rest left x : ℕ) (old now new : Bytes) → AreLow picked
+    → AllInside old picked slots → x < 128 → has rest x ≡ true → ((i : ℕ) → i < x → has rest i ≡ false)
+    → IsWithout rest x left
+    → ((s : Station) → slice_index_or slots x None ≡ Some s → HasStored (step_in s) now new)
+    → (slice_index_or slots x None ≡ None → new ≡ now) → IsStored slots picked rest old now
+    → IsStored slots picked left old new
 member_stored slots picked rest left x old now new low inside l member least without some none so =
     let pick : has picked x ≡ true = least_in picked rest so.k x so.from l member in
     let below : x < 96 = low x l pick in
-    let before : HaveStored slots picked x old now = skip_to (λ j. HaveStored slots picked j old now) picked so.k x (least_from picked rest so.k x so.from l member) (none_between picked rest so.k x so.from l least) (λ j e b. skip_stored slots picked j old now e b) so.stored in
+    let before : HaveStored slots picked x old now =
+    skip_to (λ j. HaveStored slots picked j old now) picked so.k x (least_from picked rest so.k x so.from l member)
+    (none_between picked rest so.k x so.from l least) (λ j e b. skip_stored slots picked j old now e b) so.stored in
     record {
       k = x + 1;
       from = left_from picked rest left so.k x so.from l member least without;
@@ -84,13 +113,17 @@ member_stored slots picked rest left x old now new low inside l member least wit
       stored = more_stored slots picked x old now new below pick some none inside before;
     }
 
-pub all_stored : (slots : List (Option Station)) (picked rest : ℕ) (old now : Bytes) → AreLow picked → rest ≡ 0 → IsStored slots picked rest old now → HaveStored slots picked 96 old now
+pub all_stored : (slots : List (Option Station)) (picked rest : ℕ) (old now : Bytes) → AreLow picked → rest ≡ 0
+    → IsStored slots picked rest old now → HaveStored slots picked 96 old now
 all_stored slots picked rest old now low empty so =
-    skip_to (λ j. HaveStored slots picked j old now) picked so.k 96 so.high (λ j from to. none_after picked rest so.k so.from empty j from (omega arith)) (λ j e b. skip_stored slots picked j old now e b) so.stored
+    skip_to (λ j. HaveStored slots picked j old now) picked so.k 96 so.high
+    (λ j from to. none_after picked rest so.k so.from empty j from (omega arith))
+    (λ j e b. skip_stored slots picked j old now e b) so.stored
 
 -- What is no store leaves memory as it is.
 
-stores_not : (o : Option Station) (picked : Bool) (a before : ℕ) → holds_store o ≡ false → stored_at picked o a before ≡ before
+stores_not : (o : Option Station) (picked : Bool) (a before : ℕ) → holds_store o ≡ false
+    → stored_at picked o a before ≡ before
 stores_not None picked a before none = refl
 stores_not (Some s) picked a before none =
     let not_here : overwrites (step_in s) a ≡ false = ap (λ b. b && covers (step_in s) a) none in
@@ -100,22 +133,29 @@ stores_not (Some s) picked a before none =
     and_false true = refl
     and_false false = refl
 
-same_stored : (o : Option Station) (picked kept : Bool) (a before : ℕ) → (kept ≡ false → stored_at picked o a before ≡ before) → stored_at (picked && kept) o a before ≡ stored_at picked o a before
+same_stored : (o : Option Station) (picked kept : Bool) (a before : ℕ)
+    → (kept ≡ false → stored_at picked o a before ≡ before) → stored_at (picked && kept) o a before ≡ stored_at picked o
+    a before
 same_stored o true true a before none = refl
 same_stored o false true a before none = refl
 same_stored o true false a before none = stored_skip o a before ∙ sym (none refl)
 same_stored o false false a before none = refl
 
 -- so the stores among the picked places write what all of them do
-same_written : (slots : List (Option Station)) (picked found stores : ℕ) (byte : ℕ → ℕ) (k a : ℕ) → k ≤ 128 → IsSetOf holds_store slots stores → ((x : ℕ) → has found x ≡ (has picked x && has stores x))
+same_written : (slots : List (Option Station)) (picked found stores : ℕ) (byte : ℕ → ℕ) (k a : ℕ) → k ≤ 128
+    → IsSetOf holds_store slots stores → ((x : ℕ) → has found x ≡ (has picked x && has stores x))
     → written_by slots found byte k a ≡ written_by slots picked byte k a
 same_written slots picked found stores byte zero a l are both = refl
 same_written slots picked found stores byte (suc k) a l are both =
-    ap (stored_at (has found k) (slice_index_or slots k None) a) (same_written slots picked found stores byte k a (omega arith) are both)
-    ∙ rw (both k) (same_stored (slice_index_or slots k None) (has picked k) (has stores k) a (written_by slots picked byte k a) (λ none.
-    stores_not (slice_index_or slots k None) (has picked k) a (written_by slots picked byte k a) (sym (are k (omega arith)) ∙ none)))
+    ap (stored_at (has found k) (slice_index_or slots k None) a)
+    (same_written slots picked found stores byte k a (omega arith) are both)
+    ∙ rw (both k) (same_stored (slice_index_or slots k None) (has picked k) (has stores k) a
+    (written_by slots picked byte k a) (λ none.
+    stores_not (slice_index_or slots k None) (has picked k) a (written_by slots picked byte k a)
+    (sym (are k (omega arith)) ∙ none)))
 
-pub stores_stored : (slots : List (Option Station)) (picked found stores : ℕ) (old now : Bytes) → IsSetOf holds_store slots stores → ((x : ℕ) → has found x ≡ (has picked x && has stores x))
+pub stores_stored : (slots : List (Option Station)) (picked found stores : ℕ) (old now : Bytes)
+    → IsSetOf holds_store slots stores → ((x : ℕ) → has found x ≡ (has picked x && has stores x))
     → HaveStored slots found 96 old now → HaveStored slots picked 96 old now
 stores_stored slots picked found stores old now are both stored = record {
   base = stored.base;
@@ -124,5 +164,6 @@ stores_stored slots picked found stores old now are both stored = record {
 }
 
 -- they are among the picked places
-pub store_picked : (picked found stores : ℕ) → ((x : ℕ) → has found x ≡ (has picked x && has stores x)) → (x : ℕ) → has found x ≡ true → has picked x ≡ true
+pub store_picked : (picked found stores : ℕ) → ((x : ℕ) → has found x ≡ (has picked x && has stores x)) → (x : ℕ)
+    → has found x ≡ true → has picked x ≡ true
 store_picked picked found stores both x e = (and_parts (has picked x) (has stores x) (sym (both x) ∙ e)).0

@@ -1,7 +1,9 @@
 -- Memory after the stores that start in a cycle.
-use Rattle.std.proofs.Common.{slice_index_or, suc, zero, ℕ, ◌+◌, ◌<◌, ◌≤◌, ◌≡◌, ◌∙◌, Bool, true, false, arith, refl, List, [], ◌∷◌, Option, Some, None, ap, sym, inl, inr}
+use Rattle.std.proofs.Common.{slice_index_or, suc, zero, ℕ, ◌+◌, ◌<◌, ◌≤◌, ◌≡◌, ◌∙◌, Bool, true, false, arith, refl}
+use Rattle.std.proofs.Common.{List, [], ◌∷◌, Option, Some, None, ap, sym, inl, inr}
 use Rattle.std.specs.Prelude.{nat_lt, nat_le, if◌then◌else◌, ◌&&◌, ◌||◌, ◌==◌, not, is_some}
-use Rattle.std.proofs.lemmas.Bool.{cases_Bool, ltb-true, lt-ltb, le-leb, lt-leb, and_parts, or_left, eq-eqb, eqb-true, eqb-false, ne_eqb, both_ways, cases_order}
+use Rattle.std.proofs.lemmas.Bool.{cases_Bool, ltb-true, lt-ltb, le-leb, lt-leb, and_parts, or_left, eq-eqb, eqb-true}
+use Rattle.std.proofs.lemmas.Bool.{eqb-false, ne_eqb, both_ways, cases_order}
 use Rattle.tomex_image.specs.Image.{Loaded}
 use Rattle.tomex_config.specs.Configuration.{Configuration, IsWithinLimits}
 use Rattle.tomex_rvexec.specs.declared.step.Step.{Step}
@@ -37,7 +39,9 @@ left_at t u a (d ∷ older) x = if holds_place t x d then leaves u a d else left
 -- at most one store on a byte starts in a cycle
 pub data Left (i : Loaded) (t u a : ℕ) (h : List Done) : Type 0 where
   none : ((x : ℕ) → left_at t u a h x ≡ None) → byte_at i u h a ≡ byte_at i t h a → Left i t u a h
-  one : (y v : ℕ) → y < 96 → left_at t u a h y ≡ Some v → ((x : ℕ) → (x ≡ y → ⊥) → left_at t u a h x ≡ None) → byte_at i u h a ≡ v → ((x : Step) (s : ℕ) → overwrites x a ≡ true → are_conflicts_finished h x s ≡ true → u < s) → Left i t u a h
+  one : (y v : ℕ) → y < 96 → left_at t u a h y ≡ Some v → ((x : ℕ) → (x ≡ y → ⊥) → left_at t u a h x ≡ None)
+      → byte_at i u h a ≡ v → ((x : Step) (s : ℕ) → overwrites x a ≡ true → are_conflicts_finished h x s ≡ true → u < s)
+      → Left i t u a h
 
 left_free : (t u a x : ℕ) (h : List Done) → is_vacant t x h ≡ true → left_at t u a h x ≡ None
 left_free t u a x [] e = refl
@@ -49,7 +53,8 @@ left_free t u a x (d ∷ older) e =
     ]
 
 -- a younger store on a byte starts after an older one has finished
-later_one : (d : Done) (x : Step) (s a : ℕ) → overwrites d.step a ≡ true → overwrites x a ≡ true → (not (conflicts d.step x) || nat_lt d.at.finish s) ≡ true → d.at.finish < s
+later_one : (d : Done) (x : Step) (s a : ℕ) → overwrites d.step a ≡ true → overwrites x a ≡ true
+    → (not (conflicts d.step x) || nat_lt d.at.finish s) ≡ true → d.at.finish < s
 later_one d x s a o p e =
     let q = and_parts (is_store d.step) (covers d.step a) o in
     let r = and_parts (is_store x) (covers x a) p in
@@ -68,16 +73,22 @@ quiet_start true c e f = absurd (both_ways c f e)
 quiet_start false c e f = refl
 
 -- a step that leaves no byte changes none as the clock goes on
-made_same : (i : Loaded) (config : Configuration) (t u a : ℕ) (d : Done) (older : List Done) → AreTimed config (d ∷ older) → AreIssuedBy t (d ∷ older) → u ≡ t + 1 → (starts_in u d && overwrites d.step a) ≡ false → (overwrites d.step a && nat_le d.at.start u) ≡ (overwrites d.step a && nat_le d.at.start t)
+made_same : (i : Loaded) (config : Configuration) (t u a : ℕ) (d : Done) (older : List Done)
+    → AreTimed config (d ∷ older) → AreIssuedBy t (d ∷ older) → u ≡ t + 1 → (starts_in u d && overwrites d.step a)
+    ≡ false → (overwrites d.step a && nat_le d.at.start u) ≡ (overwrites d.step a && nat_le d.at.start t)
 made_same i config t u a d older timed issued e quiet = elim (cases_Bool (overwrites d.step a)) [
   | inr o ↦ rw o refl
   | inl o ↦
       let starts : starts_in u d ≡ false = quiet_start (starts_in u d) (overwrites d.step a) o quiet in
-      rw o (not_u d.at.start t u e (late_unit (step_unit d.step) d.at.start d.at.issue t u (λ v. IsLeast (can_start config older d.step v d.at.issue (cycle_of d.at.address)) d.at.start) timed.0.start issued.0 e starts))
+      rw o (not_u d.at.start t u e (late_unit (step_unit d.step) d.at.start d.at.issue t u
+      (λ v. IsLeast (can_start config older d.step v d.at.issue (cycle_of d.at.address)) d.at.start) timed.0.start
+      issued.0 e starts))
 ]
 
 -- a step on top that leaves a byte
-left_here : (i : Loaded) (config : Configuration) (t u a : ℕ) (d : Done) (older : List Done) → IsWithinLimits config → AreTimed config (d ∷ older) → AreIssuedBy t (d ∷ older) → u ≡ t + 1 → (starts_in u d && overwrites d.step a) ≡ true → Left i t u a older → Left i t u a (d ∷ older)
+left_here : (i : Loaded) (config : Configuration) (t u a : ℕ) (d : Done) (older : List Done) → IsWithinLimits config
+    → AreTimed config (d ∷ older) → AreIssuedBy t (d ∷ older) → u ≡ t + 1 → (starts_in u d && overwrites d.step a)
+    ≡ true → Left i t u a older → Left i t u a (d ∷ older)
 left_here i config t u a d older good timed issued e leaves_it (one y v small here others byte later) =
     let two = and_parts (starts_in u d) (overwrites d.step a) leaves_it in
     let unit = and_parts (is_some (step_unit d.step)) (d.at.start == u) two.0 in
@@ -94,15 +105,20 @@ left_here i config t u a d older good timed issued e leaves_it (none others byte
     let tag = tag_there config d older t timed.0 issued.0 (omega arith) in
     let place : place_of d ≡ Some (place_of_tag tag.0) = ap place_at tag.1 in
     let busy : nat_lt t d.at.end ≡ true = lt-ltb t d.at.end (omega arith) in
-    let small : place_of_tag tag.0 < 96 = place_low (step_pool d.step) d.at.station (place_of_tag tag.0) (low config (d ∷ older) good timed).0 place in
+    let small : place_of_tag tag.0 < 96 =
+    place_low (step_pool d.step) d.at.station (place_of_tag tag.0) (low config (d ∷ older) good timed).0 place in
     one (place_of_tag tag.0) (stored_byte d.step a) small
     (rw (place, busy, eq-eqb (place_of_tag tag.0) (place_of_tag tag.0) refl, leaves_it) refl)
     (λ x other. rw (place, ne_eqb (place_of_tag tag.0) x (λ z. other (sym z))) (others x))
     (rw (two.1, le-leb d.at.start u (omega arith)) refl)
-    (λ x s o clear. let k : d.at.finish < s = later_one d x s a two.1 o (and_parts (not (conflicts d.step x) || nat_lt d.at.finish s) (are_conflicts_finished older x s) clear).0 in omega arith)
+    (λ x s o clear. let k : d.at.finish < s =
+    later_one d x s a two.1 o (and_parts (not (conflicts d.step x) || nat_lt d.at.finish s)
+    (are_conflicts_finished older x s) clear).0 in omega arith)
 
 -- and one that leaves none
-left_on : (i : Loaded) (config : Configuration) (t u a : ℕ) (d : Done) (older : List Done) → IsWithinLimits config → AreTimed config (d ∷ older) → AreIssuedBy t (d ∷ older) → u ≡ t + 1 → (starts_in u d && overwrites d.step a) ≡ false → Left i t u a older → Left i t u a (d ∷ older)
+left_on : (i : Loaded) (config : Configuration) (t u a : ℕ) (d : Done) (older : List Done) → IsWithinLimits config
+    → AreTimed config (d ∷ older) → AreIssuedBy t (d ∷ older) → u ≡ t + 1 → (starts_in u d && overwrites d.step a)
+    ≡ false → Left i t u a older → Left i t u a (d ∷ older)
 left_on i config t u a d older good timed issued e quiet (none others byte) =
     none
     (λ x. elim (cases_Bool (holds_place t x d)) [ inl h ↦ rw h (none_leaves u a d quiet) | inr h ↦ rw h (others x) ])
@@ -111,26 +127,33 @@ left_on i config t u a d older good timed issued e quiet (one y v small here oth
     let free : holds_place t y d ≡ false = elim (cases_Bool (holds_place t y d)) [
       | inr h ↦ h
       | inl h ↦
-          let vacant_there : is_vacant t y older ≡ true = vacant config d older t y good timed (let k : d.at.issue ≤ t = issued.0 in omega arith) (and_parts (is_number (place_of d) y) (nat_lt t d.at.end) h).0 in
+          let vacant_there : is_vacant t y older ≡ true =
+          vacant config d older t y good timed (let k : d.at.issue ≤ t = issued.0 in
+          omega arith) (and_parts (is_number (place_of d) y) (nat_lt t d.at.end) h).0 in
           absurd (none_not v (sym (left_free t u a y older vacant_there) ∙ here))
     ] in
     let unmade : (overwrites d.step a && nat_le d.at.start u) ≡ false = elim (cases_Bool (overwrites d.step a)) [
       | inr o ↦ rw o refl
       | inl o ↦
           let store : is_store d.step ≡ true = (and_parts (is_store d.step) (covers d.step a) o).0 in
-          let l : u < d.at.start = later d.step d.at.start o (starts_clear config d older timed.0 (store_unit d.step store)) in
+          let l : u < d.at.start = later d.step d.at.start o
+          (starts_clear config d older timed.0 (store_unit d.step store)) in
           rw o (lt-leb d.at.start u l)
     ] in
     one y v small
     (rw free here)
-    (λ x other. elim (cases_Bool (holds_place t x d)) [ inl h ↦ rw h (none_leaves u a d quiet) | inr h ↦ rw h (others x other) ])
+    (λ x other. elim (cases_Bool (holds_place t x d))
+    [ inl h ↦ rw h (none_leaves u a d quiet) | inr h ↦ rw h (others x other) ])
     (rw unmade byte)
-    (λ x s o clear. later x s o (and_parts (not (conflicts d.step x) || nat_lt d.at.finish s) (are_conflicts_finished older x s) clear).1)
+    (λ x s o clear. later x s o (and_parts (not (conflicts d.step x) || nat_lt d.at.finish s)
+    (are_conflicts_finished older x s) clear).1)
 
-pub left_is : (i : Loaded) (config : Configuration) (t u a : ℕ) (h : List Done) → IsWithinLimits config → AreTimed config h → AreIssuedBy t h → u ≡ t + 1 → Left i t u a h
+pub left_is : (i : Loaded) (config : Configuration) (t u a : ℕ) (h : List Done) → IsWithinLimits config
+    → AreTimed config h → AreIssuedBy t h → u ≡ t + 1 → Left i t u a h
 left_is i config t u a [] good timed issued e = none (λ x. refl) refl
 left_is i config t u a (d ∷ older) good timed issued e = elim (cases_Bool (starts_in u d && overwrites d.step a)) [
-  | inl l ↦ left_here i config t u a d older good timed issued e l (left_is i config t u a older good timed.1 issued.1 e)
+  | inl l ↦ left_here i config t u a d older good timed issued e l
+      (left_is i config t u a older good timed.1 issued.1 e)
   | inr l ↦ left_on i config t u a d older good timed issued e l (left_is i config t u a older good timed.1 issued.1 e)
 ]
 
@@ -140,14 +163,17 @@ abbrev pub left_in : Bool → Option Station → ℕ → Option ℕ
 left_in picked None a = None
 left_in picked (Some s) a = if picked && overwrites (step_in s) a then Some (stored_byte (step_in s) a) else None
 
-left_slot : (i : Loaded) (config : Configuration) (t u a x : ℕ) (part : List Done) → AreTimed config part → AreIssuedBy t part → ArePast i part → u ≡ t + 1 → left_in (starts_at t u part x) (station_at i (clocks u t t) part x) a ≡ left_at t u a part x
+left_slot : (i : Loaded) (config : Configuration) (t u a x : ℕ) (part : List Done) → AreTimed config part
+    → AreIssuedBy t part → ArePast i part → u ≡ t + 1
+    → left_in (starts_at t u part x) (station_at i (clocks u t t) part x) a ≡ left_at t u a part x
 left_slot i config t u a x [] timed issued past e = refl
 left_slot i config t u a x (d ∷ older) timed issued past e = elim (cases_Bool (holds_place t x d)) [
   | inr h ↦ rw h (left_slot i config t u a x older timed.1 issued.1 past.2 e)
   | inl h ↦ elim (cases_Bool (starts_in u d)) [
     | inr s ↦ rw (h, s) refl
     | inl s ↦
-        let same : step_in (station_of i (clocks u t t) d older) ≡ d.step = step_is i config t u d older timed issued past e s in
+        let same : step_in (station_of i (clocks u t t) d older) ≡ d.step =
+        step_is i config t u d older timed issued past e s in
         rw (h, s) (ap (λ (z : Step). if overwrites z a then Some (stored_byte z a) else None) same)
   ]
 ]
@@ -156,16 +182,21 @@ abbrev or_value : Option ℕ → ℕ → ℕ
 or_value None b = b
 or_value (Some v) b = v
 
-stored_is : (picked : Bool) (o : Option Station) (a before : ℕ) (left : Option ℕ) → left_in picked o a ≡ left → stored_at picked o a before ≡ or_value left before
+stored_is : (picked : Bool) (o : Option Station) (a before : ℕ) (left : Option ℕ) → left_in picked o a ≡ left
+    → stored_at picked o a before ≡ or_value left before
 stored_is picked None a before left e = rw (← e) refl
 stored_is picked (Some s) a before left e = elim (cases_Bool (picked && overwrites (step_in s) a)) [
   | inl k ↦ rw (← e, k) refl
   | inr k ↦ rw (← e, k) refl
 ]
 
-written_none : (slots : List (Option Station)) (picked : ℕ) (byte : ℕ → ℕ) (k a : ℕ) → k ≤ 96 → ((x : ℕ) → x < 96 → left_in (has picked x) (slice_index_or slots x None) a ≡ None) → written_by slots picked byte k a ≡ byte a
+written_none : (slots : List (Option Station)) (picked : ℕ) (byte : ℕ → ℕ) (k a : ℕ) → k ≤ 96
+    → ((x : ℕ) → x < 96 → left_in (has picked x) (slice_index_or slots x None) a ≡ None)
+    → written_by slots picked byte k a ≡ byte a
 written_none slots picked byte zero a l none_left = refl
-written_none slots picked byte (suc k) a l none_left = stored_is (has picked k) (slice_index_or slots k None) a (written_by slots picked byte k a) None (none_left k (omega arith)) ∙ written_none slots picked byte k a (omega arith) none_left
+written_none slots picked byte (suc k) a l none_left =
+    stored_is (has picked k) (slice_index_or slots k None) a (written_by slots picked byte k a) None
+    (none_left k (omega arith)) ∙ written_none slots picked byte k a (omega arith) none_left
 
 less_one : (k y : ℕ) → (k ≡ y → ⊥) → y < suc k → y < k
 less_one k y other l = elim (cases_order k y) [
@@ -174,23 +205,39 @@ less_one k y other l = elim (cases_order k y) [
   | inr (inr e) ↦ e
 ]
 
-written_one : (slots : List (Option Station)) (picked : ℕ) (byte : ℕ → ℕ) (k a y v : ℕ) → k ≤ 96 → y < k → left_in (has picked y) (slice_index_or slots y None) a ≡ Some v → ((x : ℕ) → x < 96 → (x ≡ y → ⊥) → left_in (has picked x) (slice_index_or slots x None) a ≡ None) → written_by slots picked byte k a ≡ v
+written_one : (slots : List (Option Station)) (picked : ℕ) (byte : ℕ → ℕ) (k a y v : ℕ) → k ≤ 96 → y < k
+    → left_in (has picked y) (slice_index_or slots y None) a ≡ Some v
+    → ((x : ℕ) → x < 96 → (x ≡ y → ⊥) → left_in (has picked x) (slice_index_or slots x None) a ≡ None)
+    → written_by slots picked byte k a ≡ v
 written_one slots picked byte zero a y v l below here others = absurd (omega arith)
 written_one slots picked byte (suc k) a y v l below here others = elim (cases_Bool (k == y)) [
   | inl e ↦
       let same : k ≡ y = eqb-true _ _ e in
-      stored_is (has picked k) (slice_index_or slots k None) a (written_by slots picked byte k a) (Some v) (rw same here)
+      stored_is (has picked k) (slice_index_or slots k None) a (written_by slots picked byte k a) (Some v)
+      (rw same here)
   | inr e ↦
       let other : k ≡ y → ⊥ = eqb-false _ _ e in
-      stored_is (has picked k) (slice_index_or slots k None) a (written_by slots picked byte k a) None (others k (omega arith) other) ∙ written_one slots picked byte k a y v (omega arith) (less_one k y other below) here others
+      stored_is (has picked k) (slice_index_or slots k None) a (written_by slots picked byte k a) None
+      (others k (omega arith) other) ∙ written_one slots picked byte k a y v (omega arith)
+      (less_one k y other below) here others
 ]
 
-written_left : (i : Loaded) (t u a : ℕ) (h : List Done) (slots : List (Option Station)) (picked : ℕ) (byte : ℕ → ℕ) → ((x : ℕ) → x < 96 → left_in (has picked x) (slice_index_or slots x None) a ≡ left_at t u a h x) → byte a ≡ byte_at i t h a → Left i t u a h → written_by slots picked byte 96 a ≡ byte_at i u h a
-written_left i t u a h slots picked byte same before (none others made) = written_none slots picked byte 96 a (omega arith) (λ x l. same x l ∙ others x) ∙ (before ∙ sym made)
-written_left i t u a h slots picked byte same before (one y v small here others made later) = written_one slots picked byte 96 a y v (omega arith) small (same y small ∙ here) (λ x l other. same x l ∙ others x other) ∙ sym made
+written_left : (i : Loaded) (t u a : ℕ) (h : List Done) (slots : List (Option Station)) (picked : ℕ) (byte : ℕ → ℕ)
+    → ((x : ℕ) → x < 96 → left_in (has picked x) (slice_index_or slots x None) a ≡ left_at t u a h x)
+    → byte a ≡ byte_at i t h a → Left i t u a h → written_by slots picked byte 96 a ≡ byte_at i u h a
+written_left i t u a h slots picked byte same before (none others made) =
+    written_none slots picked byte 96 a (omega arith) (λ x l. same x l ∙ others x) ∙ (before ∙ sym made)
+written_left i t u a h slots picked byte same before (one y v small here others made later) =
+    written_one slots picked byte 96 a y v (omega arith) small (same y small ∙ here) (λ x l other. same x l
+    ∙ others x other) ∙ sym made
 
 -- the stores of the places that start make memory what it is after the cycle's starts
-pub written_is : (i : Loaded) (config : Configuration) (t u a : ℕ) (h : List Done) (slots : List (Option Station)) (picked : ℕ) (byte : ℕ → ℕ) → IsWithinLimits config → AreTimed config h → AreIssuedBy t h → ArePast i h → u ≡ t + 1
-    → ((x : ℕ) → x < 96 → has picked x ≡ starts_at t u h x) → ((x : ℕ) → x < 96 → slice_index_or slots x None ≡ station_at i (clocks u t t) h x) → byte a ≡ byte_at i t h a → written_by slots picked byte 96 a ≡ byte_at i u h a
+pub written_is : (i : Loaded) (config : Configuration) (t u a : ℕ) (h : List Done) (slots : List (Option Station))
+    (picked : ℕ) (byte : ℕ → ℕ) → IsWithinLimits config → AreTimed config h → AreIssuedBy t h → ArePast i h → u ≡ t + 1
+    → ((x : ℕ) → x < 96 → has picked x ≡ starts_at t u h x)
+    → ((x : ℕ) → x < 96 → slice_index_or slots x None ≡ station_at i (clocks u t t) h x) → byte a ≡ byte_at i t h a
+    → written_by slots picked byte 96 a ≡ byte_at i u h a
 written_is i config t u a h slots picked byte good timed issued past e picks shows before =
-    written_left i t u a h slots picked byte (λ x l. rw (picks x l, shows x l) (left_slot i config t u a x h timed issued past e)) before (left_is i config t u a h good timed issued e)
+    written_left i t u a h slots picked byte
+    (λ x l. rw (picks x l, shows x l) (left_slot i config t u a x h timed issued past e)) before
+    (left_is i config t u a h good timed issued e)

@@ -6,6 +6,6 @@ use Rattle.tomex_cycle.specs.declared.progress.Progress.TheVariants.{Running, En
 
 abbrev pub progress_of : CycleOutcome → Progress
 progress_of after.Active = Running
-progress_of after.Quiet = Running
+progress_of after.Settled = Running
 progress_of after.Ended = Ended
 progress_of (after.Faulted fault) = Faulted fault

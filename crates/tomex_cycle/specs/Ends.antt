@@ -27,18 +27,17 @@ abbrev pub ends_alone : ℕ → Option Station → Bool
 ends_alone cycle None = false
 ends_alone cycle (Some s) = not (is_some (dest_of s.instr)) && is_finished_by s.finish cycle
 
--- a result is ready to be sent
+-- a result that finished before the cycle, and may be sent in it
 abbrev pub can_send : ℕ → Option Station → Bool
 can_send cycle None = false
 can_send cycle (Some s) = is_some (dest_of s.instr) && is_finished_before s.finish cycle
 
--- of the results that are ready the oldest are sent, as many as there are buses; what has nothing to send
--- ends as it finishes
+-- of the unsent results the oldest are sent, as many as there are buses; what has nothing to send ends as it finishes
 pub record AreEnding (st : Pools) (buses cycle ending : ℕ) : Type 0 where
-  pub ready : ℕ
+  pub unsent : ℕ
   pub sending : ℕ
-  pub are_ready : (x : ℕ) → x < 128 → has ready x ≡ (has st.busy x && can_send cycle (slot st.slots x))
-  pub sent : IsPicked ready st.issue_numbers buses sending
+  pub are_unsent : (x : ℕ) → x < 128 → has unsent x ≡ (has st.busy x && can_send cycle (slot st.slots x))
+  pub sent : IsPicked unsent st.issue_numbers buses sending
   pub all : (x : ℕ) → x < 128 → has ending x ≡ (has sending x || (has st.busy x && ends_alone cycle (slot st.slots x)))
 
 abbrev pub after_ends : Bool → (ℕ → Option ℕ) → Option Station → Option Station

@@ -32,18 +32,18 @@ eventful_by h (suc t) = eventful_by h t + (if events_in (suc t) h == 0 then 0 el
 
 -- What a count of cycles that are made rises by from one cycle to another: by at least those in which anything
 -- happens, and by at most one more than twice the events. Both without subtraction.
-pub record IsCounted (h : List Done) (from to before after : ℕ) : Type 0 where
-  pub least : eventful_by h to + before ≤ after + eventful_by h from
-  pub most : after + 2 * events_by h from ≤ before + 2 * events_by h to + 1
+pub record IsCounted (h : List Done) (from reached before after : ℕ) : Type 0 where
+  pub least : eventful_by h reached + before ≤ after + eventful_by h from
+  pub most : after + 2 * events_by h from ≤ before + 2 * events_by h reached + 1
 
--- one cycle is made, and those after it are passed: nothing happens in them, and where nothing happens in the
--- one that is made, the next one is at the bound, or something happens in it
+-- one cycle is made, and those after it are skipped: nothing happens in them; and if nothing happens in the one that is
+-- made, the bound is reached, or something happens in the next one
 pub record SkipsTo (h : List Done) (to from now : ℕ) : Type 0 where
   pub on : from + 1 ≤ now
-  pub idle : (k : ℕ) → from + 1 < k → k ≤ now → events_in k h ≡ 0
+  pub quiet : (k : ℕ) → from + 1 < k → k ≤ now → events_in k h ≡ 0
   pub pays : (0 < events_in (from + 1) h) ⊎ ((to ≤ now) ⊎ (0 < events_in (now + 1) h))
 
--- so once, or twice, with what the count of cycles that are made was before and is after it
+-- so once, or twice in a row; each time the count of cycles made rises by one
 abbrev pub GoesOn : List Done → (to from now before after : ℕ) → Type 0
 GoesOn h to from now before after =
     ((after ≡ before + 1) × SkipsTo h to from now)

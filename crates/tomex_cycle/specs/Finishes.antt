@@ -19,10 +19,9 @@ IsFree slots from to = (x v : ℕ) → x < 96 → from ≤ v → v ≤ to → fi
 abbrev pub AreResults : List (Option Station) → ℕ → Type 0
 AreResults slots v = (x : ℕ) → x < 96 → finishes v (slot slots x) ≡ true → (writes (slot slots x) ≡ true) × (x < 80)
 
--- a busy station finishes in one cycle, or in the one after another
-abbrev pub FinishesSoon : List (Option Station) → ℕ → ℕ → Type 0
-FinishesSoon slots cycle to =
-    (x : ℕ) × (x < 96) × ((finishes cycle (slot slots x) ≡ true) ⊎ (finishes (to + 1) (slot slots x) ≡ true))
+-- a busy station finishes in the cycle after this one
+abbrev pub FinishesNext : List (Option Station) → ℕ → Type 0
+FinishesNext slots cycle = (x : ℕ) × (x < 96) × (finishes (cycle + 1) (slot slots x) ≡ true)
 
 -- what has nothing to send finished before the cycle, and stands there yet
 abbrev pub has_stayed : ℕ → Option Station → Bool
@@ -32,13 +31,18 @@ has_stayed cycle (Some s) = not (is_some (dest_of s.instr)) && is_finished_befor
 -- the finishes of these stations, as they are known before a cycle ends
 pub record IsTimetableOf (slots : List (Option Station)) (cycle : ℕ) (known : Finishes) : Type 0 where
   pub places : length slots ≡ 96
+  -- so far ahead the wheel has what finishes then
   pub ahead : (a x : ℕ) → a < 64 → x < 96 → is_due known.wheel a x ≡ finishes (cycle + a) (slot slots x)
+  -- nothing finishes beyond the wheel
   pub near : (x v : ℕ) → x < 96 → finishes v (slot slots x) ≡ true → v < cycle + 64
+  -- the wheel has places of stations alone
   pub low : (a x : ℕ) → is_due known.wheel a x ≡ true → x < 96
-  pub ready : (x : ℕ) → x < 128 → has known.ready x ≡ can_send cycle (slot slots x)
+  -- results that finished before the cycle wait for a bus
+  pub unsent : (x : ℕ) → x < 128 → has known.unsent x ≡ can_send cycle (slot slots x)
+  -- what has nothing to send has ended as it finished
   pub gone : (x : ℕ) → x < 96 → has_stayed cycle (slot slots x) ≡ false
 
--- what is known of the finishes before a cycle ends is so of these stations too
+-- each timetable of the old stations is one of the new ones too
 abbrev pub KeepsTimetable : ℕ → List (Option Station) → List (Option Station) → Type 0
 KeepsTimetable cycle old new = (known : Finishes) → IsTimetableOf old cycle known → IsTimetableOf new cycle known
 
@@ -46,7 +50,7 @@ KeepsTimetable cycle old new = (known : Finishes) → IsTimetableOf old cycle kn
 pub record HaveTurned (old new : Finishes) (taken : ℕ) : Type 0 where
   pub due : (x : ℕ) → has taken x ≡ is_due old.wheel 0 x
   pub wheel : (a x : ℕ) → is_due new.wheel a x ≡ is_due old.wheel (a + 1) x
-  pub ready : new.ready ≡ old.ready
+  pub unsent : new.unsent ≡ old.unsent
 
 -- what was known before a cycle ends, once what finishes in it is taken out
 pub record AreTurned (slots : List (Option Station)) (cycle due : ℕ) (now : Finishes) : Type 0 where
@@ -61,17 +65,17 @@ LeavesTimetable slots cycle ending known =
     → ((x : ℕ) → x < 96 → slice_index_or new x None ≡ after_ends (has ending x) sent (slot slots x))
     → IsTimetableOf new (cycle + 1) known
 
--- how many cycles can be passed: those before the next finish, so far ahead if there is any, but no more than these
-abbrev pub IsIdle : Option ℕ → ℕ → ℕ → Type 0
-IsIdle None most n = n ≡ most
-IsIdle (Some ahead) most n = (n ≤ ahead) × (n < most → n ≡ ahead)
+-- how many cycles can be skipped: those before the next finish, so far ahead if there is any, but no more than these
+abbrev pub CanSkip : Option ℕ → ℕ → ℕ → Type 0
+CanSkip None most n = n ≡ most
+CanSkip (Some ahead) most n = (n ≤ ahead) × (n < most → n ≡ ahead)
 
--- the cycles up to the next finish are passed, and the one of that finish too where nothing but results
--- finishes in it: it is counted
+-- the cycles before the next finish are skipped, and the one of that finish too if nothing but results finishes in it:
+-- it is counted
 pub record IsSkipped (slots : List (Option Station)) (cycle to now before after : ℕ) : Type 0 where
-  pub idle : ℕ
-  pub least : cycle ≤ idle
-  pub free : IsFree slots cycle idle
-  pub stops : idle < to → FinishesSoon slots cycle idle
-  pub last : ((now ≡ idle) × (after ≡ before))
-      ⊎ ((now ≡ idle + 1) × (idle < to) × (after ≡ before + 1) × AreResults slots (idle + 1))
+  pub last_free : ℕ
+  pub least : cycle ≤ last_free
+  pub free : IsFree slots cycle last_free
+  pub stops : last_free < to → FinishesNext slots last_free
+  pub last : ((now ≡ last_free) × (after ≡ before))
+      ⊎ ((now ≡ last_free + 1) × (last_free < to) × (after ≡ before + 1) × AreResults slots (last_free + 1))

@@ -1,16 +1,13 @@
 -- The issue of one instruction, in a cycle in which others may have issued before it, and of as many as the width says.
-use Rattle.std.specs.Prelude.{◌≡◌, ℕ, ◌+◌, ◌≤◌, ◌<◌, ◌==◌, Bool, true, false, if◌then◌else◌, List, Result, Ok, count_by}
-use Rattle.tomex_image.specs.Image.{Loaded, IsLoaded}
-use Rattle.tomex_rvexec.specs.declared.outcome.EndKind.{EndKind}
+use Rattle.std.specs.Prelude.{◌≡◌, ℕ, ◌+◌, ◌≤◌, ◌==◌, Bool, true, false, if◌then◌else◌, List, Result, Ok, count_by}
+use Rattle.tomex_image.specs.Image.{Loaded}
 use Rattle.tomex_rvexec.specs.declared.outcome.Fault.{Fault}
-use Rattle.tomex_rvexec.specs.Machine.{State}
-use Rattle.tomex_rvexec.specs.Run.{RunEnds}
-use Rattle.tomex_config.specs.Configuration.{Configuration, IsWithinLimits}
+use Rattle.tomex_config.specs.Configuration.{Configuration}
 use Rattle.tomex_timing.specs.declared.times.Done.{Done}
 use Rattle.tomex_timing.specs.Recurrence.{can_issue_another}
 use Rattle.tomex_cycle.specs.declared.fetch.Fetch.{Fetch}
 use Rattle.tomex_cycle.specs.Phases.{IsYetToIssue}
-use Rattle.tomex_cycle.specs.Run.{AreIssuedBy, most_steps, run_to}
+use Rattle.tomex_cycle.specs.Run.{AreIssuedBy, RunEndsAfter, first_timed}
 use Rattle.tomex_cycle.specs.Views.{clocks, ShowsRegisters, ShowsStations, fetch_of}
 use Rattle.tomex_tags.specs.Pools.{Pools}
 use Rattle.tomex_tags.specs.declared.register_status.RegStatus.{RegStatus}
@@ -20,13 +17,13 @@ use Rattle.tomex_tags.specs.declared.register_status.RegStatus.{RegStatus}
 pub record IsIssuing (i : Loaded) (config : Configuration) (n t u count : ℕ) (stations : Pools) (registers : RegStatus)
     (fetch : Fetch) : Type 0 where
   pub few : count ≤ n + 1
-  pub slots : ShowsStations i (clocks u u t) (run_to config i count) stations
-  pub status : ShowsRegisters i t (run_to config i count) registers
-  pub from : fetch ≡ fetch_of i t (run_to config i count)
-  pub issued : AreIssuedBy u (run_to config i count)
+  pub slots : ShowsStations i (clocks u u t) (first_timed config i count) stations
+  pub status : ShowsRegisters i t (first_timed config i count) registers
+  pub from : fetch ≡ fetch_of i t (first_timed config i count)
+  pub issued : AreIssuedBy u (first_timed config i count)
   pub next : count ≤ n → IsYetToIssue i config count t
 
--- how many more are issued
+-- how many have issued then
 abbrev pub count_after : Bool → ℕ → ℕ
 count_after made count = if made then count + 1 else count
 
@@ -34,9 +31,8 @@ count_after made count = if made then count + 1 else count
 abbrev pub IssuesNext : Loaded → Configuration → ℕ → Pools → RegStatus → Fetch
     → Result Bool Fault → Pools → RegStatus → Fetch → Type 0
 IssuesNext i config count stations registers fetch result new status from =
-    (n t u : ℕ) (s : State) (kind : EndKind) → RunEnds i n s kind → n < most_steps → u ≡ t + 1
-    → IsWithinLimits config → IsLoaded i.window i.memory i.entry
-    → can_issue_another config (run_to config i count) u ≡ true
+    (n t u : ℕ) → RunEndsAfter i config n → u ≡ t + 1
+    → can_issue_another config (first_timed config i count) u ≡ true
     → IsIssuing i config n t u count stations registers fetch
     → (made : Bool) × (result ≡ Ok made) × IsIssuing i config n t u (count_after made count) new status from
     × (made ≡ false → count ≤ n → IsYetToIssue i config count u)
@@ -49,14 +45,13 @@ issued_in u h = count_by (λ d. d.at.issue == u) h
 pub record HaveIssued (i : Loaded) (config : Configuration) (n t u count made : ℕ) (stations : Pools)
     (registers : RegStatus) (fetch : Fetch) : Type 0 where
   pub now : IsIssuing i config n t u count stations registers fetch
-  pub same : issued_in u (run_to config i count) ≡ made
+  pub in_cycle : issued_in u (first_timed config i count) ≡ made
 
 -- from where one has issued in the cycle to where so many have
 abbrev pub IssuesOn : Loaded → Configuration → ℕ → Pools → RegStatus → Fetch
     → ℕ → ℕ → Pools → RegStatus → Fetch → Type 0
 IssuesOn i config count stations registers fetch made counted new status from =
-    (n t u : ℕ) (s : State) (kind : EndKind) → RunEnds i n s kind → n < most_steps → u ≡ t + 1
-    → IsWithinLimits config → IsLoaded i.window i.memory i.entry
+    (n t u : ℕ) → RunEndsAfter i config n → u ≡ t + 1
     → HaveIssued i config n t u count 1 stations registers fetch
     → (count ≤ counted) × HaveIssued i config n t u counted made new status from
 
@@ -64,8 +59,7 @@ IssuesOn i config count stations registers fetch made counted new status from =
 abbrev pub IssuesMore : Loaded → Configuration → ℕ → Pools → RegStatus → Fetch
     → ℕ → Pools → RegStatus → Fetch → Type 0
 IssuesMore i config count stations registers fetch counted new status from =
-    (n t u : ℕ) (s : State) (kind : EndKind) → RunEnds i n s kind → n < most_steps → u ≡ t + 1
-    → IsWithinLimits config → IsLoaded i.window i.memory i.entry
+    (n t u : ℕ) → RunEndsAfter i config n → u ≡ t + 1
     → HaveIssued i config n t u count 1 stations registers fetch
     → (count ≤ counted) × IsIssuing i config n t u counted new status from
     × (counted ≤ n → IsYetToIssue i config counted u)

@@ -8,7 +8,7 @@ pub mod Starts
 pub mod Ends
 pub mod Finishes
 pub mod CycleOutcome
-pub mod Quiet
+pub mod Settled
 pub mod Events
 pub mod Inner
 pub mod Advancing

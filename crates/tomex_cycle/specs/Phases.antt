@@ -1,21 +1,18 @@
 -- What each phase of a cycle makes, and the snapshot between two cycles.
 use Rattle.std.specs.Prelude.{◌≡◌, ℕ, ◌+◌, ◌≤◌, ◌<◌, false, List, Option, Some}
 use Rattle.std.specs.Prelude.{None, Result, Ok, Bool, true, ◌&&◌, ◌==◌, nat_lt}
-use Rattle.tomex_image.specs.Image.{Loaded, IsLoaded}
-use Rattle.tomex_rvexec.specs.declared.outcome.EndKind.{EndKind}
+use Rattle.tomex_image.specs.Image.{Loaded}
 use Rattle.tomex_rvexec.specs.declared.outcome.Fault.{Fault}
 use Rattle.tomex_rvexec.specs.declared.step.Step.{Step}
 use Rattle.tomex_rvexec.specs.History.{step_after}
-use Rattle.tomex_rvexec.specs.Machine.{State}
 use Rattle.tomex_rvexec.specs.Memory.{Bytes}
-use Rattle.tomex_rvexec.specs.Run.{RunEnds}
-use Rattle.tomex_config.specs.Configuration.{Configuration, IsWithinLimits}
+use Rattle.tomex_config.specs.Configuration.{Configuration}
 use Rattle.tomex_timing.specs.declared.times.Done.{Done}
 use Rattle.tomex_timing.specs.Recurrence.{can_issue}
 use Rattle.tomex_cycle.specs.declared.fetch.Fetch.{Fetch}
 use Rattle.tomex_cycle.specs.declared.fetch.Fetch.TheVariants.{At, Waits, Stopped}
 use Rattle.tomex_cycle.specs.Events.{events_in}
-use Rattle.tomex_cycle.specs.Run.{AreIssuedBy, IsHistory, most_steps, run_to}
+use Rattle.tomex_cycle.specs.Run.{AreIssuedBy, IsHistory, RunEndsAfter, first_timed}
 use Rattle.tomex_cycle.specs.Views.{Clocks, clocks, ShowsMemory, ShowsRegisters, ShowsStations, fetch_of}
 use Rattle.tomex_tags.specs.Pools.{Pools}
 use Rattle.tomex_tags.specs.declared.register_status.RegStatus.{RegStatus}
@@ -23,23 +20,24 @@ use Rattle.tomex_tags.specs.declared.register_status.RegStatus.{RegStatus}
 -- the step after so many others can't have issued by the cycle
 abbrev pub IsYetToIssue : Loaded → Configuration → ℕ → ℕ → Type 0
 IsYetToIssue i config count t =
-    (x : Step) → step_after i count ≡ Some x → (s : ℕ) → s ≤ t → can_issue config (run_to config i count) x s ≡ false
+    (x : Step) → step_after i count ≡ Some x
+    → (s : ℕ) → s ≤ t → can_issue config (first_timed config i count) x s ≡ false
 
 -- What issue changes, once the issues up to cycle t are made: so many steps of the run, which ends after n others.
 pub record IsIssuedTo (i : Loaded) (config : Configuration) (n t : ℕ) (c : Clocks) (count : ℕ) (stations : Pools)
     (registers : RegStatus) (fetch : Fetch) : Type 0 where
   pub few : count ≤ n + 1
-  pub slots : ShowsStations i c (run_to config i count) stations
-  pub status : ShowsRegisters i c.end (run_to config i count) registers
-  pub from : fetch ≡ fetch_of i c.end (run_to config i count)
-  pub issued : AreIssuedBy t (run_to config i count)
+  pub slots : ShowsStations i c (first_timed config i count) stations
+  pub status : ShowsRegisters i c.end (first_timed config i count) registers
+  pub from : fetch ≡ fetch_of i c.end (first_timed config i count)
+  pub issued : AreIssuedBy t (first_timed config i count)
   pub next : count ≤ n → IsYetToIssue i config count t
 
 -- The snapshot after cycle t.
 pub record IsSnapshot (i : Loaded) (config : Configuration) (n t count : ℕ) (stations : Pools) (registers : RegStatus)
     (fetch : Fetch) (memory : Bytes) : Type 0 where
   pub issue : IsIssuedTo i config n t (clocks t t t) count stations registers fetch
-  pub bytes : ShowsMemory i t (run_to config i count) memory
+  pub bytes : ShowsMemory i t (first_timed config i count) memory
 
 -- The phases of a cycle, in their order. Each is stated of whatever history the state before it shows.
 
@@ -61,8 +59,7 @@ MakesAddress cycle stations new =
 abbrev pub MakesIssue : Loaded → Configuration → ℕ → ℕ → Pools → RegStatus → Fetch
     → Result Bool Fault → ℕ → Pools → RegStatus → Fetch → Type 0
 MakesIssue i config cycle count stations registers fetch result counted new status from =
-    (n : ℕ) (s : State) (kind : EndKind) (t : ℕ) → RunEnds i n s kind → n < most_steps → cycle ≡ t + 1
-    → IsWithinLimits config → IsLoaded i.window i.memory i.entry
+    (n t : ℕ) → RunEndsAfter i config n → cycle ≡ t + 1
     → IsIssuedTo i config n t (clocks cycle cycle t) count stations registers fetch
     → (result ≡ Ok (nat_lt count counted)) × (count ≤ counted)
     × IsIssuedTo i config n cycle (clocks cycle cycle t) counted new status from

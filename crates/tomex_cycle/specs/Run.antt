@@ -1,10 +1,12 @@
 -- The run of an image on a configuration: its steps with their times, the youngest first.
-use Rattle.std.specs.Prelude.{◌≡◌, ℕ, ◌≤◌, nat_le, ◌&&◌, if◌then◌else◌, List, [], ◌∷◌, None, ⊤}
-use Rattle.tomex_image.specs.Image.{Loaded}
+use Rattle.std.specs.Prelude.{◌≡◌, ℕ, ◌<◌, ◌≤◌, nat_le, ◌&&◌, if◌then◌else◌, List, [], ◌∷◌, None, ⊤}
+use Rattle.tomex_image.specs.Image.{Loaded, IsLoaded}
+use Rattle.tomex_rvexec.specs.declared.outcome.EndKind.{EndKind}
 use Rattle.tomex_rvexec.specs.declared.step.Step.{Step}
 use Rattle.tomex_rvexec.specs.Flow.{IsAllowed, byte_in, end_of, overwrites, stored_byte}
 use Rattle.tomex_rvexec.specs.History.{Follows, history as first_steps}
-use Rattle.tomex_rvexec.specs.Run.{EndsWithin, start_of}
+use Rattle.tomex_rvexec.specs.Machine.{State}
+use Rattle.tomex_rvexec.specs.Run.{EndsWithin, RunEnds, start_of}
 use Rattle.tomex_rvexec.specs.Trace.{steps_from}
 use Rattle.tomex_config.specs.Configuration.{Configuration, IsWithinLimits}
 use Rattle.tomex_timing.specs.declared.times.Done.{Done}
@@ -24,12 +26,22 @@ total config i = greatest_end (run_of config i)
 abbrev pub most_steps : ℕ
 most_steps = 262144
 
-abbrev pub EndsInTime : Loaded → Type 0
-EndsInTime i = EndsWithin i most_steps
+abbrev pub EndsWithinLimit : Loaded → Type 0
+EndsWithinLimit i = EndsWithin i most_steps
 
--- the first k steps of a run
-unfoldable pub run_to : Configuration → Loaded → ℕ → List Done
-run_to config i k = timed_of config (first_steps i k)
+-- the run of an image on a configuration is ended by the step that has n others before it
+pub record RunEndsAfter (i : Loaded) (config : Configuration) (n : ℕ) : Type 0 where
+  pub lawful : IsWithinLimits config
+  pub loaded : IsLoaded i.window i.memory i.entry
+  pub few : n < most_steps
+  pub state : State
+  pub kind : EndKind
+  pub ends : RunEnds i n state kind
+
+-- the first k steps of a run, with their times; if the step after n others ends the run, the whole of it is the first
+-- n + 1
+unfoldable pub first_timed : Configuration → Loaded → ℕ → List Done
+first_timed config i k = timed_of config (first_steps i k)
 
 abbrev pub steps_in : List Done → List Step
 steps_in [] = []

@@ -1,10 +1,10 @@
--- What contracts see of a machine.
+-- A machine as contracts see it, and what is left of that without the count of its cycles.
 use Rattle.std.specs.Prelude.{ℕ, ◌≡◌, Bool, true, false, nat_lt, if◌then◌else◌, min}
 use Rattle.tomex_image.specs.Image.{Loaded}
 use Rattle.tomex_config.specs.Configuration.{Configuration}
 use Rattle.tomex_cycle.specs.declared.progress.Progress.{Progress}
 use Rattle.tomex_cycle.specs.declared.progress.Progress.TheVariants.{Running, Ended, Faulted}
-use Rattle.tomex_cycle.specs.Run.{EndsInTime, total}
+use Rattle.tomex_cycle.specs.Run.{EndsWithinLimit, total}
 
 -- the cycle is the one that the machine has reached, and the status is the one after it
 pub record Machine : Type 0 where
@@ -24,7 +24,8 @@ pub record Seen : Type 0 where
 abbrev pub seen : Machine → Seen
 seen m = record { image = m.image; config = m.config; cycle = m.cycle; status = m.status }
 
--- the machine of an image and a configuration as it is after k ticks, where the program ends
+-- the machine of an image and a configuration once it has gone on to cycle k, if the program ends: it stops at its
+-- total
 abbrev pub seen_after : Loaded → Configuration → ℕ → Seen
 seen_after i config k = record {
   image = i;
@@ -33,9 +34,9 @@ seen_after i config k = record {
   status = if nat_lt k (total config i) then Running else Ended;
 }
 
--- if its program ends, the machine is as it is after as many ticks as its cycle says
+-- if its program ends, the machine is the one that has gone on to its cycle from the start
 abbrev pub IsInStep : Machine → Type 0
-IsInStep m = EndsInTime m.image → seen m ≡ seen_after m.image m.config m.cycle
+IsInStep m = EndsWithinLimit m.image → seen m ≡ seen_after m.image m.config m.cycle
 
 -- the machine of an image and a configuration that has made no cycle
 abbrev pub before_first_cycle : Loaded → Configuration → Seen

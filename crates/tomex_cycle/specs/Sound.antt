@@ -13,7 +13,7 @@ use Rattle.tomex_cycle.specs.declared.progress.Progress.{Progress}
 use Rattle.tomex_cycle.specs.declared.progress.Progress.TheVariants.{Running, Ended}
 use Rattle.tomex_cycle.specs.declared.finishes.Finishes.{Finishes}
 use Rattle.tomex_cycle.specs.Finishes.{IsTimetableOf}
-use Rattle.tomex_cycle.specs.Run.{most_steps, run_to}
+use Rattle.tomex_cycle.specs.Run.{most_steps, first_timed}
 use Rattle.tomex_cycle.specs.Phases.{IsSnapshot}
 use Rattle.tomex_tags.specs.Pools.{Pools}
 use Rattle.tomex_tags.specs.declared.station.Station.{Station}
@@ -22,10 +22,11 @@ use Rattle.tomex_tags.specs.declared.register_status.RegStatus.{RegStatus}
 -- the machine after a cycle of a run that ends after n other steps
 pub record IsAfter (i : Loaded) (config : Configuration) (n cycle : ℕ) (status : Progress) (count : ℕ)
     (stations : Pools) (registers : RegStatus) (fetch : Fetch) (memory : Bytes) : Type 0 where
-  pub high : cycle ≤ greatest_end (run_to config i (n + 1))
-  pub answer : status ≡ (if nat_lt cycle (greatest_end (run_to config i (n + 1))) then Running else Ended)
+  pub high : cycle ≤ greatest_end (first_timed config i (n + 1))
+  pub answer : status ≡ (if nat_lt cycle (greatest_end (first_timed config i (n + 1))) then Running else Ended)
   pub snapshot : IsSnapshot i config n cycle count stations registers fetch memory
 
+-- what holds of a machine of any image: if its program ends, it is after this cycle of its run
 pub record IsSound (i : Loaded) (config : Configuration) (cycle : ℕ) (status : Progress) (count : ℕ)
     (stations : Pools) (registers : RegStatus) (fetch : Fetch) (memory : Bytes) : Type 0 where
   pub lawful : IsWithinLimits config
@@ -37,8 +38,8 @@ pub record IsSound (i : Loaded) (config : Configuration) (cycle : ℕ) (status :
 -- so it is of the machine with this inner state
 abbrev pub IsSoundWith : {A : Type 0} → Loaded → Configuration → (cycle : ℕ) → Progress → Inner A → Type 0
 IsSoundWith i config cycle status inner =
-    IsSound i config cycle status inner.count inner.pools inner.registers inner.fetch inner.memory
+    IsSound i config cycle status inner.issued inner.pools inner.registers inner.fetch inner.memory
 
--- as long as it runs, what is known of the finishes ahead is right
-abbrev pub IsTurning : Progress → List (Option Station) → ℕ → Finishes → Type 0
-IsTurning status slots next known = status ≡ Running → IsTimetableOf slots next known
+-- as long as it runs, the timetable of finishes is right
+abbrev pub HasTimetableWhileRunning : Progress → List (Option Station) → ℕ → Finishes → Type 0
+HasTimetableWhileRunning status slots next known = status ≡ Running → IsTimetableOf slots next known

@@ -32,7 +32,7 @@ abbrev pub kind_if : Bool → Option ℕ → Option ℕ
 kind_if true kind = kind
 kind_if false kind = None
 
--- a station needn't wait for any of those in these places
+-- what stands in these places lets a station pass
 abbrev pub is_clear : List (Option Station) → List ℕ → Station → ℕ → Bool
 is_clear slots [] s cycle = true
 is_clear slots (x ∷ xs) s cycle = lets_pass (slot slots x) s cycle && is_clear slots xs s cycle
@@ -49,8 +49,8 @@ IsWanted st cycle unit x is =
     (older younger : List ℕ) → IsInIssueOrder st.busy st.issue_numbers (older ++ (x ∷ younger))
     → is ≡ is_number (wanted st.slots older cycle (slot st.slots x)) (place_of_unit unit)
 
--- the set of the busy places whose operations can start but for want of a unit of this kind
-pub record AreReadyFor (st : Pools) (cycle : ℕ) (unit : UnitId) (set : ℕ) : Type 0 where
+-- the set of the busy places whose operations can start if a unit of this kind is left
+pub record AreStartableFor (st : Pools) (cycle : ℕ) (unit : UnitId) (set : ℕ) : Type 0 where
   pub inside : (x : ℕ) → x < 128 → has set x ≡ true → has st.busy x ≡ true
   pub wants : (x : ℕ) → x < 128 → IsWanted st cycle unit x (has set x)
 
@@ -59,20 +59,20 @@ abbrev pub AllWaitFor : UnitId → List (Option Station) → ℕ → Type 0
 AllWaitFor unit slots set = (x : ℕ) → x < 128 → has set x ≡ true → waits_for unit (slot slots x) ≡ true
 
 -- and so for each kind
-abbrev pub AreReady : Pools → ℕ → List ℕ → Type 0
-AreReady st cycle sets = (unit : UnitId) → AreReadyFor st cycle unit (slice_index sets (place_of_unit unit))
+abbrev pub AreStartable : Pools → ℕ → List ℕ → Type 0
+AreStartable st cycle sets = (unit : UnitId) → AreStartableFor st cycle unit (slice_index sets (place_of_unit unit))
 
 abbrev pub is_among : List ℕ → ℕ → Bool
 is_among [] x = false
 is_among (set ∷ sets) x = has set x || is_among sets x
 
--- of each kind the oldest ready ones start, as many as there are units
+-- of each kind the oldest that can start do, as many as there are units
 pub record IsStarting (config : Configuration) (st : Pools) (cycle starting : ℕ) : Type 0 where
-  pub ready : List ℕ
+  pub startable : List ℕ
   pub kinds : List ℕ
-  pub are_ready : AreReady st cycle ready
+  pub are_startable : AreStartable st cycle startable
   pub units : (unit : UnitId)
-      → IsPicked (slice_index ready (place_of_unit unit)) st.issue_numbers (option_of config unit).units
+      → IsPicked (slice_index startable (place_of_unit unit)) st.issue_numbers (option_of config unit).units
       (slice_index kinds (place_of_unit unit))
   pub count : length kinds ≡ 5
   pub all : (x : ℕ) → x < 128 → has starting x ≡ is_among kinds x
@@ -94,18 +94,18 @@ access_fault s = record { kind = Access; pc = s.pc }
 abbrev pub AreLow : ℕ → Type 0
 AreLow picked = (x : ℕ) → x < 128 → has picked x ≡ true → x < 96
 
--- the operation of a station that starts uses a unit and hasn't started, and its access is inside memory
+-- the operation of a station can start: it uses a unit, hasn't started, and its access, if any, is inside memory
 pub record CanBegin (m : Bytes) (s : Station) : Type 0 where
   pub inside : IsInside m (step_in s)
-  pub idle : s.finish ≡ None
+  pub not_started : s.finish ≡ None
   pub unit : IsSome (unit_of s.instr.op)
 
--- the fault of what stands in a place, whose access lies outside memory
+-- the access fault of what stands in a place, whose operation can't start
 abbrev pub IsAccessFault : Pools → Bytes → ℕ → Fault → Type 0
 IsAccessFault st m x fault =
     (s : Station) × (slot st.slots x ≡ Some s) × (CanBegin m s → ⊥) × (fault ≡ access_fault s)
 
--- so it is of each place that is picked
+-- in each picked place stands a station whose operation can start
 abbrev pub AllCanBegin : Bytes → ℕ → List (Option Station) → Type 0
 AllCanBegin m picked slots =
     (x : ℕ) → x < 96 → has picked x ≡ true → (s : Station) × (slot slots x ≡ Some s) × CanBegin m s

@@ -1,4 +1,4 @@
--- The machine's state after a cycle, as a history shows it.
+-- What a history says of the machine's state after a cycle; a state that agrees shows that history.
 use Rattle.std.specs.Prelude.{◌≡◌, ℕ, ◌+◌, ◌≤◌, ◌<◌, nat_le, nat_lt, Bool, ◌&&◌, if◌then◌else◌, List, [], ◌∷◌}
 use Rattle.std.specs.Prelude.{◌++◌, Option, Some, None, slice_index, slice_index_or, length, ◌==◌, is_some}
 use Rattle.tomex_image.specs.Image.{Loaded}
@@ -21,7 +21,7 @@ use Rattle.tomex_tags.specs.declared.register_status.RegStatus.{RegStatus}
 use Rattle.tomex_tags.specs.declared.station.Station.{Station}
 use Rattle.tomex_tags.specs.Contents.{slot}
 
--- The cycles up to which, with it, each kind of event has been made. Issues are made by what stands in the history.
+-- For each kind of event the last cycle whose events have been made. What stands in the history has issued.
 pub record Clocks : Type 0 where
   pub start : ℕ
   pub address : ℕ

@@ -27,11 +27,11 @@ impl Activity {
     }
 }
 
-/// Whether nothing happens after a cycle before the next finish: it has computed no address, issued nothing and
-/// ended nothing, and if it has started operations, none is left that waits for a unit.
+/// Whether a cycle is settled: in it no address was computed and nothing issued, finished or ended, and if operations
+/// started, none is left that waits for nothing but a unit and older accesses.
 #[inline(always)]
-pub(crate) fn is_quiet_after(activity: Activity, ended: bool, pools: &Pools) -> bool
-    ensures quiet { result ≡ true → (activity ≢ Activity.More) × (ended ≡ false)
+pub(crate) fn is_settled_after(activity: Activity, ended: bool, pools: &Pools) -> bool
+    ensures settled { result ≡ true → (activity ≢ Activity.More) × (ended ≡ false)
         × ((activity ≡ Activity.Nothing) ⊎ NoneWaits pools.now.slots) }
     ensures active { result ≡ false
         → (activity ≡ Activity.More) ⊎ ((ended ≡ true) ⊎ (activity ≡ Activity.Starts)) }

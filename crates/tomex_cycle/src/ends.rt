@@ -18,33 +18,39 @@ use tomex_rvexec::next_pc;
 use tomex_sets::{both, difference, lowest, union, without_lowest};
 use tomex_tags::{Pools, RegStatus, Station, broadcast, served_by};
 
-/// What is over in a cycle.
+/// What finishes and what ends in a cycle.
 #[derive(Clone, Copy)]
-pub struct Over {
+pub struct Ending {
     /// The places whose operations finish.
     pub due: u128,
-    /// Those whose instructions end: of the results that are ready the oldest, as many as there are
+    /// Those whose instructions end: of the unsent results the oldest, as many as there are
     /// buses, and what has no destination as it finishes.
     pub ending: u128,
 }
 
-/// What is over in the cycle, in which these places finish. From here on what finishes in it is known by
-/// the results that are ready.
-pub fn settle(pools: &Pools, finishes: &mut Finishes, due: u128, buses: u8, cycle: u64) -> Over
-    requires known { AreTurned pools.now.slots cycle due finishes.old }
+/// Chooses what ends in the cycle, in which the operations of these places finish. From here on the results
+/// that finish in it are among the unsent ones.
+pub fn choose_ending(
+    pools: &Pools,
+    finishes: &mut Finishes,
+    due: u128,
+    buses: u8,
+    cycle: u64,
+) -> Ending
+    requires timetable { AreTurned pools.now.slots cycle due finishes.old }
     requires some { 1 ≤ buses }
     ensures due { AreDone pools.now.slots cycle result.due }
     ensures ending { AreEnding pools.now buses cycle result.ending }
     ensures busy { AreBusy pools.now.slots pools.now.busy pools.now.issue_numbers }
-    ensures known { LeavesTimetable pools.now.slots cycle result.ending finishes.new }
-    ensures quiet { result.ending ≡ 0 → result.due ≡ 0 → finishes.new.ready ≡ 0 }
+    ensures timetable { LeavesTimetable pools.now.slots cycle result.ending finishes.new }
+    ensures none_unsent { result.ending ≡ 0 → result.due ≡ 0 → finishes.new.unsent ≡ 0 }
     ensures fits { (result.due < 2 ^ 128) × (result.ending < 2 ^ 128) }
 {
     let writing = pools.writing();
-    let sending = pick(finishes.ready, pools.issue_numbers(), buses);
+    let sending = pick(finishes.unsent, pools.issue_numbers(), buses);
     let results = both(due, writing);
     finishes.send(sending, results);
-    Over {
+    Ending {
         due,
         ending: union(sending, difference(due, results)),
     }

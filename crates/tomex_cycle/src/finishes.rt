@@ -13,19 +13,19 @@ use tomex_sets::{difference, union};
 pub struct Finishes {
     /// The places of the operations under way, by how far ahead they finish.
     pub wheel: Wheel,
-    /// The places whose results are ready to be sent.
-    pub ready: u128,
+    /// The places whose results wait for a common data bus.
+    pub unsent: u128,
 }
 
 impl Finishes {
     /// Nothing is under way.
     pub fn new() -> Finishes
         ensures wheel { IsEmpty result.wheel }
-        ensures ready { result.ready ≡ 0 }
+        ensures unsent { result.unsent ≡ 0 }
     {
         Finishes {
             wheel: Wheel::new(),
-            ready: 0,
+            unsent: 0,
         }
     }
 
@@ -39,14 +39,14 @@ impl Finishes {
         due
     }
 
-    /// Some results are sent, and others are ready from here on.
+    /// Some results are sent, and others wait from here on.
     #[inline(always)]
     pub fn send(&mut self, sent: u128, results: u128)
         ensures wheel { self.new.wheel ≡ self.old.wheel }
-        ensures ready { (x : ℕ) → x < 128
-            → has self.new.ready x ≡ (has self.old.ready x && not (has sent x) || has results x) }
-        ensures fits { self.new.ready < 2 ^ 128 }
+        ensures unsent { (x : ℕ) → x < 128
+            → has self.new.unsent x ≡ (has self.old.unsent x && not (has sent x) || has results x) }
+        ensures fits { self.new.unsent < 2 ^ 128 }
     {
-        self.ready = union(difference(self.ready, sent), results);
+        self.unsent = union(difference(self.unsent, sent), results);
     }
 }

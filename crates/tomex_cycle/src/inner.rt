@@ -12,7 +12,7 @@ ghost use Rattle.tomex_cycle.specs.CycleOutcome.{progress_of};
 ghost use Rattle.tomex_cycle.specs.Inner.{GivesEnd, IsFresh, MakesCycle};
 ghost use Rattle.tomex_cycle.specs.declared.progress.Progress.{Progress};
 
-use crate::activity::{Activity, is_quiet_after};
+use crate::activity::{Activity, is_settled_after};
 use crate::fetch::Fetch;
 use crate::finishes::Finishes;
 use crate::phases;
@@ -26,15 +26,15 @@ use tomex_tags::{Pools, RegStatus};
 
 /// How a cycle is made.
 #[derive(Clone, Copy)]
-pub(crate) enum Cycle {
+pub(crate) enum Making {
     /// By its phases.
     ByPhases,
-    /// It is only counted: the caller has made it. Nothing happens in it but that results finish, which wait for a
-    /// common data bus from then on.
+    /// It is only counted. The caller answers for it that nothing but results finish in it, which wait for a common
+    /// data bus from then on, and has moved the finishes on over it.
     CountOnly,
 }
 
-/// Stations, registers and memory, and how many cycles were made of them.
+/// Stations, registers, memory and where the next instruction comes from, and how many cycles were made.
 #[derive(Drop)]
 pub struct Inner<A: Allocator = Global> {
     pools: Pools,
@@ -42,9 +42,9 @@ pub struct Inner<A: Allocator = Global> {
     memory: Memory<A>,
     fetch: Fetch,
     /// How many instructions have issued.
-    count: u32,
+    issued: u32,
     /// How many cycles were made.
-    worked: u64,
+    cycles_made: u64,
     /// What has happened in the cycle that is being made.
     ///
     /// A field and not a local, so that a cycle doesn't carry a flag of each phase to its end.
@@ -52,38 +52,41 @@ pub struct Inner<A: Allocator = Global> {
 }
 
 impl<A: Allocator> Inner<A> {
-    /// Makes a cycle by its phases, or only counts one that the caller has made, and answers what the cycle leaves: a
-    /// program that runs on, its end, or a fault. Of a program that faults or doesn't end in time only the count is
-    /// told.
+    /// Makes a cycle by its phases, and answers whether something happened in it, it is settled, the program has ended,
+    /// or it faulted; or only counts a cycle, and answers Active. Of a program that faults or doesn't end within the
+    /// limit nothing is promised of stations, registers and memory, but that the cycle is counted, and that the
+    /// timetable of finishes stays right while it runs.
+    ///
+    /// The fetcher is seen as its image. 2^41 leaves room above the bound of 2^40 on a machine's cycles.
     ///
     /// The one call that changes the state, so that every change is counted. Inlined, so that each of its two calls
     /// has only what its kind of cycle needs.
     #[inline(always)]
     pub(crate) fn make_cycle<B: Allocator>(
         &mut self,
-        how: Cycle,
+        how: Making,
         finishes: &mut Finishes,
         fetcher: &mut Fetcher<'_, B>,
         config: &Config,
         cycle: u64,
     ) -> CycleOutcome
         requires low { cycle < 2 ^ 41 }
-        requires fits { self.old.worked < 2 ^ 41 }
-        requires known { how ≡ Cycle.ByPhases → IsTimetableOf self.old.pools.slots cycle finishes.old }
-        ensures worked { self.new.worked ≡ self.old.worked + 1 }
-        ensures makes { how ≡ Cycle.ByPhases
+        requires fits { self.old.cycles_made < 2 ^ 41 }
+        requires timetable { how ≡ Making.ByPhases → IsTimetableOf self.old.pools.slots cycle finishes.old }
+        ensures cycles_made { self.new.cycles_made ≡ self.old.cycles_made + 1 }
+        ensures makes { how ≡ Making.ByPhases
             → MakesCycle fetcher.old config.now cycle self.old result self.new }
-        ensures known { how ≡ Cycle.ByPhases → progress_of result ≡ Progress.Running
+        ensures timetable { how ≡ Making.ByPhases → progress_of result ≡ Progress.Running
             → IsTimetableOf self.new.pools.slots (cycle + 1) finishes.new }
-        ensures quiet { how ≡ Cycle.ByPhases → result ≡ CycleOutcome.Quiet
-            → finishes.new.ready ≡ 0 }
-        ensures counts { how ≡ Cycle.CountOnly → (result ≡ CycleOutcome.Active)
+        ensures none_unsent { how ≡ Making.ByPhases → result ≡ CycleOutcome.Settled
+            → finishes.new.unsent ≡ 0 }
+        ensures count_only { how ≡ Making.CountOnly → (result ≡ CycleOutcome.Active)
             × (finishes.new ≡ finishes.old)
-            × (self.new ≡ record self.old { worked = self.old.worked + 1 }) }
+            × (self.new ≡ record self.old { cycles_made = self.old.cycles_made + 1 }) }
         ensures same { fetcher.new ≡ fetcher.old }
     {
-        self.worked += 1;
-        if let Cycle::CountOnly = how {
+        self.cycles_made += 1;
+        if let Making::CountOnly = how {
             return CycleOutcome::Active;
         }
         self.activity = Activity::Nothing;
@@ -98,7 +101,7 @@ impl<A: Allocator> Inner<A> {
             &mut self.pools,
             &mut self.registers,
             &mut self.fetch,
-            &mut self.count,
+            &mut self.issued,
             fetcher,
             config,
         ) {
@@ -114,8 +117,8 @@ impl<A: Allocator> Inner<A> {
             cycle,
         );
         self.pools.keeps_places();
-        let quiet = is_quiet_after(self.activity, ended, &self.pools);
-        CycleOutcome::after(self.is_over(), quiet)
+        let settled = is_settled_after(self.activity, ended, &self.pools);
+        CycleOutcome::after(self.is_over(), settled)
     }
 
     /// Whether nothing is left to issue or to end.
@@ -138,8 +141,8 @@ impl<A: Allocator> Inner<A> {
             registers: RegStatus::new(initial_sp(image.window())),
             memory,
             fetch: Fetch::At(image.entry()),
-            count: 0,
-            worked: 0,
+            issued: 0,
+            cycles_made: 0,
             activity: Activity::Nothing,
         }
     }
@@ -164,8 +167,8 @@ impl<A: Allocator> Inner<A> {
             registers,
             mut memory,
             fetch,
-            count,
-            worked,
+            issued,
+            cycles_made,
             activity,
         } = self;
         if memory.reload(image.window().base(), image.memory()).is_ok() {
@@ -176,17 +179,17 @@ impl<A: Allocator> Inner<A> {
             registers,
             memory,
             fetch,
-            count,
-            worked,
+            issued,
+            cycles_made,
             activity,
         })
     }
 
     /// How many cycles were made.
-    pub fn worked(&self) -> u64
-        ensures { result ≡ self.now.worked }
+    pub fn cycles_made(&self) -> u64
+        ensures { result ≡ self.now.cycles_made }
     {
-        self.worked
+        self.cycles_made
     }
 
     /// The stations.
@@ -217,7 +220,7 @@ impl<A: Allocator> Inner<A> {
         End {
             kind,
             pc,
-            steps: self.count,
+            steps: self.issued,
             regs: self.registers.values,
             memory: self.memory,
         }

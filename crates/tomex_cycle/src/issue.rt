@@ -25,7 +25,7 @@ pub fn issue_next<A: Allocator>(
     ensures issues { IssuesNext fetcher.old config.now count
         pools.old registers.old fetch.old result pools.new registers.new fetch.new }
     ensures none { result ≡ Ok false → pools.new ≡ pools.old }
-    ensures known { (cycle : ℕ) → KeepsTimetable cycle pools.old.slots pools.new.slots }
+    ensures timetable { (cycle : ℕ) → KeepsTimetable cycle pools.old.slots pools.new.slots }
     ensures same { fetcher.new ≡ fetcher.old }
 {
     let pc = match *fetch {
@@ -53,7 +53,7 @@ pub fn issue_next<A: Allocator>(
 }
 
 /// Issues more instructions in a cycle in which one has issued, as many as the configuration's width leaves, up to
-/// the first that can't, and counts each. A fault of fetching is reported by the next cycle, which begins with it.
+/// the first that can't, and counts each. A fault of fetching is left to the next cycle, whose first issue it is.
 ///
 /// On a configuration of width 1 it is never called. So it isn't put into its caller, the compiler keeps nothing in
 /// readiness for it, and it answers nothing, since each cycle would make room for the answer.
@@ -69,7 +69,7 @@ pub fn issue_more<A: Allocator>(
 )
     ensures issues { IssuesMore fetcher.old config.now
         count.old pools.old registers.old fetch.old count.new pools.new registers.new fetch.new }
-    ensures known { (cycle : ℕ) → KeepsTimetable cycle pools.old.slots pools.new.slots }
+    ensures timetable { (cycle : ℕ) → KeepsTimetable cycle pools.old.slots pools.new.slots }
     ensures same { fetcher.new ≡ fetcher.old }
 {
     let width = config.width();

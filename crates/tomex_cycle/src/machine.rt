@@ -3,13 +3,13 @@
 ghost use Rattle.std.specs.Prelude.{◌≡◌, ◌≢◌, ◌<◌, ◌≤◌, ◌+◌, ◌^◌, IfErr, IfOk, true};
 ghost use Rattle.tomex_rvexec.specs.Run.{IsEnd};
 ghost use Rattle.tomex_timing.specs.Tables.{tables_of};
-ghost use Rattle.tomex_cycle.specs.Run.{EndsInTime, most_steps, run_of};
+ghost use Rattle.tomex_cycle.specs.Run.{EndsWithinLimit, most_steps, run_of};
 ghost use Rattle.tomex_cycle.specs.Advancing.{AdvancesTo};
 ghost use Rattle.tomex_cycle.specs.Events.{GoesOn};
 ghost use Rattle.tomex_cycle.specs.Seen.{IsInStep, before_first_cycle, is_end, seen, seen_after};
 
 use crate::finishes::Finishes;
-use crate::inner::{Cycle, Inner};
+use crate::inner::{Inner, Making};
 use crate::progress::{CycleOutcome, Progress};
 use crate::skipping::skip_quiet;
 use crate::tables::Tables;
@@ -37,7 +37,7 @@ pub struct Machine<'a, A: Allocator = Global> {
 impl<'a, A: Allocator> Model for Machine<'a, A> {
     ghost use Rattle.std.specs.Prelude.{◌≤◌, ◌+◌};
     ghost use Rattle.tomex_cycle.specs.Seen.{Machine};
-    ghost use Rattle.tomex_cycle.specs.Sound.{IsSoundWith, IsTurning};
+    ghost use Rattle.tomex_cycle.specs.Sound.{HasTimetableWhileRunning, IsSoundWith};
 
     ghost Value = { Machine };
 
@@ -46,19 +46,19 @@ impl<'a, A: Allocator> Model for Machine<'a, A> {
       config = m.config;
       cycle = m.cycle;
       status = m.status;
-      cycles_made = m.inner.worked;
+      cycles_made = m.inner.cycles_made;
     } };
 
     ghost invariant = { λ m.
-        IsSoundWith m.fetcher m.config m.cycle m.status m.inner × (m.inner.worked ≤ m.cycle)
-        × IsTurning m.status m.inner.pools.slots (m.cycle + 1) m.finishes };
+        IsSoundWith m.fetcher m.config m.cycle m.status m.inner × (m.inner.cycles_made ≤ m.cycle)
+        × HasTimetableWhileRunning m.status m.inner.pools.slots (m.cycle + 1) m.finishes };
 }
 
 impl<'a, A: Allocator> Machine<'a, A> {
     /// The machine of an image and a configuration, before the first cycle.
     pub fn new(alloc: A, image: &'a Image<A>, config: &Config) -> Result<Self, AllocError>
         ensures start { IfOk result (λ m. seen m ≡ before_first_cycle image.now config.now) }
-        ensures worked { IfOk result (λ m. m.cycles_made ≡ 0) }
+        ensures none_made { IfOk result (λ m. m.cycles_made ≡ 0) }
     {
         config.keeps_limits();
         image.fills_its_window();
@@ -76,7 +76,7 @@ impl<'a, A: Allocator> Machine<'a, A> {
     /// is enough. If more is refused, this one comes back as it was.
     pub fn restart(self, image: &'a Image<A>, config: &Config) -> Result<Self, Self>
         ensures start { IfOk result (λ m. seen m ≡ before_first_cycle image.now config.now) }
-        ensures worked { IfOk result (λ m. m.cycles_made ≡ 0) }
+        ensures none_made { IfOk result (λ m. m.cycles_made ≡ 0) }
         ensures err { IfErr result (λ m. m ≡ self.entry) }
     {
         config.keeps_limits();
@@ -118,7 +118,8 @@ impl<'a, A: Allocator> Machine<'a, A> {
         self.advance(self.cycle + 1)
     }
 
-    /// Makes one cycle and skips the quiet ones after it, but goes no further than `to`.
+    /// Makes one cycle, skips the quiet ones after it, and counts the next one too if only results finish in it. Goes
+    /// no further than `to`.
     fn go_on(&mut self, to: u64) -> Progress
         requires running { self.old.status ≡ Progress.Running }
         requires ahead { self.old.cycle < to }
@@ -128,15 +129,15 @@ impl<'a, A: Allocator> Machine<'a, A> {
         ensures config { self.new.config ≡ self.old.config }
         ensures least { self.old.cycle < self.new.cycle }
         ensures most { self.new.cycle ≤ to }
-        ensures ends { EndsInTime self.old.image
+        ensures ends { EndsWithinLimit self.old.image
             → seen self.new ≡ seen_after self.old.image self.old.config self.new.cycle }
-        ensures goes { EndsInTime self.old.image
+        ensures goes { EndsWithinLimit self.old.image
             → GoesOn (run_of self.old.config self.old.image) to self.old.cycle self.new.cycle
             self.old.cycles_made self.new.cycles_made }
     {
         let next = self.cycle + 1;
         match self.inner.make_cycle(
-            Cycle::ByPhases,
+            Making::ByPhases,
             &mut self.finishes,
             &mut self.fetcher,
             &self.config,
@@ -146,7 +147,7 @@ impl<'a, A: Allocator> Machine<'a, A> {
                 self.cycle = next;
                 Progress::Running
             }
-            CycleOutcome::Quiet => {
+            CycleOutcome::Settled => {
                 self.cycle = skip_quiet(
                     &mut self.inner,
                     &mut self.finishes,
@@ -165,7 +166,7 @@ impl<'a, A: Allocator> Machine<'a, A> {
         }
     }
 
-    /// A law: a machine whose program ends is as it is after as many ticks as its cycle says.
+    /// A law: a machine whose program ends is the one that has gone on to its cycle from the start.
     fn keeps_step(&self)
         ensures { IsInStep self.now }
     {
@@ -191,8 +192,12 @@ impl<'a, A: Allocator> Machine<'a, A> {
         }
     }
 
-    /// Goes on to cycle `to`, or to the machine's end or fault if that comes first. Quiet cycles are skipped. A machine
-    /// that is there already, or is over, stays as it is. Up to 2^40 the count of cycles can't overflow.
+    /// Goes on to cycle `to`, or to the program's end if that comes first. How many quiet cycles are made on the way,
+    /// and not skipped, `AdvancesTo` bounds. A machine that is there already, or has ended or faulted, stays as it
+    /// is. Of a program that doesn't end within the limit only how far the machine may go is promised.
+    ///
+    /// The bound of 2^40 is far above the 17,563,648 cycles that a program within the limit may take, and far enough
+    /// below 2^64 that no sum of cycles overflows.
     pub fn advance(&mut self, to: u64) -> Progress
         requires { to ≤ 2 ^ 40 }
         ensures answer { result ≡ self.new.status }
@@ -204,7 +209,7 @@ impl<'a, A: Allocator> Machine<'a, A> {
         self.status
     }
 
-    /// The cycle that was made last.
+    /// The cycle that the machine has reached, made or skipped.
     pub fn cycle(&self) -> u64
         ensures value { result ≡ self.now.cycle }
         ensures ends { IsInStep self.now }
@@ -216,7 +221,7 @@ impl<'a, A: Allocator> Machine<'a, A> {
     pub fn worked(&self) -> u64
         ensures { result ≡ self.now.cycles_made }
     {
-        self.inner.worked()
+        self.inner.cycles_made()
     }
 
     /// Whether the program has ended, and so has each of its instructions.
@@ -229,7 +234,7 @@ impl<'a, A: Allocator> Machine<'a, A> {
     /// The busy stations and the register status.
     pub fn tables(&self) -> Tables
         ensures cycle { result.cycle ≡ self.now.cycle }
-        ensures ends { EndsInTime self.now.image
+        ensures ends { EndsWithinLimit self.now.image
             → result ≡ tables_of self.now.cycle (run_of self.now.config self.now.image) }
     {
         self.inner.tables(self.cycle)
@@ -238,7 +243,7 @@ impl<'a, A: Allocator> Machine<'a, A> {
     /// The end of the run: its kind, pc, number of steps, registers and memory.
     pub fn finish(self) -> End<A>
         requires { is_end self.status ≡ true }
-        ensures ends { EndsInTime self.entry.image → IsEnd self.entry.image most_steps result }
+        ensures ends { EndsWithinLimit self.entry.image → IsEnd self.entry.image most_steps result }
     {
         self.inner.into_end()
     }

@@ -1,4 +1,5 @@
-//! The phases of a cycle. Each reads only what no earlier one of the cycle has changed.
+//! The phases of a cycle, in their order. Starts, the address and the issues read nothing that an earlier one of the
+//! cycle has changed; the ends also read the finishes of what has just started.
 
 ghost use Rattle.std.specs.Prelude.{ℕ, ◌≡◌, ◌<◌, ◌+◌, ◌^◌, IfSome, None, Ok, Some, false, true};
 ghost use Rattle.tomex_cycle.specs.Finishes.{IsTimetableOf, KeepsTimetable};
@@ -34,13 +35,13 @@ pub fn start<A: Allocator>(
     cycle: u64,
 ) -> Starts
     requires low { cycle < 2 ^ 41 }
-    requires known { IsTimetableOf pools.old.slots cycle finishes.old }
+    requires timetable { IsTimetableOf pools.old.slots cycle finishes.old }
     ensures starts { MakesStarts config.now cycle
         pools.old memory.old result.fault pools.new memory.new }
     ensures none { result.any ≡ false → pools.new.slots ≡ pools.old.slots }
     ensures any { result.any ≡ true → StartsHappen config.now cycle pools.old }
     ensures fault { IfSome result.fault (λ f. (x : ℕ) × IsAccessFault pools.old memory.old x f) }
-    ensures known { result.fault ≡ None → IsTimetableOf pools.new.slots cycle finishes.new }
+    ensures timetable { result.fault ≡ None → IsTimetableOf pools.new.slots cycle finishes.new }
 {
     let starting = starts::starting(pools, config, cycle);
     if starting == 0 {
@@ -59,7 +60,7 @@ pub fn address(pools: &mut Pools, cycle: u64) -> bool
     ensures addresses { MakesAddress cycle pools.old pools.new }
     ensures none { result ≡ false → pools.new.slots ≡ pools.old.slots }
     ensures any { result ≡ true → AddressHappens cycle pools.old }
-    ensures known { KeepsTimetable cycle pools.old.slots pools.new.slots }
+    ensures timetable { KeepsTimetable cycle pools.old.slots pools.new.slots }
 {
     match address_next(pools) {
         Some(place) => {
@@ -85,7 +86,7 @@ pub fn issue<A: Allocator>(
         count.old pools.old registers.old fetch.old
         result count.new pools.new registers.new fetch.new }
     ensures none { result ≡ Ok false → pools.new.slots ≡ pools.old.slots }
-    ensures known { (cycle : ℕ) → KeepsTimetable cycle pools.old.slots pools.new.slots }
+    ensures timetable { (cycle : ℕ) → KeepsTimetable cycle pools.old.slots pools.new.slots }
     ensures same { fetcher.new ≡ fetcher.old }
 {
     if !issue_next(pools, registers, fetch, *count, fetcher, config)? {
@@ -109,25 +110,25 @@ pub fn end(
     config: &Config,
     cycle: u64,
 ) -> bool
-    requires known { IsTimetableOf pools.old.slots cycle finishes.old }
+    requires timetable { IsTimetableOf pools.old.slots cycle finishes.old }
     ensures ends { MakesEnds config.now cycle
         pools.old registers.old fetch.old pools.new registers.new fetch.new }
     ensures none { result ≡ false → pools.new.slots ≡ pools.old.slots }
     ensures any { result ≡ true → EndsHappen config.now cycle pools.old }
-    ensures known { IsTimetableOf pools.new.slots (cycle + 1) finishes.new }
-    ensures quiet { result ≡ false → finishes.new.ready ≡ 0 }
+    ensures timetable { IsTimetableOf pools.new.slots (cycle + 1) finishes.new }
+    ensures none_unsent { result ≡ false → finishes.new.unsent ≡ 0 }
 {
     let due = finishes.turn();
     // In many cycles nothing finishes and no result waits.
-    if due == 0 && finishes.ready == 0 {
+    if due == 0 && finishes.unsent == 0 {
         pools.keeps_places();
         return false;
     }
-    let over = ends::settle(pools, finishes, due, config.buses(), cycle);
-    ends::follow(fetch, pools, over.due, cycle);
-    if over.ending == 0 {
-        return over.due != 0;
+    let chosen = ends::choose_ending(pools, finishes, due, config.buses(), cycle);
+    ends::follow(fetch, pools, chosen.due, cycle);
+    if chosen.ending == 0 {
+        return chosen.due != 0;
     }
-    ends::apply(pools, registers, over.ending);
+    ends::apply(pools, registers, chosen.ending);
     true
 }

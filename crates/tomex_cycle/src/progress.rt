@@ -19,8 +19,8 @@ pub enum Progress {
 pub(crate) enum CycleOutcome {
     /// The program runs on, and something has happened: the next cycle has to be made.
     Active,
-    /// The program runs on, and after this cycle nothing happens before the next finish.
-    Quiet,
+    /// The program runs on, and the cycle is settled: after it nothing happens before the next finish.
+    Settled,
     /// The program has ended, and so has each of its instructions.
     Ended,
     Faulted(Fault),
@@ -29,16 +29,16 @@ pub(crate) enum CycleOutcome {
 impl CycleOutcome {
     /// The outcome of a cycle without fault.
     #[inline(always)]
-    pub(crate) fn after(over: bool, quiet: bool) -> CycleOutcome
+    pub(crate) fn after(ended: bool, settled: bool) -> CycleOutcome
         ensures progress { progress_of result
-            ≡ (if over then Progress.Ended else Progress.Running) }
-        ensures active { result ≡ CycleOutcome.Active → quiet ≡ false }
-        ensures quiet { result ≡ CycleOutcome.Quiet → quiet ≡ true }
+            ≡ (if ended then Progress.Ended else Progress.Running) }
+        ensures active { result ≡ CycleOutcome.Active → settled ≡ false }
+        ensures settled { result ≡ CycleOutcome.Settled → settled ≡ true }
     {
-        if over {
+        if ended {
             CycleOutcome::Ended
-        } else if quiet {
-            CycleOutcome::Quiet
+        } else if settled {
+            CycleOutcome::Settled
         } else {
             CycleOutcome::Active
         }
@@ -50,7 +50,7 @@ impl CycleOutcome {
         ensures { result ≡ progress_of self }
     {
         match self {
-            CycleOutcome::Active | CycleOutcome::Quiet => Progress::Running,
+            CycleOutcome::Active | CycleOutcome::Settled => Progress::Running,
             CycleOutcome::Ended => Progress::Ended,
             CycleOutcome::Faulted(fault) => Progress::Faulted(fault),
         }

@@ -1,10 +1,10 @@
 //! Skipping the quiet cycles.
 
 ghost use Rattle.std.specs.Prelude.{ℕ, ◌≡◌, ◌<◌, ◌≤◌, ◌+◌, ◌-◌, ◌^◌, true, false};
-ghost use Rattle.tomex_cycle.specs.Finishes.{IsTimetableOf, AreResults, FinishesSoon, IsFree, IsIdle, IsSkipped};
+ghost use Rattle.tomex_cycle.specs.Finishes.{AreResults, CanSkip, FinishesNext, IsFree, IsSkipped, IsTimetableOf};
 
 use crate::finishes::Finishes;
-use crate::inner::{Cycle, Inner};
+use crate::inner::{Inner, Making};
 use std::alloc::Allocator;
 use tomex_config::Config;
 use tomex_rvdec::UnitId;
@@ -13,9 +13,9 @@ use tomex_sets::difference;
 use tomex_tags::{Pools, served_by};
 
 /// How many cycles can be skipped before the next finish, so far ahead if there is any, but no more than `most`.
-fn idle(ahead: Option<u32>, most: u64) -> u64
+fn skippable(ahead: Option<u32>, most: u64) -> u64
     ensures most { result ≤ most }
-    ensures idle { IsIdle ahead most result }
+    ensures skips { CanSkip ahead most result }
 {
     match ahead {
         Some(ahead) if u64::from(ahead) < most => u64::from(ahead),
@@ -25,27 +25,27 @@ fn idle(ahead: Option<u32>, most: u64) -> u64
 
 /// Skips the cycles after one that was just made in which nothing finishes, but goes no further than `to`. Answers
 /// the cycle that it comes to.
-fn skip_idle(finishes: &mut Finishes, pools: &Pools, cycle: u64, to: u64) -> u64
+fn skip_free(finishes: &mut Finishes, pools: &Pools, cycle: u64, to: u64) -> u64
     requires ahead { cycle ≤ to }
-    requires known { IsTimetableOf pools.now.slots (cycle + 1) finishes.old }
-    requires quiet { finishes.old.ready ≡ 0 }
+    requires timetable { IsTimetableOf pools.now.slots (cycle + 1) finishes.old }
+    requires none_unsent { finishes.old.unsent ≡ 0 }
     ensures least { cycle ≤ result }
     ensures most { result ≤ to }
     ensures free { IsFree pools.now.slots cycle result }
-    ensures stops { result < to → FinishesSoon pools.now.slots cycle result }
-    ensures known { IsTimetableOf pools.now.slots (result + 1) finishes.new }
-    ensures quiet { finishes.new.ready ≡ 0 }
+    ensures stops { result < to → FinishesNext pools.now.slots result }
+    ensures timetable { IsTimetableOf pools.now.slots (result + 1) finishes.new }
+    ensures none_unsent { finishes.new.unsent ≡ 0 }
 {
-    let idle = idle(finishes.wheel.next(), to - cycle);
-    finishes.wheel.pass(idle);
-    cycle + idle
+    let skipped = skippable(finishes.wheel.next(), to - cycle);
+    finishes.wheel.pass(skipped);
+    cycle + skipped
 }
 
-/// Takes what finishes in the next cycle as results that are ready after it, if nothing else finishes in it: no
+/// Takes what finishes in the next cycle as unsent results after it, if nothing else finishes in it: no
 /// branch, and nothing that ends as it finishes. Answers whether that was so.
 #[inline(always)]
 fn take_results(finishes: &mut Finishes, pools: &Pools) -> bool
-    requires { finishes.old.ready ≡ 0 }
+    requires { finishes.old.unsent ≡ 0 }
     ensures none { result ≡ false → finishes.new ≡ finishes.old }
     ensures others { result ≡ false → (cycle : ℕ) → IsTimetableOf pools.now.slots cycle finishes.old
         → AreResults pools.now.slots cycle → ⊥ }
@@ -57,7 +57,7 @@ fn take_results(finishes: &mut Finishes, pools: &Pools) -> bool
     if others != 0 {
         return false;
     }
-    finishes.ready = finishes.turn();
+    finishes.unsent = finishes.turn();
     true
 }
 
@@ -73,23 +73,23 @@ pub(crate) fn skip_quiet<A: Allocator, B: Allocator>(
     to: u64,
 ) -> u64
     requires ahead { cycle ≤ to }
-    requires fits { inner.old.worked < 2 ^ 41 }
+    requires fits { inner.old.cycles_made < 2 ^ 41 }
     requires low { to < 2 ^ 41 }
-    requires known { IsTimetableOf inner.old.pools.slots (cycle + 1) finishes.old }
-    requires quiet { finishes.old.ready ≡ 0 }
+    requires timetable { IsTimetableOf inner.old.pools.slots (cycle + 1) finishes.old }
+    requires none_unsent { finishes.old.unsent ≡ 0 }
     ensures least { cycle ≤ result }
     ensures most { result ≤ to }
     ensures skipped { IsSkipped inner.old.pools.slots cycle to result
-        inner.old.worked inner.new.worked }
-    ensures known { IsTimetableOf inner.old.pools.slots (result + 1) finishes.new }
-    ensures inner { inner.new ≡ record inner.old { worked = inner.new.worked } }
+        inner.old.cycles_made inner.new.cycles_made }
+    ensures timetable { IsTimetableOf inner.old.pools.slots (result + 1) finishes.new }
+    ensures inner { inner.new ≡ record inner.old { cycles_made = inner.new.cycles_made } }
     ensures same { fetcher.new ≡ fetcher.old }
 {
     let pools = inner.pools();
-    let idle = skip_idle(finishes, pools, cycle, to);
-    if idle < to && take_results(finishes, pools) {
-        inner.make_cycle(Cycle::CountOnly, finishes, fetcher, config, idle + 1);
-        return idle + 1;
+    let last_free = skip_free(finishes, pools, cycle, to);
+    if last_free < to && take_results(finishes, pools) {
+        inner.make_cycle(Making::CountOnly, finishes, fetcher, config, last_free + 1);
+        return last_free + 1;
     }
-    idle
+    last_free
 }

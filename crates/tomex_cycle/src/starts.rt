@@ -11,7 +11,7 @@ ghost use Rattle.tomex_rvdec.specs.Operands.{pool_of, unit_of, unit_of_pool};
 ghost use Rattle.tomex_rvexec.specs.Access.{HasStored, IsInside};
 ghost use Rattle.tomex_rvexec.specs.Flow.{byte_in, result_of};
 ghost use Rattle.tomex_cycle.specs.Finishes.{IsTimetableOf};
-ghost use Rattle.tomex_cycle.specs.Starts.{AllCanBegin, AllInside, AllWaitFor, AreLow, AreReadyFor, CanBegin};
+ghost use Rattle.tomex_cycle.specs.Starts.{AllCanBegin, AllInside, AllWaitFor, AreLow, AreStartableFor, CanBegin};
 ghost use Rattle.tomex_cycle.specs.Starts.{HaveBegun, HaveStored, IsAccessFault, IsStarting, IsWanted};
 ghost use Rattle.tomex_cycle.specs.Starts.{access_fault, begun};
 
@@ -25,7 +25,7 @@ use tomex_rvexec::{Fault, FaultKind, Memory};
 use tomex_sets::{both, is_single, lowest, union, with, without_lowest};
 use tomex_tags::{Pools, Station, unit};
 
-/// Whether no older access is in the way of the one in a place, which otherwise waits for a port alone.
+/// Whether no older access blocks the one in a place, which otherwise waits for a port alone.
 #[inline(always)]
 fn is_clear(pools: &Pools, place: usize, cycle: u64) -> bool
     requires below { place < 128 }
@@ -36,14 +36,14 @@ fn is_clear(pools: &Pools, place: usize, cycle: u64) -> bool
     may_access(pools, place, cycle)
 }
 
-/// Of these loads and stores, which wait for nothing else, those that no older access is in the way of.
+/// Of these loads and stores, which wait for nothing else, those that no older access blocks.
 ///
 /// Mostly no more than one has its address, and none is asked: so this takes no registers of its caller.
 #[inline(never)]
 fn clear_among(pools: &Pools, waiting: u128, cycle: u64) -> u128
     requires set { IsSetOf (waits_for UnitId.Mem) pools.now.slots waiting }
     requires busy { AreBusy pools.now.slots pools.now.busy pools.now.issue_numbers }
-    ensures ready { AreReadyFor pools.now cycle UnitId.Mem result }
+    ensures startable { AreStartableFor pools.now cycle UnitId.Mem result }
     ensures wait { AllWaitFor UnitId.Mem pools.now.slots result }
 {
     let mut clear = 0;
@@ -60,7 +60,7 @@ fn clear_among(pools: &Pools, waiting: u128, cycle: u64) -> u128
 
 /// The places of the loads and stores whose accesses can start if a port is left.
 fn accessible(pools: &Pools, cycle: u64) -> u128
-    ensures ready { AreReadyFor pools.now cycle UnitId.Mem result }
+    ensures startable { AreStartableFor pools.now cycle UnitId.Mem result }
     ensures wait { AllWaitFor UnitId.Mem pools.now.slots result }
     ensures busy { AreBusy pools.now.slots pools.now.busy pools.now.issue_numbers }
 {
@@ -76,9 +76,9 @@ fn accessible(pools: &Pools, cycle: u64) -> u128
 
 /// The places whose operations can start if a unit of this kind is left, which is no memory port.
 #[inline(always)]
-fn ready(pools: &Pools, unit: UnitId) -> u128
+fn startable(pools: &Pools, unit: UnitId) -> u128
     requires { unit ≢ UnitId.Mem }
-    ensures ready { (cycle : ℕ) → AreReadyFor pools.now cycle unit result }
+    ensures startable { (cycle : ℕ) → AreStartableFor pools.now cycle unit result }
     ensures wait { IsSetOf (waits_for unit) pools.now.slots result }
     ensures busy { AreBusy pools.now.slots pools.now.busy pools.now.issue_numbers }
 {
@@ -94,8 +94,8 @@ fn together(alu: u128, mul: u128, div: u128, mem: u128, bru: u128) -> u128
     union(alu, union(mul, union(div, union(mem, bru))))
 }
 
-/// The places whose operations start in the cycle: of each kind the oldest that are ready, as many as
-/// there are units.
+/// The places whose operations start in the cycle: of each kind the oldest that can, as many as there are
+/// units.
 pub fn starting(pools: &Pools, config: &Config, cycle: u64) -> u128
     ensures starting { IsStarting config.now pools.now cycle result }
     ensures busy { AreBusy pools.now.slots pools.now.busy pools.now.issue_numbers }
@@ -104,11 +104,11 @@ pub fn starting(pools: &Pools, config: &Config, cycle: u64) -> u128
     if waiting == 0 {
         return 0;
     }
-    let alu = ready(pools, UnitId::Alu);
-    let mul = ready(pools, UnitId::Mul);
-    let div = ready(pools, UnitId::Div);
+    let alu = startable(pools, UnitId::Alu);
+    let mul = startable(pools, UnitId::Mul);
+    let div = startable(pools, UnitId::Div);
     let mem = accessible(pools, cycle);
-    let bru = ready(pools, UnitId::Bru);
+    let bru = startable(pools, UnitId::Bru);
     if is_single(waiting) {
         // There is a unit of each kind.
         config.keeps_limits();
@@ -183,7 +183,7 @@ fn begin_at<A: Allocator>(
     cycle: u64,
 ) -> Option<Fault>
     requires low { cycle < 2 ^ 41 }
-    requires known { IsTimetableOf pools.old.slots cycle finishes.old }
+    requires timetable { IsTimetableOf pools.old.slots cycle finishes.old }
     ensures slots { (s : Station) → slot pools.old.slots place ≡ Some s → CanBegin memory.now s
         → pools.new.slots
         ≡ slice_set pools.old.slots place (Some (begun config.now cycle memory.now s)) }
@@ -194,7 +194,7 @@ fn begin_at<A: Allocator>(
     ensures fault { (s : Station) → slot pools.old.slots place ≡ Some s → s.finish ≡ None
         → (IsInside memory.now (step_in s) → ⊥) → result ≡ Some (access_fault s) }
     ensures issue_numbers { pools.new.issue_numbers ≡ pools.old.issue_numbers }
-    ensures known { result ≡ None → IsTimetableOf pools.new.slots cycle finishes.new }
+    ensures timetable { result ≡ None → IsTimetableOf pools.new.slots cycle finishes.new }
 {
     let Some(station) = pools.at(place) else {
         return None;
@@ -225,7 +225,7 @@ pub fn begin<A: Allocator>(
     cycle: u64,
 ) -> Option<Fault>
     requires low { cycle < 2 ^ 41 }
-    requires known { IsTimetableOf pools.old.slots cycle finishes.old }
+    requires timetable { IsTimetableOf pools.old.slots cycle finishes.old }
     ensures begins { length pools.old.slots ≡ 96 → AreLow picked
         → AllCanBegin memory.now picked pools.old.slots
         → HaveBegun config.now cycle memory.now picked 96 pools.old pools.new }
@@ -233,7 +233,7 @@ pub fn begin<A: Allocator>(
         → AllCanBegin memory.now picked pools.old.slots → result ≡ None }
     ensures fault { IfSome result
         (λ f. (x : ℕ) × (has picked x ≡ true) × IsAccessFault pools.old memory.now x f) }
-    ensures known { result ≡ None → IsTimetableOf pools.new.slots cycle finishes.new }
+    ensures timetable { result ≡ None → IsTimetableOf pools.new.slots cycle finishes.new }
 {
     let mut rest = picked;
     'members: while rest != 0 {

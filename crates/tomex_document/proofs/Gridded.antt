@@ -5,7 +5,8 @@ use Rattle.std.specs.List.{list_all}
 use Rattle.toml.specs.Data.{Members}
 use Rattle.tomex_rvdec.specs.declared.pool.UnitId.TheVariants as units
 use Rattle.tomex_config.specs.Configuration.{is_between, is_option}
-use Rattle.tomex_config.specs.Grid.{Lists, has_zero, stations_in_range, options_in_range, rest_in_range, has_empty, in_range, is_too_large}
+use Rattle.tomex_config.specs.Grid.{Lists, has_zero, stations_in_range, options_in_range, rest_in_range, has_empty}
+use Rattle.tomex_config.specs.Grid.{in_range, is_too_large}
 use Rattle.tomex_values.specs.declared.place.Key.TheVariants as key
 use Rattle.tomex_values.specs.declared.place.Place.TheVariants as place
 use Rattle.tomex_values.specs.Table.{known_keys}
@@ -32,7 +33,9 @@ record AreCounts (counts : Counts) : Type 0 where
 axis_counts_are : (members : Members) (counts : Counts) → axis_counts members ≡ Ok counts → AreCounts counts
 unfolding axis_counts
 axis_counts_are members counts given =
-    let (known, (known_is, given_1)) = first_value (known_keys place.Axes (key.Alu ∷ key.Mul ∷ key.Div ∷ key.Load ∷ key.Store ∷ key.Bru ∷ key.Buses ∷ key.Width ∷ []) members) _ counts given in
+    let (known, (known_is, given_1)) =
+    first_value (known_keys place.Axes (key.Alu ∷ key.Mul ∷ key.Div ∷ key.Load ∷ key.Store ∷ key.Bru ∷ key.Buses
+    ∷ key.Width ∷ []) members) _ counts given in
     let (alu, (alu_is, given_2)) = first_value (counts_at place.Axes key.Alu 16 members) _ counts given_1 in
     let (mul, (mul_is, given_3)) = first_value (counts_at place.Axes key.Mul 16 members) _ counts given_2 in
     let (div, (div_is, given_4)) = first_value (counts_at place.Axes key.Div 16 members) _ counts given_3 in
@@ -41,7 +44,16 @@ axis_counts_are members counts given =
     let (bru, (bru_is, given_7)) = first_value (counts_at place.Axes key.Bru 16 members) _ counts given_6 in
     let (buses, (buses_is, given_8)) = first_value (counts_at place.Axes key.Buses 8 members) _ counts given_7 in
     let (width, (width_is, given_9)) = first_value (counts_at place.Axes key.Width 4 members) _ counts given_8 in
-    let found : Counts = record { alu = alu; mul = mul; div = div; load = load; store = store; bru = bru; buses = buses; width = width } in
+    let found : Counts = record {
+      alu = alu;
+      mul = mul;
+      div = div;
+      load = load;
+      store = store;
+      bru = bru;
+      buses = buses;
+      width = width;
+    } in
     let are : AreCounts found = record {
       alu = counts_at_are place.Axes key.Alu 16 members alu refl alu_is;
       mul = counts_at_are place.Axes key.Mul 16 members mul refl mul_is;
@@ -64,7 +76,9 @@ record HaveTables (tables : UnitTables) : Type 0 where
 unit_tables_have : (members : Members) (tables : UnitTables) → unit_tables members ≡ Ok tables → HaveTables tables
 unfolding unit_tables
 unit_tables_have members tables given =
-    let (known, (known_is, given_1)) = first_value (known_keys place.Unit (key.Alu ∷ key.Mul ∷ key.Div ∷ key.Mem ∷ key.Bru ∷ []) members) _ tables given in
+    let (known, (known_is, given_1)) =
+    first_value (known_keys place.Unit (key.Alu ∷ key.Mul ∷ key.Div ∷ key.Mem ∷ key.Bru ∷ []) members) _ tables
+    given in
     let (alu, (alu_is, given_2)) = first_value (tables_at place.Unit key.Alu members) _ tables given_1 in
     let (mul, (mul_is, given_3)) = first_value (tables_at place.Unit key.Mul members) _ tables given_2 in
     let (div, (div_is, given_4)) = first_value (tables_at place.Unit key.Div members) _ tables given_3 in
@@ -87,27 +101,43 @@ record AreAxes (axes : Lists) : Type 0 where
 all_five : (a b c d e : Bool) → a ≡ true → b ≡ true → c ≡ true → d ≡ true → e ≡ true → (a && b && c && d && e) ≡ true
 all_five a b c d e in_a in_b in_c in_d in_e = rw (in_a, in_b, in_c, in_d, in_e) refl
 
-all_six : (a b c d e f : Bool) → a ≡ true → b ≡ true → c ≡ true → d ≡ true → e ≡ true → f ≡ true → (a && b && c && d && e && f) ≡ true
+all_six : (a b c d e f : Bool) → a ≡ true → b ≡ true → c ≡ true → d ≡ true → e ≡ true → f ≡ true
+    → (a && b && c && d && e && f) ≡ true
 all_six a b c d e f in_a in_b in_c in_d in_e in_f = rw (in_a, in_b, in_c, in_d, in_e, in_f) refl
 
 -- none of the lengths is 0
-none_of : (a b c d e f g h i j k l m : ℕ) → (a == 0) ≡ false → (b == 0) ≡ false → (c == 0) ≡ false → (d == 0) ≡ false → (e == 0) ≡ false → (f == 0) ≡ false → (g == 0) ≡ false → (h == 0) ≡ false → (i == 0) ≡ false → (j == 0) ≡ false → (k == 0) ≡ false → (l == 0) ≡ false → (m == 0) ≡ false
+none_of : (a b c d e f g h i j k l m : ℕ) → (a == 0) ≡ false → (b == 0) ≡ false → (c == 0) ≡ false → (d == 0) ≡ false
+    → (e == 0) ≡ false → (f == 0) ≡ false → (g == 0) ≡ false → (h == 0) ≡ false → (i == 0) ≡ false → (j == 0) ≡ false
+    → (k == 0) ≡ false → (l == 0) ≡ false → (m == 0) ≡ false
     → has_zero (a ∷ b ∷ c ∷ d ∷ e ∷ f ∷ g ∷ h ∷ i ∷ j ∷ k ∷ l ∷ m ∷ []) ≡ false
-none_of a b c d e f g h i j k l m no_a no_b no_c no_d no_e no_f no_g no_h no_i no_j no_k no_l no_m = rw (no_a, no_b, no_c, no_d, no_e, no_f, no_g, no_h, no_i, no_j, no_k, no_l, no_m) refl
+none_of a b c d e f g h i j k l m no_a no_b no_c no_d no_e no_f no_g no_h no_i no_j no_k no_l no_m =
+    rw (no_a, no_b, no_c, no_d, no_e, no_f, no_g, no_h, no_i, no_j, no_k, no_l, no_m) refl
 
 -- such axes span a grid
-spans : (axes : Lists) → IsAxis (is_between 1 16) axes.alu → IsAxis (is_between 1 16) axes.mul → IsAxis (is_between 1 16) axes.div → IsAxis (is_between 1 16) axes.load → IsAxis (is_between 1 16) axes.store → IsAxis (is_between 1 16) axes.bru → IsAxis (is_option 8) axes.alu_units → IsAxis (is_option 8) axes.mul_units → IsAxis (is_option 8) axes.div_units → IsAxis (is_option 8) axes.mem_units → IsAxis (is_option 1) axes.bru_units → IsAxis (is_between 1 8) axes.buses → IsAxis (is_between 1 4) axes.width → AreAxes axes
+spans : (axes : Lists) → IsAxis (is_between 1 16) axes.alu → IsAxis (is_between 1 16) axes.mul
+    → IsAxis (is_between 1 16) axes.div → IsAxis (is_between 1 16) axes.load → IsAxis (is_between 1 16) axes.store
+    → IsAxis (is_between 1 16) axes.bru → IsAxis (is_option 8) axes.alu_units → IsAxis (is_option 8) axes.mul_units
+    → IsAxis (is_option 8) axes.div_units → IsAxis (is_option 8) axes.mem_units → IsAxis (is_option 1) axes.bru_units
+    → IsAxis (is_between 1 8) axes.buses → IsAxis (is_between 1 4) axes.width → AreAxes axes
 unfolding has_empty in_range
 spans axes alu mul div load store bru alu_units mul_units div_units mem_units bru_units buses width = record {
-  some = none_of (length axes.alu) (length axes.mul) (length axes.div) (length axes.load) (length axes.store) (length axes.bru) (length axes.alu_units) (length axes.mul_units) (length axes.div_units) (length axes.mem_units) (length axes.bru_units) (length axes.buses) (length axes.width)
-      alu.some mul.some div.some load.some store.some bru.some alu_units.some mul_units.some div_units.some mem_units.some bru_units.some buses.some width.some;
+  some = none_of (length axes.alu) (length axes.mul) (length axes.div) (length axes.load) (length axes.store)
+      (length axes.bru) (length axes.alu_units) (length axes.mul_units) (length axes.div_units) (length axes.mem_units)
+      (length axes.bru_units) (length axes.buses) (length axes.width)
+      alu.some mul.some div.some load.some store.some bru.some alu_units.some mul_units.some div_units.some
+      mem_units.some bru_units.some buses.some width.some;
   within = and_from (stations_in_range axes) (options_in_range axes && rest_in_range axes)
-      (all_six (list_all (is_between 1 16) axes.alu) (list_all (is_between 1 16) axes.mul) (list_all (is_between 1 16) axes.div) (list_all (is_between 1 16) axes.load) (list_all (is_between 1 16) axes.store) (list_all (is_between 1 16) axes.bru)
+      (all_six (list_all (is_between 1 16) axes.alu) (list_all (is_between 1 16) axes.mul)
+      (list_all (is_between 1 16) axes.div) (list_all (is_between 1 16) axes.load)
+      (list_all (is_between 1 16) axes.store) (list_all (is_between 1 16) axes.bru)
       alu.within mul.within div.within load.within store.within bru.within)
       (and_from (options_in_range axes) (rest_in_range axes)
-      (all_five (list_all (is_option 8) axes.alu_units) (list_all (is_option 8) axes.mul_units) (list_all (is_option 8) axes.div_units) (list_all (is_option 8) axes.mem_units) (list_all (is_option 1) axes.bru_units)
+      (all_five (list_all (is_option 8) axes.alu_units) (list_all (is_option 8) axes.mul_units)
+      (list_all (is_option 8) axes.div_units) (list_all (is_option 8) axes.mem_units)
+      (list_all (is_option 1) axes.bru_units)
       alu_units.within mul_units.within div_units.within mem_units.within bru_units.within)
-      (and_from (list_all (is_between 1 8) axes.buses) (list_all (is_between 1 4) axes.width) buses.within width.within));
+      (and_from (list_all (is_between 1 8) axes.buses) (list_all (is_between 1 4) axes.width) buses.within
+      width.within));
 }
 
 axes_of_are : (members unit : Members) (axes : Lists) → axes_of members unit ≡ Ok axes → AreAxes axes
@@ -142,7 +172,8 @@ axes_of_are members unit axes given =
       buses = counts.buses;
       width = counts.width;
     } in
-    let lawful : AreAxes found = spans found are.alu are.mul are.div are.load are.store are.bru alus muls divs mems brus are.buses are.width in
+    let lawful : AreAxes found = spans found are.alu are.mul are.div are.load are.store are.bru alus muls divs mems brus
+    are.buses are.width in
     subst (λ (ls : Lists). AreAxes ls) (same_value found axes (Ok found) refl given_7) lawful
 
 outline_has_grid : (top : Members) (document : Document) → outline_of top ≡ Ok document → HasGrid document.axes

@@ -25,7 +25,8 @@ pub record OutlineParts (top : Members) (document : Document) : Type 0 where
 pub outline_parts : (top : Members) (document : Document) → outline_of top ≡ Ok document → OutlineParts top document
 unfolding outline_of
 outline_parts top document given =
-    let (known, (known_is, given_1)) = first_value (known_keys place.Top (key.Program ∷ key.Prices ∷ key.Axes ∷ key.Unit ∷ []) top) _ document given in
+    let (known, (known_is, given_1)) =
+    first_value (known_keys place.Top (key.Program ∷ key.Prices ∷ key.Axes ∷ key.Unit ∷ []) top) _ document given in
     let (tables, (tables_is, given_2)) = first_value (program_tables top) _ document given_1 in
     let (prices, (prices_is, given_3)) = first_value (table_at place.Top key.Prices top) _ document given_2 in
     let (members, (members_is, given_4)) = first_value (table_at place.Top key.Axes top) _ document given_3 in
@@ -33,7 +34,12 @@ outline_parts top document given =
     let (programs, (programs_is, given_6)) = first_value (programs_of 1 [] tables) _ document given_5 in
     let (list, (list_is, given_7)) = first_value (prices_of prices) _ document given_6 in
     let (axes, (axes_is, given_8)) = first_value (axes_of members unit) _ document given_7 in
-    let found : Document = record { programs = programs; prices = list; axes = axes; wide = is_wide programs prices members } in
+    let found : Document = record {
+      programs = programs;
+      prices = list;
+      axes = axes;
+      wide = is_wide programs prices members;
+    } in
     let (few, same) = not_met (is_too_large axes) found document TooMany given_8 in
     let parts : OutlineParts top found = record {
       tables = tables;

@@ -8,7 +8,8 @@ use Rattle.tomex_values.specs.declared.place.Place.TheVariants as place
 use Rattle.tomex_document.specs.Program.{ProgramEntry, program_of, programs_of}
 
 -- a fault of the next program is the fault of them all
-pub programs_of-fault : (number index : ℕ) (earlier : List ProgramEntry) (values : List Value) (value : Value) (table : Members) (error : DocumentError)
+pub programs_of-fault : (number index : ℕ) (earlier : List ProgramEntry) (values : List Value) (value : Value)
+    (table : Members) (error : DocumentError)
     → index < length values → value ≡ get_or values index value → Some table ≡ as_table (view value)
     → program_of (place.Program number) earlier table ≡ Err error
     → programs_of number earlier (items_view (drop index values)) ≡ Err error

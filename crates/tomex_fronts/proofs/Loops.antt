@@ -1,5 +1,6 @@
 -- What loops have made, one turn later.
-use Rattle.std.proofs.Common.{◌≡◌, ◌∙◌, ap, sym, add-one, arith, ℕ, zero, suc, ◌+◌, ◌-◌, ◌<◌, List, [], ◌∷◌, ◌++◌, append_assoc, drop, get_or, length, map}
+use Rattle.std.proofs.Common.{◌≡◌, ◌∙◌, ap, sym, add-one, arith, ℕ, zero, suc, ◌+◌, ◌-◌, ◌<◌, List, [], ◌∷◌, ◌++◌}
+use Rattle.std.proofs.Common.{append_assoc, drop, get_or, length, map}
 use Rattle.std.specs.List.{flat_map, range_with_len}
 
 -- the text of a number more

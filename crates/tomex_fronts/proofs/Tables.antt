@@ -8,7 +8,8 @@ use Rattle.std.proofs.lemmas.List.Elements.{All-append, All-cons, All-nil}
 use Rattle.tomex_study.specs.Program.{Workload}
 use Rattle.tomex_study.specs.Study.{DesignSpace}
 use Rattle.tomex_sweep.specs.declared.front_row.FrontRow.{FrontRow}
-use Rattle.tomex_fronts.specs.FrontTable.{all_settings, cycles_on, differs, heading_column, own_columns, program_column, program_columns, setting_columns}
+use Rattle.tomex_fronts.specs.FrontTable.{all_settings, cycles_on, differs, heading_column, own_columns, program_column}
+use Rattle.tomex_fronts.specs.FrontTable.{program_columns, setting_columns}
 use Rattle.tomex_fronts.specs.declared.table.heading.Heading.{Heading}
 use Rattle.tomex_fronts.specs.declared.table.heading.Heading.TheVariants.{Setting as OfSetting, Row, Cost, Cycles}
 use Rattle.tomex_fronts.specs.declared.table.heading.Setting.{Setting}
@@ -20,13 +21,15 @@ pub width_alone : (name numbers : List ℕ) (width : ℕ) → numbers ≡ [] →
 unfolding width_of
 width_alone name numbers width none is = rw none (omega (arith, is))
 
-longest_more : (ns : List ℕ) (n : ℕ) → longest (map decimal (ns ++ n ∷ [])) ≡ max (longest (map decimal ns)) (length (decimal n))
+longest_more : (ns : List ℕ) (n : ℕ) → longest (map decimal (ns ++ n ∷ [])) ≡ max (longest (map decimal ns))
+    (length (decimal n))
 longest_more [] n = omega arith
 longest_more (m ∷ ns) n = omega (arith, longest_more ns n)
 
 -- with one number more
 pub width_more : (name numbers after : List ℕ) (n width digits new : ℕ) → after ≡ numbers ++ n ∷ []
-    → width ≡ width_of (record { name = name; numbers = numbers }) → digits ≡ length (decimal n) → new ≡ max width digits
+    → width ≡ width_of (record { name = name; numbers = numbers }) → digits ≡ length (decimal n)
+    → new ≡ max width digits
     → new ≡ width_of (record { name = name; numbers = after })
 unfolding width_of
 width_more name numbers after n width digits new more old are is =
@@ -36,7 +39,8 @@ width_more name numbers after n width digits new more old are is =
 abbrev pub HasNumbers : List FrontRow → NamedNumbers → Type 0
 HasNumbers front c = length c.numbers ≡ length front
 
-heading_long : (s : DesignSpace) (front : List FrontRow) (heading : Heading) → HasNumbers front (heading_column s front heading)
+heading_long : (s : DesignSpace) (front : List FrontRow) (heading : Heading)
+    → HasNumbers front (heading_column s front heading)
 unfolding heading_column
 heading_long s front heading = length-map front _
 
@@ -48,7 +52,8 @@ all_map : {X Y : Type 0} (P : Y → Type 0) (f : X → Y) (xs : List X) → ((x 
 all_map P f [] each = All-nil P
 all_map P f (x ∷ xs) each = All-cons P (f x) (map f xs) (each x) (all_map P f xs each)
 
-all_flat_map : {X Y : Type 0} (P : Y → Type 0) (f : X → List Y) (xs : List X) → ((x : X) → All P (f x)) → All P (flat_map f xs)
+all_flat_map : {X Y : Type 0} (P : Y → Type 0) (f : X → List Y) (xs : List X) → ((x : X) → All P (f x))
+    → All P (flat_map f xs)
 all_flat_map P f [] each = All-nil P
 all_flat_map P f (x ∷ xs) each = All-append P (f x) (flat_map f xs) (each x) (all_flat_map P f xs each)
 
@@ -56,10 +61,12 @@ all_if : {Y : Type 0} (P : Y → Type 0) (ys : List Y) (b : Bool) → All P ys �
 all_if P ys true each = each
 all_if P ys false each = All-nil P
 
-setting_long : (s : DesignSpace) (front : List FrontRow) (setting : Setting) → All (HasNumbers front) (setting_columns s front setting)
+setting_long : (s : DesignSpace) (front : List FrontRow) (setting : Setting)
+    → All (HasNumbers front) (setting_columns s front setting)
 unfolding setting_columns
 setting_long s front setting =
-    let one = All-cons (HasNumbers front) _ [] (heading_long s front (OfSetting setting)) (All-nil (HasNumbers front)) in
+    let one = All-cons (HasNumbers front) _ [] (heading_long s front (OfSetting setting)) (All-nil (HasNumbers front))
+    in
     all_if (HasNumbers front) _ (differs s.rows setting) one
 
 -- all columns of the front's table
@@ -70,12 +77,14 @@ columns_long s front =
     let first = all_map P (heading_column s front) (Row ∷ Cost ∷ Cycles ∷ []) (heading_long s front) in
     let headings = map (heading_column s front) (Row ∷ Cost ∷ Cycles ∷ []) in
     let settings = flat_map (setting_columns s front) all_settings in
-    let own = All-append P headings settings first (all_flat_map P (setting_columns s front) all_settings (setting_long s front)) in
+    let own = All-append P headings settings first
+    (all_flat_map P (setting_columns s front) all_settings (setting_long s front)) in
     let programs = all_if P (map (program_column s front) s.programs) (nat_lt 1 (length s.programs))
     (all_map P (program_column s front) s.programs (program_long s front)) in
     All-append P (own_columns s front) (program_columns s front) own programs
 
 -- they are pushed one after the other
 pub all_columns : (s : DesignSpace) (front : List FrontRow) (none own all : List NamedNumbers) → none ≡ []
-    → own ≡ none ++ own_columns s front → all ≡ own ++ program_columns s front → all ≡ own_columns s front ++ program_columns s front
+    → own ≡ none ++ own_columns s front → all ≡ own ++ program_columns s front → all ≡ own_columns s front
+    ++ program_columns s front
 all_columns s front none own all empty first last = rw (last, first, empty) refl

@@ -1,8 +1,11 @@
 -- The definitions of refusal and placing, computed on files whose answers are known.
-use Rattle.std.proofs.Common.{ℕ, zero, suc, ◌+◌, ◌/◌, ◌%◌, ◌≡◌, refl, List, [], ◌∷◌, ◌++◌, Option, Some, None, take, length}
+use Rattle.std.proofs.Common.{ℕ, zero, suc, ◌+◌, ◌/◌, ◌%◌, ◌≡◌, refl, List, [], ◌∷◌, ◌++◌, Option, Some, None, take}
+use Rattle.std.proofs.Common.{length}
 use Rattle.std.specs.Prelude.{slice_set}
 use Rattle.tomex_image.specs.declared.error.ImageError.{ImageError}
-use Rattle.tomex_image.specs.declared.error.ImageError.TheVariants.{Empty, TooLarge, Truncated, NotRiscv, NotExec, HeaderSize, Dynamic, Segment, Overlap, TooManySegments, Entry}
+use Rattle.tomex_image.specs.declared.error.ImageError.TheVariants.{Empty, TooLarge, Truncated, NotRiscv, NotExec}
+use Rattle.tomex_image.specs.declared.error.ImageError.TheVariants.{HeaderSize, Dynamic, Segment, Overlap}
+use Rattle.tomex_image.specs.declared.error.ImageError.TheVariants.{TooManySegments, Entry}
 use Rattle.tomex_image.specs.FileHeader.{entry_of}
 use Rattle.tomex_image.specs.Placing.{byte_of}
 use Rattle.tomex_image.specs.ProgramHeader.{segments_of}
@@ -22,7 +25,8 @@ program = words (0x00500093 ∷ 0x00700113 ∷ 0x022081b3 ∷ 0x00100073 ∷ [])
 
 -- an executable for RISC-V with so many program headers, entered at 0x10000
 abbrev pub file_header : ℕ → List ℕ
-file_header count = words (0x464c457f ∷ 0x00010101 ∷ 0 ∷ 0 ∷ 0x00f30002 ∷ 1 ∷ 0x00010000 ∷ 0x00000034 ∷ 0 ∷ 0 ∷ 0x00200034 ∷ count ∷ 0 ∷ [])
+file_header count = words (0x464c457f ∷ 0x00010101 ∷ 0 ∷ 0 ∷ 0x00f30002 ∷ 1 ∷ 0x00010000 ∷ 0x00000034 ∷ 0 ∷ 0
+    ∷ 0x00200034 ∷ count ∷ 0 ∷ [])
 
 -- a loadable segment of 16 bytes in the file and 32 in memory
 abbrev pub header : ℕ → ℕ → List ℕ
@@ -30,7 +34,8 @@ header offset address = words (1 ∷ offset ∷ address ∷ address ∷ 16 ∷ 3
 
 -- a header of that type with those sizes
 abbrev pub other_header : ℕ → ℕ → ℕ → ℕ → List ℕ
-other_header kind address file_size memory_size = words (kind ∷ 0 ∷ address ∷ address ∷ file_size ∷ memory_size ∷ 5 ∷ 4 ∷ [])
+other_header kind address file_size memory_size =
+    words (kind ∷ 0 ∷ address ∷ address ∷ file_size ∷ memory_size ∷ 5 ∷ 4 ∷ [])
 
 -- one segment with the program, 100 bytes
 abbrev pub elf : List ℕ
@@ -49,7 +54,13 @@ abbrev pub with_byte : ℕ → ℕ → List ℕ → List ℕ
 with_byte place value bytes = slice_set bytes place value
 
 -- the bytes of the file
-pub bytes_of : elf ≡ 0x7f ∷ 0x45 ∷ 0x4c ∷ 0x46 ∷ 0x01 ∷ 0x01 ∷ 0x01 ∷ 0x00 ∷ 0x00 ∷ 0x00 ∷ 0x00 ∷ 0x00 ∷ 0x00 ∷ 0x00 ∷ 0x00 ∷ 0x00 ∷ 0x02 ∷ 0x00 ∷ 0xf3 ∷ 0x00 ∷ 0x01 ∷ 0x00 ∷ 0x00 ∷ 0x00 ∷ 0x00 ∷ 0x00 ∷ 0x01 ∷ 0x00 ∷ 0x34 ∷ 0x00 ∷ 0x00 ∷ 0x00 ∷ 0x00 ∷ 0x00 ∷ 0x00 ∷ 0x00 ∷ 0x00 ∷ 0x00 ∷ 0x00 ∷ 0x00 ∷ 0x34 ∷ 0x00 ∷ 0x20 ∷ 0x00 ∷ 0x01 ∷ 0x00 ∷ 0x00 ∷ 0x00 ∷ 0x00 ∷ 0x00 ∷ 0x00 ∷ 0x00 ∷ 0x01 ∷ 0x00 ∷ 0x00 ∷ 0x00 ∷ 0x54 ∷ 0x00 ∷ 0x00 ∷ 0x00 ∷ 0x00 ∷ 0x00 ∷ 0x01 ∷ 0x00 ∷ 0x00 ∷ 0x00 ∷ 0x01 ∷ 0x00 ∷ 0x10 ∷ 0x00 ∷ 0x00 ∷ 0x00 ∷ 0x20 ∷ 0x00 ∷ 0x00 ∷ 0x00 ∷ 0x05 ∷ 0x00 ∷ 0x00 ∷ 0x00 ∷ 0x04 ∷ 0x00 ∷ 0x00 ∷ 0x00 ∷ 0x93 ∷ 0x00 ∷ 0x50 ∷ 0x00 ∷ 0x13 ∷ 0x01 ∷ 0x70 ∷ 0x00 ∷ 0xb3 ∷ 0x81 ∷ 0x20 ∷ 0x02 ∷ 0x73 ∷ 0x00 ∷ 0x10 ∷ 0x00 ∷ []
+pub bytes_of : elf ≡ 0x7f ∷ 0x45 ∷ 0x4c ∷ 0x46 ∷ 0x01 ∷ 0x01 ∷ 0x01 ∷ 0x00 ∷ 0x00 ∷ 0x00 ∷ 0x00 ∷ 0x00 ∷ 0x00 ∷ 0x00
+    ∷ 0x00 ∷ 0x00 ∷ 0x02 ∷ 0x00 ∷ 0xf3 ∷ 0x00 ∷ 0x01 ∷ 0x00 ∷ 0x00 ∷ 0x00 ∷ 0x00 ∷ 0x00 ∷ 0x01 ∷ 0x00 ∷ 0x34 ∷ 0x00
+    ∷ 0x00 ∷ 0x00 ∷ 0x00 ∷ 0x00 ∷ 0x00 ∷ 0x00 ∷ 0x00 ∷ 0x00 ∷ 0x00 ∷ 0x00 ∷ 0x34 ∷ 0x00 ∷ 0x20 ∷ 0x00 ∷ 0x01 ∷ 0x00
+    ∷ 0x00 ∷ 0x00 ∷ 0x00 ∷ 0x00 ∷ 0x00 ∷ 0x00 ∷ 0x01 ∷ 0x00 ∷ 0x00 ∷ 0x00 ∷ 0x54 ∷ 0x00 ∷ 0x00 ∷ 0x00 ∷ 0x00 ∷ 0x00
+    ∷ 0x01 ∷ 0x00 ∷ 0x00 ∷ 0x00 ∷ 0x01 ∷ 0x00 ∷ 0x10 ∷ 0x00 ∷ 0x00 ∷ 0x00 ∷ 0x20 ∷ 0x00 ∷ 0x00 ∷ 0x00 ∷ 0x05 ∷ 0x00
+    ∷ 0x00 ∷ 0x00 ∷ 0x04 ∷ 0x00 ∷ 0x00 ∷ 0x00 ∷ 0x93 ∷ 0x00 ∷ 0x50 ∷ 0x00 ∷ 0x13 ∷ 0x01 ∷ 0x70 ∷ 0x00 ∷ 0xb3 ∷ 0x81
+    ∷ 0x20 ∷ 0x02 ∷ 0x73 ∷ 0x00 ∷ 0x10 ∷ 0x00 ∷ []
 bytes_of = refl
 
 pub length_of_elf : length elf ≡ 100
@@ -175,20 +186,24 @@ pub rest_is_zero : byte_of elf (segments_of elf) 65552 ≡ 0
 rest_is_zero = refl
 
 -- sums don't wrap round at 2^32
-pub end_in_file_above_32_bits : answer (with_byte 56 0xff (with_byte 57 0xff (with_byte 58 0xff (with_byte 59 0xff elf)))) ≡ Some Truncated
+pub end_in_file_above_32_bits : answer
+    (with_byte 56 0xff (with_byte 57 0xff (with_byte 58 0xff (with_byte 59 0xff elf)))) ≡ Some Truncated
 end_in_file_above_32_bits = refl
 
-pub end_of_headers_above_32_bits : answer (with_byte 28 0xf0 (with_byte 29 0xff (with_byte 30 0xff (with_byte 31 0xff elf)))) ≡ Some Truncated
+pub end_of_headers_above_32_bits : answer
+    (with_byte 28 0xf0 (with_byte 29 0xff (with_byte 30 0xff (with_byte 31 0xff elf)))) ≡ Some Truncated
 end_of_headers_above_32_bits = refl
 
-pub end_in_memory_above_32_bits : answer (with_byte 60 0xf0 (with_byte 61 0xff (with_byte 62 0xff (with_byte 63 0xff elf)))) ≡ Some Segment
+pub end_in_memory_above_32_bits : answer
+    (with_byte 60 0xf0 (with_byte 61 0xff (with_byte 62 0xff (with_byte 63 0xff elf)))) ≡ Some Segment
 end_in_memory_above_32_bits = refl
 
 -- a segment with neither bytes nor memory is skipped, wherever it lies
 pub nothing_outside_window : answer (file_header 2 ++ header 0x74 0x00010000 ++ other_header 1 0 0 0 ++ program) ≡ None
 nothing_outside_window = refl
 
-pub bytes_but_no_memory : answer (file_header 2 ++ header 0x74 0x00010000 ++ other_header 1 0x00010020 1 0 ++ program) ≡ Some Segment
+pub bytes_but_no_memory : answer (file_header 2 ++ header 0x74 0x00010000 ++ other_header 1 0x00010020 1 0 ++ program)
+    ≡ Some Segment
 bytes_but_no_memory = refl
 
 -- an entry in the window, but in no segment

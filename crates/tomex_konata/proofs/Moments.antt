@@ -20,7 +20,8 @@ once_at t (c ∷ cs) = elim (cases_eq c t) [
   ])
 ]
 
-at_map : (t id : ℕ) (cs : List ℕ) → filter (λ (v : Event). v.cycle == t) (map (change_in id) cs) ≡ map (change_in id) (filter (λ c. c == t) cs)
+at_map : (t id : ℕ) (cs : List ℕ) → filter (λ (v : Event). v.cycle == t) (map (change_in id) cs) ≡ map (change_in id)
+    (filter (λ c. c == t) cs)
 at_map t id [] = refl
 at_map t id (c ∷ cs) = elim (cases_Bool (c == t)) [
   | inl e ↦ rw e (ap (λ (vs : List Event). change_in id c ∷ vs) (at_map t id cs))
@@ -31,7 +32,8 @@ pub changes_at : (last t : ℕ) (e : Entry) → filter (λ (v : Event). v.cycle 
     ≡ cond (list_any (λ c. c == t) (change_cycles last e)) (change_in e.id t ∷ []) []
 changes_at last t e =
     at_map t e.id (once (change_cycles last e))
-    ∙ (ap (λ (cs : List ℕ). map (change_in e.id) cs) (once_at t (change_cycles last e)) ∙ go (list_any (λ c. c == t) (change_cycles last e)))
+    ∙ (ap (λ (cs : List ℕ). map (change_in e.id) cs) (once_at t (change_cycles last e))
+    ∙ go (list_any (λ c. c == t) (change_cycles last e)))
   where
     go : (b : Bool) → map (change_in e.id) (cond b (t ∷ []) []) ≡ cond b (change_in e.id t ∷ []) []
     go true = refl

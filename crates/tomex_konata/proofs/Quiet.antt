@@ -1,8 +1,10 @@
 -- In a cycle that is none of those in which it may change a step has no lines.
-use Rattle.std.proofs.Common.{◌≡◌, ◌≢◌, ◌∙◌, ap, sym, refl, arith, inl, inr, ℕ, ◌+◌, ◌-◌, ◌<◌, ◌≤◌, ◌==◌, Bool, true, false, cond, ◌||◌, List, [], ◌++◌, Option, Some, None, min}
+use Rattle.std.proofs.Common.{◌≡◌, ◌≢◌, ◌∙◌, ap, sym, refl, arith, inl, inr, ℕ, ◌+◌, ◌-◌, ◌<◌, ◌≤◌, ◌==◌, Bool, true}
+use Rattle.std.proofs.Common.{false, cond, ◌||◌, List, [], ◌++◌, Option, Some, None, min}
 use Rattle.std.specs.Prelude.{nat_le, nat_lt, unwrap_or}
 use Rattle.std.specs.List.{list_any}
-use Rattle.std.proofs.lemmas.Bool.{cases_Bool, cases_order, ne_eqb, eqb-true, eqb-false, lt-ltb, le-ltb, le-leb, lt-leb, leb-true}
+use Rattle.std.proofs.lemmas.Bool.{cases_Bool, cases_order, ne_eqb, eqb-true, eqb-false, lt-ltb, le-ltb, le-leb, lt-leb}
+use Rattle.std.proofs.lemmas.Bool.{leb-true}
 use Rattle.tomex_rvexec.specs.Steps.{is_number}
 use Rattle.tomex_timing.specs.declared.times.Times.{Times}
 use Rattle.tomex_views.specs.declared.stage.Stage.{Stage}
@@ -45,7 +47,8 @@ same_before n t here = elim (cases_order n t) [
   | inr (inr l) ↦ lt-ltb (t - 1) n (omega (arith, l)) ∙ sym (lt-ltb t n l)
 ]
 
-same_address : (a : Option ℕ) (d t : ℕ) → unwrap_or a d ≢ t → unwrap_or a d + 1 ≢ t → is_number a (t - 1) ≡ is_number a t
+same_address : (a : Option ℕ) (d t : ℕ) → unwrap_or a d ≢ t → unwrap_or a d + 1 ≢ t
+    → is_number a (t - 1) ≡ is_number a t
 same_address None d t here next = refl
 same_address (Some n) d t here next = ne_eqb n (t - 1) (omega (arith, here, next)) ∙ sym (ne_eqb n t here)
 
@@ -95,8 +98,10 @@ gone_out at t l = elim (cases_Bool (nat_lt t at.issue)) [
 still_turn : (id : ℕ) (at : Times) (t : ℕ) → IsStill at t → turn_lines id (stage_in at (t - 1)) (stage_in at t) ≡ []
 still_turn id at t still = elim (cases_order at.end t) [
   | inl e ↦ absurd (still.end e)
-  | inr (inl l) ↦ ap (λ (s : Option Stage). turn_lines id (stage_in at (t - 1)) s) (gone_out at t l) ∙ no_turn_out id (stage_in at (t - 1))
-  | inr (inr l) ↦ ap (λ (s : Option Stage). turn_lines id s (stage_in at t)) (stage_stays at t still (omega (arith, l))) ∙ no_turn id (stage_in at t)
+  | inr (inl l) ↦ ap (λ (s : Option Stage). turn_lines id (stage_in at (t - 1)) s) (gone_out at t l)
+      ∙ no_turn_out id (stage_in at (t - 1))
+  | inr (inr l) ↦ ap (λ (s : Option Stage). turn_lines id s (stage_in at t)) (stage_stays at t still (omega (arith, l)))
+      ∙ no_turn id (stage_in at t)
 ]
 
 no_wake : (id : ℕ) (at : Times) (t : ℕ) (p : Option Producer) → ready at p ≢ t → wake_line id at t p ≡ []
@@ -114,16 +119,19 @@ no_wake id at t (Some p) other = elim (cases_Bool (p.end == t)) [
 
 -- what is none of some cycles up to the last is none of them before that
 is_none : (c last t : ℕ) → t ≤ last → (min c last == t) ≡ false → c ≢ t
-is_none c last t within none = let other : min c last ≢ t = eqb-false (min c last) t none in λ same. other (omega (arith, within, same))
+is_none c last t within none = let other : min c last ≢ t = eqb-false (min c last) t none in
+    λ same. other (omega (arith, within, same))
 
 or_false : (a b : Bool) → (a || b) ≡ false → (a ≡ false) × (b ≡ false)
 or_false true b e = absurd (cc)
 or_false false b e = (refl, e)
 
-nothing : (b : Bool) (lines turns wakes : List ℕ) → b ≡ false → turns ≡ [] → wakes ≡ [] → cond b lines [] ++ (turns ++ wakes) ≡ []
+nothing : (b : Bool) (lines turns wakes : List ℕ) → b ≡ false → turns ≡ [] → wakes ≡ [] → cond b lines []
+    ++ (turns ++ wakes) ≡ []
 nothing b lines turns wakes not turn wake = rw (not, turn, wake) refl
 
-pub quiet : (number last t : ℕ) (e : Entry) → t ≤ last → list_any (λ c. c == t) (change_cycles last e) ≡ false → step_lines number t e ≡ []
+pub quiet : (number last t : ℕ) (e : Entry) → t ≤ last → list_any (λ c. c == t) (change_cycles last e) ≡ false
+    → step_lines number t e ≡ []
 unfolding step_lines
 quiet number last t e within none =
     let p0 = or_false _ _ none in
@@ -147,6 +155,7 @@ quiet number last t e within none =
     } in
     let j = no_wake e.id e.at t e.j (is_none (ready e.at e.j) last t within p7.0) in
     let k = no_wake e.id e.at t e.k (is_none (ready e.at e.k) last t within p8.0) in
-    let wakes : wake_lines t e ≡ [] = elim (cases_Bool (is_shared e.j e.k)) [ inl s ↦ rw (j, s) refl | inr s ↦ rw (j, s, k) refl ] in
+    let wakes : wake_lines t e ≡ [] =
+    elim (cases_Bool (is_shared e.j e.k)) [ inl s ↦ rw (j, s) refl | inr s ↦ rw (j, s, k) refl ] in
     let not_issue : (t == e.at.issue) ≡ false = ne_eqb t e.at.issue (λ same. issue (sym same)) in
     nothing (t == e.at.issue) (issue_lines (number + e.id) e) _ _ not_issue (still_turn e.id e.at t still) wakes

@@ -1,5 +1,6 @@
 -- A list in the order of a number is, number by number, its elements of that number.
-use Rattle.std.proofs.Common.{◌≡◌, ◌≢◌, inl, inr, ap, refl, arith, ℕ, suc, ◌<◌, ◌≤◌, ◌==◌, Bool, true, List, [], ◌∷◌, ◌++◌, get_or, length}
+use Rattle.std.proofs.Common.{◌≡◌, ◌≢◌, inl, inr, ap, refl, arith, ℕ, suc, ◌<◌, ◌≤◌, ◌==◌, Bool, true, List, [], ◌∷◌}
+use Rattle.std.proofs.Common.{◌++◌, get_or, length}
 use Rattle.std.specs.Prelude.{nat_lt}
 use Rattle.std.specs.List.{filter}
 use Rattle.std.specs.List.Sorted.{IsNonDecreasingBy}
@@ -14,7 +15,8 @@ filter_alike p q alike (x ∷ xs) = elim (cases_Bool (q x)) [
 ]
 
 -- what one test keeps is among what a wider one keeps
-pub filter_twice : {X : Type 0} (p q : X → Bool) → ((x : X) → p x ≡ true → q x ≡ true) → (xs : List X) → filter p (filter q xs) ≡ filter p xs
+pub filter_twice : {X : Type 0} (p q : X → Bool) → ((x : X) → p x ≡ true → q x ≡ true) → (xs : List X)
+    → filter p (filter q xs) ≡ filter p xs
 filter_twice p q wider [] = refl
 filter_twice p q wider (x ∷ xs) = elim (cases_Bool (p x)) [
   | inl e ↦ rw (wider x e, e) (ap (λ ys. x ∷ ys) (filter_twice p q wider xs))
@@ -50,7 +52,8 @@ module _ {X : Type 0} (f : X → ℕ) where
   pub all_later : (t last : ℕ) (xs : List X) → Rises (suc t) last xs → filter (later t) xs ≡ xs
   all_later t last [] up = refl
   all_later t last (x ∷ xs) up =
-      rw (lt-ltb t (f x) (omega (arith, up.0))) (ap (λ ys. x ∷ ys) (all_later t last xs (lower (suc t) (f x) last xs up.0 up.2)))
+      rw (lt-ltb t (f x) (omega (arith, up.0)))
+      (ap (λ ys. x ∷ ys) (all_later t last xs (lower (suc t) (f x) last xs up.0 up.2)))
 
   -- first those of the least number, then the others
   pub parted : (t last : ℕ) (xs : List X) → Rises t last xs → xs ≡ filter (at t) xs ++ filter (later t) xs
@@ -74,10 +77,12 @@ module _ {X : Type 0} (f : X → ℕ) where
   ]
 
   pub rest_at : (s t : ℕ) (xs : List X) → t < s → filter (at s) (filter (later t) xs) ≡ filter (at s) xs
-  rest_at s t xs less = filter_twice (at s) (later t) (λ x e. lt-ltb t (f x) (let is : f x ≡ s = eqb-true (f x) s e in omega (arith, is, less))) xs
+  rest_at s t xs less = filter_twice (at s) (later t) (λ x e. lt-ltb t (f x) (let is : f x ≡ s = eqb-true (f x) s e in
+      omega (arith, is, less))) xs
 
   -- where no number is below one before it
-  pub rises : (t last : ℕ) (xs : List X) → IsNonDecreasingBy f xs → ((i : ℕ) (d : X) → i < length xs → t ≤ f (get_or xs i d))
+  pub rises : (t last : ℕ) (xs : List X) → IsNonDecreasingBy f xs
+      → ((i : ℕ) (d : X) → i < length xs → t ≤ f (get_or xs i d))
       → ((i : ℕ) (d : X) → i < length xs → f (get_or xs i d) ≤ last) → Rises t last xs
   rises t last [] order low high = tt
   rises t last (x ∷ xs) order low high = (

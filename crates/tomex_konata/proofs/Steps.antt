@@ -1,5 +1,6 @@
 -- The steps of a log while they are gathered.
-use Rattle.std.proofs.Common.{◌≡◌, ◌∙◌, ap, sym, refl, arith, inl, inr, ℕ, zero, suc, ◌+◌, ◌<◌, ◌≤◌, List, [], ◌∷◌, ◌++◌, append_assoc, drop, get_or, length, Option, Some, None}
+use Rattle.std.proofs.Common.{◌≡◌, ◌∙◌, ap, sym, refl, arith, inl, inr, ℕ, zero, suc, ◌+◌, ◌<◌, ◌≤◌, List, [], ◌∷◌}
+use Rattle.std.proofs.Common.{◌++◌, append_assoc, drop, get_or, length, Option, Some, None}
 use Rattle.std.specs.Prelude.{replicate}
 use Rattle.std.specs.Option.{ForSome}
 use Rattle.std.proofs.lemmas.Bool.{cases_Bool, cases_eq, eq-eqb, ne_eqb}
@@ -48,33 +49,41 @@ read older writers None are low = sym (no_operand older)
 read older writers (Some o) are low = are.each o.register (low o refl) ∙ sym (by_register older o)
 
 -- one step more
-pub more_writers : (older : List Done) (d : Done) (dest : Option ℕ) (writers : List (Option Producer)) → AreWriters older writers
-    → step_dest d.step ≡ dest → AreWriters (d ∷ older) (noted writers dest (record { id = length older; end = d.at.end }))
+pub more_writers : (older : List Done) (d : Done) (dest : Option ℕ) (writers : List (Option Producer))
+    → AreWriters older writers
+    → step_dest d.step ≡ dest → AreWriters (d ∷ older)
+    (noted writers dest (record { id = length older; end = d.at.end }))
 more_writers older d None writers are is = record { long = are.long; each = λ r within. are.each r within ∙ rw is refl }
 more_writers older d (Some n) writers are is = record {
   long = length-set writers n (Some (record { id = length older; end = d.at.end })) ∙ are.long;
   each = λ r within. elim (cases_eq n r) [
     | inl e ↦
         let inside : r < length writers = omega (arith, within, are.long) in
-        rw (is, e, eq-eqb r r refl) (get_or-set_same writers r (Some (record { id = length older; end = d.at.end })) None inside)
-    | inr other ↦ rw (is, ne_eqb n r other) (get_or-set_other writers n r (Some (record { id = length older; end = d.at.end })) None (λ e. other (sym e)) ∙ are.each r within)
+        rw (is, e, eq-eqb r r refl) (get_or-set_same writers r (Some (record { id = length older; end = d.at.end }))
+        None inside)
+    | inr other ↦ rw (is, ne_eqb n r other)
+        (get_or-set_other writers n r (Some (record { id = length older; end = d.at.end })) None (λ e. other (sym e))
+        ∙ are.each r within)
   ];
 }
 
 -- what is gathered behind so many steps
-pub record AreGathered (steps : List Step) (times : List Times) (count : ℕ) (entries : List Entry) (writers : List (Option Producer)) : Type 0 where
+pub record AreGathered (steps : List Step) (times : List Times) (count : ℕ) (entries : List Entry)
+    (writers : List (Option Producer)) : Type 0 where
   pub older : List Done
   pub long : length older ≡ count
   pub kept : AreWriters older writers
   pub text : entries ++ entries_from older (drop count steps) (drop count times) ≡ entries_from [] steps times
 
-pub none_gathered : (steps : List Step) (times : List Times) (entries : List Entry) → entries ≡ [] → AreGathered steps times 0 entries (replicate 32 None)
+pub none_gathered : (steps : List Step) (times : List Times) (entries : List Entry) → entries ≡ []
+    → AreGathered steps times 0 entries (replicate 32 None)
 none_gathered steps times entries none = record { older = []; long = refl; kept = no_writers; text = rw none refl }
 
 next_entry : (older : List Done) (i : ℕ) (steps : List Step) (times : List Times) (step s : Step) (at t : Times)
     → i < length steps → length times ≡ length steps → step ≡ get_or steps i s → at ≡ get_or times i t
     → entries_from older (drop i steps) (drop i times)
-    ≡ entry_of older (record { step = step; at = at }) ∷ entries_from (record { step = step; at = at } ∷ older) (drop (suc i) steps) (drop (suc i) times)
+    ≡ entry_of older (record { step = step; at = at })
+    ∷ entries_from (record { step = step; at = at } ∷ older) (drop (suc i) steps) (drop (suc i) times)
 next_entry older i [] times step s at t within pairs step_is at_is = absurd (omega (arith, within))
 next_entry older i (x ∷ xs) [] step s at t within pairs step_is at_is = absurd (omega (arith, pairs))
 next_entry older zero (x ∷ xs) (y ∷ ys) step s at t within pairs step_is at_is = rw (step_is, at_is) refl
@@ -82,7 +91,8 @@ next_entry older (suc i) (x ∷ xs) (y ∷ ys) step s at t within pairs step_is 
     next_entry older i xs ys step s at t (omega (arith, within)) (omega (arith, pairs)) step_is at_is
 
 -- one step more
-pub one_gathered : (steps : List Step) (times : List Times) (i : ℕ) (before after : List Entry) (writers behind : List (Option Producer))
+pub one_gathered : (steps : List Step) (times : List Times) (i : ℕ) (before after : List Entry)
+    (writers behind : List (Option Producer))
     (step s : Step) (at t : Times) (j k : Option Producer) → (g : AreGathered steps times i before writers)
     → i < length steps → length times ≡ length steps → step ≡ get_or steps i s → at ≡ get_or times i t
     → j ≡ written_in writers (j_of step) → k ≡ written_in writers (k_of step)
@@ -90,11 +100,18 @@ pub one_gathered : (steps : List Step) (times : List Times) (i : ℕ) (before af
     → behind ≡ noted writers (step_dest step) (record { id = i; end = at.end })
     → after ≡ before ++ record { id = i; step = step; at = at; j = j; k = k } ∷ []
     → AreGathered steps times (i + 1) after behind
-one_gathered steps times i before after writers behind step s at t j k g within pairs step_is at_is j_is k_is j_low k_low noted_is grown =
+one_gathered steps times i before after writers behind step s at t j k g within pairs step_is at_is j_is k_is j_low
+    k_low noted_is grown =
     let d : Done = record { step = step; at = at } in
     let rest = entries_from (d ∷ g.older) (drop (suc i) steps) (drop (suc i) times) in
     let entry : entry_of g.older d ≡ record { id = i; step = step; at = at; j = j; k = k } =
-    rw (j_is, k_is, read g.older writers (j_of step) g.kept j_low, read g.older writers (k_of step) g.kept k_low, g.long) refl in
+    rw (
+      j_is,
+      k_is,
+      read g.older writers (j_of step) g.kept j_low,
+      read g.older writers (k_of step) g.kept k_low,
+      g.long,
+    ) refl in
     record {
       older = d ∷ g.older;
       long = omega (arith, g.long);
@@ -104,7 +121,8 @@ one_gathered steps times i before after writers behind step s at t j k g within 
           rw (next, grown)
           (append_assoc before (record { id = i; step = step; at = at; j = j; k = k } ∷ []) rest
           ∙ (ap (λ (e : Entry). before ++ e ∷ rest) (sym entry)
-          ∙ (ap (λ (es : List Entry). before ++ es) (sym (next_entry g.older i steps times step s at t within pairs step_is at_is)) ∙ g.text)));
+          ∙ (ap (λ (es : List Entry). before ++ es)
+          (sym (next_entry g.older i steps times step s at t within pairs step_is at_is)) ∙ g.text)));
     }
 
 none_there : (older : List Done) (ss : List Step) → entries_from older ss [] ≡ []
@@ -112,12 +130,15 @@ none_there older [] = refl
 none_there older (s ∷ ss) = refl
 
 -- behind all of them
-pub all_gathered : (steps : List Step) (times : List Times) (count : ℕ) (entries : List Entry) (writers : List (Option Producer))
+pub all_gathered : (steps : List Step) (times : List Times) (count : ℕ) (entries : List Entry)
+    (writers : List (Option Producer))
     → AreGathered steps times count entries writers → length steps ≤ count → entries ≡ entries_from [] steps times
 all_gathered steps times count entries writers g past =
-    sym (append-nil entries) ∙ (ap (λ (es : List Entry). entries ++ es) (sym (none_left g.older count steps times past)) ∙ g.text)
+    sym (append-nil entries) ∙ (ap (λ (es : List Entry). entries ++ es) (sym (none_left g.older count steps times past))
+    ∙ g.text)
   where
-    none_left : (older : List Done) (n : ℕ) (ss : List Step) (ts : List Times) → length ss ≤ n → entries_from older (drop n ss) (drop n ts) ≡ []
+    none_left : (older : List Done) (n : ℕ) (ss : List Step) (ts : List Times) → length ss ≤ n
+        → entries_from older (drop n ss) (drop n ts) ≡ []
     none_left older zero [] ts past = refl
     none_left older (suc n) [] ts past = refl
     none_left older zero (x ∷ xs) ts past = absurd (omega (arith, past))

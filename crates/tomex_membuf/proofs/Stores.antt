@@ -9,8 +9,10 @@ use Rattle.tomex_tags.specs.Pools.{AreOwn}
 use Rattle.tomex_tags.proofs.Listening.{own_here}
 
 -- below the store buffers no store stands
-pub no_store : (slots : List (Option Station)) (place : ℕ) (s : Station) → place < 64 → AreOwn slots → slice_index_or slots place None ≡ Some s → is_store (step_in s) ≡ false
-no_store slots place s l own here = rw (own_here slots place s (omega arith) own here) (below (place / 16) (omega arith))
+pub no_store : (slots : List (Option Station)) (place : ℕ) (s : Station) → place < 64 → AreOwn slots
+    → slice_index_or slots place None ≡ Some s → is_store (step_in s) ≡ false
+no_store slots place s l own here =
+    rw (own_here slots place s (omega arith) own here) (below (place / 16) (omega arith))
   where
     below : (n : ℕ) → n < 4 → is_in pools.Store (Some (pool_at n)) ≡ false
     below zero m = refl

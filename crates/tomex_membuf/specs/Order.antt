@@ -29,9 +29,9 @@ abbrev pub blocks : Pools → ℕ → ℕ → Station → ℕ → Bool
 blocks pools other n s cycle =
     nat_lt (slice_index pools.issue_numbers other) n && not (lets_pass (slot pools.slots other) s cycle)
 
--- no older station outside this set blocks the one in a place
-abbrev pub AreRivals : Pools → ℕ → Station → ℕ → ℕ → Type 0
-AreRivals pools place s cycle rivals =
+-- each older station that blocks the one in a place is in this set
+abbrev pub HasEachBlocker : Pools → ℕ → Station → ℕ → ℕ → Type 0
+HasEachBlocker pools place s cycle rivals =
     (x : ℕ) → x < 128 → slice_index pools.issue_numbers x < slice_index pools.issue_numbers place → has rivals x ≡ false
     → lets_pass (slot pools.slots x) s cycle ≡ true
 
@@ -46,8 +46,8 @@ abbrev pub IsClearAt : Pools → ℕ → ℕ → Type 0
 IsClearAt pools place cycle =
     (s : Station) → slot pools.slots place ≡ Some s → IsClear pools.slots pools.issue_numbers place s cycle
 
--- at most one station holds a load or store with its address
-abbrev pub HasOneAccess : List (Option Station) → Type 0
-HasOneAccess slots =
+-- at most one station holds a load or store whose address is computed
+abbrev pub HasAtMostOneAccess : List (Option Station) → Type 0
+HasAtMostOneAccess slots =
     (a b : ℕ) → a < 128 → b < 128 → has_address (slot slots a) ≡ true
     → has_address (slot slots b) ≡ true → a ≡ b

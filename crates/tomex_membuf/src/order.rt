@@ -3,7 +3,7 @@
 ghost use Rattle.std.specs.Prelude.{ℕ, Decides, Some, ◌≡◌, ◌<◌};
 ghost use Rattle.tomex_sets.specs.Sets.{has};
 ghost use Rattle.tomex_timing.specs.Recurrence.{shares_byte};
-ghost use Rattle.tomex_membuf.specs.Order.{AreRivals, HasOneAccess, IsClear, IsClearAt, blocks};
+ghost use Rattle.tomex_membuf.specs.Order.{HasAtMostOneAccess, HasEachBlocker, IsClear, IsClearAt, blocks};
 ghost use Rattle.tomex_membuf.specs.Order.{stations_conflict, is_finished_before, lets_pass};
 ghost use Rattle.tomex_tags.specs.Contents.{slot};
 
@@ -49,7 +49,7 @@ fn stations_conflict(other: &Station, station: &Station) -> bool
     }
 }
 
-/// Whether an older station, if there is one, isn't in the way of another.
+/// Whether an older station, if there is one, doesn't block another.
 #[inline(always)]
 fn lets_pass(other: Option<Station>, station: &Station, cycle: u64) -> bool
     ensures { result ≡ lets_pass other station.now cycle }
@@ -62,7 +62,7 @@ fn lets_pass(other: Option<Station>, station: &Station, cycle: u64) -> bool
     }
 }
 
-/// Whether a station must wait for the one in a place, which it does only if that one is older.
+/// Whether what stands in a place blocks a station: it is older, and doesn't let it pass.
 #[inline(always)]
 fn is_blocked_by(
     pools: &Pools,
@@ -77,13 +77,13 @@ fn is_blocked_by(
     pools.issue_numbers()[other] < issue_number && !lets_pass(pools.at(other), station, cycle)
 }
 
-/// The places of the other loads and stores with an address, among which are all older ones that can be in the way of
-/// the one in a place. For a load they are those of the stores.
+/// The places of the other loads and stores with an address, among which is each older one that blocks the one in a
+/// place. For a load they are those of the stores.
 #[inline(always)]
 fn rivals(pools: &Pools, place: usize) -> u128
     requires { place < 128 }
     ensures { (s : Station) (cycle : ℕ) → slot pools.now.slots place ≡ Some s
-        → AreRivals pools.now place s cycle result }
+        → HasEachBlocker pools.now place s cycle result }
 {
     let addressed = pools.addressed();
     // No store stands below the store buffers.
@@ -95,10 +95,10 @@ fn rivals(pools: &Pools, place: usize) -> u128
     }
 }
 
-/// Whether the station that stands in a place needn't wait for any of its rivals.
+/// Whether no rival blocks the station that stands in a place.
 fn passes(pools: &Pools, place: usize, rivals: u128, station: &Station, cycle: u64) -> bool
     requires low { place < 128 }
-    requires rivals { AreRivals pools.now place station.now cycle rivals }
+    requires rivals { HasEachBlocker pools.now place station.now cycle rivals }
     ensures { Decides result
         (IsClear pools.now.slots pools.now.issue_numbers place station.now cycle) }
 {
@@ -117,9 +117,10 @@ fn passes(pools: &Pools, place: usize, rivals: u128, station: &Station, cycle: u
 /// Whether no older access blocks what stands in a place: true unless an older load or store whose address is computed,
 /// and which isn't finished before the cycle, shares a byte with it, one of the two being a store.
 ///
-/// So it is true of a free place, of what is no access, and of an access without its address: whoever asks looks to
-/// that. Addresses are computed in program order (`address_next`), so once an access has its own, no older one lacks
-/// it. Sets of places have 128 members; no station stands in the places from 96 on.
+/// So it is true of a free place, of what is no load or store, and of one without its address; callers ask of an
+/// access that has its address, which this contract doesn't require. Addresses are computed in program order
+/// (`address_next`), so once an access has its own, no older one lacks it. A set of places holds numbers below 128,
+/// so that any of them may be asked of; no station stands in those from 96 on.
 #[inline(always)]
 pub fn may_access(pools: &Pools, place: usize, cycle: u64) -> bool
     requires { place < 128 }
@@ -136,10 +137,10 @@ pub fn may_access(pools: &Pools, place: usize, cycle: u64) -> bool
     }
 }
 
-/// Whether at most one load or store has its address: then no access is in the way of another.
+/// Whether at most one load or store has its address: then none blocks another.
 #[inline(always)]
 pub fn is_alone(pools: &Pools) -> bool
-    ensures { Decides result (HasOneAccess pools.now.slots) }
+    ensures { Decides result (HasAtMostOneAccess pools.now.slots) }
 {
     is_single(pools.addressed())
 }

@@ -1,9 +1,11 @@
 -- What a search among plateaus finds.
-use Rattle.std.proofs.Common.{◌≡◌, ℕ, ◌-◌, ◌<◌, ◌≤◌, ◌++◌, ◌+◌, arith, ap, sym, ◌∙◌, refl, subst, Bool, true, false, List, [], ◌∷◌, length, get_or, Option, Some, None, All, reverse, inl, inr}
+use Rattle.std.proofs.Common.{◌≡◌, ℕ, ◌-◌, ◌<◌, ◌≤◌, ◌++◌, ◌+◌, arith, ap, sym, ◌∙◌, refl, subst, Bool, true, false}
+use Rattle.std.proofs.Common.{List, [], ◌∷◌, length, get_or, Option, Some, None, All, reverse, inl, inr}
 use Rattle.std.specs.Prelude.{option_map, IfSome}
 use Rattle.std.specs.List.{find}
 use Rattle.std.proofs.lemmas.Bool.{cases_Bool, cases_order}
-use Rattle.std.proofs.lemmas.List.{get_or-reverse, get_or-set_same, get_or_push, length_push, length-reverse, reverse-reverse}
+use Rattle.std.proofs.lemmas.List.{get_or-reverse, get_or-set_same, get_or_push, length_push, length-reverse}
+use Rattle.std.proofs.lemmas.List.{reverse-reverse}
 use Rattle.std.proofs.Math.ListN.{set, length-set}
 use Rattle.std.proofs.lemmas.List.Elements.{All-cons, All-head, All-nil, All-tail}
 use Rattle.tomex_rvexec.specs.declared.step.Step.{Step}
@@ -20,7 +22,8 @@ all_reverse P xs all k d low =
     subst P (sym (get_or-reverse xs k d below)) (all (length xs - 1 - k) d (omega arith))
 
 -- what is found passes, and is one of them
-found_one : {X : Type 0} (P : X → Type 0) (p : X → Bool) (xs : List X) (x : X) → All P xs → find p xs ≡ Some x → P x × (p x ≡ true)
+found_one : {X : Type 0} (P : X → Type 0) (p : X → Bool) (xs : List X) (x : X) → All P xs → find p xs ≡ Some x → P x
+    × (p x ≡ true)
 found_one P p [] x all is = absurd (cc)
 found_one P p (y ∷ ys) x all is = elim (cases_Bool (p y)) [
   | inl holds ↦
@@ -38,39 +41,55 @@ none_found p (y ∷ ys) is = elim (cases_Bool (p y)) [
   | inr fails ↦ All-cons (λ x. p x ≡ false) y ys fails (none_found p ys (rw fails at is))
 ]
 
-total_in : (config : Configuration) (steps : List Step) (found : List Plateau) (o : Option Plateau) (n : ℕ) → IsWithinLimits config → All (IsPlateauOf steps) found → find (lies_on config) (reverse found) ≡ o
+total_in : (config : Configuration) (steps : List Step) (found : List Plateau) (o : Option Plateau) (n : ℕ)
+    → IsWithinLimits config → All (IsPlateauOf steps) found → find (lies_on config) (reverse found) ≡ o
     → option_map (λ p. p.total) o ≡ Some n → total_of (times_in config steps) ≡ n
 total_in config steps found None n good all at is = absurd (cc)
 total_in config steps found (Some p) n good all at is =
     let same : Some p.total ≡ Some n = is in
     let e : p.total ≡ n = cc in
-    let w = found_one (IsPlateauOf steps) (lies_on config) (reverse found) p (all_reverse (IsPlateauOf steps) found all) at in
+    let w = found_one (IsPlateauOf steps) (lies_on config) (reverse found) p (all_reverse (IsPlateauOf steps) found all)
+    at in
     w.0 config good w.1 ∙ e
 
 -- a total that is known is the program's
-total_is : (config : Configuration) (steps : List Step) (found : List Plateau) (n : ℕ) → IsWithinLimits config → All (IsPlateauOf steps) found → total_known config found ≡ Some n → total_of (times_in config steps) ≡ n
-total_is config steps found n good all is = total_in config steps found (find (lies_on config) (reverse found)) n good all refl is
+total_is : (config : Configuration) (steps : List Step) (found : List Plateau) (n : ℕ) → IsWithinLimits config
+    → All (IsPlateauOf steps) found → total_known config found ≡ Some n → total_of (times_in config steps) ≡ n
+total_is config steps found n good all is =
+    total_in config steps found (find (lies_on config) (reverse found)) n good all refl is
 
-pub total_told : (config : Configuration) (steps : List Step) (found : List Plateau) (o : Option ℕ) → IsWithinLimits config → All (IsPlateauOf steps) found → o ≡ total_known config found → IfSome o (λ n. total_of (times_in config steps) ≡ n)
+pub total_told : (config : Configuration) (steps : List Step) (found : List Plateau) (o : Option ℕ)
+    → IsWithinLimits config → All (IsPlateauOf steps) found → o ≡ total_known config found
+    → IfSome o (λ n. total_of (times_in config steps) ≡ n)
 total_told config steps found None good all is = tt
 total_told config steps found (Some n) good all is = total_is config steps found n good all (sym is)
 
-known_in : (config : Configuration) (steps : List Step) (found : List Plateau) (o : Option Plateau) (k : ℕ) (d : Plateau) → IsWithinLimits config → All (IsPlateauOf steps) found → k < length found → lies_on config (get_or found k d) ≡ true → find (lies_on config) (reverse found) ≡ o
+known_in : (config : Configuration) (steps : List Step) (found : List Plateau) (o : Option Plateau) (k : ℕ)
+    (d : Plateau) → IsWithinLimits config → All (IsPlateauOf steps) found → k < length found
+    → lies_on config (get_or found k d) ≡ true → find (lies_on config) (reverse found) ≡ o
     → option_map (λ p. p.total) o ≡ Some (total_of (times_in config steps))
 known_in config steps found None k d good all low on at =
-    let none : All (λ x. lies_on config x ≡ false) found = subst (All (λ x. lies_on config x ≡ false)) (reverse-reverse found) (all_reverse (λ x. lies_on config x ≡ false) (reverse found) (none_found (lies_on config) (reverse found) at)) in
+    let none : All (λ x. lies_on config x ≡ false) found =
+    subst (All (λ x. lies_on config x ≡ false)) (reverse-reverse found)
+    (all_reverse (λ x. lies_on config x ≡ false) (reverse found) (none_found (lies_on config) (reverse found) at))
+    in
     let f : lies_on config (get_or found k d) ≡ false = none k d low in
     let g : true ≡ false = sym on ∙ f in
     absurd (cc)
 known_in config steps found (Some p) k d good all low on at =
-    let w = found_one (IsPlateauOf steps) (lies_on config) (reverse found) p (all_reverse (IsPlateauOf steps) found all) at in
+    let w = found_one (IsPlateauOf steps) (lies_on config) (reverse found) p (all_reverse (IsPlateauOf steps) found all)
+    at in
     ap (λ (n : ℕ). Some n) (sym (w.0 config good w.1))
 
 -- and that of a configuration on one of the plateaus is known
-pub is_known : (config : Configuration) (steps : List Step) (found : List Plateau) (k : ℕ) (d : Plateau) → IsWithinLimits config → All (IsPlateauOf steps) found → k < length found → lies_on config (get_or found k d) ≡ true → total_known config found ≡ Some (total_of (times_in config steps))
-is_known config steps found k d good all low on = known_in config steps found (find (lies_on config) (reverse found)) k d good all low on refl
+pub is_known : (config : Configuration) (steps : List Step) (found : List Plateau) (k : ℕ) (d : Plateau)
+    → IsWithinLimits config → All (IsPlateauOf steps) found → k < length found
+    → lies_on config (get_or found k d) ≡ true → total_known config found ≡ Some (total_of (times_in config steps))
+is_known config steps found k d good all low on =
+    known_in config steps found (find (lies_on config) (reverse found)) k d good all low on refl
 
-another : (config : Configuration) (k m : Kept) (p : Plateau) → IsWithinLimits config → AreKept k → AreKept m → lies_on config p ≡ true → m.found ≡ set k.found k.oldest p → MOST ≤ length k.found
+another : (config : Configuration) (k m : Kept) (p : Plateau) → IsWithinLimits config → AreKept k → AreKept m
+    → lies_on config p ≡ true → m.found ≡ set k.found k.oldest p → MOST ≤ length k.found
     → total_known config m.found ≡ Some (total_of (times_in config m.steps))
 another config k m p good old new on is many =
     let place : k.oldest < MOST = old.place in
@@ -80,7 +99,8 @@ another config k m p good old new on is many =
     is_known config m.steps m.found k.oldest p good new.are (omega arith) (rw at on)
 
 -- a plateau that is kept is one of the list, so the total of each configuration on it is known
-pub learnt : (config : Configuration) (k m : Kept) (p : Plateau) → IsWithinLimits config → AreKept k → AreKept m → lies_on config p ≡ true
+pub learnt : (config : Configuration) (k m : Kept) (p : Plateau) → IsWithinLimits config → AreKept k → AreKept m
+    → lies_on config p ≡ true
     → (length k.found < MOST → m.found ≡ k.found ++ p ∷ []) → (MOST ≤ length k.found → m.found ≡ set k.found k.oldest p)
     → total_known config m.found ≡ Some (total_of (times_in config m.steps))
 learnt config k m p good old new on more other = elim (cases_order (length k.found) MOST) [

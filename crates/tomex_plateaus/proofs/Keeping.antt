@@ -8,14 +8,22 @@ use Rattle.tomex_plateaus.specs.declared.plateau.Plateau.{Plateau}
 use Rattle.tomex_plateaus.specs.Kept.{AreKept}
 use Rattle.tomex_plateaus.specs.Plateaus.{IsPlateauOf}
 
-pub one_more : (steps : List Step) (found all : List Plateau) (oldest : ℕ) (p : Plateau) → AreKept (record { steps = steps; found = found; oldest = oldest }) → IsPlateauOf steps p → length found < 1024 → all ≡ found ++ p ∷ []
+pub one_more : (steps : List Step) (found all : List Plateau) (oldest : ℕ) (p : Plateau)
+    → AreKept (record { steps = steps; found = found; oldest = oldest }) → IsPlateauOf steps p → length found < 1024
+    → all ≡ found ++ p ∷ []
     → AreKept (record { steps = steps; found = all; oldest = oldest })
 one_more steps found all oldest p kept one low is =
     let long = length_push found p in
     let few : length (found ++ p ∷ []) ≤ 1024 = omega arith in
-    record { short = kept.short; are = rw is (All-push (IsPlateauOf steps) found p kept.are one); few = rw is few; place = kept.place }
+    record {
+      short = kept.short;
+      are = rw is (All-push (IsPlateauOf steps) found p kept.are one);
+      few = rw is few;
+      place = kept.place;
+    }
 
-pub another_one : (steps : List Step) (found : List Plateau) (oldest : ℕ) (p : Plateau) → AreKept (record { steps = steps; found = found; oldest = oldest }) → IsPlateauOf steps p
+pub another_one : (steps : List Step) (found : List Plateau) (oldest : ℕ) (p : Plateau)
+    → AreKept (record { steps = steps; found = found; oldest = oldest }) → IsPlateauOf steps p
     → AreKept (record { steps = steps; found = set found oldest p; oldest = (oldest + 1) % 1024 })
 another_one steps found oldest p kept one =
     let few : length found ≤ 1024 = kept.few in

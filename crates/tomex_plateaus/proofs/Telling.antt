@@ -1,5 +1,6 @@
 -- Needs tell a plateau: a configuration that lies on it serves the run as its own configuration does.
-use Rattle.std.proofs.Common.{ℕ, zero, suc, ◌<◌, ◌≤◌, ◌≡◌, ◌∙◌, ◌⊎◌, Bool, true, arith, refl, sym, inl, inr, List, [], ◌∷◌, Some, length}
+use Rattle.std.proofs.Common.{ℕ, zero, suc, ◌<◌, ◌≤◌, ◌≡◌, ◌∙◌, ◌⊎◌, Bool, true, arith, refl, sym, inl, inr, List, []}
+use Rattle.std.proofs.Common.{◌∷◌, Some, length}
 use Rattle.std.specs.Prelude.{min, nat_le, ◌==◌, slice_get}
 use Rattle.std.specs.List.{list_all}
 use Rattle.std.proofs.lemmas.Bool.{and_from, and_parts, cases_Bool, eqb-true, leb-true, le-leb}
@@ -20,7 +21,8 @@ use Rattle.tomex_timing.proofs.Limits.{stations_high, latency_high, unit_in}
 use Rattle.tomex_timing.proofs.Serving.{serves_runs}
 use Rattle.tomex_timing.proofs.Taken.{peak_within}
 use Rattle.tomex_plateaus.specs.Laws.{OwnConfigurationLiesOn, PlateauTells}
-use Rattle.tomex_plateaus.specs.Plateaus.{counts_for, counts_of, is_within, latencies_for, latencies_of, latency_for, lies_on, plateau_of}
+use Rattle.tomex_plateaus.specs.Plateaus.{counts_for, counts_of, is_within, latencies_for, latencies_of, latency_for}
+use Rattle.tomex_plateaus.specs.Plateaus.{lies_on, plateau_of}
 
 -- the counts of a configuration are small
 
@@ -30,7 +32,8 @@ between low high n h = leb-true n high (and_parts (nat_le low n) (nat_le n high)
 units_high : (config : Configuration) (unit : UnitId) → IsWithinLimits config → (option_of config unit).units ≤ 8
 units_high config unit good =
     let l : place_of_unit unit < length config.units = rw good.kinds (unit_in unit) in
-    between 1 8 (option_of config unit).units (and_parts _ _ (and_parts _ _ (good.units (place_of_unit unit) plain_option l)).0).0
+    between 1 8 (option_of config unit).units
+    (and_parts _ _ (and_parts _ _ (good.units (place_of_unit unit) plain_option l)).0).0
 
 count_high : (config : Configuration) (part : Part) → IsWithinLimits config → count_of config part ≤ 16
 count_high config (Stations pool) good = stations_high config pool good
@@ -40,7 +43,8 @@ count_high config Width good = let h = between 1 4 config.width good.width in om
 
 -- what an interval tells of a count and of a latency in it, and that a configuration's own is in it
 
-count_told : (need : Need) (count n : ℕ) → n ≤ 16 → is_within (counts_for need count) n ≡ true → (n ≡ count) ⊎ ((need.stalls ≡ 0) × (need.peak ≤ n))
+count_told : (need : Need) (count n : ℕ) → n ≤ 16 → is_within (counts_for need count) n ≡ true → (n ≡ count)
+    ⊎ ((need.stalls ≡ 0) × (need.peak ≤ n))
 count_told need count n few within = elim (cases_Bool (need.stalls == 0)) [
   | inl holds ↦
       let two = and_parts (nat_le (min need.peak 255) n) (nat_le n 255) (rw holds at within) in
@@ -55,11 +59,14 @@ count_told need count n few within = elim (cases_Bool (need.stalls == 0)) [
 
 own_count : (need : Need) (count : ℕ) → count ≤ 16 → need.peak ≤ count → is_within (counts_for need count) count ≡ true
 own_count need count few enough = elim (cases_Bool (need.stalls == 0)) [
-  | inl holds ↦ rw holds (and_from (nat_le (min need.peak 255) count) (nat_le count 255) (le-leb (min need.peak 255) count (omega arith)) (le-leb count 255 (omega arith)))
-  | inr fails ↦ rw fails (and_from (nat_le count count) (nat_le count count) (le-leb count count (omega arith)) (le-leb count count (omega arith)))
+  | inl holds ↦ rw holds (and_from (nat_le (min need.peak 255) count) (nat_le count 255)
+      (le-leb (min need.peak 255) count (omega arith)) (le-leb count 255 (omega arith)))
+  | inr fails ↦ rw fails (and_from (nat_le count count) (nat_le count count) (le-leb count count (omega arith))
+      (le-leb count count (omega arith)))
 ]
 
-latency_told : (need : Need) (latency n : ℕ) → is_within (latencies_for need latency) n ≡ true → (n ≡ latency) ⊎ (need.peak ≡ 0)
+latency_told : (need : Need) (latency n : ℕ) → is_within (latencies_for need latency) n ≡ true → (n ≡ latency)
+    ⊎ (need.peak ≡ 0)
 latency_told need latency n within = elim (cases_Bool (need.peak == 0)) [
   | inl holds ↦ inr (eqb-true need.peak 0 holds)
   | inr fails ↦
@@ -71,13 +78,16 @@ latency_told need latency n within = elim (cases_Bool (need.peak == 0)) [
 
 own_latency : (need : Need) (latency : ℕ) → latency ≤ 64 → is_within (latencies_for need latency) latency ≡ true
 own_latency need latency few = elim (cases_Bool (need.peak == 0)) [
-  | inl holds ↦ rw holds (and_from (nat_le 0 latency) (nat_le latency 255) (le-leb 0 latency (omega arith)) (le-leb latency 255 (omega arith)))
-  | inr fails ↦ rw fails (and_from (nat_le latency latency) (nat_le latency latency) (le-leb latency latency (omega arith)) (le-leb latency latency (omega arith)))
+  | inl holds ↦ rw holds (and_from (nat_le 0 latency) (nat_le latency 255) (le-leb 0 latency (omega arith))
+      (le-leb latency 255 (omega arith)))
+  | inr fails ↦ rw fails (and_from (nat_le latency latency) (nat_le latency latency)
+      (le-leb latency latency (omega arith)) (le-leb latency latency (omega arith)))
 ]
 
 -- the intervals of the plateau, part by part
 
-counts_are : (needs : Needs) (own : Configuration) (part : Part) → counts_of (plateau_of needs own) part ≡ counts_for (need_of needs part) (count_of own part)
+counts_are : (needs : Needs) (own : Configuration) (part : Part)
+    → counts_of (plateau_of needs own) part ≡ counts_for (need_of needs part) (count_of own part)
 counts_are needs own (Stations pools.Alu) = refl
 counts_are needs own (Stations pools.Mul) = refl
 counts_are needs own (Stations pools.Div) = refl
@@ -92,7 +102,8 @@ counts_are needs own (Units units.Bru) = refl
 counts_are needs own Buses = refl
 counts_are needs own Width = refl
 
-latencies_are : (needs : Needs) (own : Configuration) (unit : UnitId) → latencies_of (plateau_of needs own) unit ≡ latency_for needs own unit
+latencies_are : (needs : Needs) (own : Configuration) (unit : UnitId) → latencies_of (plateau_of needs own) unit
+    ≡ latency_for needs own unit
 latencies_are needs own units.Alu = refl
 latencies_are needs own units.Mul = refl
 latencies_are needs own units.Div = refl
@@ -101,7 +112,8 @@ latencies_are needs own units.Bru = refl
 
 -- what all of a list pass each of them passes
 
-at_place : {X : Type 0} (p : X → Bool) (xs : List X) (n : ℕ) (x : X) → list_all p xs ≡ true → slice_get xs n ≡ Some x → p x ≡ true
+at_place : {X : Type 0} (p : X → Bool) (xs : List X) (n : ℕ) (x : X) → list_all p xs ≡ true → slice_get xs n ≡ Some x
+    → p x ≡ true
 at_place p [] n x all here = absurd (cc)
 at_place p (y ∷ xs) zero x all here = let e : y ≡ x = cc in rw (← e) (and_parts (p y) (list_all p xs) all).0
 at_place p (y ∷ xs) (suc n) x all here = at_place p xs n x (and_parts (p y) (list_all p xs) all).1 here
@@ -134,21 +146,28 @@ all_from p (x ∷ xs) each = and_from (p x) (list_all p xs) (each x) (all_from p
 
 -- a configuration on the plateau serves the run
 
-part_serves : (own other : Configuration) (h : List Done) (needs : Needs) (part : Part) → IsWithinLimits other → AreNeeds own h needs → is_within (counts_of (plateau_of needs own) part) (count_of other part) ≡ true
+part_serves : (own other : Configuration) (h : List Done) (needs : Needs) (part : Part) → IsWithinLimits other
+    → AreNeeds own h needs → is_within (counts_of (plateau_of needs own) part) (count_of other part) ≡ true
     → (count_of other part ≡ count_of own part) ⊎ ((stalls own part h ≡ 0) × (peak part h ≤ count_of other part))
-part_serves own other h needs part good are within = elim (count_told (need_of needs part) (count_of own part) (count_of other part) (count_high other part good) (rw counts_are at within)) [
-  | inl same ↦ inl same
-  | inr two ↦ inr (rw (are.parts part) at two.0, rw (are.parts part) at two.1)
-]
+part_serves own other h needs part good are within =
+    elim (count_told (need_of needs part) (count_of own part) (count_of other part) (count_high other part good)
+    (rw counts_are at within)) [
+      | inl same ↦ inl same
+      | inr two ↦ inr (rw (are.parts part) at two.0, rw (are.parts part) at two.1)
+    ]
 
-latency_serves : (own other : Configuration) (h : List Done) (needs : Needs) (unit : UnitId) → AreNeeds own h needs → is_within (latencies_of (plateau_of needs own) unit) (option_of other unit).latency ≡ true
+latency_serves : (own other : Configuration) (h : List Done) (needs : Needs) (unit : UnitId) → AreNeeds own h needs
+    → is_within (latencies_of (plateau_of needs own) unit) (option_of other unit).latency ≡ true
     → ((option_of other unit).latency ≡ (option_of own unit).latency) ⊎ (peak (Units unit) h ≡ 0)
-latency_serves own other h needs unit are within = elim (latency_told (need_of needs (Units unit)) (option_of own unit).latency (option_of other unit).latency (rw latencies_are at within)) [
-  | inl same ↦ inl same
-  | inr none ↦ inr (rw (are.parts (Units unit)) at none)
-]
+latency_serves own other h needs unit are within =
+    elim (latency_told (need_of needs (Units unit)) (option_of own unit).latency (option_of other unit).latency
+    (rw latencies_are at within)) [
+      | inl same ↦ inl same
+      | inr none ↦ inr (rw (are.parts (Units unit)) at none)
+    ]
 
-config_serves : (own other : Configuration) (h : List Done) (needs : Needs) → IsWithinLimits other → AreNeeds own h needs → lies_on other (plateau_of needs own) ≡ true → Serves own other h
+config_serves : (own other : Configuration) (h : List Done) (needs : Needs) → IsWithinLimits other
+    → AreNeeds own h needs → lies_on other (plateau_of needs own) ≡ true → Serves own other h
 config_serves own other h needs good are on =
     let p = plateau_of needs own in
     let parts = λ (part : Part). is_within (counts_of p part) (count_of other part) in
@@ -171,5 +190,9 @@ own_lies_on own steps needs good are =
     let parts = λ (part : Part). is_within (counts_of p part) (count_of own part) in
     let kinds = λ (unit : UnitId). is_within (latencies_of p unit) (option_of own unit).latency in
     and_from (list_all parts all_parts) (list_all kinds all_units)
-    (all_from parts all_parts (λ part. let most : peak part h ≤ count_of own part = peak_within own h part (are_timed own steps good) in rw counts_are (own_count (need_of needs part) (count_of own part) (count_high own part good) (rw (are.parts part) most))))
-    (all_from kinds all_units (λ unit. rw latencies_are (own_latency (need_of needs (Units unit)) (option_of own unit).latency (latency_high own unit good))))
+    (all_from parts all_parts (λ part. let most : peak part h ≤ count_of own part =
+    peak_within own h part (are_timed own steps good) in
+    rw counts_are (own_count (need_of needs part) (count_of own part) (count_high own part good)
+    (rw (are.parts part) most))))
+    (all_from kinds all_units (λ unit. rw latencies_are
+    (own_latency (need_of needs (Units unit)) (option_of own unit).latency (latency_high own unit good))))

@@ -1,5 +1,6 @@
 -- Files that are not what their entries ask for, and programs one after another.
-use Rattle.std.proofs.Common.{⊎_elim, ◌≡◌, ◌≢◌, ◌⊎◌, Ok, Err, inl, inr, ℕ, zero, suc, List, [], ◌∷◌, ◌++◌, take, Some, None, ◌+◌, ◌<◌, ◌≤◌, ◌∙◌, ap, sym, refl, arith, add-one, length, get_or, map}
+use Rattle.std.proofs.Common.{⊎_elim, ◌≡◌, ◌≢◌, ◌⊎◌, Ok, Err, inl, inr, ℕ, zero, suc, List, [], ◌∷◌, ◌++◌, take, Some}
+use Rattle.std.proofs.Common.{None, ◌+◌, ◌<◌, ◌≤◌, ◌∙◌, ap, sym, refl, arith, add-one, length, get_or, map}
 use Rattle.std.specs.Prelude.{slice_get, Bool, true, false, MatchBool}
 use Rattle.std.proofs.lemmas.List.{length-map, take_all}
 use Rattle.std.proofs.lemmas.Option.{slice_get_read, slice_get-map}
@@ -26,7 +27,8 @@ in_window file window image here = at (is_elf file) here
     at false here = here.0
 
 -- one program more
-pub one_more : (place : ℕ) (entries : List ProgramEntry) (files : List (List ℕ)) (programs : List Workload) (entry : ProgramEntry) (file : List ℕ) (program : Workload)
+pub one_more : (place : ℕ) (entries : List ProgramEntry) (files : List (List ℕ)) (programs : List Workload)
+    (entry : ProgramEntry) (file : List ℕ) (program : Workload)
     → slice_get entries place ≡ Some entry → slice_get files place ≡ Some file
     → AreProgramsOf (take place entries) (take place files) programs → IsProgramOf entry file program
     → AreProgramsOf (take (suc place) entries) (take (suc place) files) (programs ++ program ∷ [])
@@ -38,20 +40,33 @@ one_more zero (e ∷ es) (f ∷ fs) (p ∷ ps) entry file program entry_is file_
 one_more (suc place) (e ∷ es) (f ∷ fs) [] entry file program entry_is file_is older is = absurd older
 one_more (suc place) (e ∷ es) (f ∷ fs) (p ∷ ps) entry file program entry_is file_is older is =
     (older.0, one_more place es fs ps entry file program entry_is file_is older.1 is)
-one_more place [] files programs entry file program entry_is file_is older is = absurd (let none : None ≡ Some entry = entry_is in cc)
-one_more place (e ∷ es) [] programs entry file program entry_is file_is older is = absurd (let none : None ≡ Some file = file_is in cc)
+one_more place [] files programs entry file program entry_is file_is older is =
+    absurd (let none : None ≡ Some entry = entry_is in cc)
+one_more place (e ∷ es) [] programs entry file program entry_is file_is older is =
+    absurd (let none : None ≡ Some file = file_is in cc)
 
 -- the first program that is refused, if memory was not
-pub first_refusal : (place : ℕ) (entries : List ProgramEntry) (files : List (List ℕ)) (programs : List Workload) (entry : ProgramEntry) (file : List ℕ) (error : StudyError)
+pub first_refusal : (place : ℕ) (entries : List ProgramEntry) (files : List (List ℕ)) (programs : List Workload)
+    (entry : ProgramEntry) (file : List ℕ) (error : StudyError)
     → slice_get entries place ≡ Some entry → slice_get files place ≡ Some file
     → AreProgramsOf (take place entries) (take place files) programs
     → (error ≡ Memory) ⊎ IsFileRefusal entry file error → (error ≡ Memory) ⊎ IsFirstRefusal entries files error
 first_refusal place entries files programs entry file error entry_is file_is older (inl memory) = inl memory
 first_refusal place entries files programs entry file error entry_is file_is older (inr refusal) =
-    inr (record { place = place; programs = programs; older = older; entry = entry; entry_is = entry_is; file = file; file_is = file_is; refusal = refusal })
+    inr (record {
+      place = place;
+      programs = programs;
+      earlier = older;
+      entry = entry;
+      entry_is = entry_is;
+      file = file;
+      file_is = file_is;
+      refusal = refusal;
+    })
 
 -- the same of what stands at a place of the files, and of the programs after a push
-pub pushed : (place : ℕ) (entries : List ProgramEntry) (files : List (List ℕ)) (programs after : List Workload) (entry : ProgramEntry) (file : List ℕ) (program : Workload)
+pub pushed : (place : ℕ) (entries : List ProgramEntry) (files : List (List ℕ)) (programs after : List Workload)
+    (entry : ProgramEntry) (file : List ℕ) (program : Workload)
     → slice_get entries place ≡ Some entry → slice_get files place ≡ Some file
     → AreProgramsOf (take place entries) (take place files) programs → IsProgramOf entry file program
     → after ≡ programs ++ program ∷ []
@@ -60,19 +75,23 @@ pushed place entries files programs after entry file program entry_is file_is ol
     rw (add-one, grown) (one_more place entries files programs entry file program entry_is file_is older is)
 
 -- no program is left
-pub all_programs : {X : Type 0} (seen : X → List ℕ) (place : ℕ) (entries : List ProgramEntry) (files : List X) (programs : List Workload)
+pub all_programs : {X : Type 0} (seen : X → List ℕ) (place : ℕ) (entries : List ProgramEntry) (files : List X)
+    (programs : List Workload)
     → length files ≡ length entries → length entries ≤ place
-    → AreProgramsOf (take place entries) (take place (map seen files)) programs → AreProgramsOf entries (map seen files) programs
+    → AreProgramsOf (take place entries) (take place (map seen files)) programs
+    → AreProgramsOf entries (map seen files) programs
 all_programs seen place entries files programs long past here =
     let count = length-map files seen in
     rw (take_all place entries past, take_all place (map seen files) (omega arith)) at here
 
 -- what is read at a place
-pub item_is : {X : Type 0} (xs : List X) (place : ℕ) (x : X) → place < length xs → x ≡ get_or xs place x → slice_get xs place ≡ Some x
+pub item_is : {X : Type 0} (xs : List X) (place : ℕ) (x : X) → place < length xs → x ≡ get_or xs place x
+    → slice_get xs place ≡ Some x
 item_is xs place x within read = slice_get_read xs (length xs) place x refl within read
 
 -- and how contracts see it
-pub seen_is : {X Y : Type 0} (seen : X → Y) (xs : List X) (n place : ℕ) (x : X) (y : Y) → length xs ≡ n → place < n → x ≡ get_or xs place x → y ≡ seen x → slice_get (map seen xs) place ≡ Some y
+pub seen_is : {X Y : Type 0} (seen : X → Y) (xs : List X) (n place : ℕ) (x : X) (y : Y) → length xs ≡ n → place < n
+    → x ≡ get_or xs place x → y ≡ seen x → slice_get (map seen xs) place ≡ Some y
 seen_is seen xs n place x y count within read is =
     let there : place < length xs = omega (arith, count, within) in
     slice_get-map seen xs place ∙ rw (item_is xs place x there read) (ap Some (sym is))
@@ -82,29 +101,37 @@ pub names_refused : (bytes : List ℕ) (fault : DocumentError) (error : StudyErr
     → (fault ≢ documents.Memory → document_of bytes ≡ Err fault) → (error ≡ Memory) ⊎ IsDocumentRefusal bytes error
 names_refused bytes documents.Memory error told given = inl told
 names_refused bytes documents.Syntax error told given = inr (documents.Syntax, given (λ h. cc), told)
-names_refused bytes (documents.UnknownKey place) error told given = inr (documents.UnknownKey place, given (λ h. cc), told)
-names_refused bytes (documents.MissingKey place key) error told given = inr (documents.MissingKey place key, given (λ h. cc), told)
+names_refused bytes (documents.UnknownKey place) error told given =
+    inr (documents.UnknownKey place, given (λ h. cc), told)
+names_refused bytes (documents.MissingKey place key) error told given =
+    inr (documents.MissingKey place key, given (λ h. cc), told)
 names_refused bytes (documents.Kind place key) error told given = inr (documents.Kind place key, given (λ h. cc), told)
-names_refused bytes (documents.Range place key) error told given = inr (documents.Range place key, given (λ h. cc), told)
+names_refused bytes (documents.Range place key) error told given =
+    inr (documents.Range place key, given (λ h. cc), told)
 names_refused bytes documents.TooMany error told given = inr (documents.TooMany, given (λ h. cc), told)
 
 -- so the study is refused
-pub document_refused : (bytes : List ℕ) (files : List (List ℕ)) (fault : DocumentError) (error : StudyError) → error ≡ told_as fault
+pub document_refused : (bytes : List ℕ) (files : List (List ℕ)) (fault : DocumentError) (error : StudyError)
+    → error ≡ told_as fault
     → (fault ≢ documents.Memory → document_of bytes ≡ Err fault) → IsStudyRefusal bytes files error
-document_refused bytes files fault error told given = ⊎_elim (λ memory. inl memory) (λ refusal. inr (inl refusal)) (names_refused bytes fault error told given)
+document_refused bytes files fault error told given =
+    ⊎_elim (λ memory. inl memory) (λ refusal. inr (inl refusal)) (names_refused bytes fault error told given)
 
 -- as many files as programs, one of which is refused
-pub file_refused : (bytes : List ℕ) (files : List (List ℕ)) (document : Document) (error : StudyError) → document_of bytes ≡ Ok document → length files ≡ length document.programs
+pub file_refused : (bytes : List ℕ) (files : List (List ℕ)) (document : Document) (error : StudyError)
+    → document_of bytes ≡ Ok document → length files ≡ length document.programs
     → (error ≡ Memory) ⊎ IsFirstRefusal document.programs files error → IsStudyRefusal bytes files error
 file_refused bytes files document error read count (inl memory) = inl memory
 file_refused bytes files document error read count (inr first) = inr (inr (document, read, inr (count, first)))
 
 -- another number of files
-pub count_refused : (bytes : List ℕ) (files : List (List ℕ)) (document : Document) → document_of bytes ≡ Ok document → length files ≢ length document.programs → IsStudyRefusal bytes files Files
+pub count_refused : (bytes : List ℕ) (files : List (List ℕ)) (document : Document) → document_of bytes ≡ Ok document
+    → length files ≢ length document.programs → IsStudyRefusal bytes files Files
 count_refused bytes files document read count = inr (inr (document, read, inl (refl, count)))
 
 -- a program for each entry
-pub length-programs : (entries : List ProgramEntry) (files : List (List ℕ)) (programs : List Workload) → AreProgramsOf entries files programs → length programs ≡ length entries
+pub length-programs : (entries : List ProgramEntry) (files : List (List ℕ)) (programs : List Workload)
+    → AreProgramsOf entries files programs → length programs ≡ length entries
 length-programs [] [] [] are = refl
 length-programs [] [] (p ∷ ps) are = absurd are
 length-programs [] (f ∷ fs) programs are = absurd are
@@ -113,9 +140,11 @@ length-programs (e ∷ es) (f ∷ fs) [] are = absurd are
 length-programs (e ∷ es) (f ∷ fs) (p ∷ ps) are = ap suc (length-programs es fs ps are.1)
 
 -- as many programs as a document has: 1 to 8
-pub some_programs : (bytes : List ℕ) (document : Document) (entries : List ProgramEntry) (files : List (List ℕ)) (programs : List Workload) → document_of bytes ≡ Ok document → entries ≡ document.programs
+pub some_programs : (bytes : List ℕ) (document : Document) (entries : List ProgramEntry) (files : List (List ℕ))
+    (programs : List Workload) → document_of bytes ≡ Ok document → entries ≡ document.programs
     → AreProgramsOf entries files programs → (1 ≤ length programs) × (length programs ≤ 8)
 some_programs bytes document entries files programs read same are =
     let has = document_has_programs bytes document read in
-    let count : length programs ≡ length document.programs = length-programs entries files programs are ∙ ap length same in
+    let count : length programs ≡ length document.programs = length-programs entries files programs are
+    ∙ ap length same in
     (omega (arith, count, has.0), omega (arith, count, has.1))

@@ -1,4 +1,4 @@
--- What a fault of a study's document is told as.
+-- What a document's error is told as.
 use Rattle.std.specs.Prelude.{◌≡◌, ℕ, List, Err}
 use Rattle.tomex_values.specs.declared.error.DocumentError.{DocumentError}
 use Rattle.tomex_values.specs.declared.error.DocumentError.TheVariants as documents

@@ -61,7 +61,7 @@ IsFileRefusal entry file _ = ⊥
 pub record IsFirstRefusal (entries : List ProgramEntry) (files : List (List ℕ)) (error : StudyError) : Type 0 where
   pub place : ℕ
   pub programs : List Workload
-  pub older : AreProgramsOf (take place entries) (take place files) programs
+  pub earlier : AreProgramsOf (take place entries) (take place files) programs
   pub entry : ProgramEntry
   pub entry_is : slice_get entries place ≡ Some entry
   pub file : List ℕ

@@ -10,9 +10,8 @@ use tomex_image::ImageError;
 use tomex_rvexec::Fault;
 use tomex_values::{DocumentError, Key, Place};
 
-/// The first test that a study fails. The tests up to `TooMany` are those of the document alone;
-/// those from `Files` on are of its programs' files. The texts of three variants begin with the
-/// program's name.
+/// The first test that a study fails, or that memory was refused. The tests up to `TooMany` are of the
+/// document alone, those from `Files` to `TooLong` of its programs' files; the last three name the program.
 #[derive(Debug, Drop, Error)]
 pub enum StudyError {
     /// The bytes are no TOML document.
@@ -39,7 +38,7 @@ pub enum StudyError {
     /// The file of the named program is no image of its window. Never `ImageError::Memory`.
     #[error("program {0}: image: {1}")]
     Image(String, ImageError),
-    /// The named program ends by a fault.
+    /// The named program faults within its limit.
     #[error("program {0}: fault: {1}")]
     Fault(String, Fault),
     /// The named program doesn't end within its limit.

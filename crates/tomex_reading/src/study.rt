@@ -32,7 +32,8 @@ fn image_of<A: Allocator + Clone>(
     }
 }
 
-/// The refusal of the entry's file, whose run has no end. The name that it tells is made in `heap`.
+/// The refusal of the entry's file, whose run faults or doesn't end within its limit, or that memory was refused.
+/// The name that it tells is made in `heap`.
 fn unfit<A: Allocator + Clone>(heap: Global, entry: &Entry<A>, error: ProgramError) -> StudyError
     ensures { (file : _) → FailsToEnd entry.now file (refusal_of error)
         → (result ≡ StudyError.Memory) ⊎ IsFileRefusal entry.now file result }

@@ -1,5 +1,7 @@
 -- A `&Refusing` lends a `&` to each of its fields, the inner allocator and the budget.
-use Rattle.tomex_refuse.proofs.Steps.{ℕ, ◌+◌, [], ◌∷◌, Bor, Al, α, seen, Lft, hidden_shr, unhide, param, shr_vals, Slot, plain, RefOf, size, align, up, ‵, ◌$◌, ◌∵◌, !, qed, done, move, keep, drop, join, fsplit, id⊢, use1, Fml, Ura, ent, sep, Logic, sem}
+use Rattle.tomex_refuse.proofs.Steps.{ℕ, ◌+◌, [], ◌∷◌, Bor, Al, α, seen, Lft, hidden_shr, unhide, param, shr_vals, Slot}
+use Rattle.tomex_refuse.proofs.Steps.{plain, RefOf, size, align, up, ‵, ◌$◌, ◌∵◌, !, qed, done, move, keep, drop, join}
+use Rattle.tomex_refuse.proofs.Steps.{fsplit, id⊢, use1, Fml, Ura, ent, sep, Logic, sem}
 use Rattle.tomex_refuse.specs.contracts.refusing.Refusing as refusing
 use Rattle.tomex_refuse.specs.contracts.budget.Budget as budget
 
@@ -11,7 +13,10 @@ abbrev pub inner_at : (Z : Al) → Lent Z → ℕ × ℕ
 inner_at Z r = (r.ref_ptr.0, r.ref_ptr.1 + up (align (α Z)) 0)
 
 abbrev pub budget_of : (Z : Al) → Lent Z → Bor (budget.the_row).Denot
-budget_of Z r = record { ref_ptr = (r.ref_ptr.0, r.ref_ptr.1 + up 8 (up (align (α Z)) 0 + size (α Z))); now = r.now.budget }
+budget_of Z r = record {
+  ref_ptr = (r.ref_ptr.0, r.ref_ptr.1 + up 8 (up (align (α Z)) 0 + size (α Z)));
+  now = r.now.budget;
+}
 
 -- what the holder of a `&Budget` has
 abbrev pub sees : Lft → Bor (budget.the_row).Denot → Fml

@@ -1,6 +1,8 @@
 -- The names of the logic that the walks of this crate cite.
 pub use Rattle.std.proofs.Common.{◌≡◌, ℕ, ◌+◌, true, false, List, [], ◌∷◌, Ok, Err, refl, w64, Bor}
-pub use Rattle.std.proofs.alloc.Calls.{Al, α, seen, token, Takes, at_takes, Takes-goes, Takes-gives, Answered, Answer, answer_val, Answer-typed, Answer-Ok, Answer-err, answers, Gives, at_gives, Gives-goes, Gives-Gives}
+pub use Rattle.std.proofs.alloc.Calls.{Al, α, seen, token, Takes, at_takes, Takes-goes, Takes-gives, Answered, Answer}
+pub use Rattle.std.proofs.alloc.Calls.{answer_val, Answer-typed, Answer-Ok, Answer-err, answers, Gives, at_gives}
+pub use Rattle.std.proofs.alloc.Calls.{Gives-goes, Gives-Gives}
 pub use Rattle.std.proofs.alloc.Shapes.{after}
 pub use Rattle.std.proofs.raw_atomic.Walks.{proved}
 pub use Rattle.std.specs.Allocator.{block_if_ok}
@@ -36,7 +38,10 @@ pub use prog.Routine.{Routine}
 pub use prog.Wp.{WpFn}
 pub use seplogic.Ra.Ura.{Ura}
 pub use types.ByLocal.{alloc_all, pass_all, free_all, look_at, get, through, sets, lands_as, env}
-pub use types.Kit.{‵, raw, ◌⊛◌, later, given, some, prop, regoal, Sq, ◌$◌, ◌∵◌, !, qed, done, move, keep, drop, use0, use1, use2, split, join, fsplit, fjoin, feq_i, feq_l, await, learn, suffices, group, pick, show, check, updating, at_ret}
+pub use types.Kit.{‵, raw, ◌⊛◌, later, given, some, prop, regoal, Sq, ◌$◌, ◌∵◌, !, qed, done, move, keep, drop, use0}
+pub use types.Kit.{use1, use2, split, join, fsplit, fjoin, feq_i, feq_l, await, learn, suffices, group, pick, show}
+pub use types.Kit.{check, updating, at_ret}
 pub use types.Logic.{Logic, sem}
 pub use types.Part.{agg}
-pub use types.Run.{enter, of_opd, addr, fld, stop, unit_lit, no_more, and_then, returns, lit, first, branches, skips, exec, returns_within}
+pub use types.Run.{enter, of_opd, addr, fld, stop, unit_lit, no_more, and_then, returns, lit, first, branches, skips}
+pub use types.Run.{exec, returns_within}

@@ -1,5 +1,6 @@
 -- The cycles of a program on a front row, among how the row's programs end.
-use Rattle.std.proofs.Common.{◌≡◌, ◌∙◌, ap, sym, refl, arith, ℕ, zero, suc, ◌+◌, ◌<◌, ◌≤◌, List, [], ◌∷◌, ◌++◌, Some, drop, get_or, length, map}
+use Rattle.std.proofs.Common.{◌≡◌, ◌∙◌, ap, sym, refl, arith, ℕ, zero, suc, ◌+◌, ◌<◌, ◌≤◌, List, [], ◌∷◌, ◌++◌, Some}
+use Rattle.std.proofs.Common.{drop, get_or, length, map}
 use Rattle.std.specs.Prelude.{slice_get}
 use Rattle.std.specs.List.{AllZip}
 use Rattle.std.proofs.lemmas.List.{append-nil, drop_all}
@@ -26,7 +27,8 @@ has_end s r e place p are is =
     let long = AllZip-long (IsProgramEnd are.config) s.programs e.programs.items are.ends in
     omega (arith, long, slice_get_within s.programs place p is)
 
-pub cycles_at : {A : Type 0} (s : DesignSpace) (r : FrontRow) (e : RowEnds A) (place : ℕ) (p : Workload) (x : ProgramEnd A)
+pub cycles_at : {A : Type 0} (s : DesignSpace) (r : FrontRow) (e : RowEnds A) (place : ℕ) (p : Workload)
+    (x : ProgramEnd A)
     → AreEndsOf s r e → slice_get s.programs place ≡ Some p → x ≡ get_or e.programs.items place x
     → x.total ≡ total (config_of s r) p.image
 cycles_at s r e place p x are is found =
@@ -43,16 +45,19 @@ same_read (x ∷ xs) zero d within = refl
 same_read (x ∷ xs) (suc k) d within = same_read xs k d (omega (arith, within))
 
 -- the same of a row of a front
-pub has_end_at : {A : Type 0} (s : DesignSpace) (front : List FrontRow) (ends : List (RowEnds A)) (k place : ℕ) (p : Workload)
+pub has_end_at : {A : Type 0} (s : DesignSpace) (front : List FrontRow) (ends : List (RowEnds A)) (k place : ℕ)
+    (p : Workload)
     (e : RowEnds A) → AllZip (λ r e. AreEndsOf s r e) front ends → slice_get s.programs place ≡ Some p → k < length ends
     → e ≡ get_or ends k e → place < length e.programs.items
 has_end_at s front ends k place p e are is within here =
     let long = AllZip-long (λ r e. AreEndsOf s r e) front ends are in
     let none : FrontRow = record { row = 0; cost = 0; cycles = 0 } in
-    has_end s (get_or front k none) e place p (at_read (λ r e. AreEndsOf s r e) front ends k none e are (omega (arith, long, within)) here) is
+    has_end s (get_or front k none) e place p
+    (at_read (λ r e. AreEndsOf s r e) front ends k none e are (omega (arith, long, within)) here) is
 
 -- the cycles on one row more
-pub cycles_more : {A : Type 0} (s : DesignSpace) (front : List FrontRow) (ends : List (RowEnds A)) (k place : ℕ) (p : Workload)
+pub cycles_more : {A : Type 0} (s : DesignSpace) (front : List FrontRow) (ends : List (RowEnds A)) (k place : ℕ)
+    (p : Workload)
     (e : RowEnds A) (x : ProgramEnd A) (before after whole : List ℕ) → AllZip (λ r e. AreEndsOf s r e) front ends
     → slice_get s.programs place ≡ Some p → k < length ends → e ≡ get_or ends k e → x ≡ get_or e.programs.items place x
     → after ≡ before ++ x.total ∷ []
@@ -64,13 +69,16 @@ cycles_more s front ends k place p e x before after whole are is within here fou
     let none : FrontRow = record { row = 0; cost = 0; cycles = 0 } in
     let row = get_or front k none in
     let ends_of_row = at_read (λ r e. AreEndsOf s r e) front ends k none e are inside here in
-    item_more (λ r. total (config_of s r) p.image) front k row before after whole x.total inside (same_read front k none inside)
+    item_more (λ r. total (config_of s r) p.image) front k row before after whole x.total inside
+    (same_read front k none inside)
     grown (cycles_at s row e place p x ends_of_row is found) so_far
 
 -- all are there where no row is left
-pub cycles_whole : {A : Type 0} (s : DesignSpace) (front : List FrontRow) (ends : List (RowEnds A)) (k : ℕ) (f : FrontRow → ℕ)
+pub cycles_whole : {A : Type 0} (s : DesignSpace) (front : List FrontRow) (ends : List (RowEnds A)) (k : ℕ)
+    (f : FrontRow → ℕ)
     (so_far : List ℕ) → AllZip (λ r e. AreEndsOf s r e) front ends → length ends ≤ k
     → so_far ++ map f (drop k front) ≡ map f front → so_far ≡ map f front
 cycles_whole s front ends k f so_far are past whole =
     let long = AllZip-long (λ r e. AreEndsOf s r e) front ends are in
-    sym (append-nil so_far) ∙ (ap (λ (rows : List FrontRow). so_far ++ map f rows) (sym (drop_all k front (omega (arith, long, past)))) ∙ whole)
+    sym (append-nil so_far) ∙ (ap (λ (rows : List FrontRow). so_far ++ map f rows)
+    (sym (drop_all k front (omega (arith, long, past)))) ∙ whole)

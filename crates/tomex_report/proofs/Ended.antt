@@ -1,5 +1,6 @@
 -- The state in which a run ends, and how many steps it takes.
-use Rattle.std.proofs.Common.{◌≡◌, ℕ, zero, suc, ◌+◌, ◌-◌, ◌<◌, ◌≤◌, List, Option, Some, None, length, refl, sym, ap, ◌∙◌, subst, arith}
+use Rattle.std.proofs.Common.{◌≡◌, ℕ, zero, suc, ◌+◌, ◌-◌, ◌<◌, ◌≤◌, List, Option, Some, None, length, refl, sym, ap}
+use Rattle.std.proofs.Common.{◌∙◌, subst, arith}
 use Rattle.std.specs.Prelude.{IsSome}
 use Rattle.std.proofs.lemmas.Bool.{false≢true}
 use Rattle.std.proofs.lemmas.List.{length-reverse}
@@ -19,14 +20,16 @@ stays : (o : Outcome) (x : State) (kind : EndKind) → o ≡ Ends kind → moved
 stays o x kind e = rw e refl
 
 -- after its end a run stays as it is
-after_end : (m n : ℕ) (i : Loaded) (k : ℕ) (s : State) (kind : EndKind) → RunEnds i k s kind → n ≡ m + k → state_after i n ≡ s
+after_end : (m n : ℕ) (i : Loaded) (k : ℕ) (s : State) (kind : EndKind) → RunEnds i k s kind → n ≡ m + k
+    → state_after i n ≡ s
 after_end zero n i k s kind r e =
     let f : n ≡ k = omega arith in
     ap (λ (j : ℕ). state_after i j) f ∙ sym (leads_is i k s r.leads)
 after_end (suc m) n i k s kind r e =
     let f : n ≡ suc (m + k) = omega arith in
     let ih : state_after i (m + k) ≡ s = after_end m (m + k) i k s kind r refl in
-    let ends : step_of (state_after i (m + k)) ≡ Ends kind = subst (λ (z : State). step_of z ≡ Ends kind) (sym ih) r.ends in
+    let ends : step_of (state_after i (m + k)) ≡ Ends kind =
+    subst (λ (z : State). step_of z ≡ Ends kind) (sym ih) r.ends in
     ap (λ (j : ℕ). state_after i j) f ∙ (stays (step_of (state_after i (m + k))) (state_after i (m + k)) kind ends ∙ ih)
 
 at_limit : (n : ℕ) (i : Loaded) (k : ℕ) (s : State) (kind : EndKind) → RunEnds i k s kind → k < n → state_after i n ≡ s
@@ -40,14 +43,16 @@ long_onto : (o : Option Step) (xs : List Step) → IsSome o → length (onto o x
 long_onto None xs h = absurd (false≢true h)
 long_onto (Some x) xs h = refl
 
-long_history : (k n : ℕ) (i : Loaded) (s : State) (kind : EndKind) → RunEnds i n s kind → k ≤ n + 1 → length (history i k) ≡ k
+long_history : (k n : ℕ) (i : Loaded) (s : State) (kind : EndKind) → RunEnds i n s kind → k ≤ n + 1
+    → length (history i k) ≡ k
 long_history zero n i s kind r h = refl
 long_history (suc k) n i s kind r h =
     let a = long_onto (step_after i k) (history i k) (step_comes i n k s kind r (omega (arith, h))) in
     let b = long_history k n i s kind r (omega (arith, h)) in
     a ∙ ap suc b
 
-count_to : (n : ℕ) (i : Loaded) (k : ℕ) (s : State) (kind : EndKind) → RunEnds i k s kind → k < n → length (steps_from n (start_of i)) ≡ k + 1
+count_to : (n : ℕ) (i : Loaded) (k : ℕ) (s : State) (kind : EndKind) → RunEnds i k s kind → k < n
+    → length (steps_from n (start_of i)) ≡ k + 1
 count_to n i k s kind r h =
     ap (λ (xs : List Step). length xs) (steps_to_end i k n s kind r h)
     ∙ (length-reverse (history i (k + 1)) ∙ long_history (k + 1) k i s kind r (omega arith))
@@ -58,7 +63,8 @@ unfolding count_of
 count_is i k s kind r h = count_to 262144 i k s kind r h
 
 -- the memory in which a run ends fills its window
-pub filled : (i : Loaded) → IsLoaded i.window i.memory i.entry → EndsWithin i 262144 → length (last_state i).memory ≡ i.window.size
+pub filled : (i : Loaded) → IsLoaded i.window i.memory i.entry → EndsWithin i 262144
+    → length (last_state i).memory ≡ i.window.size
 filled i loaded e =
     let last : last_state i ≡ e.1 = last_is i e.0 e.1 e.2 e.4 e.3 in
     let long : length e.1.memory ≡ e.1.image.window.size = (run_state i e.0 e.1 loaded e.4.leads).filled in

@@ -15,7 +15,8 @@ pub record IsLast {A : Type 0} (i : Loaded) (e : End A) : Type 0 where
   pub regs : e.regs ≡ (last_state i).regs
   pub bytes : e.memory.bytes ≡ (last_state i).memory
 
-last_of : {A : Type 0} (i : Loaded) (e : End A) (k : ℕ) (s : State) → RunEnds i k s e.kind → k < 262144 → e.pc ≡ s.pc → e.steps ≡ k + 1 → e.regs ≡ s.regs → e.memory.bytes ≡ s.memory → IsLast i e
+last_of : {A : Type 0} (i : Loaded) (e : End A) (k : ℕ) (s : State) → RunEnds i k s e.kind → k < 262144 → e.pc ≡ s.pc
+    → e.steps ≡ k + 1 → e.regs ≡ s.regs → e.memory.bytes ≡ s.memory → IsLast i e
 last_of i e k s ends within pc steps regs bytes =
     let last : s ≡ last_state i = sym (last_is i k s e.kind ends within) in
     record {
@@ -26,7 +27,8 @@ last_of i e k s ends within pc steps regs bytes =
       bytes = bytes ∙ ap (λ (t : State). t.memory) last;
     }
 
-pub is_last : {A : Type 0} (i j : Loaded) (e : End A) → EndsWithin i 262144 → j ≡ i → (EndsWithin j 262144 → IsEnd j 262144 e) → IsLast i e
+pub is_last : {A : Type 0} (i j : Loaded) (e : End A) → EndsWithin i 262144 → j ≡ i
+    → (EndsWithin j 262144 → IsEnd j 262144 e) → IsLast i e
 is_last i j e ends same gives =
     let is = (rw same at gives) ends in
     last_of i e is.0 is.1 is.3 is.2 is.5 is.4 is.6 is.8

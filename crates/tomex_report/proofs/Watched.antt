@@ -1,5 +1,6 @@
 -- The bytes of watched ranges, one range after the other.
-use Rattle.std.proofs.Common.{◌≡◌, ℕ, ◌+◌, ◌-◌, ◌≤◌, nat_le, ◌&&◌, Bool, true, false, List, [], ◌∷◌, ◌++◌, length, map, take, drop, All, refl, sym, ap, ◌∙◌, arith, length-append}
+use Rattle.std.proofs.Common.{◌≡◌, ℕ, ◌+◌, ◌-◌, ◌≤◌, nat_le, ◌&&◌, Bool, true, false, List, [], ◌∷◌, ◌++◌, length, map}
+use Rattle.std.proofs.Common.{take, drop, All, refl, sym, ap, ◌∙◌, arith, length-append}
 use Rattle.std.specs.Prelude.{codes}
 use Rattle.std.specs.List.{flat_map}
 use Rattle.std.proofs.lemmas.Bool.{leb-true}
@@ -28,15 +29,22 @@ pub record LiesIn (base size : ℕ) (range : WatchRange) : Type 0 where
   pub low : base ≤ range.address
   pub high : range.address + range.length ≤ base + size
 
-pub lies_in : (window : Span) (range : WatchRange) → is_watchable window range ≡ true → LiesIn window.base window.size range
+pub lies_in : (window : Span) (range : WatchRange) → is_watchable window range ≡ true
+    → LiesIn window.base window.size range
 lies_in window range is =
-    let inside = second_of (nat_le 1 range.length) (nat_le window.base range.address && nat_le (range.address + range.length) (window.base + window.size)) is in
+    let inside = second_of (nat_le 1 range.length)
+    (nat_le window.base range.address && nat_le (range.address + range.length) (window.base + window.size)) is in
     record {
-      low = leb-true window.base range.address (first_of (nat_le window.base range.address) (nat_le (range.address + range.length) (window.base + window.size)) inside);
-      high = leb-true (range.address + range.length) (window.base + window.size) (second_of (nat_le window.base range.address) (nat_le (range.address + range.length) (window.base + window.size)) inside);
+      low = leb-true window.base range.address
+          (first_of (nat_le window.base range.address)
+          (nat_le (range.address + range.length) (window.base + window.size)) inside);
+      high = leb-true (range.address + range.length) (window.base + window.size)
+          (second_of (nat_le window.base range.address)
+          (nat_le (range.address + range.length) (window.base + window.size)) inside);
     }
 
-long : (window : Span) (memory : List ℕ) (range : WatchRange) → length memory ≡ window.size → is_watchable window range ≡ true → length (bytes_at window.base memory range) ≡ range.length
+long : (window : Span) (memory : List ℕ) (range : WatchRange) → length memory ≡ window.size
+    → is_watchable window range ≡ true → length (bytes_at window.base memory range) ≡ range.length
 long window memory range fills is =
     let lies = lies_in window range is in
     let low = lies.low in
@@ -44,13 +52,16 @@ long window memory range fills is =
     let left = length-drop (range.address - window.base) memory in
     length-take-le range.length (drop (range.address - window.base) memory) (omega (arith, fills, low, high, left))
 
-pub bytes_long : (window : Span) (memory : List ℕ) (ranges : List WatchRange) → length memory ≡ window.size → All (λ r. is_watchable window r ≡ true) ranges → length (flat_map (bytes_at window.base memory) ranges) ≡ watched_bytes ranges
+pub bytes_long : (window : Span) (memory : List ℕ) (ranges : List WatchRange) → length memory ≡ window.size
+    → All (λ r. is_watchable window r ≡ true) ranges → length (flat_map (bytes_at window.base memory) ranges)
+    ≡ watched_bytes ranges
 bytes_long window memory [] fills are = refl
 bytes_long window memory (r ∷ rs) fills are =
     let own = long window memory r fills (All-head (λ r. is_watchable window r ≡ true) r rs are) in
     let ih = bytes_long window memory rs fills (All-tail (λ r. is_watchable window r ≡ true) r rs are) in
     let both = length-append (bytes_at window.base memory r) (flat_map (bytes_at window.base memory) rs) in
-    both ∙ (ap (λ (n : ℕ). n + length (flat_map (bytes_at window.base memory) rs)) own ∙ (ap (λ (n : ℕ). r.length + n) ih ∙ sym (sum_by-cons (λ (q : WatchRange). q.length) r rs)))
+    both ∙ (ap (λ (n : ℕ). n + length (flat_map (bytes_at window.base memory) rs)) own
+    ∙ (ap (λ (n : ℕ). r.length + n) ih ∙ sym (sum_by-cons (λ (q : WatchRange). q.length) r rs)))
 
 taken : (n : ℕ) (xs ys : List ℕ) → length xs ≡ n → take n (xs ++ ys) ≡ xs
 taken n xs ys e = ap (λ (k : ℕ). take k (xs ++ ys)) (sym e) ∙ take-append_seam xs ys
@@ -58,7 +69,8 @@ taken n xs ys e = ap (λ (k : ℕ). take k (xs ++ ys)) (sym e) ∙ take-append_s
 dropped : (n : ℕ) (xs ys : List ℕ) → length xs ≡ n → drop n (xs ++ ys) ≡ ys
 dropped n xs ys e = ap (λ (k : ℕ). drop k (xs ++ ys)) (sym e) ∙ drop-append_seam xs ys
 
-pub texts_are : (window : Span) (memory : List ℕ) (ranges : List WatchRange) → length memory ≡ window.size → All (λ r. is_watchable window r ≡ true) ranges
+pub texts_are : (window : Span) (memory : List ℕ) (ranges : List WatchRange) → length memory ≡ window.size
+    → All (λ r. is_watchable window r ≡ true) ranges
     → watch_texts ranges (flat_map (bytes_at window.base memory) ranges) ≡ map (watch_text window.base memory) ranges
 texts_are window memory [] fills are = refl
 texts_are window memory (r ∷ rs) fills are =
@@ -66,4 +78,5 @@ texts_are window memory (r ∷ rs) fills are =
     let ih = texts_are window memory rs fills (All-tail (λ r. is_watchable window r ≡ true) r rs are) in
     let first = taken r.length (bytes_at window.base memory r) (flat_map (bytes_at window.base memory) rs) own in
     let rest = dropped r.length (bytes_at window.base memory r) (flat_map (bytes_at window.base memory) rs) own in
-    rw (first, rest) (ap (λ (ts : List (List ℕ)). (hex8 r.address ++ (codes ":" ++ flat_map hex2 (bytes_at window.base memory r))) ∷ ts) ih)
+    rw (first, rest) (ap (λ (ts : List (List ℕ)).
+    (hex8 r.address ++ (codes ":" ++ flat_map hex2 (bytes_at window.base memory r))) ∷ ts) ih)

@@ -1,5 +1,6 @@
 -- The relation of the table and the function agree.
-use Rattle.std.proofs.Common.{◌≡◌, ℕ, ◌<◌, ◌^◌, Option, Some, None, IsTrue, Bool, true, false, List, [], ◌∷◌, find, cond, refl, sym, ◌∙◌, ap, subst}
+use Rattle.std.proofs.Common.{◌≡◌, ℕ, ◌<◌, ◌^◌, Option, Some, None, IsTrue, Bool, true, false, List, [], ◌∷◌, find}
+use Rattle.std.proofs.Common.{cond, refl, sym, ◌∙◌, ap, subst}
 use Rattle.tomex_rvdec.specs.declared.op.Op.{Op}
 use Rattle.tomex_rvdec.specs.declared.op.Form.{Form}
 use Rattle.tomex_rvdec.specs.declared.op.Form.TheVariants as forms
@@ -11,7 +12,8 @@ found : (p : Op → Bool) (xs : List Op) (x : Op) → find p xs ≡ Some x → I
 found p [] x h = cc
 found p (y ∷ ys) x h = at_test (p y) refl h (found p ys x)
   where
-    at_test : (b : Bool) → p y ≡ b → cond b (Some y) (find p ys) ≡ Some x → (find p ys ≡ Some x → IsTrue (p x)) → IsTrue (p x)
+    at_test : (b : Bool) → p y ≡ b → cond b (Some y) (find p ys) ≡ Some x → (find p ys ≡ Some x → IsTrue (p x))
+        → IsTrue (p x)
     at_test true e h later = let same : y ≡ x = cc in subst (λ z. p z ≡ true) same e
     at_test false e h later = later h
 
@@ -42,7 +44,8 @@ means_operands w op short s =
 pub meaning_means : (w : ℕ) (x : Instruction) → w < 2 ^ 32 → meaning w ≡ Some x → Means w x
 meaning_means w x short h = at_selected w x (selected w) refl short h
   where
-    at_selected : (w : ℕ) (x : Instruction) (o : Option Op) → selected w ≡ o → w < 2 ^ 32 → meaning w ≡ Some x → Means w x
+    at_selected : (w : ℕ) (x : Instruction) (o : Option Op) → selected w ≡ o → w < 2 ^ 32 → meaning w ≡ Some x
+        → Means w x
     at_selected w x None e short h = let g : None ≡ Some x = rw e at h in cc
     at_selected w x (Some op) e short h =
         let g : Some (operands_at (form_of op) w op) ≡ Some x = rw e at h in

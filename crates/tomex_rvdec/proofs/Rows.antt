@@ -1,6 +1,7 @@
 -- The table computed on words whose meanings are known, and on words that mean nothing.
 use Rattle.std.proofs.Common.{ℕ, ◌≡◌, refl, List, [], ◌∷◌, Option, Some, None}
-use Rattle.tomex_rvdec.specs.declared.op.Op.TheVariants.{Lui, Jal, Jalr, Bne, Lb, Sw, Addi, Add, Mul, Fence, Ebreak, Srai}
+use Rattle.tomex_rvdec.specs.declared.op.Op.TheVariants.{Lui, Jal, Jalr, Bne, Lb, Sw, Addi, Add, Mul, Fence, Ebreak}
+use Rattle.tomex_rvdec.specs.declared.op.Op.TheVariants.{Srai}
 use Rattle.tomex_rvdec.specs.Instruction.{Instruction}
 use Rattle.tomex_rvdec.specs.declared.pool.PoolId.TheVariants as pools
 use Rattle.tomex_rvdec.specs.declared.pool.UnitId.TheVariants as units
@@ -78,7 +79,8 @@ pub ebreak_parts : (pool_of Ebreak ≡ None) × (unit_of Ebreak ≡ None)
 ebreak_parts = (refl, refl)
 
 -- a store reads its base and its value, and writes no register
-pub store_operands : (sources_of (with_operands Sw 0 8 1 0) ≡ record { j = Some 8; k = Some 1 }) × (dest_of (with_operands Sw 0 8 1 0) ≡ None)
+pub store_operands : (sources_of (with_operands Sw 0 8 1 0) ≡ record { j = Some 8; k = Some 1 })
+    × (dest_of (with_operands Sw 0 8 1 0) ≡ None)
 store_operands = (refl, refl)
 
 -- a result for x0 has no destination

@@ -1,14 +1,19 @@
 -- The fixed bits of an operation select no other one: a row for each operation.
 use Rattle.std.proofs.Common.{◌≡◌, ℕ, Some, IsTrue, refl, arith, Bool, true, nat_eq, ◌&&◌}
 use Rattle.tomex_rvdec.specs.declared.op.Op.{Op}
-use Rattle.tomex_rvdec.specs.declared.op.Op.TheVariants.{Lui, Auipc, Jal, Jalr, Beq, Bne, Blt, Bge, Bltu, Bgeu, Lb, Lh, Lw, Lbu, Lhu, Sb, Sh, Sw, Addi, Slti, Sltiu, Xori, Ori, Andi, Slli, Srli, Srai, Add, Sub, Sll, Slt, Sltu, Xor, Srl, Sra, Or, And, Mul, Mulh, Mulhsu, Mulhu, Div, Divu, Rem, Remu, Fence, Ecall, Ebreak}
+use Rattle.tomex_rvdec.specs.declared.op.Op.TheVariants.{Lui, Auipc, Jal, Jalr, Beq, Bne, Blt, Bge, Bltu, Bgeu, Lb, Lh}
+use Rattle.tomex_rvdec.specs.declared.op.Op.TheVariants.{Lw, Lbu, Lhu, Sb, Sh, Sw, Addi, Slti, Sltiu, Xori, Ori, Andi}
+use Rattle.tomex_rvdec.specs.declared.op.Op.TheVariants.{Slli, Srli, Srai, Add, Sub, Sll, Slt, Sltu, Xor, Srl, Sra, Or}
+use Rattle.tomex_rvdec.specs.declared.op.Op.TheVariants.{And, Mul, Mulh, Mulhsu, Mulhu, Div, Divu, Rem, Remu, Fence}
+use Rattle.tomex_rvdec.specs.declared.op.Op.TheVariants.{Ecall, Ebreak}
 use Rattle.tomex_rvdec.specs.Fields.{opcode, funct3, funct7}
 use Rattle.tomex_rvdec.specs.Meaning.{selects, selected, has_opcode, has_funct3, has_funct7}
 
 in_funct3 : (code function w : ℕ) → IsTrue (has_funct3 code function w) → (opcode w ≡ code) × (funct3 w ≡ function)
 in_funct3 code function w h = grind arith
 
-in_funct7 : (code high function w : ℕ) → IsTrue (has_funct7 code high function w) → (opcode w ≡ code) × (funct3 w ≡ function) × (funct7 w ≡ high)
+in_funct7 : (code high function w : ℕ) → IsTrue (has_funct7 code high function w) → (opcode w ≡ code)
+    × (funct3 w ≡ function) × (funct7 w ≡ high)
 in_funct7 code high function w h = grind arith
 
 in_opcode : (code w : ℕ) → IsTrue (has_opcode code w) → opcode w ≡ code

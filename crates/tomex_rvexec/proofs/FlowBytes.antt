@@ -1,5 +1,6 @@
 -- Bytes of a memory, read and written by address.
-use Rattle.std.proofs.Common.{◌≡◌, ℕ, zero, suc, ◌+◌, ◌-◌, ◌*◌, ◌/◌, ◌%◌, ◌^◌, ◌<◌, ◌≤◌, ◌⊎◌, List, length, true, false, refl, sym, ◌∙◌, arith, inl, inr}
+use Rattle.std.proofs.Common.{◌≡◌, ℕ, zero, suc, ◌+◌, ◌-◌, ◌*◌, ◌/◌, ◌%◌, ◌^◌, ◌<◌, ◌≤◌, ◌⊎◌, List, length, true, false}
+use Rattle.std.proofs.Common.{refl, sym, ◌∙◌, arith, inl, inr}
 use Rattle.std.specs.Prelude.{slice_index, slice_set, nat_le, nat_lt, ◌&&◌, if◌then◌else◌}
 use Rattle.std.proofs.lemmas.Bool.{cases_eq, cases_lt, lt-ltb, le-ltb, le-leb, lt-leb, and_left, and_right, and_from}
 use Rattle.std.proofs.lemmas.Grind.{get_or-set_at}
@@ -17,7 +18,9 @@ pub length-bytes : (n : ℕ) (m : List ℕ) (i v : ℕ) → length (bytes_writte
 length-bytes zero m i v = refl
 length-bytes (suc n) m i v = simp length-set (length-bytes n m i v)
 
-pub bytes_at : (n : ℕ) (m : List ℕ) (i v k : ℕ) → i + n ≤ length m → slice_index (bytes_written n m i v) k ≡ (if nat_le i k && nat_lt k (i + n) then v / 256 ^ (k - i) % 256 else slice_index m k)
+pub bytes_at : (n : ℕ) (m : List ℕ) (i v k : ℕ) → i + n ≤ length m
+    → slice_index (bytes_written n m i v) k
+    ≡ (if nat_le i k && nat_lt k (i + n) then v / 256 ^ (k - i) % 256 else slice_index m k)
 bytes_at zero m i v k h = rw (out (cases_lt k i)) refl
   where
     out : (k < i) ⊎ (i ≤ k) → (nat_le i k && nat_lt k (i + 0)) ≡ false
@@ -31,9 +34,15 @@ bytes_at (suc n) m i v k h = at (cases_eq k (i + n)) (bytes_at n m i v k (omega 
       | inr g ↦ le-ltb k (i + suc n) (omega arith) ∙ sym (le-ltb k (i + n) g)
     ]
 
-    at : (k ≡ i + n) ⊎ (k ≡ i + n → ⊥) → slice_index (bytes_written n m i v) k ≡ (if nat_le i k && nat_lt k (i + n) then v / 256 ^ (k - i) % 256 else slice_index m k) → slice_index (slice_set (bytes_written n m i v) (i + n) (v / 256 ^ n % 256)) k ≡ (if nat_le i k && nat_lt k (i + suc n) then v / 256 ^ (k - i) % 256 else slice_index m k)
+    at : (k ≡ i + n) ⊎ (k ≡ i + n → ⊥)
+        → slice_index (bytes_written n m i v) k
+        ≡ (if nat_le i k && nat_lt k (i + n) then v / 256 ^ (k - i) % 256 else slice_index m k)
+        → slice_index (slice_set (bytes_written n m i v) (i + n) (v / 256 ^ n % 256)) k
+        ≡ (if nat_le i k && nat_lt k (i + suc n) then v / 256 ^ (k - i) % 256 else slice_index m k)
     at (inl e) before =
-        let t : (nat_le i k && nat_lt k (i + suc n)) ≡ true = and_from (nat_le i k) (nat_lt k (i + suc n)) (le-leb i k (omega arith)) (lt-ltb k (i + suc n) (omega arith)) in
+        let t : (nat_le i k && nat_lt k (i + suc n)) ≡ true =
+        and_from (nat_le i k) (nat_lt k (i + suc n)) (le-leb i k (omega arith)) (lt-ltb k (i + suc n) (omega arith))
+        in
         let d : k - i ≡ n = omega arith in
         let l : i + n < length (bytes_written n m i v) = omega (arith, length-bytes n m i v) in
         rw (t, d) (get_or-set_at (bytes_written n m i v) (i + n) k (v / 256 ^ n % 256) 0 e l)
@@ -49,10 +58,13 @@ half_is m i v = let e : i + 0 ≡ i = omega arith in let d : v / 1 ≡ v = omega
 pub word_is : (m : List ℕ) (i v : ℕ) → word_written m i v ≡ bytes_written 4 m i v
 word_is m i v = let e : i + 0 ≡ i = omega arith in let d : v / 1 ≡ v = omega arith in rw (e, d) refl
 
-pub half_loaded : (memory : Bytes) (a : ℕ) → memory.base ≤ a → half_read memory.bytes (a - memory.base) ≡ byte_in memory a + 256 * byte_in memory (a + 1)
+pub half_loaded : (memory : Bytes) (a : ℕ) → memory.base ≤ a → half_read memory.bytes (a - memory.base)
+    ≡ byte_in memory a + 256 * byte_in memory (a + 1)
 half_loaded memory a h = let e : a + 1 - memory.base ≡ a - memory.base + 1 = omega arith in rw e refl
 
-pub word_loaded : (memory : Bytes) (a : ℕ) → memory.base ≤ a → word_read memory.bytes (a - memory.base) ≡ byte_in memory a + 256 * byte_in memory (a + 1) + 65536 * byte_in memory (a + 2) + 16777216 * byte_in memory (a + 3)
+pub word_loaded : (memory : Bytes) (a : ℕ) → memory.base ≤ a → word_read memory.bytes (a - memory.base)
+    ≡ byte_in memory a + 256 * byte_in memory (a + 1) + 65536 * byte_in memory (a + 2)
+    + 16777216 * byte_in memory (a + 3)
 word_loaded memory a h =
     let e : a + 1 - memory.base ≡ a - memory.base + 1 = omega arith in
     let f : a + 2 - memory.base ≡ a - memory.base + 2 = omega arith in
@@ -66,7 +78,10 @@ below_none a b = elim (cases_lt b a) [
 ]
 
 -- so many bytes of v, from an address on
-pub bytes_stored : (n : ℕ) (memory : Bytes) (from v a : ℕ) → memory.base ≤ a → (0 < n → (memory.base ≤ from) × (from + n ≤ memory.base + length memory.bytes)) → slice_index (bytes_written n memory.bytes (from - memory.base) v) (a - memory.base) ≡ (if nat_le from a && nat_lt a (from + n) then v / 256 ^ (a - from) % 256 else byte_in memory a)
+pub bytes_stored : (n : ℕ) (memory : Bytes) (from v a : ℕ) → memory.base ≤ a
+    → (0 < n → (memory.base ≤ from) × (from + n ≤ memory.base + length memory.bytes))
+    → slice_index (bytes_written n memory.bytes (from - memory.base) v) (a - memory.base)
+    ≡ (if nat_le from a && nat_lt a (from + n) then v / 256 ^ (a - from) % 256 else byte_in memory a)
 bytes_stored zero memory from v a low room = rw (below_none from a) refl
 bytes_stored (suc n) memory from v a low room =
     let two = room (omega arith) in
@@ -77,7 +92,8 @@ bytes_stored (suc n) memory from v a low room =
       | inl l ↦ lt-leb (from - memory.base) (a - memory.base) (omega arith) ∙ sym (lt-leb from a l)
       | inr g ↦ le-leb (from - memory.base) (a - memory.base) (omega arith) ∙ sym (le-leb from a g)
     ] in
-    let lt : nat_lt (a - memory.base) (from - memory.base + suc n) ≡ nat_lt a (from + suc n) = elim (cases_lt a (from + suc n)) [
+    let lt : nat_lt (a - memory.base) (from - memory.base + suc n) ≡ nat_lt a (from + suc n) = elim
+    (cases_lt a (from + suc n)) [
       | inl l ↦ lt-ltb (a - memory.base) (from - memory.base + suc n) (omega arith) ∙ sym (lt-ltb a (from + suc n) l)
       | inr g ↦ le-ltb (a - memory.base) (from - memory.base + suc n) (omega arith) ∙ sym (le-ltb a (from + suc n) g)
     ] in

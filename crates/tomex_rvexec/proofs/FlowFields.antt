@@ -10,7 +10,8 @@ use Rattle.tomex_rvdec.specs.Meaning.{form_of}
 use Rattle.tomex_rvdec.specs.Operands.{dest_at, pool_of, unit_at}
 use Rattle.tomex_rvexec.specs.declared.step.Step.{Step}
 use Rattle.tomex_rvexec.specs.declared.step.ByteRange.{ByteRange}
-use Rattle.tomex_rvexec.specs.Steps.{access_size, address_of, bytes_at, bytes_of, is_in, is_store, step_dest, step_pool, step_unit}
+use Rattle.tomex_rvexec.specs.Steps.{access_size, address_of, bytes_at, bytes_of, is_in, is_store, step_dest, step_pool}
+use Rattle.tomex_rvexec.specs.Steps.{step_unit}
 
 unit_of_pool : (pool : Option PoolId) → is_some (unit_at pool) ≡ is_some pool
 unit_of_pool None = refl
@@ -19,7 +20,8 @@ unit_of_pool (Some pool) = refl
 pub unit_with_pool : (x : Step) → is_some (step_unit x) ≡ is_some (step_pool x)
 unit_with_pool x = unit_of_pool (step_pool x)
 
-pub bytes_of_op : (op : Op) (from : ℕ) → is_some (bytes_at op from) ≡ (is_in pools.Load (pool_of op) || is_in pools.Store (pool_of op))
+pub bytes_of_op : (op : Op) (from : ℕ)
+    → is_some (bytes_at op from) ≡ (is_in pools.Load (pool_of op) || is_in pools.Store (pool_of op))
 bytes_of_op Lb from = refl
 bytes_of_op Lh from = refl
 bytes_of_op Lw from = refl
@@ -33,10 +35,13 @@ bytes_of_op op from = refl
 pub bytes_of_memory : (x : Step) → is_some (bytes_of x) ≡ (is_in pools.Load (step_pool x) || is_store x)
 bytes_of_memory x = bytes_of_op x.instr.op (address_of x)
 
-some_byte : (from count : ℕ) → IfSome (if nat_eq count 0 then None else Some (record { from = from; to = from + count })) (λ (b : ByteRange). b.from < b.to)
+some_byte : (from count : ℕ) → IfSome
+    (if nat_eq count 0 then None else Some (record { from = from; to = from + count }))
+    (λ (b : ByteRange). b.from < b.to)
 some_byte from count = at (nat_eq count 0) refl
   where
-    at : (b : Bool) → nat_eq count 0 ≡ b → IfSome (if b then None else Some (record { from = from; to = from + count })) (λ (b : ByteRange). b.from < b.to)
+    at : (b : Bool) → nat_eq count 0 ≡ b → IfSome (if b then None else Some (record { from = from; to = from + count }))
+        (λ (b : ByteRange). b.from < b.to)
     at true e = tt
     at false e = omega (arith, eqb-false count 0 e)
 

@@ -38,7 +38,8 @@ bytes_registers : registers bytes (history bytes 5) ≡ 0xfffffffe ∷ 0xff ∷ 
 unfolding selected step_of
 bytes_registers = refl
 
-bytes_row : map (λ a. byte_after bytes (history bytes 5) a) (31 ∷ 32 ∷ 33 ∷ 34 ∷ 35 ∷ 36 ∷ 0 ∷ []) ≡ 0 ∷ 0xfe ∷ 0 ∷ 0xff ∷ 0xff ∷ 0 ∷ 0x93 ∷ []
+bytes_row : map (λ a. byte_after bytes (history bytes 5) a) (31 ∷ 32 ∷ 33 ∷ 34 ∷ 35 ∷ 36 ∷ 0 ∷ []) ≡ 0 ∷ 0xfe ∷ 0 ∷ 0xff
+    ∷ 0xff ∷ 0 ∷ 0x93 ∷ []
 unfolding selected step_of
 bytes_row = refl
 

@@ -1,10 +1,12 @@
 -- What steps ask of a state, and what they keep of it.
-use Rattle.std.proofs.Common.{◌≡◌, ℕ, ◌+◌, ◌-◌, ◌%◌, ◌<◌, ◌≤◌, List, Option, Some, None, Bool, true, false, refl, sym, ◌∙◌, subst, arith}
+use Rattle.std.proofs.Common.{◌≡◌, ℕ, ◌+◌, ◌-◌, ◌%◌, ◌<◌, ◌≤◌, List, Option, Some, None, Bool, true, false, refl, sym}
+use Rattle.std.proofs.Common.{◌∙◌, subst, arith}
 use Rattle.std.specs.Prelude.{IsTrue, IfSome, IsSome, nat_eq, if◌then◌else◌, option_map}
 use Rattle.std.proofs.lemmas.Bool.{eqb-false}
 use Rattle.tomex_image.specs.Image.{Loaded, IsLoaded}
 use Rattle.tomex_rvdec.specs.declared.op.Op.{Op}
-use Rattle.tomex_rvdec.specs.declared.op.Op.TheVariants.{Jal, Jalr, Beq, Bne, Blt, Bge, Bltu, Bgeu, Lb, Lh, Lw, Lbu, Lhu, Sb, Sh, Sw, Ecall, Ebreak}
+use Rattle.tomex_rvdec.specs.declared.op.Op.TheVariants.{Jal, Jalr, Beq, Bne, Blt, Bge, Bltu, Bgeu, Lb, Lh, Lw, Lbu}
+use Rattle.tomex_rvdec.specs.declared.op.Op.TheVariants.{Lhu, Sb, Sh, Sw, Ecall, Ebreak}
 use Rattle.tomex_rvdec.specs.declared.op.Form.{Form}
 use Rattle.tomex_rvdec.specs.declared.op.Form.TheVariants as forms
 use Rattle.tomex_rvdec.specs.declared.pool.PoolId.TheVariants as pools
@@ -17,7 +19,9 @@ use Rattle.tomex_rvexec.specs.declared.outcome.FaultKind.TheVariants.{Fetch, Mis
 use Rattle.tomex_rvexec.specs.declared.step.Step.{Step}
 use Rattle.tomex_rvexec.specs.declared.step.ByteRange.{ByteRange}
 use Rattle.tomex_rvexec.specs.Flow.{IsAllowed, IsState, byte_in, memory_of, end_at, end_of, next_at, result_of}
-use Rattle.tomex_rvexec.specs.Machine.{State, Goes, Ends, Faults, base_of, branches, coming_of, executes, fetched, from_byte, from_half, holds, jumps, loads, next_pc, outcome_of, step_at, step_of, stores, with_register}
+use Rattle.tomex_rvexec.specs.Machine.{State, Goes, Ends, Faults, base_of, branches, coming_of, executes, fetched}
+use Rattle.tomex_rvexec.specs.Machine.{from_byte, from_half, holds, jumps, loads, next_pc, outcome_of, step_at, step_of}
+use Rattle.tomex_rvexec.specs.Machine.{stores, with_register}
 use Rattle.tomex_rvexec.specs.Memory.{byte_read, half_read, word_read, byte_written, half_written, word_written}
 use Rattle.tomex_rvexec.specs.Run.{start_of}
 use Rattle.tomex_rvexec.specs.Steps.{access_size, address_of, is_in, is_store, step_dest}
@@ -35,7 +39,8 @@ pub goes_by_step : (s t : State) → step_of s ≡ Goes t → Coming s
 unfolding step_of
 goes_by_step s t e = at (holds s s.pc 4) (meaning (fetched s)) refl refl e
   where
-    at : (b : Bool) (m : Option Instruction) → holds s s.pc 4 ≡ b → meaning (fetched s) ≡ m → (if b then outcome_of (option_map (step_at s) m) s else Faults Fetch) ≡ Goes t → Coming s
+    at : (b : Bool) (m : Option Instruction) → holds s s.pc 4 ≡ b → meaning (fetched s) ≡ m
+        → (if b then outcome_of (option_map (step_at s) m) s else Faults Fetch) ≡ Goes t → Coming s
     at true (Some y) here means e = record { step = step_at s y; is = rw (here, means) refl }
     at true None here means e = cc
     at false m here means e = cc
@@ -44,7 +49,8 @@ pub ends_by_step : (s : State) (kind : EndKind) → step_of s ≡ Ends kind → 
 unfolding step_of
 ends_by_step s kind e = at (holds s s.pc 4) (meaning (fetched s)) refl refl e
   where
-    at : (b : Bool) (m : Option Instruction) → holds s s.pc 4 ≡ b → meaning (fetched s) ≡ m → (if b then outcome_of (option_map (step_at s) m) s else Faults Fetch) ≡ Ends kind → Coming s
+    at : (b : Bool) (m : Option Instruction) → holds s s.pc 4 ≡ b → meaning (fetched s) ≡ m
+        → (if b then outcome_of (option_map (step_at s) m) s else Faults Fetch) ≡ Ends kind → Coming s
     at true (Some y) here means e = record { step = step_at s y; is = rw (here, means) refl }
     at true None here means e = cc
     at false m here means e = cc
@@ -58,7 +64,8 @@ step_ends s kind e = let c = ends_by_step s kind e in rw c.is refl
 pub fetch_inside : (s : State) (x : Step) → coming_of s ≡ Some x → IsTrue (holds s s.pc 4)
 fetch_inside s x c = at (holds s s.pc 4) refl c
   where
-    at : (b : Bool) → holds s s.pc 4 ≡ b → (if b then option_map (step_at s) (meaning (fetched s)) else None) ≡ Some x → IsTrue (holds s s.pc 4)
+    at : (b : Bool) → holds s s.pc 4 ≡ b → (if b then option_map (step_at s) (meaning (fetched s)) else None) ≡ Some x
+        → IsTrue (holds s s.pc 4)
     at true here c = here
     at false here c = cc
 
@@ -85,12 +92,16 @@ registers_small w y e = at (selected w) e
   where
     at : (m : Option Op) → option_map (λ op. operands_at (form_of op) w op) m ≡ Some y → HasRegisters y
     at None e = cc
-    at (Some op) e = let same : operands_at (form_of op) w op ≡ y = cc in subst HasRegisters same (operands_small (form_of op) w op)
+    at (Some op) e = let same : operands_at (form_of op) w op ≡ y = cc in
+        subst HasRegisters same (operands_small (form_of op) w op)
 
-access_at : (s : State) (from count : ℕ) → (0 < count → IsTrue (holds s from count)) → IfSome (if nat_eq count 0 then None else Some (record { from = from; to = from + count })) (λ (b : ByteRange). (s.image.window.base ≤ b.from) × (b.to ≤ s.image.window.base + s.image.window.size))
+access_at : (s : State) (from count : ℕ) → (0 < count → IsTrue (holds s from count))
+    → IfSome (if nat_eq count 0 then None else Some (record { from = from; to = from + count }))
+    (λ (b : ByteRange). (s.image.window.base ≤ b.from) × (b.to ≤ s.image.window.base + s.image.window.size))
 access_at s from count h = at (nat_eq count 0) refl
   where
-    at : (b : Bool) → nat_eq count 0 ≡ b → IfSome (if b then None else Some (record { from = from; to = from + count })) (λ (b : ByteRange). (s.image.window.base ≤ b.from) × (b.to ≤ s.image.window.base + s.image.window.size))
+    at : (b : Bool) → nat_eq count 0 ≡ b → IfSome (if b then None else Some (record { from = from; to = from + count }))
+        (λ (b : ByteRange). (s.image.window.base ≤ b.from) × (b.to ≤ s.image.window.base + s.image.window.size))
     at true e = tt
     at false e = inside s from count (h (omega (arith, eqb-false count 0 e)))
 
@@ -104,14 +115,32 @@ allowed s t x ok c e =
     let o = comes s x (Goes t) c e in let y = o.instr in let z = step_at s y in
     let f : Carried y.op z s t = carried y.op y s t o.outcome in
     subst (λ (z : Step). IsAllowed s.image z) o.step
-    (record { target = f.aligned ok.aligned; access = access_at s (address_of z) (access_size y.op) f.inside; on = no_end y.op z s t o.outcome })
+    (record {
+      target = f.aligned ok.aligned;
+      access = access_at s (address_of z) (access_size y.op) f.inside;
+      on = no_end y.op z s t o.outcome;
+    })
 
 kept : (s t : State) (y : Instruction) → IsState s → Carried y.op (step_at s y) s t → IsState t
 kept s t y ok f = record {
-  registers = rw (f.regs, length-dest (step_dest (step_at s y)) (result_of (step_at s y) (byte_in (memory_of s))) s.regs) ok.registers;
-  zero = rw (f.regs, register_set (step_dest (step_at s y)) (result_of (step_at s y) (byte_in (memory_of s))) s.regs 0 (omega (arith, ok.registers)), never_zero (form_of y.op) y.rd) ok.zero;
+  registers = rw (
+    f.regs,
+    length-dest (step_dest (step_at s y)) (result_of (step_at s y) (byte_in (memory_of s)))
+        s.regs,
+  ) ok.registers;
+  zero = rw (
+    f.regs,
+    register_set (step_dest (step_at s y)) (result_of (step_at s y) (byte_in (memory_of s))) s.regs 0
+        (omega (arith, ok.registers)),
+    never_zero (form_of y.op) y.rd,
+  ) ok.zero;
   aligned = rw f.pc (f.aligned ok.aligned);
-  filled = rw (f.image, f.memory, length-bytes (stored_size y.op) s.memory (address_of (step_at s y) - base_of s) (step_at s y).vk) ok.filled;
+  filled = rw (
+    f.image,
+    f.memory,
+    length-bytes (stored_size y.op) s.memory (address_of (step_at s y) - base_of s)
+        (step_at s y).vk,
+  ) ok.filled;
 }
 
 pub state_kept : (s t : State) (x : Step) → IsState s → coming_of s ≡ Some x → step_of s ≡ Goes t → IsState t
@@ -119,7 +148,8 @@ state_kept s t x ok c e =
     let o = comes s x (Goes t) c e in kept s t o.instr ok (carried o.instr.op o.instr s t o.outcome)
 
 -- a load reads at its address, which is not below the window
-pub reads_above : (s t : State) (x : Step) → coming_of s ≡ Some x → step_of s ≡ Goes t → 0 < access_size x.instr.op → base_of s ≤ address_of x
+pub reads_above : (s t : State) (x : Step) → coming_of s ≡ Some x → step_of s ≡ Goes t → 0 < access_size x.instr.op
+    → base_of s ≤ address_of x
 reads_above s t x c e =
     let o = comes s x (Goes t) c e in let y = o.instr in
     let f : Carried y.op (step_at s y) s t = carried y.op y s t o.outcome in
@@ -130,22 +160,31 @@ pub start_state : (i : Loaded) → IsLoaded i.window i.memory i.entry → IsStat
 start_state i h = record { registers = refl; zero = refl; aligned = h.aligned; filled = h.filled }
 
 -- a test of a target or an address doesn't end a program
-goes_or_faults : (b : Bool) (t : State) (fault : FaultKind) (kind : EndKind) → (if b then Goes t else Faults fault) ≡ Ends kind → ⊥
+goes_or_faults : (b : Bool) (t : State) (fault : FaultKind) (kind : EndKind)
+    → (if b then Goes t else Faults fault) ≡ Ends kind → ⊥
 goes_or_faults true t fault kind e = cc
 goes_or_faults false t fault kind e = cc
 
 jumps_on : (s : State) (r target : ℕ) (kind : EndKind) → jumps s r target ≡ Ends kind → ⊥
-jumps_on s r target kind e = goes_or_faults (nat_eq (target % 4) 0) (record s { pc = target; regs = with_register s.regs r (next_pc s) }) MisalignedTarget kind e
+jumps_on s r target kind e = goes_or_faults (nat_eq (target % 4) 0)
+    (record s { pc = target; regs = with_register s.regs r (next_pc s) }) MisalignedTarget kind e
 
 branches_on : (s : State) (taken : Bool) (target : ℕ) (kind : EndKind) → branches s taken target ≡ Ends kind → ⊥
-branches_on s true target kind e = goes_or_faults (nat_eq (target % 4) 0) (record s { pc = target }) MisalignedTarget kind e
+branches_on s true target kind e =
+    goes_or_faults (nat_eq (target % 4) 0) (record s { pc = target }) MisalignedTarget kind e
 branches_on s false target kind e = cc
 
-loads_on : (s : State) (r address count : ℕ) (read : List ℕ → ℕ → ℕ) (kind : EndKind) → loads s r address count read ≡ Ends kind → ⊥
-loads_on s r address count read kind e = goes_or_faults (holds s address count) (record s { pc = next_pc s; regs = with_register s.regs r (read s.memory (address - base_of s)) }) Access kind e
+loads_on : (s : State) (r address count : ℕ) (read : List ℕ → ℕ → ℕ) (kind : EndKind)
+    → loads s r address count read ≡ Ends kind → ⊥
+loads_on s r address count read kind e =
+    goes_or_faults (holds s address count)
+    (record s { pc = next_pc s; regs = with_register s.regs r (read s.memory (address - base_of s)) }) Access kind e
 
-stores_on : (s : State) (address count : ℕ) (written : List ℕ → ℕ → List ℕ) (kind : EndKind) → stores s address count written ≡ Ends kind → ⊥
-stores_on s address count written kind e = goes_or_faults (holds s address count) (record s { pc = next_pc s; memory = written s.memory (address - base_of s) }) Access kind e
+stores_on : (s : State) (address count : ℕ) (written : List ℕ → ℕ → List ℕ) (kind : EndKind)
+    → stores s address count written ≡ Ends kind → ⊥
+stores_on s address count written kind e =
+    goes_or_faults (holds s address count)
+    (record s { pc = next_pc s; memory = written s.memory (address - base_of s) }) Access kind e
 
 ends_as : (op : Op) (x : Step) (s : State) (kind : EndKind) → executes op x s ≡ Ends kind → end_at op ≡ Some kind
 ends_as Ecall x s kind e = cc
@@ -168,7 +207,8 @@ ends_as Sh x s kind e = absurd (stores_on s (address_of x) 2 (λ m i. half_writt
 ends_as Sw x s kind e = absurd (stores_on s (address_of x) 4 (λ m i. word_written m i x.vk) kind e)
 ends_as op x s kind e = cc
 
-pub ends_by : (s : State) (x : Step) (kind : EndKind) → coming_of s ≡ Some x → step_of s ≡ Ends kind → end_of x ≡ Some kind
+pub ends_by : (s : State) (x : Step) (kind : EndKind) → coming_of s ≡ Some x → step_of s ≡ Ends kind
+    → end_of x ≡ Some kind
 ends_by s x kind c e =
     let o = comes s x (Ends kind) c e in
     subst (λ (z : Step). end_of z ≡ Some kind) o.step (ends_as o.instr.op (step_at s o.instr) s kind o.outcome)
@@ -178,7 +218,8 @@ as_ends Ecall x s kind e = cc
 as_ends Ebreak x s kind e = cc
 as_ends op x s kind e = cc
 
-pub by_end : (s : State) (x : Step) (kind : EndKind) → coming_of s ≡ Some x → end_of x ≡ Some kind → step_of s ≡ Ends kind
+pub by_end : (s : State) (x : Step) (kind : EndKind) → coming_of s ≡ Some x → end_of x ≡ Some kind
+    → step_of s ≡ Ends kind
 by_end s x kind c e =
     let o = comes s x (step_of s) c refl in
     let k : end_at o.instr.op ≡ Some kind = subst (λ (z : Step). end_of z ≡ Some kind) (sym o.step) e in

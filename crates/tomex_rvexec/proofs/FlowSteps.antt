@@ -1,5 +1,6 @@
 -- A step changes its destination and the bytes of its store, and nothing else.
-use Rattle.std.proofs.Common.{◌≡◌, ℕ, ◌+◌, ◌<◌, ◌≤◌, inl, inr, List, length, Option, Some, None, Bool, true, false, refl, sym, ◌∙◌, subst, arith}
+use Rattle.std.proofs.Common.{◌≡◌, ℕ, ◌+◌, ◌<◌, ◌≤◌, inl, inr, List, length, Option, Some, None, Bool, true, false}
+use Rattle.std.proofs.Common.{refl, sym, ◌∙◌, subst, arith}
 use Rattle.std.specs.Prelude.{IsTrue, nat_eq, nat_le, nat_lt, ◌&&◌, if◌then◌else◌, slice_index, option_map}
 use Rattle.std.proofs.lemmas.Bool.{and_parts, cases_eq, eq-eqb, ne_eqb, leb-true}
 use Rattle.std.proofs.lemmas.Grind.{get_or-set_at}
@@ -16,7 +17,8 @@ use Rattle.tomex_rvdec.specs.Operands.{dest_at, pool_of}
 use Rattle.tomex_rvexec.specs.declared.outcome.FaultKind.TheVariants.{Fetch}
 use Rattle.tomex_rvexec.specs.declared.step.Step.{Step}
 use Rattle.tomex_rvexec.specs.Flow.{Changes, IsState, byte_in, memory_of, is_among, result_of}
-use Rattle.tomex_rvexec.specs.Machine.{State, Outcome, Goes, Faults, base_of, coming_of, executes, fetched, holds, outcome_of, step_at, step_of}
+use Rattle.tomex_rvexec.specs.Machine.{State, Outcome, Goes, Faults, base_of, coming_of, executes, fetched, holds}
+use Rattle.tomex_rvexec.specs.Machine.{outcome_of, step_at, step_of}
 use Rattle.tomex_rvexec.specs.Steps.{access_size, address_of, is_in, step_dest, is_number}
 use Rattle.tomex_rvexec.proofs.FlowBytes.{below_none, bytes_stored}
 use Rattle.tomex_rvexec.proofs.FlowEffects.{Carried, carried, stored_size, with_dest}
@@ -32,12 +34,14 @@ pub comes : (s : State) (x : Step) (o : Outcome) → coming_of s ≡ Some x → 
 unfolding step_of
 comes s x o c e = at (holds s s.pc 4) (meaning (fetched s)) refl c e
   where
-    at : (b : Bool) (m : Option Instruction) → meaning (fetched s) ≡ m → (if b then option_map (step_at s) m else None) ≡ Some x → (if b then outcome_of (option_map (step_at s) m) s else Faults Fetch) ≡ o → Comes s x o
+    at : (b : Bool) (m : Option Instruction) → meaning (fetched s) ≡ m → (if b then option_map (step_at s) m else None)
+        ≡ Some x → (if b then outcome_of (option_map (step_at s) m) s else Faults Fetch) ≡ o → Comes s x o
     at true (Some y) is c e = record { instr = y; means = is; step = cc; outcome = e }
     at true None is c e = cc
     at false m is c e = cc
 
-pub register_set : (dest : Option ℕ) (v : ℕ) (regs : List ℕ) (r : ℕ) → r < length regs → slice_index (with_dest dest v regs) r ≡ (if is_number dest r then v else slice_index regs r)
+pub register_set : (dest : Option ℕ) (v : ℕ) (regs : List ℕ) (r : ℕ) → r < length regs
+    → slice_index (with_dest dest v regs) r ≡ (if is_number dest r then v else slice_index regs r)
 register_set None v regs r h = refl
 register_set (Some q) v regs r h = elim (cases_eq r q) [
   | inl e ↦ rw (eq-eqb q r (sym e)) (get_or-set_at regs q r v 0 e (omega arith))
@@ -59,7 +63,10 @@ never_zero f rd = at (nat_eq rd 0) refl
     at true e = refl
     at false e = e
 
-overwrites_is : (op : Op) (from a : ℕ) → (is_in pools.Store (pool_of op) && is_among (if nat_eq (access_size op) 0 then None else Some (record { from = from; to = from + access_size op })) a) ≡ (nat_le from a && nat_lt a (from + stored_size op))
+overwrites_is : (op : Op) (from a : ℕ)
+    → (is_in pools.Store (pool_of op) && is_among
+    (if nat_eq (access_size op) 0 then None else Some (record { from = from; to = from + access_size op })) a)
+    ≡ (nat_le from a && nat_lt a (from + stored_size op))
 overwrites_is Sb from a = refl
 overwrites_is Sh from a = refl
 overwrites_is Sw from a = refl
@@ -92,8 +99,10 @@ changed s t y ok e =
     record {
       image = e.image;
       pc = e.pc;
-      registers = λ r low. rw e.regs (register_set (step_dest x) (result_of x (byte_in (memory_of s))) s.regs r (omega (arith, ok.registers, low)));
-      bytes = λ a low. rw (e.image, e.memory, overwrites_is y.op (address_of x) a) (bytes_stored (stored_size y.op) (memory_of s) (address_of x) x.vk a low (λ h.
+      registers = λ r low. rw e.regs (register_set (step_dest x) (result_of x (byte_in (memory_of s))) s.regs r
+          (omega (arith, ok.registers, low)));
+      bytes = λ a low. rw (e.image, e.memory, overwrites_is y.op (address_of x) a)
+          (bytes_stored (stored_size y.op) (memory_of s) (address_of x) x.vk a low (λ h.
           let two = inside s (address_of x) (access_size y.op) (e.inside (omega (arith, h, stored_within y.op))) in
           (two.0, omega (arith, two.1, stored_within y.op, ok.filled))));
       memory = λ h. let z = no_store y.op h in e.memory ∙ rw z refl;

@@ -1,5 +1,6 @@
 -- Results are words of 32 bits.
-use Rattle.std.proofs.Common.{◌≡◌, ℕ, zero, suc, ◌+◌, ◌-◌, ◌*◌, ◌/◌, ◌%◌, ◌^◌, ◌<◌, ◌≤◌, Option, Some, Bool, true, false, refl, arith, ℤ, pos, negsuc}
+use Rattle.std.proofs.Common.{◌≡◌, ℕ, zero, suc, ◌+◌, ◌-◌, ◌*◌, ◌/◌, ◌%◌, ◌^◌, ◌<◌, ◌≤◌, Option, Some, Bool, true}
+use Rattle.std.proofs.Common.{false, refl, arith, ℤ, pos, negsuc}
 use Rattle.std.specs.Prelude.{◌*ℤ◌, neg_ℤ, unsigned_abs, int_div, int_rem, int_lt, nat_eq, nat_lt, if◌then◌else◌}
 use Rattle.std.specs.Int.{cast_unsigned, int_shr, w32, w64}
 use mir.Val.{sel}
@@ -8,7 +9,10 @@ use Rattle.std.proofs.lemmas.Bool.{ltb-true, ltb-false}
 use Rattle.std.proofs.lemmas.Int.{unsigned_abs-mul}
 use Rattle.std.proofs.lemmas.Nat.{and_le_l, div_below, mod_below, mul-le, mul-lt, or_of_32, xor_of_32}
 use Rattle.tomex_rvdec.specs.declared.op.Op.{Op}
-use Rattle.tomex_rvdec.specs.declared.op.Op.TheVariants.{Lui, Auipc, Jal, Jalr, Lb, Lh, Lw, Lbu, Lhu, Addi, Slti, Sltiu, Xori, Ori, Andi, Slli, Srli, Srai, Add, Sub, Sll, Slt, Sltu, Xor, Srl, Sra, Or, And, Mul, Mulh, Mulhsu, Mulhu, Div, Divu, Rem, Remu}
+use Rattle.tomex_rvdec.specs.declared.op.Op.TheVariants.{Lui, Auipc, Jal, Jalr, Lb, Lh, Lw, Lbu, Lhu, Addi, Slti, Sltiu}
+use Rattle.tomex_rvdec.specs.declared.op.Op.TheVariants.{Xori, Ori, Andi, Slli, Srli, Srai, Add, Sub, Sll, Slt, Sltu}
+use Rattle.tomex_rvdec.specs.declared.op.Op.TheVariants.{Xor, Srl, Sra, Or, And, Mul, Mulh, Mulhsu, Mulhu, Div, Divu}
+use Rattle.tomex_rvdec.specs.declared.op.Op.TheVariants.{Rem, Remu}
 use Rattle.tomex_rvdec.specs.declared.op.Form.{Form}
 use Rattle.tomex_rvdec.specs.declared.op.Form.TheVariants as forms
 use Rattle.tomex_rvdec.specs.declared.pool.PoolId.{PoolId}
@@ -66,10 +70,13 @@ test_word true m n h k = h refl
 test_word false m n h k = k refl
 
 quotient_word : (a b : ℕ) → a < 2 ^ 32 → quotient a b < 2 ^ 32
-quotient_word a b h = test_word (nat_eq b 0) (2 ^ 32 - 1) (cast_unsigned w32 (int_div (signed a) (signed b))) (λ e. omega arith) (λ e. word_of (int_div (signed a) (signed b)) (omega (arith, quotient_abs (signed a) (signed b), signed_abs a h)))
+quotient_word a b h = test_word (nat_eq b 0) (2 ^ 32 - 1) (cast_unsigned w32 (int_div (signed a) (signed b)))
+    (λ e. omega arith) (λ e. word_of (int_div (signed a) (signed b))
+    (omega (arith, quotient_abs (signed a) (signed b), signed_abs a h)))
 
 remainder_word : (a b : ℕ) → a < 2 ^ 32 → remainder a b < 2 ^ 32
-remainder_word a b h = test_word (nat_eq b 0) a (cast_unsigned w32 (int_rem (signed a) (signed b))) (λ e. h) (λ e. word_of (int_rem (signed a) (signed b)) (omega (arith, remainder_abs (signed a) (signed b), signed_abs a h)))
+remainder_word a b h = test_word (nat_eq b 0) a (cast_unsigned w32 (int_rem (signed a) (signed b))) (λ e. h)
+    (λ e. word_of (int_rem (signed a) (signed b)) (omega (arith, remainder_abs (signed a) (signed b), signed_abs a h)))
 
 sum_word : (a b : ℕ) → sum a b < 2 ^ 32
 sum_word a b = omega arith
@@ -88,8 +95,10 @@ alu_word Xor a b h k = xor_of_32 a b h k
 alu_word Xori a b h k = xor_of_32 a b h k
 alu_word Srl a b h k = omega (arith, div-le_self a (2 ^ (b % 32)))
 alu_word Srli a b h k = omega (arith, div-le_self a (2 ^ (b % 32)))
-alu_word Sra a b h k = word_of (int_shr (signed a) (b % 32)) (omega (arith, shifted_abs (signed a) (b % 32), signed_abs a h))
-alu_word Srai a b h k = word_of (int_shr (signed a) (b % 32)) (omega (arith, shifted_abs (signed a) (b % 32), signed_abs a h))
+alu_word Sra a b h k = word_of (int_shr (signed a) (b % 32))
+    (omega (arith, shifted_abs (signed a) (b % 32), signed_abs a h))
+alu_word Srai a b h k = word_of (int_shr (signed a) (b % 32))
+    (omega (arith, shifted_abs (signed a) (b % 32), signed_abs a h))
 alu_word Or a b h k = or_of_32 a b h k
 alu_word Ori a b h k = or_of_32 a b h k
 alu_word And a b h k = omega (arith, and_le_l a b)
@@ -98,11 +107,24 @@ alu_word op a b h k = omega arith
 
 muldiv_word : (op : Op) (a b : ℕ) → a < 2 ^ 32 → b < 2 ^ 32 → muldiv_of op a b < 2 ^ 32
 muldiv_word Mul a b h k = mod_below (a * b) (2 ^ 32) (omega arith)
-muldiv_word Mulh a b h k = high_word (signed a *ℤ signed b) (omega (arith, unsigned_abs-mul (signed a) (signed b), mul-le (unsigned_abs (signed a)) (unsigned_abs (signed b)) (2 ^ 31) (2 ^ 31) (signed_abs a h) (signed_abs b k)))
-muldiv_word Mulhsu a b h k = high_word (signed a *ℤ pos b) (omega (arith, unsigned_abs-mul (signed a) (pos b), mul-le (unsigned_abs (signed a)) b (2 ^ 31) (2 ^ 32) (signed_abs a h) (omega arith)))
+muldiv_word Mulh a b h k = high_word (signed a *ℤ signed b)
+    (omega (
+      arith,
+      unsigned_abs-mul (signed a) (signed b),
+      mul-le (unsigned_abs (signed a)) (unsigned_abs (signed b))
+          (2 ^ 31) (2 ^ 31) (signed_abs a h) (signed_abs b k),
+    ))
+muldiv_word Mulhsu a b h k = high_word (signed a *ℤ pos b)
+    (omega (
+      arith,
+      unsigned_abs-mul (signed a) (pos b),
+      mul-le (unsigned_abs (signed a)) b (2 ^ 31) (2 ^ 32)
+          (signed_abs a h) (omega arith),
+    ))
 muldiv_word Mulhu a b h k = div_below (a * b) (2 ^ 32) (2 ^ 32) (omega arith) (mul-lt a b (2 ^ 32) (2 ^ 32) h k)
 muldiv_word Div a b h k = quotient_word a b h
-muldiv_word Divu a b h k = test_word (nat_eq b 0) (2 ^ 32 - 1) (a / b) (λ e. omega arith) (λ e. omega (arith, div-le_self a b))
+muldiv_word Divu a b h k = test_word (nat_eq b 0) (2 ^ 32 - 1) (a / b) (λ e. omega arith)
+    (λ e. omega (arith, div-le_self a b))
 muldiv_word Rem a b h k = remainder_word a b h
 muldiv_word Remu a b h k = test_word (nat_eq b 0) a (a % b) (λ e. h) (λ e. omega (arith, mod-le a b))
 muldiv_word op a b h k = omega arith
@@ -131,14 +153,17 @@ second_word : (f : Form) (x : Step) → Operands x → second_at f x < 2 ^ 32
 second_word forms.Register x h = h.vk
 second_word f x h = h.imm
 
-computed_word : (pool : Option PoolId) (op : Op) (x : Step) (byte : ℕ → ℕ) → Operands x → ((a : ℕ) → byte a < 256) → computed pool op x byte < 2 ^ 32
-computed_word (Some pools.Alu) op x byte h b = alu_word op x.vj (second_at (form_of op) x) h.vj (second_word (form_of op) x h)
+computed_word : (pool : Option PoolId) (op : Op) (x : Step) (byte : ℕ → ℕ) → Operands x → ((a : ℕ) → byte a < 256)
+    → computed pool op x byte < 2 ^ 32
+computed_word (Some pools.Alu) op x byte h b =
+    alu_word op x.vj (second_at (form_of op) x) h.vj (second_word (form_of op) x h)
 computed_word (Some pools.Mul) op x byte h b = muldiv_word op x.vj x.vk h.vj h.vk
 computed_word (Some pools.Div) op x byte h b = muldiv_word op x.vj x.vk h.vj h.vk
 computed_word (Some pools.Load) op x byte h b = loaded_word op byte (address_of x) b
 computed_word pool op x byte h b = omega arith
 
-pub result_word : (op : Op) (x : Step) (byte : ℕ → ℕ) → Operands x → ((a : ℕ) → byte a < 256) → result_at op x byte < 2 ^ 32
+pub result_word : (op : Op) (x : Step) (byte : ℕ → ℕ) → Operands x → ((a : ℕ) → byte a < 256)
+    → result_at op x byte < 2 ^ 32
 result_word Lui x byte h b = h.imm
 result_word Auipc x byte h b = sum_word x.pc x.instr.imm
 result_word Jal x byte h b = sum_word x.pc 4
@@ -148,4 +173,5 @@ result_word op x byte h b = computed_word (pool_of op) op x byte h b
 pub next_word : (op : Op) (x : Step) → next_at op x < 2 ^ 32
 next_word Jal x = sum_word x.pc x.instr.imm
 next_word Jalr x = omega (arith, sum_word x.vj x.instr.imm)
-next_word op x = test_word (is_taken op x.vj x.vk) (sum x.pc x.instr.imm) (sum x.pc 4) (λ e. sum_word x.pc x.instr.imm) (λ e. sum_word x.pc 4)
+next_word op x = test_word (is_taken op x.vj x.vk) (sum x.pc x.instr.imm) (sum x.pc 4) (λ e. sum_word x.pc x.instr.imm)
+    (λ e. sum_word x.pc 4)

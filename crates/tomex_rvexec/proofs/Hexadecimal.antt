@@ -1,5 +1,6 @@
 -- What the formatter pads to so many hexadecimal digits are the number's last so many.
-use Rattle.std.proofs.Common.{◌≡◌, ◌≢◌, ℕ, zero, suc, ◌+◌, ◌-◌, ◌/◌, ◌%◌, ◌^◌, ◌<◌, ◌≤◌, true, false, ◌==◌, List, [], ◌∷◌, ◌++◌, length, replicate, inl, inr, arith, refl, ap, sym, ◌∙◌, append_assoc}
+use Rattle.std.proofs.Common.{◌≡◌, ◌≢◌, ℕ, zero, suc, ◌+◌, ◌-◌, ◌/◌, ◌%◌, ◌^◌, ◌<◌, ◌≤◌, true, false, ◌==◌, List, []}
+use Rattle.std.proofs.Common.{◌∷◌, ◌++◌, length, replicate, inl, inr, arith, refl, ap, sym, ◌∙◌, append_assoc}
 use Rattle.std.proofs.lemmas.Bool.{cases_eq, ne_eqb}
 use Rattle.std.proofs.lemmas.List.{append-nil, length_push, replicate_more}
 use Rattle.std.specs.Fmt.{char_count, digit_glyph, digits, digits_onto, format_spec, padded_integral}
@@ -14,7 +15,8 @@ record IsPadded (k n : ℕ) (acc text : List ℕ) : Type 0 where
 
 zeros : (k : ℕ) → last_digits k 0 ≡ replicate k 48
 zeros zero = refl
-zeros (suc k) = let one : k + 1 ≡ suc k = omega arith in ap (λ ds. ds ++ 48 ∷ []) (zeros k) ∙ replicate_more k 48 ∙ ap (λ n. replicate n 48) one
+zeros (suc k) = let one : k + 1 ≡ suc k = omega arith in
+    ap (λ ds. ds ++ 48 ∷ []) (zeros k) ∙ replicate_more k 48 ∙ ap (λ n. replicate n 48) one
 
 -- one digit that counts
 last : (k f n : ℕ) (acc : List ℕ) → n / 16 ≡ 0 → IsPadded (suc k) n acc (digits_onto (suc f) 16 false n acc)
@@ -25,11 +27,15 @@ last k f n acc none =
       shown = digit_glyph false (n % 16) ∷ [];
       is = rw test refl;
       short = omega arith;
-      padded = rw rest (ap (λ ds. ds ++ digit_glyph false (n % 16) ∷ []) (sym (zeros k) ∙ ap (last_digits k) (sym none)));
+      padded = rw rest (ap (λ ds. ds ++ digit_glyph false (n % 16) ∷ [])
+          (sym (zeros k) ∙ ap (last_digits k) (sym none)));
     }
 
 -- one digit behind others that count
-further : (k f n : ℕ) (acc : List ℕ) → n / 16 ≢ 0 → IsPadded k (n / 16) (digit_glyph false (n % 16) ∷ acc) (digits_onto f 16 false (n / 16) (digit_glyph false (n % 16) ∷ acc)) → IsPadded (suc k) n acc (digits_onto (suc f) 16 false n acc)
+further : (k f n : ℕ) (acc : List ℕ) → n / 16 ≢ 0
+    → IsPadded k (n / 16) (digit_glyph false (n % 16) ∷ acc)
+    (digits_onto f 16 false (n / 16) (digit_glyph false (n % 16) ∷ acc))
+    → IsPadded (suc k) n acc (digits_onto (suc f) 16 false n acc)
 further k f n acc some older =
     let test : (n / 16 == 0) ≡ false = ne_eqb (n / 16) 0 some in
     let count = length_push older.shown (digit_glyph false (n % 16)) in
@@ -38,7 +44,8 @@ further k f n acc some older =
       shown = older.shown ++ digit_glyph false (n % 16) ∷ [];
       is = rw test (older.is ∙ sym (append_assoc older.shown (digit_glyph false (n % 16) ∷ []) acc));
       short = omega (arith, count, older.short);
-      padded = rw (count, rest) (sym (append_assoc (replicate (k - length older.shown) 48) older.shown (digit_glyph false (n % 16) ∷ [])) ∙ ap (λ ds. ds ++ digit_glyph false (n % 16) ∷ []) older.padded);
+      padded = rw (count, rest) (sym (append_assoc (replicate (k - length older.shown) 48) older.shown
+          (digit_glyph false (n % 16) ∷ [])) ∙ ap (λ ds. ds ++ digit_glyph false (n % 16) ∷ []) older.padded);
     }
 
 -- as many digits as there is room for
@@ -49,11 +56,13 @@ padded_to (suc k) (suc f) n acc small room =
     let below : n / 16 < 16 ^ suc k = omega (arith, small) in
     elim (cases_eq (n / 16) 0) [
       | inl none ↦ last (suc k) f n acc none
-      | inr some ↦ further (suc k) f n acc some (padded_to k f (n / 16) (digit_glyph false (n % 16) ∷ acc) below (omega (arith, room)))
+      | inr some ↦ further (suc k) f n acc some
+          (padded_to k f (n / 16) (digit_glyph false (n % 16) ∷ acc) below (omega (arith, room)))
     ]
 
 -- the digits, padded with zeros to their width
-padded_digits : (k n : ℕ) → n < 16 ^ suc k → k < 64 → padded_integral (format_spec 32 0 4 (suc k) (2 ^ 64 - 1)) false [] (digits 16 false n) ≡ last_digits (suc k) n
+padded_digits : (k n : ℕ) → n < 16 ^ suc k → k < 64 → padded_integral (format_spec 32 0 4 (suc k) (2 ^ 64 - 1)) false []
+    (digits 16 false n) ≡ last_digits (suc k) n
 unfolding padded_integral char_count digits
 padded_digits k n small room =
     let p = padded_to k 64 n [] small room in

@@ -24,7 +24,11 @@ joined (w ∷ ws) = bytes_of w ++ joined ws
 
 -- a window of 64 bytes
 abbrev pub image_at : ℕ → List ℕ → Loaded
-image_at base ws = record { window = record { base = base; size = 64 }; memory = joined ws ++ replicate (64 - length (joined ws)) 0; entry = base }
+image_at base ws = record {
+  window = record { base = base; size = 64 };
+  memory = joined ws ++ replicate (64 - length (joined ws)) 0;
+  entry = base;
+}
 
 pub data Kind : Type 0 where
   ended : EndKind → Kind
@@ -41,7 +45,15 @@ pub record Last : Type 0 where
   pub m8 : ℕ
 
 abbrev pub last_of : Kind → ℕ → State → Last
-last_of k n s = record { kind = k; pc = s.pc; steps = n; x1 = slice_index s.regs 1; x2 = slice_index s.regs 2; x3 = slice_index s.regs 3; m8 = slice_index s.memory 8 }
+last_of k n s = record {
+  kind = k;
+  pc = s.pc;
+  steps = n;
+  x1 = slice_index s.regs 1;
+  x2 = slice_index s.regs 2;
+  x3 = slice_index s.regs 3;
+  m8 = slice_index s.memory 8;
+}
 
 abbrev pub on : Outcome → ℕ → State → (State → Last) → Last
 on (Goes t) n s next = next t
@@ -55,11 +67,13 @@ run_of (suc limit) n s = on (step_of s) n s (run_of limit (n + 1))
 abbrev pub seen : Kind → ℕ → ℕ → ℕ → ℕ → ℕ → ℕ → Last
 seen k pc n a b c m = record { kind = k; pc = pc; steps = n; x1 = a; x2 = b; x3 = c; m8 = m }
 
-pub row1 : run_of 4 0 (start_of (image_at 0 (0x00500093 ∷ 0x00700113 ∷ 0x022081b3 ∷ 0x00100073 ∷ []))) ≡ seen (ended ends.Ebreak) 12 4 5 7 35 0xb3
+pub row1 : run_of 4 0 (start_of (image_at 0 (0x00500093 ∷ 0x00700113 ∷ 0x022081b3 ∷ 0x00100073 ∷ [])))
+    ≡ seen (ended ends.Ebreak) 12 4 5 7 35 0xb3
 unfolding selected step_of
 row1 = refl
 
-pub row1_long : run_of 3 0 (start_of (image_at 0 (0x00500093 ∷ 0x00700113 ∷ 0x022081b3 ∷ 0x00100073 ∷ []))) ≡ seen going 12 3 5 7 35 0xb3
+pub row1_long : run_of 3 0 (start_of (image_at 0 (0x00500093 ∷ 0x00700113 ∷ 0x022081b3 ∷ 0x00100073 ∷ [])))
+    ≡ seen going 12 3 5 7 35 0xb3
 unfolding selected step_of
 row1_long = refl
 
@@ -73,20 +87,24 @@ unfolding selected step_of
 row11b = refl
 
 -- sw x0,8(x0); addi x1,x0,1; addi x3,x0,9; ebreak
-pub row12 : run_of 9 0 (start_of (image_at 0 (0x00002423 ∷ 0x00100093 ∷ 0x00900193 ∷ 0x00100073 ∷ []))) ≡ seen (ended ends.Ebreak) 12 4 1 64 9 0
+pub row12 : run_of 9 0 (start_of (image_at 0 (0x00002423 ∷ 0x00100093 ∷ 0x00900193 ∷ 0x00100073 ∷ [])))
+    ≡ seen (ended ends.Ebreak) 12 4 1 64 9 0
 unfolding selected step_of
 row12 = refl
 
 -- lw x1,-2(x0) and lw x0,-2(x0) at the top of the addresses; lw x1,-4(x0)
-pub top : run_of 9 0 (start_of (image_at 4294967232 (0xffe02083 ∷ 0x00100073 ∷ []))) ≡ seen (faulted Access) 4294967232 1 0 0 0 0
+pub top : run_of 9 0 (start_of (image_at 4294967232 (0xffe02083 ∷ 0x00100073 ∷ []))) ≡ seen (faulted Access) 4294967232
+    1 0 0 0 0
 unfolding selected step_of
 top = refl
 
-pub top0 : run_of 9 0 (start_of (image_at 4294967232 (0xffe02003 ∷ 0x00100073 ∷ []))) ≡ seen (faulted Access) 4294967232 1 0 0 0 0
+pub top0 : run_of 9 0 (start_of (image_at 4294967232 (0xffe02003 ∷ 0x00100073 ∷ []))) ≡ seen (faulted Access) 4294967232
+    1 0 0 0 0
 unfolding selected step_of
 top0 = refl
 
-pub top4 : run_of 9 0 (start_of (image_at 4294967232 (0xffc02083 ∷ 0x00100073 ∷ []))) ≡ seen (ended ends.Ebreak) 4294967236 2 0 0 0 0
+pub top4 : run_of 9 0 (start_of (image_at 4294967232 (0xffc02083 ∷ 0x00100073 ∷ []))) ≡ seen (ended ends.Ebreak)
+    4294967236 2 0 0 0 0
 unfolding selected step_of
 top4 = refl
 

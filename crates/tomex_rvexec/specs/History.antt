@@ -1,7 +1,7 @@
 -- A run as the history of its steps, and the values that a history leaves: each register has the
 -- result of the youngest step that writes it, each byte of memory what the youngest store on it left.
-use Rattle.std.specs.Prelude.{◌≡◌, ℕ, zero, suc, ◌-◌, ◌<◌, ◌≤◌, ⊤, IsTrue, List}
-use Rattle.std.specs.Prelude.{[], ◌∷◌, Option, Some, if◌then◌else◌, slice_index}
+use Rattle.std.specs.Prelude.{◌≡◌, ℕ, zero, suc, ◌+◌, ◌-◌, ◌<◌, ◌≤◌, ⊤, IsTrue, List}
+use Rattle.std.specs.Prelude.{[], ◌∷◌, Option, Some, if◌then◌else◌, length, slice_index}
 use Rattle.tomex_image.specs.Image.{Loaded}
 use Rattle.tomex_rvdec.specs.Meaning.{meaning}
 use Rattle.tomex_rvexec.specs.declared.step.Step.{Step}
@@ -54,6 +54,12 @@ pub record Leaves (i : Loaded) (steps : List Step) (s : State) : Type 0 where
   pub pc : s.pc ≡ pc_after i steps
   pub registers : (r : ℕ) → r < 32 → slice_index s.regs r ≡ register_after i steps r
   pub bytes : (a : ℕ) → i.window.base ≤ a → byte_in (memory_of s) a ≡ byte_after i steps a
+
+-- these are the bytes of memory after these steps
+pub record HasBytesAfter (i : Loaded) (steps : List Step) (bytes : List ℕ) : Type 0 where
+  pub count : length bytes ≡ i.window.size
+  pub each : (a : ℕ) → i.window.base ≤ a → a < i.window.base + i.window.size
+      → byte_in (record { base = i.window.base; bytes = bytes }) a ≡ byte_after i steps a
 
 -- the step x comes after these: it is the instruction of the image's word at the pc, and each of its
 -- operands is the result of the youngest older step that writes the register

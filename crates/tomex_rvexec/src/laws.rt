@@ -13,9 +13,9 @@ ghost use Rattle.tomex_rvexec.specs.declared.outcome.EndKind.{EndKind};
 ghost use Rattle.tomex_rvexec.specs.declared.outcome.FaultKind.{FaultKind};
 ghost use Rattle.tomex_rvexec.specs.declared.step.Step.{Step};
 ghost use Rattle.tomex_rvexec.specs.Fetch.{instruction_at};
-ghost use Rattle.tomex_rvexec.specs.Flow.{Changes, HasWords, IsAllowed, IsState, byte_in, covers};
+ghost use Rattle.tomex_rvexec.specs.Flow.{Changes, HasWords, IsAllowed, IsState, covers};
 ghost use Rattle.tomex_rvexec.specs.Flow.{end_of, overwrites, result_of, stored_byte};
-ghost use Rattle.tomex_rvexec.specs.History.{Follows, IsFlow, Leaves, byte_after, history, pc_after};
+ghost use Rattle.tomex_rvexec.specs.History.{Follows, HasBytesAfter, IsFlow, Leaves, byte_after, history, pc_after};
 ghost use Rattle.tomex_rvexec.specs.History.{register_after, state_after, step_after};
 ghost use Rattle.tomex_rvexec.specs.Machine.{State, Ends, Goes, coming_of, step_of};
 ghost use Rattle.tomex_rvexec.specs.Run.{EndsWithin, Leads, RunEnds, RunFaults, start_of};
@@ -105,10 +105,7 @@ pub fn history_leaves_one_state()
         → Leaves i steps s → IsState s → length regs ≡ 32
         → ((r : ℕ) → r < 32 → slice_index regs r ≡ register_after i steps r) → regs ≡ s.regs }
     ensures memory { (i : Loaded) (steps : List Step) (s : State) (bytes : List ℕ)
-        → Leaves i steps s → IsState s → length bytes ≡ i.window.size
-        → ((a : ℕ) → i.window.base ≤ a → a < i.window.base + i.window.size
-        → byte_in (record { base = i.window.base; bytes = bytes }) a ≡ byte_after i steps a)
-        → bytes ≡ s.memory }
+        → Leaves i steps s → IsState s → HasBytesAfter i steps bytes → bytes ≡ s.memory }
     ensures zero { (i : Loaded) (steps : List Step) → register_after i steps 0 ≡ 0 }
     ensures j { (i : Loaded) (older : List Step) (x : Step)
         → Follows i older x → IsSome (step_pool x) → j_of x ≡ None → x.vj ≡ 0 }
@@ -126,7 +123,6 @@ pub fn history_determines_the_next_step()
 
 /// A run has one state after so many steps, and a run that leads to one leads to each before it;
 /// its list of steps is its history, the oldest first.
-#[tactic(auto, using(crate::proofs::FlowEnds::leads_once, crate::proofs::FlowEnds::leads_is, crate::proofs::FlowEnds::leads_before, crate::proofs::FlowEnds::steps_are,))]
 pub fn run_has_one_state_a_step()
     ensures once { (k : ℕ) (old s t : State) → Leads old k s → Leads old k t → s ≡ t }
     ensures after { (i : Loaded) (k : ℕ) (s : State) → Leads (start_of i) k s
@@ -138,7 +134,6 @@ pub fn run_has_one_state_a_step()
 {}
 
 /// Two ends of one run are one, so are two faults, and no run both ends and faults.
-#[tactic(auto, using(crate::proofs::FlowEnds::one_end, crate::proofs::FlowEnds::one_fault, crate::proofs::FlowEnds::no_end_and_fault,))]
 pub fn run_has_one_end()
     ensures end { (i : Loaded) (k j : ℕ) (s t : State) (kind other : EndKind)
         → RunEnds i k s kind → RunEnds i j t other → (k ≡ j) × (s ≡ t) × (kind ≡ other) }
@@ -150,7 +145,6 @@ pub fn run_has_one_end()
 
 /// A run that ends within a limit ends within a higher one, by the same list of steps: its history
 /// to the end, the oldest first.
-#[tactic(auto, using(crate::proofs::FlowEnds::ends_within_more, crate::proofs::FlowEnds::same_steps, crate::proofs::FlowEnds::steps_to_end,))]
 pub fn limit_changes_no_run_that_ends()
     ensures more { (i : Loaded) (limit more : ℕ) → limit ≤ more → EndsWithin i limit
         → EndsWithin i more }

@@ -90,7 +90,7 @@ pub fn result_in<A: Allocator>(pool: PoolId, step: &Step, memory: &Memory<A>) ->
                 Op::Sh => 2,
                 _ => 4,
             };
-            let _place = memory.place(step.vj.wrapping_add(step.instr.imm()), size)?;
+            memory.place(step.vj.wrapping_add(step.instr.imm()), size)?;
             Some(0)
         }
         PoolId::Bru => match op {
@@ -111,13 +111,13 @@ pub fn store<A: Allocator>(step: &Step, memory: &mut Memory<A>)
     let address = step.vj.wrapping_add(step.instr.imm());
     match step.instr.op() {
         Op::Sb => {
-            let _inside = memory.store_byte(address, step.vk);
+            memory.store_byte(address, step.vk);
         }
         Op::Sh => {
-            let _inside = memory.store_half(address, step.vk);
+            memory.store_half(address, step.vk);
         }
         Op::Sw => {
-            let _inside = memory.store_word(address, step.vk);
+            memory.store_word(address, step.vk);
         }
         _ => {}
     }

@@ -1,5 +1,6 @@
 -- Bits of a number as members of a set.
-use Rattle.std.proofs.Common.{ℕ, zero, suc, ◌-◌, ◌+◌, ◌/◌, ◌%◌, ◌^◌, Bool, true, false, ◌≡◌, ◌≤◌, ◌<◌, arith, inl, inr, ap, refl, sym, ◌∙◌}
+use Rattle.std.proofs.Common.{ℕ, zero, suc, ◌-◌, ◌+◌, ◌/◌, ◌%◌, ◌^◌, Bool, true, false, ◌≡◌, ◌≤◌, ◌<◌, arith, inl, inr}
+use Rattle.std.proofs.Common.{ap, refl, sym, ◌∙◌}
 use Rattle.std.specs.Prelude.{◌==◌, ◌&&◌, ◌||◌, ◌≢◌, not, max, min}
 use Rattle.std.specs.Int.{w64, bit_at, bit_not}
 use Rattle.std.specs.Int.Bits.{bit_and}
@@ -70,10 +71,13 @@ lost_less_one n zero one none =
 lost_less_one n (suc k) one none =
     let even : n % 2 ≡ 0 = sym (bit_at_lowest n) ∙ none 0 (omega arith) in
     let half : (n - 1) / 2 ≡ n / 2 - 1 = omega arith in
-    bit_at-suc (n - 1) k ∙ (ap (λ m. bit_at m k) half ∙ lost_less_one (n / 2) k (sym (bit_at-suc n k) ∙ one) (λ j l. sym (bit_at-suc n j) ∙ none (suc j) (omega arith)))
+    bit_at-suc (n - 1) k ∙ (ap (λ m. bit_at m k) half
+    ∙ lost_less_one (n / 2) k (sym (bit_at-suc n k) ∙ one) (λ j l. sym (bit_at-suc n j)
+    ∙ none (suc j) (omega arith)))
 
 -- and those above as before
-kept_less_one : (n k i : ℕ) → bit_at n k ≡ 1 → ((j : ℕ) → j < k → bit_at n j ≡ 0) → k < i → bit_at (n - 1) i ≡ bit_at n i
+kept_less_one : (n k i : ℕ) → bit_at n k ≡ 1 → ((j : ℕ) → j < k → bit_at n j ≡ 0) → k < i
+    → bit_at (n - 1) i ≡ bit_at n i
 kept_less_one n k zero one none l = absurd (omega arith)
 kept_less_one n zero (suc i) one none l =
     let odd : n % 2 ≡ 1 = sym (bit_at_lowest n) ∙ one in
@@ -82,7 +86,9 @@ kept_less_one n zero (suc i) one none l =
 kept_less_one n (suc k) (suc i) one none l =
     let even : n % 2 ≡ 0 = sym (bit_at_lowest n) ∙ none 0 (omega arith) in
     let half : (n - 1) / 2 ≡ n / 2 - 1 = omega arith in
-    bit_at-suc (n - 1) i ∙ (ap (λ m. bit_at m i) half ∙ (kept_less_one (n / 2) k i (sym (bit_at-suc n k) ∙ one) (λ j m. sym (bit_at-suc n j) ∙ none (suc j) (omega arith)) (omega arith) ∙ sym (bit_at-suc n i)))
+    bit_at-suc (n - 1) i ∙ (ap (λ m. bit_at m i) half
+    ∙ (kept_less_one (n / 2) k i (sym (bit_at-suc n k) ∙ one) (λ j m. sym (bit_at-suc n j)
+    ∙ none (suc j) (omega arith)) (omega arith) ∙ sym (bit_at-suc n i)))
 
 min_none : (a b : ℕ) → b ≡ 0 → min a b ≡ 0
 min_none a b e = omega arith
@@ -94,12 +100,14 @@ min_same : (a b : ℕ) → b ≡ a → min a b ≡ a
 min_same a b e = omega arith
 
 -- a set and the number before its own
-pub lowest_out : (set x : ℕ) → has set x ≡ true → ((i : ℕ) → i < x → has set i ≡ false) → IsWithout set x (bit_and set (set - 1))
+pub lowest_out : (set x : ℕ) → has set x ≡ true → ((i : ℕ) → i < x → has set i ≡ false)
+    → IsWithout set x (bit_and set (set - 1))
 lowest_out set x member least =
     let one : bit_at set x ≡ 1 = bit_of set x member in
     let none = λ (j : ℕ) (l : j < x). no_bit_of set j (least j l) in
     record {
-      same = has_none (bit_and set (set - 1)) x (bit_at_and set (set - 1) x ∙ min_none (bit_at set x) (bit_at (set - 1) x) (lost_less_one set x one none));
+      same = has_none (bit_and set (set - 1)) x (bit_at_and set (set - 1) x
+          ∙ min_none (bit_at set x) (bit_at (set - 1) x) (lost_less_one set x one none));
       others = λ y l apart. ap (λ b. b == 1) (bit_at_and set (set - 1) y ∙ elim (cases_order y x) [
         | inl e ↦ absurd (apart e)
         | inr (inl less) ↦ none_min (bit_at set y) (bit_at (set - 1) y) (none y less)
@@ -140,7 +148,8 @@ pub cut : (n k i : ℕ) → i < k → has (n % 2 ^ k) i ≡ has n i
 cut n k i l =
     let parts : (k - i) + i ≡ k = omega arith in
     let one : (k - i - 1) + 1 ≡ k - i = omega arith in
-    ap (λ m. m % 2 == 1) (ap (λ j. n % 2 ^ j / 2 ^ i) (sym parts) ∙ field_of n (k - i) i) ∙ ap (λ b. b == 1) (ap (λ j. n / 2 ^ i % 2 ^ j % 2 ^ 1) (sym one) ∙ mod-mod-pow (n / 2 ^ i) (k - i - 1) 1)
+    ap (λ m. m % 2 == 1) (ap (λ j. n % 2 ^ j / 2 ^ i) (sym parts) ∙ field_of n (k - i) i)
+    ∙ ap (λ b. b == 1) (ap (λ j. n / 2 ^ i % 2 ^ j % 2 ^ 1) (sym one) ∙ mod-mod-pow (n / 2 ^ i) (k - i - 1) 1)
 
 not_of : (b : ℕ) → b < 2 → (1 - b == 1) ≡ not (b == 1)
 not_of zero l = refl

@@ -33,12 +33,14 @@ count_one f g x (suc n) l off on others = elim (cases_order x n) [
   | inl e ↦
       let here : f n ≡ false = ap f (sym e) ∙ off in
       let there : g n ≡ true = ap g (sym e) ∙ on in
-      let before : count_below g n ≡ count_below f n = count_same g f n (λ y k. others y (omega arith) (λ z. absurd (omega arith))) in
+      let before : count_below g n ≡ count_below f n =
+      count_same g f n (λ y k. others y (omega arith) (λ z. absurd (omega arith))) in
       let old : count_below f (suc n) ≡ count_below f n = count_suc f n ∙ rw here (omega arith) in
       let new : count_below g (suc n) ≡ 1 + count_below g n = count_suc g n ∙ rw there refl in
       omega arith
   | inr (inl less) ↦
-      let before : count_below g n ≡ count_below f n + 1 = count_one f g x n less off on (λ y k. others y (omega arith)) in
+      let before : count_below g n ≡ count_below f n + 1 =
+      count_one f g x n less off on (λ y k. others y (omega arith)) in
       let same : g n ≡ f n = others n (omega arith) (λ z. absurd (omega arith)) in
       let new : count_below g (suc n) ≡ (if f n then 1 else 0) + count_below g n = count_suc g n ∙ rw same refl in
       let old : count_below f (suc n) ≡ (if f n then 1 else 0) + count_below f n = count_suc f n in
@@ -47,7 +49,8 @@ count_one f g x (suc n) l off on others = elim (cases_order x n) [
 ]
 
 -- a test that passes no two counts at most one
-pub count_single : (f : ℕ → Bool) (n : ℕ) → ((a b : ℕ) → a < n → b < n → f a ≡ true → f b ≡ true → a ≡ b) → count_below f n ≤ 1
+pub count_single : (f : ℕ → Bool) (n : ℕ) → ((a b : ℕ) → a < n → b < n → f a ≡ true → f b ≡ true → a ≡ b)
+    → count_below f n ≤ 1
 count_single f zero single = let e : count_below f 0 ≡ 0 = count_zero f in omega arith
 count_single f (suc n) single = elim (cases_Bool (f n)) [
   | inl on ↦
@@ -70,4 +73,5 @@ pub size_with : (set x new : ℕ) → x < 128 → has set x ≡ false → IsWith
 size_with set x new l off with = count_one (has set) (has new) x 128 l off with.same (λ y k. with.others y)
 
 pub size_without : (set x new : ℕ) → x < 128 → has set x ≡ true → IsWithout set x new → size_of set ≡ size_of new + 1
-size_without set x new l on without = count_one (has new) (has set) x 128 l without.same on (λ y k apart. sym (without.others y k apart))
+size_without set x new l on without =
+    count_one (has new) (has set) x 128 l without.same on (λ y k apart. sym (without.others y k apart))

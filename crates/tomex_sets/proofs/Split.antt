@@ -1,5 +1,6 @@
 -- A set of numbers below 128 by its two halves.
-use Rattle.std.proofs.Common.{ℕ, ◌+◌, ◌-◌, ◌*◌, ◌/◌, ◌%◌, ◌^◌, true, false, ◌≡◌, ◌≤◌, ◌<◌, ◌∙◌, arith, inl, inr, ap, sym}
+use Rattle.std.proofs.Common.{ℕ, ◌+◌, ◌-◌, ◌*◌, ◌/◌, ◌%◌, ◌^◌, true, false, ◌≡◌, ◌≤◌, ◌<◌, ◌∙◌, arith, inl, inr, ap}
+use Rattle.std.proofs.Common.{sym}
 use Rattle.std.specs.Prelude.{nat_lt}
 use Rattle.std.specs.Int.{w64}
 use Rattle.std.proofs.lemmas.Bool.{cases_Bool, both_ways, ltb-true, ltb-false}
@@ -25,7 +26,8 @@ pub far_at : (set lower upper x : ℕ) → AreHalves set lower upper → 64 ≤ 
 far_at set lower upper x halves l = let e : 64 + (x - 64) ≡ x = omega arith in rw e at (halves.far (x - 64))
 
 -- where the lower half has members, the least of all is one of them
-pub least_near : (set lower upper x : ℕ) → AreHalves set lower upper → lower < 2 ^ 64 → 0 < lower → ((i : ℕ) → i < x → has set i ≡ false) → x < 64
+pub least_near : (set lower upper x : ℕ) → AreHalves set lower upper → lower < 2 ^ 64 → 0 < lower
+    → ((i : ℕ) → i < x → has set i ≡ false) → x < 64
 least_near set lower upper x halves fits some least = elim (cases_Bool (nat_lt x 64)) [
   | inl e ↦ ltb-true _ _ e
   | inr e ↦
@@ -51,22 +53,28 @@ least_far set upper x halves member = elim (cases_Bool (nat_lt x 64)) [
 ]
 
 -- the half with the least member loses it, the other stays
-pub near_lost : (set lower upper less new x : ℕ) → AreHalves set lower upper → AreHalves new less upper → x < 64 → IsWithout lower x less → IsWithout set x new
+pub near_lost : (set lower upper less new x : ℕ) → AreHalves set lower upper → AreHalves new less upper → x < 64
+    → IsWithout lower x less → IsWithout set x new
 near_lost set lower upper less new x before after l lost = record {
   same = after.near x l ∙ lost.same;
   others = λ y small apart. elim (cases_Bool (nat_lt y 64)) [
-    | inl e ↦ let low : y < 64 = ltb-true _ _ e in after.near y low ∙ (lost.others y small apart ∙ sym (before.near y low))
-    | inr e ↦ let high : 64 ≤ y = ltb-false _ _ e in far_at new less upper y after high ∙ sym (far_at set lower upper y before high)
+    | inl e ↦ let low : y < 64 = ltb-true _ _ e in
+        after.near y low ∙ (lost.others y small apart ∙ sym (before.near y low))
+    | inr e ↦ let high : 64 ≤ y = ltb-false _ _ e in
+        far_at new less upper y after high ∙ sym (far_at set lower upper y before high)
   ];
 }
 
-pub far_lost : (set lower upper less new x : ℕ) → AreHalves set lower upper → AreHalves new lower less → 64 ≤ x → IsWithout upper (x - 64) less → IsWithout set x new
+pub far_lost : (set lower upper less new x : ℕ) → AreHalves set lower upper → AreHalves new lower less → 64 ≤ x
+    → IsWithout upper (x - 64) less → IsWithout set x new
 far_lost set lower upper less new x before after l lost = record {
   same = far_at new lower less x after l ∙ lost.same;
   others = λ y small apart. elim (cases_Bool (nat_lt y 64)) [
     | inl e ↦ let low : y < 64 = ltb-true _ _ e in after.near y low ∙ sym (before.near y low)
     | inr e ↦
         let high : 64 ≤ y = ltb-false _ _ e in
-        far_at new lower less y after high ∙ (lost.others (y - 64) (omega arith) (λ same. apart (omega arith)) ∙ sym (far_at set lower upper y before high))
+        far_at new lower less y after high
+        ∙ (lost.others (y - 64) (omega arith) (λ same. apart (omega arith))
+        ∙ sym (far_at set lower upper y before high))
   ];
 }

@@ -1,5 +1,6 @@
 -- Bytes that are taken piece by piece.
-use Rattle.std.proofs.Common.{◌≡◌, ◌+◌, ◌-◌, ◌≤◌, ◌∙◌, ap, sym, ℕ, List, ◌++◌, length, take, drop, length-drop, Option, Some, None, arith, append_assoc}
+use Rattle.std.proofs.Common.{◌≡◌, ◌+◌, ◌-◌, ◌≤◌, ◌∙◌, ap, sym, ℕ, List, ◌++◌, length, take, drop, length-drop, Option}
+use Rattle.std.proofs.Common.{Some, None, arith, append_assoc}
 use Rattle.std.proofs.Math.Seq.{take-add}
 use Rattle.std.proofs.lemmas.List.{take_all}
 use Rattle.std.specs.Io.KnownBytes.{Appends}
@@ -11,8 +12,10 @@ take-then_take w k xs =
     rw (take_all (length xs - w) (drop w xs) short) (sym (take-add w k xs))
 
 -- two growths are one
-pub appends_both : (old mid new : Option (List ℕ)) (xs ys zs : List ℕ) → xs ++ ys ≡ zs → Appends old mid xs → Appends mid new ys → Appends old new zs
+pub appends_both : (old mid new : Option (List ℕ)) (xs ys zs : List ℕ) → xs ++ ys ≡ zs → Appends old mid xs
+    → Appends mid new ys → Appends old new zs
 appends_both None mid new xs ys zs e a b = tt
 appends_both (Some bytes) None new xs ys zs e a b = absurd a
 appends_both (Some bytes) (Some more) None xs ys zs e a b = absurd b
-appends_both (Some bytes) (Some more) (Some most) xs ys zs e a b = b ∙ ap (λ t. t ++ ys) a ∙ append_assoc bytes xs ys ∙ ap (λ t. bytes ++ t) e
+appends_both (Some bytes) (Some more) (Some most) xs ys zs e a b = b ∙ ap (λ t. t ++ ys) a ∙ append_assoc bytes xs ys
+    ∙ ap (λ t. bytes ++ t) e

@@ -1,5 +1,6 @@
 -- What a worker does with a row that it has in hand.
-use Rattle.std.proofs.Common.{◌≡◌, ℕ, ◌+◌, ◌-◌, ◌<◌, ◌≤◌, List, [], ◌∷◌, Some, slice_get, length, get_or, cond, ap, refl, sym, ◌∙◌, subst, inl, All, take, arith, eq-eqb}
+use Rattle.std.proofs.Common.{◌≡◌, ℕ, ◌+◌, ◌-◌, ◌<◌, ◌≤◌, List, [], ◌∷◌, Some, slice_get, length, get_or, cond, ap}
+use Rattle.std.proofs.Common.{refl, sym, ◌∙◌, subst, inl, All, take, arith, eq-eqb}
 use Rattle.std.proofs.lemmas.List.{length-map}
 use Rattle.std.proofs.lemmas.List.Elements.{All-more, All-weaker}
 use Rattle.tomex_board.specs.Known.{Known}
@@ -39,26 +40,34 @@ pub record IsRunning (s : DesignSpace) (row : ℕ) (first now : Known) (run : Go
   pub its_row : slice_get s.rows row ≡ Some run.config
 
 -- a look brings the run nearer to the row's cycles, of which no more have come
-pub look_on : (s : DesignSpace) (row : ℕ) (first now : Known) (run new : Going) (p : Stop) (seen : ℕ) → IsRunning s row first now run → p ≡ Look seen → IsNearer run new p
-    → (get_or (cycles_of s) row 0 - new.reached < get_or (cycles_of s) row 0 - run.reached) × (seen ≤ get_or (cycles_of s) row 0)
+pub look_on : (s : DesignSpace) (row : ℕ) (first now : Known) (run new : Going) (p : Stop) (seen : ℕ)
+    → IsRunning s row first now run → p ≡ Look seen → IsNearer run new p
+    → (get_or (cycles_of s) row 0 - new.reached < get_or (cycles_of s) row 0 - run.reached)
+    × (seen ≤ get_or (cycles_of s) row 0)
 look_on s row first now run new p seen is looks up =
     let e : get_or (cycles_of s) row 0 ≡ cycles_on s.programs run.config = cycles_at s row run.config is.its_row in
     let near = look_near run new s.programs run.config p seen is.programs refl looks up in
     subst (λ n. (n - new.reached < n - run.reached) × (seen ≤ n)) (sym e) near
 
 -- a run that is over has the row's cycles
-pub over_on : (s : DesignSpace) (row : ℕ) (first now : Known) (run : Going) (p : Stop) (y : ℕ) → IsRunning s row first now run → p ≡ stop_at run.programs run.config (run.reached + 1024) → p ≡ Over y → y ≡ get_or (cycles_of s) row 0
-over_on s row first now run p y is stop over = over_is run.programs s.programs run.config run.config p run.reached y is.programs refl stop over ∙ sym (cycles_at s row run.config is.its_row)
+pub over_on : (s : DesignSpace) (row : ℕ) (first now : Known) (run : Going) (p : Stop) (y : ℕ)
+    → IsRunning s row first now run → p ≡ stop_at run.programs run.config (run.reached + 1024) → p ≡ Over y
+    → y ≡ get_or (cycles_of s) row 0
+over_on s row first now run p y is stop over =
+    over_is run.programs s.programs run.config run.config p run.reached y is.programs refl stop over
+    ∙ sym (cycles_at s row run.config is.its_row)
 
 pub has_it : (hand : List ℕ) (row : ℕ) → hand ≡ row ∷ [] → Has hand row
 has_it hand row is = subst (λ l. Has l row) (sym is) (inl refl)
 
 -- nothing is left of a hand of one row when that goes
 pub none_in_hand : (hand after : List ℕ) (row : ℕ) → hand ≡ row ∷ [] → after ≡ without row hand → after ≡ []
-none_in_hand hand after row is gone = gone ∙ (ap (without row) is ∙ ap (λ b. cond b [] (row ∷ [])) (eq-eqb row row refl))
+none_in_hand hand after row is gone =
+    gone ∙ (ap (without row) is ∙ ap (λ b. cond b [] (row ∷ [])) (eq-eqb row row refl))
 
 -- there are as many rows as costs
-pub row_there : (s : DesignSpace) (costs cycles : List ℕ) (row : ℕ) → IsStudy s → IsPlanOf s costs cycles → row < length costs → row < length s.rows
+pub row_there : (s : DesignSpace) (costs cycles : List ℕ) (row : ℕ) → IsStudy s → IsPlanOf s costs cycles
+    → row < length costs → row < length s.rows
 row_there s costs cycles row is plan low =
     let long : length s.costs ≡ length s.rows = ap length is.costs ∙ length-map _ _ in
     let same : length s.costs ≡ length costs = ap length plan.its_costs in
@@ -85,8 +94,11 @@ next_running s row first now new run next is seat hand programs same = record {
 }
 
 -- one row more is noted
-pub one_noted : (v w : View) (rows items : List ℕ) (i : ℕ) → items ≡ rows → i < length items → All (KnowsNotOpen v) (take i rows) → Grows v w → KnowsNotOpen w (get_or items i 0) → All (KnowsNotOpen w) (take (i + 1) rows)
+pub one_noted : (v w : View) (rows items : List ℕ) (i : ℕ) → items ≡ rows → i < length items
+    → All (KnowsNotOpen v) (take i rows) → Grows v w → KnowsNotOpen w (get_or items i 0)
+    → All (KnowsNotOpen w) (take (i + 1) rows)
 one_noted v w rows items i same low all grown noted =
     let below : i < length rows = subst (λ (rs : List ℕ). i < length rs) same low in
     let here : KnowsNotOpen w (get_or rows i 0) = subst (λ (rs : List ℕ). KnowsNotOpen w (get_or rs i 0)) same noted in
-    All-more (KnowsNotOpen w) rows i 0 below (All-weaker (KnowsNotOpen v) (KnowsNotOpen w) (λ j h. grown.noted j h) (take i rows) all) here
+    All-more (KnowsNotOpen w) rows i 0 below
+    (All-weaker (KnowsNotOpen v) (KnowsNotOpen w) (λ j h. grown.noted j h) (take i rows) all) here

@@ -1,5 +1,6 @@
 -- Rows that are left are run one after another, and closed.
-use Rattle.std.proofs.Common.{◌≡◌, ◌≢◌, ℕ, zero, suc, ◌+◌, ◌<◌, ◌≤◌, List, [], ◌∷◌, length, set, take, get_or, All, true, false, Some, slice_get, ap, refl, sym, ◌∙◌, subst, arith}
+use Rattle.std.proofs.Common.{◌≡◌, ◌≢◌, ℕ, zero, suc, ◌+◌, ◌<◌, ◌≤◌, List, [], ◌∷◌, length, set, take, get_or, All}
+use Rattle.std.proofs.Common.{true, false, Some, slice_get, ap, refl, sym, ◌∙◌, subst, arith}
 use Rattle.std.specs.Prelude.{sum_by}
 use mathlib.Core.Logic.{dite}
 use native.Mathlib.Decide.{ℕ_discrete}
@@ -32,22 +33,27 @@ get_set_other (m ∷ ms) (suc i) zero x ne = refl
 get_set_other (m ∷ ms) (suc i) (suc k) x ne = get_set_other ms i k x (λ e. ne (ap suc e))
 
 -- the row's cycles in the place of a mark that isn't closed
-lawful_set : (costs cycles : List ℕ) (ms : List Mark) (i y : ℕ) (m : Mark) → AreLawful costs cycles ms → slice_get ms i ≡ Some m → is_closed m ≡ false → y ≡ get_or cycles i 0 → AreLawful costs cycles (set ms i (Finished y))
+lawful_set : (costs cycles : List ℕ) (ms : List Mark) (i y : ℕ) (m : Mark) → AreLawful costs cycles ms
+    → slice_get ms i ≡ Some m → is_closed m ≡ false → y ≡ get_or cycles i 0
+    → AreLawful costs cycles (set ms i (Finished y))
 lawful_set costs cycles ms i y m is at left its =
     let low = slice_get_within ms i m at in
     let here : slice_get (set ms i (Finished y)) i ≡ Some (Finished y) = get_set_same ms i (Finished y) low in
     record {
       finished = λ k z e. dite (ℕ_discrete k i)
           (λ same.
-          let f : Some (Finished y) ≡ Some (Finished z) = sym here ∙ (ap (slice_get (set ms i (Finished y))) (sym same) ∙ e) in
+          let f : Some (Finished y) ≡ Some (Finished z) =
+          sym here ∙ (ap (slice_get (set ms i (Finished y))) (sym same) ∙ e) in
           let g : z ≡ y = (cc) in
           g ∙ (its ∙ ap (λ (j : ℕ). get_or cycles j 0) (sym same)))
           (λ ne. is.finished k z (sym (get_set_other ms i k (Finished y) ne) ∙ e));
       dropped = λ k j e. dite (ℕ_discrete k i)
-          (λ same. absurd (let f : Some (Finished y) ≡ Some (Dropped j) = sym here ∙ (ap (slice_get (set ms i (Finished y))) (sym same) ∙ e) in cc))
+          (λ same. absurd (let f : Some (Finished y) ≡ Some (Dropped j) =
+          sym here ∙ (ap (slice_get (set ms i (Finished y))) (sym same) ∙ e) in cc))
           (λ ne.
           let d = is.dropped k j (sym (get_set_other ms i k (Finished y) ne) ∙ e) in
-          let apart : j ≢ i = λ same. let f : Some m ≡ Some (Finished (get_or cycles j 0)) = sym at ∙ (ap (slice_get ms) (sym same) ∙ d.0) in
+          let apart : j ≢ i = λ same. let f : Some m ≡ Some (Finished (get_or cycles j 0)) =
+          sym at ∙ (ap (slice_get ms) (sym same) ∙ d.0) in
           let g : m ≡ Finished (get_or cycles j 0) = (cc) in
           true≢false (ap is_closed (sym g) ∙ left) in
           (get_set_other ms i j (Finished y) apart ∙ d.0, d.1, d.2));
@@ -63,7 +69,14 @@ pub record IsGathering (s : DesignSpace) (old now : List Mark) (row gathered : �
   pub few : gathered ≤ row
 
 pub none_gathered : (s : DesignSpace) (ms : List Mark) → AreLawful s.costs (cycles_of s) ms → IsGathering s ms ms 0 0
-none_gathered s ms is = record { count = refl; closed = All-nil (λ (m : Mark). is_closed m ≡ true); lawful = is; rest = λ k h. refl; counted = refl; few = omega arith }
+none_gathered s ms is = record {
+  count = refl;
+  closed = All-nil (λ (m : Mark). is_closed m ≡ true);
+  lawful = is;
+  rest = λ k h. refl;
+  counted = refl;
+  few = omega arith;
+}
 
 closed_counts_none : (m : Mark) → is_closed m ≡ true → left_of_mark m ≡ 0
 closed_counts_none Open e = absurd (true≢false (sym e))
@@ -77,17 +90,23 @@ left_counts_one Taken e = refl
 left_counts_one (Finished y) e = absurd (true≢false e)
 left_counts_one (Dropped j) e = absurd (true≢false e)
 
-same_before : (s : DesignSpace) (old now : List Mark) (row gathered : ℕ) → IsGathering s old now row gathered → row < length now → get_or old row Open ≡ get_or now row Open
-same_before s old now row gathered is low = get_or_from_slice_get old row (get_or now row Open) Open (sym (is.rest row (omega arith)) ∙ slice_get-get_or now row Open low)
+same_before : (s : DesignSpace) (old now : List Mark) (row gathered : ℕ) → IsGathering s old now row gathered
+    → row < length now → get_or old row Open ≡ get_or now row Open
+same_before s old now row gathered is low =
+    get_or_from_slice_get old row (get_or now row Open) Open (sym (is.rest row (omega arith))
+    ∙ slice_get-get_or now row Open low)
 
 -- the row is closed
-pub one_closed : (s : DesignSpace) (old now : List Mark) (row gathered : ℕ) → IsGathering s old now row gathered → row < length now → is_closed (get_or now row Open) ≡ true → IsGathering s old now (row + 1) gathered
+pub one_closed : (s : DesignSpace) (old now : List Mark) (row gathered : ℕ) → IsGathering s old now row gathered
+    → row < length now → is_closed (get_or now row Open) ≡ true → IsGathering s old now (row + 1) gathered
 one_closed s old now row gathered is low closed =
     let long = is.count in
     let few = is.few in
     let was = is.counted in
-    let more : sum_by left_of_mark (take (row + 1) old) ≡ sum_by left_of_mark (take row old) + left_of_mark (get_or old row Open) = sum_by_more left_of_mark old row Open (omega arith) in
-    let none : left_of_mark (get_or old row Open) ≡ 0 = ap left_of_mark (same_before s old now row gathered is low) ∙ closed_counts_none (get_or now row Open) closed in
+    let more : sum_by left_of_mark (take (row + 1) old) ≡ sum_by left_of_mark (take row old)
+    + left_of_mark (get_or old row Open) = sum_by_more left_of_mark old row Open (omega arith) in
+    let none : left_of_mark (get_or old row Open) ≡ 0 = ap left_of_mark (same_before s old now row gathered is low)
+    ∙ closed_counts_none (get_or now row Open) closed in
     record {
       count = long;
       closed = All-more (λ (m : Mark). is_closed m ≡ true) now row Open low is.closed closed;
@@ -98,25 +117,36 @@ one_closed s old now row gathered is low closed =
     }
 
 -- the row was left, and is run
-pub one_run : (s : DesignSpace) (old now : List Mark) (row gathered y : ℕ) → IsGathering s old now row gathered → row < length now → is_closed (get_or now row Open) ≡ false → y ≡ get_or (cycles_of s) row 0 → IsGathering s old (set now row (Finished y)) (row + 1) (gathered + 1)
+pub one_run : (s : DesignSpace) (old now : List Mark) (row gathered y : ℕ) → IsGathering s old now row gathered
+    → row < length now → is_closed (get_or now row Open) ≡ false → y ≡ get_or (cycles_of s) row 0
+    → IsGathering s old (set now row (Finished y)) (row + 1) (gathered + 1)
 one_run s old now row gathered y is low left its =
     let long = is.count in
     let few = is.few in
     let was = is.counted in
-    let more : sum_by left_of_mark (take (row + 1) old) ≡ sum_by left_of_mark (take row old) + left_of_mark (get_or old row Open) = sum_by_more left_of_mark old row Open (omega arith) in
-    let one : left_of_mark (get_or old row Open) ≡ 1 = ap left_of_mark (same_before s old now row gathered is low) ∙ left_counts_one (get_or now row Open) left in
+    let more : sum_by left_of_mark (take (row + 1) old) ≡ sum_by left_of_mark (take row old)
+    + left_of_mark (get_or old row Open) = sum_by_more left_of_mark old row Open (omega arith) in
+    let one : left_of_mark (get_or old row Open) ≡ 1 = ap left_of_mark (same_before s old now row gathered is low)
+    ∙ left_counts_one (get_or now row Open) left in
     record {
       count = length-set now row (Finished y) ∙ long;
-      closed = subst (All (λ (m : Mark). is_closed m ≡ true)) (sym (take_more_set now row (Finished y) low)) (All-push (λ (m : Mark). is_closed m ≡ true) (take row now) (Finished y) is.closed refl);
-      lawful = lawful_set s.costs (cycles_of s) now row y (get_or now row Open) is.lawful (slice_get-get_or now row Open low) left its;
+      closed = subst (All (λ (m : Mark). is_closed m ≡ true)) (sym (take_more_set now row (Finished y) low))
+          (All-push (λ (m : Mark). is_closed m ≡ true) (take row now) (Finished y) is.closed refl);
+      lawful = lawful_set s.costs (cycles_of s) now row y (get_or now row Open) is.lawful
+          (slice_get-get_or now row Open low) left its;
       rest = λ k h. get_set_other now row k (Finished y) (λ e. absurd (omega arith)) ∙ is.rest k (omega arith);
       counted = omega arith;
       few = omega arith;
     }
 
-pub all_gathered : (s : DesignSpace) (old now : List Mark) (row gathered : ℕ) → IsGathering s old now row gathered → length old ≡ length s.costs → length now ≤ row → AreJudged s.costs (cycles_of s) now × (gathered ≡ rows_left old)
+pub all_gathered : (s : DesignSpace) (old now : List Mark) (row gathered : ℕ) → IsGathering s old now row gathered
+    → length old ≡ length s.costs → length now ≤ row → AreJudged s.costs (cycles_of s) now × (gathered ≡ rows_left old)
 all_gathered s old now row gathered is long past = (
-  record { count = is.count ∙ long; closed = subst (All (λ (m : Mark). is_closed m ≡ true)) (take_all row now past) is.closed; lawful = is.lawful },
+  record {
+    count = is.count ∙ long;
+    closed = subst (All (λ (m : Mark). is_closed m ≡ true)) (take_all row now past) is.closed;
+    lawful = is.lawful;
+  },
   is.counted ∙ ap (sum_by left_of_mark) (take_all row old (let same = is.count in omega arith)),
 )
 
@@ -133,10 +163,13 @@ pub read_mark : (ms : List Mark) (i : ℕ) (m : Mark) → i < length ms → m �
 read_mark ms i m low at = get_or_from_slice_get ms i m Open (slice_get_read ms (length ms) i m refl low at)
 
 -- the cycles that a run of a row of the study gives
-pub run_cycles : (s : DesignSpace) (programs : List Workload) (rows : List Configuration) (item : Configuration) (row y : ℕ) → IsStudy s → programs ≡ s.programs → rows ≡ s.rows → row < length s.costs → item ≡ get_or rows row item → y ≡ cycles_on programs item → y ≡ get_or (cycles_of s) row 0
+pub run_cycles : (s : DesignSpace) (programs : List Workload) (rows : List Configuration) (item : Configuration)
+    (row y : ℕ) → IsStudy s → programs ≡ s.programs → rows ≡ s.rows → row < length s.costs → item ≡ get_or rows row item
+    → y ≡ cycles_on programs item → y ≡ get_or (cycles_of s) row 0
 run_cycles s programs rows item row y is same_programs same_rows low at ran =
     let long : length s.costs ≡ length s.rows = ap length is.costs ∙ length-map _ _ in
     let rows_long : length rows ≡ length s.rows = ap length same_rows in
     let read : slice_get rows row ≡ Some item = slice_get_read rows (length rows) row item refl (omega arith) at in
-    let here : slice_get s.rows row ≡ Some item = ap (λ (rs : List Configuration). slice_get rs row) (sym same_rows) ∙ read in
+    let here : slice_get s.rows row ≡ Some item = ap (λ (rs : List Configuration). slice_get rs row) (sym same_rows)
+    ∙ read in
     ran ∙ (ap (λ (ps : List Workload). cycles_on ps item) same_programs ∙ sym (cycles_at s row item here))

@@ -5,8 +5,14 @@ use Rattle.tomex_config.specs.Configuration.{Configuration}
 use Rattle.tomex_cycle.specs.declared.progress.Progress.TheVariants.{Running, Ended}
 use Rattle.tomex_cycle.specs.Run.{total}
 use Rattle.tomex_cycle.specs.Seen.{Machine, Seen, seen, seen_after}
-use Rattle.tomex_sweep.specs.Reused.{run_in, spared_to}
+use Rattle.tomex_sweep.specs.ProgramRun.{run_in, spared_to}
 
-pub spares : (image : Loaded) (config : Configuration) (machine : Option Machine) (all k : ℕ) → total config image ≡ all → seen (run_in image config machine (Some (spared_to all k))) ≡ seen_after image config k
+pub spares : (image : Loaded) (config : Configuration) (machine : Option Machine) (all k : ℕ) → total config image ≡ all
+    → seen (run_in image config machine (Some (spared_to all k))) ≡ seen_after image config k
 spares image config machine all k known =
-    ap (λ (n : ℕ). let s : Seen = record { image = image; config = config; cycle = min k n; status = cond (nat_lt k n) Running Ended } in s) (sym known)
+    ap (λ (n : ℕ). let s : Seen = record {
+      image = image;
+      config = config;
+      cycle = min k n;
+      status = cond (nat_lt k n) Running Ended;
+    } in s) (sym known)

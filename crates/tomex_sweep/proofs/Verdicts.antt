@@ -1,5 +1,6 @@
 -- What looks and ends of a run say, and the front of judged configurations.
-use Rattle.std.proofs.Common.{◌≡◌, ℕ, zero, suc, ◌+◌, ◌-◌, ◌<◌, ◌≤◌, ⊎_elim, arith, ap, sym, refl, subst, ◌∙◌, List, [], ◌∷◌, length, map, Bool, true, cond, get_or, Some, None, slice_get}
+use Rattle.std.proofs.Common.{◌≡◌, ℕ, zero, suc, ◌+◌, ◌-◌, ◌<◌, ◌≤◌, ⊎_elim, arith, ap, sym, refl, subst, ◌∙◌, List, []}
+use Rattle.std.proofs.Common.{◌∷◌, length, map, Bool, true, cond, get_or, Some, None, slice_get}
 use Rattle.std.proofs.lemmas.Bool.{cases_lt, lt-ltb, le-ltb}
 use Rattle.std.proofs.lemmas.List.{length-map}
 use Rattle.tomex_config.specs.Configuration.{Configuration}
@@ -17,16 +18,24 @@ use Rattle.tomex_sweep.specs.declared.stop.Stop.{Stop}
 use Rattle.tomex_sweep.specs.declared.stop.Stop.TheVariants.{Look, Over}
 use Rattle.tomex_sweep.proofs.Judged.{same_front}
 
-stop_over : (ps : List Workload) (config : Configuration) (n : ℕ) → plain_on ps config ≤ n → stop_at ps config n ≡ Over (cycles_on ps config)
-stop_over ps config n l = ap (λ (t : Bool). cond t (Look (weighed ps config n)) (Over (cycles_on ps config))) (le-ltb n (plain_on ps config) l)
+stop_over : (ps : List Workload) (config : Configuration) (n : ℕ) → plain_on ps config ≤ n
+    → stop_at ps config n ≡ Over (cycles_on ps config)
+stop_over ps config n l = ap (λ (t : Bool). cond t (Look (weighed ps config n)) (Over (cycles_on ps config)))
+    (le-ltb n (plain_on ps config) l)
 
-stop_look : (ps : List Workload) (config : Configuration) (n : ℕ) → n < plain_on ps config → stop_at ps config n ≡ Look (weighed ps config n)
-stop_look ps config n l = ap (λ (t : Bool). cond t (Look (weighed ps config n)) (Over (cycles_on ps config))) (lt-ltb n (plain_on ps config) l)
+stop_look : (ps : List Workload) (config : Configuration) (n : ℕ) → n < plain_on ps config
+    → stop_at ps config n ≡ Look (weighed ps config n)
+stop_look ps config n l = ap (λ (t : Bool). cond t (Look (weighed ps config n)) (Over (cycles_on ps config)))
+    (lt-ltb n (plain_on ps config) l)
 
 -- what an end says
-pub over_of : (ps : List Workload) (config : Configuration) (n r : ℕ) → Over r ≡ stop_at ps config n → r ≡ cycles_on ps config
+pub over_of : (ps : List Workload) (config : Configuration) (n r : ℕ) → Over r ≡ stop_at ps config n
+    → r ≡ cycles_on ps config
 over_of ps config n r e =
-    ⊎_elim (λ (l : n < plain_on ps config). absurd (let f : Over r ≡ Look (weighed ps config n) = e ∙ stop_look ps config n l in cc)) (λ (l : plain_on ps config ≤ n). let f : Over r ≡ Over (cycles_on ps config) = e ∙ stop_over ps config n l in cc) (cases_lt n (plain_on ps config))
+    ⊎_elim (λ (l : n < plain_on ps config). absurd (let f : Over r ≡ Look (weighed ps config n) =
+    e ∙ stop_look ps config n l in cc))
+    (λ (l : plain_on ps config ≤ n). let f : Over r ≡ Over (cycles_on ps config) = e ∙ stop_over ps config n l in
+    cc) (cases_lt n (plain_on ps config))
 
 -- all configurations finished
 
@@ -35,7 +44,8 @@ mapped [] i m e = absurd (let f : None ≡ Some m = e in cc)
 mapped (y ∷ ys) zero m e = (cc)
 mapped (y ∷ ys) (suc i) m e = mapped ys i m e
 
-map_closed : (ys : List ℕ) (k : ℕ) (d : Mark) → k < length (map Finished ys) → is_closed (get_or (map Finished ys) k d) ≡ true
+map_closed : (ys : List ℕ) (k : ℕ) (d : Mark) → k < length (map Finished ys) → is_closed (get_or (map Finished ys) k d)
+    ≡ true
 map_closed [] k d l = absurd (omega arith)
 map_closed (y ∷ ys) zero d l = refl
 map_closed (y ∷ ys) (suc k) d l = map_closed ys k d (omega arith)
@@ -56,16 +66,19 @@ pub as_long : (s : DesignSpace) → IsStudy s → length s.costs ≡ length (cyc
 unfolding cycles_of
 as_long s is = ap length is.costs ∙ (length-map _ _ ∙ sym (length-map _ _))
 
-map_at : (f : Configuration → ℕ) (rows : List Configuration) (k : ℕ) (config : Configuration) → slice_get rows k ≡ Some config → get_or (map f rows) k 0 ≡ f config
+map_at : (f : Configuration → ℕ) (rows : List Configuration) (k : ℕ) (config : Configuration)
+    → slice_get rows k ≡ Some config → get_or (map f rows) k 0 ≡ f config
 map_at f [] k config e = absurd (let g : None ≡ Some config = e in cc)
 map_at f (r ∷ rs) zero config e = let g : r ≡ config = cc in ap f g
 map_at f (r ∷ rs) (suc k) config e = map_at f rs k config e
 
-pub cycles_at : (s : DesignSpace) (k : ℕ) (config : Configuration) → slice_get s.rows k ≡ Some config → get_or (cycles_of s) k 0 ≡ cycles_on s.programs config
+pub cycles_at : (s : DesignSpace) (k : ℕ) (config : Configuration) → slice_get s.rows k ≡ Some config
+    → get_or (cycles_of s) k 0 ≡ cycles_on s.programs config
 unfolding cycles_of
 cycles_at s k config at = map_at (cycles_on s.programs) s.rows k config at
 
-pub study_front : (s : DesignSpace) (ms : List Mark) → IsStudy s → AreJudged s.costs (cycles_of s) ms → front_of (finished_from 0 s.costs ms) ≡ front_of_study s
+pub study_front : (s : DesignSpace) (ms : List Mark) → IsStudy s → AreJudged s.costs (cycles_of s) ms
+    → front_of (finished_from 0 s.costs ms) ≡ front_of_study s
 unfolding front_of_study
 study_front s ms is judged = same_front s.costs (cycles_of s) ms judged (as_long s is)
 
@@ -77,24 +90,36 @@ same_cycles : (ps qs : List Workload) (r s : Configuration) → ps ≡ qs → r 
 same_cycles ps qs r s e f = ap (λ (x : List Workload). cycles_on x r) e ∙ ap (λ (x : Configuration). cycles_on qs x) f
 
 -- a look of the run brings it nearer to its cycles, of which no more have come
-pub look_near : (old new : Going) (ps : List Workload) (config : Configuration) (p : Stop) (seen : ℕ) → old.programs ≡ ps → old.config ≡ config → p ≡ Look seen → IsNearer old new p
+pub look_near : (old new : Going) (ps : List Workload) (config : Configuration) (p : Stop) (seen : ℕ)
+    → old.programs ≡ ps → old.config ≡ config → p ≡ Look seen → IsNearer old new p
     → (cycles_on ps config - new.reached < cycles_on ps config - old.reached) × (seen ≤ cycles_on ps config)
 look_near old new ps config p seen e f is up =
-    let c : cycles_on old.programs old.config ≡ cycles_on ps config = same_cycles old.programs ps old.config config e f in
+    let c : cycles_on old.programs old.config ≡ cycles_on ps config =
+    same_cycles old.programs ps old.config config e f in
     let (more, less, within) = up seen is in
     (omega (arith, c, more, less), omega (arith, c, within))
 
-pub over_is : (ps qs : List Workload) (r s : Configuration) (p : Stop) (was y : ℕ) → ps ≡ qs → r ≡ s → p ≡ stop_at ps r (was + 1024) → p ≡ Over y → y ≡ cycles_on qs s
+pub over_is : (ps qs : List Workload) (r s : Configuration) (p : Stop) (was y : ℕ) → ps ≡ qs → r ≡ s
+    → p ≡ stop_at ps r (was + 1024) → p ≡ Over y → y ≡ cycles_on qs s
 over_is ps qs r s p was y e f stop is = over_of ps r (was + 1024) y (sym is ∙ stop) ∙ same_cycles ps qs r s e f
 
-pub all_finished : (s : DesignSpace) (rows : List Configuration) (ms : List Mark) → rows ≡ s.rows → ms ≡ map Finished (map (cycles_on s.programs) rows) → ms ≡ map Finished (cycles_of s)
-all_finished s rows ms e is = is ∙ (ap (λ (rs : List Configuration). map Finished (map (cycles_on s.programs) rs)) e ∙ ap (λ (ys : List ℕ). map Finished ys) (cycles_map s))
+pub all_finished : (s : DesignSpace) (rows : List Configuration) (ms : List Mark) → rows ≡ s.rows
+    → ms ≡ map Finished (map (cycles_on s.programs) rows) → ms ≡ map Finished (cycles_of s)
+all_finished s rows ms e is = is ∙ (ap (λ (rs : List Configuration). map Finished (map (cycles_on s.programs) rs)) e
+    ∙ ap (λ (ys : List ℕ). map Finished ys) (cycles_map s))
 
-pub finished_front : (s : DesignSpace) (ms slice : List Mark) (costs : List ℕ) {front : List FrontRow} → IsStudy s → ms ≡ map Finished (cycles_of s) → slice ≡ ms → costs ≡ s.costs → front ≡ front_of (finished_from 0 costs slice) → front ≡ front_of_study s
+pub finished_front : (s : DesignSpace) (ms slice : List Mark) (costs : List ℕ) {front : List FrontRow} → IsStudy s
+    → ms ≡ map Finished (cycles_of s) → slice ≡ ms → costs ≡ s.costs → front ≡ front_of (finished_from 0 costs slice)
+    → front ≡ front_of_study s
 finished_front s ms slice costs {front} is marks e f h =
-    let judged : AreJudged s.costs (cycles_of s) ms = subst (AreJudged s.costs (cycles_of s)) (sym marks) (all_judged s.costs (cycles_of s) (as_long s is)) in
-    h ∙ (ap (λ (xs : List Mark). front_of (finished_from 0 costs xs)) e ∙ (ap (λ (cs : List ℕ). front_of (finished_from 0 cs ms)) f ∙ study_front s ms is judged))
+    let judged : AreJudged s.costs (cycles_of s) ms =
+    subst (AreJudged s.costs (cycles_of s)) (sym marks) (all_judged s.costs (cycles_of s) (as_long s is)) in
+    h ∙ (ap (λ (xs : List Mark). front_of (finished_from 0 costs xs)) e
+    ∙ (ap (λ (cs : List ℕ). front_of (finished_from 0 cs ms)) f ∙ study_front s ms is judged))
 
-pub judged_front : (s : DesignSpace) (ms slice : List Mark) (costs : List ℕ) {front : List FrontRow} → IsStudy s → AreJudged s.costs (cycles_of s) ms → slice ≡ ms → costs ≡ s.costs → front ≡ front_of (finished_from 0 costs slice) → front ≡ front_of_study s
+pub judged_front : (s : DesignSpace) (ms slice : List Mark) (costs : List ℕ) {front : List FrontRow} → IsStudy s
+    → AreJudged s.costs (cycles_of s) ms → slice ≡ ms → costs ≡ s.costs → front ≡ front_of (finished_from 0 costs slice)
+    → front ≡ front_of_study s
 judged_front s ms slice costs {front} is judged e f h =
-    h ∙ (ap (λ (xs : List Mark). front_of (finished_from 0 costs xs)) e ∙ (ap (λ (cs : List ℕ). front_of (finished_from 0 cs ms)) f ∙ study_front s ms is judged))
+    h ∙ (ap (λ (xs : List Mark). front_of (finished_from 0 costs xs)) e
+    ∙ (ap (λ (cs : List ℕ). front_of (finished_from 0 cs ms)) f ∙ study_front s ms is judged))

@@ -13,8 +13,7 @@ cycles_on programs config = sum_by (λ p. p.weight * total config p.image) progr
 unfoldable pub plain_on : List Workload → Configuration → ℕ
 plain_on programs config = sum_by (λ p. total config p.image) programs
 
--- what has come of a configuration's cycles when so many are made: each cycle counts as often as its program's
--- weight says
+-- the first n cycles that these runs make, each as often as its program's weight says
 unfoldable pub weighed : List Workload → Configuration → ℕ → ℕ
 weighed [] config n = 0
 weighed (p ∷ ps) config n = p.weight * min n (total config p.image) + weighed ps config (n - total config p.image)

@@ -8,8 +8,8 @@ pub mod Pareto
 pub mod Passing
 pub mod Marks
 pub mod Stops
-pub mod Reused
-pub mod Known
+pub mod ProgramRun
+pub mod Knowledge
 pub use Rattle.tomex_image.specs.Image
 pub use Rattle.tomex_rvexec.specs.Run
 pub use Rattle.tomex_config.specs.Configuration

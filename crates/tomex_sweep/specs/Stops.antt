@@ -13,14 +13,14 @@ pub record Going : Type 0 where
   pub config : Configuration
   pub reached : ℕ
 
--- what a run comes to when so many cycles are made, where it is over unless it makes more
+-- where a run stops once it has made so many cycles: at a look if it makes more, else at its end
 abbrev pub stop_at : List Workload → Configuration → ℕ → Stop
 stop_at programs config made =
     if nat_lt made (plain_on programs config) then Look (weighed programs config made)
     else Over (cycles_on programs config)
 
--- at a look the run has made 1,024 cycles more, and neither these nor what has come of the configuration's cycles is
--- above those
+-- at a look the run has made 1,024 cycles more; these are fewer than the configuration's cycles, and what the look
+-- tells is no more than those
 abbrev pub IsNearer : Going → Going → Stop → Type 0
 IsNearer old new stop = (n : ℕ) → stop ≡ Look n
     → (new.reached ≡ old.reached + 1024) × (new.reached < cycles_on old.programs old.config)
@@ -42,5 +42,6 @@ pub record IsGoing (programs : List Workload) (config : Configuration) (reached 
   pub sum : done ≡ plain_on (take place programs) config
   pub weights : counted ≡ cycles_on (take place programs) config
   pub low : done ≤ reached + 1024
+  -- 8 programs of 262,144 steps, of 67 cycles each
   pub small : reached ≤ 140509184
   pub running : place < length programs → Runs programs config place machine × (done + machine.cycle ≤ reached + 1024)

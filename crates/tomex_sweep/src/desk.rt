@@ -2,7 +2,7 @@
 
 ghost use Rattle.std.specs.Prelude.{◌≡◌, ◌<◌, ◌∷◌, [], length, count_by, take, is_some, not, IfOk, OnOk, All};
 ghost use Rattle.tomex_board.specs.Views.{KnowsNotOpen};
-ghost use Rattle.tomex_sweep.specs.Known.{AreTotalsOn};
+ghost use Rattle.tomex_sweep.specs.Knowledge.{AreTotalsOn};
 ghost use Rattle.tomex_sweep.specs.Plans.{IsPlanOf};
 ghost use Rattle.tomex_sweep.specs.Seats.{Continues};
 
@@ -64,10 +64,10 @@ impl<'s, J: Plan, A: Allocator + Clone, G: Gate> Desk<'s, J, A, G> {
                     self.board.finish(seat, row, cycles);
                     return Ok(());
                 }
-                Stop::Look(reached) => {
+                Stop::Look(weighed) => {
                     if let Some(bound) = self.board.look(seat, row) {
-                        if bound.cycles < reached {
-                            self.board.give_up(seat, row, bound, reached);
+                        if bound.cycles < weighed {
+                            self.board.give_up(seat, row, bound, weighed);
                             return Ok(());
                         }
                     }
@@ -85,7 +85,7 @@ impl<'s, J: Plan, A: Allocator + Clone, G: Gate> Desk<'s, J, A, G> {
         seat: &mut Seat<J>,
         row: usize,
     ) -> Result<(), AllocError>
-        requires programs { knowledge.old ≡ self.now.study.now.programs }
+        requires programs { knowledge.old.programs ≡ self.now.study.now.programs }
         requires plan { IsPlanOf self.now.study.now J.costs J.cycles }
         requires board { seat.old.board ≡ self.now.board.now }
         requires row { row < length J.costs }
@@ -103,9 +103,9 @@ impl<'s, J: Plan, A: Allocator + Clone, G: Gate> Desk<'s, J, A, G> {
         self.close_row(runs, seat, row, totals)
     }
 
-    /// Claims a row, and runs and closes it if the claim succeeds: it is finished, or given up for one that is no
-    /// dearer and strictly faster. On Ok the seat holds nothing, and knows that the row isn't open: it may be another
-    /// worker's. If memory is refused, the row may stay in its hand.
+    /// Tries a row: claims it, and if that succeeds runs and closes it. On Ok the seat has nothing in hand, and knows
+    /// that the row isn't open; whether this worker closed it, or another has it, isn't said. That its mark is lawful,
+    /// whatever it is, is the board's rule. If memory is refused, the row may stay in hand.
     fn try_row(
         &self,
         runs: &mut Runs<'s, A>,
@@ -113,7 +113,7 @@ impl<'s, J: Plan, A: Allocator + Clone, G: Gate> Desk<'s, J, A, G> {
         seat: &mut Seat<J>,
         row: usize,
     ) -> Result<(), AllocError>
-        requires programs { knowledge.old ≡ self.now.study.now.programs }
+        requires programs { knowledge.old.programs ≡ self.now.study.now.programs }
         requires plan { IsPlanOf self.now.study.now J.costs J.cycles }
         requires board { seat.old.board ≡ self.now.board.now }
         requires row { row < length J.costs }
@@ -121,7 +121,7 @@ impl<'s, J: Plan, A: Allocator + Clone, G: Gate> Desk<'s, J, A, G> {
         ensures programs { knowledge.new ≡ knowledge.old }
         ensures seat { Continues seat.old seat.new }
         ensures hand { OnOk result (seat.new.view.hand ≡ []) }
-        ensures noted { OnOk result (KnowsNotOpen seat.new.view row) }
+        ensures not_open { OnOk result (KnowsNotOpen seat.new.view row) }
     {
         if !self.board.claim(seat, row) {
             return Ok(());
@@ -138,7 +138,7 @@ impl<'s, J: Plan, A: Allocator + Clone, G: Gate> Desk<'s, J, A, G> {
         seat: &mut Seat<J>,
         lane: &mut Lane<A>,
     ) -> Result<(), AllocError>
-        requires programs { knowledge.old ≡ self.now.study.now.programs }
+        requires programs { knowledge.old.programs ≡ self.now.study.now.programs }
         requires plan { IsPlanOf self.now.study.now J.costs J.cycles }
         requires board { seat.old.board ≡ self.now.board.now }
         requires rows { lane.old.count ≡ length J.costs }
@@ -165,7 +165,7 @@ impl<'s, J: Plan, A: Allocator + Clone, G: Gate> Desk<'s, J, A, G> {
         seat: &mut Seat<J>,
         lane: &Lane<A>,
     ) -> Result<(), AllocError>
-        requires programs { knowledge.old ≡ self.now.study.now.programs }
+        requires programs { knowledge.old.programs ≡ self.now.study.now.programs }
         requires plan { IsPlanOf self.now.study.now J.costs J.cycles }
         requires board { seat.old.board ≡ self.now.board.now }
         requires rows { lane.now.count ≡ length J.costs }
@@ -173,7 +173,7 @@ impl<'s, J: Plan, A: Allocator + Clone, G: Gate> Desk<'s, J, A, G> {
         ensures programs { knowledge.new ≡ knowledge.old }
         ensures seat { Continues seat.old seat.new }
         ensures hand { OnOk result (seat.new.view.hand ≡ []) }
-        ensures noted { OnOk result (All (KnowsNotOpen seat.new.view) lane.now.rows) }
+        ensures not_open { OnOk result (All (KnowsNotOpen seat.new.view) lane.now.rows) }
     {
         for row in lane.rows() {
             self.try_row(runs, knowledge, seat, *row)?;

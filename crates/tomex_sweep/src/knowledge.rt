@@ -1,7 +1,7 @@
 //! What a worker knows of a study's programs.
 
 ghost use Rattle.std.specs.Prelude.{◌≡◌, ◌<◌, ◌≤◌, length, IfOk, All};
-ghost use Rattle.tomex_sweep.specs.Known.{AreTotals, IsTotalAt};
+ghost use Rattle.tomex_sweep.specs.Knowledge.{AreTotals, IsTotalAt};
 ghost use Rattle.tomex_study.specs.Program.{IsProgram};
 
 use std::alloc::{AllocError, Allocator};
@@ -10,7 +10,8 @@ use tomex_config::Config;
 use tomex_plateaus::Plateaus;
 use tomex_study::Program;
 
-/// Plateaus of a study's programs, on configurations that a worker has come to. Needs that it takes there tell them.
+/// For each of a study's programs plateaus on which its total is known: the needs of its run on a configuration that
+/// the worker comes to tell one.
 #[derive(Drop)]
 pub(crate) struct Knowledge<'s, A: Allocator> {
     alloc: A,
@@ -20,13 +21,11 @@ pub(crate) struct Knowledge<'s, A: Allocator> {
 }
 
 impl<'s, A: Allocator> Model for Knowledge<'s, A> {
-    ghost use Rattle.std.specs.Prelude.{List};
-    ghost use Rattle.tomex_sweep.specs.Known.{IsKnowledge};
-    ghost use Rattle.tomex_study.specs.Program.{Workload};
+    ghost use Rattle.tomex_sweep.specs.Knowledge.{IsKnowledge, KnowledgeOf};
 
-    ghost Value = { List Workload };
+    ghost Value = { KnowledgeOf };
 
-    ghost view = { λ k. k.programs.now };
+    ghost view = { λ k. record { programs = k.programs.now } };
 
     ghost invariant = { λ k. IsKnowledge k.programs.now k.lists.items };
 }
@@ -36,7 +35,7 @@ impl<'s, A: Allocator + Clone> Knowledge<'s, A> {
     pub(crate) fn new(alloc: A, programs: &'s [Program<A>]) -> Result<Knowledge<'s, A>, AllocError>
         requires few { length programs.now ≤ 8 }
         requires ends { All IsProgram programs.now }
-        ensures { IfOk result (λ k. k ≡ programs.now) }
+        ensures { IfOk result (λ k. k.programs ≡ programs.now) }
     {
         let mut lists = Vec::new(alloc.clone()?);
         for program in programs {
@@ -51,7 +50,7 @@ impl<'s, A: Allocator + Clone> Knowledge<'s, A> {
 
     /// The totals on a configuration that are known, in the programs' order.
     pub(crate) fn totals(&self, config: &Config) -> [Option<u64>; 8]
-        ensures { AreTotals self.now config.now result }
+        ensures { AreTotals self.now.programs config.now result }
     {
         let mut totals = [None; 8];
         for (place, list) in self.lists.iter().enumerate() {
@@ -66,9 +65,9 @@ impl<'s, A: Allocator + Clone> Knowledge<'s, A> {
         config: &Config,
         totals: [Option<u64>; 8],
     ) -> Result<[Option<u64>; 8], AllocError>
-        requires { AreTotals self.old config.now totals }
+        requires { AreTotals self.old.programs config.now totals }
         ensures programs { self.new ≡ self.old }
-        ensures totals { IfOk result (λ t. AreTotals self.new config.now t) }
+        ensures totals { IfOk result (λ t. AreTotals self.new.programs config.now t) }
     {
         let mut totals = totals;
         for place in 0..self.programs.len() {
@@ -84,10 +83,10 @@ impl<'s, A: Allocator + Clone> Knowledge<'s, A> {
         config: &Config,
         known: Option<u64>,
     ) -> Result<Option<u64>, AllocError>
-        requires place { place < length self.old }
-        requires known { IsTotalAt self.old config.now place known }
+        requires place { place < length self.old.programs }
+        requires known { IsTotalAt self.old.programs config.now place known }
         ensures programs { self.new ≡ self.old }
-        ensures total { IfOk result (λ t. IsTotalAt self.new config.now place t) }
+        ensures total { IfOk result (λ t. IsTotalAt self.new.programs config.now place t) }
     {
         if known.is_some() {
             return Ok(known);
@@ -98,15 +97,15 @@ impl<'s, A: Allocator + Clone> Knowledge<'s, A> {
 
     /// What is known of a configuration for the program at a place.
     fn known_of(&self, place: usize, config: &Config) -> Option<u64>
-        requires { place < length self.now }
-        ensures { IsTotalAt self.now config.now place result }
+        requires { place < length self.now.programs }
+        ensures { IsTotalAt self.now.programs config.now place result }
     {
         self.lists[place].total_on(config)
     }
 
     /// Learns of a configuration for the program at a place.
     fn learn_of(&mut self, place: usize, config: &Config) -> Result<(), AllocError>
-        requires { place < length self.old }
+        requires { place < length self.old.programs }
         ensures { self.new ≡ self.old }
     {
         let alloc = self.alloc.clone()?;

@@ -1,5 +1,5 @@
 //! Explorations of studies: the cycles that each configuration takes, and the front of those that no other
-//! one dominates. Workers share a board of marks; what no run can change isn't run.
+//! one dominates. Workers share a board of marks; what is known, or can't change the front, isn't run.
 #![tactic(auto)]
 
 mod crew;
@@ -13,7 +13,7 @@ mod knowledge;
 mod laws;
 mod leftovers;
 mod outcome;
-mod reused;
+mod program_run;
 mod row_run;
 mod runs;
 mod spared;

@@ -15,7 +15,7 @@ pub struct Outcome<A: Allocator = Global> {
     pub marks: Vec<Mark, A>,
     /// The rows that no other row dominates, by cost, then number.
     pub front: Vec<FrontRow, A>,
-    /// How many rows no worker had closed, and were run after the workers.
+    /// How many rows no worker had closed, and were run after the workers: 0 of an exploration and of a whole run.
     pub gathered: usize,
 }
 

@@ -1,11 +1,11 @@
 //! The run of a configuration: the programs in order, by the cycle machine, but for those whose totals are known.
 
 ghost use Rattle.std.specs.Prelude.{◌≡◌, ◌+◌, ◌≤◌, length, IfOk, OnOk, All};
-ghost use Rattle.tomex_sweep.specs.Known.{AreTotals};
+ghost use Rattle.tomex_sweep.specs.Knowledge.{AreTotals};
 ghost use Rattle.tomex_study.specs.Program.{IsProgram};
 ghost use Rattle.tomex_sweep.specs.Stops.{IsNearer, stop_at};
 
-use crate::reused::Reused;
+use crate::program_run::ProgramRun;
 use crate::stop::Stop;
 use std::alloc::{AllocError, Allocator};
 use std::marker::Model;
@@ -24,27 +24,29 @@ pub(crate) struct RowRun<'s, A: Allocator> {
     /// In the programs' order, those that are known.
     totals: [Option<u64>; 8],
     /// How many programs are done.
-    place: usize,
+    programs_done: usize,
     /// The sum of their totals.
-    done: u64,
+    cycles_done: u64,
     /// The same by their weights.
-    counted: u64,
+    weighed_done: u64,
     /// The cycles made at the last look, 0 before the first.
     reached: u64,
     /// The run of the program at hand.
-    machine: Reused<'s, A>,
+    run: ProgramRun<'s, A>,
 }
 
 impl<'s, A: Allocator> Model for RowRun<'s, A> {
     ghost use Rattle.tomex_cycle.specs.Seen.{seen};
-    ghost use Rattle.tomex_sweep.specs.Known.{AreTotals};
+    ghost use Rattle.tomex_sweep.specs.Knowledge.{AreTotals};
     ghost use Rattle.tomex_sweep.specs.Stops.{Going, IsGoing};
 
     ghost Value = { Going };
 
     ghost view = { λ r. record { programs = r.programs.now; config = r.config.now; reached = r.reached } };
 
-    ghost invariant = { λ r. IsGoing r.programs.now r.config.now r.reached r.place r.done r.counted (seen r.machine)
+    ghost invariant = { λ r.
+        IsGoing r.programs.now r.config.now r.reached
+        r.programs_done r.cycles_done r.weighed_done (seen r.run)
         × AreTotals r.programs.now r.config.now r.totals };
 }
 
@@ -70,11 +72,11 @@ impl<'s, A: Allocator> RowRun<'s, A> {
             programs,
             config,
             totals,
-            place: 0,
-            done: 0,
-            counted: 0,
+            programs_done: 0,
+            cycles_done: 0,
+            weighed_done: 0,
             reached: 0,
-            machine: Reused::new(machine, image, config, totals[0]),
+            run: ProgramRun::new(machine, image, config, totals[0]),
         })
     }
 
@@ -94,20 +96,19 @@ impl<'s, A: Allocator> RowRun<'s, A> {
             ≡ record { programs = programs.now; config = config.now; reached = 0 }) }
     {
         config.keeps_limits();
-        self.machine
-            .restart(programs[0].image(), config, totals[0])?;
+        self.run.restart(programs[0].image(), config, totals[0])?;
         self.programs = programs;
         self.config = config;
         self.totals = totals;
-        self.place = 0;
-        self.done = 0;
-        self.counted = 0;
+        self.programs_done = 0;
+        self.cycles_done = 0;
+        self.weighed_done = 0;
         self.reached = 0;
         Ok(())
     }
 
-    /// Goes on to the next multiple of 1,024 cycles that it makes, where it isn't over before or at it,
-    /// or to its end. A run that is over stays so. What it answers are cycles by the programs' weights.
+    /// Goes on by 1,024 cycles, or to the run's end if that isn't beyond them. A run that is over stays so. The
+    /// cycles that it answers are weighed: each counts as often as its program's weight says.
     pub(crate) fn go_on(&mut self) -> Result<Stop, AllocError>
         ensures parts { (self.new.programs ≡ self.old.programs)
             × (self.new.config ≡ self.old.config) }
@@ -116,30 +117,30 @@ impl<'s, A: Allocator> RowRun<'s, A> {
         ensures look { IfOk result (λ p. IsNearer self.old self.new p) }
     {
         let next = self.reached + STRIDE;
-        while self.place < self.programs.len() {
+        while self.programs_done < self.programs.len() {
             let programs = self.programs;
-            let weight = u64::from(programs[self.place].weight());
-            self.machine.advance(next - self.done);
-            let made = self.machine.cycle();
-            let counted = self.counted + weight * made;
-            if !self.machine.ended() {
+            let weight = u64::from(programs[self.programs_done].weight());
+            self.run.advance(next - self.cycles_done);
+            let made = self.run.cycle();
+            let weighed = self.weighed_done + weight * made;
+            if !self.run.ended() {
                 self.reached = next;
-                return Ok(Stop::Look(counted));
+                return Ok(Stop::Look(weighed));
             }
-            let place = self.place + 1;
-            let done = self.done + made;
+            let place = self.programs_done + 1;
+            let done = self.cycles_done + made;
             let Some(program) = programs.get(place) else {
-                self.place = place;
-                self.done = done;
-                self.counted = counted;
-                return Ok(Stop::Over(counted));
+                self.programs_done = place;
+                self.cycles_done = done;
+                self.weighed_done = weighed;
+                return Ok(Stop::Over(weighed));
             };
-            self.machine
+            self.run
                 .restart(program.image(), self.config, self.totals[place])?;
-            self.place = place;
-            self.done = done;
-            self.counted = counted;
+            self.programs_done = place;
+            self.cycles_done = done;
+            self.weighed_done = weighed;
         }
-        Ok(Stop::Over(self.counted))
+        Ok(Stop::Over(self.weighed_done))
     }
 }

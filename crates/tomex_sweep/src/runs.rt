@@ -1,7 +1,7 @@
 //! The runs of configurations, one after another, by one machine.
 
 ghost use Rattle.std.specs.Prelude.{◌≡◌, ◌≤◌, length, IfOk, All, None};
-ghost use Rattle.tomex_sweep.specs.Known.{AreTotals};
+ghost use Rattle.tomex_sweep.specs.Knowledge.{AreTotals};
 ghost use Rattle.tomex_study.specs.Program.{IsProgram};
 ghost use Rattle.tomex_sweep.specs.Cycles.{cycles_on};
 

@@ -1,7 +1,7 @@
 //! Runs that needn't be made.
 
 ghost use Rattle.std.specs.Prelude.{◌≡◌, max};
-ghost use Rattle.tomex_sweep.specs.Reused.{spared_of, spared_to};
+ghost use Rattle.tomex_sweep.specs.ProgramRun.{spared_of, spared_to};
 
 /// A run whose total is known. Its cycles are counted as if it were made.
 #[derive(Clone, Copy, Debug, PartialEq, Eq)]

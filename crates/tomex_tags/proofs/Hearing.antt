@@ -1,5 +1,6 @@
 -- A broadcast reaches one busy station after the other.
-use Rattle.std.proofs.Common.{ℕ, ◌<◌, ◌≤◌, ◌≡◌, ◌∙◌, Bool, true, false, arith, refl, ap, sym, inl, inr, Option, Some, None, length, slice_index_or, slice_set}
+use Rattle.std.proofs.Common.{ℕ, ◌<◌, ◌≤◌, ◌≡◌, ◌∙◌, Bool, true, false, arith, refl, ap, sym, inl, inr, Option, Some}
+use Rattle.std.proofs.Common.{None, length, slice_index_or, slice_set}
 use Rattle.std.specs.Prelude.{◌==◌, ◌||◌, if◌then◌else◌, option_map}
 use Rattle.std.proofs.lemmas.Bool.{both_ways, cases_Bool, eqb-true, eqb-false}
 use Rattle.std.proofs.lemmas.List.{get_or-set_same, get_or-set_other, length-set}
@@ -18,7 +19,9 @@ use Rattle.tomex_tags.specs.Pools.{AreBusy, Pools}
 -- the stations but for a rest have heard what is sent
 pub record AreHearing (sent : ℕ → Option ℕ) (rest : ℕ) (old new : Pools) : Type 0 where
   pub places : length new.slots ≡ 96
-  pub slots : (x : ℕ) → x < 96 → slice_index_or new.slots x None ≡ (if has rest x then slice_index_or old.slots x None else option_map (hears sent) (slice_index_or old.slots x None))
+  pub slots : (x : ℕ) → x < 96 → slice_index_or new.slots x None
+      ≡ (if has rest x then slice_index_or old.slots x None else option_map (hears sent)
+      (slice_index_or old.slots x None))
   pub busy : new.busy ≡ old.busy
   pub issue_numbers : new.issue_numbers ≡ old.issue_numbers
 
@@ -41,53 +44,68 @@ deaf from value (Some s) e =
     let two = neither (comes_from from s.j) (comes_from from s.k) e in
     ap (λ (z : Station). Some z) (sym (rw (there from value s.j two.0, there from value s.k two.1) refl))
 
-pub first_heard : (from value rest : ℕ) (old : Pools) → AreBusy old.slots old.busy old.issue_numbers → ((x : ℕ) → x < 96 → awaits from (slice_index_or old.slots x None) ≡ true → has rest x ≡ true) → AreHearing (only from (Some value)) rest old old
+pub first_heard : (from value rest : ℕ) (old : Pools) → AreBusy old.slots old.busy old.issue_numbers
+    → ((x : ℕ) → x < 96 → awaits from (slice_index_or old.slots x None) ≡ true → has rest x ≡ true)
+    → AreHearing (only from (Some value)) rest old old
 first_heard from value rest old filled listen = record {
   places = filled.places;
   slots = λ x l. elim (cases_Bool (has rest x)) [
     | inl e ↦ rw e refl
-    | inr e ↦ rw e (deaf from value (slice_index_or old.slots x None) (elim (cases_Bool (awaits from (slice_index_or old.slots x None))) [
-      | inr f ↦ f
-      | inl f ↦ absurd (both_ways (has rest x) e (listen x l f))
-    ]))
+    | inr e ↦ rw e (deaf from value (slice_index_or old.slots x None)
+        (elim (cases_Bool (awaits from (slice_index_or old.slots x None))) [
+          | inr f ↦ f
+          | inl f ↦ absurd (both_ways (has rest x) e (listen x l f))
+        ]))
   ];
   busy = refl;
   issue_numbers = refl;
 }
 
 -- once all have heard it, nothing is to come from the place
-pub none_listening : (from value rest : ℕ) (old new : Pools) → AreHearing (only from (Some value)) rest old new → rest ≡ 0 → (x : ℕ) → x < 96 → awaits from (slice_index_or new.slots x None) ≡ false
-none_listening from value rest old new so empty x l = ap (awaits from) (so.slots x l ∙ rw (none_rest rest x empty) refl) ∙ silent (slice_index_or old.slots x None)
+pub none_listening : (from value rest : ℕ) (old new : Pools) → AreHearing (only from (Some value)) rest old new
+    → rest ≡ 0 → (x : ℕ) → x < 96 → awaits from (slice_index_or new.slots x None) ≡ false
+none_listening from value rest old new so empty x l = ap (awaits from) (so.slots x l ∙ rw (none_rest rest x empty) refl)
+    ∙ silent (slice_index_or old.slots x None)
   where
     silent : (o : Option Station) → awaits from (option_map (hears (only from (Some value))) o) ≡ false
     silent None = refl
     silent (Some s) = hears_none from value s
 
 -- what stands in one place more has heard it
-pub heard_more : (sent : ℕ → Option ℕ) (rest left x : ℕ) (old now new : Pools) → AreHearing sent rest old now → x < 96 → has rest x ≡ true → IsWithout rest x left
-    → new.slots ≡ slice_set now.slots x (option_map (hears sent) (slice_index_or now.slots x None)) → new.busy ≡ now.busy → new.issue_numbers ≡ now.issue_numbers → AreHearing sent left old new
+pub heard_more : (sent : ℕ → Option ℕ) (rest left x : ℕ) (old now new : Pools) → AreHearing sent rest old now → x < 96
+    → has rest x ≡ true → IsWithout rest x left
+    → new.slots ≡ slice_set now.slots x (option_map (hears sent) (slice_index_or now.slots x None))
+    → new.busy ≡ now.busy → new.issue_numbers ≡ now.issue_numbers → AreHearing sent left old new
 heard_more sent rest left x old now new so small member without slots busy issue_numbers =
     let count : length now.slots ≡ 96 = so.places in
     record {
-      places = ap length slots ∙ (length-set now.slots x (option_map (hears sent) (slice_index_or now.slots x None)) ∙ so.places);
+      places = ap length slots ∙ (length-set now.slots x (option_map (hears sent) (slice_index_or now.slots x None))
+          ∙ so.places);
       slots = λ y l. elim (cases_Bool (x == y)) [
         | inl k ↦
             let same : x ≡ y = eqb-true x y k in
-            let before : slice_index_or now.slots x None ≡ slice_index_or old.slots x None = so.slots x small ∙ rw member refl in
-            rw (← same, slots, without.same) (get_or-set_same now.slots x (option_map (hears sent) (slice_index_or now.slots x None)) None (omega arith) ∙ ap (option_map (hears sent)) before)
+            let before : slice_index_or now.slots x None ≡ slice_index_or old.slots x None =
+            so.slots x small ∙ rw member refl in
+            rw (← same, slots, without.same)
+            (get_or-set_same now.slots x (option_map (hears sent) (slice_index_or now.slots x None)) None
+            (omega arith) ∙ ap (option_map (hears sent)) before)
         | inr k ↦
             let other : has left y ≡ has rest y = without.others y (omega arith) (λ z. eqb-false x y k (sym z)) in
-            rw (slots, other) (get_or-set_other now.slots x y (option_map (hears sent) (slice_index_or now.slots x None)) None (λ z. eqb-false x y k (sym z)) ∙ so.slots y l)
+            rw (slots, other) (get_or-set_other now.slots x y
+            (option_map (hears sent) (slice_index_or now.slots x None)) None (λ z. eqb-false x y k (sym z))
+            ∙ so.slots y l)
       ];
       busy = busy ∙ so.busy;
       issue_numbers = issue_numbers ∙ so.issue_numbers;
     }
 
 -- nothing stands past the last place
-pub heard_past : (sent : ℕ → Option ℕ) (rest left x : ℕ) (old now : Pools) → AreHearing sent rest old now → 96 ≤ x → IsWithout rest x left → AreHearing sent left old now
+pub heard_past : (sent : ℕ → Option ℕ) (rest left x : ℕ) (old now : Pools) → AreHearing sent rest old now → 96 ≤ x
+    → IsWithout rest x left → AreHearing sent left old now
 heard_past sent rest left x old now so high without = record {
   places = so.places;
-  slots = λ y l. let other : has left y ≡ has rest y = without.others y (omega arith) (λ z. absurd (omega arith)) in rw other (so.slots y l);
+  slots = λ y l. let other : has left y ≡ has rest y = without.others y (omega arith) (λ z. absurd (omega arith)) in
+      rw other (so.slots y l);
   busy = so.busy;
   issue_numbers = so.issue_numbers;
 }

@@ -1,5 +1,7 @@
--- Which stations wait for what a place will send, as stations come, change and go; and that each holds an instruction of its pool.
-use Rattle.std.proofs.Common.{ℕ, ◌/◌, ◌<◌, ◌≤◌, ◌≡◌, ◌∙◌, Bool, true, false, refl, ap, sym, inl, inr, arith, List, Option, Some, None, length, slice_index, slice_index_or, slice_set, replicate}
+-- Which stations wait for what a place will send, as stations come, change and go; and that each holds an instruction
+-- of its pool.
+use Rattle.std.proofs.Common.{ℕ, ◌/◌, ◌<◌, ◌≤◌, ◌≡◌, ◌∙◌, Bool, true, false, refl, ap, sym, inl, inr, arith, List}
+use Rattle.std.proofs.Common.{Option, Some, None, length, slice_index, slice_index_or, slice_set, replicate}
 use Rattle.std.specs.Prelude.{IfSome, ◌==◌, ◌||◌, ◌⊎◌, is_some}
 use Rattle.std.proofs.lemmas.Bool.{both_ways, cases_Bool, eqb-true, eqb-false}
 use Rattle.std.proofs.lemmas.List.{get_or-set_same, get_or-set_other, length-set}
@@ -21,31 +23,37 @@ pub record Listens (x : ℕ) (o : Option Station) (old new : List ℕ) : Type 0 
   pub kept : (y z : ℕ) → y < 96 → has (slice_index old y) z ≡ true → has (slice_index new y) z ≡ true
   pub added : (y : ℕ) → y < 96 → awaits y o ≡ true → has (slice_index new y) x ≡ true
 
-pub listening_set : (slots : List (Option Station)) (x : ℕ) (o : Option Station) (old new : List ℕ) → x < length slots → AreListening slots old → Listens x o old new → AreListening (slice_set slots x o) new
+pub listening_set : (slots : List (Option Station)) (x : ℕ) (o : Option Station) (old new : List ℕ) → x < length slots
+    → AreListening slots old → Listens x o old new → AreListening (slice_set slots x o) new
 listening_set slots x o old new l so listens = record {
   count = listens.count ∙ so.count;
   each = λ z y m k e. elim (cases_Bool (x == z)) [
     | inl f ↦
         let same : x ≡ z = eqb-true x z f in
         rw (← same) (listens.added y k (ap (awaits y) (sym (rw (← same) (get_or-set_same slots x o None l))) ∙ e))
-    | inr f ↦ listens.kept y z k (so.each z y m k (ap (awaits y) (sym (get_or-set_other slots x z o None (λ w. eqb-false x z f (sym w)))) ∙ e))
+    | inr f ↦ listens.kept y z k (so.each z y m k
+        (ap (awaits y) (sym (get_or-set_other slots x z o None (λ w. eqb-false x z f (sym w)))) ∙ e))
   ];
 }
 
-pub own_set : (slots : List (Option Station)) (x : ℕ) (o : Option Station) → x < length slots → AreOwn slots → IsOwn x o → AreOwn (slice_set slots x o)
+pub own_set : (slots : List (Option Station)) (x : ℕ) (o : Option Station) → x < length slots → AreOwn slots → IsOwn x o
+    → AreOwn (slice_set slots x o)
 own_set slots x o l so own y m = elim (cases_Bool (x == y)) [
   | inl f ↦ let same : x ≡ y = eqb-true x y f in rw (← same, get_or-set_same slots x o None l) own
   | inr f ↦ rw (get_or-set_other slots x y o None (λ w. eqb-false x y f (sym w))) (so y m)
 ]
 
-pub own_here : (slots : List (Option Station)) (x : ℕ) (s : Station) → x < 96 → AreOwn slots → slice_index_or slots x None ≡ Some s → IsOwn x (Some s)
+pub own_here : (slots : List (Option Station)) (x : ℕ) (s : Station) → x < 96 → AreOwn slots
+    → slice_index_or slots x None ≡ Some s → IsOwn x (Some s)
 own_here slots x s l own at = rw at at (own x l)
 
-pub unit_here : (slots : List (Option Station)) (x : ℕ) (o : Option Station) → x < 96 → AreOwn slots → o ≡ slice_index_or slots x None → IfSome o (λ s. unit_of s.instr.op ≡ Some (unit_of_pool (pool_at (x / 16))))
+pub unit_here : (slots : List (Option Station)) (x : ℕ) (o : Option Station) → x < 96 → AreOwn slots
+    → o ≡ slice_index_or slots x None → IfSome o (λ s. unit_of s.instr.op ≡ Some (unit_of_pool (pool_at (x / 16))))
 unit_here slots x None l so at = tt
 unit_here slots x (Some s) l so at = ap unit_at (own_here slots x s l so (sym at))
 
-pub pool_here : (slots : List (Option Station)) (x : ℕ) (o : Option Station) → x < 96 → AreOwn slots → o ≡ slice_index_or slots x None → IfSome o (λ s. pool_of s.instr.op ≡ Some (pool_at (x / 16)))
+pub pool_here : (slots : List (Option Station)) (x : ℕ) (o : Option Station) → x < 96 → AreOwn slots
+    → o ≡ slice_index_or slots x None → IfSome o (λ s. pool_of s.instr.op ≡ Some (pool_at (x / 16)))
 pool_here slots x None l so at = tt
 pool_here slots x (Some s) l so at = own_here slots x s l so (sym at)
 
@@ -58,7 +66,8 @@ or_cases true b e = inl refl
 or_cases false b e = inr e
 
 -- what comes is told to the places of both operands
-pub station_listens : (x : ℕ) (s : Station) (old now new : List ℕ) → length old ≡ 96 → IsListening x s.j old now → IsListening x s.k now new → Listens x (Some s) old new
+pub station_listens : (x : ℕ) (s : Station) (old now new : List ℕ) → length old ≡ 96 → IsListening x s.j old now
+    → IsListening x s.k now new → Listens x (Some s) old new
 station_listens x s old now new count first second = record {
   count = second.count ∙ first.count;
   kept = λ y z l e. second.kept y z l (first.kept y z l e);
@@ -69,8 +78,11 @@ station_listens x s old now new count first second = record {
 }
 
 -- what waits for no more than before is told already
-pub same_listens : (slots : List (Option Station)) (x : ℕ) (s t : Station) (sets : List ℕ) → x < 96 → AreListening slots sets → slice_index_or slots x None ≡ Some s → ((y : ℕ) → awaits y (Some t) ≡ true → awaits y (Some s) ≡ true) → Listens x (Some t) sets sets
-same_listens slots x s t sets l so here less = record { count = refl; kept = λ y z k e. e; added = λ y k e. so.each x y l k (ap (awaits y) here ∙ less y e) }
+pub same_listens : (slots : List (Option Station)) (x : ℕ) (s t : Station) (sets : List ℕ) → x < 96
+    → AreListening slots sets → slice_index_or slots x None ≡ Some s
+    → ((y : ℕ) → awaits y (Some t) ≡ true → awaits y (Some s) ≡ true) → Listens x (Some t) sets sets
+same_listens slots x s t sets l so here less =
+    record { count = refl; kept = λ y z k e. e; added = λ y k e. so.each x y l k (ap (awaits y) here ∙ less y e) }
 
 -- an operand that has heard comes from where it came before, or is there
 heard_less : (sent : ℕ → Option ℕ) (y : ℕ) (f : Field) → comes_from y (heard sent f) ≡ true → comes_from y f ≡ true
@@ -87,8 +99,10 @@ or_less true b c d f g e = rw (f refl) refl
 or_less false b true d f g e = refl
 or_less false b false d f g e = g e
 
-pub hears_less : (sent : ℕ → Option ℕ) (s : Station) (y : ℕ) → awaits y (Some (hears sent s)) ≡ true → awaits y (Some s) ≡ true
-hears_less sent s y e = or_less (comes_from y (heard sent s.j)) (comes_from y (heard sent s.k)) (comes_from y s.j) (comes_from y s.k) (heard_less sent y s.j) (heard_less sent y s.k) e
+pub hears_less : (sent : ℕ → Option ℕ) (s : Station) (y : ℕ) → awaits y (Some (hears sent s)) ≡ true
+    → awaits y (Some s) ≡ true
+hears_less sent s y e = or_less (comes_from y (heard sent s.j)) (comes_from y (heard sent s.k)) (comes_from y s.j)
+    (comes_from y s.k) (heard_less sent y s.j) (heard_less sent y s.k) e
 
 pub address_same : (s : Station) (y : ℕ) → awaits y (Some (with_address s)) ≡ true → awaits y (Some s) ≡ true
 address_same s y e = of s.j refl
@@ -125,11 +139,14 @@ pub hears_none : (y value : ℕ) (s : Station) → awaits y (Some (hears (only y
 hears_none y value s = rw (heard_none y value s.j, heard_none y value s.k) refl
 
 -- no more is to come from a place
-pub forgotten : (slots : List (Option Station)) (sets : List ℕ) (from : ℕ) → AreListening slots sets → from < 96 → ((x : ℕ) → x < 96 → awaits from (slice_index_or slots x None) ≡ false) → AreListening slots (slice_set sets from 0)
+pub forgotten : (slots : List (Option Station)) (sets : List ℕ) (from : ℕ) → AreListening slots sets → from < 96
+    → ((x : ℕ) → x < 96 → awaits from (slice_index_or slots x None) ≡ false)
+    → AreListening slots (slice_set sets from 0)
 forgotten slots sets from so l none = record {
   count = length-set sets from 0 ∙ so.count;
   each = λ x y m k e. elim (cases_Bool (from == y)) [
-    | inl f ↦ let same : from ≡ y = eqb-true from y f in absurd (both_ways (awaits y (slice_index_or slots x None)) (rw (← same) (none x m)) e)
+    | inl f ↦ let same : from ≡ y = eqb-true from y f in
+        absurd (both_ways (awaits y (slice_index_or slots x None)) (rw (← same) (none x m)) e)
     | inr f ↦ ap (λ n. has n x) (get_or-set_other sets from y 0 0 (λ w. eqb-false from y f (sym w))) ∙ so.each x y m k e
   ];
 }
@@ -149,20 +166,24 @@ member_kept old new x z with e = elim (cases_Bool (x == z)) [
 ]
 
 -- an operand is told to its place
-pub told : (sets : List ℕ) (x from : ℕ) (tag : Tag) (set : ℕ) → length sets ≡ 96 → from ≡ place_of_tag tag → IsWith (slice_index sets from) x set → IsListening x (Waits tag) sets (slice_set sets from set)
+pub told : (sets : List ℕ) (x from : ℕ) (tag : Tag) (set : ℕ) → length sets ≡ 96 → from ≡ place_of_tag tag
+    → IsWith (slice_index sets from) x set → IsListening x (Waits tag) sets (slice_set sets from set)
 told sets x from tag set count at with = record {
   count = length-set sets from set;
   kept = λ y z l e. elim (cases_Bool (from == y)) [
     | inr f ↦ ap (λ n. has n z) (get_or-set_other sets from y set 0 (λ w. eqb-false from y f (sym w))) ∙ e
     | inl f ↦
         let same : from ≡ y = eqb-true from y f in
-        ap (λ n. has n z) (set_here sets from y set (omega (arith, count)) same) ∙ member_kept (slice_index sets from) set x z with (ap (λ i. has (slice_index sets i) z) same ∙ e)
+        ap (λ n. has n z) (set_here sets from y set (omega (arith, count)) same)
+        ∙ member_kept (slice_index sets from) set x z with (ap (λ i. has (slice_index sets i) z) same ∙ e)
   ];
-  added = λ y l e. ap (λ n. has n x) (set_here sets from y set (omega (arith, count)) (at ∙ eqb-true (place_of_tag tag) y e)) ∙ with.same;
+  added = λ y l e. ap (λ n. has n x)
+      (set_here sets from y set (omega (arith, count)) (at ∙ eqb-true (place_of_tag tag) y e)) ∙ with.same;
 }
 
 -- a place that sends nothing is told nothing
-pub past : (sets : List ℕ) (x from : ℕ) (tag : Tag) → from ≡ place_of_tag tag → 96 ≤ from → IsListening x (Waits tag) sets sets
+pub past : (sets : List ℕ) (x from : ℕ) (tag : Tag) → from ≡ place_of_tag tag → 96 ≤ from
+    → IsListening x (Waits tag) sets sets
 past sets x from tag at high = record {
   count = refl;
   kept = λ y z l e. e;
@@ -170,8 +191,18 @@ past sets x from tag at high = record {
 }
 
 -- an operand that comes from no place is told to none
-pub untold : (sets : List ℕ) (x : ℕ) (f : Field) → ((y : ℕ) → y < 96 → comes_from y f ≡ false) → IsListening x f sets sets
-untold sets x f none = record { count = refl; kept = λ y z l e. e; added = λ y l e. absurd (both_ways (comes_from y f) (none y l) e) }
+pub untold : (sets : List ℕ) (x : ℕ) (f : Field) → ((y : ℕ) → y < 96 → comes_from y f ≡ false)
+    → IsListening x f sets sets
+untold sets x f none = record {
+  count = refl;
+  kept = λ y z l e. e;
+  added = λ y l e. absurd (both_ways (comes_from y f) (none y l) e);
+}
 
-pub none_awaits : (slots : List (Option Station)) → ((x : ℕ) → x < 128 → slice_index_or slots x None ≡ None) → AreListening slots (replicate 96 0)
-none_awaits slots none = record { count = refl; each = λ x y l k e. absurd (both_ways (awaits y (slice_index_or slots x None)) (ap (awaits y) (none x (omega arith))) e) }
+pub none_awaits : (slots : List (Option Station)) → ((x : ℕ) → x < 128 → slice_index_or slots x None ≡ None)
+    → AreListening slots (replicate 96 0)
+none_awaits slots none = record {
+  count = refl;
+  each =
+      λ x y l k e. absurd (both_ways (awaits y (slice_index_or slots x None)) (ap (awaits y) (none x (omega arith))) e);
+}

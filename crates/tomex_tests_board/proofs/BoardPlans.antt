@@ -1,6 +1,8 @@
 -- Cycles that tests of boards pick for rows whose costs they know by their number alone.
-use Rattle.std.proofs.Common.{◌≡◌, ℕ, ◌<◌, ◌≤◌, ◌^◌, List, [], ◌∷◌, All, map, replicate, set, length, get_or, ap, ◌∙◌, arith}
-use Rattle.std.proofs.lemmas.List.{get_or-set_other, get_or-set_same, length-set, length-map, get_or-replicate, length-replicate}
+use Rattle.std.proofs.Common.{◌≡◌, ℕ, ◌<◌, ◌≤◌, ◌^◌, List, [], ◌∷◌, All, map, replicate, set, length, get_or, ap, ◌∙◌}
+use Rattle.std.proofs.Common.{arith}
+use Rattle.std.proofs.lemmas.List.{get_or-set_other, get_or-set_same, length-set, length-map, get_or-replicate}
+use Rattle.std.proofs.lemmas.List.{length-replicate}
 use Rattle.std.proofs.lemmas.List.Elements.{All-nil, All-cons, All-from_get_or}
 use mathlib.Core.Logic.{dite}
 use native.Mathlib.Decide.{ℕ_discrete}
@@ -25,7 +27,8 @@ pub cycles_count : (n : ℕ) → length (cycles_of n) ≡ n
 cycles_count n = length-set (replicate n 500) 99 400 ∙ length-replicate n 500
 
 pub cycles_at : (n i : ℕ) → i < n → i < 99 → get_or (cycles_of n) i 0 ≡ 500
-cycles_at n i h ne = get_or-set_other (replicate n 500) 99 i 400 0 (λ e. omega arith) ∙ get_or-replicate {A = ℕ} n i 500 0 h
+cycles_at n i h ne = get_or-set_other (replicate n 500) 99 i 400 0 (λ e. omega arith)
+    ∙ get_or-replicate {A = ℕ} n i 500 0 h
 
 pub cycles_last : (n : ℕ) → n ≡ 100 → get_or (cycles_of n) 99 0 ≡ 400
 cycles_last n e = let l = length-replicate {A = ℕ} n 500 in get_or-set_same (replicate n 500) 99 400 0 (omega arith)

@@ -70,106 +70,78 @@ fn granted<R: AllocGlobal + Threads + Wait + Sync>(
     Ok(refusals_of!(rt.alloc(), heap => command_in(rt, heap, words, files, output)?))
 }
 
+/// Asks for each of these texts, each granted at least so many blocks.
+fn each_is_granted<R: AllocGlobal + Threads + Wait + Sync>(
+    rt: &R,
+    files: &[(&str, &[u8])],
+    asked: &[(&str, &str, u64)],
+) -> Result<(), Fail> {
+    for (line, output, least) in asked {
+        let mut words = Vec::new(rt.alloc());
+        for word in line.split(' ') {
+            words.push(word)?;
+        }
+        match granted(rt, words.as_slice(), files, *output)? {
+            Some(granted) if granted >= *least => {}
+            _ => return Err("a command answers wrongly, or with too few blocks".into()),
+        }
+    }
+    Ok(())
+}
+
 #[test]
-fn of_each_command(rt: HostRuntime) -> Result<(), Fail> {
+fn of_a_run(rt: HostRuntime) -> Result<(), Fail> {
     let ended = text_of(
         rt.alloc(),
         PRODUCT_END.as_slice(),
         "ebreak at 0001000c after 4",
     )?;
-    let image = [("image", ELF.as_slice())];
-    let product = [
+    let files = [("image", ELF.as_slice())];
+    // The file's bytes, the window's, those that the run changes, and the text.
+    let asked = [("tomex run image --base 65536", ended.as_str(), 4)];
+    each_is_granted(&rt, files.as_slice(), asked.as_slice())
+}
+
+/// What is asked of one program on one machine, what it prints, and how many blocks it needs at least.
+static OF_PRODUCT: [(&str, &str, u64); 6] = [
+    // The study's bytes and its file's, names, the program, rows, costs, steps, times and the text.
+    ("tomex times study 1 mul", PRODUCT_TIMES, 11),
+    // All that but the times.
+    ("tomex stalls study 1 mul", PRODUCT_STALLS, 10),
+    // All that with the waits, and the places.
+    ("tomex stalls study 1 mul --by-pc", PRODUCT_STALLS_BY_PC, 12),
+    // All that but the waits and places; the times, how wide the numbers are, and each number.
+    ("tomex pipeline study 1 mul", ON_ONE_STATION, 12),
+    // The same, with the steps of the log and their events, but no width of numbers.
+    ("tomex pipeline study 0 mul --konata", PRODUCT_LOG, 13),
+    // All that but steps and times; the machine's memory and the text.
+    ("tomex tables study 0 mul 3", PRODUCT_AFTER_3, 11),
+];
+
+#[test]
+fn of_what_a_program_does(rt: HostRuntime) -> Result<(), Fail> {
+    let files = [
         ("study", PRODUCT_STUDY.as_bytes()),
         ("mul.bin", PRODUCT.as_slice()),
     ];
-    let dropped = [("study", DROPPED.as_bytes()), ("loop.bin", LOOP.as_slice())];
-    let (image, product, dropped) = (image.as_slice(), product.as_slice(), dropped.as_slice());
-    for (words, files, output, least) in [
-        // The file's bytes, the window's, those that the run changes, and the text.
-        (
-            ["tomex", "run", "image", "--base", "65536"].as_slice(),
-            image,
-            ended.as_str(),
-            4,
-        ),
-        // The study's bytes and its file's, names, the program, rows, costs, steps, times and the text.
-        (
-            ["tomex", "times", "study", "1", "mul"].as_slice(),
-            product,
-            PRODUCT_TIMES,
-            11,
-        ),
-        // All that but the times.
-        (
-            ["tomex", "stalls", "study", "1", "mul"].as_slice(),
-            product,
-            PRODUCT_STALLS,
-            10,
-        ),
-        // All that with the waits, and the places.
-        (
-            ["tomex", "stalls", "study", "1", "mul", "--by-pc"].as_slice(),
-            product,
-            PRODUCT_STALLS_BY_PC,
-            12,
-        ),
-        // All that but the waits and places; the times, how wide the numbers are, and each number.
-        (
-            ["tomex", "pipeline", "study", "1", "mul"].as_slice(),
-            product,
-            ON_ONE_STATION,
-            12,
-        ),
-        // The same, with the steps of the log and their events, but no width of numbers.
-        (
-            ["tomex", "pipeline", "study", "0", "mul", "--konata"].as_slice(),
-            product,
-            PRODUCT_LOG,
-            13,
-        ),
-        // All that but steps and times; the machine's memory and the text.
-        (
-            ["tomex", "tables", "study", "0", "mul", "3"].as_slice(),
-            product,
-            PRODUCT_AFTER_3,
-            11,
-        ),
-        // All that but steps and times; marks, machines, the front and its ends.
-        (
-            ["tomex", "all", "study"].as_slice(),
-            dropped,
-            DROPPED_REPORT,
-            16,
-        ),
-        (
-            ["tomex", "explore", "study"].as_slice(),
-            dropped,
-            DROPPED_REPORT,
-            16,
-        ),
-        (
-            ["tomex", "explore", "study", "--workers", "2"].as_slice(),
-            dropped,
-            DROPPED_REPORT,
-            16,
-        ),
-        // All that, with columns of numbers and their names in place of the records.
-        (
-            ["tomex", "front", "study"].as_slice(),
-            dropped,
-            DROPPED_TABLE,
-            16,
-        ),
-        // The front is enough.
-        (
-            ["tomex", "plot", "study"].as_slice(),
-            dropped,
-            DROPPED_PICTURE,
-            14,
-        ),
-    ] {
-        let granted = granted(&rt, words, files, output)?;
-        assert!(rt; matches!(granted, Some(granted) if granted >= least));
-    }
-    Ok(())
+    each_is_granted(&rt, files.as_slice(), OF_PRODUCT.as_slice())
+}
+
+/// What is asked of a whole study, what it prints, and how many blocks it needs at least.
+static OF_DROPPED: [(&str, &str, u64); 5] = [
+    // The study's bytes and its file's, names, the program, rows, costs and the text; marks, machines, the
+    // front and its ends.
+    ("tomex all study", DROPPED_REPORT, 16),
+    ("tomex explore study", DROPPED_REPORT, 16),
+    ("tomex explore study --workers 2", DROPPED_REPORT, 16),
+    // All that, with columns of numbers and their names in place of the records.
+    ("tomex front study", DROPPED_TABLE, 16),
+    // The front is enough.
+    ("tomex plot study", DROPPED_PICTURE, 14),
+];
+
+#[test]
+fn of_what_a_study_comes_to(rt: HostRuntime) -> Result<(), Fail> {
+    let files = [("study", DROPPED.as_bytes()), ("loop.bin", LOOP.as_slice())];
+    each_is_granted(&rt, files.as_slice(), OF_DROPPED.as_slice())
 }

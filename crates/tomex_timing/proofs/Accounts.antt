@@ -1,5 +1,6 @@
 -- The cycles of a run are its waits and its issues; the cycles of its stations are its waits and its operations.
-use Rattle.std.proofs.Common.{ℕ, zero, suc, ◌+◌, ◌-◌, ◌<◌, ◌≤◌, ◌≡◌, Bool, true, false, cond, arith, refl, inl, inr, List, [], ◌∷◌, Option, Some, None, max}
+use Rattle.std.proofs.Common.{ℕ, zero, suc, ◌+◌, ◌-◌, ◌<◌, ◌≤◌, ◌≡◌, Bool, true, false, cond, arith, refl, inl, inr}
+use Rattle.std.proofs.Common.{List, [], ◌∷◌, Option, Some, None, max}
 use Rattle.std.specs.Prelude.{nat_lt, not, ◌&&◌, count_by, is_some}
 use Rattle.std.specs.Bool.{MatchBool}
 use Rattle.std.specs.List.{range_with_len}
@@ -14,9 +15,12 @@ use Rattle.tomex_config.specs.Configuration.{Configuration, IsWithinLimits, opti
 use Rattle.tomex_timing.specs.declared.part.Part.TheVariants.{Width}
 use Rattle.tomex_timing.specs.declared.times.Done.{Done}
 use Rattle.tomex_timing.specs.History.{is_of, cycle_of, last_issue, greatest_end}
-use Rattle.tomex_timing.specs.Laws.{IssueCyclesAddUp, StationCyclesAddUp, StationWaitsAreStalls, UnitWaitsAreStalls, work_by}
-use Rattle.tomex_timing.specs.Needs.{lacks_branch, lacks_width, lacks_station, lacks_operand, lacks_address, lacks_memory, lacks_unit, waits_of, pool_stalls, stalls, stalls_by}
-use Rattle.tomex_timing.specs.Recurrence.{IsLeast, IsTimed, AreTimed, can_end, can_issue, can_start, can_issue_another, are_branches_finished, has_operands, are_conflicts_finished}
+use Rattle.tomex_timing.specs.Laws.{IssueCyclesAddUp, StationCyclesAddUp, StationWaitsAreStalls, UnitWaitsAreStalls}
+use Rattle.tomex_timing.specs.Laws.{work_by}
+use Rattle.tomex_timing.specs.Needs.{lacks_branch, lacks_width, lacks_station, lacks_operand, lacks_address}
+use Rattle.tomex_timing.specs.Needs.{lacks_memory, lacks_unit, waits_of, pool_stalls, stalls, stalls_by}
+use Rattle.tomex_timing.specs.Recurrence.{IsLeast, IsTimed, AreTimed, can_end, can_issue, can_start, can_issue_another}
+use Rattle.tomex_timing.specs.Recurrence.{are_branches_finished, has_operands, are_conflicts_finished}
 use Rattle.tomex_timing.proofs.Bands.{none_of}
 use Rattle.tomex_timing.proofs.Bound.{end_low, issue_low, start_low, timed_by}
 use Rattle.tomex_timing.proofs.Limits.{latency_low}
@@ -27,30 +31,47 @@ abbrev one : Bool → ℕ
 one b = cond b 1 0
 
 -- tests of which each cycle passes one count all of them
-three_ways : (p q r : ℕ → Bool) (n a : ℕ) → ((t : ℕ) → one (p t) + one (q t) + one (r t) ≡ 1) → count_by p (range_with_len a n) + count_by q (range_with_len a n) + count_by r (range_with_len a n) ≡ n
+three_ways : (p q r : ℕ → Bool) (n a : ℕ) → ((t : ℕ) → one (p t) + one (q t) + one (r t) ≡ 1)
+    → count_by p (range_with_len a n) + count_by q (range_with_len a n) + count_by r (range_with_len a n) ≡ n
 three_ways p q r zero a each = refl
 three_ways p q r (suc n) a each =
     let k = three_ways p q r n (a + 1) each in
     let h : one (p a) + one (q a) + one (r a) ≡ 1 = each a in
-    let x : count_by p (range_with_len a (suc n)) ≡ one (p a) + count_by p (range_with_len (a + 1) n) = sum_by-cons (λ x. one (p x)) a (range_with_len (a + 1) n) in
-    let y : count_by q (range_with_len a (suc n)) ≡ one (q a) + count_by q (range_with_len (a + 1) n) = sum_by-cons (λ x. one (q x)) a (range_with_len (a + 1) n) in
-    let z : count_by r (range_with_len a (suc n)) ≡ one (r a) + count_by r (range_with_len (a + 1) n) = sum_by-cons (λ x. one (r x)) a (range_with_len (a + 1) n) in
+    let x : count_by p (range_with_len a (suc n)) ≡ one (p a) + count_by p (range_with_len (a + 1) n) =
+    sum_by-cons (λ x. one (p x)) a (range_with_len (a + 1) n) in
+    let y : count_by q (range_with_len a (suc n)) ≡ one (q a) + count_by q (range_with_len (a + 1) n) =
+    sum_by-cons (λ x. one (q x)) a (range_with_len (a + 1) n) in
+    let z : count_by r (range_with_len a (suc n)) ≡ one (r a) + count_by r (range_with_len (a + 1) n) =
+    sum_by-cons (λ x. one (r x)) a (range_with_len (a + 1) n) in
     omega arith
 
-four_ways : (p q r s : ℕ → Bool) (n a : ℕ) → ((t : ℕ) → one (p t) + one (q t) + one (r t) + one (s t) ≡ 1) → count_by p (range_with_len a n) + count_by q (range_with_len a n) + count_by r (range_with_len a n) + count_by s (range_with_len a n) ≡ n
+four_ways : (p q r s : ℕ → Bool) (n a : ℕ) → ((t : ℕ) → one (p t) + one (q t) + one (r t) + one (s t) ≡ 1)
+    → count_by p (range_with_len a n) + count_by q (range_with_len a n) + count_by r (range_with_len a n)
+    + count_by s (range_with_len a n) ≡ n
 four_ways p q r s zero a each = refl
 four_ways p q r s (suc n) a each =
     let k = four_ways p q r s n (a + 1) each in
     let h : one (p a) + one (q a) + one (r a) + one (s a) ≡ 1 = each a in
-    let x : count_by p (range_with_len a (suc n)) ≡ one (p a) + count_by p (range_with_len (a + 1) n) = sum_by-cons (λ x. one (p x)) a (range_with_len (a + 1) n) in
-    let y : count_by q (range_with_len a (suc n)) ≡ one (q a) + count_by q (range_with_len (a + 1) n) = sum_by-cons (λ x. one (q x)) a (range_with_len (a + 1) n) in
-    let z : count_by r (range_with_len a (suc n)) ≡ one (r a) + count_by r (range_with_len (a + 1) n) = sum_by-cons (λ x. one (r x)) a (range_with_len (a + 1) n) in
-    let w : count_by s (range_with_len a (suc n)) ≡ one (s a) + count_by s (range_with_len (a + 1) n) = sum_by-cons (λ x. one (s x)) a (range_with_len (a + 1) n) in
+    let x : count_by p (range_with_len a (suc n)) ≡ one (p a) + count_by p (range_with_len (a + 1) n) =
+    sum_by-cons (λ x. one (p x)) a (range_with_len (a + 1) n) in
+    let y : count_by q (range_with_len a (suc n)) ≡ one (q a) + count_by q (range_with_len (a + 1) n) =
+    sum_by-cons (λ x. one (q x)) a (range_with_len (a + 1) n) in
+    let z : count_by r (range_with_len a (suc n)) ≡ one (r a) + count_by r (range_with_len (a + 1) n) =
+    sum_by-cons (λ x. one (r x)) a (range_with_len (a + 1) n) in
+    let w : count_by s (range_with_len a (suc n)) ≡ one (s a) + count_by s (range_with_len (a + 1) n) =
+    sum_by-cons (λ x. one (s x)) a (range_with_len (a + 1) n) in
     omega arith
 
-none_in_range : (p : ℕ → Bool) (n a : ℕ) → ((t : ℕ) → a ≤ t → t < a + n → p t ≡ false) → count_by p (range_with_len a n) ≡ 0
+none_in_range : (p : ℕ → Bool) (n a : ℕ) → ((t : ℕ) → a ≤ t → t < a + n → p t ≡ false)
+    → count_by p (range_with_len a n) ≡ 0
 none_in_range p zero a none = refl
-none_in_range p (suc n) a none = rw (sum_by-cons, none a (omega arith) (omega arith), none_in_range p n (a + 1) (λ t l m. none t (omega arith) (omega arith))) refl
+none_in_range p (suc n) a none =
+    rw (
+      sum_by-cons,
+      none a (omega arith) (omega arith),
+      none_in_range p n (a + 1)
+          (λ t l m. none t (omega arith) (omega arith)),
+    ) refl
 
 issue_ways : (b w : Bool) → one (not b) + one (b && not w) + one (b && w) ≡ 1
 issue_ways true true = refl
@@ -58,13 +79,18 @@ issue_ways true false = refl
 issue_ways false w = refl
 
 -- the waits of one issue
-issue_account : (config : Configuration) (older : List Done) (d : Done) → (waits_of config older d).branch + (waits_of config older d).width + (waits_of config older d).station ≡ d.at.issue - max 1 (last_issue older)
-issue_account config older d = three_ways (lacks_branch older) (lacks_width config older) (lacks_station config older) (d.at.issue - max 1 (last_issue older)) (max 1 (last_issue older)) (λ t. issue_ways (are_branches_finished older t) (can_issue_another config older t))
+issue_account : (config : Configuration) (older : List Done) (d : Done) → (waits_of config older d).branch
+    + (waits_of config older d).width + (waits_of config older d).station ≡ d.at.issue - max 1 (last_issue older)
+issue_account config older d = three_ways (lacks_branch older) (lacks_width config older) (lacks_station config older)
+    (d.at.issue - max 1 (last_issue older)) (max 1 (last_issue older))
+    (λ t. issue_ways (are_branches_finished older t) (can_issue_another config older t))
 
 -- what needs no station waits for none
-no_station_wait : (config : Configuration) (older : List Done) (d : Done) → step_pool d.step ≡ None → IsTimed config older d.step d.at → (waits_of config older d).station ≡ 0
+no_station_wait : (config : Configuration) (older : List Done) (d : Done) → step_pool d.step ≡ None
+    → IsTimed config older d.step d.at → (waits_of config older d).station ≡ 0
 no_station_wait config older d none is =
-    none_in_range (lacks_station config older) (d.at.issue - max 1 (last_issue older)) (max 1 (last_issue older)) (λ t l m. fails t l (omega arith))
+    none_in_range (lacks_station config older) (d.at.issue - max 1 (last_issue older)) (max 1 (last_issue older))
+    (λ t l m. fails t l (omega arith))
   where
     swap : (b w : Bool) → (((true && w) && b) && true) ≡ false → (b && w) ≡ false
     swap true true h = h
@@ -78,7 +104,8 @@ no_station_wait config older d none is =
         swap (are_branches_finished older t) (can_issue_another config older t) can2
 
 abbrev in_pools : Option PoolId → ℕ → ℕ
-in_pools x n = cond (is_in pools.Alu x) n 0 + cond (is_in pools.Mul x) n 0 + cond (is_in pools.Div x) n 0 + cond (is_in pools.Load x) n 0 + cond (is_in pools.Store x) n 0 + cond (is_in pools.Bru x) n 0
+in_pools x n = cond (is_in pools.Alu x) n 0 + cond (is_in pools.Mul x) n 0 + cond (is_in pools.Div x) n 0
+    + cond (is_in pools.Load x) n 0 + cond (is_in pools.Store x) n 0 + cond (is_in pools.Bru x) n 0
 
 in_one_pool : (p : PoolId) (n : ℕ) → in_pools (Some p) n ≡ n
 in_one_pool pools.Alu n = omega arith
@@ -96,12 +123,15 @@ abbrev issue_stalls : Configuration → List Done → ℕ
 issue_stalls config h =
     stalls_by (λ w. w.branch) config h + stalls config Width h + pool_stalls config h
 
-issues_add_up : (config : Configuration) (h : List Done) → AreTimed config h → issue_stalls config h + 1 ≡ max 1 (last_issue h)
+issues_add_up : (config : Configuration) (h : List Done) → AreTimed config h → issue_stalls config h
+    + 1 ≡ max 1 (last_issue h)
 issues_add_up config [] timed = refl
 issues_add_up config (d ∷ older) timed =
     let k : issue_stalls config older + 1 ≡ max 1 (last_issue older) = issues_add_up config older timed.1 in
     let a = issue_account config older d in
-    let p : in_pools (step_pool d.step) (waits_of config older d).station ≡ (waits_of config older d).station = pool_account (step_pool d.step) (waits_of config older d).station (λ none. no_station_wait config older d none timed.0) in
+    let p : in_pools (step_pool d.step) (waits_of config older d).station ≡ (waits_of config older d).station =
+    pool_account (step_pool d.step) (waits_of config older d).station
+    (λ none. no_station_wait config older d none timed.0) in
     let l : last_issue older ≤ d.at.issue = issue_from config older d.step d.at.issue timed.0.issue.0 in
     let pos : 0 < d.at.issue = issue_low config older d.step d.at.issue timed.0.issue.0 in
     omega arith
@@ -110,7 +140,8 @@ pub issue_cycles : IssueCyclesAddUp
 issue_cycles config d older good timed =
     let k : issue_stalls config (d ∷ older) + 1 ≡ max 1 d.at.issue = issues_add_up config (d ∷ older) timed in
     let pos : 0 < d.at.issue = issue_low config older d.step d.at.issue timed.0.issue.0 in
-    let l : d.at.issue ≤ greatest_end (d ∷ older) = last_issue_by (greatest_end (d ∷ older)) (d ∷ older) (timed_by config (d ∷ older) good timed) in
+    let l : d.at.issue ≤ greatest_end (d ∷ older) =
+    last_issue_by (greatest_end (d ∷ older)) (d ∷ older) (timed_by config (d ∷ older) good timed) in
     omega arith
 
 -- one operation
@@ -121,13 +152,18 @@ start_ways true true false = refl
 start_ways true false m = refl
 start_ways false a m = refl
 
-start_account : (config : Configuration) (older : List Done) (d : Done) → (waits_of config older d).operand + (waits_of config older d).address + (waits_of config older d).memory + (waits_of config older d).unit ≡ d.at.start - (d.at.issue + 1)
+start_account : (config : Configuration) (older : List Done) (d : Done) → (waits_of config older d).operand
+    + (waits_of config older d).address + (waits_of config older d).memory
+    + (waits_of config older d).unit ≡ d.at.start - (d.at.issue + 1)
 start_account config older d =
-    four_ways (lacks_operand older d) (lacks_address older d) (lacks_memory older d) (lacks_unit older d) (d.at.start - (d.at.issue + 1)) (d.at.issue + 1)
-    (λ t. start_ways (has_operands older d.step t) (nat_lt (cycle_of d.at.address) t) (are_conflicts_finished older d.step t))
+    four_ways (lacks_operand older d) (lacks_address older d) (lacks_memory older d) (lacks_unit older d)
+    (d.at.start - (d.at.issue + 1)) (d.at.issue + 1)
+    (λ t. start_ways (has_operands older d.step t) (nat_lt (cycle_of d.at.address) t)
+    (are_conflicts_finished older d.step t))
 
 abbrev in_units : Option UnitId → ℕ → ℕ
-in_units x n = cond (is_of units.Alu x) n 0 + cond (is_of units.Mul x) n 0 + cond (is_of units.Div x) n 0 + cond (is_of units.Mem x) n 0 + cond (is_of units.Bru x) n 0
+in_units x n = cond (is_of units.Alu x) n 0 + cond (is_of units.Mul x) n 0 + cond (is_of units.Div x) n 0
+    + cond (is_of units.Mem x) n 0 + cond (is_of units.Bru x) n 0
 
 in_one_unit : (u : UnitId) (n : ℕ) → in_units (Some u) n ≡ n
 in_one_unit units.Alu n = omega arith
@@ -136,19 +172,25 @@ in_one_unit units.Div n = omega arith
 in_one_unit units.Mem n = omega arith
 in_one_unit units.Bru n = omega arith
 
-end_account : (config : Configuration) (older : List Done) (d : Done) → MatchBool (is_some (step_dest d.step)) (IsLeast (can_end config older d.at.finish) d.at.end) (d.at.end ≡ d.at.finish)
+end_account : (config : Configuration) (older : List Done) (d : Done)
+    → MatchBool (is_some (step_dest d.step)) (IsLeast (can_end config older d.at.finish) d.at.end)
+    (d.at.end ≡ d.at.finish)
     → d.at.end ≡ d.at.finish + (d.at.end - (d.at.finish + 1)) + one (is_some (step_dest d.step))
 end_account config older d is = elim (cases_Bool (is_some (step_dest d.step))) [
   | inl e ↦
       let least : IsLeast (can_end config older d.at.finish) d.at.end = MatchBool-at_true _ _ e is in
       let low : d.at.finish < d.at.end = end_low config older d.at.finish d.at.end least.0 in
       rw e (omega arith)
-  | inr e ↦ let same : d.at.end ≡ d.at.finish = MatchBool-at_false (IsLeast (can_end config older d.at.finish) d.at.end) _ e is in rw e (omega arith)
+  | inr e ↦ let same : d.at.end ≡ d.at.finish =
+      MatchBool-at_false (IsLeast (can_end config older d.at.finish) d.at.end) _ e is in rw e (omega arith)
 ]
 
-operation_account : (config : Configuration) (older : List Done) (d : Done) (unit : Option UnitId) → IsWithinLimits config → step_unit d.step ≡ unit → IsTimed config older d.step d.at
+operation_account : (config : Configuration) (older : List Done) (d : Done) (unit : Option UnitId)
+    → IsWithinLimits config → step_unit d.step ≡ unit → IsTimed config older d.step d.at
     → cond (is_some unit) (d.at.end - d.at.issue) 0
-    ≡ (waits_of config older d).operand + (waits_of config older d).address + (waits_of config older d).memory + in_units unit (waits_of config older d).unit + (waits_of config older d).bus + work_by config unit (is_some (step_dest d.step))
+    ≡ (waits_of config older d).operand + (waits_of config older d).address + (waits_of config older d).memory
+    + in_units unit (waits_of config older d).unit + (waits_of config older d).bus
+    + work_by config unit (is_some (step_dest d.step))
 operation_account config older d None good e is =
     let s : d.at.start ≡ d.at.issue = rw e at is.start in
     let f : d.at.finish ≡ d.at.issue = rw e at is.finish in
@@ -156,10 +198,13 @@ operation_account config older d None good e is =
     let a = start_account config older d in
     omega arith
 operation_account config older d (Some u) good e is =
-    let s : IsLeast (can_start config older d.step u d.at.issue (cycle_of d.at.address)) d.at.start = rw e at is.start in
-    let low : d.at.issue < d.at.start = (start_low config older d.step u d.at.issue (cycle_of d.at.address) d.at.start s.0).0 in
+    let s : IsLeast (can_start config older d.step u d.at.issue (cycle_of d.at.address)) d.at.start =
+    rw e at is.start in
+    let low : d.at.issue < d.at.start =
+    (start_low config older d.step u d.at.issue (cycle_of d.at.address) d.at.start s.0).0 in
     let f : d.at.finish ≡ d.at.start + (option_of config u).latency - 1 = rw e at is.finish in
-    let n : MatchBool (is_some (step_dest d.step)) (IsLeast (can_end config older d.at.finish) d.at.end) (d.at.end ≡ d.at.finish) = rw e at is.end in
+    let n : MatchBool (is_some (step_dest d.step)) (IsLeast (can_end config older d.at.finish) d.at.end)
+    (d.at.end ≡ d.at.finish) = rw e at is.end in
     let pos : 0 < (option_of config u).latency = latency_low config u good in
     let a = start_account config older d in
     let b = end_account config older d n in
@@ -178,13 +223,17 @@ pub station_stalls : StationWaitsAreStalls
 station_stalls config [] timed = refl
 station_stalls config (d ∷ older) timed =
     let k = station_stalls config older timed.1 in
-    let p : in_pools (step_pool d.step) (waits_of config older d).station ≡ (waits_of config older d).station = pool_account (step_pool d.step) (waits_of config older d).station (λ none. no_station_wait config older d none timed.0) in
+    let p : in_pools (step_pool d.step) (waits_of config older d).station ≡ (waits_of config older d).station =
+    pool_account (step_pool d.step) (waits_of config older d).station
+    (λ none. no_station_wait config older d none timed.0) in
     omega arith
 
-unit_account : (config : Configuration) (older : List Done) (d : Done) (unit : Option UnitId) → step_unit d.step ≡ unit → IsTimed config older d.step d.at → in_units unit (waits_of config older d).unit ≡ (waits_of config older d).unit
+unit_account : (config : Configuration) (older : List Done) (d : Done) (unit : Option UnitId) → step_unit d.step ≡ unit
+    → IsTimed config older d.step d.at → in_units unit (waits_of config older d).unit ≡ (waits_of config older d).unit
 unit_account config older d None e is =
     let s : d.at.start ≡ d.at.issue = rw e at is.start in
-    let n : (waits_of config older d).unit ≡ 0 = none_of (lacks_unit older d) (d.at.issue + 1) d.at.start (omega arith) in
+    let n : (waits_of config older d).unit ≡ 0 =
+    none_of (lacks_unit older d) (d.at.issue + 1) d.at.start (omega arith) in
     omega arith
 unit_account config older d (Some u) e is = in_one_unit u (waits_of config older d).unit
 
@@ -193,5 +242,6 @@ pub kind_stalls : UnitWaitsAreStalls
 kind_stalls config [] timed = refl
 kind_stalls config (d ∷ older) timed =
     let k = kind_stalls config older timed.1 in
-    let p : in_units (step_unit d.step) (waits_of config older d).unit ≡ (waits_of config older d).unit = unit_account config older d (step_unit d.step) refl timed.0 in
+    let p : in_units (step_unit d.step) (waits_of config older d).unit ≡ (waits_of config older d).unit =
+    unit_account config older d (step_unit d.step) refl timed.0 in
     omega arith

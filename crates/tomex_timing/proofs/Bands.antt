@@ -22,16 +22,21 @@ one_step a b t n = elim (cases_Bool (nat_le a t)) [
 ]
 
 -- a test that passes just in a band counts its length
-band_count : (p : ℕ → Bool) (a b n t : ℕ) → ((s : ℕ) → t ≤ s → s < t + n → p s ≡ is_in_band a b s) → count_by p (range_with_len t n) ≡ min b (t + n) - max a t
+band_count : (p : ℕ → Bool) (a b n t : ℕ) → ((s : ℕ) → t ≤ s → s < t + n → p s ≡ is_in_band a b s)
+    → count_by p (range_with_len t n) ≡ min b (t + n) - max a t
 band_count p a b zero t h = let z : min b (t + 0) - max a t ≡ 0 = omega arith in rw z refl
 band_count p a b (suc n) t h =
-    let k : count_by p (range_with_len (t + 1) n) ≡ min b (t + 1 + n) - max a (t + 1) = band_count p a b n (t + 1) (λ s l m. h s (omega arith) (omega arith)) in
-    let s : count_by p (range_with_len t (suc n)) ≡ one (p t) + count_by p (range_with_len (t + 1) n) = sum_by-cons (λ x. one (p x)) t (range_with_len (t + 1) n) in
+    let k : count_by p (range_with_len (t + 1) n) ≡ min b (t + 1 + n) - max a (t + 1) =
+    band_count p a b n (t + 1) (λ s l m. h s (omega arith) (omega arith)) in
+    let s : count_by p (range_with_len t (suc n)) ≡ one (p t) + count_by p (range_with_len (t + 1) n) =
+    sum_by-cons (λ x. one (p x)) t (range_with_len (t + 1) n) in
     rw (s, k, h t (omega arith) (omega arith)) (one_step a b t n)
 
-pub band : (p : ℕ → Bool) (a b from to : ℕ) → from ≤ a → a ≤ b → b ≤ to → ((s : ℕ) → from ≤ s → s < to → p s ≡ is_in_band a b s) → cycles_that p from to ≡ b - a
+pub band : (p : ℕ → Bool) (a b from to : ℕ) → from ≤ a → a ≤ b → b ≤ to
+    → ((s : ℕ) → from ≤ s → s < to → p s ≡ is_in_band a b s) → cycles_that p from to ≡ b - a
 band p a b from to l m u h =
-    let k : count_by p (range_with_len from (to - from)) ≡ min b (from + (to - from)) - max a from = band_count p a b (to - from) from (λ s x y. h s x (omega arith)) in
+    let k : count_by p (range_with_len from (to - from)) ≡ min b (from + (to - from)) - max a from =
+    band_count p a b (to - from) from (λ s x y. h s x (omega arith)) in
     let e : min b (from + (to - from)) - max a from ≡ b - a = omega arith in
     k ∙ e
 

@@ -1,5 +1,6 @@
 -- A step's times are at most 67 past the greatest end before it, so n steps take at most 67 * n cycles.
-use Rattle.std.proofs.Common.{ℕ, ◌+◌, ◌*◌, ◌-◌, ◌<◌, ◌≤◌, ◌≡◌, true, false, arith, refl, List, [], ◌∷◌, Option, Some, None, inl, inr, length}
+use Rattle.std.proofs.Common.{ℕ, ◌+◌, ◌*◌, ◌-◌, ◌<◌, ◌≤◌, ◌≡◌, true, false, arith, refl, List, [], ◌∷◌, Option, Some}
+use Rattle.std.proofs.Common.{None, inl, inr, length}
 use Rattle.std.specs.Prelude.{nat_lt, ◌||◌, is_some, MatchOption}
 use Rattle.std.specs.Bool.{MatchBool}
 use Rattle.std.proofs.lemmas.Bool.{cases_Bool, ltb-true, and_parts, MatchBool-at_true, MatchBool-at_false}
@@ -19,15 +20,18 @@ use Rattle.tomex_timing.proofs.Least.{least_le}
 use Rattle.tomex_timing.proofs.Limits.{latency_low, latency_high}
 use Rattle.tomex_timing.proofs.Settled.{AllBy, can_issue_after, can_address_after, can_start_after, can_end_after}
 
-pub issue_low : (config : Configuration) (older : List Done) (s : Step) (t : ℕ) → can_issue config older s t ≡ true → 0 < t
+pub issue_low : (config : Configuration) (older : List Done) (s : Step) (t : ℕ) → can_issue config older s t ≡ true
+    → 0 < t
 issue_low config older s t h = ltb-true 0 t (and_parts _ _ (and_parts _ _ (and_parts _ _ h).0).0).0
 
-pub start_low : (config : Configuration) (older : List Done) (s : Step) (unit : UnitId) (issue address t : ℕ) → can_start config older s unit issue address t ≡ true → (issue < t) × (address < t)
+pub start_low : (config : Configuration) (older : List Done) (s : Step) (unit : UnitId) (issue address t : ℕ)
+    → can_start config older s unit issue address t ≡ true → (issue < t) × (address < t)
 start_low config older s unit issue address t h =
     let two = and_parts (nat_lt issue t) (nat_lt address t) (and_parts _ _ (and_parts _ _ (and_parts _ _ h).0).0).0 in
     (ltb-true issue t two.0, ltb-true address t two.1)
 
-pub end_low : (config : Configuration) (older : List Done) (finish t : ℕ) → can_end config older finish t ≡ true → finish < t
+pub end_low : (config : Configuration) (older : List Done) (finish t : ℕ) → can_end config older finish t ≡ true
+    → finish < t
 end_low config older finish t h = ltb-true finish t (and_parts _ _ h).0
 
 -- a load or store uses a unit
@@ -35,65 +39,128 @@ pub memory_unit : (pool : Option PoolId) → (is_in Load pool || is_in Store poo
 memory_unit None h = h
 memory_unit (Some pool) h = refl
 
-address_reach : (config : Configuration) (older : List Done) (s : Step) (at : Times) (g : ℕ) → AllBy g older → IsTimed config older s at → at.issue ≤ g + 1 → cycle_of at.address ≤ g + 2
+address_reach : (config : Configuration) (older : List Done) (s : Step) (at : Times) (g : ℕ) → AllBy g older
+    → IsTimed config older s at → at.issue ≤ g + 1 → cycle_of at.address ≤ g + 2
 address_reach config older s at g h timed i = elim (cases_Bool (is_memory s)) [
-  | inl e ↦ least_le (can_address older s at.issue) (cycle_of at.address) (g + 2) (MatchBool-at_true _ _ e timed.address) (can_address_after older s at.issue g h i)
-  | inr e ↦ let z : at.address ≡ None = MatchBool-at_false (IsLeast (can_address older s at.issue) (cycle_of at.address)) _ e timed.address in rw z (omega arith)
+  | inl e ↦ least_le (can_address older s at.issue) (cycle_of at.address) (g + 2)
+      (MatchBool-at_true _ _ e timed.address) (can_address_after older s at.issue g h i)
+  | inr e ↦ let z : at.address ≡ None =
+      MatchBool-at_false (IsLeast (can_address older s at.issue) (cycle_of at.address)) _ e timed.address in
+      rw z (omega arith)
 ]
 
-end_reach : (config : Configuration) (older : List Done) (s : Step) (finish end g : ℕ) → IsWithinLimits config → AllBy g older → finish ≤ g + 66 → MatchBool (is_some (step_dest s)) (IsLeast (can_end config older finish) end) (end ≡ finish) → (finish ≤ end) × (end ≤ g + 67)
+end_reach : (config : Configuration) (older : List Done) (s : Step) (finish end g : ℕ) → IsWithinLimits config
+    → AllBy g older → finish ≤ g + 66 → MatchBool (is_some (step_dest s)) (IsLeast (can_end config older finish) end)
+    (end ≡ finish) → (finish ≤ end) × (end ≤ g + 67)
 end_reach config older s finish end g good h f is = elim (cases_Bool (is_some (step_dest s))) [
   | inl e ↦
       let at_end : IsLeast (can_end config older finish) end = MatchBool-at_true _ _ e is in
-      let low : finish < end = end_low config older finish end at_end.0 in
-      (omega arith, least_le (can_end config older finish) end (g + 67) at_end (can_end_after config older finish g (g + 67) good h (omega arith) (omega arith)))
-  | inr e ↦ let z : end ≡ finish = MatchBool-at_false (IsLeast (can_end config older finish) end) _ e is in (omega arith, omega arith)
+      let low : finish < end = end_low config older finish end at_end.0 in (
+        omega arith,
+        least_le (can_end config older finish) end (g + 67) at_end
+            (can_end_after config older finish g (g + 67) good h (omega arith) (omega arith)),
+      )
+  | inr e ↦ let z : end ≡ finish = MatchBool-at_false (IsLeast (can_end config older finish) end) _ e is in
+      (omega arith, omega arith)
 ]
 
-in_reach_from : (config : Configuration) (older : List Done) (s : Step) (at : Times) (g : ℕ) (unit : Option UnitId) → IsWithinLimits config → AllBy g older → (is_memory s ≡ true → is_some unit ≡ true)
+in_reach_from : (config : Configuration) (older : List Done) (s : Step) (at : Times) (g : ℕ) (unit : Option UnitId)
+    → IsWithinLimits config → AllBy g older → (is_memory s ≡ true → is_some unit ≡ true)
     → IsLeast (can_issue config older s) at.issue
     → MatchBool (is_memory s) (IsLeast (can_address older s at.issue) (cycle_of at.address)) (at.address ≡ None)
     → at.issue ≤ g + 1 → cycle_of at.address ≤ g + 2
-    → MatchOption unit (at.start ≡ at.issue) (λ u. IsLeast (can_start config older s u at.issue (cycle_of at.address)) at.start)
+    → MatchOption unit (at.start ≡ at.issue)
+    (λ u. IsLeast (can_start config older s u at.issue (cycle_of at.address)) at.start)
     → MatchOption unit (at.finish ≡ at.issue) (λ u. at.finish ≡ at.start + (option_of config u).latency - 1)
-    → MatchOption unit (at.end ≡ at.issue) (λ u. MatchBool (is_some (step_dest s)) (IsLeast (can_end config older at.finish) at.end) (at.end ≡ at.finish))
+    → MatchOption unit (at.end ≡ at.issue)
+    (λ u. MatchBool (is_some (step_dest s)) (IsLeast (can_end config older at.finish) at.end) (at.end ≡ at.finish))
     → InReach g at
 in_reach_from config older s at g None good h memory issue address i a start finish end =
-    let none : cycle_of at.address ≡ 0 = elim (cases_Bool (is_memory s)) [ inl e ↦ absurd (let k : false ≡ true = memory e in cc) | inr e ↦ let z : at.address ≡ None = MatchBool-at_false (IsLeast (can_address older s at.issue) (cycle_of at.address)) _ e address in rw z refl ] in
+    let none : cycle_of at.address ≡ 0 =
+    elim (cases_Bool (is_memory s)) [
+      | inl e ↦ absurd (let k : false ≡ true = memory e in
+          cc)
+      | inr e ↦ let z : at.address ≡ None =
+          MatchBool-at_false (IsLeast (can_address older s at.issue) (cycle_of at.address)) _ e address in rw z refl
+    ] in
     let low : 0 < at.issue = issue_low config older s at.issue issue.0 in
-    record { issue_low = low; issue = omega arith; issue_reach = i; address = omega arith; start = omega arith; finish = omega arith; end = omega arith; order = omega arith }
+    record {
+      issue_low = low;
+      issue = omega arith;
+      issue_reach = i;
+      address = omega arith;
+      start = omega arith;
+      finish = omega arith;
+      end = omega arith;
+      order = omega arith;
+    }
 in_reach_from config older s at g (Some u) good h memory issue address i a start finish end =
     let low : 0 < at.issue = issue_low config older s at.issue issue.0 in
     let after = start_low config older s u at.issue (cycle_of at.address) at.start start.0 in
-    let by : at.start ≤ g + 3 = least_le (can_start config older s u at.issue (cycle_of at.address)) at.start (g + 3) start (can_start_after config older s u at.issue (cycle_of at.address) g good h i a) in
+    let by : at.start ≤ g + 3 = least_le (can_start config older s u at.issue (cycle_of at.address)) at.start (g + 3)
+    start (can_start_after config older s u at.issue (cycle_of at.address) g good h i a) in
     let l : 0 < (option_of config u).latency = latency_low config u good in
     let k : (option_of config u).latency ≤ 64 = latency_high config u good in
     let fin : at.finish ≡ at.start + (option_of config u).latency - 1 = finish in
     let ends = end_reach config older s at.finish at.end g good h (omega arith) end in
-    record { issue_low = low; issue = omega arith; issue_reach = i; address = omega arith; start = omega arith; finish = omega arith; end = omega arith; order = omega arith }
+    record {
+      issue_low = low;
+      issue = omega arith;
+      issue_reach = i;
+      address = omega arith;
+      start = omega arith;
+      finish = omega arith;
+      end = omega arith;
+      order = omega arith;
+    }
 
-pub in_reach : (config : Configuration) (older : List Done) (s : Step) (at : Times) (g : ℕ) → IsWithinLimits config → AllBy g older → IsTimed config older s at → InReach g at
+pub in_reach : (config : Configuration) (older : List Done) (s : Step) (at : Times) (g : ℕ) → IsWithinLimits config
+    → AllBy g older → IsTimed config older s at → InReach g at
 in_reach config older s at g good h timed =
-    let i : at.issue ≤ g + 1 = least_le (can_issue config older s) at.issue (g + 1) timed.issue (can_issue_after config older s g good h) in
-    in_reach_from config older s at g (step_unit s) good h (memory_unit (step_pool s)) timed.issue timed.address i (address_reach config older s at g h timed i) timed.start timed.finish timed.end
+    let i : at.issue ≤ g + 1 = least_le (can_issue config older s) at.issue (g + 1) timed.issue
+    (can_issue_after config older s g good h) in
+    in_reach_from config older s at g (step_unit s) good h (memory_unit (step_pool s)) timed.issue timed.address i
+    (address_reach config older s at g h timed i) timed.start timed.finish timed.end
 
 -- a time within a bound is within a larger one
 AllBy-more : (a b : ℕ) (older : List Done) → a ≤ b → AllBy a older → AllBy b older
 AllBy-more a b [] l h = tt
-AllBy-more a b (d ∷ older) l h = (record { issue = omega (arith, h.0.issue); address = omega (arith, h.0.address); start = omega (arith, h.0.start); finish = omega (arith, h.0.finish); end = omega (arith, h.0.end) }, AllBy-more a b older l h.1)
+AllBy-more a b (d ∷ older) l h = (
+  record {
+    issue = omega (arith, h.0.issue);
+    address = omega (arith, h.0.address);
+    start = omega (arith, h.0.start);
+    finish = omega (arith, h.0.finish);
+    end = omega (arith, h.0.end);
+  },
+  AllBy-more a b older l
+      h.1,
+)
 
 -- nothing of a history lies past its greatest end
-pub timed_by : (config : Configuration) (h : List Done) → IsWithinLimits config → AreTimed config h → AllBy (greatest_end h) h
+pub timed_by : (config : Configuration) (h : List Done) → IsWithinLimits config → AreTimed config h
+    → AllBy (greatest_end h) h
 timed_by config [] good timed = tt
 timed_by config (d ∷ older) good timed =
     let earlier : AllBy (greatest_end older) older = timed_by config older good timed.1 in
-    let r : InReach (greatest_end older) d.at = in_reach config older d.step d.at (greatest_end older) good earlier timed.0 in
-    (record { issue = omega arith; address = omega arith; start = omega arith; finish = omega arith; end = omega arith }, AllBy-more (greatest_end older) (greatest_end (d ∷ older)) older (omega arith) earlier)
+    let r : InReach (greatest_end older) d.at =
+    in_reach config older d.step d.at (greatest_end older) good earlier timed.0 in (
+      record {
+        issue = omega arith;
+        address = omega arith;
+        start = omega arith;
+        finish = omega arith;
+        end = omega arith;
+      },
+      AllBy-more (greatest_end older) (greatest_end (d ∷ older)) older (omega arith) earlier,
+    )
 
 -- n steps take at most 67 * n cycles
-pub total_bound : (config : Configuration) (h : List Done) → IsWithinLimits config → AreTimed config h → greatest_end h ≤ 67 * length h
+pub total_bound : (config : Configuration) (h : List Done) → IsWithinLimits config → AreTimed config h
+    → greatest_end h ≤ 67 * length h
 total_bound config [] good timed = omega arith
 total_bound config (d ∷ older) good timed =
-    let r : InReach (greatest_end older) d.at = in_reach config older d.step d.at (greatest_end older) good (timed_by config older good timed.1) timed.0 in
+    let r : InReach (greatest_end older) d.at =
+    in_reach config older d.step d.at (greatest_end older) good (timed_by config older good timed.1) timed.0 in
     let earlier : greatest_end older ≤ 67 * length older = total_bound config older good timed.1 in
     omega arith

@@ -27,15 +27,20 @@ more P i below here k l = elim (cases_order k i) [
   | inr (inr m) ↦ absurd (omega arith)
 ]
 
-pub soonest_takes : (ends : List ℕ) (pool : PoolId) (from i cycle n : ℕ) → from < end_at ends pool i + 1 → end_at ends pool i + 1 < cycle → IsSoonest ends pool from i cycle n → IsSoonest ends pool from (i + 1) (end_at ends pool i + 1) i
+pub soonest_takes : (ends : List ℕ) (pool : PoolId) (from i cycle n : ℕ) → from < end_at ends pool i + 1
+    → end_at ends pool i + 1 < cycle → IsSoonest ends pool from i cycle n
+    → IsSoonest ends pool from (i + 1) (end_at ends pool i + 1) i
 soonest_takes ends pool from i cycle n busy sooner soonest = record {
   passed = more (λ k. from ≤ end_at ends pool k) i soonest.passed (omega arith);
-  by = more (λ k. end_at ends pool i + 1 ≤ end_at ends pool k + 1) i (λ k l. omega (arith, soonest.by k l)) (omega arith);
+  by = more (λ k. end_at ends pool i + 1 ≤ end_at ends pool k + 1) i (λ k l. omega (arith, soonest.by k l))
+      (omega arith);
   least = λ k l. omega (arith, soonest.by k l);
   at = inr (omega arith, refl);
 }
 
-pub soonest_keeps : (ends : List ℕ) (pool : PoolId) (from i cycle n : ℕ) → end_at ends pool i < 2 ^ 63 → from < end_at ends pool i + 1 → cycle ≤ end_at ends pool i + 1 → IsSoonest ends pool from i cycle n → IsSoonest ends pool from (i + 1) cycle n
+pub soonest_keeps : (ends : List ℕ) (pool : PoolId) (from i cycle n : ℕ) → end_at ends pool i < 2 ^ 63
+    → from < end_at ends pool i + 1 → cycle ≤ end_at ends pool i + 1 → IsSoonest ends pool from i cycle n
+    → IsSoonest ends pool from (i + 1) cycle n
 soonest_keeps ends pool from i cycle n small busy later soonest = record {
   passed = more (λ k. from ≤ end_at ends pool k) i soonest.passed (omega arith);
   by = more (λ k. cycle ≤ end_at ends pool k + 1) i soonest.by later;
@@ -47,7 +52,8 @@ soonest_keeps ends pool from i cycle n small busy later soonest = record {
 }
 
 -- a station that is free in the first cycle
-pub free_at_once : (ends : List ℕ) (pool : PoolId) (count from i cycle n : ℕ) → i < count → end_at ends pool i + 1 ≤ from → IsSoonest ends pool from i cycle n → IsFreeFirst ends pool count from from i
+pub free_at_once : (ends : List ℕ) (pool : PoolId) (count from i cycle n : ℕ) → i < count → end_at ends pool i
+    + 1 ≤ from → IsSoonest ends pool from i cycle n → IsFreeFirst ends pool count from from i
 free_at_once ends pool count from i cycle n there free soonest = record {
   begun = omega arith;
   there = there;
@@ -57,7 +63,8 @@ free_at_once ends pool count from i cycle n there free soonest = record {
 }
 
 -- and the one that is free first where none is
-pub free_soonest : (ends : List ℕ) (pool : PoolId) (count from cycle n : ℕ) → 1 ≤ count → IsSoonest ends pool from count cycle n → IsFreeFirst ends pool count from cycle n
+pub free_soonest : (ends : List ℕ) (pool : PoolId) (count from cycle n : ℕ) → 1 ≤ count
+    → IsSoonest ends pool from count cycle n → IsFreeFirst ends pool count from cycle n
 free_soonest ends pool count from cycle n some soonest = elim (soonest.at) [
   | inl none ↦ absurd (omega (arith, none.0))
   | inr there ↦ record {
@@ -70,9 +77,11 @@ free_soonest ends pool count from cycle n some soonest = elim (soonest.at) [
 ]
 
 -- after the greatest end each station is free
-pub free_by : (ends : List ℕ) (pool : PoolId) (count from cycle n bound : ℕ) → 1 ≤ count → end_at ends pool 0 ≤ bound → from ≤ bound + 1 → IsFreeFirst ends pool count from cycle n → cycle ≤ bound + 1
+pub free_by : (ends : List ℕ) (pool : PoolId) (count from cycle n bound : ℕ) → 1 ≤ count → end_at ends pool 0 ≤ bound
+    → from ≤ bound + 1 → IsFreeFirst ends pool count from cycle n → cycle ≤ bound + 1
 free_by ends pool count from cycle n bound some by early first = elim (cases_order (bound + 1) cycle) [
   | inl e ↦ omega arith
-  | inr (inl k) ↦ let late : bound + 1 ≤ end_at ends pool 0 = first.none 0 (bound + 1) (omega arith) early k in absurd (omega arith)
+  | inr (inl k) ↦ let late : bound + 1 ≤ end_at ends pool 0 = first.none 0 (bound + 1) (omega arith) early k in
+      absurd (omega arith)
   | inr (inr k) ↦ omega arith
 ]

@@ -1,8 +1,11 @@
--- What steps wait for is all in use in the cycles in which they wait for it, so a history takes all that its configuration has.
-use Rattle.std.proofs.Common.{ℕ, zero, suc, ◌+◌, ◌-◌, ◌<◌, ◌≤◌, ◌≡◌, Bool, true, false, cond, arith, refl, inl, inr, List, [], ◌∷◌, Option, Some, None, max}
+-- What steps wait for is all in use in the cycles in which they wait for it, so a history takes all that its
+-- configuration has.
+use Rattle.std.proofs.Common.{ℕ, zero, suc, ◌+◌, ◌-◌, ◌<◌, ◌≤◌, ◌≡◌, Bool, true, false, cond, arith, refl, inl, inr}
+use Rattle.std.proofs.Common.{List, [], ◌∷◌, Option, Some, None, max}
 use Rattle.std.specs.Prelude.{nat_lt, nat_le, not, ◌==◌, ◌&&◌, count_by, is_some, MatchOption}
 use Rattle.std.specs.List.{range_with_len}
-use Rattle.std.proofs.lemmas.Bool.{cases_Bool, cases_order, and_parts, eqb-true, le-leb, lt-ltb, ltb-false, MatchBool-at_true, MatchBool-at_false}
+use Rattle.std.proofs.lemmas.Bool.{cases_Bool, cases_order, and_parts, eqb-true, le-leb, lt-ltb, ltb-false}
+use Rattle.std.proofs.lemmas.Bool.{MatchBool-at_true, MatchBool-at_false}
 use Rattle.std.proofs.lemmas.List.Sums.{sum_by-cons}
 use Rattle.tomex_rvdec.specs.Parts.{place_of_pool, place_of_unit}
 use Rattle.tomex_rvdec.specs.declared.pool.PoolId.{PoolId}
@@ -14,20 +17,25 @@ use Rattle.tomex_timing.specs.declared.part.Part.TheVariants.{Stations, Units, B
 use Rattle.tomex_timing.specs.declared.times.Done.{Done}
 use Rattle.tomex_timing.specs.History.{is_of, cycle_of, last_issue}
 use Rattle.tomex_timing.specs.Laws.{StalledPartsAreFull}
-use Rattle.tomex_timing.specs.Needs.{count_of, cycles_that, lacks_width, lacks_station, lacks_unit, peak, stalls, waits_for, waits_of}
-use Rattle.tomex_timing.specs.Recurrence.{IsLeast, IsTimed, AreTimed, EndsAfter, can_issue_another, are_branches_finished, can_issue, has_operands, are_conflicts_finished, has_unit, can_start, has_bus, can_end}
+use Rattle.tomex_timing.specs.Needs.{count_of, cycles_that, lacks_width, lacks_station, lacks_unit, peak, stalls}
+use Rattle.tomex_timing.specs.Needs.{waits_for, waits_of}
+use Rattle.tomex_timing.specs.Recurrence.{IsLeast, IsTimed, AreTimed, EndsAfter, can_issue_another}
+use Rattle.tomex_timing.specs.Recurrence.{are_branches_finished, can_issue, has_operands, are_conflicts_finished}
+use Rattle.tomex_timing.specs.Recurrence.{has_unit, can_start, has_bus, can_end}
 use Rattle.tomex_timing.specs.Station.{has_station, is_held}
 use Rattle.tomex_timing.proofs.Pigeons.{stations_held}
 use Rattle.tomex_timing.proofs.Places.{same_pool, same_unit}
 use Rattle.tomex_timing.proofs.Taken.{peak_within}
 
 -- of cycles that a test counts there is one that passes
-range_some : (p : ℕ → Bool) (n a : ℕ) → 0 < count_by p (range_with_len a n) → (t : ℕ) × (a ≤ t) × (t < a + n) × (p t ≡ true)
+range_some : (p : ℕ → Bool) (n a : ℕ) → 0 < count_by p (range_with_len a n) → (t : ℕ) × (a ≤ t) × (t < a + n)
+    × (p t ≡ true)
 range_some p zero a l = let z : count_by p (range_with_len a 0) ≡ 0 = refl in absurd (omega arith)
 range_some p (suc n) a l = elim (cases_Bool (p a)) [
   | inl e ↦ (a, omega arith, omega arith, e)
   | inr e ↦
-      let f : count_by p (range_with_len a (suc n)) ≡ 0 + count_by p (range_with_len (a + 1) n) = rw (sum_by-cons, e) refl in
+      let f : count_by p (range_with_len a (suc n)) ≡ 0 + count_by p (range_with_len (a + 1) n) =
+      rw (sum_by-cons, e) refl in
       let r = range_some p n (a + 1) (omega arith) in
       let low : a + 1 ≤ r.0 = r.1 in
       let high : r.0 < a + 1 + n = r.2 in
@@ -50,15 +58,17 @@ issues_most (d ∷ h) t = let k = issues_most h t in elim (cases_Bool (d.at.issu
   | inr e ↦ rw (sum_by-cons, e) (omega arith)
 ]
 
-starts_most : (h : List Done) (u : UnitId) (t : ℕ) → count_by (λ x. is_of u (step_unit x.step) && x.at.start == t) h ≤ peak (Units u) h
+starts_most : (h : List Done) (u : UnitId) (t : ℕ) → count_by (λ x. is_of u (step_unit x.step) && x.at.start == t) h ≤
+    peak (Units u) h
 starts_most [] u t = omega arith
-starts_most (d ∷ h) u t = let k = starts_most h u t in elim (cases_Bool (is_of u (step_unit d.step) && d.at.start == t)) [
-  | inl e ↦
-      let two = and_parts (is_of u (step_unit d.step)) (d.at.start == t) e in
-      let s : d.at.start ≡ t = eqb-true d.at.start t two.1 in
-      rw (sum_by-cons, e, two.0, s) (omega arith)
-  | inr e ↦ rw (sum_by-cons, e) (omega arith)
-]
+starts_most (d ∷ h) u t = let k = starts_most h u t in
+    elim (cases_Bool (is_of u (step_unit d.step) && d.at.start == t)) [
+      | inl e ↦
+          let two = and_parts (is_of u (step_unit d.step)) (d.at.start == t) e in
+          let s : d.at.start ≡ t = eqb-true d.at.start t two.1 in
+          rw (sum_by-cons, e, two.0, s) (omega arith)
+      | inr e ↦ rw (sum_by-cons, e) (omega arith)
+    ]
 
 ends_most : (h : List Done) (t : ℕ) → count_by (λ x. is_some (step_dest x.step) && x.at.end == t) h ≤ peak Buses h
 ends_most [] t = omega arith
@@ -72,16 +82,19 @@ ends_most (d ∷ h) t = let k = ends_most h t in elim (cases_Bool (is_some (step
 
 -- in a cycle in which a step waits for a part as many are in use as the configuration has
 
-width_full : (config : Configuration) (older : List Done) (d : Done) → 0 < (waits_of config older d).width → config.width ≤ peak Width older
+width_full : (config : Configuration) (older : List Done) (d : Done) → 0 < (waits_of config older d).width
+    → config.width ≤ peak Width older
 width_full config older d waits =
     let c = some_that (lacks_width config older) (max 1 (last_issue older)) d.at.issue waits in
     let t : ℕ = c.0 in
     let low : max 1 (last_issue older) ≤ c.0 = c.1 in
-    let fails : not (can_issue_another config older c.0) ≡ true = (and_parts (are_branches_finished older c.0) (not (can_issue_another config older c.0)) c.3).1 in
+    let fails : not (can_issue_another config older c.0) ≡ true =
+    (and_parts (are_branches_finished older c.0) (not (can_issue_another config older c.0)) c.3).1 in
     let order : nat_le (last_issue older) c.0 ≡ true = le-leb (last_issue older) c.0 (omega arith) in
     let none : nat_lt (count_by (λ x. x.at.issue == c.0) older) config.width ≡ false = last _ _ order fails in
     let most : count_by (λ x. x.at.issue == c.0) older ≤ peak Width older = issues_most older c.0 in
-    let full : config.width ≤ count_by (λ x. x.at.issue == c.0) older = ltb-false (count_by (λ x. x.at.issue == c.0) older) config.width none in
+    let full : config.width ≤ count_by (λ x. x.at.issue == c.0) older =
+    ltb-false (count_by (λ x. x.at.issue == c.0) older) config.width none in
     omega arith
   where
     last : (a b : Bool) → a ≡ true → not (a && b) ≡ true → b ≡ false
@@ -89,7 +102,8 @@ width_full config older d waits =
     last true true e h = absurd (cc)
     last false b e h = absurd (cc)
 
-station_full : (config : Configuration) (older : List Done) (d : Done) (pool : PoolId) (x : Option PoolId) → step_pool d.step ≡ x → AreTimed config older → IsTimed config older d.step d.at
+station_full : (config : Configuration) (older : List Done) (d : Done) (pool : PoolId) (x : Option PoolId)
+    → step_pool d.step ≡ x → AreTimed config older → IsTimed config older d.step d.at
     → 0 < cond (is_in pool x) (waits_of config older d).station 0 → stations_of config pool ≤ peak (Stations pool) older
 station_full config older d pool None e timed is waits = absurd (omega arith)
 station_full config older d pool (Some p) e timed is waits = elim (cases_Bool (place_of_pool p == place_of_pool pool)) [
@@ -101,17 +115,21 @@ station_full config older d pool (Some p) e timed is waits = elim (cases_Bool (p
       let low : max 1 (last_issue older) ≤ c.0 = c.1 in
       let both = and_parts (are_branches_finished older c.0) (can_issue_another config older c.0) c.3 in
       let cannot : can_issue config older d.step c.0 ≡ false = is.issue.1 c.0 c.2 in
-      let none : has_station config older (step_pool d.step) c.0 ≡ false = last _ _ _ _ (lt-ltb 0 c.0 (omega arith)) both.1 both.0 cannot in
+      let none : has_station config older (step_pool d.step) c.0 ≡ false =
+      last _ _ _ _ (lt-ltb 0 c.0 (omega arith)) both.1 both.0 cannot in
       let left : nat_lt (count_by (is_held pool c.0) older) (stations_of config pool) ≡ false = rw (e, same) at none in
-      let full : stations_of config pool ≤ count_by (is_held pool c.0) older = ltb-false (count_by (is_held pool c.0) older) (stations_of config pool) left in
-      let most : count_by (is_held pool c.0) older ≤ peak (Stations pool) older = stations_held config older pool c.0 timed (omega arith) in
+      let full : stations_of config pool ≤ count_by (is_held pool c.0) older =
+      ltb-false (count_by (is_held pool c.0) older) (stations_of config pool) left in
+      let most : count_by (is_held pool c.0) older ≤ peak (Stations pool) older =
+      stations_held config older pool c.0 timed (omega arith) in
       omega arith
 ]
   where
     last : (a b c d : Bool) → a ≡ true → b ≡ true → c ≡ true → (((a && b) && c) && d) ≡ false → d ≡ false
     last a b c d e f g h = rw (e, f, g) at h
 
-unit_full : (config : Configuration) (older : List Done) (d : Done) (unit : UnitId) (x : Option UnitId) → step_unit d.step ≡ x → IsTimed config older d.step d.at
+unit_full : (config : Configuration) (older : List Done) (d : Done) (unit : UnitId) (x : Option UnitId)
+    → step_unit d.step ≡ x → IsTimed config older d.step d.at
     → 0 < cond (is_of unit x) (waits_of config older d).unit 0 → (option_of config unit).units ≤ peak (Units unit) older
 unit_full config older d unit None e is waits = absurd (omega arith)
 unit_full config older d unit (Some u) e is waits = elim (cases_Bool (place_of_unit u == place_of_unit unit)) [
@@ -121,21 +139,29 @@ unit_full config older d unit (Some u) e is waits = elim (cases_Bool (place_of_u
       let w : 0 < (waits_of config older d).unit = rw f at waits in
       let c = some_that (lacks_unit older d) (d.at.issue + 1) d.at.start w in
       let low : d.at.issue + 1 ≤ c.0 = c.1 in
-      let least : IsLeast (can_start config older d.step u d.at.issue (cycle_of d.at.address)) d.at.start = rw e at is.start in
+      let least : IsLeast (can_start config older d.step u d.at.issue (cycle_of d.at.address)) d.at.start =
+      rw e at is.start in
       let cannot : can_start config older d.step u d.at.issue (cycle_of d.at.address) c.0 ≡ false = least.1 c.0 c.2 in
-      let conflicts = and_parts (has_operands older d.step c.0 && nat_lt (cycle_of d.at.address) c.0) (are_conflicts_finished older d.step c.0) c.3 in
+      let conflicts = and_parts (has_operands older d.step c.0 && nat_lt (cycle_of d.at.address) c.0)
+      (are_conflicts_finished older d.step c.0) c.3 in
       let operands = and_parts (has_operands older d.step c.0) (nat_lt (cycle_of d.at.address) c.0) conflicts.0 in
-      let none : has_unit config older u c.0 ≡ false = last _ _ _ _ _ (lt-ltb d.at.issue c.0 (omega arith)) operands.1 operands.0 conflicts.1 cannot in
+      let none : has_unit config older u c.0 ≡ false =
+      last _ _ _ _ _ (lt-ltb d.at.issue c.0 (omega arith)) operands.1 operands.0 conflicts.1 cannot in
       let left : has_unit config older unit c.0 ≡ false = rw same at none in
-      let full : (option_of config unit).units ≤ count_by (λ x. is_of unit (step_unit x.step) && x.at.start == c.0) older = ltb-false (count_by (λ x. is_of unit (step_unit x.step) && x.at.start == c.0) older) (option_of config unit).units left in
-      let most : count_by (λ x. is_of unit (step_unit x.step) && x.at.start == c.0) older ≤ peak (Units unit) older = starts_most older unit c.0 in
+      let full : (option_of config unit).units ≤ count_by (λ x. is_of unit (step_unit x.step) && x.at.start == c.0)
+      older = ltb-false (count_by (λ x. is_of unit (step_unit x.step) && x.at.start == c.0) older)
+      (option_of config unit).units left in
+      let most : count_by (λ x. is_of unit (step_unit x.step) && x.at.start == c.0) older ≤ peak (Units unit) older =
+      starts_most older unit c.0 in
       omega arith
 ]
   where
-    last : (a b c d f : Bool) → a ≡ true → b ≡ true → c ≡ true → d ≡ true → ((((a && b) && c) && d) && f) ≡ false → f ≡ false
+    last : (a b c d f : Bool) → a ≡ true → b ≡ true → c ≡ true → d ≡ true → ((((a && b) && c) && d) && f) ≡ false
+        → f ≡ false
     last a b c d f e g h i k = rw (e, g, h, i) at k
 
-bus_full : (config : Configuration) (older : List Done) (d : Done) (x : Option UnitId) → MatchOption x (d.at.finish ≡ d.at.issue) (λ u. d.at.finish ≡ d.at.start + (option_of config u).latency - 1)
+bus_full : (config : Configuration) (older : List Done) (d : Done) (x : Option UnitId)
+    → MatchOption x (d.at.finish ≡ d.at.issue) (λ u. d.at.finish ≡ d.at.start + (option_of config u).latency - 1)
     → MatchOption x (d.at.end ≡ d.at.issue) (λ u. EndsAfter config older d.step d.at.finish d.at.end)
     → 0 < d.at.end - (d.at.finish + 1) → config.buses ≤ peak Buses older
 bus_full config older d None finish end waits =
@@ -143,26 +169,39 @@ bus_full config older d None finish end waits =
     let e : d.at.end ≡ d.at.issue = end in
     absurd (omega arith)
 bus_full config older d (Some u) finish end waits = elim (cases_Bool (is_some (step_dest d.step))) [
-  | inr y ↦ let same : d.at.end ≡ d.at.finish = MatchBool-at_false (IsLeast (can_end config older d.at.finish) d.at.end) (d.at.end ≡ d.at.finish) y end in absurd (omega arith)
+  | inr y ↦ let same : d.at.end ≡ d.at.finish =
+      MatchBool-at_false (IsLeast (can_end config older d.at.finish) d.at.end) (d.at.end ≡ d.at.finish) y end in
+      absurd (omega arith)
   | inl y ↦
-      let least : IsLeast (can_end config older d.at.finish) d.at.end = MatchBool-at_true (IsLeast (can_end config older d.at.finish) d.at.end) (d.at.end ≡ d.at.finish) y end in
-      let cannot : can_end config older d.at.finish (d.at.finish + 1) ≡ false = least.1 (d.at.finish + 1) (omega arith) in
-      let none : has_bus config older (d.at.finish + 1) ≡ false = rw (lt-ltb d.at.finish (d.at.finish + 1) (omega arith)) at cannot in
-      let full : config.buses ≤ count_by (λ x. is_some (step_dest x.step) && x.at.end == d.at.finish + 1) older = ltb-false (count_by (λ x. is_some (step_dest x.step) && x.at.end == d.at.finish + 1) older) config.buses none in
-      let most : count_by (λ x. is_some (step_dest x.step) && x.at.end == d.at.finish + 1) older ≤ peak Buses older = ends_most older (d.at.finish + 1) in
+      let least : IsLeast (can_end config older d.at.finish) d.at.end =
+      MatchBool-at_true (IsLeast (can_end config older d.at.finish) d.at.end) (d.at.end ≡ d.at.finish) y end in
+      let cannot : can_end config older d.at.finish (d.at.finish + 1) ≡ false =
+      least.1 (d.at.finish + 1) (omega arith) in
+      let none : has_bus config older (d.at.finish + 1) ≡ false =
+      rw (lt-ltb d.at.finish (d.at.finish + 1) (omega arith)) at cannot in
+      let full : config.buses ≤ count_by (λ x. is_some (step_dest x.step) && x.at.end == d.at.finish + 1) older =
+      ltb-false (count_by (λ x. is_some (step_dest x.step) && x.at.end == d.at.finish + 1) older) config.buses none
+      in
+      let most : count_by (λ x. is_some (step_dest x.step) && x.at.end == d.at.finish + 1) older ≤ peak Buses older =
+      ends_most older (d.at.finish + 1) in
       omega arith
 ]
 
-step_full : (config : Configuration) (older : List Done) (d : Done) (part : Part) → AreTimed config older → IsTimed config older d.step d.at → 0 < waits_for part d (waits_of config older d) → count_of config part ≤ peak part older
-step_full config older d (Stations pool) timed is waits = station_full config older d pool (step_pool d.step) refl timed is waits
+step_full : (config : Configuration) (older : List Done) (d : Done) (part : Part) → AreTimed config older
+    → IsTimed config older d.step d.at → 0 < waits_for part d (waits_of config older d)
+    → count_of config part ≤ peak part older
+step_full config older d (Stations pool) timed is waits =
+    station_full config older d pool (step_pool d.step) refl timed is waits
 step_full config older d (Units unit) timed is waits = unit_full config older d unit (step_unit d.step) refl is waits
 step_full config older d Buses timed is waits = bus_full config older d (step_unit d.step) is.finish is.end waits
 step_full config older d Width timed is waits = width_full config older d waits
 
-all_in_use : (config : Configuration) (h : List Done) (part : Part) → AreTimed config h → 0 < stalls config part h → count_of config part ≤ peak part h
+all_in_use : (config : Configuration) (h : List Done) (part : Part) → AreTimed config h → 0 < stalls config part h
+    → count_of config part ≤ peak part h
 all_in_use config [] part timed l = absurd (omega arith)
 all_in_use config (d ∷ older) part timed l = elim (cases_order 0 (stalls config part older)) [
-  | inl e ↦ let k : count_of config part ≤ peak part older = step_full config older d part timed.1 timed.0 (omega arith) in omega arith
+  | inl e ↦ let k : count_of config part ≤ peak part older =
+      step_full config older d part timed.1 timed.0 (omega arith) in omega arith
   | inr (inl m) ↦ let k : count_of config part ≤ peak part older = all_in_use config older part timed.1 m in omega arith
   | inr (inr m) ↦ absurd (omega arith)
 ]

@@ -1,5 +1,6 @@
 -- The least number that passes a test: it is one, and a bounded search finds it.
-use Rattle.std.proofs.Common.{ℕ, zero, suc, ◌+◌, ◌<◌, ◌≤◌, ◌≡◌, Bool, true, false, refl, IsTrue, arith, inl, inr, subst, add-zero, zero-add}
+use Rattle.std.proofs.Common.{ℕ, zero, suc, ◌+◌, ◌<◌, ◌≤◌, ◌≡◌, Bool, true, false, refl, IsTrue, arith, inl, inr, subst}
+use Rattle.std.proofs.Common.{add-zero, zero-add}
 use Rattle.std.specs.Prelude.{◌==◌}
 use Rattle.std.proofs.lemmas.Bool.{cases_Bool, cases_order, both_ways, eq-eqb, ne_eqb}
 use Rattle.tomex_timing.specs.Recurrence.{IsLeast}
@@ -20,14 +21,16 @@ least_le p a t x y = elim (cases_order a t) [
 ]
 
 -- one more number that fails
-pub fails_more : (p : ℕ → Bool) (t : ℕ) → ((s : ℕ) → s < t → p s ≡ false) → p t ≡ false → (s : ℕ) → s < suc t → p s ≡ false
+pub fails_more : (p : ℕ → Bool) (t : ℕ) → ((s : ℕ) → s < t → p s ≡ false) → p t ≡ false → (s : ℕ) → s < suc t
+    → p s ≡ false
 fails_more p t below here s l = elim (cases_order s t) [
   | inl e ↦ rw e here
   | inr (inl k) ↦ below s k
   | inr (inr k) ↦ absurd (omega arith)
 ]
 
-first_from_is : (p : ℕ → Bool) (t n : ℕ) → ((s : ℕ) → s < t → p s ≡ false) → IsTrue (p (t + n)) → IsLeast p (first_from p t n)
+first_from_is : (p : ℕ → Bool) (t n : ℕ) → ((s : ℕ) → s < t → p s ≡ false) → IsTrue (p (t + n))
+    → IsLeast p (first_from p t n)
 first_from_is p t zero below here = (rw add-zero at here, below)
 first_from_is p t (suc n) below here = elim (cases_Bool (p t)) [
   | inl e ↦ rw e (e, below)

@@ -21,8 +21,10 @@ pub mod Searching
 pub mod Reserving
 pub mod FreeStations
 pub mod UnderWay
+pub mod WindowTests
 pub mod Windows
 pub mod Bands
+pub mod IssueWaits
 pub mod Charges
 pub mod Needed
 pub mod Small

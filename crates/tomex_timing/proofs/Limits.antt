@@ -7,7 +7,8 @@ use Rattle.tomex_rvdec.specs.declared.pool.PoolId.{PoolId}
 use Rattle.tomex_rvdec.specs.declared.pool.PoolId.TheVariants as pools
 use Rattle.tomex_rvdec.specs.declared.pool.UnitId.{UnitId}
 use Rattle.tomex_rvdec.specs.declared.pool.UnitId.TheVariants as units
-use Rattle.tomex_config.specs.Configuration.{Configuration, IsWithinLimits, is_between, is_option, stations_of, option_of, plain_option}
+use Rattle.tomex_config.specs.Configuration.{Configuration, IsWithinLimits, is_between, is_option, stations_of}
+use Rattle.tomex_config.specs.Configuration.{option_of, plain_option}
 
 pub pool_in : (pool : PoolId) → place_of_pool pool < 6
 pool_in pools.Alu = omega arith
@@ -29,18 +30,21 @@ between low high n h =
     let two = and_parts (nat_le low n) (nat_le n high) h in
     (leb-true low n two.0, leb-true n high two.1)
 
-stations_are : (config : Configuration) (pool : PoolId) → IsWithinLimits config → is_between 1 16 (stations_of config pool) ≡ true
+stations_are : (config : Configuration) (pool : PoolId) → IsWithinLimits config
+    → is_between 1 16 (stations_of config pool) ≡ true
 stations_are config pool good =
     let l : place_of_pool pool < length config.stations = rw good.pools (pool_in pool) in
     good.stations (place_of_pool pool) 0 l
 
-option_is : (config : Configuration) (unit : UnitId) → IsWithinLimits config → is_option 8 (option_of config unit) ≡ true
+option_is : (config : Configuration) (unit : UnitId) → IsWithinLimits config
+    → is_option 8 (option_of config unit) ≡ true
 option_is config unit good =
     let l : place_of_unit unit < length config.units = rw good.kinds (unit_in unit) in
     good.units (place_of_unit unit) plain_option l
 
 pub stations_low : (config : Configuration) (pool : PoolId) → IsWithinLimits config → 0 < stations_of config pool
-stations_low config pool good = let two = between 1 16 (stations_of config pool) (stations_are config pool good) in omega (arith, two.0)
+stations_low config pool good = let two = between 1 16 (stations_of config pool) (stations_are config pool good) in
+    omega (arith, two.0)
 
 pub stations_high : (config : Configuration) (pool : PoolId) → IsWithinLimits config → stations_of config pool ≤ 16
 stations_high config pool good = (between 1 16 (stations_of config pool) (stations_are config pool good)).1
@@ -56,13 +60,16 @@ units_high config unit good =
     let o = option_of config unit in
     (between 1 8 o.units (and_parts _ _ (and_parts _ _ (option_is config unit good)).0).0).1
 
-latency_is : (config : Configuration) (unit : UnitId) → IsWithinLimits config → is_between 1 64 (option_of config unit).latency ≡ true
+latency_is : (config : Configuration) (unit : UnitId) → IsWithinLimits config
+    → is_between 1 64 (option_of config unit).latency ≡ true
 latency_is config unit good = (and_parts _ _ (and_parts _ _ (option_is config unit good)).0).1
 
 pub latency_low : (config : Configuration) (unit : UnitId) → IsWithinLimits config → 0 < (option_of config unit).latency
-latency_low config unit good = let two = between 1 64 (option_of config unit).latency (latency_is config unit good) in omega (arith, two.0)
+latency_low config unit good = let two = between 1 64 (option_of config unit).latency (latency_is config unit good) in
+    omega (arith, two.0)
 
-pub latency_high : (config : Configuration) (unit : UnitId) → IsWithinLimits config → (option_of config unit).latency ≤ 64
+pub latency_high : (config : Configuration) (unit : UnitId) → IsWithinLimits config
+    → (option_of config unit).latency ≤ 64
 latency_high config unit good = (between 1 64 (option_of config unit).latency (latency_is config unit good)).1
 
 pub buses_low : (config : Configuration) → IsWithinLimits config → 0 < config.buses

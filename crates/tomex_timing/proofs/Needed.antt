@@ -1,5 +1,6 @@
 -- One step more: the needs that are counted stay those of the history.
-use Rattle.std.proofs.Common.{ℕ, suc, ◌+◌, ◌<◌, ◌≤◌, ◌≡◌, ◌∙◌, true, cond, arith, refl, ap, sym, inl, inr, List, [], ◌∷◌, Option, Some, None}
+use Rattle.std.proofs.Common.{ℕ, suc, ◌+◌, ◌<◌, ◌≤◌, ◌≡◌, ◌∙◌, true, cond, arith, refl, ap, sym, inl, inr, List, []}
+use Rattle.std.proofs.Common.{◌∷◌, Option, Some, None}
 use Rattle.std.specs.Prelude.{◌==◌, ◌&&◌, count_by, is_some, length, slice_index_or}
 use Rattle.std.proofs.lemmas.Bool.{cases_Bool, and_right, eqb-true, ne_eqb, both_ways, eq-eqb}
 use Rattle.std.proofs.lemmas.List.{get_or-set_same, get_or-set_other, get_or-replicate, length-set}
@@ -20,13 +21,15 @@ use Rattle.tomex_timing.specs.History.{is_of, last_issue, greatest_end}
 use Rattle.tomex_timing.specs.Needs.{AreNeeds, need_of, no_need, peak, stalls, taken_by, waits_for, waits_of}
 use Rattle.tomex_timing.specs.Laws.{InReach}
 use Rattle.tomex_timing.specs.Recurrence.{IsTimed, AreTimed}
-use Rattle.tomex_timing.specs.Waiting.{need_after, needs_after, stations_after, units_after, taken_among, units_taken, nothing_needed}
+use Rattle.tomex_timing.specs.Waiting.{need_after, needs_after, stations_after, units_after, taken_among, units_taken}
+use Rattle.tomex_timing.specs.Waiting.{nothing_needed}
 use Rattle.tomex_timing.specs.Window.{Live, facts_of, recent, starts_in, sends_in, IsKept}
 use Rattle.tomex_timing.proofs.Limits.{pool_in, unit_in}
 use Rattle.tomex_timing.proofs.Orders.{dest_unit, reach, start_later, result_later}
 use Rattle.tomex_timing.proofs.Places.{same_unit}
 use Rattle.tomex_timing.proofs.Width.{issue_from}
-use Rattle.tomex_timing.proofs.Windows.{AreClosed, count_recent, issued_kept}
+use Rattle.tomex_timing.proofs.WindowTests.{AreClosed, count_recent}
+use Rattle.tomex_timing.proofs.Windows.{issued_kept}
 
 -- of what a step takes, what it takes of a part
 abbrev pub taken_for : Part → Done → Taken → ℕ
@@ -45,50 +48,77 @@ no_more : (need : Need) → need ≡ need_after need 0 0
 no_more need = same_need need (need_after need 0 0) (omega arith) (omega arith)
 
 pool_part : (pool : PoolId) (x : Option PoolId) (taken waited : ℕ) (xs : List Need) → length xs ≡ 6
-    → slice_index_or (stations_after x taken waited xs) (place_of_pool pool) no_need ≡ need_after (slice_index_or xs (place_of_pool pool) no_need) (cond (is_in pool x) taken 0) (cond (is_in pool x) waited 0)
+    → slice_index_or (stations_after x taken waited xs) (place_of_pool pool) no_need
+    ≡ need_after (slice_index_or xs (place_of_pool pool) no_need) (cond (is_in pool x) taken 0)
+    (cond (is_in pool x) waited 0)
 pool_part pool None taken waited xs len = no_more (slice_index_or xs (place_of_pool pool) no_need)
 pool_part pool (Some p) taken waited xs len = elim (cases_Bool (place_of_pool p == place_of_pool pool)) [
   | inl e ↦
       let same : place_of_pool p ≡ place_of_pool pool = eqb-true (place_of_pool p) (place_of_pool pool) e in
       let m : place_of_pool pool < length xs = rw len (pool_in pool) in
-      rw (e, same) (get_or-set_same xs (place_of_pool pool) (need_after (slice_index_or xs (place_of_pool pool) no_need) taken waited) no_need m)
+      rw (e, same) (get_or-set_same xs (place_of_pool pool)
+      (need_after (slice_index_or xs (place_of_pool pool) no_need) taken waited) no_need m)
   | inr e ↦
       rw e
-      (get_or-set_other xs (place_of_pool p) (place_of_pool pool) (need_after (slice_index_or xs (place_of_pool p) no_need) taken waited) no_need (λ (s : place_of_pool pool ≡ place_of_pool p). absurd (both_ways _ e (eq-eqb (place_of_pool p) (place_of_pool pool) (sym s))))
+      (get_or-set_other xs (place_of_pool p) (place_of_pool pool)
+      (need_after (slice_index_or xs (place_of_pool p) no_need) taken waited) no_need
+      (λ (s : place_of_pool pool ≡ place_of_pool p). absurd
+      (both_ways _ e (eq-eqb (place_of_pool p) (place_of_pool pool) (sym s))))
       ∙ no_more (slice_index_or xs (place_of_pool pool) no_need))
 ]
 
 unit_part : (unit : UnitId) (x : Option UnitId) (taken waited : ℕ) (xs : List Need) → length xs ≡ 5
-    → slice_index_or (units_after x taken waited xs) (place_of_unit unit) no_need ≡ need_after (slice_index_or xs (place_of_unit unit) no_need) (cond (is_of unit x) taken 0) (cond (is_of unit x) waited 0)
+    → slice_index_or (units_after x taken waited xs) (place_of_unit unit) no_need
+    ≡ need_after (slice_index_or xs (place_of_unit unit) no_need) (cond (is_of unit x) taken 0)
+    (cond (is_of unit x) waited 0)
 unit_part unit None taken waited xs len = no_more (slice_index_or xs (place_of_unit unit) no_need)
 unit_part unit (Some p) taken waited xs len = elim (cases_Bool (place_of_unit p == place_of_unit unit)) [
   | inl e ↦
       let same : place_of_unit p ≡ place_of_unit unit = eqb-true (place_of_unit p) (place_of_unit unit) e in
       let m : place_of_unit unit < length xs = rw len (unit_in unit) in
-      rw (e, same) (get_or-set_same xs (place_of_unit unit) (need_after (slice_index_or xs (place_of_unit unit) no_need) taken waited) no_need m)
+      rw (e, same) (get_or-set_same xs (place_of_unit unit)
+      (need_after (slice_index_or xs (place_of_unit unit) no_need) taken waited) no_need m)
   | inr e ↦
       rw e
-      (get_or-set_other xs (place_of_unit p) (place_of_unit unit) (need_after (slice_index_or xs (place_of_unit p) no_need) taken waited) no_need (λ (s : place_of_unit unit ≡ place_of_unit p). absurd (both_ways _ e (eq-eqb (place_of_unit p) (place_of_unit unit) (sym s))))
+      (get_or-set_other xs (place_of_unit p) (place_of_unit unit)
+      (need_after (slice_index_or xs (place_of_unit p) no_need) taken waited) no_need
+      (λ (s : place_of_unit unit ≡ place_of_unit p). absurd
+      (both_ways _ e (eq-eqb (place_of_unit p) (place_of_unit unit) (sym s))))
       ∙ no_more (slice_index_or xs (place_of_unit unit) no_need))
 ]
 
-length-stations_after : (x : Option PoolId) (taken waited : ℕ) (xs : List Need) → length (stations_after x taken waited xs) ≡ length xs
+length-stations_after : (x : Option PoolId) (taken waited : ℕ) (xs : List Need)
+    → length (stations_after x taken waited xs) ≡ length xs
 length-stations_after None taken waited xs = refl
 length-stations_after (Some p) taken waited xs = length-set xs (place_of_pool p) _
 
-length-units_after : (x : Option UnitId) (taken waited : ℕ) (xs : List Need) → length (units_after x taken waited xs) ≡ length xs
+length-units_after : (x : Option UnitId) (taken waited : ℕ) (xs : List Need) → length (units_after x taken waited xs)
+    ≡ length xs
 length-units_after None taken waited xs = refl
 length-units_after (Some p) taken waited xs = length-set xs (place_of_unit p) _
 
 -- what starts or ends with a step is still kept
-units_kept : (config : Configuration) (h : List Done) (d : Done) (unit : UnitId) → AreClosed h → last_issue h < d.at.start → count_by (starts_in unit d.at.start) (recent (last_issue h) h) ≡ count_by (λ x. is_of unit (step_unit x.step) && x.at.start == d.at.start) h
-units_kept config h d unit close l = count_recent (starts_in unit d.at.start) (last_issue h) (λ x k m. and_right (is_of unit x.facts.unit) (x.start == d.at.start) (ne_eqb x.start d.at.start (λ (e : x.start ≡ d.at.start). absurd (omega (arith, k.start))))) h close
+units_kept : (config : Configuration) (h : List Done) (d : Done) (unit : UnitId) → AreClosed h
+    → last_issue h < d.at.start → count_by (starts_in unit d.at.start) (recent (last_issue h) h)
+    ≡ count_by (λ x. is_of unit (step_unit x.step) && x.at.start == d.at.start) h
+units_kept config h d unit close l =
+    count_recent (starts_in unit d.at.start) (last_issue h)
+    (λ x k m. and_right (is_of unit x.facts.unit) (x.start == d.at.start)
+    (ne_eqb x.start d.at.start (λ (e : x.start ≡ d.at.start). absurd (omega (arith, k.start))))) h close
 
-results_kept : (config : Configuration) (h : List Done) (d : Done) → AreClosed h → last_issue h < d.at.end → count_by (sends_in d.at.end) (recent (last_issue h) h) ≡ count_by (λ x. is_some (step_dest x.step) && x.at.end == d.at.end) h
-results_kept config h d close l = count_recent (sends_in d.at.end) (last_issue h) (λ x k m. and_right (is_some x.facts.dest) (x.end == d.at.end) (ne_eqb x.end d.at.end (λ (e : x.end ≡ d.at.end). absurd (omega arith)))) h close
+results_kept : (config : Configuration) (h : List Done) (d : Done) → AreClosed h → last_issue h < d.at.end
+    → count_by (sends_in d.at.end) (recent (last_issue h) h)
+    ≡ count_by (λ x. is_some (step_dest x.step) && x.at.end == d.at.end) h
+results_kept config h d close l =
+    count_recent (sends_in d.at.end) (last_issue h)
+    (λ x k m. and_right (is_some x.facts.dest) (x.end == d.at.end)
+    (ne_eqb x.end d.at.end (λ (e : x.end ≡ d.at.end). absurd (omega arith)))) h close
 
-same_kind : (unit : UnitId) (x : Option UnitId) (live : List Live) (h : List Done) (t : ℕ) → (is_some x ≡ true → count_by (starts_in unit t) live ≡ count_by (λ x. is_of unit (step_unit x.step) && x.at.start == t) h)
-    → cond (is_of unit x) (units_taken live x t) 0 ≡ cond (is_of unit x) (count_by (λ x. is_of unit (step_unit x.step) && x.at.start == t) h + 1) 0
+same_kind : (unit : UnitId) (x : Option UnitId) (live : List Live) (h : List Done) (t : ℕ)
+    → (is_some x ≡ true → count_by (starts_in unit t) live
+    ≡ count_by (λ x. is_of unit (step_unit x.step) && x.at.start == t) h)
+    → cond (is_of unit x) (units_taken live x t) 0 ≡ cond (is_of unit x)
+    (count_by (λ x. is_of unit (step_unit x.step) && x.at.start == t) h + 1) 0
 same_kind unit None live h t f = refl
 same_kind unit (Some u) live h t f = elim (cases_Bool (place_of_unit u == place_of_unit unit)) [
   | inl e ↦ let s : u ≡ unit = same_unit u unit e in rw (e, s, f refl) refl
@@ -96,13 +126,15 @@ same_kind unit (Some u) live h t f = elim (cases_Bool (place_of_unit u == place_
 ]
 
 -- what is counted as taken is what is taken
-pub taken_is : (config : Configuration) (h : List Done) (d : Done) (live : List Live) (latest : Latest) (part : Part) → IsWithinLimits config → AreTimed config h → AreClosed h → IsKept h live latest → IsTimed config h d.step d.at
+pub taken_is : (config : Configuration) (h : List Done) (d : Done) (live : List Live) (latest : Latest) (part : Part)
+    → IsWithinLimits config → AreTimed config h → AreClosed h → IsKept h live latest → IsTimed config h d.step d.at
     → taken_for part d (taken_among live latest (facts_of d.step) d.at) ≡ taken_by part h d
 taken_is config h d live latest (Stations pool) good timed close kept is = refl
 taken_is config h d live latest (Units unit) good timed close kept is =
     let l : last_issue h ≤ d.at.issue = issue_from config h d.step d.at.issue is.issue.0 in
     rw kept.window
-    (same_kind unit (step_unit d.step) (recent (last_issue h) h) h d.at.start (λ some. let s : d.at.issue < d.at.start = (start_later config d h is some).0 in units_kept config h d unit close (omega arith)))
+    (same_kind unit (step_unit d.step) (recent (last_issue h) h) h d.at.start (λ some. let s : d.at.issue < d.at.start =
+    (start_later config d h is some).0 in units_kept config h d unit close (omega arith)))
 taken_is config h d live latest Buses good timed close kept is = elim (cases_Bool (is_some (step_dest d.step))) [
   | inl e ↦
       let l : last_issue h ≤ d.at.issue = issue_from config h d.step d.at.issue is.issue.0 in
@@ -116,18 +148,25 @@ taken_is config h d live latest Buses good timed close kept is = elim (cases_Boo
 taken_is config h d live latest Width good timed close kept is =
     let l : last_issue h ≤ d.at.issue = issue_from config h d.step d.at.issue is.issue.0 in
     let e : latest.issued ≡ count_by (λ d. d.at.issue == last_issue h) h = kept.issued in
-    let k : cond (d.at.issue == last_issue h) (latest.issued + 1) 1 ≡ suc (count_by (λ x. x.at.issue == d.at.issue) h) = issued_kept config h d.at.issue latest.issued timed l e in
-    let s : suc (count_by (λ x. x.at.issue == d.at.issue) h) ≡ count_by (λ x. x.at.issue == d.at.issue) h + 1 = omega arith in
+    let k : cond (d.at.issue == last_issue h) (latest.issued + 1) 1 ≡ suc (count_by (λ x. x.at.issue == d.at.issue) h) =
+    issued_kept config h d.at.issue latest.issued timed l e in
+    let s : suc (count_by (λ x. x.at.issue == d.at.issue) h) ≡ count_by (λ x. x.at.issue == d.at.issue) h + 1 =
+    omega arith in
     rw kept.issue (k ∙ s)
 
-part_more : (part : Part) (d : Done) (needs : Needs) (waits : Waits) (taken : Taken) → length needs.stations ≡ 6 → length needs.units ≡ 5
-    → need_of (needs_after (facts_of d.step) waits taken d.at needs) part ≡ need_after (need_of needs part) (taken_for part d taken) (waits_for part d waits)
-part_more (Stations pool) d needs waits taken p k = pool_part pool (step_pool d.step) taken.station waits.station needs.stations p
+part_more : (part : Part) (d : Done) (needs : Needs) (waits : Waits) (taken : Taken) → length needs.stations ≡ 6
+    → length needs.units ≡ 5
+    → need_of (needs_after (facts_of d.step) waits taken d.at needs) part ≡ need_after (need_of needs part)
+    (taken_for part d taken) (waits_for part d waits)
+part_more (Stations pool) d needs waits taken p k =
+    pool_part pool (step_pool d.step) taken.station waits.station needs.stations p
 part_more (Units unit) d needs waits taken p k = unit_part unit (step_unit d.step) taken.unit waits.unit needs.units k
 part_more Buses d needs waits taken p k = refl
 part_more Width d needs waits taken p k = refl
 
-pub needs_more : (config : Configuration) (h : List Done) (d : Done) (needs : Needs) (waits : Waits) (taken : Taken) → AreNeeds config h needs → waits ≡ waits_of config h d → ((part : Part) → taken_for part d taken ≡ taken_by part h d)
+pub needs_more : (config : Configuration) (h : List Done) (d : Done) (needs : Needs) (waits : Waits) (taken : Taken)
+    → AreNeeds config h needs → waits ≡ waits_of config h d
+    → ((part : Part) → taken_for part d taken ≡ taken_by part h d)
     → AreNeeds config (d ∷ h) (needs_after (facts_of d.step) waits taken d.at needs)
 needs_more config h d needs waits taken are w t = record {
   parts = λ part. part_more part d needs waits taken are.pools are.kinds ∙ rw (are.parts part, t part, w) refl;
@@ -142,7 +181,17 @@ needs_more config h d needs waits taken are w t = record {
 }
 
 pub needs_none : (config : Configuration) → AreNeeds config [] nothing_needed
-needs_none config = record { parts = none; branch = refl; operand = refl; address = refl; memory = refl; last_issue = refl; total = refl; pools = refl; kinds = refl }
+needs_none config = record {
+  parts = none;
+  branch = refl;
+  operand = refl;
+  address = refl;
+  memory = refl;
+  last_issue = refl;
+  total = refl;
+  pools = refl;
+  kinds = refl;
+}
   where
     none : (part : Part) → need_of nothing_needed part ≡ record { peak = peak part []; stalls = stalls config part [] }
     none (Stations pool) = get_or-replicate 6 (place_of_pool pool) no_need no_need (pool_in pool)

@@ -13,32 +13,40 @@ use Rattle.tomex_rvexec.proofs.FlowFields.{dest_needs_pool, unit_with_pool}
 use Rattle.tomex_config.specs.Configuration.{Configuration}
 use Rattle.tomex_timing.specs.declared.times.Done.{Done}
 use Rattle.tomex_timing.specs.History.{cycle_of, greatest_end, last_address}
-use Rattle.tomex_timing.specs.Laws.{AccessesConflict, AddressesRise, ConflictsAreFinished, ResultsComeLater, StartsComeLater, TimesAreInReach}
-use Rattle.tomex_timing.specs.Recurrence.{AreTimed, IsLeast, are_conflicts_finished, can_address, can_end, can_start, shares_byte}
+use Rattle.tomex_timing.specs.Laws.{AccessesConflict, AddressesRise, ConflictsAreFinished, ResultsComeLater}
+use Rattle.tomex_timing.specs.Laws.{StartsComeLater, TimesAreInReach}
+use Rattle.tomex_timing.specs.Recurrence.{AreTimed, IsLeast, are_conflicts_finished, can_address, can_end, can_start}
+use Rattle.tomex_timing.specs.Recurrence.{shares_byte}
 use Rattle.tomex_timing.proofs.Bound.{end_low, in_reach, start_low, timed_by}
 
 -- the older part of a history has the recurrence's times too
-pub timed_part : (config : Configuration) (newer older : List Done) → AreTimed config (newer ++ older) → AreTimed config older
+pub timed_part : (config : Configuration) (newer older : List Done) → AreTimed config (newer ++ older)
+    → AreTimed config older
 timed_part config [] older timed = timed
 timed_part config (d ∷ newer) older timed = timed_part config newer older timed.1
 
 pub reach : TimesAreInReach
-reach config d older good timed = in_reach config older d.step d.at (greatest_end older) good (timed_by config older good timed.1) timed.0
+reach config d older good timed =
+    in_reach config older d.step d.at (greatest_end older) good (timed_by config older good timed.1) timed.0
 
 -- a start with a unit passes its test
-start_test : (config : Configuration) (older : List Done) (s : Step) (issue address start : ℕ) (unit : Option UnitId) → is_some unit ≡ true
-    → MatchOption unit (start ≡ issue) (λ u. IsLeast (can_start config older s u issue address) start) → (u : UnitId) × (can_start config older s u issue address start ≡ true)
+start_test : (config : Configuration) (older : List Done) (s : Step) (issue address start : ℕ) (unit : Option UnitId)
+    → is_some unit ≡ true
+    → MatchOption unit (start ≡ issue) (λ u. IsLeast (can_start config older s u issue address) start) → (u : UnitId)
+    × (can_start config older s u issue address start ≡ true)
 start_test config older s issue address start None some is = absurd (cc)
 start_test config older s issue address start (Some u) some is = (u, is.0)
 
 pub start_later : StartsComeLater
 start_later config d older timed some =
-    let can = start_test config older d.step d.at.issue (cycle_of d.at.address) d.at.start (step_unit d.step) some timed.start in
+    let can = start_test config older d.step d.at.issue (cycle_of d.at.address) d.at.start (step_unit d.step) some
+    timed.start in
     start_low config older d.step can.0 d.at.issue (cycle_of d.at.address) d.at.start can.1
 
 pub start_clear : ConflictsAreFinished
 start_clear config d older timed some =
-    let can = start_test config older d.step d.at.issue (cycle_of d.at.address) d.at.start (step_unit d.step) some timed.start in
+    let can = start_test config older d.step d.at.issue (cycle_of d.at.address) d.at.start (step_unit d.step) some
+    timed.start in
     (and_parts _ (are_conflicts_finished older d.step d.at.start) (and_parts _ _ can.1).0).1
 
 dest_pool : (s : Step) (pool : Option PoolId) → step_pool s ≡ pool → is_some (step_dest s) ≡ true → is_some pool ≡ true
@@ -52,19 +60,28 @@ dest_pool s (Some pool) e dest = refl
 pub dest_unit : (s : Step) → is_some (step_dest s) ≡ true → is_some (step_unit s) ≡ true
 dest_unit s dest = unit_with_pool s ∙ dest_pool s (step_pool s) refl dest
 
-end_later : (config : Configuration) (older : List Done) (s : Step) (issue finish end : ℕ) (unit : Option UnitId) → is_some unit ≡ true → is_some (step_dest s) ≡ true
-    → MatchOption unit (end ≡ issue) (λ u. MatchBool (is_some (step_dest s)) (IsLeast (can_end config older finish) end) (end ≡ finish)) → finish < end
+end_later : (config : Configuration) (older : List Done) (s : Step) (issue finish end : ℕ) (unit : Option UnitId)
+    → is_some unit ≡ true → is_some (step_dest s) ≡ true
+    → MatchOption unit (end ≡ issue) (λ u. MatchBool (is_some (step_dest s)) (IsLeast (can_end config older finish) end)
+    (end ≡ finish)) → finish < end
 end_later config older s issue finish end None some dest is = absurd (cc)
-end_later config older s issue finish end (Some u) some dest is = end_low config older finish end (MatchBool-at_true (IsLeast (can_end config older finish) end) _ dest is).0
+end_later config older s issue finish end (Some u) some dest is =
+    end_low config older finish end (MatchBool-at_true (IsLeast (can_end config older finish) end) _ dest is).0
 
 pub result_later : ResultsComeLater
-result_later config d older timed dest = end_later config older d.step d.at.issue d.at.finish d.at.end (step_unit d.step) (dest_unit d.step dest) dest timed.end
+result_later config d older timed dest =
+    end_later config older d.step d.at.issue d.at.finish d.at.end (step_unit d.step) (dest_unit d.step dest) dest
+    timed.end
 
 pub address_rises : AddressesRise
 address_rises config d older timed memory =
-    let least : IsLeast (can_address older d.step d.at.issue) (cycle_of d.at.address) = MatchBool-at_true _ _ memory timed.address in
-    let two = and_parts _ (nat_lt (last_address older) (cycle_of d.at.address)) least.0 in
-    (ltb-true d.at.issue (cycle_of d.at.address) (and_parts _ _ two.0).0, ltb-true (last_address older) (cycle_of d.at.address) two.1)
+    let least : IsLeast (can_address older d.step d.at.issue) (cycle_of d.at.address) =
+    MatchBool-at_true _ _ memory timed.address in
+    let two = and_parts _ (nat_lt (last_address older) (cycle_of d.at.address)) least.0 in (
+      ltb-true d.at.issue (cycle_of d.at.address) (and_parts _ _ two.0).0,
+      ltb-true (last_address older)
+          (cycle_of d.at.address) two.1,
+    )
 
 share_from : (x y : Option ByteRange) (a : ℕ) → is_among x a ≡ true → is_among y a ≡ true → shares_byte x y ≡ true
 share_from None y a e f = absurd (cc)

@@ -1,5 +1,6 @@
 -- The stations of a pool that are held have different numbers, so they are no more than the numbers up to the greatest.
-use Rattle.std.proofs.Common.{ℕ, zero, suc, ◌+◌, ◌<◌, ◌≤◌, ◌≡◌, Bool, true, false, cond, arith, refl, ap, inl, inr, List, [], ◌∷◌, Option, Some, None}
+use Rattle.std.proofs.Common.{ℕ, zero, suc, ◌+◌, ◌<◌, ◌≤◌, ◌≡◌, Bool, true, false, cond, arith, refl, ap, inl, inr}
+use Rattle.std.proofs.Common.{List, [], ◌∷◌, Option, Some, None}
 use Rattle.std.specs.Prelude.{nat_le, ◌==◌, not, ◌&&◌, count_by, MatchOption}
 use Rattle.std.specs.List.{list_all}
 use Rattle.std.proofs.lemmas.Bool.{cases_Bool, cases_order, and_parts, eqb-true, le-ltb, lt-ltb}
@@ -33,7 +34,8 @@ abbrev is_holder : PoolId → ℕ → ℕ → Done → Bool
 is_holder pool t n d = is_held pool t d && is_number d.at.station n
 
 -- a number that a step holds was free of what is older
-holder_free : (pool : PoolId) (older : List Done) (x : Option PoolId) (station : Option ℕ) (issue t n : ℕ) (b : Bool) → issue ≤ t
+holder_free : (pool : PoolId) (older : List Done) (x : Option PoolId) (station : Option ℕ) (issue t n : ℕ) (b : Bool)
+    → issue ≤ t
     → MatchOption x (station ≡ None) (λ p. (m : ℕ) × (station ≡ Some m) × IsLeast (is_free p older issue) m)
     → ((is_in pool x && b) && is_number station n) ≡ true → is_free pool older t n ≡ true
 holder_free pool older None station issue t n b l is h = absurd (cc)
@@ -46,11 +48,13 @@ holder_free pool older (Some p) station issue t n b l is h =
     free_later pool older n issue t l free
 
 -- no two steps hold one number
-one_holder : (config : Configuration) (h : List Done) (pool : PoolId) (t n : ℕ) → AreTimed config h → last_issue h ≤ t → count_by (is_holder pool t n) h ≤ 1
+one_holder : (config : Configuration) (h : List Done) (pool : PoolId) (t n : ℕ) → AreTimed config h → last_issue h ≤ t
+    → count_by (is_holder pool t n) h ≤ 1
 one_holder config [] pool t n timed l = omega arith
 one_holder config (d ∷ h) pool t n timed l = elim (cases_Bool (is_holder pool t n d)) [
   | inl e ↦
-      let free : is_free pool h t n ≡ true = holder_free pool h (step_pool d.step) d.at.station d.at.issue t n (nat_le t d.at.end) l timed.0.station e in
+      let free : is_free pool h t n ≡ true =
+      holder_free pool h (step_pool d.step) d.at.station d.at.issue t n (nat_le t d.at.end) l timed.0.station e in
       let none : count_by (is_holder pool t n) h ≡ 0 = none_pass (is_holder pool t n) h free in
       rw (sum_by-cons, e, none) (omega arith)
   | inr e ↦
@@ -59,7 +63,8 @@ one_holder config (d ∷ h) pool t n timed l = elim (cases_Bool (is_holder pool 
       rw (sum_by-cons, e) (omega arith)
 ]
 
-none_lower : {X : Type 0} (held : X → Bool) (station : X → Option ℕ) (xs : List X) → count_by (λ d. held d && lower (station d) 0) xs ≡ 0
+none_lower : {X : Type 0} (held : X → Bool) (station : X → Option ℕ) (xs : List X)
+    → count_by (λ d. held d && lower (station d) 0) xs ≡ 0
 none_lower held station [] = refl
 none_lower held station (x ∷ xs) = rw (sum_by-cons, none (held x) (station x), none_lower held station xs) refl
   where
@@ -69,7 +74,9 @@ none_lower held station (x ∷ xs) = rw (sum_by-cons, none (held x) (station x),
     none true (Some m) = le-ltb m 0 (omega arith)
 
 -- where each number is held once at most, the first numbers are held as often as they are at most
-few : {X : Type 0} (held : X → Bool) (station : X → Option ℕ) (xs : List X) (m : ℕ) → ((k : ℕ) → count_by (λ d. held d && is_number (station d) k) xs ≤ 1) → count_by (λ d. held d && lower (station d) m) xs ≤ m
+few : {X : Type 0} (held : X → Bool) (station : X → Option ℕ) (xs : List X) (m : ℕ)
+    → ((k : ℕ) → count_by (λ d. held d && is_number (station d) k) xs ≤ 1)
+    → count_by (λ d. held d && lower (station d) m) xs ≤ m
 few held station xs zero one_each = rw (none_lower held station xs) (omega arith)
 few held station xs (suc m) one_each =
     let a : count_by (λ d. held d && lower (station d) m) xs ≤ m = few held station xs m one_each in
@@ -78,8 +85,10 @@ few held station xs (suc m) one_each =
     omega arith
 
 -- and where one of them isn't held, less often
-fewer : {X : Type 0} (held : X → Bool) (station : X → Option ℕ) (xs : List X) (m n : ℕ) → ((k : ℕ) → count_by (λ d. held d && is_number (station d) k) xs ≤ 1)
-    → n < m → count_by (λ d. held d && is_number (station d) n) xs ≡ 0 → count_by (λ d. held d && lower (station d) m) xs < m
+fewer : {X : Type 0} (held : X → Bool) (station : X → Option ℕ) (xs : List X) (m n : ℕ)
+    → ((k : ℕ) → count_by (λ d. held d && is_number (station d) k) xs ≤ 1)
+    → n < m → count_by (λ d. held d && is_number (station d) n) xs ≡ 0
+    → count_by (λ d. held d && lower (station d) m) xs < m
 fewer held station xs zero n one_each l none = absurd (omega arith)
 fewer held station xs (suc m) n one_each l none = elim (cases_order n m) [
   | inl e ↦
@@ -98,7 +107,8 @@ fewer held station xs (suc m) n one_each l none = elim (cases_order n m) [
 -- a number of the pool lies below what is taken
 held_low : (pool : PoolId) (x : Option PoolId) (station : Option ℕ) (m : ℕ) (b : Bool) (R : PoolId → ℕ → Type 0)
     → MatchOption x (station ≡ None) (λ p. (n : ℕ) × (station ≡ Some n) × R p n)
-    → cond (is_in pool x) (stations_up_to station) 0 ≤ m → (is_in pool x && b) ≡ ((is_in pool x && b) && lower station m)
+    → cond (is_in pool x) (stations_up_to station) 0 ≤ m
+    → (is_in pool x && b) ≡ ((is_in pool x && b) && lower station m)
 held_low pool None station m b R is l = refl
 held_low pool (Some p) station m b R is l = elim (cases_Bool (place_of_pool p == place_of_pool pool)) [
   | inl e ↦
@@ -112,24 +122,38 @@ held_low pool (Some p) station m b R is l = elim (cases_Bool (place_of_pool p ==
     both true = refl
     both false = refl
 
-all_low : (config : Configuration) (h : List Done) (pool : PoolId) (t m : ℕ) → AreTimed config h → peak (Stations pool) h ≤ m → count_by (is_held pool t) h ≡ count_by (λ d. is_held pool t d && lower d.at.station m) h
+all_low : (config : Configuration) (h : List Done) (pool : PoolId) (t m : ℕ) → AreTimed config h
+    → peak (Stations pool) h ≤ m → count_by (is_held pool t) h
+    ≡ count_by (λ d. is_held pool t d && lower d.at.station m) h
 all_low config [] pool t m timed l = refl
 all_low config (d ∷ h) pool t m timed l =
     let taken : cond (is_in pool (step_pool d.step)) (stations_up_to d.at.station) 0 ≤ m = omega arith in
     let rest : peak (Stations pool) h ≤ m = omega arith in
-    let e : is_held pool t d ≡ (is_held pool t d && lower d.at.station m) = held_low pool (step_pool d.step) d.at.station m (nat_le t d.at.end) (λ p n. IsLeast (is_free p h d.at.issue) n) timed.0.station taken in
+    let e : is_held pool t d ≡ (is_held pool t d && lower d.at.station m) =
+    held_low pool (step_pool d.step) d.at.station m (nat_le t d.at.end) (λ p n. IsLeast (is_free p h d.at.issue) n)
+    timed.0.station taken in
     let k = all_low config h pool t m timed.1 rest in
-    let a : count_by (is_held pool t) (d ∷ h) ≡ one (is_held pool t d) + count_by (is_held pool t) h = sum_by-cons (λ x. one (is_held pool t x)) d h in
-    let b : count_by (λ d. is_held pool t d && lower d.at.station m) (d ∷ h) ≡ one (is_held pool t d && lower d.at.station m) + count_by (λ d. is_held pool t d && lower d.at.station m) h = sum_by-cons (λ x. one (is_held pool t x && lower x.at.station m)) d h in
+    let a : count_by (is_held pool t) (d ∷ h) ≡ one (is_held pool t d) + count_by (is_held pool t) h =
+    sum_by-cons (λ x. one (is_held pool t x)) d h in
+    let b : count_by (λ d. is_held pool t d && lower d.at.station m) (d ∷ h)
+    ≡ one (is_held pool t d && lower d.at.station m) + count_by (λ d. is_held pool t d && lower d.at.station m) h =
+    sum_by-cons (λ x. one (is_held pool t x && lower x.at.station m)) d h in
     let f : one (is_held pool t d) ≡ one (is_held pool t d && lower d.at.station m) = ap one e in
     omega arith
 
 -- where a number below m is free, fewer than m stations are held
-pub stations_fit : (config : Configuration) (h : List Done) (pool : PoolId) (t n m : ℕ) → AreTimed config h → last_issue h ≤ t → is_free pool h t n ≡ true → n < m → peak (Stations pool) h ≤ m → count_by (is_held pool t) h < m
+pub stations_fit : (config : Configuration) (h : List Done) (pool : PoolId) (t n m : ℕ) → AreTimed config h
+    → last_issue h ≤ t → is_free pool h t n ≡ true → n < m → peak (Stations pool) h ≤ m
+    → count_by (is_held pool t) h < m
 stations_fit config h pool t n m timed l free below top =
-    rw (all_low config h pool t m timed top) (fewer (is_held pool t) (λ d. d.at.station) h m n (λ k. one_holder config h pool t k timed l) below (none_pass (is_holder pool t n) h free))
+    rw (all_low config h pool t m timed top)
+    (fewer (is_held pool t) (λ d. d.at.station) h m n (λ k. one_holder config h pool t k timed l) below
+    (none_pass (is_holder pool t n) h free))
 
 -- no cycle from the last issue on has more stations held than the greatest number up to one's own
-pub stations_held : (config : Configuration) (h : List Done) (pool : PoolId) (t : ℕ) → AreTimed config h → last_issue h ≤ t → count_by (is_held pool t) h ≤ peak (Stations pool) h
+pub stations_held : (config : Configuration) (h : List Done) (pool : PoolId) (t : ℕ) → AreTimed config h
+    → last_issue h ≤ t → count_by (is_held pool t) h ≤ peak (Stations pool) h
 stations_held config h pool t timed l =
-    rw (all_low config h pool t (peak (Stations pool) h) timed (omega arith)) (few (is_held pool t) (λ d. d.at.station) h (peak (Stations pool) h) (λ k. one_holder config h pool t k timed l))
+    rw (all_low config h pool t (peak (Stations pool) h) timed (omega arith))
+    (few (is_held pool t) (λ d. d.at.station) h (peak (Stations pool) h)
+    (λ k. one_holder config h pool t k timed l))

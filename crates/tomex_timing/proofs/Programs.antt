@@ -42,7 +42,8 @@ overwritten = mul 0 5 1 2 0 65536 ∷ addi 4 5 0 1 0 ∷ ebreak 8 ∷ []
 
 -- addi x8,x0,256; addi x1,x0,768; sw x1,0(x8); lb x2,OFFSET(x8); ebreak
 abbrev pub stored_and_loaded : ℕ → List Step
-stored_and_loaded offset = addi 0 8 0 256 0 ∷ addi 4 1 0 768 0 ∷ step 8 (instr Sw 0 8 1 0) 256 768 ∷ step 12 (instr Lb 2 8 0 offset) 256 0 ∷ ebreak 16 ∷ []
+stored_and_loaded offset = addi 0 8 0 256 0 ∷ addi 4 1 0 768 0 ∷ step 8 (instr Sw 0 8 1 0) 256 768
+    ∷ step 12 (instr Lb 2 8 0 offset) 256 0 ∷ ebreak 16 ∷ []
 
 -- addi x5,x0,4; mul x6,x5,x5; jalr x0,0(x6); at 16 ebreak
 abbrev pub jump_to_product : List Step

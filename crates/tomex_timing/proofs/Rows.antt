@@ -5,25 +5,37 @@ use Rattle.tomex_rvdec.specs.declared.pool.UnitId.TheVariants as units
 use Rattle.tomex_config.specs.Configuration.{Configuration, plain, with_stations, with_option, with_buses, with_width}
 use Rattle.tomex_timing.specs.declared.times.Times.{Times}
 use Rattle.tomex_timing.specs.Search.{times_in, times_of, total_of}
-use Rattle.tomex_timing.proofs.Programs.{addi, ebreak, product, two_results, two_readers, overwritten, stored_and_loaded, jump_to_product, jump_past, two_loads, two_alu_stations, with_latency}
+use Rattle.tomex_timing.proofs.Programs.{addi, ebreak, product, two_results, two_readers, overwritten}
+use Rattle.tomex_timing.proofs.Programs.{stored_and_loaded, jump_to_product, jump_past, two_loads, two_alu_stations}
+use Rattle.tomex_timing.proofs.Programs.{with_latency}
 
 -- issue, start, finish, end and station
 abbrev on : ℕ → ℕ → ℕ → ℕ → ℕ → Times
-on issue start finish end n = record { issue = issue; address = None; start = start; finish = finish; end = end; station = Some n }
+on issue start finish end n = record {
+  issue = issue;
+  address = None;
+  start = start;
+  finish = finish;
+  end = end;
+  station = Some n;
+}
 
 -- of a load or store, with its address cycle
 abbrev accessing : ℕ → ℕ → ℕ → ℕ → ℕ → ℕ → Times
-accessing issue address start finish end n = record { issue = issue; address = Some address; start = start; finish = finish; end = end; station = Some n }
+accessing issue address start finish end n =
+    record { issue = issue; address = Some address; start = start; finish = finish; end = end; station = Some n }
 
 -- of an instruction that uses no station
 abbrev at_once : ℕ → Times
 at_once t = record { issue = t; address = None; start = t; finish = t; end = t; station = None }
 
-product_times : times_in (with_latency units.Mul two_alu_stations 3) product ≡ on 1 2 2 3 0 ∷ on 2 3 3 4 1 ∷ on 3 5 7 8 0 ∷ at_once 4 ∷ []
+product_times : times_in (with_latency units.Mul two_alu_stations 3) product ≡ on 1 2 2 3 0 ∷ on 2 3 3 4 1
+    ∷ on 3 5 7 8 0 ∷ at_once 4 ∷ []
 unfolding times_of
 product_times = refl
 
-product_times_one_station : times_in (with_latency units.Mul plain 3) product ≡ on 1 2 2 3 0 ∷ on 4 5 5 6 0 ∷ on 5 7 9 10 0 ∷ at_once 6 ∷ []
+product_times_one_station : times_in (with_latency units.Mul plain 3) product ≡ on 1 2 2 3 0 ∷ on 4 5 5 6 0
+    ∷ on 5 7 9 10 0 ∷ at_once 6 ∷ []
 unfolding times_of
 product_times_one_station = refl
 
@@ -32,44 +44,54 @@ unfolding times_of
 product_total = refl
 
 -- both results are ready for cycle 4: the older one has the bus
-results_times_one_bus : times_in (with_latency units.Mul plain 2) two_results ≡ on 1 2 3 4 0 ∷ on 2 3 3 5 0 ∷ at_once 3 ∷ []
+results_times_one_bus : times_in (with_latency units.Mul plain 2) two_results ≡ on 1 2 3 4 0 ∷ on 2 3 3 5 0 ∷ at_once 3
+    ∷ []
 unfolding times_of
 results_times_one_bus = refl
 
-results_times_two_buses : times_in (with_buses (with_latency units.Mul plain 2) 2) two_results ≡ on 1 2 3 4 0 ∷ on 2 3 3 4 0 ∷ at_once 3 ∷ []
+results_times_two_buses : times_in (with_buses (with_latency units.Mul plain 2) 2) two_results ≡ on 1 2 3 4 0
+    ∷ on 2 3 3 4 0 ∷ at_once 3 ∷ []
 unfolding times_of
 results_times_two_buses = refl
 
 -- both readers wait for the product: the older one has the unit
-readers_times_one_unit : times_in (with_buses (with_latency units.Mul two_alu_stations 3) 2) two_readers ≡ on 1 2 4 5 0 ∷ on 2 6 6 7 0 ∷ on 3 7 7 8 1 ∷ at_once 4 ∷ []
+readers_times_one_unit : times_in (with_buses (with_latency units.Mul two_alu_stations 3) 2) two_readers ≡ on 1 2 4 5 0
+    ∷ on 2 6 6 7 0 ∷ on 3 7 7 8 1 ∷ at_once 4 ∷ []
 unfolding times_of
 readers_times_one_unit = refl
 
-readers_times_two_units : times_in (with_option units.Alu (with_buses (with_latency units.Mul two_alu_stations 3) 2) (record { units = 2; latency = 1; price = 0 })) two_readers ≡ on 1 2 4 5 0 ∷ on 2 6 6 7 0 ∷ on 3 6 6 7 1 ∷ at_once 4 ∷ []
+readers_times_two_units : times_in (with_option units.Alu (with_buses (with_latency units.Mul two_alu_stations 3) 2)
+    (record { units = 2; latency = 1; price = 0 })) two_readers ≡ on 1 2 4 5 0 ∷ on 2 6 6 7 0 ∷ on 3 6 6 7 1 ∷ at_once 4
+    ∷ []
 unfolding times_of
 readers_times_two_units = refl
 
-overwritten_times : times_in (with_latency units.Mul plain 10) overwritten ≡ on 1 2 11 12 0 ∷ on 2 3 3 4 0 ∷ at_once 3 ∷ []
+overwritten_times : times_in (with_latency units.Mul plain 10) overwritten ≡ on 1 2 11 12 0 ∷ on 2 3 3 4 0 ∷ at_once 3
+    ∷ []
 unfolding times_of
 overwritten_times = refl
 
 -- the load's byte is one of the store's four, though not their first
-shared_byte_times : times_in (with_latency units.Mem two_alu_stations 2) (stored_and_loaded 1) ≡ on 1 2 2 3 0 ∷ on 2 3 3 4 1 ∷ accessing 3 4 5 6 6 0 ∷ accessing 4 5 7 8 9 0 ∷ at_once 5 ∷ []
+shared_byte_times : times_in (with_latency units.Mem two_alu_stations 2) (stored_and_loaded 1) ≡ on 1 2 2 3 0
+    ∷ on 2 3 3 4 1 ∷ accessing 3 4 5 6 6 0 ∷ accessing 4 5 7 8 9 0 ∷ at_once 5 ∷ []
 unfolding times_of
 shared_byte_times = refl
 
 -- the byte after them
-next_byte_times : times_in (with_latency units.Mem two_alu_stations 2) (stored_and_loaded 4) ≡ on 1 2 2 3 0 ∷ on 2 3 3 4 1 ∷ accessing 3 4 5 6 6 0 ∷ accessing 4 5 6 7 8 0 ∷ at_once 5 ∷ []
+next_byte_times : times_in (with_latency units.Mem two_alu_stations 2) (stored_and_loaded 4) ≡ on 1 2 2 3 0
+    ∷ on 2 3 3 4 1 ∷ accessing 3 4 5 6 6 0 ∷ accessing 4 5 6 7 8 0 ∷ at_once 5 ∷ []
 unfolding times_of
 next_byte_times = refl
 
 -- nothing issues past the jump by a register before it has finished
-jump_to_product_times : times_in (with_latency units.Mul two_alu_stations 3) jump_to_product ≡ on 1 2 2 3 0 ∷ on 2 4 6 7 0 ∷ on 3 8 8 8 0 ∷ at_once 9 ∷ []
+jump_to_product_times : times_in (with_latency units.Mul two_alu_stations 3) jump_to_product ≡ on 1 2 2 3 0
+    ∷ on 2 4 6 7 0 ∷ on 3 8 8 8 0 ∷ at_once 9 ∷ []
 unfolding times_of
 jump_to_product_times = refl
 
 -- JAL is no branch
-jump_past_times : times_in (with_latency units.Mul two_alu_stations 3) jump_past ≡ on 1 2 2 3 0 ∷ on 2 4 6 7 0 ∷ on 3 4 4 4 1 ∷ at_once 4 ∷ []
+jump_past_times : times_in (with_latency units.Mul two_alu_stations 3) jump_past ≡ on 1 2 2 3 0 ∷ on 2 4 6 7 0
+    ∷ on 3 4 4 4 1 ∷ at_once 4 ∷ []
 unfolding times_of
 jump_past_times = refl
 
@@ -83,28 +105,33 @@ unfolding times_of
 alone_times = refl
 
 -- two loads of one byte don't wait for each other
-loads_times_two_stations : times_in (with_latency units.Mem (with_stations pools.Load plain 2) 2) two_loads ≡ on 1 2 2 3 0 ∷ accessing 2 4 5 6 7 0 ∷ accessing 3 5 6 7 8 1 ∷ at_once 4 ∷ []
+loads_times_two_stations : times_in (with_latency units.Mem (with_stations pools.Load plain 2) 2) two_loads
+    ≡ on 1 2 2 3 0 ∷ accessing 2 4 5 6 7 0 ∷ accessing 3 5 6 7 8 1 ∷ at_once 4 ∷ []
 unfolding times_of
 loads_times_two_stations = refl
 
-loads_times_one_station : times_in (with_latency units.Mem plain 2) two_loads ≡ on 1 2 2 3 0 ∷ accessing 2 4 5 6 7 0 ∷ accessing 8 9 10 11 12 0 ∷ at_once 9 ∷ []
+loads_times_one_station : times_in (with_latency units.Mem plain 2) two_loads ≡ on 1 2 2 3 0 ∷ accessing 2 4 5 6 7 0
+    ∷ accessing 8 9 10 11 12 0 ∷ at_once 9 ∷ []
 unfolding times_of
 loads_times_one_station = refl
 
 -- two alu stations and units, mul with latency 3, two buses
 abbrev two_of_alu : Configuration
-two_of_alu = with_buses (with_option units.Alu (with_latency units.Mul two_alu_stations 3) (record { units = 2; latency = 1; price = 0 })) 2
+two_of_alu = with_buses (with_option units.Alu (with_latency units.Mul two_alu_stations 3)
+    (record { units = 2; latency = 1; price = 0 })) 2
 
 product_times_width_one : times_in two_of_alu product ≡ on 1 2 2 3 0 ∷ on 2 3 3 4 1 ∷ on 3 5 7 8 0 ∷ at_once 4 ∷ []
 unfolding times_of
 product_times_width_one = refl
 
 -- both sums issue in one cycle, to two stations; the product and EBREAK in the next
-product_times_width_two : times_in (with_width two_of_alu 2) product ≡ on 1 2 2 3 0 ∷ on 1 2 2 3 1 ∷ on 2 4 6 7 0 ∷ at_once 2 ∷ []
+product_times_width_two : times_in (with_width two_of_alu 2) product ≡ on 1 2 2 3 0 ∷ on 1 2 2 3 1 ∷ on 2 4 6 7 0
+    ∷ at_once 2 ∷ []
 unfolding times_of
 product_times_width_two = refl
 
-product_times_width_four : times_in (with_width two_of_alu 4) product ≡ on 1 2 2 3 0 ∷ on 1 2 2 3 1 ∷ on 1 4 6 7 0 ∷ at_once 1 ∷ []
+product_times_width_four : times_in (with_width two_of_alu 4) product ≡ on 1 2 2 3 0 ∷ on 1 2 2 3 1 ∷ on 1 4 6 7 0
+    ∷ at_once 1 ∷ []
 unfolding times_of
 product_times_width_four = refl
 
@@ -117,16 +144,19 @@ unfolding times_of
 product_total_width_four = refl
 
 -- one station holds the second sum back; the product issues with it
-product_times_one_station_width_two : times_in (with_width (with_latency units.Mul plain 3) 2) product ≡ on 1 2 2 3 0 ∷ on 4 5 5 6 0 ∷ on 4 7 9 10 0 ∷ at_once 5 ∷ []
+product_times_one_station_width_two : times_in (with_width (with_latency units.Mul plain 3) 2) product ≡ on 1 2 2 3 0
+    ∷ on 4 5 5 6 0 ∷ on 4 7 9 10 0 ∷ at_once 5 ∷ []
 unfolding times_of
 product_times_one_station_width_two = refl
 
 -- what comes after the jump by a register waits, however wide the machine is
-jump_to_product_times_width_four : times_in (with_width (with_latency units.Mul two_alu_stations 3) 4) jump_to_product ≡ on 1 2 2 3 0 ∷ on 1 4 6 7 0 ∷ on 1 8 8 8 0 ∷ at_once 9 ∷ []
+jump_to_product_times_width_four : times_in (with_width (with_latency units.Mul two_alu_stations 3) 4) jump_to_product
+    ≡ on 1 2 2 3 0 ∷ on 1 4 6 7 0 ∷ on 1 8 8 8 0 ∷ at_once 9 ∷ []
 unfolding times_of
 jump_to_product_times_width_four = refl
 
 -- what comes after JAL issues with it
-jump_past_times_width_four : times_in (with_width (with_latency units.Mul two_alu_stations 3) 4) jump_past ≡ on 1 2 2 3 0 ∷ on 1 4 6 7 0 ∷ on 1 3 3 3 1 ∷ at_once 1 ∷ []
+jump_past_times_width_four : times_in (with_width (with_latency units.Mul two_alu_stations 3) 4) jump_past
+    ≡ on 1 2 2 3 0 ∷ on 1 4 6 7 0 ∷ on 1 3 3 3 1 ∷ at_once 1 ∷ []
 unfolding times_of
 jump_past_times_width_four = refl

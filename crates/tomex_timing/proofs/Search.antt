@@ -1,5 +1,6 @@
 -- The search finds the recurrence's times, and there are no others.
-use Rattle.std.proofs.Common.{ℕ, ◌+◌, ◌-◌, ◌<◌, ◌≤◌, ◌≡◌, ◌∙◌, true, arith, refl, List, [], ◌∷◌, Option, Some, None, ap, inl, inr, sym}
+use Rattle.std.proofs.Common.{ℕ, ◌+◌, ◌-◌, ◌<◌, ◌≤◌, ◌≡◌, ◌∙◌, true, arith, refl, List, [], ◌∷◌, Option, Some, None, ap}
+use Rattle.std.proofs.Common.{inl, inr, sym}
 use Rattle.std.specs.Prelude.{is_some, MatchOption, map}
 use Rattle.std.specs.Bool.{MatchBool}
 use Rattle.std.proofs.lemmas.Bool.{cases_Bool, ltb-true, and_parts, MatchBool-at_true, MatchBool-at_false}
@@ -13,82 +14,170 @@ use Rattle.tomex_timing.specs.declared.times.Times.{Times}
 use Rattle.tomex_timing.specs.History.{is_memory, cycle_of, greatest_end}
 use Rattle.tomex_timing.specs.Station.{has_station, is_free}
 use Rattle.tomex_timing.specs.Recurrence.{IsLeast, IsTimed, AreTimed, can_issue, can_address, can_start, can_end}
-use Rattle.tomex_timing.specs.Search.{issue_of, address_at, start_of, end_of, station_at, times_from, times_of, timed_of}
+use Rattle.tomex_timing.specs.Search.{issue_of, address_at, start_of, end_of, station_at, times_from, times_of}
+use Rattle.tomex_timing.specs.Search.{timed_of}
 use Rattle.tomex_timing.proofs.Bound.{timed_by}
 use Rattle.tomex_timing.proofs.Least.{least_is, least_le, least_same}
 use Rattle.tomex_timing.proofs.Limits.{latency_high}
 use Rattle.tomex_timing.proofs.Settled.{AllBy, can_issue_after, can_address_after, can_start_after, can_end_after}
 use Rattle.tomex_timing.proofs.Stations.{number_is}
 
-issue_is : (config : Configuration) (older : List Done) (s : Step) (g : ℕ) → IsWithinLimits config → AllBy g older → IsLeast (can_issue config older s) (issue_of config older s g)
+issue_is : (config : Configuration) (older : List Done) (s : Step) (g : ℕ) → IsWithinLimits config → AllBy g older
+    → IsLeast (can_issue config older s) (issue_of config older s g)
 issue_is config older s g good h = least_is (can_issue config older s) (g + 1) (can_issue_after config older s g good h)
 
-address_is : (config : Configuration) (older : List Done) (s : Step) (issue g : ℕ) → AllBy g older → issue ≤ g + 1 → MatchBool (is_memory s) (IsLeast (can_address older s issue) (cycle_of (address_at older s issue g))) (address_at older s issue g ≡ None)
+address_is : (config : Configuration) (older : List Done) (s : Step) (issue g : ℕ) → AllBy g older → issue ≤ g + 1
+    → MatchBool (is_memory s) (IsLeast (can_address older s issue) (cycle_of (address_at older s issue g)))
+    (address_at older s issue g ≡ None)
 address_is config older s issue g h i = elim (cases_Bool (is_memory s)) [
   | inl e ↦ rw e (least_is (can_address older s issue) (g + 2) (can_address_after older s issue g h i))
   | inr e ↦ rw e refl
 ]
 
-end_is : (config : Configuration) (older : List Done) (s : Step) (finish g : ℕ) → IsWithinLimits config → AllBy g older → finish ≤ g + 66 → MatchBool (is_some (step_dest s)) (IsLeast (can_end config older finish) (end_of config older s finish g)) (end_of config older s finish g ≡ finish)
+end_is : (config : Configuration) (older : List Done) (s : Step) (finish g : ℕ) → IsWithinLimits config → AllBy g older
+    → finish ≤ g + 66 → MatchBool (is_some (step_dest s))
+    (IsLeast (can_end config older finish) (end_of config older s finish g)) (end_of config older s finish g ≡ finish)
 end_is config older s finish g good h f = elim (cases_Bool (is_some (step_dest s))) [
-  | inl e ↦ rw e (least_is (can_end config older finish) (g + 67) (can_end_after config older finish g (g + 67) good h (omega arith) (omega arith)))
+  | inl e ↦ rw e (least_is (can_end config older finish) (g + 67)
+      (can_end_after config older finish g (g + 67) good h (omega arith) (omega arith)))
   | inr e ↦ rw e refl
 ]
 
-address_low : (older : List Done) (s : Step) (issue g : ℕ) → AllBy g older → issue ≤ g + 1 → cycle_of (address_at older s issue g) ≤ g + 2
+address_low : (older : List Done) (s : Step) (issue g : ℕ) → AllBy g older → issue ≤ g + 1
+    → cycle_of (address_at older s issue g) ≤ g + 2
 address_low older s issue g h i = elim (cases_Bool (is_memory s)) [
-  | inl e ↦ rw e (least_le (can_address older s issue) _ (g + 2) (least_is (can_address older s issue) (g + 2) (can_address_after older s issue g h i)) (can_address_after older s issue g h i))
+  | inl e ↦ rw e (least_le (can_address older s issue) _ (g + 2)
+      (least_is (can_address older s issue) (g + 2) (can_address_after older s issue g h i))
+      (can_address_after older s issue g h i))
   | inr e ↦ rw e (omega arith)
 ]
 
-station_is : (config : Configuration) (older : List Done) (pool : Option PoolId) (t : ℕ) → has_station config older pool t ≡ true
-    → MatchOption pool (station_at config older pool t ≡ None) (λ p. (n : ℕ) × (station_at config older pool t ≡ Some n) × IsLeast (is_free p older t) n)
+station_is : (config : Configuration) (older : List Done) (pool : Option PoolId) (t : ℕ)
+    → has_station config older pool t ≡ true
+    → MatchOption pool (station_at config older pool t ≡ None) (λ p. (n : ℕ) × (station_at config older pool t ≡ Some n)
+    × IsLeast (is_free p older t) n)
 station_is config older None t h = refl
 station_is config older (Some p) t h = (_, refl, (number_is config older p t h).0)
 
 -- the last conjunct of the test for issue
-pub issue_station : (config : Configuration) (older : List Done) (s : Step) (t : ℕ) → can_issue config older s t ≡ true → has_station config older (step_pool s) t ≡ true
+pub issue_station : (config : Configuration) (older : List Done) (s : Step) (t : ℕ) → can_issue config older s t ≡ true
+    → has_station config older (step_pool s) t ≡ true
 issue_station config older s t h = (and_parts _ _ h).1
 
-times_are_from : (config : Configuration) (older : List Done) (s : Step) (g : ℕ) (unit : Option UnitId) → step_unit s ≡ unit → IsWithinLimits config → AllBy g older
-    → IsTimed config older s (times_from config older s g (issue_of config older s g) (address_at older s (issue_of config older s g) g) unit)
+times_are_from : (config : Configuration) (older : List Done) (s : Step) (g : ℕ) (unit : Option UnitId)
+    → step_unit s ≡ unit → IsWithinLimits config → AllBy g older
+    → IsTimed config older s (times_from config older s g (issue_of config older s g)
+    (address_at older s (issue_of config older s g) g) unit)
 times_are_from config older s g None e good h =
     let i : IsLeast (can_issue config older s) (issue_of config older s g) = issue_is config older s g good h in
-    let by : issue_of config older s g ≤ g + 1 = least_le (can_issue config older s) _ (g + 1) i (can_issue_after config older s g good h) in
-    record { issue = i; address = address_is config older s _ g h by; start = rw e refl; finish = rw e refl; end = rw e refl; station = station_is config older (step_pool s) _ (issue_station config older s _ i.0) }
+    let by : issue_of config older s g ≤ g + 1 =
+    least_le (can_issue config older s) _ (g + 1) i (can_issue_after config older s g good h) in
+    record {
+      issue = i;
+      address = address_is config older s _ g h by;
+      start = rw e refl;
+      finish = rw e refl;
+      end = rw e refl;
+      station = station_is config older (step_pool s) _ (issue_station config older s _ i.0);
+    }
 times_are_from config older s g (Some u) e good h =
     let i : IsLeast (can_issue config older s) (issue_of config older s g) = issue_is config older s g good h in
-    let by : issue_of config older s g ≤ g + 1 = least_le (can_issue config older s) _ (g + 1) i (can_issue_after config older s g good h) in
+    let by : issue_of config older s g ≤ g + 1 =
+    least_le (can_issue config older s) _ (g + 1) i (can_issue_after config older s g good h) in
     let a : cycle_of (address_at older s (issue_of config older s g) g) ≤ g + 2 = address_low older s _ g h by in
-    let can : can_start config older s u (issue_of config older s g) (cycle_of (address_at older s (issue_of config older s g) g)) (g + 3) ≡ true = can_start_after config older s u _ _ g good h by a in
-    let st : IsLeast (can_start config older s u (issue_of config older s g) (cycle_of (address_at older s (issue_of config older s g) g))) (start_of config older s u (issue_of config older s g) (cycle_of (address_at older s (issue_of config older s g) g)) g) = least_is (can_start config older s u _ _) (g + 3) can in
-    let late : start_of config older s u (issue_of config older s g) (cycle_of (address_at older s (issue_of config older s g) g)) g ≤ g + 3 = least_le _ _ (g + 3) st can in
+    let can : can_start config older s u (issue_of config older s g)
+    (cycle_of (address_at older s (issue_of config older s g) g)) (g + 3) ≡ true =
+    can_start_after config older s u _ _ g good h by a in
+    let st : IsLeast (can_start config older s u (issue_of config older s g)
+    (cycle_of (address_at older s (issue_of config older s g) g)))
+    (start_of config older s u (issue_of config older s g)
+    (cycle_of (address_at older s (issue_of config older s g) g)) g) =
+    least_is (can_start config older s u _ _) (g + 3) can in
+    let late : start_of config older s u (issue_of config older s g)
+    (cycle_of (address_at older s (issue_of config older s g) g)) g ≤ g + 3 = least_le _ _ (g + 3) st can in
     let l : (option_of config u).latency ≤ 64 = latency_high config u good in
-    record { issue = i; address = address_is config older s _ g h by; start = rw e st; finish = rw e refl; end = rw e (end_is config older s _ g good h (omega arith)); station = station_is config older (step_pool s) _ (issue_station config older s _ i.0) }
+    record {
+      issue = i;
+      address = address_is config older s _ g h by;
+      start = rw e st;
+      finish = rw e refl;
+      end = rw e (end_is config older s _ g good h (omega arith));
+      station = station_is config older (step_pool s) _ (issue_station config older s _ i.0);
+    }
 
 -- the function's times are those of the relation
-pub times_are : (config : Configuration) (older : List Done) (s : Step) → IsWithinLimits config → AreTimed config older → IsTimed config older s (times_of config older s)
+pub times_are : (config : Configuration) (older : List Done) (s : Step) → IsWithinLimits config → AreTimed config older
+    → IsTimed config older s (times_of config older s)
 unfolding times_of
-times_are config older s good timed = times_are_from config older s (greatest_end older) (step_unit s) refl good (timed_by config older good timed)
+times_are config older s good timed =
+    times_are_from config older s (greatest_end older) (step_unit s) refl good (timed_by config older good timed)
 
-pub timed_is : (config : Configuration) (steps : List Step) → IsWithinLimits config → AreTimed config (timed_of config steps)
+pub timed_is : (config : Configuration) (steps : List Step) → IsWithinLimits config
+    → AreTimed config (timed_of config steps)
 timed_is config [] good = tt
-timed_is config (s ∷ older) good = let earlier = timed_is config older good in (times_are config (timed_of config older) s good earlier, earlier)
+timed_is config (s ∷ older) good = let earlier = timed_is config older good in
+    (times_are config (timed_of config older) s good earlier, earlier)
 
-same_record : (a b : Times) → a.issue ≡ b.issue → a.address ≡ b.address → a.start ≡ b.start → a.finish ≡ b.finish → a.end ≡ b.end → a.station ≡ b.station → a ≡ b
+same_record : (a b : Times) → a.issue ≡ b.issue → a.address ≡ b.address → a.start ≡ b.start → a.finish ≡ b.finish
+    → a.end ≡ b.end → a.station ≡ b.station → a ≡ b
 same_record a b e1 e2 e3 e4 e5 e6 =
-    let f1 : ℕ → Times = λ k. record { issue = k; address = a.address; start = a.start; finish = a.finish; end = a.end; station = a.station } in
-    let f2 : Option ℕ → Times = λ k. record { issue = b.issue; address = k; start = a.start; finish = a.finish; end = a.end; station = a.station } in
-    let f3 : ℕ → Times = λ k. record { issue = b.issue; address = b.address; start = k; finish = a.finish; end = a.end; station = a.station } in
-    let f4 : ℕ → Times = λ k. record { issue = b.issue; address = b.address; start = b.start; finish = k; end = a.end; station = a.station } in
-    let f5 : ℕ → Times = λ k. record { issue = b.issue; address = b.address; start = b.start; finish = b.finish; end = k; station = a.station } in
-    let f6 : Option ℕ → Times = λ k. record { issue = b.issue; address = b.address; start = b.start; finish = b.finish; end = b.end; station = k } in
+    let f1 : ℕ → Times = λ k. record {
+      issue = k;
+      address = a.address;
+      start = a.start;
+      finish = a.finish;
+      end = a.end;
+      station = a.station;
+    } in
+    let f2 : Option ℕ → Times = λ k. record {
+      issue = b.issue;
+      address = k;
+      start = a.start;
+      finish = a.finish;
+      end = a.end;
+      station = a.station;
+    } in
+    let f3 : ℕ → Times = λ k. record {
+      issue = b.issue;
+      address = b.address;
+      start = k;
+      finish = a.finish;
+      end = a.end;
+      station = a.station;
+    } in
+    let f4 : ℕ → Times = λ k. record {
+      issue = b.issue;
+      address = b.address;
+      start = b.start;
+      finish = k;
+      end = a.end;
+      station = a.station;
+    } in
+    let f5 : ℕ → Times = λ k. record {
+      issue = b.issue;
+      address = b.address;
+      start = b.start;
+      finish = b.finish;
+      end = k;
+      station = a.station;
+    } in
+    let f6 : Option ℕ → Times = λ k. record {
+      issue = b.issue;
+      address = b.address;
+      start = b.start;
+      finish = b.finish;
+      end = b.end;
+      station = k;
+    } in
     ap f1 e1 ∙ (ap f2 e2 ∙ (ap f3 e3 ∙ (ap f4 e4 ∙ (ap f5 e5 ∙ ap f6 e6))))
 
-same_end : (config : Configuration) (older : List Done) (s : Step) (f a b : ℕ) → MatchBool (is_some (step_dest s)) (IsLeast (can_end config older f) a) (a ≡ f) → MatchBool (is_some (step_dest s)) (IsLeast (can_end config older f) b) (b ≡ f) → a ≡ b
+same_end : (config : Configuration) (older : List Done) (s : Step) (f a b : ℕ)
+    → MatchBool (is_some (step_dest s)) (IsLeast (can_end config older f) a) (a ≡ f)
+    → MatchBool (is_some (step_dest s)) (IsLeast (can_end config older f) b) (b ≡ f) → a ≡ b
 same_end config older s f a b x y = elim (cases_Bool (is_some (step_dest s))) [
   | inl e ↦ least_same (can_end config older f) a b (MatchBool-at_true _ _ e x) (MatchBool-at_true _ _ e y)
-  | inr e ↦ let p : a ≡ f = MatchBool-at_false (IsLeast (can_end config older f) a) _ e x in let q : b ≡ f = MatchBool-at_false (IsLeast (can_end config older f) b) _ e y in cc
+  | inr e ↦ let p : a ≡ f = MatchBool-at_false (IsLeast (can_end config older f) a) _ e x in
+      let q : b ≡ f = MatchBool-at_false (IsLeast (can_end config older f) b) _ e y in cc
 ]
 
 -- two cycles above 0 that are the same
@@ -100,54 +189,75 @@ same_cycle (Some m) (Some n) x y e = ap Some e
 pub address_pos : (older : List Done) (s : Step) (i t : ℕ) → can_address older s i t ≡ true → 0 < t
 address_pos older s i t h = let l : i < t = ltb-true i t (and_parts _ _ (and_parts _ _ h).0).0 in omega arith
 
-same_address : (older : List Done) (s : Step) (i : ℕ) (a b : Option ℕ) → MatchBool (is_memory s) (IsLeast (can_address older s i) (cycle_of a)) (a ≡ None) → MatchBool (is_memory s) (IsLeast (can_address older s i) (cycle_of b)) (b ≡ None) → a ≡ b
+same_address : (older : List Done) (s : Step) (i : ℕ) (a b : Option ℕ)
+    → MatchBool (is_memory s) (IsLeast (can_address older s i) (cycle_of a)) (a ≡ None)
+    → MatchBool (is_memory s) (IsLeast (can_address older s i) (cycle_of b)) (b ≡ None) → a ≡ b
 same_address older s i a b x y = elim (cases_Bool (is_memory s)) [
   | inl e ↦
       let p : IsLeast (can_address older s i) (cycle_of a) = MatchBool-at_true _ _ e x in
       let q : IsLeast (can_address older s i) (cycle_of b) = MatchBool-at_true _ _ e y in
-      same_cycle a b (address_pos older s i _ p.0) (address_pos older s i _ q.0) (least_same (can_address older s i) _ _ p q)
-  | inr e ↦ let p : a ≡ None = MatchBool-at_false (IsLeast (can_address older s i) (cycle_of a)) _ e x in let q : b ≡ None = MatchBool-at_false (IsLeast (can_address older s i) (cycle_of b)) _ e y in p ∙ sym q
+      same_cycle a b (address_pos older s i _ p.0) (address_pos older s i _ q.0)
+      (least_same (can_address older s i) _ _ p q)
+  | inr e ↦ let p : a ≡ None = MatchBool-at_false (IsLeast (can_address older s i) (cycle_of a)) _ e x in
+      let q : b ≡ None = MatchBool-at_false (IsLeast (can_address older s i) (cycle_of b)) _ e y in p ∙ sym q
 ]
 
-same_station : (older : List Done) (pool : Option PoolId) (t : ℕ) (a b : Option ℕ) → MatchOption pool (a ≡ None) (λ p. (n : ℕ) × (a ≡ Some n) × IsLeast (is_free p older t) n) → MatchOption pool (b ≡ None) (λ p. (n : ℕ) × (b ≡ Some n) × IsLeast (is_free p older t) n) → a ≡ b
+same_station : (older : List Done) (pool : Option PoolId) (t : ℕ) (a b : Option ℕ)
+    → MatchOption pool (a ≡ None) (λ p. (n : ℕ) × (a ≡ Some n) × IsLeast (is_free p older t) n)
+    → MatchOption pool (b ≡ None) (λ p. (n : ℕ) × (b ≡ Some n) × IsLeast (is_free p older t) n) → a ≡ b
 same_station older None t a b x y = x ∙ sym y
 same_station older (Some p) t a b x y = x.1 ∙ (ap Some (least_same (is_free p older t) x.0 y.0 x.2 y.2) ∙ sym y.1)
 
-same_from : (config : Configuration) (older : List Done) (s : Step) (unit : Option UnitId) (a b : Times) → step_unit s ≡ unit → IsTimed config older s a → IsTimed config older s b → a ≡ b
+same_from : (config : Configuration) (older : List Done) (s : Step) (unit : Option UnitId) (a b : Times)
+    → step_unit s ≡ unit → IsTimed config older s a → IsTimed config older s b → a ≡ b
 same_from config older s None a b e x y =
     let i : a.issue ≡ b.issue = least_same (can_issue config older s) a.issue b.issue x.issue y.issue in
-    let d : a.address ≡ b.address = same_address older s a.issue a.address b.address x.address (rw (← i) at y.address) in
+    let d : a.address ≡ b.address =
+    same_address older s a.issue a.address b.address x.address (rw (← i) at y.address) in
     let p : a.start ≡ a.issue = rw e at x.start in let q : b.start ≡ b.issue = rw e at y.start in
     let p2 : a.finish ≡ a.issue = rw e at x.finish in let q2 : b.finish ≡ b.issue = rw e at y.finish in
     let p3 : a.end ≡ a.issue = rw e at x.end in let q3 : b.end ≡ b.issue = rw e at y.end in
-    same_record a b i d (omega arith) (omega arith) (omega arith) (same_station older (step_pool s) a.issue a.station b.station x.station (rw (← i) at y.station))
+    same_record a b i d (omega arith) (omega arith) (omega arith)
+    (same_station older (step_pool s) a.issue a.station b.station x.station (rw (← i) at y.station))
 same_from config older s (Some u) a b e x y =
     let i : a.issue ≡ b.issue = least_same (can_issue config older s) a.issue b.issue x.issue y.issue in
-    let d : a.address ≡ b.address = same_address older s a.issue a.address b.address x.address (rw (← i) at y.address) in
+    let d : a.address ≡ b.address =
+    same_address older s a.issue a.address b.address x.address (rw (← i) at y.address) in
     let p : IsLeast (can_start config older s u a.issue (cycle_of a.address)) a.start = rw e at x.start in
     let q : IsLeast (can_start config older s u b.issue (cycle_of b.address)) b.start = rw e at y.start in
-    let st : a.start ≡ b.start = least_same (can_start config older s u a.issue (cycle_of a.address)) a.start b.start p (rw (← i, ← d) at q) in
+    let st : a.start ≡ b.start = least_same (can_start config older s u a.issue (cycle_of a.address)) a.start b.start p
+    (rw (← i, ← d) at q) in
     let p2 : a.finish ≡ a.start + (option_of config u).latency - 1 = rw e at x.finish in
     let q2 : b.finish ≡ b.start + (option_of config u).latency - 1 = rw e at y.finish in
     let fi : a.finish ≡ b.finish = omega arith in
-    let p3 : MatchBool (is_some (step_dest s)) (IsLeast (can_end config older a.finish) a.end) (a.end ≡ a.finish) = rw e at x.end in
-    let q3 : MatchBool (is_some (step_dest s)) (IsLeast (can_end config older b.finish) b.end) (b.end ≡ b.finish) = rw e at y.end in
-    same_record a b i d st fi (same_end config older s a.finish a.end b.end p3 (rw (← fi) at q3)) (same_station older (step_pool s) a.issue a.station b.station x.station (rw (← i) at y.station))
+    let p3 : MatchBool (is_some (step_dest s)) (IsLeast (can_end config older a.finish) a.end) (a.end ≡ a.finish) =
+    rw e at x.end in
+    let q3 : MatchBool (is_some (step_dest s)) (IsLeast (can_end config older b.finish) b.end) (b.end ≡ b.finish) =
+    rw e at y.end in
+    same_record a b i d st fi (same_end config older s a.finish a.end b.end p3 (rw (← fi) at q3))
+    (same_station older (step_pool s) a.issue a.station b.station x.station (rw (← i) at y.station))
 
-pub times_same : (config : Configuration) (older : List Done) (s : Step) (a b : Times) → IsTimed config older s a → IsTimed config older s b → a ≡ b
+pub times_same : (config : Configuration) (older : List Done) (s : Step) (a b : Times) → IsTimed config older s a
+    → IsTimed config older s b → a ≡ b
 times_same config older s a b x y = same_from config older s (step_unit s) a b refl x y
 
-same_done : (d : Done) (older : List Done) (at : Times) (others : List Done) → d.at ≡ at → older ≡ others → (d ∷ older) ≡ (record { step = d.step; at = at } ∷ others)
+same_done : (d : Done) (older : List Done) (at : Times) (others : List Done) → d.at ≡ at → older ≡ others
+    → (d ∷ older) ≡ (record { step = d.step; at = at } ∷ others)
 same_done d older at others e f =
     let g : Times → List Done = λ (a : Times). record { step = d.step; at = a } ∷ older in
     let h : List Done → List Done = λ (o : List Done). record { step = d.step; at = at } ∷ o in
     ap g e ∙ ap h f
 
 -- a history with the relation's times is the function's
-pub timed_of-same : (config : Configuration) (h : List Done) → IsWithinLimits config → AreTimed config h → h ≡ timed_of config (map (λ d. d.step) h)
+pub timed_of-same : (config : Configuration) (h : List Done) → IsWithinLimits config → AreTimed config h
+    → h ≡ timed_of config (map (λ d. d.step) h)
 timed_of-same config [] good timed = refl
 timed_of-same config (d ∷ older) good timed =
     let e : older ≡ timed_of config (map (λ d. d.step) older) = timed_of-same config older good timed.1 in
-    let at : d.at ≡ times_of config older d.step = times_same config older d.step d.at (times_of config older d.step) timed.0 (times_are config older d.step good timed.1) in
-    let at2 : times_of config older d.step ≡ times_of config (timed_of config (map (λ d. d.step) older)) d.step = ap (λ h. times_of config h d.step) e in
-    same_done d older (times_of config (timed_of config (map (λ d. d.step) older)) d.step) (timed_of config (map (λ d. d.step) older)) (at ∙ at2) e
+    let at : d.at ≡ times_of config older d.step =
+    times_same config older d.step d.at (times_of config older d.step) timed.0
+    (times_are config older d.step good timed.1) in
+    let at2 : times_of config older d.step ≡ times_of config (timed_of config (map (λ d. d.step) older)) d.step =
+    ap (λ h. times_of config h d.step) e in
+    same_done d older (times_of config (timed_of config (map (λ d. d.step) older)) d.step)
+    (timed_of config (map (λ d. d.step) older)) (at ∙ at2) e

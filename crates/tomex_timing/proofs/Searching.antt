@@ -12,7 +12,8 @@ pub record IsSearching (p : ℕ → Bool) (from t n : ℕ) : Type 0 where
   pub by : t ≤ n
 
 -- it goes on by one where t fails
-pub goes_on : (p : ℕ → Bool) (from t n : ℕ) → p n ≡ true → IsSearching p from t n → p t ≡ false → IsSearching p from (t + 1) n
+pub goes_on : (p : ℕ → Bool) (from t n : ℕ) → p n ≡ true → IsSearching p from t n → p t ≡ false
+    → IsSearching p from (t + 1) n
 goes_on p from t n passes searching fails = record {
   begun = omega (arith, searching.begun);
   below = λ s f l. elim (cases_order s t) [
@@ -43,4 +44,8 @@ least_agree p q a agree x = (let h : q a ≡ p a = sym (agree a) in h ∙ x.0, �
 
 -- what passes at once is first
 pub first_here : (p : ℕ → Bool) (from : ℕ) → p from ≡ true → IsFirst from p from
-first_here p from e = (and_from (nat_le from from) (p from) (le-leb from from (omega arith)) e, λ s l. rw (lt-leb from s l) refl)
+first_here p from e = (
+  and_from (nat_le from from) (p from) (le-leb from from (omega arith)) e,
+  λ s l. rw
+      (lt-leb from s l) refl,
+)

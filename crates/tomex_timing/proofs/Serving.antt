@@ -1,9 +1,11 @@
 -- A configuration that serves a history as another does gives it the same times.
-use Rattle.std.proofs.Common.{ℕ, zero, suc, ◌+◌, ◌-◌, ◌<◌, ◌≤◌, ◌≡◌, ◌∙◌, ◌⊎◌, Bool, true, false, arith, refl, ap, sym, inl, inr, List, [], ◌∷◌, Option, Some, None, max, map, reverse}
+use Rattle.std.proofs.Common.{ℕ, zero, suc, ◌+◌, ◌-◌, ◌<◌, ◌≤◌, ◌≡◌, ◌∙◌, ◌⊎◌, Bool, true, false, arith, refl, ap, sym}
+use Rattle.std.proofs.Common.{inl, inr, List, [], ◌∷◌, Option, Some, None, max, map, reverse}
 use Rattle.std.specs.Prelude.{nat_lt, nat_le, ◌==◌, ◌&&◌, count_by, is_some, MatchOption}
 use Rattle.std.specs.Bool.{MatchBool}
 use Rattle.std.specs.List.{range_with_len}
-use Rattle.std.proofs.lemmas.Bool.{cases_Bool, cases_order, and_parts, and_from, and_left, and_right, eq-eqb, le-ltb, leb-true, ltb-true, lt-ltb}
+use Rattle.std.proofs.lemmas.Bool.{cases_Bool, cases_order, and_parts, and_from, and_left, and_right, eq-eqb, le-ltb}
+use Rattle.std.proofs.lemmas.Bool.{leb-true, ltb-true, lt-ltb}
 use Rattle.std.proofs.lemmas.List.Sums.{sum_by-cons}
 use Rattle.tomex_rvdec.specs.declared.pool.PoolId.{PoolId}
 use Rattle.tomex_rvdec.specs.declared.pool.UnitId.{UnitId}
@@ -14,8 +16,11 @@ use Rattle.tomex_timing.specs.declared.part.Part.{Part}
 use Rattle.tomex_timing.specs.declared.part.Part.TheVariants.{Stations, Units, Buses, Width}
 use Rattle.tomex_timing.specs.declared.times.Done.{Done}
 use Rattle.tomex_timing.specs.History.{is_of, cycle_of, last_issue}
-use Rattle.tomex_timing.specs.Needs.{count_of, cycles_that, lacks_width, lacks_station, lacks_unit, waits_of, stalls, peak, Serves}
-use Rattle.tomex_timing.specs.Recurrence.{IsLeast, IsTimed, AreTimed, EndsAfter, can_issue_another, are_branches_finished, can_issue, has_operands, are_conflicts_finished, has_unit, can_start, has_bus, can_end}
+use Rattle.tomex_timing.specs.Needs.{count_of, cycles_that, lacks_width, lacks_station, lacks_unit, waits_of, stalls}
+use Rattle.tomex_timing.specs.Needs.{peak, Serves}
+use Rattle.tomex_timing.specs.Recurrence.{IsLeast, IsTimed, AreTimed, EndsAfter, can_issue_another}
+use Rattle.tomex_timing.specs.Recurrence.{are_branches_finished, can_issue, has_operands, are_conflicts_finished}
+use Rattle.tomex_timing.specs.Recurrence.{has_unit, can_start, has_bus, can_end}
 use Rattle.tomex_timing.specs.Search.{history, timed_of, times_in, total_of}
 use Rattle.tomex_timing.specs.Station.{has_station, is_held, is_free}
 use Rattle.tomex_timing.proofs.Histories.{are_timed}
@@ -30,7 +35,9 @@ range_none p (suc n) a t e l m = elim (cases_Bool (p a)) [
   | inl y ↦ let f : 1 + count_by p (range_with_len (a + 1) n) ≡ 0 = rw (sum_by-cons, y) at e in absurd (omega arith)
   | inr y ↦ elim (cases_order a t) [
     | inl s ↦ rw (← s) y
-    | inr (inl k) ↦ let g : 0 + count_by p (range_with_len (a + 1) n) ≡ 0 = rw (sum_by-cons, y) at e in let f : count_by p (range_with_len (a + 1) n) ≡ 0 = omega arith in range_none p n (a + 1) t f (omega arith) (omega arith)
+    | inr (inl k) ↦ let g : 0 + count_by p (range_with_len (a + 1) n) ≡ 0 = rw (sum_by-cons, y) at e in
+        let f : count_by p (range_with_len (a + 1) n) ≡ 0 = omega arith in
+        range_none p n (a + 1) t f (omega arith) (omega arith)
     | inr (inr k) ↦ absurd (omega arith)
   ]
 ]
@@ -38,24 +45,31 @@ range_none p (suc n) a t e l m = elim (cases_Bool (p a)) [
 pub none_that : (p : ℕ → Bool) (from to t : ℕ) → cycles_that p from to ≡ 0 → from ≤ t → t < to → p t ≡ false
 none_that p from to t e l m = range_none p (to - from) from t e l (omega arith)
 
--- how a part of the second configuration stands to the first configuration's, at one step: as many, or no stalls and enough
+-- how a part of the second configuration stands to the first configuration's, at one step: as many, or no stalls and
+-- enough
 abbrev Stands : Configuration → Configuration → Part → List Done → Done → Type 0
-Stands config other part older d = (count_of other part ≡ count_of config part) ⊎ ((stalls config part (d ∷ older) ≡ 0) × (peak part (d ∷ older) ≤ count_of other part))
+Stands config other part older d = (count_of other part ≡ count_of config part)
+    ⊎ ((stalls config part (d ∷ older) ≡ 0) × (peak part (d ∷ older) ≤ count_of other part))
 
 -- width
 
-slot_same : (config other : Configuration) (older : List Done) (t : ℕ) → other.width ≡ config.width → can_issue_another other older t ≡ can_issue_another config older t
+slot_same : (config other : Configuration) (older : List Done) (t : ℕ) → other.width ≡ config.width
+    → can_issue_another other older t ≡ can_issue_another config older t
 slot_same config other older t e = rw e refl
 
-slot_still : (config other : Configuration) (older : List Done) (d : Done) (t : ℕ) → Stands config other Width older d → max 1 (last_issue older) ≤ t → t < d.at.issue
-    → are_branches_finished older t ≡ true → can_issue_another config older t ≡ false → can_issue_another other older t ≡ false
+slot_still : (config other : Configuration) (older : List Done) (d : Done) (t : ℕ) → Stands config other Width older d
+    → max 1 (last_issue older) ≤ t → t < d.at.issue
+    → are_branches_finished older t ≡ true → can_issue_another config older t ≡ false
+    → can_issue_another other older t ≡ false
 slot_still config other older d t (inl same) low high branches fails = slot_same config other older t same ∙ fails
 slot_still config other older d t (inr none) low high branches fails =
     let no : (waits_of config older d).width ≡ 0 = let z = none.0 in omega arith in
-    let f : lacks_width config older t ≡ false = none_that (lacks_width config older) (max 1 (last_issue older)) d.at.issue t no low high in
+    let f : lacks_width config older t ≡ false =
+    none_that (lacks_width config older) (max 1 (last_issue older)) d.at.issue t no low high in
     let g : true ≡ false = rw (branches, fails) at f in absurd (cc)
 
-slot_there : (config other : Configuration) (older : List Done) (d : Done) → Stands config other Width older d → can_issue_another config older d.at.issue ≡ true → can_issue_another other older d.at.issue ≡ true
+slot_there : (config other : Configuration) (older : List Done) (d : Done) → Stands config other Width older d
+    → can_issue_another config older d.at.issue ≡ true → can_issue_another other older d.at.issue ≡ true
 slot_there config other older d (inl same) there = slot_same config other older d.at.issue same ∙ there
 slot_there config other older d (inr none) there =
     let order : nat_le (last_issue older) d.at.issue ≡ true = (and_parts _ _ there).0 in
@@ -64,15 +78,19 @@ slot_there config other older d (inr none) there =
 
 -- stations
 
-station_same : (config other : Configuration) (older : List Done) (p : PoolId) (t : ℕ) → stations_of other p ≡ stations_of config p → has_station other older (Some p) t ≡ has_station config older (Some p) t
+station_same : (config other : Configuration) (older : List Done) (p : PoolId) (t : ℕ)
+    → stations_of other p ≡ stations_of config p → has_station other older (Some p) t ≡ has_station config older
+    (Some p) t
 station_same config other older p t e = rw e refl
 
 own_pool : (p : PoolId) → is_in p (Some p) ≡ true
 own_pool p = eq-eqb _ _ refl
 
-station_still : (config other : Configuration) (older : List Done) (d : Done) (x : Option PoolId) (t : ℕ) → step_pool d.step ≡ x → ((part : Part) → Stands config other part older d)
+station_still : (config other : Configuration) (older : List Done) (d : Done) (x : Option PoolId) (t : ℕ)
+    → step_pool d.step ≡ x → ((part : Part) → Stands config other part older d)
     → max 1 (last_issue older) ≤ t → t < d.at.issue
-    → are_branches_finished older t ≡ true → can_issue_another config older t ≡ true → has_station config older x t ≡ false → has_station other older x t ≡ false
+    → are_branches_finished older t ≡ true → can_issue_another config older t ≡ true
+    → has_station config older x t ≡ false → has_station other older x t ≡ false
 station_still config other older d None t e stands low high branches slot fails = fails
 station_still config other older d (Some p) t e stands low high branches slot fails = elim (stands (Stations p)) [
   | inl same ↦ station_same config other older p t same ∙ fails
@@ -80,12 +98,16 @@ station_still config other older d (Some p) t e stands low high branches slot fa
       let z : stalls config (Stations p) (d ∷ older) ≡ 0 = none.0 in
       let zz = rw (e, own_pool p) at z in
       let no : (waits_of config older d).station ≡ 0 = omega arith in
-      let f : lacks_station config older t ≡ false = none_that (lacks_station config older) (max 1 (last_issue older)) d.at.issue t no low high in
+      let f : lacks_station config older t ≡ false =
+      none_that (lacks_station config older) (max 1 (last_issue older)) d.at.issue t no low high in
       let g : true ≡ false = rw (branches, slot) at f in absurd (cc)
 ]
 
-station_there : (config other : Configuration) (older : List Done) (d : Done) (x : Option PoolId) → step_pool d.step ≡ x → ((part : Part) → Stands config other part older d)
-    → AreTimed config older → last_issue older ≤ d.at.issue → MatchOption x (d.at.station ≡ None) (λ p. (n : ℕ) × (d.at.station ≡ Some n) × IsLeast (is_free p older d.at.issue) n)
+station_there : (config other : Configuration) (older : List Done) (d : Done) (x : Option PoolId) → step_pool d.step ≡ x
+    → ((part : Part) → Stands config other part older d)
+    → AreTimed config older → last_issue older ≤ d.at.issue
+    → MatchOption x (d.at.station ≡ None) (λ p. (n : ℕ) × (d.at.station ≡ Some n)
+    × IsLeast (is_free p older d.at.issue) n)
     → has_station config older x d.at.issue ≡ true → has_station other older x d.at.issue ≡ true
 station_there config other older d None e stands timed l is there = refl
 station_there config other older d (Some p) e stands timed l is there = elim (stands (Stations p)) [
@@ -93,12 +115,15 @@ station_there config other older d (Some p) e stands timed l is there = elim (st
   | inr none ↦
       let m : peak (Stations p) (d ∷ older) ≤ stations_of other p = none.1 in
       let mm = rw (e, own_pool p, is.1) at m in
-      lt-ltb (count_by (is_held p d.at.issue) older) (stations_of other p) (stations_fit config older p d.at.issue is.0 (stations_of other p) timed l is.2.0 (omega arith) (omega arith))
+      lt-ltb (count_by (is_held p d.at.issue) older) (stations_of other p)
+      (stations_fit config older p d.at.issue is.0 (stations_of other p) timed l is.2.0 (omega arith) (omega arith))
 ]
 
 -- issue
 
-cannot_issue : (config other : Configuration) (older : List Done) (d : Done) (t : ℕ) → ((part : Part) → Stands config other part older d) → t < d.at.issue → can_issue config older d.step t ≡ false → can_issue other older d.step t ≡ false
+cannot_issue : (config other : Configuration) (older : List Done) (d : Done) (t : ℕ)
+    → ((part : Part) → Stands config other part older d) → t < d.at.issue → can_issue config older d.step t ≡ false
+    → can_issue other older d.step t ≡ false
 cannot_issue config other older d t stands high fails = elim (cases_Bool (nat_lt 0 t)) [
   | inr e ↦ rw e refl
   | inl e ↦ elim (cases_Bool (nat_le (last_issue older) t)) [
@@ -108,14 +133,21 @@ cannot_issue config other older d t stands high fails = elim (cases_Bool (nat_lt
         let after : last_issue older ≤ t = leb-true (last_issue older) t f in
         let low : max 1 (last_issue older) ≤ t = omega arith in
         elim (cases_Bool (are_branches_finished older t)) [
-          | inr b ↦ and_left _ (has_station other older (step_pool d.step) t) (and_right (nat_lt 0 t && can_issue_another other older t) (are_branches_finished older t) b)
+          | inr b ↦ and_left _ (has_station other older (step_pool d.step) t)
+              (and_right (nat_lt 0 t && can_issue_another other older t) (are_branches_finished older t) b)
           | inl b ↦ elim (cases_Bool (can_issue_another config older t)) [
             | inr w ↦
-                let z : can_issue_another other older t ≡ false = slot_still config other older d t (stands Width) low high b w in
-                and_left _ (has_station other older (step_pool d.step) t) (and_left _ (are_branches_finished older t) (and_right (nat_lt 0 t) (can_issue_another other older t) z))
+                let z : can_issue_another other older t ≡ false =
+                slot_still config other older d t (stands Width) low high b w in
+                and_left _ (has_station other older (step_pool d.step) t)
+                (and_left _ (are_branches_finished older t)
+                (and_right (nat_lt 0 t) (can_issue_another other older t) z))
             | inl w ↦
-                let s : has_station config older (step_pool d.step) t ≡ false = last (nat_lt 0 t) (can_issue_another config older t) (are_branches_finished older t) (has_station config older (step_pool d.step) t) e w b fails in
-                and_right _ (has_station other older (step_pool d.step) t) (station_still config other older d (step_pool d.step) t refl stands low high b w s)
+                let s : has_station config older (step_pool d.step) t ≡ false =
+                last (nat_lt 0 t) (can_issue_another config older t) (are_branches_finished older t)
+                (has_station config older (step_pool d.step) t) e w b fails in
+                and_right _ (has_station other older (step_pool d.step) t)
+                (station_still config other older d (step_pool d.step) t refl stands low high b w s)
           ]
         ]
   ]
@@ -124,13 +156,16 @@ cannot_issue config other older d t stands high fails = elim (cases_Bool (nat_lt
     last : (a b c d : Bool) → a ≡ true → b ≡ true → c ≡ true → (((a && b) && c) && d) ≡ false → d ≡ false
     last a b c d e f g h = rw (e, f, g) at h
 
-issues : (config other : Configuration) (older : List Done) (d : Done) → ((part : Part) → Stands config other part older d) → AreTimed config older → IsTimed config older d.step d.at → IsLeast (can_issue other older d.step) d.at.issue
+issues : (config other : Configuration) (older : List Done) (d : Done)
+    → ((part : Part) → Stands config other part older d) → AreTimed config older → IsTimed config older d.step d.at
+    → IsLeast (can_issue other older d.step) d.at.issue
 issues config other older d stands timed is =
     let three = and_parts _ (has_station config older (step_pool d.step) d.at.issue) is.issue.0 in
     let two = and_parts _ (are_branches_finished older d.at.issue) three.0 in
     let one = and_parts (nat_lt 0 d.at.issue) (can_issue_another config older d.at.issue) two.0 in
     let l : last_issue older ≤ d.at.issue = issue_from config older d.step d.at.issue is.issue.0 in (
-      and_from _ _ (and_from _ _ (and_from _ _ one.0 (slot_there config other older d (stands Width) one.1)) two.1) (station_there config other older d (step_pool d.step) refl stands timed l is.station three.1),
+      and_from _ _ (and_from _ _ (and_from _ _ one.0 (slot_there config other older d (stands Width) one.1)) two.1)
+          (station_there config other older d (step_pool d.step) refl stands timed l is.station three.1),
       λ t high. cannot_issue config other older d t stands high (is.issue.1 t high),
     )
 
@@ -139,41 +174,54 @@ issues config other older d stands timed is =
 own_unit : (u : UnitId) → is_of u (Some u) ≡ true
 own_unit u = eq-eqb _ _ refl
 
-unit_same : (config other : Configuration) (older : List Done) (u : UnitId) (t : ℕ) → (option_of other u).units ≡ (option_of config u).units → has_unit other older u t ≡ has_unit config older u t
+unit_same : (config other : Configuration) (older : List Done) (u : UnitId) (t : ℕ)
+    → (option_of other u).units ≡ (option_of config u).units → has_unit other older u t ≡ has_unit config older u t
 unit_same config other older u t e = rw e refl
 
-unit_still : (config other : Configuration) (older : List Done) (d : Done) (u : UnitId) (t : ℕ) → step_unit d.step ≡ Some u → Stands config other (Units u) older d
-    → d.at.issue < t → t < d.at.start → has_operands older d.step t ≡ true → nat_lt (cycle_of d.at.address) t ≡ true → are_conflicts_finished older d.step t ≡ true
+unit_still : (config other : Configuration) (older : List Done) (d : Done) (u : UnitId) (t : ℕ)
+    → step_unit d.step ≡ Some u → Stands config other (Units u) older d
+    → d.at.issue < t → t < d.at.start → has_operands older d.step t ≡ true → nat_lt (cycle_of d.at.address) t ≡ true
+    → are_conflicts_finished older d.step t ≡ true
     → has_unit config older u t ≡ false → has_unit other older u t ≡ false
-unit_still config other older d u t e (inl same) low high operands address conflicts fails = unit_same config other older u t same ∙ fails
+unit_still config other older d u t e (inl same) low high operands address conflicts fails =
+    unit_same config other older u t same ∙ fails
 unit_still config other older d u t e (inr none) low high operands address conflicts fails =
     let z : stalls config (Units u) (d ∷ older) ≡ 0 = none.0 in
     let zz = rw (e, own_unit u) at z in
     let no : (waits_of config older d).unit ≡ 0 = omega arith in
-    let f : lacks_unit older d t ≡ false = none_that (lacks_unit older d) (d.at.issue + 1) d.at.start t no (omega arith) high in
+    let f : lacks_unit older d t ≡ false =
+    none_that (lacks_unit older d) (d.at.issue + 1) d.at.start t no (omega arith) high in
     let g : true ≡ false = rw (operands, address, conflicts) at f in absurd (cc)
 
-unit_there : (config other : Configuration) (older : List Done) (d : Done) (u : UnitId) → step_unit d.step ≡ Some u → Stands config other (Units u) older d → has_unit config older u d.at.start ≡ true → has_unit other older u d.at.start ≡ true
+unit_there : (config other : Configuration) (older : List Done) (d : Done) (u : UnitId) → step_unit d.step ≡ Some u
+    → Stands config other (Units u) older d → has_unit config older u d.at.start ≡ true
+    → has_unit other older u d.at.start ≡ true
 unit_there config other older d u e (inl same) there = unit_same config other older u d.at.start same ∙ there
 unit_there config other older d u e (inr none) there =
     let m : peak (Units u) (d ∷ older) ≤ (option_of other u).units = none.1 in
     let mm = rw (e, own_unit u) at m in
-    lt-ltb (count_by (λ x. is_of u (step_unit x.step) && x.at.start == d.at.start) older) (option_of other u).units (omega arith)
+    lt-ltb (count_by (λ x. is_of u (step_unit x.step) && x.at.start == d.at.start) older) (option_of other u).units
+    (omega arith)
 
-starts_with : (config other : Configuration) (older : List Done) (d : Done) (u : UnitId) → step_unit d.step ≡ Some u → ((part : Part) → Stands config other part older d)
-    → IsLeast (can_start config older d.step u d.at.issue (cycle_of d.at.address)) d.at.start → IsLeast (can_start other older d.step u d.at.issue (cycle_of d.at.address)) d.at.start
+starts_with : (config other : Configuration) (older : List Done) (d : Done) (u : UnitId) → step_unit d.step ≡ Some u
+    → ((part : Part) → Stands config other part older d)
+    → IsLeast (can_start config older d.step u d.at.issue (cycle_of d.at.address)) d.at.start
+    → IsLeast (can_start other older d.step u d.at.issue (cycle_of d.at.address)) d.at.start
 starts_with config other older d u e stands is =
     let two = and_parts _ (has_unit config older u d.at.start) is.0 in (
       and_from _ _ two.0 (unit_there config other older d u e (stands (Units u)) two.1),
-      λ t high. elim (cases_Bool (((nat_lt d.at.issue t && nat_lt (cycle_of d.at.address) t) && has_operands older d.step t) && are_conflicts_finished older d.step t)) [
-        | inr f ↦ rw f refl
-        | inl f ↦
-            let c = and_parts _ (are_conflicts_finished older d.step t) f in
-            let o = and_parts _ (has_operands older d.step t) c.0 in
-            let i = and_parts (nat_lt d.at.issue t) (nat_lt (cycle_of d.at.address) t) o.0 in
-            let z : has_unit config older u t ≡ false = last _ _ f (is.1 t high) in
-            and_right _ (has_unit other older u t) (unit_still config other older d u t e (stands (Units u)) (ltb-true d.at.issue t i.0) high o.1 i.1 c.1 z)
-      ],
+      λ t high. elim (cases_Bool (((nat_lt d.at.issue t && nat_lt (cycle_of d.at.address) t) && has_operands older
+          d.step t) && are_conflicts_finished older d.step t)) [
+            | inr f ↦ rw f refl
+            | inl f ↦
+                let c = and_parts _ (are_conflicts_finished older d.step t) f in
+                let o = and_parts _ (has_operands older d.step t) c.0 in
+                let i = and_parts (nat_lt d.at.issue t) (nat_lt (cycle_of d.at.address) t) o.0 in
+                let z : has_unit config older u t ≡ false = last _ _ f (is.1 t high) in
+                and_right _ (has_unit other older u t)
+                (unit_still config other older d u t e (stands (Units u)) (ltb-true d.at.issue t i.0) high o.1 i.1 c.1
+                z)
+          ],
     )
   where
     last : (a b : Bool) → a ≡ true → (a && b) ≡ false → b ≡ false
@@ -181,12 +229,16 @@ starts_with config other older d u e stands is =
 
 -- end
 
-bus_same : (config other : Configuration) (older : List Done) (t : ℕ) → other.buses ≡ config.buses → has_bus other older t ≡ has_bus config older t
+bus_same : (config other : Configuration) (older : List Done) (t : ℕ) → other.buses ≡ config.buses
+    → has_bus other older t ≡ has_bus config older t
 bus_same config other older t e = rw e refl
 
-ends_with : (config other : Configuration) (older : List Done) (d : Done) → is_some (step_dest d.step) ≡ true → Stands config other Buses older d → IsLeast (can_end config older d.at.finish) d.at.end → IsLeast (can_end other older d.at.finish) d.at.end
+ends_with : (config other : Configuration) (older : List Done) (d : Done) → is_some (step_dest d.step) ≡ true
+    → Stands config other Buses older d → IsLeast (can_end config older d.at.finish) d.at.end
+    → IsLeast (can_end other older d.at.finish) d.at.end
 ends_with config other older d dest (inl same) is = (
-  let two = and_parts (nat_lt d.at.finish d.at.end) _ is.0 in and_from _ _ two.0 (bus_same config other older d.at.end same ∙ two.1),
+  let two = and_parts (nat_lt d.at.finish d.at.end) _ is.0 in
+      and_from _ _ two.0 (bus_same config other older d.at.end same ∙ two.1),
   λ t high. ap (λ b. nat_lt d.at.finish t && b) (bus_same config other older t same) ∙ is.1 t high,
 )
 ends_with config other older d dest (inr none) is =
@@ -195,39 +247,50 @@ ends_with config other older d dest (inr none) is =
     let no : d.at.end - (d.at.finish + 1) ≡ 0 = let z = none.0 in omega arith in
     let m : peak Buses (d ∷ older) ≤ other.buses = none.1 in
     let mm = rw dest at m in (
-      and_from _ _ two.0 (lt-ltb (count_by (λ x. is_some (step_dest x.step) && x.at.end == d.at.end) older) other.buses (omega arith)),
+      and_from _ _ two.0 (lt-ltb (count_by (λ x. is_some (step_dest x.step) && x.at.end == d.at.end) older) other.buses
+          (omega arith)),
       λ t high. and_left (nat_lt d.at.finish t) (has_bus other older t) (le-ltb d.at.finish t (omega arith)),
     )
 
 -- one step
 
-latency_same : (config other : Configuration) (older : List Done) (d : Done) (u : UnitId) → step_unit d.step ≡ Some u → ((option_of other u).latency ≡ (option_of config u).latency) ⊎ (peak (Units u) (d ∷ older) ≡ 0) → (option_of other u).latency ≡ (option_of config u).latency
+latency_same : (config other : Configuration) (older : List Done) (d : Done) (u : UnitId) → step_unit d.step ≡ Some u
+    → ((option_of other u).latency ≡ (option_of config u).latency) ⊎ (peak (Units u) (d ∷ older) ≡ 0)
+    → (option_of other u).latency ≡ (option_of config u).latency
 latency_same config other older d u e (inl same) = same
 latency_same config other older d u e (inr none) = let n = rw (e, own_unit u) at none in absurd (omega arith)
 
-by_unit : (x : Option UnitId) (A : Type 0) (P Q : UnitId → Type 0) → ((u : UnitId) → x ≡ Some u → P u → Q u) → MatchOption x A P → MatchOption x A Q
+by_unit : (x : Option UnitId) (A : Type 0) (P Q : UnitId → Type 0) → ((u : UnitId) → x ≡ Some u → P u → Q u)
+    → MatchOption x A P → MatchOption x A Q
 by_unit None A P Q f h = h
 by_unit (Some u) A P Q f h = f u refl h
 
-ends_after : (config other : Configuration) (older : List Done) (d : Done) → Stands config other Buses older d → EndsAfter config older d.step d.at.finish d.at.end → EndsAfter other older d.step d.at.finish d.at.end
-ends_after config other older d stands is = by_dest (is_some (step_dest d.step)) (IsLeast (can_end config older d.at.finish) d.at.end) (IsLeast (can_end other older d.at.finish) d.at.end) (d.at.end ≡ d.at.finish) (λ dest least. ends_with config other older d dest stands least) is
+ends_after : (config other : Configuration) (older : List Done) (d : Done) → Stands config other Buses older d
+    → EndsAfter config older d.step d.at.finish d.at.end → EndsAfter other older d.step d.at.finish d.at.end
+ends_after config other older d stands is =
+    by_dest (is_some (step_dest d.step)) (IsLeast (can_end config older d.at.finish) d.at.end)
+    (IsLeast (can_end other older d.at.finish) d.at.end) (d.at.end ≡ d.at.finish)
+    (λ dest least. ends_with config other older d dest stands least) is
   where
     by_dest : (b : Bool) (P Q R : Type 0) → (b ≡ true → P → Q) → MatchBool b P R → MatchBool b Q R
     by_dest true P Q R f h = f refl h
     by_dest false P Q R f h = h
 
-timed_still : (config other : Configuration) (older : List Done) (d : Done) → AreTimed config older → IsTimed config older d.step d.at → Serves config other (d ∷ older) → IsTimed other older d.step d.at
+timed_still : (config other : Configuration) (older : List Done) (d : Done) → AreTimed config older
+    → IsTimed config older d.step d.at → Serves config other (d ∷ older) → IsTimed other older d.step d.at
 timed_still config other older d timed is serves = record {
   issue = issues config other older d serves.parts timed is;
   address = is.address;
   start = by_unit (step_unit d.step) _ _ _ (λ u e x. starts_with config other older d u e serves.parts x) is.start;
-  finish = by_unit (step_unit d.step) _ _ _ (λ u e x. rw (latency_same config other older d u e (serves.latencies u)) x) is.finish;
+  finish = by_unit (step_unit d.step) _ _ _ (λ u e x. rw (latency_same config other older d u e (serves.latencies u)) x)
+      is.finish;
   end = by_unit (step_unit d.step) _ _ _ (λ u e x. ends_after config other older d (serves.parts Buses) x) is.end;
   station = is.station;
 }
 
 -- a history's beginning has no more stalls, and takes no more
-serves_before : (config other : Configuration) (older : List Done) (d : Done) → Serves config other (d ∷ older) → Serves config other older
+serves_before : (config other : Configuration) (older : List Done) (d : Done) → Serves config other (d ∷ older)
+    → Serves config other older
 serves_before config other older d serves = record {
   parts = λ part. elim (serves.parts part) [
     | inl same ↦ inl same
@@ -239,22 +302,32 @@ serves_before config other older d serves = record {
   ];
 }
 
-pub serves_timed : (config other : Configuration) (h : List Done) → AreTimed config h → Serves config other h → AreTimed other h
+pub serves_timed : (config other : Configuration) (h : List Done) → AreTimed config h → Serves config other h
+    → AreTimed other h
 serves_timed config other [] timed serves = tt
-serves_timed config other (d ∷ older) timed serves = (timed_still config other older d timed.1 timed.0 serves, serves_timed config other older timed.1 (serves_before config other older d serves))
+serves_timed config other (d ∷ older) timed serves = (
+  timed_still config other older d timed.1 timed.0 serves,
+  serves_timed config other older timed.1
+      (serves_before config other older d serves),
+)
 
 steps_of-timed : (config : Configuration) (ys : List Step) → map (λ d. d.step) (timed_of config ys) ≡ ys
 steps_of-timed config [] = refl
 steps_of-timed config (y ∷ ys) = ap (λ zs. y ∷ zs) (steps_of-timed config ys)
 
-pub serves_history : (config other : Configuration) (steps : List Step) → IsWithinLimits config → IsWithinLimits other → Serves config other (history config steps) → history other steps ≡ history config steps
+pub serves_history : (config other : Configuration) (steps : List Step) → IsWithinLimits config → IsWithinLimits other
+    → Serves config other (history config steps) → history other steps ≡ history config steps
 serves_history config other steps good good' serves =
-    let timed : AreTimed other (history config steps) = serves_timed config other (history config steps) (are_timed config steps good) serves in
-    let e : history config steps ≡ timed_of other (map (λ d. d.step) (history config steps)) = timed_of-same other (history config steps) good' timed in
+    let timed : AreTimed other (history config steps) =
+    serves_timed config other (history config steps) (are_timed config steps good) serves in
+    let e : history config steps ≡ timed_of other (map (λ d. d.step) (history config steps)) =
+    timed_of-same other (history config steps) good' timed in
     sym (e ∙ ap (timed_of other) (steps_of-timed config (reverse steps)))
 
-pub serves_runs : (config other : Configuration) (steps : List Step) → IsWithinLimits config → IsWithinLimits other → Serves config other (history config steps)
-    → (history other steps ≡ history config steps) × (total_of (times_in other steps) ≡ total_of (times_in config steps))
+pub serves_runs : (config other : Configuration) (steps : List Step) → IsWithinLimits config → IsWithinLimits other
+    → Serves config other (history config steps)
+    → (history other steps ≡ history config steps)
+    × (total_of (times_in other steps) ≡ total_of (times_in config steps))
 serves_runs config other steps good good' serves =
     let e = serves_history config other steps good good' serves in
     (e, ap (λ h. total_of (map (λ d. d.at) (reverse h))) e)

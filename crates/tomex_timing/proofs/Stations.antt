@@ -1,5 +1,6 @@
 -- Where fewer of a pool's stations are held than there are, one of them is free.
-use Rattle.std.proofs.Common.{ℕ, zero, suc, ◌+◌, ◌<◌, ◌≤◌, ◌≡◌, Bool, true, false, cond, arith, refl, ◌⊎◌, inl, inr, List, [], ◌∷◌, Option, Some, None}
+use Rattle.std.proofs.Common.{ℕ, zero, suc, ◌+◌, ◌<◌, ◌≤◌, ◌≡◌, Bool, true, false, cond, arith, refl, ◌⊎◌, inl, inr}
+use Rattle.std.proofs.Common.{List, [], ◌∷◌, Option, Some, None}
 use Rattle.std.specs.Prelude.{nat_lt, ◌==◌, not, ◌&&◌, count_by}
 use Rattle.std.specs.List.{list_all}
 use Rattle.std.proofs.lemmas.Bool.{cases_Bool, cases_order, lt-ltb, le-ltb, ltb-true, ne_eqb, eq-eqb}
@@ -14,7 +15,8 @@ use Rattle.tomex_timing.specs.Search.{first_from, least}
 use Rattle.tomex_timing.proofs.Least.{fails_more}
 
 -- a bounded search finds the least, or there is none below the bound
-first_from_cases : (p : ℕ → Bool) (t n : ℕ) → ((s : ℕ) → s < t → p s ≡ false) → ((s : ℕ) → s < t + n → p s ≡ false) ⊎ (IsLeast p (first_from p t n) × (first_from p t n < t + n))
+first_from_cases : (p : ℕ → Bool) (t n : ℕ) → ((s : ℕ) → s < t → p s ≡ false) → ((s : ℕ) → s < t + n → p s ≡ false)
+    ⊎ (IsLeast p (first_from p t n) × (first_from p t n < t + n))
 first_from_cases p t zero below = inl (λ s l. below s (omega arith))
 first_from_cases p t (suc n) below = elim (cases_Bool (p t)) [
   | inl e ↦ rw e (inr ((e, below), omega arith))
@@ -39,20 +41,30 @@ one b = cond b 1 0
 split_number : (m n : ℕ) → one (nat_lt m (suc n)) ≡ one (nat_lt m n) + one (m == n)
 split_number m n = elim (cases_order m n) [
   | inl e ↦ rw (e, lt-ltb n (suc n) (omega arith), le-ltb n n (omega arith), eq-eqb n n refl) refl
-  | inr (inl l) ↦ rw (lt-ltb m (suc n) (omega arith), lt-ltb m n l, ne_eqb m n (λ (e : m ≡ n). absurd (omega arith))) refl
-  | inr (inr l) ↦ rw (le-ltb m (suc n) (omega arith), le-ltb m n (omega arith), ne_eqb m n (λ (e : m ≡ n). absurd (omega arith))) refl
+  | inr (inl l) ↦ rw (lt-ltb m (suc n) (omega arith), lt-ltb m n l, ne_eqb m n (λ (e : m ≡ n). absurd (omega arith)))
+      refl
+  | inr (inr l) ↦ rw (
+    le-ltb m (suc n) (omega arith),
+    le-ltb m n (omega arith),
+    ne_eqb m n
+        (λ (e : m ≡ n). absurd (omega arith)),
+  ) refl
 ]
 
-split_one : (b : Bool) (st : Option ℕ) (n : ℕ) → one (b && lower st (suc n)) ≡ one (b && lower st n) + one (b && is_number st n)
+split_one : (b : Bool) (st : Option ℕ) (n : ℕ) → one (b && lower st (suc n)) ≡ one (b && lower st n)
+    + one (b && is_number st n)
 split_one false st n = refl
 split_one true None n = refl
 split_one true (Some m) n = split_number m n
 
-pub split_count : {X : Type 0} (held : X → Bool) (station : X → Option ℕ) (n : ℕ) (xs : List X) → count_by (λ d. held d && lower (station d) (suc n)) xs ≡ count_by (λ d. held d && lower (station d) n) xs + count_by (λ d. held d && is_number (station d) n) xs
+pub split_count : {X : Type 0} (held : X → Bool) (station : X → Option ℕ) (n : ℕ) (xs : List X)
+    → count_by (λ d. held d && lower (station d) (suc n)) xs ≡ count_by (λ d. held d && lower (station d) n) xs
+    + count_by (λ d. held d && is_number (station d) n) xs
 split_count held station n [] = refl
 split_count held station n (d ∷ xs) =
     let e = split_count held station n xs in
-    let f : one (held d && lower (station d) (suc n)) ≡ one (held d && lower (station d) n) + one (held d && is_number (station d) n) = split_one (held d) (station d) n in
+    let f : one (held d && lower (station d) (suc n)) ≡ one (held d && lower (station d) n)
+    + one (held d && is_number (station d) n) = split_one (held d) (station d) n in
     rw (sum_by-cons, sum_by-cons, sum_by-cons) (omega arith)
 
 one_at_least : {X : Type 0} (q : X → Bool) (xs : List X) → list_all (λ d. not (q d)) xs ≡ false → 0 < count_by q xs
@@ -63,11 +75,15 @@ one_at_least q (d ∷ xs) h = elim (cases_Bool (q d)) [
 ]
 
 -- where the first n numbers are held, n stations are
-pigeons : {X : Type 0} (held : X → Bool) (station : X → Option ℕ) (xs : List X) (n : ℕ) → ((k : ℕ) → k < n → list_all (λ d. not (held d && is_number (station d) k)) xs ≡ false) → n ≤ count_by (λ d. held d && lower (station d) n) xs
+pigeons : {X : Type 0} (held : X → Bool) (station : X → Option ℕ) (xs : List X) (n : ℕ)
+    → ((k : ℕ) → k < n → list_all (λ d. not (held d && is_number (station d) k)) xs ≡ false)
+    → n ≤ count_by (λ d. held d && lower (station d) n) xs
 pigeons held station xs zero h = omega arith
 pigeons held station xs (suc n) h =
-    let a : n ≤ count_by (λ d. held d && lower (station d) n) xs = pigeons held station xs n (λ k l. h k (omega arith)) in
-    let b : 0 < count_by (λ d. held d && is_number (station d) n) xs = one_at_least (λ d. held d && is_number (station d) n) xs (h n (omega arith)) in
+    let a : n ≤ count_by (λ d. held d && lower (station d) n) xs =
+    pigeons held station xs n (λ k l. h k (omega arith)) in
+    let b : 0 < count_by (λ d. held d && is_number (station d) n) xs =
+    one_at_least (λ d. held d && is_number (station d) n) xs (h n (omega arith)) in
     let e = split_count held station n xs in
     omega arith
 
@@ -76,7 +92,8 @@ one_part false b = omega arith
 one_part true false = omega arith
 one_part true true = omega arith
 
-pub part_count : {X : Type 0} (held : X → Bool) (station : X → Option ℕ) (n : ℕ) (xs : List X) → count_by (λ d. held d && lower (station d) n) xs ≤ count_by (held) xs
+pub part_count : {X : Type 0} (held : X → Bool) (station : X → Option ℕ) (n : ℕ) (xs : List X)
+    → count_by (λ d. held d && lower (station d) n) xs ≤ count_by (held) xs
 part_count held station n [] = omega arith
 part_count held station n (d ∷ xs) =
     let e = part_count held station n xs in
@@ -85,7 +102,9 @@ part_count held station n (d ∷ xs) =
 
 -- where fewer than n are held, one of the first n numbers is free
 pub found : {X : Type 0} (held : X → Bool) (station : X → Option ℕ) (xs : List X) (n : ℕ) → count_by held xs < n
-    → IsLeast (λ k. list_all (λ d. not (held d && is_number (station d) k)) xs) (least (λ k. list_all (λ d. not (held d && is_number (station d) k)) xs) n) × (least (λ k. list_all (λ d. not (held d && is_number (station d) k)) xs) n < n)
+    → IsLeast (λ k. list_all (λ d. not (held d && is_number (station d) k)) xs)
+    (least (λ k. list_all (λ d. not (held d && is_number (station d) k)) xs) n)
+    × (least (λ k. list_all (λ d. not (held d && is_number (station d) k)) xs) n < n)
 found held station xs n few = elim (least_cases (λ k. list_all (λ d. not (held d && is_number (station d) k)) xs) n) [
   | inl none ↦
       let a : n ≤ count_by (λ d. held d && lower (station d) n) xs = pigeons held station xs n none in
@@ -95,6 +114,9 @@ found held station xs n few = elim (least_cases (λ k. list_all (λ d. not (held
 ]
 
 -- the station is found, and is one of the pool's
-pub number_is : (config : Configuration) (older : List Done) (pool : PoolId) (t : ℕ) → has_station config older (Some pool) t ≡ true
-    → IsLeast (is_free pool older t) (least (is_free pool older t) (stations_of config pool)) × (least (is_free pool older t) (stations_of config pool) < stations_of config pool)
-number_is config older pool t h = found (is_held pool t) (λ d. d.at.station) older (stations_of config pool) (ltb-true _ _ h)
+pub number_is : (config : Configuration) (older : List Done) (pool : PoolId) (t : ℕ)
+    → has_station config older (Some pool) t ≡ true
+    → IsLeast (is_free pool older t) (least (is_free pool older t) (stations_of config pool))
+    × (least (is_free pool older t) (stations_of config pool) < stations_of config pool)
+number_is config older pool t h =
+    found (is_held pool t) (λ d. d.at.station) older (stations_of config pool) (ltb-true _ _ h)

@@ -12,7 +12,8 @@ use Rattle.tomex_timing.specs.declared.tables.Busy.{Busy}
 use Rattle.tomex_timing.specs.declared.tables.Field.TheVariants.{Value, Waits, Unread}
 use Rattle.tomex_timing.specs.declared.tables.Tag.{Tag}
 use Rattle.tomex_timing.specs.Tables.{tables_of}
-use Rattle.tomex_timing.proofs.Programs.{instr, product, overwritten, stored_and_loaded, jump_to_product, two_alu_stations, with_latency}
+use Rattle.tomex_timing.proofs.Programs.{instr, product, overwritten, stored_and_loaded, jump_to_product}
+use Rattle.tomex_timing.proofs.Programs.{two_alu_stations, with_latency}
 
 abbrev tag : PoolId → ℕ → Tag
 tag pool n = record { pool = pool; number = n }
@@ -47,19 +48,30 @@ abbrev overwritten_run : List Done
 overwritten_run = history (with_latency units.Mul plain 10) overwritten
 
 abbrev overwritten_product : Busy
-overwritten_product = record { tag = tag pools.Mul 0; instr = instr Mul 5 1 2 0; j = Value 0; k = Value 65536; a = None }
+overwritten_product = record {
+  tag = tag pools.Mul 0;
+  instr = instr Mul 5 1 2 0;
+  j = Value 0;
+  k = Value 65536;
+  a = None;
+}
 
 -- the younger writer of x5 is the one that the register waits for
 overwritten_after_3 : tables_of 3 overwritten_run ≡ record {
   cycle = 3;
-  busy = record { tag = tag pools.Alu 0; instr = instr Addi 5 0 0 1; j = Value 0; k = Unread; a = None } ∷ overwritten_product ∷ [];
+  busy = record { tag = tag pools.Alu 0; instr = instr Addi 5 0 0 1; j = Value 0; k = Unread; a = None }
+      ∷ overwritten_product ∷ [];
   registers = slice_set no_writers 5 (Some (tag pools.Alu 0));
 }
 unfolding times_of
 overwritten_after_3 = refl
 
 -- and once it has ended the register waits for nothing, though the older one is busy
-overwritten_after_4 : tables_of 4 overwritten_run ≡ record { cycle = 4; busy = overwritten_product ∷ []; registers = no_writers }
+overwritten_after_4 : tables_of 4 overwritten_run ≡ record {
+  cycle = 4;
+  busy = overwritten_product ∷ [];
+  registers = no_writers;
+}
 unfolding times_of
 overwritten_after_4 = refl
 
@@ -95,13 +107,21 @@ unfolding times_of
 jump_after_3 = refl
 
 -- what issues in its producers' cycle waits for their stations
-product_width_four_after_1 : tables_of 1 (history (with_width (with_latency units.Mul two_alu_stations 3) 4) product) ≡ record {
-  cycle = 1;
-  busy = record { tag = tag pools.Alu 0; instr = instr Addi 1 0 0 5; j = Value 0; k = Unread; a = None }
-      ∷ record { tag = tag pools.Alu 1; instr = instr Addi 2 0 0 7; j = Value 0; k = Unread; a = None }
-      ∷ record { tag = tag pools.Mul 0; instr = instr Mul 3 1 2 0; j = Waits (tag pools.Alu 0); k = Waits (tag pools.Alu 1); a = None }
-      ∷ [];
-  registers = slice_set (slice_set (slice_set no_writers 1 (Some (tag pools.Alu 0))) 2 (Some (tag pools.Alu 1))) 3 (Some (tag pools.Mul 0));
-}
+product_width_four_after_1 : tables_of 1 (history (with_width (with_latency units.Mul two_alu_stations 3) 4) product)
+    ≡ record {
+      cycle = 1;
+      busy = record { tag = tag pools.Alu 0; instr = instr Addi 1 0 0 5; j = Value 0; k = Unread; a = None }
+          ∷ record { tag = tag pools.Alu 1; instr = instr Addi 2 0 0 7; j = Value 0; k = Unread; a = None }
+          ∷ record {
+            tag = tag pools.Mul 0;
+            instr = instr Mul 3 1 2 0;
+            j = Waits (tag pools.Alu 0);
+            k = Waits (tag pools.Alu 1);
+            a = None;
+          }
+          ∷ [];
+      registers = slice_set (slice_set (slice_set no_writers 1 (Some (tag pools.Alu 0))) 2 (Some (tag pools.Alu 1))) 3
+          (Some (tag pools.Mul 0));
+    }
 unfolding times_of
 product_width_four_after_1 = refl

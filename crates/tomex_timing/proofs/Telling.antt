@@ -12,30 +12,44 @@ use Rattle.tomex_timing.specs.declared.part.Part.{Part}
 use Rattle.tomex_timing.specs.declared.part.Part.TheVariants.{Stations, Units, Buses, Width}
 use Rattle.tomex_timing.specs.declared.times.Done.{Done}
 use Rattle.tomex_timing.specs.Laws.{NeedsTell}
-use Rattle.tomex_timing.specs.Needs.{AreNeeds, all_parts, all_units, allows, allows_latency, count_of, peak, need_of, stalls}
+use Rattle.tomex_timing.specs.Needs.{AreNeeds, all_parts, all_units, allows, allows_latency, count_of, peak, need_of}
+use Rattle.tomex_timing.specs.Needs.{stalls}
 
 either : (a b : Bool) → (a || b) ≡ true → (a ≡ true) ⊎ (b ≡ true)
 either true b h = inl h
 either false b h = inr h
 
-part_told : (config other : Configuration) (h : List Done) (needs : Needs) (part : Part) → AreNeeds config h needs → allows needs config other part ≡ true → (count_of other part ≡ count_of config part) ⊎ ((stalls config part h ≡ 0) × (peak part h ≤ count_of other part))
-part_told config other h needs part are told_so = elim (either (count_of config part == count_of other part) ((need_of needs part).stalls == 0 && nat_le (need_of needs part).peak (count_of other part)) told_so) [
-  | inl e ↦ inl (sym (eqb-true (count_of config part) (count_of other part) e))
-  | inr e ↦
-      let both = and_parts ((need_of needs part).stalls == 0) (nat_le (need_of needs part).peak (count_of other part)) e in
-      let none : stalls config part h ≡ 0 = rw (are.parts part) at (eqb-true (need_of needs part).stalls 0 both.0) in
-      let top : peak part h ≤ count_of other part = rw (are.parts part) at (leb-true (need_of needs part).peak (count_of other part) both.1) in
-      inr (none, top)
-]
+part_told : (config other : Configuration) (h : List Done) (needs : Needs) (part : Part) → AreNeeds config h needs
+    → allows needs config other part ≡ true → (count_of other part ≡ count_of config part)
+    ⊎ ((stalls config part h ≡ 0) × (peak part h ≤ count_of other part))
+part_told config other h needs part are told_so =
+    elim (either (count_of config part == count_of other part)
+    ((need_of needs part).stalls == 0 && nat_le (need_of needs part).peak (count_of other part)) told_so) [
+      | inl e ↦ inl (sym (eqb-true (count_of config part) (count_of other part) e))
+      | inr e ↦
+          let both = and_parts ((need_of needs part).stalls == 0)
+          (nat_le (need_of needs part).peak (count_of other part)) e
+          in
+          let none : stalls config part h ≡ 0 =
+          rw (are.parts part) at (eqb-true (need_of needs part).stalls 0 both.0) in
+          let top : peak part h ≤ count_of other part =
+          rw (are.parts part) at (leb-true (need_of needs part).peak (count_of other part) both.1) in
+          inr (none, top)
+    ]
 
-latency_told : (config other : Configuration) (h : List Done) (needs : Needs) (unit : UnitId) → AreNeeds config h needs → allows_latency needs config other unit ≡ true → ((option_of other unit).latency ≡ (option_of config unit).latency) ⊎ (peak (Units unit) h ≡ 0)
-latency_told config other h needs unit are told_so = elim (either ((option_of config unit).latency == (option_of other unit).latency) ((need_of needs (Units unit)).peak == 0) told_so) [
-  | inl e ↦ inl (sym (eqb-true (option_of config unit).latency (option_of other unit).latency e))
-  | inr e ↦ inr (rw (are.parts (Units unit)) at (eqb-true (need_of needs (Units unit)).peak 0 e))
-]
+latency_told : (config other : Configuration) (h : List Done) (needs : Needs) (unit : UnitId) → AreNeeds config h needs
+    → allows_latency needs config other unit ≡ true → ((option_of other unit).latency ≡ (option_of config unit).latency)
+    ⊎ (peak (Units unit) h ≡ 0)
+latency_told config other h needs unit are told_so =
+    elim (either ((option_of config unit).latency == (option_of other unit).latency)
+    ((need_of needs (Units unit)).peak == 0) told_so) [
+      | inl e ↦ inl (sym (eqb-true (option_of config unit).latency (option_of other unit).latency e))
+      | inr e ↦ inr (rw (are.parts (Units unit)) at (eqb-true (need_of needs (Units unit)).peak 0 e))
+    ]
 
 -- what all of a list pass the one after so many passes
-at_place : {X : Type 0} (p : X → Bool) (xs : List X) (n : ℕ) (x : X) → list_all p xs ≡ true → slice_get xs n ≡ Some x → p x ≡ true
+at_place : {X : Type 0} (p : X → Bool) (xs : List X) (n : ℕ) (x : X) → list_all p xs ≡ true → slice_get xs n ≡ Some x
+    → p x ≡ true
 at_place p [] n x all here = absurd (cc)
 at_place p (y ∷ xs) zero x all here = let e : y ≡ x = cc in rw (← e) (and_parts (p y) (list_all p xs) all).0
 at_place p (y ∷ xs) (suc n) x all here = at_place p xs n x (and_parts (p y) (list_all p xs) all).1 here
@@ -64,8 +78,10 @@ unit_listed p units.Bru all = at_place p all_units 4 _ all refl
 
 pub needs_tell : NeedsTell
 needs_tell config other h needs are told_so =
-    let told = and_parts (list_all (allows needs config other) all_parts) (list_all (allows_latency needs config other) all_units) told_so in
+    let told = and_parts (list_all (allows needs config other) all_parts)
+    (list_all (allows_latency needs config other) all_units) told_so in
     record {
       parts = λ part. part_told config other h needs part are (part_listed (allows needs config other) part told.0);
-      latencies = λ unit. latency_told config other h needs unit are (unit_listed (allows_latency needs config other) unit told.1);
+      latencies = λ unit. latency_told config other h needs unit are
+          (unit_listed (allows_latency needs config other) unit told.1);
     }

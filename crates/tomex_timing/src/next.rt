@@ -3,7 +3,7 @@
 ghost use Rattle.std.specs.Prelude.{◌≡◌, ℕ, ◌+◌, ◌-◌, ◌^◌, ◌<◌, ◌≤◌, None, max, IfSome};
 ghost use Rattle.tomex_config.specs.Configuration.{IsWithinLimits, option_of};
 ghost use Rattle.tomex_rvdec.specs.Parts.{place_of_unit};
-ghost use Rattle.tomex_timing.specs.Ahead.{IsNextBy, IsSettledBy, TakesBus, TakesStation};
+ghost use Rattle.tomex_timing.specs.Ahead.{IsIdle, IsNextBy, IsSettledBy, TakesBus, TakesStation};
 ghost use Rattle.tomex_timing.specs.Ahead.{bus_line, end_at, end_in, taken_at};
 ghost use Rattle.tomex_timing.specs.History.{cycle_of};
 ghost use Rattle.tomex_timing.specs.Window.{HasRegisters, address_among, is_memory_pool, issue_from, ready_from};
@@ -148,18 +148,11 @@ fn end_after<A: Allocator>(
 
 /// A step that uses no unit starts, finishes and ends as it issues, and takes no bus.
 fn without_unit(from: u64, issue: u64, address: Option<u64>, station: Option<u8>) -> Next
-    ensures at { result.at ≡ record {
-      issue = issue;
-      address = address;
-      start = issue;
-      finish = issue;
-      end = issue;
-      station = station;
-    } }
-    ensures marks { result.marks
-        ≡ record { from = from; operands = issue; ready = issue; clear = issue } }
-    ensures units { result.units ≡ 0 }
-    ensures buses { result.buses ≡ 0 }
+    ensures idle { IsIdle result }
+    ensures from { result.marks.from ≡ from }
+    ensures issue { result.at.issue ≡ issue }
+    ensures address { result.at.address ≡ address }
+    ensures station { result.at.station ≡ station }
 {
     Next {
         at: Times {

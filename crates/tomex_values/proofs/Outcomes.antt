@@ -30,8 +30,10 @@ not_met false x y error given = (refl, same_value x y (Ok x) refl given)
 not_met true x y error given = absurd (fault_is_no_value error y given)
 
 -- a reading that gives a value goes on, and one that meets a fault stops
-pub goes_on : {X Y : Type 0} (reading : Reading X) (next : X → Reading Y) (x : X) (whole : Reading Y) → reading ≡ Ok x → next x ≡ whole → (reading >>= next) ≡ whole
+pub goes_on : {X Y : Type 0} (reading : Reading X) (next : X → Reading Y) (x : X) (whole : Reading Y) → reading ≡ Ok x
+    → next x ≡ whole → (reading >>= next) ≡ whole
 goes_on reading next x whole given rest = rw given rest
 
-pub stops : {X Y : Type 0} (reading : Reading X) (next : X → Reading Y) (error : DocumentError) → reading ≡ Err error → (reading >>= next) ≡ Err error
+pub stops : {X Y : Type 0} (reading : Reading X) (next : X → Reading Y) (error : DocumentError) → reading ≡ Err error
+    → (reading >>= next) ≡ Err error
 stops reading next error fault = rw fault refl

@@ -1,5 +1,6 @@
 -- What a picture's loops have written one turn later, and that the steps shown end no later than the whole run.
-use Rattle.std.proofs.Common.{◌≡◌, ◌∙◌, ap, ap₂, sym, subst, refl, arith, ℕ, zero, suc, ◌+◌, ◌-◌, ◌*◌, ◌^◌, ◌<◌, ◌≤◌, List, [], ◌∷◌, ◌++◌, append_assoc, drop, get_or, length, take}
+use Rattle.std.proofs.Common.{◌≡◌, ◌∙◌, ap, ap₂, sym, subst, refl, arith, ℕ, zero, suc, ◌+◌, ◌-◌, ◌*◌, ◌^◌, ◌<◌, ◌≤◌}
+use Rattle.std.proofs.Common.{List, [], ◌∷◌, ◌++◌, append_assoc, drop, get_or, length, take}
 use Rattle.std.specs.List.{flat_map, range_with_len}
 use Rattle.tomex_rvexec.specs.declared.step.Step.{Step}
 use Rattle.tomex_timing.specs.Search.{total_of}
@@ -21,8 +22,10 @@ sign_more at t until before after whole within grown so_far =
     ∙ (ap (λ (z : List ℕ). before ++ z) (sym (next_sign at t until within)) ∙ so_far))
 
 -- the line of the next step
-next_line : (frame : Frame) (number index : ℕ) (steps : List Step) (times : List Times) (step first : Step) (at none : Times)
-    → index < length steps → length times ≡ length steps → step ≡ get_or steps index first → at ≡ get_or times index none
+next_line : (frame : Frame) (number index : ℕ) (steps : List Step) (times : List Times) (step first : Step)
+    (at none : Times)
+    → index < length steps → length times ≡ length steps → step ≡ get_or steps index first
+    → at ≡ get_or times index none
     → lines_of frame number (drop index steps) (drop index times)
     ≡ line_of frame number step at ++ lines_of frame (number + 1) (drop (suc index) steps) (drop (suc index) times)
 next_line frame number index [] times step first at none within pairs step_is at_is = absurd (omega (arith, within))
@@ -31,9 +34,11 @@ next_line frame number zero (s ∷ ss) (t ∷ ts) step first at none within pair
 next_line frame number (suc index) (s ∷ ss) (t ∷ ts) step first at none within pairs step_is at_is =
     next_line frame number index ss ts step first at none (omega (arith, within)) (omega (arith, pairs)) step_is at_is
 
-pub line_more : (frame : Frame) (number index : ℕ) (steps : List Step) (times : List Times) (step first : Step) (at none : Times)
+pub line_more : (frame : Frame) (number index : ℕ) (steps : List Step) (times : List Times) (step first : Step)
+    (at none : Times)
     (before after whole : List ℕ) → index < length steps → length times ≡ length steps
-    → step ≡ get_or steps index first → at ≡ get_or times index none → after ≡ before ++ line_of frame (number + index) step at
+    → step ≡ get_or steps index first → at ≡ get_or times index none → after ≡ before
+    ++ line_of frame (number + index) step at
     → before ++ lines_of frame (number + index) (drop index steps) (drop index times) ≡ whole
     → after ++ lines_of frame (number + (index + 1)) (drop (index + 1) steps) (drop (index + 1) times) ≡ whole
 line_more frame number index steps times step first at none before after whole within pairs step_is at_is grown so_far =

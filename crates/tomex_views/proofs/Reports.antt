@@ -1,5 +1,6 @@
 -- The report of what was counted is that of the visits.
-use Rattle.std.proofs.Common.{◌≡◌, ◌≢◌, ◌≤◌, ◌⊎◌, Ok, Err, Vec, ◌∙◌, ap, ap₂, sym, refl, inl, inr, ℕ, ◌==◌, Bool, true, false, cond, ◌||◌, List, [], ◌∷◌, ◌++◌, get_or, Option, Some, is_some, arith}
+use Rattle.std.proofs.Common.{◌≡◌, ◌≢◌, ◌≤◌, ◌⊎◌, Ok, Err, Vec, ◌∙◌, ap, ap₂, sym, refl, inl, inr, ℕ, ◌==◌, Bool, true}
+use Rattle.std.proofs.Common.{false, cond, ◌||◌, List, [], ◌∷◌, ◌++◌, get_or, Option, Some, is_some, arith}
 use Rattle.std.specs.Prelude.{All, IfOk, OnOk, Result}
 use Rattle.std.specs.BTreeMap.{IsOrdered, is_at, keys}
 use Rattle.std.specs.List.{flat_map, list_any, zip}
@@ -31,12 +32,14 @@ same_any f g same [] = refl
 same_any f g same (x ∷ xs) = ap₂ (λ a b. a || b) (same x) (same_any f g same xs)
 
 -- there is a place just where there is a visit
-is_visited : (pc : ℕ) (visits : List Visit) → is_some (place_of (visits_at pc visits)) ≡ list_any (λ v. v.0.pc == pc) visits
+is_visited : (pc : ℕ) (visits : List Visit) → is_some (place_of (visits_at pc visits)) ≡ list_any (λ v. v.0.pc == pc)
+    visits
 is_visited pc [] = refl
 is_visited pc (v ∷ visits) = go (v.0.pc == pc) (is_visited pc visits)
   where
     go : (b : Bool) → is_some (place_of (visits_at pc visits)) ≡ list_any (λ v. v.0.pc == pc) visits
-        → is_some (place_of (cond b (v ∷ visits_at pc visits) (visits_at pc visits))) ≡ b || list_any (λ v. v.0.pc == pc) visits
+        → is_some (place_of (cond b (v ∷ visits_at pc visits) (visits_at pc visits)))
+        ≡ b || list_any (λ v. v.0.pc == pc) visits
     go true rest = refl
     go false rest = rest
 
@@ -49,18 +52,21 @@ flip a b = go (eqb_tells a b) ∙ sym (same_key b a)
     go (inr other) = other.0 ∙ sym (ne_eqb b a (λ e. other.1 (sym e)))
 
 -- a place's record is that of its visits
-record_is : (vs : List Visit) (place : Place) → place_of vs ≡ Some place → record_text (place_fields place) ≡ place_record vs
+record_is : (vs : List Visit) (place : Place) → place_of vs ≡ Some place
+    → record_text (place_fields place) ≡ place_record vs
 record_is [] place is = absurd (cc)
 record_is (v ∷ vs) place is =
     ap (λ (o : Option Place). option_map_or (λ p. record_text (place_fields p)) o []) (sym is)
 
-module _ {A : Type 0} (visits : List Visit) (tally : Tally A) (is : IsTally visits tally) (ordered : IsOrdered nat_cmp tally.places) where
+module _ {A : Type 0} (visits : List Visit) (tally : Tally A) (is : IsTally visits tally)
+    (ordered : IsOrdered nat_cmp tally.places) where
   pub keys_are_places : ArePlaces visits (keys tally.places)
   keys_are_places = record {
     rising = ordered;
     those = λ pc.
         same_any (λ p. p == pc) (is_at (nat_cmp pc)) (λ p. flip p pc) (keys tally.places)
-        ∙ (sym (is_some-lookup (is_at (nat_cmp pc)) tally.places.entries) ∙ (ap (λ (o : Option Place). is_some o) (is.places pc) ∙ is_visited pc visits));
+        ∙ (sym (is_some-lookup (is_at (nat_cmp pc)) tally.places.entries)
+        ∙ (ap (λ (o : Option Place). is_some o) (is.places pc) ∙ is_visited pc visits));
   }
 
   -- what an entry has is what its key's visits come to
@@ -70,13 +76,16 @@ module _ {A : Type 0} (visits : List Visit) (tally : Tally A) (is : IsTally visi
   entry_is : All IsKept tally.places.entries
   entry_is k d within =
       let e = get_or tally.places.entries k d in
-      sym (is.places e.0) ∙ btree_map_get_place nat_cmp_total tally.places k e.0 e.1 ordered (slice_get-get_or tally.places.entries k d within)
+      sym (is.places e.0) ∙ btree_map_get_place nat_cmp_total tally.places k e.0 e.1 ordered
+      (slice_get-get_or tally.places.entries k d within)
 
   records_are : (es : List (ℕ × Place)) → All IsKept es
-      → flat_map (λ place. record_text (place_fields place)) (values_of es) ≡ flat_map (λ pc. place_record (visits_at pc visits)) (keys_of es)
+      → flat_map (λ place. record_text (place_fields place)) (values_of es)
+      ≡ flat_map (λ pc. place_record (visits_at pc visits)) (keys_of es)
   records_are [] all = refl
   records_are (e ∷ es) all =
-      ap₂ (λ (a b : List ℕ). a ++ b) (record_is (visits_at e.0 visits) e.1 (All-head IsKept e es all)) (records_are es (All-tail IsKept e es all))
+      ap₂ (λ (a b : List ℕ). a ++ b) (record_is (visits_at e.0 visits) e.1 (All-head IsKept e es all))
+      (records_are es (All-tail IsKept e es all))
 
   pub report_is : report_of_tally tally ≡ report_at (keys tally.places) visits
   report_is =
@@ -92,7 +101,8 @@ report_of (Ok text) visits tally is written ordered =
 report_of (Err e) visits tally is written ordered = tt
 
 -- the visits that were counted are those of the run
-pub visits_are : (config : Configuration) (run given made counted : List Step) (waits kept : List Waits) → made ≡ run → given ≡ made → counted ≡ made
+pub visits_are : (config : Configuration) (run given made counted : List Step) (waits kept : List Waits) → made ≡ run
+    → given ≡ made → counted ≡ made
     → waits ≡ waits_in config given → kept ≡ waits → zip counted kept ≡ visits_in config run
 visits_are config run given made counted waits kept is lent again waited held = rw (held, waited, again, lent, is) refl
 

@@ -11,7 +11,8 @@ use Rattle.tomex_views.specs.Chart.{line_of, picture_of, shown, sign_in}
 
 -- the picture of so many steps from a number on
 abbrev picture : ℕ → ℕ → Configuration → List Step → List ℕ
-picture number count config steps = picture_of number (shown number count steps) (shown number count (times_in config steps))
+picture number count config steps =
+    picture_of number (shown number count steps) (shown number count (times_in config steps))
 
 product_picture : picture 1 32 (with_latency units.Mul two_alu_stations 3) product
     ≡ codes "cycles 1 to 8\n1 IEW      00000000 addi x1,x0,5\n2  IEW     00000004 addi x2,x0,7\n3   I=EEEW 00000008 mul x3,x1,x2\n4    I     0000000c ebreak\n"

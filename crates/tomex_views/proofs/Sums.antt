@@ -1,5 +1,6 @@
 -- Sums over visits are sums over the places at which they stand, since each stands at one.
-use Rattle.std.proofs.Common.{◌≡◌, ◌≢◌, ◌⊎◌, ◌∙◌, sym, subst, refl, inl, inr, ℕ, ◌+◌, ◌==◌, Bool, true, false, cond, List, [], ◌∷◌, arith}
+use Rattle.std.proofs.Common.{◌≡◌, ◌≢◌, ◌⊎◌, ◌∙◌, sym, subst, refl, inl, inr, ℕ, ◌+◌, ◌==◌, Bool, true, false, cond}
+use Rattle.std.proofs.Common.{List, [], ◌∷◌, arith}
 use Rattle.std.specs.Prelude.{sum_by, length}
 use Rattle.std.specs.List.{list_any, AllByRecursion}
 use Rattle.std.specs.List.Sorted.{IsStrictlySortedBy}
@@ -14,7 +15,8 @@ use Rattle.std.proofs.lemmas.Map.Keys.{sorted_head, sorted_tail}
 use Rattle.tomex_views.specs.ByPlace.{Visit, visits_at}
 
 apart : (k y : ℕ) → nat_cmp k y ≡ Less → (k == y) ≡ false
-apart k y less = ne_eqb k y (λ e. let bad : Less ≡ Equal = sym (subst (λ z. nat_cmp k z ≡ Less) (sym e) less) ∙ tied_itself nat_cmp_total k in absurd (cc))
+apart k y less = ne_eqb k y (λ e. let bad : Less ≡ Equal = sym (subst (λ z. nat_cmp k z ≡ Less) (sym e) less)
+    ∙ tied_itself nat_cmp_total k in absurd (cc))
 
 eqb_itself : (n : ℕ) → (n == n) ≡ true
 eqb_itself n = go (eqb_tells n n)
@@ -28,7 +30,8 @@ one_more : (f : Visit → ℕ) (v : Visit) (vs : List Visit) (pc : ℕ)
     → sum_by f (visits_at pc (v ∷ vs)) ≡ cond (v.0.pc == pc) (f v) 0 + sum_by f (visits_at pc vs)
 one_more f v vs pc = go (v.0.pc == pc) refl
   where
-    go : (b : Bool) → (v.0.pc == pc) ≡ b → sum_by f (visits_at pc (v ∷ vs)) ≡ cond b (f v) 0 + sum_by f (visits_at pc vs)
+    go : (b : Bool) → (v.0.pc == pc) ≡ b → sum_by f (visits_at pc (v ∷ vs)) ≡ cond b (f v) 0
+        + sum_by f (visits_at pc vs)
     go true e = rw e (sum_by-cons f v (visits_at pc vs))
     go false e = rw e (omega arith)
 
@@ -48,7 +51,8 @@ one_more_in_all f v vs (pc ∷ pcs) =
     )
 
 -- a term at an address below all is nowhere
-nowhere : (n k : ℕ) (pcs : List ℕ) → AllByRecursion (λ y. nat_cmp k y ≡ Less) pcs → sum_by (λ pc. cond (k == pc) n 0) pcs ≡ 0
+nowhere : (n k : ℕ) (pcs : List ℕ) → AllByRecursion (λ y. nat_cmp k y ≡ Less) pcs
+    → sum_by (λ pc. cond (k == pc) n 0) pcs ≡ 0
 nowhere n k [] below = refl
 nowhere n k (pc ∷ pcs) below =
     rw (sum_by-cons (λ pc. cond (k == pc) n 0) pc pcs, apart k pc below.0, nowhere n k pcs below.1) refl
@@ -58,13 +62,15 @@ once : (n k : ℕ) (pcs : List ℕ) → IsStrictlySortedBy nat_cmp pcs → list_
     → sum_by (λ pc. cond (k == pc) n 0) pcs ≡ n
 once n k [] rising there = absurd (cc)
 once n k (pc ∷ pcs) rising there =
-    sum_by-cons (λ pc. cond (k == pc) n 0) pc pcs ∙ go (eqb_tells pc k) (λ in_rest. once n k pcs (sorted_tail nat_cmp pc pcs rising) in_rest)
+    sum_by-cons (λ pc. cond (k == pc) n 0) pc pcs
+    ∙ go (eqb_tells pc k) (λ in_rest. once n k pcs (sorted_tail nat_cmp pc pcs rising) in_rest)
   where
     go : ((pc == k) ≡ true) × (pc ≡ k) ⊎ ((pc == k) ≡ false) × (pc ≢ k)
         → (list_any (λ p. p == k) pcs ≡ true → sum_by (λ pc. cond (k == pc) n 0) pcs ≡ n)
         → cond (k == pc) n 0 + sum_by (λ pc. cond (k == pc) n 0) pcs ≡ n
     go (inl same) later =
-        let above = subst (λ (k : ℕ). AllByRecursion (λ y. nat_cmp k y ≡ Less) pcs) same.1 (sorted_head nat_cmp pc pcs rising) in
+        let above = subst (λ (k : ℕ). AllByRecursion (λ y. nat_cmp k y ≡ Less) pcs) same.1
+        (sorted_head nat_cmp pc pcs rising) in
         rw (nowhere n k pcs above, same.1, eqb_itself k) (omega arith)
     go (inr other) later =
         rw (later (rw other.0 at there), ne_eqb k pc (λ e. other.1 (sym e))) (omega arith)

@@ -23,7 +23,6 @@ pub struct Executable {
 
 /// The segments of a table of headers, or the first test that fails, of the headers and of the
 /// whole.
-#[tactic(auto, using(crate::proofs::Refusals::passes_at, crate::proofs::Refusals::headers_next, crate::proofs::Refusals::headers_end,))]
 fn segments_in(
     bytes: &[u8],
     window: Window,
@@ -61,7 +60,6 @@ fn segments_in(
 }
 
 /// What an ELF file asks for, or the first test that fails.
-#[tactic(auto, using(crate::proofs::Refusals::fails_at, crate::proofs::Refusals::passes_at, crate::proofs::Refusals::all_fit,))]
 pub fn executable_of(bytes: &[u8], window: Window) -> Result<Executable, ImageError>
     ensures passed { IfOk result (λ r. first_failing (elf_tests bytes.now window) ≡ None) }
     ensures segments { IfOk result (λ r. r.segments ≡ segments_of bytes.now) }

@@ -11,4 +11,5 @@ returns-clause-rise c = floors_rise
 pub returns-clause-least : goal.returns-clause-least
 returns-clause-least c costs cost j k band near fits = dite (dec_le (j + 1) k)
     (λ below. let low = band.2 j (omega arith) in absurd (omega arith))
-    (λ above. dite (ℕ_discrete j k) (λ e. let f = ap (λ (i : ℕ). get_or (floors_of costs) i 0) e in omega arith) (λ ne. let f = floors_rise costs k j (omega arith) near in omega arith))
+    (λ above. dite (ℕ_discrete j k) (λ e. let f = ap (λ (i : ℕ). get_or (floors_of costs) i 0) e in
+    omega arith) (λ ne. let f = floors_rise costs k j (omega arith) near in omega arith))

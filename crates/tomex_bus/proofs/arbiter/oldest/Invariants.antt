@@ -8,7 +8,8 @@ invariant-members l = record {
   below : l.best < 128;
   member : has l.set l.best ≡ true;
   rest : (i : ℕ) → i < 128 → has l.rest i ≡ true → has l.set i ≡ true;
-  least : (i : ℕ) → i < 128 → has l.set i ≡ true → (has l.rest i ≡ true) ⊎ (slice_index l.issue_numbers l.best ≤ slice_index l.issue_numbers i);
+  least : (i : ℕ) → i < 128 → has l.set i ≡ true → (has l.rest i ≡ true)
+      ⊎ (slice_index l.issue_numbers l.best ≤ slice_index l.issue_numbers i);
 }
 
 abbrev pub decreases-members : goal.decreases-members

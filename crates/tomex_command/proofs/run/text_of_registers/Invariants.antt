@@ -5,4 +5,5 @@ use Rattle.tomex_command.proofs.run.text_of_registers.Given as goal
 
 abbrev pub invariant-loop-register : goal.invariant-loop-register
 invariant-loop-register g l =
-    string_bytes l.text ++ register_lines l.register-counter (drop l.register-counter l.registers) ≡ register_lines 0 l.registers
+    string_bytes l.text ++ register_lines l.register-counter (drop l.register-counter l.registers)
+    ≡ register_lines 0 l.registers

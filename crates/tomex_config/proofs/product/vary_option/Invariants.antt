@@ -8,4 +8,5 @@ abbrev pub invariant-loop-config : goal.invariant-loop-config
 invariant-loop-config g l = l.varied.items ≡ vary (with_option l.unit) l.options (take l.config-index l.rows)
 
 abbrev pub invariant-loop-option : goal.invariant-loop-option
-invariant-loop-option g l = l.varied.items ≡ l.initial.varied.items ++ map ((with_option l.unit) l.config) (take l.option-index l.options)
+invariant-loop-option g l = l.varied.items ≡ l.initial.varied.items
+    ++ map ((with_option l.unit) l.config) (take l.option-index l.options)

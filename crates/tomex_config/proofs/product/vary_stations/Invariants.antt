@@ -8,4 +8,5 @@ abbrev pub invariant-loop-config : goal.invariant-loop-config
 invariant-loop-config g l = l.varied.items ≡ vary (with_stations l.pool) l.counts (take l.config-index l.rows)
 
 abbrev pub invariant-loop-count : goal.invariant-loop-count
-invariant-loop-count g l = l.varied.items ≡ l.initial.varied.items ++ map ((with_stations l.pool) l.config) (take l.count-index l.counts)
+invariant-loop-count g l = l.varied.items ≡ l.initial.varied.items
+    ++ map ((with_stations l.pool) l.config) (take l.count-index l.counts)

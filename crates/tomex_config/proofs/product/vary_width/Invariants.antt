@@ -8,4 +8,5 @@ abbrev pub invariant-loop-config : goal.invariant-loop-config
 invariant-loop-config g l = l.varied.items ≡ vary with_width l.widths (take l.config-index l.rows)
 
 abbrev pub invariant-loop-width : goal.invariant-loop-width
-invariant-loop-width g l = l.varied.items ≡ l.initial.varied.items ++ map (with_width l.config) (take l.width-index l.widths)
+invariant-loop-width g l = l.varied.items ≡ l.initial.varied.items
+    ++ map (with_width l.config) (take l.width-index l.widths)

@@ -5,7 +5,8 @@ use Rattle.tomex_cycle.proofs.ends.apply.Given as goal
 
 -- all but the rest are ended, and the others have heard them
 abbrev pub invariant-members : goal.invariant-members
-invariant-members l = AreLow l.picked → length l.fn.pools.slots ≡ 96 → AreApplied l.picked l.rest l.fn.pools l.pools l.fn.registers l.registers
+invariant-members l = AreLow l.picked → length l.fn.pools.slots ≡ 96
+    → AreApplied l.picked l.rest l.fn.pools l.pools l.fn.registers l.registers
 
 abbrev pub decreases-members : goal.decreases-members
 decreases-members l = l.rest

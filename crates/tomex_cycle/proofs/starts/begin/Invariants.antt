@@ -8,9 +8,11 @@ use Rattle.tomex_cycle.proofs.starts.begin.Given as goal
 -- all but the rest have started, and the rest stands as before
 abbrev pub invariant-members : goal.invariant-members
 invariant-members g l = record {
-  begun : length l.initial.pools.slots ≡ 96 → AreLow l.picked → AllCanBegin l.memory l.picked l.initial.pools.slots → IsBegun l.config l.cycle l.memory l.picked l.rest l.initial.pools l.pools;
+  begun : length l.initial.pools.slots ≡ 96 → AreLow l.picked → AllCanBegin l.memory l.picked l.initial.pools.slots
+      → IsBegun l.config l.cycle l.memory l.picked l.rest l.initial.pools l.pools;
   known : IsTimetableOf l.pools.slots l.cycle l.finishes;
-  kept : (x : ℕ) → x < 128 → has l.rest x ≡ true → slice_index_or l.pools.slots x None ≡ slice_index_or l.initial.pools.slots x None;
+  kept : (x : ℕ) → x < 128 → has l.rest x ≡ true
+      → slice_index_or l.pools.slots x None ≡ slice_index_or l.initial.pools.slots x None;
   inside : (x : ℕ) → x < 128 → has l.rest x ≡ true → has l.picked x ≡ true;
 }
 

@@ -1,4 +1,4 @@
-use Rattle.tomex_cycle.proofs.StartsReady.{AreCleared}
+use Rattle.tomex_cycle.proofs.Startable.{AreCleared}
 use Rattle.tomex_cycle.proofs.starts.clear_among.Given as goal
 
 -- all but the rest are looked at

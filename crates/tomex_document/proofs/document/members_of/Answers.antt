@@ -9,7 +9,8 @@ use Rattle.tomex_document.specs.Document.{members_of}
 use Rattle.tomex_values.specs.declared.error.DocumentError.TheVariants.{Syntax}
 use Rattle.tomex_document.proofs.document.members_of.Goals as goal
 
-members_of-some : (bytes : List ℕ) (document : Members) → IsUtf8 bytes → parse_document bytes ≡ Some document → members_of bytes ≡ Ok document
+members_of-some : (bytes : List ℕ) (document : Members) → IsUtf8 bytes → parse_document bytes ≡ Some document
+    → members_of bytes ≡ Ok document
 unfolding members_of
 members_of-some bytes document text parsed = rw (is_utf8-from_IsUtf8 bytes text, parsed) refl
 
@@ -24,4 +25,5 @@ pub returns-in-Ok : goal.returns-in-Ok
 returns-in-Ok c = members_of-some _ _ c.in-Ok.ensures.ok.0 c.in-Ok.ensures.ok.1
 
 pub returns-else-is_memory : goal.returns-else-is_memory
-returns-else-is_memory c = λ _. members_of-none _ (c.in-Err.ensures.refused (λ m. false≢true (c.if-is_memory.ensures.1 m)))
+returns-else-is_memory c = λ _. members_of-none _
+    (c.in-Err.ensures.refused (λ m. false≢true (c.if-is_memory.ensures.1 m)))

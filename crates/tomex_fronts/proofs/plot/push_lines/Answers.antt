@@ -10,5 +10,7 @@ unfolding lines_text
 returns g c =
     joined (string_bytes c.args.text.now) _ _ light_lines _ c.in_ok-push.ensures
     (joined (string_bytes c.push.new.text) _ _ (marks_of c.args.axes.now CostLine) _ c.in_ok-push_marks.ensures
-    (joined (string_bytes c.push_marks.new.text) _ _ (marks_of c.args.axes.now CyclesLine) _ c.in_ok-push_marks-2.ensures
-    (joined (string_bytes c.push_marks-2.new.text) _ _ (codes "</g>\n") _ c.in_ok-push-2.ensures c.in_ok-push-3.ensures)))
+    (joined (string_bytes c.push_marks.new.text) _ _ (marks_of c.args.axes.now CyclesLine) _
+    c.in_ok-push_marks-2.ensures
+    (joined (string_bytes c.push_marks-2.new.text) _ _ (codes "</g>\n") _ c.in_ok-push-2.ensures
+    c.in_ok-push-3.ensures)))

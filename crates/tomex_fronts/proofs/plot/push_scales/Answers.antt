@@ -12,4 +12,5 @@ returns g c =
     (joined (string_bytes c.push.new.text) _ _ (marks_of c.args.axes.now CostNumber) _ c.in_ok-push_marks.ensures
     (joined (string_bytes c.push_marks.new.text) _ _ cost_label _ c.in_ok-push-2.ensures
     (joined (string_bytes c.push-2.new.text) _ _ ending_there _ c.in_ok-push-3.ensures
-    (joined (string_bytes c.push-3.new.text) _ _ (marks_of c.args.axes.now CyclesNumber) _ c.in_ok-push_marks-2.ensures c.in_ok-push-4.ensures))))
+    (joined (string_bytes c.push-3.new.text) _ _ (marks_of c.args.axes.now CyclesNumber) _ c.in_ok-push_marks-2.ensures
+    c.in_ok-push-4.ensures))))

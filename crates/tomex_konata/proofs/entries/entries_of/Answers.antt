@@ -6,13 +6,15 @@ use Rattle.tomex_konata.proofs.Steps.{all_gathered, none_gathered, one_gathered}
 use Rattle.tomex_konata.proofs.entries.entries_of.Goals as goal
 
 pub loop-id-init : goal.loop-id-init
-loop-id-init g c = rw c.none-writers.ensures (none_gathered c.args.steps.now c.args.times.now _ c.new-entries.ensures.items)
+loop-id-init g c = rw c.none-writers.ensures
+    (none_gathered c.args.steps.now c.args.times.now _ c.new-entries.ensures.items)
 
 pub loop-id-preserved : goal.loop-id-preserved
 loop-id-preserved g c =
     let j_low : ForSome c.j.result (λ o. o.register < 32) = search rules in
     let k_low : ForSome c.k.result (λ o. o.register < 32) = search rules in
-    one_gathered c.args.steps.now c.args.times.now c.loop-id.id c.loop-id.entries.items _ c.loop-id.writers.of _ _ c.index-steps-id.result
+    one_gathered c.args.steps.now c.args.times.now c.loop-id.id c.loop-id.entries.items _ c.loop-id.writers.of _ _
+    c.index-steps-id.result
     _ (record { issue = 0; address = None; start = 0; finish = 0; end = 0; station = None }) _ _ c.loop-id.invariant
     c.loop-id-test.true c.requires.pairs c.index-steps-id.is refl
     (c.producer-j.ensures ∙ ap (written_in c.loop-id.writers.of) c.j.ensures.value)

@@ -6,13 +6,18 @@ use Rattle.tomex_konata.proofs.events.push_changes.Goals.{then-not-contains+in_o
 
 pub loop-place-preserved : goal.loop-place-preserved
 loop-place-preserved g c = elim c.if-not-contains.branch [
-  | then-not-contains+in_ok-push w ↦ change_once c.args.entry.now.id c.args.last c.args.entry.now c.change_cycles-cycles.result c.loop-place.place _ _ 0 _ _ _
-      c.change_cycles-cycles.ensures c.loop-place-test.true (omega (arith, c.loop-place-test.true)) refl (sym c.contains.ensures.value ∙ w.if-not-contains.true)
+  | then-not-contains+in_ok-push w ↦ change_once c.args.entry.now.id c.args.last c.args.entry.now
+      c.change_cycles-cycles.result c.loop-place.place _ _ 0 _ _ _
+      c.change_cycles-cycles.ensures c.loop-place-test.true (omega (arith, c.loop-place-test.true)) refl
+      (sym c.contains.ensures.value ∙ w.if-not-contains.true)
       (ap (λ v. v.items) w.events-is ∙ w.in_ok-push.ensures.items) c.loop-place.invariant
-  | else-not-contains w ↦ change_again c.args.entry.now.id c.args.last c.args.entry.now c.change_cycles-cycles.result c.loop-place.place _ _ 0 _ _ _
-      c.change_cycles-cycles.ensures c.loop-place-test.true (omega (arith, c.loop-place-test.true)) refl (sym c.contains.ensures.value ∙ w.if-not-contains.false)
+  | else-not-contains w ↦ change_again c.args.entry.now.id c.args.last c.args.entry.now c.change_cycles-cycles.result
+      c.loop-place.place _ _ 0 _ _ _
+      c.change_cycles-cycles.ensures c.loop-place-test.true (omega (arith, c.loop-place-test.true)) refl
+      (sym c.contains.ensures.value ∙ w.if-not-contains.false)
       (ap (λ v. v.items) w.events-is) c.loop-place.invariant
 ]
 
 pub returns : goal.returns
-returns g c = all_changed c.args.entry.now.id c.args.last c.loop-place.place c.args.entry.now _ _ c.loop-place-test.false c.loop-place.invariant
+returns g c = all_changed c.args.entry.now.id c.args.last c.loop-place.place c.args.entry.now _ _
+    c.loop-place-test.false c.loop-place.invariant

@@ -7,23 +7,28 @@ use Rattle.tomex_konata.proofs.writing.log_of.Goals as goal
 
 pub ordered_events-requires : goal.ordered_events-requires
 ordered_events-requires g c = record {
-  bound = rw (c.as_slice.ensures.value, c.in_ok-entries.ensures) (ended 9223372036854775808 _ c.args.steps.now c.args.times.now (omega (arith, c.requires.bound)));
+  bound = rw (c.as_slice.ensures.value, c.in_ok-entries.ensures)
+      (ended 9223372036854775808 _ c.args.steps.now c.args.times.now (omega (arith, c.requires.bound)));
 }
 
 pub push_events-requires-clause-there : goal.push_events-requires-clause-there
 push_events-requires-clause-there g c =
-    all_placed _ c.args.steps.now c.args.times.now _ _ _ _ c.requires.pairs c.in_ok-entries.ensures c.as_slice-2.ensures.value c.as_slice-3.ensures.value
+    all_placed _ c.args.steps.now c.args.times.now _ _ _ _ c.requires.pairs c.in_ok-entries.ensures
+    c.as_slice-2.ensures.value c.as_slice-3.ensures.value
     (rw c.as_slice.ensures.value at c.in_ok-events.ensures)
 
 pub push_events-requires-clause-few : goal.push_events-requires-clause-few
 push_events-requires-clause-few g c =
     rw (c.as_slice-2.ensures.value, c.in_ok-entries.ensures)
-    (All-weaker (λ e. e.id < length c.args.steps.now) (λ e. c.args.number + e.id < 18446744073709551616) (λ e less. omega (arith, less, c.requires.few)) _
+    (All-weaker (λ e. e.id < length c.args.steps.now) (λ e. c.args.number + e.id < 18446744073709551616)
+    (λ e less. omega (arith, less, c.requires.few)) _
     (low (length c.args.steps.now) _ c.args.steps.now c.args.times.now (omega arith)))
 
 pub returns : goal.returns
 returns g c =
-    log_is c.args.number _ c.args.steps.now c.args.times.now _ _ _ _ _ c.new-text.ensures.bytes c.in_ok-push_head.ensures c.in_ok-push_events.ensures
+    log_is c.args.number _ c.args.steps.now c.args.times.now _ _ _ _ _ c.new-text.ensures.bytes
+    c.in_ok-push_head.ensures c.in_ok-push_events.ensures
     (ap (λ v. v.items) c.into_bytes.ensures.value) c.first_issue-first.ensures
-    (written_is c.args.number _ _ c.args.steps.now c.args.times.now _ _ _ _ c.in_ok-entries.ensures c.as_slice-2.ensures.value
+    (written_is c.args.number _ _ c.args.steps.now c.args.times.now _ _ _ _ c.in_ok-entries.ensures
+    c.as_slice-2.ensures.value
     (omega (arith, c.total.ensures)) c.as_slice-3.ensures.value (rw c.as_slice.ensures.value at c.in_ok-events.ensures))

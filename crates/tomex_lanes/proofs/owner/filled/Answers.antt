@@ -10,6 +10,8 @@ fifo_as-requires g c = begins
 pub loop-row-preserved : goal.loop-row-preserved
 loop-row-preserved g c =
     elim c.if-row-workers.branch [
-      | then-row-workers+in_ok-add w ↦ let more = rows_of-here c.args.workers c.args.worker c.loop-row.row w.if-row-workers.true in search rules
-      | else-row-workers w ↦ let same = rows_of-else c.args.workers c.args.worker c.loop-row.row w.if-row-workers.false in search rules
+      | then-row-workers+in_ok-add w ↦ let more =
+          rows_of-here c.args.workers c.args.worker c.loop-row.row w.if-row-workers.true in search rules
+      | else-row-workers w ↦ let same =
+          rows_of-else c.args.workers c.args.worker c.loop-row.row w.if-row-workers.false in search rules
     ]

@@ -2,10 +2,14 @@
 use Rattle.std.proofs.Common.{◌≡◌, ◌∙◌, ap₂, IfOk, IsOkAnd, Result, Ok, Err}
 use Rattle.clap.specs.Simple.{App, Shape, app_of, shape_of, with_subcommand}
 use Rattle.clap.specs.declared.builder.command.Command.{Command}
-use Rattle.tomex_line.specs.Grammar.{bare_app, run_shape, times_shape, stalls_shape, pipeline_shape, tables_shape, all_shape, explore_shape, front_shape, plot_shape}
+use Rattle.tomex_line.specs.Grammar.{bare_app, run_shape, times_shape, stalls_shape, pipeline_shape, tables_shape}
+use Rattle.tomex_line.specs.Grammar.{all_shape, explore_shape, front_shape, plot_shape}
 use Rattle.tomex_line.proofs.line.grammar.Goals as goal
 
-offered : {E : Type 0} (made program command : Result Command E) (a : App) (s : Shape) → IfOk made (λ m. IsOkAnd program (λ p. IsOkAnd command (λ k. app_of m ≡ with_subcommand (app_of p) (shape_of k)))) → IfOk program (λ p. app_of p ≡ a) → IfOk command (λ k. shape_of k ≡ s) → IfOk made (λ m. app_of m ≡ with_subcommand a s)
+offered : {E : Type 0} (made program command : Result Command E) (a : App) (s : Shape)
+    → IfOk made (λ m. IsOkAnd program (λ p. IsOkAnd command (λ k. app_of m ≡ with_subcommand (app_of p) (shape_of k))))
+    → IfOk program (λ p. app_of p ≡ a) → IfOk command (λ k. shape_of k ≡ s)
+    → IfOk made (λ m. app_of m ≡ with_subcommand a s)
 offered (Err _) program command a s is of is_s = tt
 offered (Ok m) (Ok p) (Ok k) a s is of is_s = is ∙ ap₂ with_subcommand of is_s
 offered (Ok m) (Ok p) (Err _) a s is of is_s = absurd is
@@ -13,12 +17,20 @@ offered (Ok m) (Err _) command a s is of is_s = absurd is
 
 pub returns : goal.returns
 returns c =
-    let one = offered c.offering-program.result (Ok c.without_commands.result) c.grammar.result bare_app run_shape c.offering-program.ensures c.without_commands.ensures c.grammar.ensures in
-    let two = offered c.offering-program-2.result _ _ _ times_shape c.offering-program-2.ensures one c.grammar-2.ensures in
-    let three = offered c.offering-program-3.result _ _ _ stalls_shape c.offering-program-3.ensures two c.grammar-3.ensures in
-    let four = offered c.offering-program-4.result _ _ _ pipeline_shape c.offering-program-4.ensures three c.grammar-4.ensures in
-    let five = offered c.offering-program-5.result _ _ _ tables_shape c.offering-program-5.ensures four c.grammar-5.ensures in
-    let six = offered c.offering-program-6.result _ _ _ all_shape c.offering-program-6.ensures five c.grammar-6.ensures in
-    let seven = offered c.offering-program-7.result _ _ _ explore_shape c.offering-program-7.ensures six c.grammar-7.ensures in
-    let eight = offered c.offering-program-8.result _ _ _ front_shape c.offering-program-8.ensures seven c.grammar-8.ensures in
+    let one = offered c.offering-program.result (Ok c.without_commands.result) c.grammar.result bare_app run_shape
+    c.offering-program.ensures c.without_commands.ensures c.grammar.ensures in
+    let two = offered c.offering-program-2.result _ _ _ times_shape c.offering-program-2.ensures one c.grammar-2.ensures
+    in
+    let three = offered c.offering-program-3.result _ _ _ stalls_shape c.offering-program-3.ensures two
+    c.grammar-3.ensures in
+    let four = offered c.offering-program-4.result _ _ _ pipeline_shape c.offering-program-4.ensures three
+    c.grammar-4.ensures in
+    let five = offered c.offering-program-5.result _ _ _ tables_shape c.offering-program-5.ensures four
+    c.grammar-5.ensures in
+    let six = offered c.offering-program-6.result _ _ _ all_shape c.offering-program-6.ensures five c.grammar-6.ensures
+    in
+    let seven = offered c.offering-program-7.result _ _ _ explore_shape c.offering-program-7.ensures six
+    c.grammar-7.ensures in
+    let eight = offered c.offering-program-8.result _ _ _ front_shape c.offering-program-8.ensures seven
+    c.grammar-8.ensures in
     offered c.offering.result _ _ _ plot_shape c.offering.ensures eight c.grammar-9.ensures

@@ -23,11 +23,13 @@ unfolding clap_on_literals
 is_free = refl
 
 -- the kind that an error has, which isn't want of memory, is one of those that the words may come to
-is_among : (words : List Text) (error : Error) (k : ErrorKind) → (k ≡ OutOfMemory → ⊥) → HasKind (fault_of tomex_app words) error → kind_of error ≡ k → IsAmong k (fault_of tomex_app words)
+is_among : (words : List Text) (error : Error) (k : ErrorKind) → (k ≡ OutOfMemory → ⊥)
+    → HasKind (fault_of tomex_app words) error → kind_of error ≡ k → IsAmong k (fault_of tomex_app words)
 is_among words error k other (inl memory) is = absurd (other (sym is ∙ memory))
 is_among words error k other (inr among) is = subst (λ (k : ErrorKind). IsAmong k (fault_of tomex_app words)) is among
 
-asks : (words : List Text) (error : Error) (fault : LineFault) → HasKind (fault_of tomex_app words) error → StandsFor error fault → IsNoCommand words fault
+asks : (words : List Text) (error : Error) (fault : LineFault) → HasKind (fault_of tomex_app words) error
+    → StandsFor error fault → IsNoCommand words fault
 asks words error (Help text) has (inl is) = inl (is_among words error DisplayHelp (λ bad. cc) has is)
 asks words error (Help text) has (inr is) = inr (is_among words error DisplayVersion (λ bad. cc) has is)
 asks words error (Usage text) has stands = tt
@@ -36,8 +38,10 @@ asks words error Memory has stands = tt
 pub returns-in-Ok-clause-asked : goal.returns-in-Ok-clause-asked
 returns-in-Ok-clause-asked c =
     let words : List Text = map string_bytes c.args.words.now in
-    let has = subst (λ (a : App). HasMatchesOf a words c.in-Ok.matches) c.in_ok-grammar.ensures c.in-Ok.ensures.matches in
-    IfOk-weaker c.line_of.result _ _ (λ line h. subst (λ (o : Option (Text × List Row)). IsCommand o line) (has is_plain).1 h)
+    let has = subst (λ (a : App). HasMatchesOf a words c.in-Ok.matches) c.in_ok-grammar.ensures c.in-Ok.ensures.matches
+    in
+    IfOk-weaker c.line_of.result _ _
+    (λ line h. subst (λ (o : Option (Text × List Row)). IsCommand o line) (has is_plain).1 h)
     c.line_of.ensures.command
 
 pub returns-in-Err-clause-no_command : goal.returns-in-Err-clause-no_command
@@ -45,5 +49,6 @@ returns-in-Err-clause-no_command c =
     let words : List Text = map string_bytes c.args.words.now in
     let is_app = c.in_ok-grammar.ensures in
     asks words c.in-Err.error c.fault_of.result
-    (subst (λ (a : App). HasKind (fault_of a words) c.in-Err.error) is_app (c.in-Err.ensures.kinds (ap is_simple_and_free is_app ∙ is_free)))
+    (subst (λ (a : App). HasKind (fault_of a words) c.in-Err.error) is_app
+    (c.in-Err.ensures.kinds (ap is_simple_and_free is_app ∙ is_free)))
     c.fault_of.ensures

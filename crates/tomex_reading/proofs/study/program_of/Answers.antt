@@ -5,7 +5,13 @@ use Rattle.tomex_reading.proofs.study.program_of.Goals as goal
 
 pub returns-in-Err-clause-err : goal.returns-in-Err-clause-err
 returns-in-Err-clause-err g c =
-    c.unfit.ensures c.args.file.now (_, c.in_ok-image.ensures.ok.0, c.in_ok-image.ensures.ok.1, rw c.limit.ensures.value at c.in-Err.ensures.unfit)
+    c.unfit.ensures c.args.file.now (
+      _,
+      c.in_ok-image.ensures.ok.0,
+      c.in_ok-image.ensures.ok.1,
+      rw c.limit.ensures.value
+          at c.in-Err.ensures.unfit,
+    )
 
 pub returns-in-Ok-clause-ok : goal.returns-in-Ok-clause-ok
 returns-in-Ok-clause-ok g c =
@@ -29,7 +35,8 @@ new-requires-clause-few_steps g c = rw c.limit.ensures.value c.keeps_limits.ensu
 pub new-requires-clause-watch : goal.new-requires-clause-watch
 new-requires-clause-watch g c =
     let window = in_window c.args.file.now c.args.entry.now.window c.in_ok-image.image c.in_ok-image.ensures.ok.0 in
-    let watch : c.extend_from_slice.new.self.items ≡ c.args.entry.now.watch = rw (c.in_ok-extend_from_slice.ensures.items, c.new-watch.ensures.items) c.watch.ensures.value in
+    let watch : c.extend_from_slice.new.self.items ≡ c.args.entry.now.watch =
+    rw (c.in_ok-extend_from_slice.ensures.items, c.new-watch.ensures.items) c.watch.ensures.value in
     rw (window, watch) c.keeps_limits.ensures.watch
 
 pub new-requires-clause-some_weight : goal.new-requires-clause-some_weight

@@ -6,7 +6,8 @@ pub returns-in-Err-clause-err : goal.returns-in-Err-clause-err
 returns-in-Err-clause-err g c =
     first_refusal c.loop-place.place c.args.entries.now _ _ _ _ _
     (item_is _ _ _ c.loop-place-test.true c.index-entries-place.is)
-    (seen_is _ c.args.files.now _ _ c.index-files-place.result _ c.requires c.loop-place-test.true c.index-files-place.is c.as_slice.ensures.value)
+    (seen_is _ c.args.files.now _ _ c.index-files-place.result _ c.requires c.loop-place-test.true
+    c.index-files-place.is c.as_slice.ensures.value)
     c.loop-place.invariant
     c.in-Err.ensures.err
 
@@ -14,7 +15,8 @@ pub loop-place-preserved : goal.loop-place-preserved
 loop-place-preserved g c =
     pushed c.loop-place.place c.args.entries.now _ _ _ _ _ _
     (item_is _ _ _ c.loop-place-test.true c.index-entries-place.is)
-    (seen_is _ c.args.files.now _ _ c.index-files-place.result _ c.requires c.loop-place-test.true c.index-files-place.is c.as_slice.ensures.value)
+    (seen_is _ c.args.files.now _ _ c.index-files-place.result _ c.requires c.loop-place-test.true
+    c.index-files-place.is c.as_slice.ensures.value)
     c.loop-place.invariant
     c.in-Ok.ensures.ok
     c.in_ok-push-in-Ok.ensures.items
@@ -23,4 +25,5 @@ pub loop-place-init : goal.loop-place-init
 loop-place-init g c = rw c.new-programs.ensures.items tt
 
 pub returns-clause-ok : goal.returns-clause-ok
-returns-clause-ok g c = all_programs _ c.loop-place.place c.args.entries.now c.args.files.now _ c.requires c.loop-place-test.false c.loop-place.invariant
+returns-clause-ok g c = all_programs _ c.loop-place.place c.args.entries.now c.args.files.now _ c.requires
+    c.loop-place-test.false c.loop-place.invariant

@@ -6,4 +6,5 @@ use Rattle.tomex_report.specs.FrontReport.{joined}
 use Rattle.tomex_report.proofs.end_texts.joined.Given as goal
 
 abbrev pub invariant-loop-next : goal.invariant-loop-next
-invariant-loop-next l = string_bytes l.text ++ flat_map (λ y. 32 ∷ y) (map string_bytes (drop l.next-index l.rest)) ≡ joined (map string_bytes l.texts)
+invariant-loop-next l = string_bytes l.text ++ flat_map (λ y. 32 ∷ y) (map string_bytes (drop l.next-index l.rest))
+    ≡ joined (map string_bytes l.texts)

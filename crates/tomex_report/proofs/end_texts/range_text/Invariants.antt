@@ -6,4 +6,5 @@ use Rattle.tomex_rvexec.specs.Texts.{hex2, hex8}
 use Rattle.tomex_report.proofs.end_texts.range_text.Given as goal
 
 abbrev pub invariant-loop-byte : goal.invariant-loop-byte
-invariant-loop-byte l = string_bytes l.text ≡ hex8 l.fn.range.address ++ (codes ":" ++ flat_map hex2 (take l.byte-index l.bytes))
+invariant-loop-byte l = string_bytes l.text ≡ hex8 l.fn.range.address
+    ++ (codes ":" ++ flat_map hex2 (take l.byte-index l.bytes))

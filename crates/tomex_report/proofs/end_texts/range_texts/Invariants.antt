@@ -7,6 +7,7 @@ use Rattle.tomex_report.proofs.end_texts.range_texts.Given as goal
 
 abbrev pub invariant-loop-range : goal.invariant-loop-range
 invariant-loop-range l = record {
-  text : map string_bytes l.texts.items ++ watch_texts (drop l.range-index l.ranges) l.rest ≡ watch_texts l.ranges l.bytes;
+  text : map string_bytes l.texts.items ++ watch_texts (drop l.range-index l.ranges) l.rest ≡ watch_texts l.ranges
+      l.bytes;
   left : length l.rest ≡ watched_bytes (drop l.range-index l.ranges);
 }

@@ -5,4 +5,5 @@ use Rattle.tomex_report.specs.FrontReport.{nonzero_from}
 use Rattle.tomex_report.proofs.end_texts.register_texts.Given as goal
 
 abbrev pub invariant-loop-register : goal.invariant-loop-register
-invariant-loop-register l = map string_bytes l.texts.items ++ nonzero_from l.register (drop l.register l.registers) ≡ nonzero_from 0 l.registers
+invariant-loop-register l = map string_bytes l.texts.items ++ nonzero_from l.register (drop l.register l.registers)
+    ≡ nonzero_from 0 l.registers

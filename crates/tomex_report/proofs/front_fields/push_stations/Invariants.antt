@@ -8,6 +8,7 @@ use Rattle.tomex_report.proofs.front_fields.push_stations.Given as goal
 
 abbrev pub invariant-loop-pool : goal.invariant-loop-pool
 invariant-loop-pool l = record {
-  fields : fields_of l.fields ≡ fields_of l.fn.fields ++ map (λ pool. decimal (stations_of l.config pool)) (take l.pool-index all_pools);
+  fields : fields_of l.fields ≡ fields_of l.fn.fields
+      ++ map (λ pool. decimal (stations_of l.config pool)) (take l.pool-index all_pools);
   whole : partial_of l.fields ≡ [];
 }

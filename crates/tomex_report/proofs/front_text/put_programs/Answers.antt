@@ -18,7 +18,9 @@ bounds-ends-place g c =
     omega (arith, long, within)
 
 pub fill_record-requires : goal.fill_record-requires
-fill_record-requires g c = at_both _ c.args.programs.now c.args.ends.now c.loop-place.place c.index-programs-place.result c.index-ends-place.result c.requires.ends c.loop-place-test.true c.index-programs-place.is c.index-ends-place.is
+fill_record-requires g c = at_both _ c.args.programs.now c.args.ends.now c.loop-place.place
+    c.index-programs-place.result c.index-ends-place.result c.requires.ends c.loop-place-test.true
+    c.index-programs-place.is c.index-ends-place.is
 
 pub loop-place-init : goal.loop-place-init
 loop-place-init g c = record { ready = c.requires.ready; text = refl }
@@ -27,4 +29,5 @@ pub returns-clause-ready : goal.returns-clause-ready
 returns-clause-ready g c = c.loop-place.invariant.ready
 
 pub returns-clause-text : goal.returns-clause-text
-returns-clause-text g c = sym (append-nil _) ∙ (rw (drop_all c.loop-place.place c.args.programs.now c.loop-place-test.false) at c.loop-place.invariant.text)
+returns-clause-text g c = sym (append-nil _)
+    ∙ (rw (drop_all c.loop-place.place c.args.programs.now c.loop-place-test.false) at c.loop-place.invariant.text)

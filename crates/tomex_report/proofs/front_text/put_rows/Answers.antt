@@ -17,4 +17,6 @@ bounds-ends-place g c =
     omega (arith, long, within)
 
 pub put_row-requires-clause-ends : goal.put_row-requires-clause-ends
-put_row-requires-clause-ends g c = at_read _ c.args.front.now c.args.ends.now c.loop-place.place _ c.index-ends-place.result c.requires.ends c.loop-place-test.true c.index-ends-place.is
+put_row-requires-clause-ends g c =
+    at_read _ c.args.front.now c.args.ends.now c.loop-place.place _ c.index-ends-place.result c.requires.ends
+    c.loop-place-test.true c.index-ends-place.is

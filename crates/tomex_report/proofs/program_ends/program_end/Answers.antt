@@ -8,12 +8,14 @@ use Rattle.tomex_report.proofs.program_ends.program_end.Goals as goal
 
 pub finish-end-requires : goal.finish-end-requires
 finish-end-requires g c =
-    (to_end c.args.config.now c.args.program.now _ _ c.keeps_limits.ensures c.keeps_limits-2.ensures (rw c.image-2.ensures.value at c.in_ok-machine.ensures.start) c.advance.ensures.advances.after_ticks).ended
+    (to_end c.args.config.now c.args.program.now _ _ c.keeps_limits.ensures c.keeps_limits-2.ensures
+    (rw c.image-2.ensures.value at c.in_ok-machine.ensures.start) c.advance.ensures.advances.after_ticks).ended
 
 pub ranges_bytes-requires-clause-fills : goal.ranges_bytes-requires-clause-fills
 ranges_bytes-requires-clause-fills g c =
     let ends = ends_at_most c.args.program.now c.keeps_limits-2.ensures in
-    let ended = to_end c.args.config.now c.args.program.now _ _ c.keeps_limits.ensures c.keeps_limits-2.ensures (rw c.image-2.ensures.value at c.in_ok-machine.ensures.start) c.advance.ensures.advances.after_ticks in
+    let ended = to_end c.args.config.now c.args.program.now _ _ c.keeps_limits.ensures c.keeps_limits-2.ensures
+    (rw c.image-2.ensures.value at c.in_ok-machine.ensures.start) c.advance.ensures.advances.after_ticks in
     let last = is_last c.args.program.now.image _ c.finish-end.result ends ended.image c.finish-end.ensures.ends in
     let loaded = rw c.image.ensures.value at c.window-window.ensures.loaded in
     let window = rw c.image.ensures.value at c.window-window.ensures.value in
@@ -22,7 +24,8 @@ ranges_bytes-requires-clause-fills g c =
 pub returns : goal.returns
 returns g c =
     let ends = ends_at_most c.args.program.now c.keeps_limits-2.ensures in
-    let ended = to_end c.args.config.now c.args.program.now _ _ c.keeps_limits.ensures c.keeps_limits-2.ensures (rw c.image-2.ensures.value at c.in_ok-machine.ensures.start) c.advance.ensures.advances.after_ticks in
+    let ended = to_end c.args.config.now c.args.program.now _ _ c.keeps_limits.ensures c.keeps_limits-2.ensures
+    (rw c.image-2.ensures.value at c.in_ok-machine.ensures.start) c.advance.ensures.advances.after_ticks in
     let last = is_last c.args.program.now.image _ c.finish-end.result ends ended.image c.finish-end.ensures.ends in
     let window = rw c.image.ensures.value at c.window-window.ensures.value in
     record {

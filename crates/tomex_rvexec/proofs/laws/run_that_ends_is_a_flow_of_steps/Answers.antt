@@ -1,4 +1,5 @@
-use Rattle.tomex_rvexec.proofs.FlowEnds.{end_is, step_allowed, step_comes, step_ends_it, step_follows, step_goes_on, step_joins}
+use Rattle.tomex_rvexec.proofs.FlowEnds.{end_is, step_allowed, step_comes, step_ends_it, step_follows, step_goes_on}
+use Rattle.tomex_rvexec.proofs.FlowEnds.{step_joins}
 use Rattle.tomex_rvexec.proofs.laws.run_that_ends_is_a_flow_of_steps.Goals as goal
 
 pub returns-clause-comes : goal.returns-clause-comes

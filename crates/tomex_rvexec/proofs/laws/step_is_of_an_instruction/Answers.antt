@@ -1,4 +1,5 @@
-use Rattle.tomex_rvexec.proofs.FlowStates.{by_end, end_writes_no_byte, end_writes_no_register, ends_by, step_ends, step_goes}
+use Rattle.tomex_rvexec.proofs.FlowStates.{by_end, end_writes_no_byte, end_writes_no_register, ends_by, step_ends}
+use Rattle.tomex_rvexec.proofs.FlowStates.{step_goes}
 use Rattle.tomex_rvexec.proofs.laws.step_is_of_an_instruction.Goals as goal
 
 pub returns-clause-goes : goal.returns-clause-goes

@@ -9,7 +9,8 @@ pub returns-in-Ended-clause-ok : goal.returns-in-Ended-clause-ok
 returns-in-Ended-clause-ok g c =
     let r = c.in-Ok.ensures.ok in
     let end = ended_ends _ _ c.recorded_step.new.self _ _ c.in-Ended.is r.1 in
-    c.in_ok-push.ensures.items ∙ (ap (λ rest. c.loop-done.steps.items ++ rest) (sym (ends_here _ _ _ _ _ c.loop-done-test.true r.0 end)) ∙ c.loop-done.invariant.steps)
+    c.in_ok-push.ensures.items ∙ (ap (λ rest. c.loop-done.steps.items ++ rest)
+    (sym (ends_here _ _ _ _ _ c.loop-done-test.true r.0 end)) ∙ c.loop-done.invariant.steps)
 
 pub returns-in-Ended-clause-few : goal.returns-in-Ended-clause-few
 returns-in-Ended-clause-few g c =
@@ -30,8 +31,16 @@ returns-in-Ended-clause-ends g c = (
 
 pub returns-in-Err-clause-err : goal.returns-in-Err-clause-err
 returns-in-Err-clause-err g c =
-    let faults = fault_faults _ _ c.recorded_step.new.self _ c.in-Err.ensures.err in
-    (c.loop-done._done, c.loop-done.cpu, c.loop-done-test.true, record { leads = c.loop-done.invariant.leads; faults = faults.0 }, faults.1)
+    let faults = fault_faults _ _ c.recorded_step.new.self _ c.in-Err.ensures.err in (
+      c.loop-done._done,
+      c.loop-done.cpu,
+      c.loop-done-test.true,
+      record {
+        leads = c.loop-done.invariant.leads;
+        faults = faults.0;
+      },
+      faults.1,
+    )
 
 pub returns-clause-err : goal.returns-clause-err
 returns-clause-err g c =

@@ -9,6 +9,8 @@ pub returns : goal.returns
 returns c =
     let left : FitsSigned w64 c.widened.result = omega (arith, ints) in
     let right : FitsSigned w64 c.from.result = omega (arith, ints) in
-    let product = fits_signed_mul w64 c.widened.result c.from.result (2 ^ 31) 4294967295 (omega (arith, ints)) (omega (arith, ints)) (omega arith) in
-    let high : c.high_half_of.result ≡ high_half (c.widened.result *ℤ c.from.result) = simp to_z-of_z at c.high_half_of.ensures in
+    let product = fits_signed_mul w64 c.widened.result c.from.result (2 ^ 31) 4294967295 (omega (arith, ints))
+    (omega (arith, ints)) (omega arith) in
+    let high : c.high_half_of.result ≡ high_half (c.widened.result *ℤ c.from.result) =
+    simp to_z-of_z at c.high_half_of.ensures in
     high ∙ ap high_half (ap₂ ◌*ℤ◌ c.widened.ensures.value c.from.ensures)

@@ -9,6 +9,8 @@ pub returns : goal.returns
 returns c =
     let left : FitsSigned w64 c.widened.result = omega (arith, ints) in
     let right : FitsSigned w64 c.widened-2.result = omega (arith, ints) in
-    let product = fits_signed_mul w64 c.widened.result c.widened-2.result (2 ^ 31) (2 ^ 31) (omega (arith, ints)) (omega (arith, ints)) (omega arith) in
-    let high : c.high_half_of.result ≡ high_half (c.widened.result *ℤ c.widened-2.result) = simp to_z-of_z at c.high_half_of.ensures in
+    let product = fits_signed_mul w64 c.widened.result c.widened-2.result (2 ^ 31) (2 ^ 31) (omega (arith, ints))
+    (omega (arith, ints)) (omega arith) in
+    let high : c.high_half_of.result ≡ high_half (c.widened.result *ℤ c.widened-2.result) =
+    simp to_z-of_z at c.high_half_of.ensures in
     high ∙ ap high_half (ap₂ ◌*ℤ◌ c.widened.ensures.value c.widened-2.ensures.value)

@@ -6,4 +6,6 @@ use Rattle.tomex_sets.proofs.Bits.{bit_low, but_of}
 use Rattle.tomex_sets.proofs.sets.difference.Goals as goal
 
 pub returns : goal.returns
-returns c x l = ap (λ b. b == 1) (bit_at_and c.args.a (bit_not w128 c.args.b) x ∙ ap (λ b. min (bit_at c.args.a x) b) (bit_at_not w128 c.args.b x c.ranges.b.fits l)) ∙ but_of _ _ (bit_low c.args.a x) (bit_low c.args.b x)
+returns c x l = ap (λ b. b == 1) (bit_at_and c.args.a (bit_not w128 c.args.b) x
+    ∙ ap (λ b. min (bit_at c.args.a x) b) (bit_at_not w128 c.args.b x c.ranges.b.fits l))
+    ∙ but_of _ _ (bit_low c.args.a x) (bit_low c.args.b x)

@@ -13,13 +13,16 @@ returns-then-set-eq0 c = (
 
 pub returns-else-set-eq0 : goal.returns-else-set-eq0
 returns-else-set-eq0 c = (
-  λ none a b l m ha hb. one_member c.args.set c.without_lowest.result c.without_lowest.ensures.others (eqb-true c.without_lowest.result 0 none) a b l m ha hb,
+  λ none a b l m ha hb. one_member c.args.set c.without_lowest.result c.without_lowest.ensures.others
+      (eqb-true c.without_lowest.result 0 none) a b l m ha hb,
   λ single. elim (cases_Bool (c.without_lowest.result == 0)) [
     | inl none ↦ none
     | inr several ↦
         let some : 0 < c.args.set = omega (arith, c.if-set-eq0.false) in
-        let more : 0 < c.without_lowest.result = pos_of c.without_lowest.result (eqb-false c.without_lowest.result 0 several) in
-        absurd (two_members c.args.set c.without_lowest.result some c.ranges.set.fits more (omega (arith, c.without_lowest.ensures.less, c.ranges.set.fits)) c.without_lowest.ensures.others single)
+        let more : 0 < c.without_lowest.result =
+        pos_of c.without_lowest.result (eqb-false c.without_lowest.result 0 several) in
+        absurd (two_members c.args.set c.without_lowest.result some c.ranges.set.fits more
+        (omega (arith, c.without_lowest.ensures.less, c.ranges.set.fits)) c.without_lowest.ensures.others single)
   ],
 )
   where

@@ -12,10 +12,12 @@ returns-clause-others c =
     let one = c.alone.ensures ∙ shifted_one c.args.number c.requires in
     record {
       same = rw one (has_none _ c.args.number (bit_at_clear_same w128 c.args.set c.args.number c.requires));
-      others = λ x l apart. rw one (ap (λ b. b == 1) (bit_at_clear_other w128 c.args.set c.args.number c.requires x l apart));
+      others = λ x l apart. rw one (ap (λ b. b == 1)
+          (bit_at_clear_other w128 c.args.set c.args.number c.requires x l apart));
     }
 
 pub returns-clause-less : goal.returns-clause-less
 returns-clause-less c member =
     let one = c.alone.ensures ∙ shifted_one c.args.number c.requires in
-    rw one (fewer c.args.set _ c.args.number (and_le_l c.args.set _) member (has_none _ c.args.number (bit_at_clear_same w128 c.args.set c.args.number c.requires)))
+    rw one (fewer c.args.set _ c.args.number (and_le_l c.args.set _) member
+    (has_none _ c.args.number (bit_at_clear_same w128 c.args.set c.args.number c.requires)))

@@ -13,9 +13,12 @@ returns-clause-below c = elim (cases_Bool (nat_lt 16 c.lowest.result)) [
 ]
 
 pub returns-clause-absent : goal.returns-clause-absent
-returns-clause-absent c l = lacked (has c.args.set c.lowest.result) (sym (complement c.args.set c.lowest.result c.ranges.set.fits (omega arith)) ∙ (sym (c.with.ensures.others c.lowest.result (λ e. absurd (omega arith))) ∙ c.lowest.ensures.member))
+returns-clause-absent c l = lacked (has c.args.set c.lowest.result)
+    (sym (complement c.args.set c.lowest.result c.ranges.set.fits (omega arith))
+    ∙ (sym (c.with.ensures.others c.lowest.result (λ e. absurd (omega arith))) ∙ c.lowest.ensures.member))
 
 pub returns-clause-least : goal.returns-clause-least
 returns-clause-least c i l =
     let most : c.lowest.result ≤ 16 = returns-clause-below c in
-    kept (has c.args.set i) (sym (complement c.args.set i c.ranges.set.fits (omega arith)) ∙ (sym (c.with.ensures.others i (λ e. absurd (omega arith))) ∙ c.lowest.ensures.least i l))
+    kept (has c.args.set i) (sym (complement c.args.set i c.ranges.set.fits (omega arith))
+    ∙ (sym (c.with.ensures.others i (λ e. absurd (omega arith))) ∙ c.lowest.ensures.least i l))

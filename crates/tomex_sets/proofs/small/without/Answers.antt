@@ -9,7 +9,8 @@ use Rattle.tomex_sets.proofs.small.without.Goals as goal
 
 -- past the ring no set has members
 both_above : (set new x : ℕ) → new ≤ set → set < 2 ^ 64 → 64 ≤ x → bit_at new x ≡ bit_at set x
-both_above set new x less fits above = bit_at_above new 64 x (omega arith) above ∙ sym (bit_at_above set 64 x fits above)
+both_above set new x less fits above = bit_at_above new 64 x (omega arith) above
+    ∙ sym (bit_at_above set 64 x fits above)
 
 pub returns : goal.returns
 returns c = record {

@@ -8,6 +8,9 @@ use Rattle.tomex_study.proofs.study.costs_of.Goals as goal
 
 pub loop-config-preserved : goal.loop-config-preserved
 loop-config-preserved g c = record {
-  costs = one_mapped (λ (config : Configuration). cost_of config c.args.prices.now) _ c.loop-config.config-index c.config-item.result _ _ _ c.loop-config-test.true c.in_ok-push.ensures.items c.cost.ensures.cost c.config-item.is c.loop-config.invariant.costs;
-  limits = one_more IsWithinLimits _ c.loop-config.config-index c.config-item.result c.loop-config-test.true c.loop-config.invariant.limits c.config-item.is c.keeps_limits.ensures;
+  costs = one_mapped (λ (config : Configuration). cost_of config c.args.prices.now) _ c.loop-config.config-index
+      c.config-item.result _ _ _ c.loop-config-test.true c.in_ok-push.ensures.items c.cost.ensures.cost c.config-item.is
+      c.loop-config.invariant.costs;
+  limits = one_more IsWithinLimits _ c.loop-config.config-index c.config-item.result c.loop-config-test.true
+      c.loop-config.invariant.limits c.config-item.is c.keeps_limits.ensures;
 }

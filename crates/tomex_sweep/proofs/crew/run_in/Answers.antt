@@ -9,11 +9,14 @@ use Rattle.tomex_sweep.proofs.crew.run_in.Goals as goal
 use Rattle.tomex_sweep.proofs.crew.run_in.Goals.{in-Ok-push-2, in-Err-push-2}
 
 pub start-requires-clause-worker : goal.start-requires-clause-worker
-start-requires-clause-worker g c = λ κs within. All-head (CanStart _ _) c.in-Some.worker _ (subst (All (CanStart _ _)) c.in-Some.ensures.steps.0 c.loop-worker.invariant.1)
+start-requires-clause-worker g c =
+    λ κs within. All-head (CanStart _ _) c.in-Some.worker _
+    (subst (All (CanStart _ _)) c.in-Some.ensures.steps.0 c.loop-worker.invariant.1)
 
 pub loop-worker-preserved : goal.loop-worker-preserved
 loop-worker-preserved g c = (
-  moved (λ h. owed_by h.promise.0.value) owed_by c.loop-worker.handles.items c.push.new.self.items c.in-Ok.handle _ _ c.in-Some.worker _
+  moved (λ h. owed_by h.promise.0.value) owed_by c.loop-worker.handles.items c.push.new.self.items c.in-Ok.handle _ _
+      c.in-Some.worker _
       c.in-Ok-push.ensures.items c.in-Some.ensures.steps.0 (ap owed_by c.in-Ok.ensures) c.loop-worker.invariant.0,
   All-rest (CanStart _ _) c.in-Some.worker _ _ c.in-Some.ensures.steps.0 c.loop-worker.invariant.1,
 )
@@ -21,12 +24,16 @@ loop-worker-preserved g c = (
 pub loop-handle-preserved-after-push-2-2 : goal.loop-handle-preserved-after-push-2-2
 loop-handle-preserved-after-push-2-2 g c = λ not.
     elim c.match-push-2.branch [
-      | in-Ok-push-2 w ↦ moved given_by (λ h. owed_by h.promise.0.value) c.loop-handle.parts.items c.push-in-Ok-join.new.self.items c.in-Ok-join.part _ _ c.in-Some-handle.handle _
-          w.in-Ok-push-2.ensures.items c.in-Some-handle.ensures.steps.0 c.in-Ok-join.ensures (c.loop-handle.invariant (sym w.refused-is ∙ not))
+      | in-Ok-push-2 w ↦ moved given_by (λ h. owed_by h.promise.0.value) c.loop-handle.parts.items
+          c.push-in-Ok-join.new.self.items c.in-Ok-join.part _ _ c.in-Some-handle.handle _
+          w.in-Ok-push-2.ensures.items c.in-Some-handle.ensures.steps.0 c.in-Ok-join.ensures
+          (c.loop-handle.invariant (sym w.refused-is ∙ not))
       | in-Err-push-2 w ↦ absurd (true≢false (sym w.refused-is ∙ not))
     ]
 
 pub returns : goal.returns
 returns g c =
-    let none : length (into_iter_items c.loop-handle.handle-iterator) ≡ 0 = let s = c.in-None-handle.ensures.steps in search rules in
-    ended (λ h. owed_by h.promise.0.value) _ (into_iter_items c.loop-handle.handle-iterator) _ none (c.loop-handle.invariant c.if-refused.false)
+    let none : length (into_iter_items c.loop-handle.handle-iterator) ≡ 0 = let s = c.in-None-handle.ensures.steps in
+    search rules in
+    ended (λ h. owed_by h.promise.0.value) _ (into_iter_items c.loop-handle.handle-iterator) _ none
+    (c.loop-handle.invariant c.if-refused.false)

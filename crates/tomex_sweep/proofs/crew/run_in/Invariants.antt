@@ -7,8 +7,10 @@ use Rattle.tomex_sweep.proofs.crew.run_in.Given as goal
 
 abbrev pub invariant-loop-worker : goal.invariant-loop-worker
 invariant-loop-worker g l =
-    (map (λ h. owed_by h.promise.0.value) l.handles.items ++ map owed_by (into_iter_items l.worker-iterator) ≡ map owed_by l.fn.workers.items)
+    (map (λ h. owed_by h.promise.0.value) l.handles.items ++ map owed_by (into_iter_items l.worker-iterator)
+    ≡ map owed_by l.fn.workers.items)
     × All (CanStart l.shop.board.now (length g.J.Plan.costs)) (into_iter_items l.worker-iterator)
 
 abbrev pub invariant-loop-handle : goal.invariant-loop-handle
-invariant-loop-handle g l = l.refused ≡ false → map given_by l.parts.items ++ map (λ h. owed_by h.promise.0.value) (into_iter_items l.handle-iterator) ≡ map owed_by l.fn.workers.items
+invariant-loop-handle g l = l.refused ≡ false → map given_by l.parts.items
+    ++ map (λ h. owed_by h.promise.0.value) (into_iter_items l.handle-iterator) ≡ map owed_by l.fn.workers.items

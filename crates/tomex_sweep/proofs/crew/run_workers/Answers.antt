@@ -11,8 +11,14 @@ scoped-requires g c =
       at = λ _. (
         c.requires,
         (
-          record { owned = b.send-J.owned; leaving = λ k. Quiet-if (k (of_param 1)) unseen unseen (λ x w. tt) (λ x w. tt) },
-          record { owned = b.send-A.owned; leaving = λ k. Quiet-if (k (of_param 2)) unseen unseen (λ x w. tt) (λ x w. tt) },
+          record {
+            owned = b.send-J.owned;
+            leaving = λ k. Quiet-if (k (of_param 1)) unseen unseen (λ x w. tt) (λ x w. tt);
+          },
+          record {
+            owned = b.send-A.owned;
+            leaving = λ k. Quiet-if (k (of_param 2)) unseen unseen (λ x w. tt) (λ x w. tt);
+          },
           record { shared = b.sync-R.shared },
           record { shared = b.sync-J.shared },
           record { shared = b.sync-A.shared },

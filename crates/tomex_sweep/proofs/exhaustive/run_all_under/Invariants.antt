@@ -5,4 +5,5 @@ use Rattle.tomex_board.specs.declared.mark.Mark.TheVariants.{Finished}
 use Rattle.tomex_sweep.proofs.exhaustive.run_all_under.Given as goal
 
 abbrev pub invariant-loop-config : goal.invariant-loop-config
-invariant-loop-config g l = l.marks.items ≡ map Finished (map (cycles_on l.study.programs) (take l.config-index l.config-items))
+invariant-loop-config g l = l.marks.items
+    ≡ map Finished (map (cycles_on l.study.programs) (take l.config-index l.config-items))

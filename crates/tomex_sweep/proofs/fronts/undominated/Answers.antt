@@ -14,16 +14,22 @@ pub loop-row-preserved : goal.loop-row-preserved
 loop-row-preserved g c =
     let k = c.loop-row.row-index in
     let d : FrontRow = record { row = 0; cost = 0; cycles = 0 } in
-    let far = apart_moved c.args.rows.items c.sort_rows.new.rows.items c.sort_rows.ensures.moved (apart c.args.rows.items c.requires) in
-    let after = rw (← c.deref-row-items.ensures.value) at (follows c.sort_rows.new.rows.items k d c.sort_rows.ensures.order far (rw c.deref-row-items.ensures.value at c.loop-row-test.true)) in
+    let far = apart_moved c.args.rows.items c.sort_rows.new.rows.items c.sort_rows.ensures.moved
+    (apart c.args.rows.items c.requires) in
+    let after = rw (← c.deref-row-items.ensures.value) at
+    (follows c.sort_rows.new.rows.items k d c.sort_rows.ensures.order far
+    (rw c.deref-row-items.ensures.value at c.loop-row-test.true)) in
     rw (take_more c.deref-row-items.result.now k d c.loop-row-test.true)
     (elim c.if-stays.branch [
-      | then-stays+in_ok-push w ↦ rw (w.front-is, w.last-is, w.in_ok-push.ensures.items) (passes_kept _ _ _ _ c.loop-row.invariant after (sym c.stays.ensures ∙ w.if-stays.true))
-      | else-stays w ↦ rw (w.front-is, w.last-is) (passes_left _ _ _ _ c.loop-row.invariant after (sym c.stays.ensures ∙ w.if-stays.false))
+      | then-stays+in_ok-push w ↦ rw (w.front-is, w.last-is, w.in_ok-push.ensures.items)
+          (passes_kept _ _ _ _ c.loop-row.invariant after (sym c.stays.ensures ∙ w.if-stays.true))
+      | else-stays w ↦ rw (w.front-is, w.last-is)
+          (passes_left _ _ _ _ c.loop-row.invariant after (sym c.stays.ensures ∙ w.if-stays.false))
     ])
 
 pub returns : goal.returns
 returns g c =
     let whole = take_all c.loop-row.row-index c.deref-row-items.result.now c.loop-row-test.false in
     let same = whole ∙ c.deref-row-items.ensures.value in
-    passed_all c.args.rows.items c.sort_rows.new.rows.items _ _ c.sort_rows.ensures.moved (apart c.args.rows.items c.requires) (rw same at c.loop-row.invariant)
+    passed_all c.args.rows.items c.sort_rows.new.rows.items _ _ c.sort_rows.ensures.moved
+    (apart c.args.rows.items c.requires) (rw same at c.loop-row.invariant)

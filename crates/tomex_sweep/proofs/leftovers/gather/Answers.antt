@@ -13,7 +13,9 @@ loop-row-preserved-then-is_closed g c =
     let count : length c.loop-row.marks.items ≡ length c.args.marks.now.items = c.loop-row.invariant.count in
     let test : c.loop-row.row < c.len-row-end.result = c.loop-row-test.true in
     let low : c.loop-row.row < length c.loop-row.marks.items = omega arith in
-    one_closed _ _ _ _ _ c.loop-row.invariant low (ap is_closed (read_mark c.loop-row.marks.items c.loop-row.row c.index.result.now low c.index.ensures) ∙ sym c.if-is_closed.ensures)
+    one_closed _ _ _ _ _ c.loop-row.invariant low
+    (ap is_closed (read_mark c.loop-row.marks.items c.loop-row.row c.index.result.now low c.index.ensures)
+    ∙ sym c.if-is_closed.ensures)
 
 pub loop-row-preserved : goal.loop-row-preserved
 loop-row-preserved g c =
@@ -22,8 +24,12 @@ loop-row-preserved g c =
     let costs : length c.args.marks.now.items ≡ length c.args.study.now.costs = c.requires.count in
     let test : c.loop-row.row < c.len-row-end.result = c.loop-row-test.true in
     let low : c.loop-row.row < length c.loop-row.marks.items = omega arith in
-    one_run _ _ _ _ _ c.in_ok-cycles.cycles c.loop-row.invariant low (ap is_closed (read_mark c.loop-row.marks.items c.loop-row.row c.index.result.now low c.index.ensures) ∙ sym c.if-is_closed.ensures)
-    (run_cycles c.args.study.now _ c.rows.result.now c.index-rows-row.result c.loop-row.row c.in_ok-cycles.cycles c.keeps_limits.ensures c.programs.ensures.value c.rows.ensures.value (omega arith) c.index-rows-row.is c.in_ok-cycles.ensures)
+    one_run _ _ _ _ _ c.in_ok-cycles.cycles c.loop-row.invariant low
+    (ap is_closed (read_mark c.loop-row.marks.items c.loop-row.row c.index.result.now low c.index.ensures)
+    ∙ sym c.if-is_closed.ensures)
+    (run_cycles c.args.study.now _ c.rows.result.now c.index-rows-row.result c.loop-row.row c.in_ok-cycles.cycles
+    c.keeps_limits.ensures c.programs.ensures.value c.rows.ensures.value (omega arith) c.index-rows-row.is
+    c.in_ok-cycles.ensures)
 
 pub returns-clause-judged : goal.returns-clause-judged
 returns-clause-judged g c =

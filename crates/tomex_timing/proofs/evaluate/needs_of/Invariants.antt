@@ -9,6 +9,7 @@ use Rattle.tomex_timing.proofs.evaluate.needs_of.Given as goal
 
 abbrev pub invariant-loop-step : goal.invariant-loop-step
 invariant-loop-step g l = (steps : List Step) → AreFacts steps l.facts → record {
-  shown : IsShown (history l.config (take l.step-index steps)) l.window.latest l.window.table l.window.stations.ends l.window.accesses.items;
+  shown : IsShown (history l.config (take l.step-index steps)) l.window.latest l.window.table l.window.stations.ends
+      l.window.accesses.items;
   needs : AreNeeds l.config (history l.config (take l.step-index steps)) l.needs;
 }

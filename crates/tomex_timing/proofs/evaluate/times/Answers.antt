@@ -10,30 +10,56 @@ use Rattle.tomex_timing.proofs.evaluate.times.Goals as goal
 
 pub loop-step-init : goal.loop-step-init
 loop-step-init g c = record {
-  shown = rw (c.new-window.ensures.latest, c.new-window.ensures.table, c.new-window.ensures.stations, c.new-window.ensures.accesses) (start_shown c.args.config.now);
+  shown = rw (
+    c.new-window.ensures.latest,
+    c.new-window.ensures.table,
+    c.new-window.ensures.stations,
+    c.new-window.ensures.accesses,
+  ) (start_shown c.args.config.now);
   times = c.new-result.ensures.items;
 }
 
 pub next_step-requires-clause-settled : goal.next_step-requires-clause-settled
 next_step-requires-clause-settled g c =
-    settled_there c.args.config.now c.args.steps.now c.loop-step.step-index _ _ _ _ c.keeps_limits.ensures c.loop-step.invariant.shown
+    settled_there c.args.config.now c.args.steps.now c.loop-step.step-index _ _ _ _ c.keeps_limits.ensures
+    c.loop-step.invariant.shown
 
 pub next_step-requires-clause-small : goal.next_step-requires-clause-small
 next_step-requires-clause-small g c =
-    let by : c.loop-step.window.latest.end ≤ 67 * c.loop-step.step-index = end_bound c.args.config.now c.args.steps.now c.loop-step.step-index _ c.loop-step.window.latest c.keeps_limits.ensures (omega arith) c.loop-step.invariant.shown.kept in
+    let by : c.loop-step.window.latest.end ≤ 67 * c.loop-step.step-index =
+    end_bound c.args.config.now c.args.steps.now c.loop-step.step-index _ c.loop-step.window.latest
+    c.keeps_limits.ensures (omega arith) c.loop-step.invariant.shown.kept in
     omega arith
 
 pub keep-requires : goal.keep-requires
 keep-requires g c =
-    let is : slice_index_or c.args.steps.now c.loop-step.step-index c.step-item.result ≡ c.step-item.result = search rules in
-    let step : IsStep c.args.config.now c.args.steps.now c.loop-step.step-index c.step-item.result c.of-facts.result = record { good = c.keeps_limits.ensures; place = c.loop-step-test.true; at = is; facts = c.of-facts.ensures.facts; registers = c.of-facts.ensures.registers } in
-    can_keep c.args.config.now c.args.steps.now c.loop-step.step-index c.step-item.result c.of-facts.result _ _ _ _ c.next_step.result c.requires.few step c.loop-step.invariant.shown c.next_step.ensures
+    let is : slice_index_or c.args.steps.now c.loop-step.step-index c.step-item.result ≡ c.step-item.result =
+    search rules in
+    let step : IsStep c.args.config.now c.args.steps.now c.loop-step.step-index c.step-item.result c.of-facts.result =
+    record {
+      good = c.keeps_limits.ensures;
+      place = c.loop-step-test.true;
+      at = is;
+      facts = c.of-facts.ensures.facts;
+      registers = c.of-facts.ensures.registers;
+    } in
+    can_keep c.args.config.now c.args.steps.now c.loop-step.step-index c.step-item.result c.of-facts.result _ _ _ _
+    c.next_step.result c.requires.few step c.loop-step.invariant.shown c.next_step.ensures
 
 pub loop-step-preserved : goal.loop-step-preserved
 loop-step-preserved g c =
-    let is : slice_index_or c.args.steps.now c.loop-step.step-index c.step-item.result ≡ c.step-item.result = search rules in
-    let step : IsStep c.args.config.now c.args.steps.now c.loop-step.step-index c.step-item.result c.of-facts.result = record { good = c.keeps_limits.ensures; place = c.loop-step-test.true; at = is; facts = c.of-facts.ensures.facts; registers = c.of-facts.ensures.registers } in
-    let turn = held_turn c.args.config.now c.args.steps.now c.loop-step.step-index c.step-item.result c.of-facts.result _ _ _ _ _ c.next_step.result step c.loop-step.invariant.shown c.next_step.ensures c.in_ok-keep.ensures.table in
+    let is : slice_index_or c.args.steps.now c.loop-step.step-index c.step-item.result ≡ c.step-item.result =
+    search rules in
+    let step : IsStep c.args.config.now c.args.steps.now c.loop-step.step-index c.step-item.result c.of-facts.result =
+    record {
+      good = c.keeps_limits.ensures;
+      place = c.loop-step-test.true;
+      at = is;
+      facts = c.of-facts.ensures.facts;
+      registers = c.of-facts.ensures.registers;
+    } in
+    let turn = held_turn c.args.config.now c.args.steps.now c.loop-step.step-index c.step-item.result c.of-facts.result
+    _ _ _ _ _ c.next_step.result step c.loop-step.invariant.shown c.next_step.ensures c.in_ok-keep.ensures.table in
     record {
       shown = rw (c.in_ok-keep.ensures.latest, c.in_ok-keep.ensures.stations, c.in_ok-keep.ensures.accesses) turn.0;
       times = rw (c.in_ok-push.ensures.items, c.loop-step.invariant.times) (sym turn.1);

@@ -6,6 +6,7 @@ use Rattle.tomex_timing.proofs.evaluate.times.Given as goal
 
 abbrev pub invariant-loop-step : goal.invariant-loop-step
 invariant-loop-step g l = record {
-  shown : IsShown (history l.config (take l.step-index l.steps)) l.window.latest l.window.table l.window.stations.ends l.window.accesses.items;
+  shown : IsShown (history l.config (take l.step-index l.steps)) l.window.latest l.window.table l.window.stations.ends
+      l.window.accesses.items;
   times : l.result.items ≡ times_in l.config (take l.step-index l.steps);
 }

@@ -11,31 +11,60 @@ use Rattle.tomex_timing.proofs.evaluate.waits.Goals as goal
 
 pub loop-step-init : goal.loop-step-init
 loop-step-init g c = record {
-  shown = rw (c.new-window.ensures.latest, c.new-window.ensures.table, c.new-window.ensures.stations, c.new-window.ensures.accesses) (start_shown c.args.config.now);
+  shown = rw (
+    c.new-window.ensures.latest,
+    c.new-window.ensures.table,
+    c.new-window.ensures.stations,
+    c.new-window.ensures.accesses,
+  ) (start_shown c.args.config.now);
   waits = c.new-result.ensures.items;
 }
 
 pub next_step-next-requires-clause-settled : goal.next_step-next-requires-clause-settled
 next_step-next-requires-clause-settled g c =
-    settled_there c.args.config.now c.args.steps.now c.loop-step.step-index _ _ _ _ c.keeps_limits.ensures c.loop-step.invariant.shown
+    settled_there c.args.config.now c.args.steps.now c.loop-step.step-index _ _ _ _ c.keeps_limits.ensures
+    c.loop-step.invariant.shown
 
 pub next_step-next-requires-clause-small : goal.next_step-next-requires-clause-small
 next_step-next-requires-clause-small g c =
-    let by : c.loop-step.window.latest.end ≤ 67 * c.loop-step.step-index = end_bound c.args.config.now c.args.steps.now c.loop-step.step-index _ c.loop-step.window.latest c.keeps_limits.ensures (omega arith) c.loop-step.invariant.shown.kept in
+    let by : c.loop-step.window.latest.end ≤ 67 * c.loop-step.step-index =
+    end_bound c.args.config.now c.args.steps.now c.loop-step.step-index _ c.loop-step.window.latest
+    c.keeps_limits.ensures (omega arith) c.loop-step.invariant.shown.kept in
     omega arith
 
 pub keep-requires : goal.keep-requires
 keep-requires g c =
-    let is : slice_index_or c.args.steps.now c.loop-step.step-index c.step-item.result ≡ c.step-item.result = search rules in
-    let step : IsStep c.args.config.now c.args.steps.now c.loop-step.step-index c.step-item.result c.of-facts.result = record { good = c.keeps_limits.ensures; place = c.loop-step-test.true; at = is; facts = c.of-facts.ensures.facts; registers = c.of-facts.ensures.registers } in
-    can_keep c.args.config.now c.args.steps.now c.loop-step.step-index c.step-item.result c.of-facts.result _ _ _ _ c.next_step-next.result c.requires.few step c.loop-step.invariant.shown c.next_step-next.ensures
+    let is : slice_index_or c.args.steps.now c.loop-step.step-index c.step-item.result ≡ c.step-item.result =
+    search rules in
+    let step : IsStep c.args.config.now c.args.steps.now c.loop-step.step-index c.step-item.result c.of-facts.result =
+    record {
+      good = c.keeps_limits.ensures;
+      place = c.loop-step-test.true;
+      at = is;
+      facts = c.of-facts.ensures.facts;
+      registers = c.of-facts.ensures.registers;
+    } in
+    can_keep c.args.config.now c.args.steps.now c.loop-step.step-index c.step-item.result c.of-facts.result _ _ _ _
+    c.next_step-next.result c.requires.few step c.loop-step.invariant.shown c.next_step-next.ensures
 
 pub loop-step-preserved : goal.loop-step-preserved
 loop-step-preserved g c =
-    let is : slice_index_or c.args.steps.now c.loop-step.step-index c.step-item.result ≡ c.step-item.result = search rules in
-    let step : IsStep c.args.config.now c.args.steps.now c.loop-step.step-index c.step-item.result c.of-facts.result = record { good = c.keeps_limits.ensures; place = c.loop-step-test.true; at = is; facts = c.of-facts.ensures.facts; registers = c.of-facts.ensures.registers } in
-    let turn = held_turn c.args.config.now c.args.steps.now c.loop-step.step-index c.step-item.result c.of-facts.result _ _ _ _ _ c.next_step-next.result step c.loop-step.invariant.shown c.next_step-next.ensures c.in_ok-keep.ensures.table in
-    let waits = held_waits c.args.config.now c.args.steps.now c.loop-step.step-index c.step-item.result c.of-facts.result _ _ _ _ c.next_step-next.result c.waits_of-waits.result step c.loop-step.invariant.shown c.next_step-next.ensures c.waits_of-waits.ensures in
+    let is : slice_index_or c.args.steps.now c.loop-step.step-index c.step-item.result ≡ c.step-item.result =
+    search rules in
+    let step : IsStep c.args.config.now c.args.steps.now c.loop-step.step-index c.step-item.result c.of-facts.result =
+    record {
+      good = c.keeps_limits.ensures;
+      place = c.loop-step-test.true;
+      at = is;
+      facts = c.of-facts.ensures.facts;
+      registers = c.of-facts.ensures.registers;
+    } in
+    let turn = held_turn c.args.config.now c.args.steps.now c.loop-step.step-index c.step-item.result c.of-facts.result
+    _ _ _ _ _ c.next_step-next.result step c.loop-step.invariant.shown c.next_step-next.ensures
+    c.in_ok-keep.ensures.table in
+    let waits = held_waits c.args.config.now c.args.steps.now c.loop-step.step-index c.step-item.result
+    c.of-facts.result _ _ _ _ c.next_step-next.result c.waits_of-waits.result step c.loop-step.invariant.shown
+    c.next_step-next.ensures c.waits_of-waits.ensures in
     record {
       shown = rw (c.in_ok-keep.ensures.latest, c.in_ok-keep.ensures.stations, c.in_ok-keep.ensures.accesses) turn.0;
       waits = rw (c.in_ok-push.ensures.items, c.loop-step.invariant.waits) (sym waits);
@@ -43,9 +72,12 @@ loop-step-preserved g c =
 
 pub waits_of-waits-requires : goal.waits_of-waits-requires
 waits_of-waits-requires g c =
-    let s = settled_there c.args.config.now c.args.steps.now c.loop-step.step-index _ _ _ _ c.keeps_limits.ensures c.loop-step.invariant.shown in
+    let s = settled_there c.args.config.now c.args.steps.now c.loop-step.step-index _ _ _ _ c.keeps_limits.ensures
+    c.loop-step.invariant.shown in
     let b : c.loop-step.window.latest.branch ≤ c.loop-step.window.latest.end = s.branch in
-    let by : c.loop-step.window.latest.end ≤ 67 * c.loop-step.step-index = end_bound c.args.config.now c.args.steps.now c.loop-step.step-index _ c.loop-step.window.latest c.keeps_limits.ensures (omega arith) c.loop-step.invariant.shown.kept in
+    let by : c.loop-step.window.latest.end ≤ 67 * c.loop-step.step-index =
+    end_bound c.args.config.now c.args.steps.now c.loop-step.step-index _ c.loop-step.window.latest
+    c.keeps_limits.ensures (omega arith) c.loop-step.invariant.shown.kept in
     record { branch = omega arith }
 
 pub returns-clause-pairs : goal.returns-clause-pairs

@@ -5,5 +5,8 @@ use Rattle.tomex_timing.proofs.window.facts_of.Goals as goal
 
 pub loop-step-preserved : goal.loop-step-preserved
 loop-step-preserved g c =
-    let is : slice_index_or c.args.steps.now c.loop-step.step-index c.step-item.result ≡ c.step-item.result = search rules in
-    rw c.in_ok-push.ensures.items (facts_more c.args.steps.now c.loop-step.facts.items c.loop-step.step-index c.step-item.result c.of.result c.loop-step-test.true is c.of.ensures.facts c.of.ensures.registers c.loop-step.invariant)
+    let is : slice_index_or c.args.steps.now c.loop-step.step-index c.step-item.result ≡ c.step-item.result =
+    search rules in
+    rw c.in_ok-push.ensures.items (facts_more c.args.steps.now c.loop-step.facts.items c.loop-step.step-index
+    c.step-item.result c.of.result c.loop-step-test.true is c.of.ensures.facts c.of.ensures.registers
+    c.loop-step.invariant)

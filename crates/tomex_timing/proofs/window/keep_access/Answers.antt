@@ -7,5 +7,6 @@ use Rattle.tomex_timing.proofs.window.keep_access.Goals as goal
 
 pub returns-in_ok-push : goal.returns-in_ok-push
 returns-in_ok-push g c =
-    let kept : c.retain.new.self.items ≡ filter (λ a. nat_le c.args.at.now.issue a.finish) c.args.accesses.now.items = filter_same _ _ _ (λ x b f' k. search rules) _ _ c.retain.ensures.filtered in
+    let kept : c.retain.new.self.items ≡ filter (λ a. nat_le c.args.at.now.issue a.finish) c.args.accesses.now.items =
+    filter_same _ _ _ (λ x b f' k. search rules) _ _ c.retain.ensures.filtered in
     rw (c.in-Some.is, c.in_ok-push.ensures.items, kept)

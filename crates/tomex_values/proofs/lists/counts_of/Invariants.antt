@@ -8,5 +8,6 @@ use Rattle.tomex_values.proofs.lists.counts_of.Given as goal
 
 abbrev pub invariant-loop-value : goal.invariant-loop-value
 invariant-loop-value g l =
-    with_front l.counts.items (each (number_of l.place l.key (between 1 l.most)) (items_view (drop l.value-index l.values)))
+    with_front l.counts.items (each (number_of l.place l.key (between 1 l.most))
+    (items_view (drop l.value-index l.values)))
     ≡ each (number_of l.place l.key (between 1 l.most)) (items_view l.values)

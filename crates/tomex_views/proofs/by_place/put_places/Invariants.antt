@@ -12,5 +12,6 @@ invariant-loop-place g l = record {
   finite : (goal.iterator-loop-place g).is_finite l.place-iterator;
   ready : IsReady l.writer;
   text : written (λ v. v.items) l.writer ++ flat_map (λ place. record_text (place_fields place)) l.place-iterator
-      ≡ written (λ v. v.items) l.fn.writer ++ flat_map (λ place. record_text (place_fields place)) (values l.tally.places);
+      ≡ written (λ v. v.items) l.fn.writer
+      ++ flat_map (λ place. record_text (place_fields place)) (values l.tally.places);
 }

@@ -13,7 +13,8 @@ use Rattle.tomex_views.proofs.Tallies.{few_at_place, whole, within_place, within
 use Rattle.tomex_views.proofs.tally.count_by_place.Goals as goal
 
 -- what an entry has, by what the map had
-kept : (now : Place) (value had counted : Option Place) (made : Place) (step : Step) → now ≡ unwrap_or value made → value ≡ had → had ≡ counted
+kept : (now : Place) (value had counted : Option Place) (made : Place) (step : Step) → now ≡ unwrap_or value made
+    → value ≡ had → had ≡ counted
     → made ≡ record { first = step; sum = no_sum } → now ≡ unwrap_or counted (record { first = step; sum = no_sum })
 kept now value had counted made step is has before new = rw (is, has, before, new) refl
 
@@ -28,29 +29,37 @@ add-requires-clause-sum g c =
 pub add-requires-in-loop-index-clause-steps : goal.add-requires-in-loop-index-clause-steps
 add-requires-in-loop-index-clause-steps g c =
     let step = c.index-steps-index.result in
-    let had = kept c.or_insert.result.now _ _ _ c.new.result step c.or_insert.ensures.value c.in_ok-places.ensures.value (c.loop-index.invariant.places step.pc) c.new.ensures in
+    let had = kept c.or_insert.result.now _ _ _ c.new.result step c.or_insert.ensures.value c.in_ok-places.ensures.value
+    (c.loop-index.invariant.places step.pc) c.new.ensures in
     subst (λ (p : Place). p.sum.steps < 2 ^ 63) (sym had)
     (few_at_place c.args.steps.now c.args.waits.now c.loop-index.index step.pc (step, no_waits) c.requires.few)
 
 pub add-requires-in-loop-index-clause-sum : goal.add-requires-in-loop-index-clause-sum
 add-requires-in-loop-index-clause-sum g c =
     let step = c.index-steps-index.result in
-    let had = kept c.or_insert.result.now _ _ _ c.new.result step c.or_insert.ensures.value c.in_ok-places.ensures.value (c.loop-index.invariant.places step.pc) c.new.ensures in
+    let had = kept c.or_insert.result.now _ _ _ c.new.result step c.or_insert.ensures.value c.in_ok-places.ensures.value
+    (c.loop-index.invariant.places step.pc) c.new.ensures in
     subst (λ (p : Place). AreWithin (2 ^ 63) p.sum.waits) (sym had)
-    (within_place c.args.steps.now c.args.waits.now c.loop-index.index step.pc (step, no_waits) c.requires.few c.requires.waits)
+    (within_place c.args.steps.now c.args.waits.now c.loop-index.index step.pc (step, no_waits) c.requires.few
+    c.requires.waits)
 
 pub loop-index-preserved : goal.loop-index-preserved
 loop-index-preserved g c =
     let step = c.index-steps-index.result in
-    let had = kept c.or_insert.result.now _ _ _ c.new.result step c.or_insert.ensures.value c.in_ok-places.ensures.value (c.loop-index.invariant.places step.pc) c.new.ensures in
+    let had = kept c.or_insert.result.now _ _ _ c.new.result step c.or_insert.ensures.value c.in_ok-places.ensures.value
+    (c.loop-index.invariant.places step.pc) c.new.ensures in
     record {
       places = λ pc. grind (
         arith,
         common_steps,
-        at_more c.args.steps.now c.args.waits.now c.loop-index.index step _ no_waits pc _ _ c.or_insert.result.now c.add-in-loop-index.new.self
-            c.loop-index-test.true c.requires.pairs c.index-steps-index.is refl ((c.in_ok-places.ensures.update.0 c.add-in-loop-index.new.self).0 pc) (c.loop-index.invariant.places pc) had c.add-in-loop-index.ensures,
+        at_more c.args.steps.now c.args.waits.now c.loop-index.index step _ no_waits pc _ _ c.or_insert.result.now
+            c.add-in-loop-index.new.self
+            c.loop-index-test.true c.requires.pairs c.index-steps-index.is refl
+            ((c.in_ok-places.ensures.update.0 c.add-in-loop-index.new.self).0 pc) (c.loop-index.invariant.places pc)
+            had c.add-in-loop-index.ensures,
       );
-      all = all_more c.args.steps.now c.args.waits.now c.loop-index.index step _ no_waits c.loop-index.all c.add.new.self
+      all = all_more c.args.steps.now c.args.waits.now c.loop-index.index step _ no_waits c.loop-index.all
+          c.add.new.self
           c.loop-index-test.true c.requires.pairs c.index-steps-index.is refl c.loop-index.invariant.all c.add.ensures;
     }
 

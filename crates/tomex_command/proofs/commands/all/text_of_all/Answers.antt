@@ -6,5 +6,7 @@ use Rattle.tomex_command.proofs.commands.all.text_of_all.Goals as goal
 pub returns-in_err-report-clause-failure : goal.returns-in_err-report-clause-failure
 returns-in_err-report-clause-failure g c =
     let p = err_from_is_err_and c.from_residual-in_err-report.result c.from_residual-in_err-report.ensures.1 in
-    let refusal = rw (c.as_slice-study.ensures.value, c.as_slice-contents.ensures.value) at c.in_err-report.ensures.err in
-    rw (p.1) (all_refused (g.F.Files.file c.args.files.now) c.args.line.study.now _ _ _ p.0 c.in_ok-sources.ensures.read refusal c.in_err-report.ensures.no_worker p.2)
+    let refusal = rw (c.as_slice-study.ensures.value, c.as_slice-contents.ensures.value) at c.in_err-report.ensures.err
+    in
+    rw (p.1) (all_refused (g.F.Files.file c.args.files.now) c.args.line.study.now _ _ _ p.0 c.in_ok-sources.ensures.read
+    refusal c.in_err-report.ensures.no_worker p.2)

@@ -5,4 +5,5 @@ use Rattle.tomex_command.proofs.commands.reading.read_all.Given as goal
 
 abbrev pub invariant-loop-name : goal.invariant-loop-name
 invariant-loop-name g l =
-    AreRead (g.F.Files.file l.files) (take l.name-index (map string_bytes l.names)) (map (λ v. v.items) l.contents.items)
+    AreRead (g.F.Files.file l.files) (take l.name-index (map string_bytes l.names))
+    (map (λ v. v.items) l.contents.items)

@@ -7,6 +7,10 @@ returns-clause-text g c =
     IfOk-weaker c.text_after.result _ _ (λ text shown. record {
       config = c.in_ok-chosen.chosen.config.now;
       program = c.in_ok-chosen.chosen.program.now;
-      chosen = record { space = c.in_ok-study.study; of_files = c.in_ok-study.ensures.study; chosen = c.in_ok-chosen.ensures.chosen };
+      chosen = record {
+        space = c.in_ok-study.study;
+        of_files = c.in_ok-study.ensures.study;
+        chosen = c.in_ok-chosen.ensures.chosen;
+      };
       shown = shown;
     }) c.text_after.ensures.text

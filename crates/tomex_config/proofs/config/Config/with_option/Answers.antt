@@ -13,8 +13,10 @@ invariant_of-result c =
       pools = inv.pools;
       stations = inv.stations;
       kinds = grind (arith, common_steps, inv.kinds);
-      units = All-set (λ o. is_option 8 o ≡ true) c.self.inside.units c.place.result c.args.option (fits_any c.args.unit c.args.option c.requires) inv.units;
-      branch_unit = rw c.place.ensures.place (one_branch_unit c.args.unit c.args.option c.self.inside.units c.requires inv.kinds inv.branch_unit);
+      units = All-set (λ o. is_option 8 o ≡ true) c.self.inside.units c.place.result c.args.option
+          (fits_any c.args.unit c.args.option c.requires) inv.units;
+      branch_unit = rw c.place.ensures.place
+          (one_branch_unit c.args.unit c.args.option c.self.inside.units c.requires inv.kinds inv.branch_unit);
       buses = inv.buses;
       width = inv.width;
     }

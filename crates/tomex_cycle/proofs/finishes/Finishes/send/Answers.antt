@@ -2,5 +2,5 @@ use Rattle.std.proofs.Common.{arith}
 use Rattle.std.proofs.lemmas.Grind.{common_steps}
 use Rattle.tomex_cycle.proofs.finishes.Finishes.send.Goals as goal
 
-pub returns-clause-ready : goal.returns-clause-ready
-returns-clause-ready c = grind (arith, common_steps)
+pub returns-clause-unsent : goal.returns-clause-unsent
+returns-clause-unsent c = grind (arith, common_steps)

@@ -5,8 +5,19 @@ use Rattle.tomex_cycle.proofs.inner.Inner.into_end.Goals as goal
 
 pub returns : goal.returns
 returns g c = record {
-  ends = λ i config n s kind t ends l good loaded shot done.
-      let over : IsOver i n s kind c.args.self.count c.args.self.registers c.args.self.fetch c.args.self.memory = is_over_at config i n t c.args.self.count s kind c.args.self.pools c.args.self.registers c.args.self.fetch c.args.self.memory good loaded ends shot done in
-      let e = c.stop-kind.ensures ∙ ap stop_of over.stopped in
-      (n, s, l, rw (ap (λ x. x.0) e) ends, over.steps, ap (λ x. x.1) e, over.regs, over.base, over.bytes);
+  ends = λ i config n t run shot done.
+      let over : IsOver i n run.state run.kind c.args.self.issued c.args.self.registers c.args.self.fetch
+      c.args.self.memory = is_over_at config i n t c.args.self.issued run.state run.kind c.args.self.pools
+      c.args.self.registers c.args.self.fetch c.args.self.memory run.lawful run.loaded run.ends shot done in
+      let e = c.stop-kind.ensures ∙ ap stop_of over.stopped in (
+        n,
+        run.state,
+        run.few,
+        rw (ap (λ x. x.0) e) run.ends,
+        over.steps,
+        ap (λ x. x.1) e,
+        over.regs,
+        over.base,
+        over.bytes,
+      );
 }

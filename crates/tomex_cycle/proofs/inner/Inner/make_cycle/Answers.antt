@@ -2,44 +2,78 @@
 use Rattle.tomex_cycle.proofs.Cycles.{starts_good, issue_made, cycle_made, cycle_answer, some_none, err_ok, ok_same}
 use Rattle.std.proofs.Common.{Bool, ◌≤◌, ◌<◌, ◌≡◌, ◌∙◌, ap, arith, inl, inr, Ok, nat_lt}
 use Rattle.std.proofs.lemmas.Bool.{ltb-true, ltb-false}
-use Rattle.tomex_cycle.proofs.Calmness.{cycle_calm}
+use Rattle.tomex_cycle.proofs.Settling.{cycle_settles}
 use Rattle.tomex_cycle.proofs.Happens.{cycle_happens}
 use Rattle.tomex_cycle.proofs.Moved.{none_moved, none_started, what_moved}
 use Rattle.tomex_cycle.proofs.inner.Inner.make_cycle.Goals as goal
 
 pub returns-in-Some-clause-makes : goal.returns-in-Some-clause-makes
 returns-in-Some-clause-makes g c =
-    λ how n s kind t ends l e good loaded old.
-    absurd (some_none c.start-starts.result.fault c.in-Some.fault c.in-Some.is (starts_good c.args.fetcher.now c.args.config.now n t c.args.cycle c.args.self.now.count s kind c.start-starts.result.fault _ _ _ _ _ _ c.start-starts.ensures.starts ends e good loaded old))
+    λ how n t run e old.
+    absurd (some_none c.start-starts.result.fault c.in-Some.fault c.in-Some.is
+    (starts_good c.args.fetcher.now c.args.config.now n t c.args.cycle c.args.self.now.issued run.state run.kind
+    c.start-starts.result.fault _ _ _ _ _ _ c.start-starts.ensures.starts run.ends e run.lawful run.loaded old))
 
 pub returns-in-Err-clause-makes : goal.returns-in-Err-clause-makes
 returns-in-Err-clause-makes g c =
-    λ how n s kind t ends l e good loaded old.
-    let on = issue_made c.args.fetcher.now c.args.config.now n t c.args.cycle c.args.self.now.count c.issue.new.count s kind _ _ _ _ _ _ _ _ _ _ _ _ c.start-starts.ensures.starts c.address-addressed.ensures.addresses (c.issue.ensures.issues c.args.cycle) ends l e good loaded old in
-    absurd (err_ok c.issue.result (nat_lt c.args.self.now.count c.issue.new.count) c.in-Err.fault on.0 c.in-Err.is)
+    λ how n t run e old.
+    let on = issue_made c.args.fetcher.now c.args.config.now n t c.args.cycle c.args.self.now.issued c.issue.new.count _
+    _ _ _ _ _ _ _ _ _ _ _ c.start-starts.ensures.starts c.address-addressed.ensures.addresses
+    (c.issue.ensures.issues c.args.cycle) run e old in
+    absurd (err_ok c.issue.result (nat_lt c.args.self.now.issued c.issue.new.count) c.in-Err.fault on.0 c.in-Err.is)
 
 pub returns-clause-makes : goal.returns-clause-makes
 returns-clause-makes g c =
-    λ how n s kind t ends l e good loaded old.
-    let on = issue_made c.args.fetcher.now c.args.config.now n t c.args.cycle c.args.self.now.count c.issue.new.count s kind _ _ _ _ _ _ _ _ _ _ _ _ c.start-starts.ensures.starts c.address-addressed.ensures.addresses (c.issue.ensures.issues c.args.cycle) ends l e good loaded old in
-    let low : c.args.self.now.count ≤ c.issue.new.count = on.1.low in
-    let some : nat_lt c.args.self.now.count c.issue.new.count ≡ c.in-Ok.made = ok_same c.issue.result _ _ on.0 c.in-Ok.is in
-    let shown = cycle_made c.args.fetcher.now c.args.config.now n t c.args.cycle c.args.self.now.count c.issue.new.count s kind _ _ _ _ _ _ _ _ on.1 c.end-ended.ensures.ends ends e good loaded in (
+    λ how n t run e old.
+    let on = issue_made c.args.fetcher.now c.args.config.now n t c.args.cycle c.args.self.now.issued c.issue.new.count _
+    _ _ _ _ _ _ _ _ _ _ _ c.start-starts.ensures.starts c.address-addressed.ensures.addresses
+    (c.issue.ensures.issues c.args.cycle) run e old in
+    let low : c.args.self.now.issued ≤ c.issue.new.count = on.1.low in
+    let some : nat_lt c.args.self.now.issued c.issue.new.count ≡ c.in-Ok.made =
+    ok_same c.issue.result _ _ on.0 c.in-Ok.is in
+    let shown = cycle_made c.args.fetcher.now c.args.config.now n t c.args.cycle c.args.self.now.issued
+    c.issue.new.count run.state run.kind _ _ _ _ _ _ _ _ on.1 c.end-ended.ensures.ends run.ends e run.lawful
+    run.loaded in (
       shown,
-      cycle_answer c.args.fetcher.now c.args.config.now n c.args.cycle c.issue.new.count s kind _ _ _ _ _ _ shown ends good loaded c.keeps_places.ensures.busy c.is_over.ensures c.after.ensures.progress,
-      (λ active. cycle_happens c.args.fetcher.now c.args.config.now n t c.args.cycle c.args.self.now.count c.issue.new.count s kind _ _ _ _ _ _ _ _ _ _ _ _ _ c.start-starts.ensures.starts c.start-starts.ensures.any c.address-addressed.ensures.any c.end-ended.ensures.any on.1 ends e good loaded old
-          (what_moved c.start-starts.result.any c.address-addressed.result c.in-Ok.made c.end-ended.result c.args.self.now.count c.issue.new.count (λ made more. let later : c.args.self.now.count < c.issue.new.count = ltb-true _ _ (some ∙ made) in absurd (omega (arith, later, more))) (rw (c.raise_to-in-Ok.ensures, c.raise_to-2.ensures, c.raise_to.ensures) at c.is_quiet_after-quiet.ensures.active (c.after.ensures.active active)))),
-      (λ still.
-          let quiet = rw (c.raise_to-in-Ok.ensures, c.raise_to-2.ensures, c.raise_to.ensures) at c.is_quiet_after-quiet.ensures.quiet (c.after.ensures.quiet still) in
-          let none = none_moved c.start-starts.result.any c.address-addressed.result c.in-Ok.made quiet.0 in
-          let no_later : c.issue.new.count ≤ c.args.self.now.count = ltb-false _ _ (some ∙ none.1) in
-          cycle_calm c.args.fetcher.now c.args.config.now n t c.args.cycle c.args.self.now.count c.issue.new.count s kind c.start-starts.result.fault c.start-starts.result.any _ _ _ _ _ _ _ _ _ c.end-ended.new.finishes c.start-starts.ensures.starts c.start-starts.ensures.none ends e good loaded old shown (omega (arith, low, no_later))
-          (c.end-ended.ensures.none quiet.1 ∙ (c.issue.ensures.none (c.in-Ok.is ∙ ap (λ (b : Bool). Ok b) none.1) ∙ c.address-addressed.ensures.none none.0))
-          (elim quiet.2 [ inl e ↦ inl (none_started c.start-starts.result.any c.address-addressed.result c.in-Ok.made e) | inr e ↦ inr e ]) c.end-ended.ensures.known (c.end-ended.ensures.quiet quiet.1)),
+      cycle_answer c.args.fetcher.now c.args.config.now n c.args.cycle c.issue.new.count run.state run.kind _ _ _ _ _ _
+          shown run.ends run.lawful run.loaded c.keeps_places.ensures.busy c.is_over.ensures c.after.ensures.progress,
+      (λ active. cycle_happens c.args.fetcher.now c.args.config.now n t c.args.cycle c.args.self.now.issued
+          c.issue.new.count run.state run.kind _ _ _ _ _ _ _ _ _ _ _ _ _ c.start-starts.ensures.starts
+          c.start-starts.ensures.any c.address-addressed.ensures.any c.end-ended.ensures.any on.1 run.ends e run.lawful
+          run.loaded old
+          (what_moved c.start-starts.result.any c.address-addressed.result c.in-Ok.made c.end-ended.result
+          c.args.self.now.issued c.issue.new.count
+          (λ made more. let later : c.args.self.now.issued < c.issue.new.count = ltb-true _ _ (some ∙ made) in
+          absurd (omega (arith, later, more)))
+          (rw (c.raise_to-in-Ok.ensures, c.raise_to-2.ensures, c.raise_to.ensures) at
+          c.is_settled_after-settled.ensures.active (c.after.ensures.active active)))),
+      (λ settled.
+          let facts = rw (c.raise_to-in-Ok.ensures, c.raise_to-2.ensures, c.raise_to.ensures) at
+          c.is_settled_after-settled.ensures.settled (c.after.ensures.settled settled) in
+          let none = none_moved c.start-starts.result.any c.address-addressed.result c.in-Ok.made facts.0 in
+          let no_later : c.issue.new.count ≤ c.args.self.now.issued = ltb-false _ _ (some ∙ none.1) in
+          cycle_settles c.args.fetcher.now c.args.config.now n t c.args.cycle c.args.self.now.issued c.issue.new.count
+          run.state run.kind c.start-starts.result.fault c.start-starts.result.any _ _ _ _ _ _ _ _ _
+          c.end-ended.new.finishes c.start-starts.ensures.starts c.start-starts.ensures.none run.ends e run.lawful
+          run.loaded old shown (omega (arith, low, no_later))
+          (c.end-ended.ensures.none facts.1
+          ∙ (c.issue.ensures.none (c.in-Ok.is ∙ ap (λ (b : Bool). Ok b) none.1)
+          ∙ c.address-addressed.ensures.none none.0))
+          (elim facts.2 [
+            | inl e ↦ inl (none_started c.start-starts.result.any c.address-addressed.result c.in-Ok.made e)
+            | inr e ↦ inr e
+          ]) c.end-ended.ensures.timetable (c.end-ended.ensures.none_unsent facts.1)),
     )
 
 pub end-ended-requires : goal.end-ended-requires
-end-ended-requires g c = record { known = c.issue.ensures.known c.args.cycle c.start-starts.new.finishes (c.address-addressed.ensures.known c.start-starts.new.finishes (c.start-starts.ensures.known c.in_default-fault.is)) }
+end-ended-requires g c = record {
+  timetable =
+      c.issue.ensures.timetable c.args.cycle c.start-starts.new.finishes
+      (c.address-addressed.ensures.timetable c.start-starts.new.finishes
+      (c.start-starts.ensures.timetable c.in_default-fault.is));
+}
 
-pub returns-clause-quiet : goal.returns-clause-quiet
-returns-clause-quiet g c = λ how still. c.end-ended.ensures.quiet (c.is_quiet_after-quiet.ensures.quiet (c.after.ensures.quiet still)).1
+pub returns-clause-none_unsent : goal.returns-clause-none_unsent
+returns-clause-none_unsent g c =
+    λ how settled. c.end-ended.ensures.none_unsent
+    (c.is_settled_after-settled.ensures.settled (c.after.ensures.settled settled)).1

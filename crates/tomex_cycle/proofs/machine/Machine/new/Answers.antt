@@ -4,4 +4,11 @@ use Rattle.tomex_cycle.proofs.Outer.{sound_start}
 use Rattle.tomex_cycle.proofs.machine.Machine.new.Goals as goal
 
 pub invariant_of-result : goal.invariant_of-result
-invariant_of-result g c = (rw c.new.ensures (sound_start _ _ _ _ _ _ _ c.keeps_limits.ensures c.fills_its_window.ensures c.in_ok-new.ensures.start c.in_ok-new.ensures.none), omega (arith, c.in_ok-new.ensures.unworked), λ runs. known_first _ _ c.in_ok-new.ensures.empty c.new-2.ensures.wheel c.new-2.ensures.ready)
+invariant_of-result g c = (
+  rw c.new.ensures
+      (sound_start _ _ _ _ _ _ _ c.keeps_limits.ensures c.fills_its_window.ensures c.in_ok-new.ensures.start
+      c.in_ok-new.ensures.none),
+  omega (arith, c.in_ok-new.ensures.none_made),
+  λ runs. known_first _ _
+      c.in_ok-new.ensures.empty c.new-2.ensures.wheel c.new-2.ensures.unsent,
+)

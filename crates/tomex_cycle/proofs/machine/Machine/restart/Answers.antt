@@ -4,4 +4,11 @@ use Rattle.tomex_cycle.proofs.Outer.{sound_start}
 use Rattle.tomex_cycle.proofs.machine.Machine.restart.Goals as goal
 
 pub invariant_of-result : goal.invariant_of-result
-invariant_of-result g c = (rw c.new-in-Ok.ensures (sound_start _ _ _ _ _ _ _ c.keeps_limits.ensures c.fills_its_window.ensures c.in-Ok.ensures.fresh.start c.in-Ok.ensures.fresh.none), omega (arith, c.in-Ok.ensures.fresh.unworked), λ runs. known_first _ _ c.in-Ok.ensures.fresh.empty c.new.ensures.wheel c.new.ensures.ready)
+invariant_of-result g c = (
+  rw c.new-in-Ok.ensures
+      (sound_start _ _ _ _ _ _ _ c.keeps_limits.ensures c.fills_its_window.ensures c.in-Ok.ensures.fresh.start
+      c.in-Ok.ensures.fresh.none),
+  omega (arith, c.in-Ok.ensures.fresh.none_made),
+  λ runs. known_first _ _
+      c.in-Ok.ensures.fresh.empty c.new.ensures.wheel c.new.ensures.unsent,
+)

@@ -1,7 +1,7 @@
 use Rattle.std.proofs.Common.{◌≡◌, ◌≤◌, ◌-◌, max}
 use Rattle.tomex_cycle.specs.Seen.{seen, seen_after}
 use Rattle.tomex_cycle.specs.declared.progress.Progress.TheVariants.{Running}
-use Rattle.tomex_cycle.specs.Run.{EndsInTime, run_of}
+use Rattle.tomex_cycle.specs.Run.{EndsWithinLimit, run_of}
 use Rattle.tomex_cycle.proofs.Counts.{IsPaid}
 use Rattle.tomex_cycle.proofs.machine.Machine.run_to.Given as goal
 
@@ -13,8 +13,10 @@ invariant-loop-self g l = record {
   high : l.self.cycle ≤ max l.initial.self.cycle l.to;
   running : l.self.status ≡ Running;
   none : l.to ≤ l.initial.self.cycle → l.self ≡ l.initial.self;
-  ends : EndsInTime l.initial.self.image → seen l.self ≡ seen_after l.initial.self.image l.initial.self.config l.self.cycle;
-  paid : EndsInTime l.initial.self.image → IsPaid (run_of l.initial.self.config l.initial.self.image) l.to l.initial.self.cycle l.self.cycle l.initial.self.cycles_made l.self.cycles_made;
+  ends : EndsWithinLimit l.initial.self.image → seen l.self ≡ seen_after l.initial.self.image l.initial.self.config
+      l.self.cycle;
+  paid : EndsWithinLimit l.initial.self.image → IsPaid (run_of l.initial.self.config l.initial.self.image) l.to
+      l.initial.self.cycle l.self.cycle l.initial.self.cycles_made l.self.cycles_made;
 }
 
 abbrev pub decreases-loop-self : goal.decreases-loop-self

@@ -10,39 +10,62 @@ unfolding program_of
 returns-in_err-file g c =
     let p = err_from_is_err_and c.from_residual-in_err-file.result c.from_residual-in_err-file.ensures.1 in
     let known = sym (rw c.as_slice.ensures at c.in_ok-known_keys.ensures) in
-    rw (p.1, p.2) (λ other. goes_on _ _ _ _ known (goes_on _ _ _ _ c.in_ok-name.ensures.read (stops _ _ _ (c.in_err-file.ensures.read other))))
+    rw (p.1, p.2) (λ other. goes_on _ _ _ _ known
+    (goes_on _ _ _ _ c.in_ok-name.ensures.read (stops _ _ _ (c.in_err-file.ensures.read other))))
 
 pub returns-in_err-window : goal.returns-in_err-window
 unfolding program_of
 returns-in_err-window g c =
     let p = err_from_is_err_and c.from_residual-in_err-window.result c.from_residual-in_err-window.ensures.1 in
     let known = sym (rw c.as_slice.ensures at c.in_ok-known_keys.ensures) in
-    rw (p.1, p.2) (λ other. goes_on _ _ _ _ known (goes_on _ _ _ _ c.in_ok-name.ensures.read (goes_on _ _ _ _ c.in_ok-file.ensures.read (stops _ _ _ c.in_err-window.ensures))))
+    rw (p.1, p.2) (λ other. goes_on _ _ _ _ known
+    (goes_on _ _ _ _ c.in_ok-name.ensures.read
+    (goes_on _ _ _ _ c.in_ok-file.ensures.read (stops _ _ _ c.in_err-window.ensures))))
 
 pub returns-in_err-limit : goal.returns-in_err-limit
 unfolding program_of
 returns-in_err-limit g c =
     let p = err_from_is_err_and c.from_residual-in_err-limit.result c.from_residual-in_err-limit.ensures.1 in
     let known = sym (rw c.as_slice.ensures at c.in_ok-known_keys.ensures) in
-    rw (p.1, p.2) (λ other. goes_on _ _ _ _ known (goes_on _ _ _ _ c.in_ok-name.ensures.read (goes_on _ _ _ _ c.in_ok-file.ensures.read (goes_on _ _ _ _ c.in_ok-window.ensures (stops _ _ _ (sym (rw c.between.ensures at c.in_err-limit.ensures.read)))))))
+    rw (p.1, p.2) (λ other. goes_on _ _ _ _ known
+    (goes_on _ _ _ _ c.in_ok-name.ensures.read
+    (goes_on _ _ _ _ c.in_ok-file.ensures.read
+    (goes_on _ _ _ _ c.in_ok-window.ensures
+    (stops _ _ _ (sym (rw c.between.ensures at c.in_err-limit.ensures.read)))))))
 
 pub returns-in_err-watch : goal.returns-in_err-watch
 unfolding program_of
 returns-in_err-watch g c =
     let p = err_from_is_err_and c.from_residual-in_err-watch.result c.from_residual-in_err-watch.ensures.1 in
     let known = sym (rw c.as_slice.ensures at c.in_ok-known_keys.ensures) in
-    rw (p.1, p.2) (λ other. goes_on _ _ _ _ known (goes_on _ _ _ _ c.in_ok-name.ensures.read (goes_on _ _ _ _ c.in_ok-file.ensures.read (goes_on _ _ _ _ c.in_ok-window.ensures (goes_on _ _ _ _ (sym (rw c.between.ensures at c.in_ok-limit.ensures.read)) (stops _ _ _ (c.in_err-watch.ensures.read other)))))))
+    rw (p.1, p.2) (λ other. goes_on _ _ _ _ known
+    (goes_on _ _ _ _ c.in_ok-name.ensures.read
+    (goes_on _ _ _ _ c.in_ok-file.ensures.read
+    (goes_on _ _ _ _ c.in_ok-window.ensures
+    (goes_on _ _ _ _ (sym (rw c.between.ensures at c.in_ok-limit.ensures.read))
+    (stops _ _ _ (c.in_err-watch.ensures.read other)))))))
 
 pub returns-in_err-weight : goal.returns-in_err-weight
 unfolding program_of
 returns-in_err-weight g c =
     let p = err_from_is_err_and c.from_residual-in_err-weight.result c.from_residual-in_err-weight.ensures.1 in
     let known = sym (rw c.as_slice.ensures at c.in_ok-known_keys.ensures) in
-    rw (p.1, p.2) (λ other. goes_on _ _ _ _ known (goes_on _ _ _ _ c.in_ok-name.ensures.read (goes_on _ _ _ _ c.in_ok-file.ensures.read (goes_on _ _ _ _ c.in_ok-window.ensures (goes_on _ _ _ _ (sym (rw c.between.ensures at c.in_ok-limit.ensures.read)) (goes_on _ _ _ _ c.in_ok-watch.ensures.read (stops _ _ _ (sym (rw c.between-2.ensures at c.in_err-weight.ensures.read)))))))))
+    rw (p.1, p.2) (λ other. goes_on _ _ _ _ known
+    (goes_on _ _ _ _ c.in_ok-name.ensures.read
+    (goes_on _ _ _ _ c.in_ok-file.ensures.read
+    (goes_on _ _ _ _ c.in_ok-window.ensures
+    (goes_on _ _ _ _ (sym (rw c.between.ensures at c.in_ok-limit.ensures.read))
+    (goes_on _ _ _ _ c.in_ok-watch.ensures.read
+    (stops _ _ _ (sym (rw c.between-2.ensures at c.in_err-weight.ensures.read)))))))))
 
 pub returns : goal.returns
 unfolding program_of
 returns g c =
     let known = sym (rw c.as_slice.ensures at c.in_ok-known_keys.ensures) in
-    goes_on _ _ _ _ known (goes_on _ _ _ _ c.in_ok-name.ensures.read (goes_on _ _ _ _ c.in_ok-file.ensures.read (goes_on _ _ _ _ c.in_ok-window.ensures (goes_on _ _ _ _ (sym (rw c.between.ensures at c.in_ok-limit.ensures.read)) (goes_on _ _ _ _ c.in_ok-watch.ensures.read
-    (goes_on _ _ _ _ (sym (rw c.between-2.ensures at c.in_ok-weight.ensures.read)) (rw (c.new.ensures, c.has_key-weighed.ensures) refl)))))))
+    goes_on _ _ _ _ known (goes_on _ _ _ _ c.in_ok-name.ensures.read
+    (goes_on _ _ _ _ c.in_ok-file.ensures.read
+    (goes_on _ _ _ _ c.in_ok-window.ensures
+    (goes_on _ _ _ _ (sym (rw c.between.ensures at c.in_ok-limit.ensures.read))
+    (goes_on _ _ _ _ c.in_ok-watch.ensures.read
+    (goes_on _ _ _ _ (sym (rw c.between-2.ensures at c.in_ok-weight.ensures.read))
+    (rw (c.new.ensures, c.has_key-weighed.ensures) refl)))))))

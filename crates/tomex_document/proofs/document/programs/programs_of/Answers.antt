@@ -10,6 +10,7 @@ returns-in_err-entry g c =
     rw (p.1, p.2) (λ other.
     let fault = rw c.as_slice.ensures.value at (c.in_err-entry.ensures other) in
     let table = rw c.in-Some.is at c.as_table.ensures in
-    rw (← c.loop-value.invariant.1) (programs_of-fault c.loop-value.number c.loop-value.value-index c.loop-value.entries.items
+    rw (← c.loop-value.invariant.1)
+    (programs_of-fault c.loop-value.number c.loop-value.value-index c.loop-value.entries.items
     c.args.values.now c.value-item.result (table_view c.in-Some.table.now) c.in_err-entry.field-0.0
     c.loop-value-test.true c.value-item.is table fault))

@@ -6,6 +6,8 @@ use Rattle.tomex_fronts.proofs.table.Column.push.Goals as goal
 
 pub invariant_of-self-2 : goal.invariant_of-self-2
 invariant_of-self-2 c =
-    let written = c.as_bytes.ensures.value ∙ (c.in_ok-write.ensures.bytes ∙ ap (λ (t : List ℕ). t ++ decimal c.args.number) c.clear.ensures.bytes) in
-    width_more _ _ _ c.args.number _ _ _ c.in_ok-push.ensures.items c.self.invariant (ap (λ (t : List ℕ). length t) written)
+    let written = c.as_bytes.ensures.value
+    ∙ (c.in_ok-write.ensures.bytes ∙ ap (λ (t : List ℕ). t ++ decimal c.args.number) c.clear.ensures.bytes) in
+    width_more _ _ _ c.args.number _ _ _ c.in_ok-push.ensures.items c.self.invariant
+    (ap (λ (t : List ℕ). length t) written)
     c.max-self-inside.ensures

@@ -1,4 +1,5 @@
--- The front's rows are rows of the study, each column has a number for each of them, and the columns are those of the table.
+-- The front's rows are rows of the study, each column has a number for each of them, and the columns are those of the
+-- table.
 use Rattle.std.proofs.Common.{◌∙◌, sym, subst, ◌<◌, length}
 use Rattle.std.proofs.lemmas.List.Elements.{All-get_or}
 use Rattle.std.proofs.lemmas.Result.{IfOk-weaker}
@@ -17,7 +18,8 @@ push_own-requires g c =
 
 pub table_of-requires : goal.table_of-requires
 table_of-requires g c =
-    let made = c.as_slice.ensures.value ∙ all_columns c.args.study.now c.args.front.now _ _ _ c.new-columns.ensures.items
+    let made = c.as_slice.ensures.value
+    ∙ all_columns c.args.study.now c.args.front.now _ _ _ c.new-columns.ensures.items
     c.in_ok-push_own.ensures c.in_ok-push_programs.ensures in
     λ k d within. All-get_or (HasNumbers c.args.front.now) _ k d within
     (subst (All (HasNumbers c.args.front.now)) (sym made) (columns_long c.args.study.now c.args.front.now))

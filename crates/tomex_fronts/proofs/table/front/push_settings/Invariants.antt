@@ -6,4 +6,5 @@ use Rattle.tomex_fronts.proofs.table.front.push_settings.Given as goal
 
 abbrev pub invariant-loop-setting : goal.invariant-loop-setting
 invariant-loop-setting g l =
-    l.columns.items ≡ l.fn.columns.items ++ flat_map (setting_columns l.study l.front) (take l.setting-index all_settings)
+    l.columns.items ≡ l.fn.columns.items
+    ++ flat_map (setting_columns l.study l.front) (take l.setting-index all_settings)

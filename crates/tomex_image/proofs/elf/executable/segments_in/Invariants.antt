@@ -8,8 +8,10 @@ use Rattle.tomex_image.proofs.elf.executable.segments_in.Given as goal
 abbrev pub invariant-loop-k : goal.invariant-loop-k
 invariant-loop-k l = record {
   offset : l.offset ≡ l.fn.table.offset + 32 * l._k;
-  tests : first_failing (tests_from l.window (length l.bytes) l.entry [] (headers_from l.bytes l.fn.table.offset l.fn.table.count))
-      ≡ first_failing (tests_from l.window (length l.bytes) l.entry l.segments (headers_from l.bytes l.offset (l.fn.table.count - l._k)));
+  tests : first_failing (tests_from l.window (length l.bytes) l.entry []
+      (headers_from l.bytes l.fn.table.offset l.fn.table.count))
+      ≡ first_failing (tests_from l.window (length l.bytes) l.entry l.segments
+      (headers_from l.bytes l.offset (l.fn.table.count - l._k)));
   segments : segments_from [] (headers_from l.bytes l.fn.table.offset l.fn.table.count)
       ≡ segments_from l.segments (headers_from l.bytes l.offset (l.fn.table.count - l._k));
 }

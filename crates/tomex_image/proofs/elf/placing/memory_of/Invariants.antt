@@ -11,5 +11,6 @@ abbrev pub invariant-loop-left : goal.invariant-loop-left
 invariant-loop-left g l = record {
   within : l.left ≤ length l.segments;
   filled : length l.memory.items ≡ l.window.size;
-  placed : (k : ℕ) → k < l.window.size → slice_index l.memory.items k ≡ byte_of l.bytes (drop l.left l.segments) (l.window.base + k);
+  placed : (k : ℕ) → k < l.window.size → slice_index l.memory.items k ≡ byte_of l.bytes (drop l.left l.segments)
+      (l.window.base + k);
 }

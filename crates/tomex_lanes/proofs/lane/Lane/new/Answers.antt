@@ -9,5 +9,6 @@ pub invariant_of-result : goal.invariant_of-result
 invariant_of-result g c = (
   c.in_ok-own.ensures ∙ sym c.in_ok-rows.ensures,
   subst (AreBelow c.args.count) (sym c.in_ok-rows.ensures) (rows_of-below c.args.workers c.args.worker c.args.count),
-  subst (All (λ rows. AreBelow c.args.count rows)) (sym c.new-others.ensures.items) (All-nil (λ rows. AreBelow c.args.count rows)),
+  subst (All (λ rows. AreBelow c.args.count rows)) (sym c.new-others.ensures.items)
+      (All-nil (λ rows. AreBelow c.args.count rows)),
 )

@@ -6,4 +6,5 @@ use Rattle.tomex_line.proofs.line.described.offering.Goals as goal
 pub returns : goal.returns
 returns c =
     let plain = rw c.in_ok-command.was at c.requires in
-    rw (c.in_ok-program.was, c.in_ok-command.was) (IfOk-weaker c.subcommand.result _ _ (λ made added. added.shape (no_globals _ plain)) c.subcommand.ensures)
+    rw (c.in_ok-program.was, c.in_ok-command.was)
+    (IfOk-weaker c.subcommand.result _ _ (λ made added. added.shape (no_globals _ plain)) c.subcommand.ensures)

@@ -15,7 +15,8 @@ abbrev Gives : List ℕ → Result ℕ ParseIntError → Type 0
 Gives bs r = ParsesUnsigned 32 10 bs r × ExplainsUnsignedError 10 bs r × HasUnsignedDigitsIfOk bs r
 
 number_read : (f : Found) (id : Text) (read : Option ℕ) (number : ℕ) → (one_text f id ≡ None → read ≡ None)
-    → ((t : List ℕ) → one_text f id ≡ Some t → ReadsOne Gives t read) → read ≡ Some number → IsNumber (rows_of f) id number
+    → ((t : List ℕ) → one_text f id ≡ Some t → ReadsOne Gives t read) → read ≡ Some number
+    → IsNumber (rows_of f) id number
 number_read f id read number none value is = go (one_text f id) refl
   where
     go : (o : Option (List ℕ)) → one_text f id ≡ o → IsNumber (rows_of f) id number
@@ -24,7 +25,8 @@ number_read f id read number none value is = go (one_text f id) refl
 
 pub returns-in-Some-clause-number : goal.returns-in-Some-clause-number
 returns-in-Some-clause-number c =
-    number_read (found_of c.args.matches.now) c.args.name.now c.get_one.result c.in-Some.number c.get_one.ensures.none c.get_one.ensures.value c.in-Some.is
+    number_read (found_of c.args.matches.now) c.args.name.now c.get_one.result c.in-Some.number c.get_one.ensures.none
+    c.get_one.ensures.value c.in-Some.is
 
 pub returns-in-Some-clause-within : goal.returns-in-Some-clause-within
 returns-in-Some-clause-within c = search rules fits 100

@@ -19,6 +19,10 @@ has_latency p config unit = is_within (latencies_of p unit) (option_of config un
 
 pub returns-then-all : goal.returns-then-all
 returns-then-all c =
-    let parts : c.all.result ≡ list_all (has_count c.args.self.now c.args.config.now) all_parts = all_from_yields_List (has_count c.args.self.now c.args.config.now) _ _ c.all.result c.all.ensures.ran (YieldsList-from_slice all_parts cc) (λ x b q k. search (rules, tests)) in
-    let units : c.all-then-all.result ≡ list_all (has_latency c.args.self.now c.args.config.now) all_units = all_from_yields_List (has_latency c.args.self.now c.args.config.now) _ _ c.all-then-all.result c.all-then-all.ensures.ran (YieldsList-from_slice all_units cc) (λ x b q k. search (rules, tests)) in
+    let parts : c.all.result ≡ list_all (has_count c.args.self.now c.args.config.now) all_parts =
+    all_from_yields_List (has_count c.args.self.now c.args.config.now) _ _ c.all.result c.all.ensures.ran
+    (YieldsList-from_slice all_parts cc) (λ x b q k. search (rules, tests)) in
+    let units : c.all-then-all.result ≡ list_all (has_latency c.args.self.now c.args.config.now) all_units =
+    all_from_yields_List (has_latency c.args.self.now c.args.config.now) _ _ c.all-then-all.result
+    c.all-then-all.ensures.ran (YieldsList-from_slice all_units cc) (λ x b q k. search (rules, tests)) in
     rw (← parts, c.if-all.true) units

@@ -8,5 +8,5 @@ returns-clause-hand g c = search rules fits 100
 pub run_row-requires-clause-hand : goal.run_row-requires-clause-hand
 run_row-requires-clause-hand g c = search rules fits 100
 
-pub returns-clause-noted : goal.returns-clause-noted
-returns-clause-noted g c = grind (arith, common_steps)
+pub returns-clause-not_open : goal.returns-clause-not_open
+returns-clause-not_open g c = grind (arith, common_steps)

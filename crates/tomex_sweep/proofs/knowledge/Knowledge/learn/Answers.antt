@@ -1,7 +1,6 @@
 -- One total more is known, or is known not to be.
-use Rattle.std.proofs.Common.{◌≡◌, ◌∙◌, List, subst}
-use Rattle.tomex_sweep.specs.Known.{IsTotalAt}
-use Rattle.tomex_study.specs.Program.{Workload}
+use Rattle.std.proofs.Common.{◌≡◌, ◌∙◌, subst}
+use Rattle.tomex_sweep.specs.Knowledge.{IsTotalAt, KnowledgeOf}
 use Rattle.tomex_sweep.proofs.Knowing.{one_known}
 use Rattle.tomex_sweep.proofs.knowledge.Knowledge.learn.Goals as goal
 
@@ -11,5 +10,6 @@ loop-place-preserved g c =
     record {
       same = same;
       totals = one_known _ _ _ c.loop-place.place c.in_ok-totals.field-0 c.loop-place.invariant.totals
-          (subst (λ (ps : List Workload). IsTotalAt ps c.args.config.now c.loop-place.place c.in_ok-totals.field-0) same c.in_ok-totals.ensures.total);
+          (subst (λ (k : KnowledgeOf). IsTotalAt k.programs c.args.config.now c.loop-place.place c.in_ok-totals.field-0)
+          same c.in_ok-totals.ensures.total);
     }

@@ -9,11 +9,13 @@ use Rattle.tomex_sweep.proofs.row_run.RowRun.new.Goals as goal
 pub new-requires-2-clause-known : goal.new-requires-2-clause-known
 new-requires-2-clause-known g c =
     first_known c.args.programs.now c.args.config.now c.args.totals c.index-programs-0.result _ c.requires.totals
-    (slice_get_read c.args.programs.now _ 0 c.index-programs-0.result refl c.requires.some c.index-programs-0.is) c.image-image.ensures.value
+    (slice_get_read c.args.programs.now _ 0 c.index-programs-0.result refl c.requires.some c.index-programs-0.is)
+    c.image-image.ensures.value
 
 pub invariant_of-result : goal.invariant_of-result
 invariant_of-result g c = (
-  first_going c.args.programs.now c.args.config.now c.index-programs-0.result (seen c.new-2.result) c.requires.ends c.keeps_limits.ensures c.requires.few
+  first_going c.args.programs.now c.args.config.now c.index-programs-0.result (seen c.new-2.result) c.requires.ends
+      c.keeps_limits.ensures c.requires.few
       (slice_get_read c.args.programs.now _ 0 c.index-programs-0.result refl c.requires.some c.index-programs-0.is)
       (rw c.image-image.ensures.value at c.new-2.ensures),
   c.requires.totals,

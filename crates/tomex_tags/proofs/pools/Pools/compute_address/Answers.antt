@@ -10,18 +10,37 @@ pub invariant_of-self : goal.invariant_of-self
 invariant_of-self c =
     let at = rw (← c.self.view_is) at (sym c.at.ensures.value ∙ c.in-Some.is) in
     let low = c.at.ensures.low (rw c.in-Some.is refl) in
-    rw (c.address.ensures, at_place c.self.inside.pools c.args.place c.index-self-place.result c.self.invariant.six low ∙ at) (filled_by c.self.inside.pools c.self.inside.busy c.self.inside.busy c.self.inside.issue_numbers c.self.inside.issue_numbers c.args.place c.index-self-place.result (Some (with_address c.in-Some.station)) c.self.inside.wait_sets c.address-in-Some.new.self c.self.inside.listeners.sets c.self.inside.listeners.sets c.self.invariant low c.self.invariant.filled.order_count c.self.invariant.filled.small
-    (said_same c.self.inside.busy c.args.place (Some (with_address c.in-Some.station)) (c.self.invariant.filled.each c.args.place (omega arith) ∙ ap is_some at))
-    (address_entered _ c.args.place c.in-Some.station (with_address c.in-Some.station) c.self.inside.wait_sets c.address-in-Some.new.self (omega arith) c.self.invariant.wait_sets at refl c.address-in-Some.ensures.lacking c.address-in-Some.ensures.waiting c.address-in-Some.ensures.others)
+    rw (
+      c.address.ensures,
+      at_place c.self.inside.pools c.args.place c.index-self-place.result c.self.invariant.six low
+          ∙ at,
+    ) (filled_by c.self.inside.pools c.self.inside.busy c.self.inside.busy c.self.inside.issue_numbers
+    c.self.inside.issue_numbers c.args.place c.index-self-place.result (Some (with_address c.in-Some.station))
+    c.self.inside.wait_sets c.address-in-Some.new.self c.self.inside.listeners.sets c.self.inside.listeners.sets
+    c.self.invariant low c.self.invariant.filled.order_count c.self.invariant.filled.small
+    (said_same c.self.inside.busy c.args.place (Some (with_address c.in-Some.station))
+    (c.self.invariant.filled.each c.args.place (omega arith) ∙ ap is_some at))
+    (address_entered _ c.args.place c.in-Some.station (with_address c.in-Some.station) c.self.inside.wait_sets
+    c.address-in-Some.new.self (omega arith) c.self.invariant.wait_sets at refl c.address-in-Some.ensures.lacking
+    c.address-in-Some.ensures.waiting c.address-in-Some.ensures.others)
     (address_own c.args.place c.in-Some.station (own_here _ c.args.place c.in-Some.station low c.self.invariant.own at))
-    (same_listens _ c.args.place c.in-Some.station (with_address c.in-Some.station) c.self.inside.listeners.sets low c.self.invariant.listening at (address_same c.in-Some.station)))
+    (same_listens _ c.args.place c.in-Some.station (with_address c.in-Some.station) c.self.inside.listeners.sets low
+    c.self.invariant.listening at (address_same c.in-Some.station)))
 
 pub returns-in-Some : goal.returns-in-Some
 returns-in-Some c =
     let at = rw (← c.self.view_is) at (sym c.at.ensures.value ∙ c.in-Some.is) in
     let low = c.at.ensures.low (rw c.in-Some.is refl) in
     record {
-      slots = rw (c.address.ensures, at_place c.self.inside.pools c.args.place c.index-self-place.result c.self.invariant.six low ∙ at, ← c.self.view_is, at) (set_place c.self.inside.pools c.args.place c.index-self-place.result (Some (with_address c.in-Some.station)) c.self.invariant.six low);
+      slots = rw (
+        c.address.ensures,
+        at_place c.self.inside.pools c.args.place c.index-self-place.result
+            c.self.invariant.six low ∙ at,
+        ← c.self.view_is,
+        at,
+      )
+          (set_place c.self.inside.pools c.args.place c.index-self-place.result (Some (with_address c.in-Some.station))
+          c.self.invariant.six low);
       busy = search rules;
       issue_numbers = search rules;
     }

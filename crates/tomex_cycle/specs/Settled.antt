@@ -1,11 +1,11 @@
--- Cycles after which nothing happens until an operation finishes.
+-- Settled cycles. Nothing happens after one before the next operation finishes: that follows, by the recurrence.
 use Rattle.std.specs.Prelude.{ℕ, ◌≢◌, ◌+◌, List}
 use Rattle.std.specs.List.{AllByRecursion}
 use Rattle.tomex_timing.specs.declared.times.Done.{Done}
 use Rattle.tomex_timing.specs.History.{cycle_of}
 
--- the step may start in the cycle, nothing else of it falls there, and it neither issues nor starts in the next one
-pub record IsQuiet (u : ℕ) (d : Done) : Type 0 where
+-- of the step nothing but its start may fall in the cycle, and it neither issues nor starts in the next one
+pub record IsSettled (u : ℕ) (d : Done) : Type 0 where
   pub issue : d.at.issue ≢ u
   pub address : cycle_of d.at.address ≢ u
   pub finish : d.at.finish ≢ u
@@ -13,5 +13,5 @@ pub record IsQuiet (u : ℕ) (d : Done) : Type 0 where
   pub no_issue_next : d.at.issue ≢ u + 1
   pub no_start_next : d.at.start ≢ u + 1
 
-abbrev pub AllQuiet : ℕ → List Done → Type 0
-AllQuiet u h = AllByRecursion (IsQuiet u) h
+abbrev pub AllSettled : ℕ → List Done → Type 0
+AllSettled u h = AllByRecursion (IsSettled u) h

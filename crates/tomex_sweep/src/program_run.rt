@@ -1,8 +1,7 @@
 //! The run of one program after another on one configuration after another, in the memory that the first one took.
 
 ghost use Rattle.std.specs.Prelude.{◌≡◌, ◌≤◌, ◌^◌, max, OnErr, OnOk, IfSome};
-ghost use Rattle.tomex_rvexec.specs.Run.{EndsWithin};
-ghost use Rattle.tomex_cycle.specs.Run.{total};
+ghost use Rattle.tomex_cycle.specs.Run.{EndsWithinLimit, total};
 ghost use Rattle.tomex_cycle.specs.Seen.{before_first_cycle, is_end, seen, seen_after};
 
 use crate::spared::Spared;
@@ -15,7 +14,7 @@ use tomex_image::Image;
 /// The run of the program at hand: by the machine, or spared where its total is known. A new machine is made of the
 /// old one, which is handed over for that.
 #[derive(Drop)]
-pub(crate) struct Reused<'s, A: Allocator> {
+pub(crate) struct ProgramRun<'s, A: Allocator> {
     image: &'s Image<A>,
     config: &'s Config,
     /// There is one but for the moment in which it is handed over.
@@ -24,18 +23,18 @@ pub(crate) struct Reused<'s, A: Allocator> {
     spared: Option<Spared>,
 }
 
-impl<'s, A: Allocator> Model for Reused<'s, A> {
+impl<'s, A: Allocator> Model for ProgramRun<'s, A> {
     ghost use Rattle.tomex_cycle.specs.Seen.{Machine};
-    ghost use Rattle.tomex_sweep.specs.Reused.{run_in, IsReused};
+    ghost use Rattle.tomex_sweep.specs.ProgramRun.{run_in, IsProgramRun};
 
     ghost Value = { Machine };
 
     ghost view = { λ r. run_in r.image.now r.config.now r.machine r.spared };
 
-    ghost invariant = { λ r. IsReused r.image.now r.config.now r.machine r.spared };
+    ghost invariant = { λ r. IsProgramRun r.image.now r.config.now r.machine r.spared };
 }
 
-impl<'s, A: Allocator> Reused<'s, A> {
+impl<'s, A: Allocator> ProgramRun<'s, A> {
     /// The run of this image on this configuration, before its first cycle: spared if its total is known, else by
     /// that machine.
     pub(crate) fn new(
@@ -43,12 +42,12 @@ impl<'s, A: Allocator> Reused<'s, A> {
         image: &'s Image<A>,
         config: &'s Config,
         known: Option<u64>,
-    ) -> Reused<'s, A>
+    ) -> ProgramRun<'s, A>
         requires fresh { seen machine ≡ before_first_cycle image.now config.now }
         requires known { IfSome known (λ n. total config.now image.now ≡ n) }
         ensures { seen result ≡ before_first_cycle image.now config.now }
     {
-        Reused {
+        ProgramRun {
             image,
             config,
             machine: Some(machine),
@@ -113,7 +112,7 @@ impl<'s, A: Allocator> Reused<'s, A> {
     /// Goes on to a cycle, or to the run's end if that comes first.
     pub(crate) fn advance(&mut self, to: u64)
         requires { to ≤ 2 ^ 40 }
-        ensures { EndsWithin self.old.image 262144
+        ensures { EndsWithinLimit self.old.image
             → seen self.new ≡ seen_after self.old.image self.old.config (max self.old.cycle to) }
     {
         if let Some(spared) = self.spared {
@@ -125,7 +124,7 @@ impl<'s, A: Allocator> Reused<'s, A> {
         }
     }
 
-    /// The cycle that was made last.
+    /// The cycle that the run has reached.
     pub(crate) fn cycle(&self) -> u64
         ensures { result ≡ self.now.cycle }
     {

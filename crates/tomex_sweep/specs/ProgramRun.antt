@@ -31,7 +31,7 @@ run_in image config machine (Some s) =
     }
 
 -- there is a machine, and what is spared has the run's total
-pub record IsReused (image : Loaded) (config : Configuration) (machine : Option Machine) (spared : Option Spared)
+pub record IsProgramRun (image : Loaded) (config : Configuration) (machine : Option Machine) (spared : Option Spared)
     : Type 0 where
   pub some : IsSome machine
   pub known : IfSome spared (λ s. total config image ≡ s.total)
