@@ -7,7 +7,7 @@ use Rattle.std.proofs.lemmas.List.{length-map}
 use Rattle.std.proofs.lemmas.List.Elements.{All-append, All-cons, All-nil}
 use Rattle.tomex_study.specs.Program.{Workload}
 use Rattle.tomex_study.specs.Study.{DesignSpace}
-use Rattle.tomex_sweep.specs.declared.front_row.FrontRow.{FrontRow}
+use Rattle.tomex_pareto.specs.declared.front_row.FrontRow.{FrontRow}
 use Rattle.tomex_fronts.specs.FrontTable.{all_settings, cycles_on, differs, heading_column, own_columns, program_column}
 use Rattle.tomex_fronts.specs.FrontTable.{program_columns, setting_columns}
 use Rattle.tomex_fronts.specs.declared.table.heading.Heading.{Heading}

@@ -5,9 +5,9 @@ use Rattle.std.specs.Prelude.{ℕ, ◌+◌, ◌-◌, ◌*◌, ◌==◌, nat_le, 
 use Rattle.std.specs.Prelude.{List, [], ◌∷◌, ◌++◌, codes, length, Option, Some, None}
 use Rattle.std.specs.List.{flat_map, range_with_len}
 use Rattle.std.specs.Fmt.{decimal}
-use Rattle.tomex_sweep.specs.Front.{front_of_study}
+use Rattle.tomex_runs.specs.StudyFront.{front_of_study}
 use Rattle.tomex_study.specs.Study.{DesignSpace}
-use Rattle.tomex_sweep.specs.declared.front_row.FrontRow.{FrontRow}
+use Rattle.tomex_pareto.specs.declared.front_row.FrontRow.{FrontRow}
 use Rattle.tomex_fronts.specs.Axes.{axes_of, new_quarter, point_of, x_of, y_of}
 use Rattle.tomex_fronts.specs.declared.plot.axes.Axes.{Axes}
 use Rattle.tomex_fronts.specs.declared.plot.axes.Point.{Point}

@@ -1,7 +1,7 @@
 //! The front as one picture in SVG.
 
 ghost use Rattle.std.specs.Prelude.{◌≡◌, ◌++◌, length, OnOk, IfOk, string_bytes};
-ghost use Rattle.tomex_sweep.specs.Front.{front_of_study};
+ghost use Rattle.tomex_runs.specs.StudyFront.{front_of_study};
 ghost use Rattle.tomex_fronts.specs.Plot.{front_picture_of, lines_text, picture_of_rows, rows_text};
 ghost use Rattle.tomex_fronts.specs.Plot.{scales_text, shade, sheet, size_text, title_of};
 
@@ -17,7 +17,7 @@ use stairs::push_staircase;
 use std::alloc::{AllocError, Allocator, Global};
 use std::fmt::Write;
 use tomex_study::Study;
-use tomex_sweep::FrontRow;
+use tomex_pareto::FrontRow;
 
 /// Adds a piece of text.
 fn push<A: Allocator>(text: &mut String<A>, piece: &str) -> Result<(), AllocError>

@@ -10,7 +10,7 @@ use Rattle.tomex_config.specs.Configuration.{Configuration, plain}
 use Rattle.tomex_cycle.specs.Run.{total}
 use Rattle.tomex_study.specs.Program.{Workload}
 use Rattle.tomex_study.specs.Study.{DesignSpace}
-use Rattle.tomex_sweep.specs.declared.front_row.FrontRow.{FrontRow}
+use Rattle.tomex_pareto.specs.declared.front_row.FrontRow.{FrontRow}
 use Rattle.tomex_fronts.specs.FrontTable.{config_of}
 use Rattle.tomex_fronts.proofs.Loops.{item_more}
 use Rattle.tomex_fronts.proofs.Zips.{at_both}

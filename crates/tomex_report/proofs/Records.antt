@@ -14,7 +14,7 @@ use Rattle.tomex_config.specs.Cost.{all_units}
 use Rattle.tomex_study.specs.Program.{IsProgram, Workload}
 use Rattle.tomex_study.specs.Study.{DesignSpace}
 use Rattle.tomex_study.specs.Watch.{watched_bytes}
-use Rattle.tomex_sweep.specs.declared.front_row.FrontRow.{FrontRow}
+use Rattle.tomex_pareto.specs.declared.front_row.FrontRow.{FrontRow}
 use Rattle.tomex_study.specs.declared.watch.WatchRange.{WatchRange}
 use Rattle.tomex_report.specs.declared.ends.ProgramEnd.{ProgramEnd}
 use Rattle.tomex_report.specs.Ends.{IsProgramEnd, last_state}

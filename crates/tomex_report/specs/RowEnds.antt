@@ -3,7 +3,7 @@ use Rattle.std.specs.Prelude.{◌≡◌, Some, slice_get}
 use Rattle.std.specs.List.{AllZip}
 use Rattle.tomex_config.specs.Configuration.{Configuration}
 use Rattle.tomex_study.specs.Study.{DesignSpace}
-use Rattle.tomex_sweep.specs.declared.front_row.FrontRow.{FrontRow}
+use Rattle.tomex_pareto.specs.declared.front_row.FrontRow.{FrontRow}
 use Rattle.tomex_report.specs.declared.row_ends.RowEnds.{RowEnds}
 use Rattle.tomex_report.specs.Ends.{IsProgramEnd}
 

@@ -2,7 +2,7 @@
 
 ghost use Rattle.std.specs.Prelude.{◌≡◌, ◌++◌, IfOk, OnOk};
 ghost use Rattle.std.specs.List.{AllZip, flat_map};
-ghost use Rattle.tomex_sweep.specs.Front.{front_of_study};
+ghost use Rattle.tomex_runs.specs.StudyFront.{front_of_study};
 ghost use Rattle.tomex_records.specs.Csv.{IsReady, written};
 ghost use Rattle.tomex_report.specs.Ends.{IsProgramEnd};
 ghost use Rattle.tomex_report.specs.RowEnds.{AreEndsOf};

@@ -9,12 +9,12 @@ use Rattle.tomex_board.specs.Views.{Has, KnowsNotOpen, Grows, without}
 use Rattle.tomex_board.proofs.Closes.{grows_on}
 use Rattle.tomex_config.specs.Configuration.{Configuration}
 use Rattle.tomex_study.specs.Study.{DesignSpace, IsStudy}
-use Rattle.tomex_sweep.specs.Cycles.{cycles_on, cycles_of}
+use Rattle.tomex_runs.specs.Cycles.{cycles_on, cycles_of}
 use Rattle.tomex_sweep.specs.Plans.{IsPlanOf}
 use Rattle.tomex_sweep.specs.Seats.{Continues}
-use Rattle.tomex_sweep.specs.Stops.{Going, IsNearer, stop_at}
-use Rattle.tomex_sweep.specs.declared.stop.Stop.{Stop}
-use Rattle.tomex_sweep.specs.declared.stop.Stop.TheVariants.{Look, Over}
+use Rattle.tomex_runs.specs.Stops.{Going, IsNearer, stop_at}
+use Rattle.tomex_runs.specs.declared.stop.Stop.{Stop}
+use Rattle.tomex_runs.specs.declared.stop.Stop.TheVariants.{Look, Over}
 use Rattle.tomex_sweep.proofs.Verdicts.{cycles_at, look_near, over_is}
 
 -- nothing has happened to a seat

@@ -6,16 +6,18 @@ use Rattle.std.proofs.lemmas.List.{length-map}
 use Rattle.tomex_config.specs.Configuration.{Configuration}
 use Rattle.tomex_study.specs.Study.{DesignSpace, IsStudy}
 use Rattle.tomex_study.specs.Program.{Workload}
-use Rattle.tomex_sweep.specs.Cycles.{cycles_on, cycles_of, plain_on, weighed}
-use Rattle.tomex_sweep.specs.Front.{front_of, front_of_study}
-use Rattle.tomex_sweep.specs.Marks.{AreJudged, finished_from}
+use Rattle.tomex_runs.specs.Cycles.{cycles_on, cycles_of, plain_on, weighed}
+use Rattle.tomex_pareto.specs.Finished.{finished_from}
+use Rattle.tomex_pareto.specs.Front.{front_of}
+use Rattle.tomex_runs.specs.StudyFront.{front_of_study}
+use Rattle.tomex_sweep.specs.Marks.{AreJudged}
 use Rattle.tomex_lanes.specs.Parts.{is_closed}
-use Rattle.tomex_sweep.specs.Stops.{Going, IsNearer, stop_at}
-use Rattle.tomex_sweep.specs.declared.front_row.FrontRow.{FrontRow}
+use Rattle.tomex_runs.specs.Stops.{Going, IsNearer, stop_at}
+use Rattle.tomex_pareto.specs.declared.front_row.FrontRow.{FrontRow}
 use Rattle.tomex_board.specs.declared.mark.Mark.{Mark}
 use Rattle.tomex_board.specs.declared.mark.Mark.TheVariants.{Finished, Dropped}
-use Rattle.tomex_sweep.specs.declared.stop.Stop.{Stop}
-use Rattle.tomex_sweep.specs.declared.stop.Stop.TheVariants.{Look, Over}
+use Rattle.tomex_runs.specs.declared.stop.Stop.{Stop}
+use Rattle.tomex_runs.specs.declared.stop.Stop.TheVariants.{Look, Over}
 use Rattle.tomex_sweep.proofs.Judged.{same_front}
 
 stop_over : (ps : List Workload) (config : Configuration) (n : ℕ) → plain_on ps config ≤ n

@@ -1,15 +1,8 @@
--- What contracts cite: the cycles that configurations take, marks of rows, and the front.
-pub mod Cycles
+-- What contracts cite: the plan of a study's board, workers and what they owe, and marks of rows.
 pub mod Plans
 pub mod Seats
 pub mod Crews
-pub mod Front
-pub mod Pareto
-pub mod Passing
 pub mod Marks
-pub mod Stops
-pub mod ProgramRun
-pub mod Knowledge
 pub use Rattle.tomex_image.specs.Image
 pub use Rattle.tomex_rvexec.specs.Run
 pub use Rattle.tomex_config.specs.Configuration
@@ -17,3 +10,7 @@ pub use Rattle.tomex_config.specs.Cost
 pub use Rattle.tomex_study.specs.Program
 pub use Rattle.tomex_study.specs.Study
 pub use Rattle.tomex_study.specs.Watch
+pub use Rattle.tomex_pareto.specs.Front
+pub use Rattle.tomex_pareto.specs.Pareto
+pub use Rattle.tomex_runs.specs.Cycles
+pub use Rattle.tomex_runs.specs.StudyFront

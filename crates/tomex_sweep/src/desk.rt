@@ -2,17 +2,15 @@
 
 ghost use Rattle.std.specs.Prelude.{◌≡◌, ◌<◌, ◌∷◌, [], length, count_by, take, is_some, not, IfOk, OnOk, All};
 ghost use Rattle.tomex_board.specs.Views.{KnowsNotOpen};
-ghost use Rattle.tomex_sweep.specs.Knowledge.{AreTotalsOn};
+ghost use Rattle.tomex_runs.specs.Knowledge.{AreTotalsOn};
 ghost use Rattle.tomex_sweep.specs.Plans.{IsPlanOf};
 ghost use Rattle.tomex_sweep.specs.Seats.{Continues};
 
 use crate::gate::Gate;
-use crate::knowledge::Knowledge;
-use crate::runs::Runs;
-use crate::stop::Stop;
 use std::alloc::{AllocError, Allocator};
 use tomex_board::{Board, Plan, Seat};
 use tomex_lanes::Lane;
+use tomex_runs::{Knowledge, Runs, Stop};
 use tomex_study::Study;
 
 /// What a worker works with: the study, the board that it shares with the others, whom it reports its runs

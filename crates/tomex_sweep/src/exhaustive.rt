@@ -1,17 +1,17 @@
 //! The exploration that runs each configuration to its end.
 
 ghost use Rattle.std.specs.Prelude.{◌≡◌, map, IfOk, IfErr};
-ghost use Rattle.tomex_sweep.specs.Cycles.{cycles_of};
-ghost use Rattle.tomex_sweep.specs.Front.{front_of_study};
+ghost use Rattle.tomex_runs.specs.Cycles.{cycles_of};
+ghost use Rattle.tomex_runs.specs.StudyFront.{front_of_study};
 ghost use Rattle.tomex_board.specs.declared.mark.Mark.TheVariants.{Finished};
 ghost use Rattle.tomex_sweep.specs.declared.outcome.SweepError.TheVariants.{Memory};
 
-use crate::fronts::front;
 use crate::gate::{Gate, OpenGate};
 use crate::outcome::{Outcome, SweepError};
-use crate::runs::Runs;
 use std::alloc::Allocator;
 use tomex_board::Mark;
+use tomex_pareto::front;
+use tomex_runs::Runs;
 use tomex_study::Study;
 
 /// `run_all` with a gate, which is told of worker 0 alone.

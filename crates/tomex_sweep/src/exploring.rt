@@ -1,13 +1,12 @@
 //! Explorations.
 
 ghost use Rattle.std.specs.Prelude.{◌≡◌, ◌≤◌, IfOk};
-ghost use Rattle.tomex_sweep.specs.Cycles.{cycles_of};
-ghost use Rattle.tomex_sweep.specs.Front.{front_of_study};
+ghost use Rattle.tomex_runs.specs.Cycles.{cycles_of};
+ghost use Rattle.tomex_runs.specs.StudyFront.{front_of_study};
 ghost use Rattle.tomex_sweep.specs.Marks.{AreJudged};
 ghost use Rattle.tomex_sweep.specs.Plans.{IsPlanOf};
 
 use crate::crew::run_workers;
-use crate::fronts::front;
 use crate::gate::Gate;
 use crate::leftovers::gather;
 use crate::outcome::{Outcome, SweepError};
@@ -18,6 +17,7 @@ use std::sync::Wait;
 use std::thread::Threads;
 use tomex_board::{Board, Plan};
 use tomex_lanes::{deal, seated, settle};
+use tomex_pareto::front;
 use tomex_study::Study;
 
 /// An exploration over a board that is made for the study's costs and cycles.

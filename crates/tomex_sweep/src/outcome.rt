@@ -3,10 +3,10 @@
 ghost use Rattle.std.specs.Prelude.{◌≡◌};
 ghost use Rattle.tomex_sweep.specs.declared.outcome.SweepError.TheVariants.{Memory};
 
-use crate::front_row::FrontRow;
 use std::alloc::{AllocError, AllocFailed, Allocator, Global};
 use thiserror::Error;
 use tomex_board::Mark;
+use tomex_pareto::FrontRow;
 
 /// The marks and the front of a study's rows.
 #[derive(Debug, Drop)]

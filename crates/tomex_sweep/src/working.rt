@@ -5,11 +5,10 @@ ghost use Rattle.tomex_sweep.specs.Plans.{IsPlanOf};
 
 use crate::desk::Desk;
 use crate::gate::Gate;
-use crate::knowledge::Knowledge;
-use crate::runs::Runs;
 use std::alloc::{AllocError, Allocator};
 use tomex_board::{Board, Plan, Seat};
 use tomex_lanes::{Lane, Part};
+use tomex_runs::{Knowledge, Runs};
 use tomex_study::Study;
 
 /// All that a worker does: it takes rows until it gets none, its own first, then those that it steals;

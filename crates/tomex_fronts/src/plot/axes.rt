@@ -5,7 +5,7 @@ ghost use Rattle.std.specs.List.{fold};
 ghost use Rattle.tomex_fronts.specs.Axes.{along, axes_of, new_quarter, only, point_of};
 ghost use Rattle.tomex_fronts.specs.Axes.{quarter, widened, with_row, x_of, y_of};
 
-use tomex_sweep::FrontRow;
+use tomex_pareto::FrontRow;
 
 /// The values of an axis.
 #[derive(Clone, Copy)]

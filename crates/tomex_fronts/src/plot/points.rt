@@ -8,7 +8,7 @@ ghost use Rattle.tomex_fronts.specs.Plot.{numbers_of, radius_of, row_title};
 use crate::plot::axes::{Axes, Point};
 use std::alloc::{AllocError, Allocator, Global};
 use std::fmt::Write;
-use tomex_sweep::FrontRow;
+use tomex_pareto::FrontRow;
 
 /// A point whose row's number stands beside it.
 #[derive(Clone, Copy)]

@@ -6,7 +6,7 @@ ghost use Rattle.tomex_fronts.specs.Plot.{move_to, staircase, steps_down};
 use crate::plot::axes::{Axes, Point};
 use std::alloc::{AllocError, Allocator};
 use std::fmt::Write;
-use tomex_sweep::FrontRow;
+use tomex_pareto::FrontRow;
 
 /// Adds a move to the right, unless it has no length.
 #[tactic(auto, unfolding(crate::specs::Plot::move_to))]

@@ -2,7 +2,7 @@
 
 ghost use Rattle.std.specs.Prelude.{◌≡◌, ◌<◌, ◌++◌, length, map, All, IfOk, OnOk};
 ghost use Rattle.std.specs.List.{AllZip, flat_map};
-ghost use Rattle.tomex_sweep.specs.Front.{front_of_study};
+ghost use Rattle.tomex_runs.specs.StudyFront.{front_of_study};
 ghost use Rattle.tomex_fronts.specs.FrontTable.{all_settings, cycles_on, front_table_of, heading_column};
 ghost use Rattle.tomex_fronts.specs.FrontTable.{number_under, own_columns, program_column, program_columns};
 ghost use Rattle.tomex_fronts.specs.FrontTable.{setting_columns};
@@ -11,7 +11,7 @@ use super::heading::{Heading, Setting};
 use super::{Column, table_of};
 use std::alloc::{AllocError, Allocator, Global};
 use tomex_study::Study;
-use tomex_sweep::FrontRow;
+use tomex_pareto::FrontRow;
 
 /// What a front row has under a heading.
 #[tactic(auto, unfolding(crate::specs::FrontTable::number_under))]

@@ -1,5 +1,5 @@
 -- The board is made for the study's own costs and cycles.
-use Rattle.tomex_sweep.specs.Cycles.{cycles_of}
+use Rattle.tomex_runs.specs.Cycles.{cycles_of}
 use Rattle.tomex_sweep.proofs.exploring.explore_on.Given as goal
 
 abbrev pub ghosts-explore_as : goal.ghosts-explore_as

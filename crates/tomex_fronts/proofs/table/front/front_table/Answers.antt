@@ -4,8 +4,8 @@ use Rattle.std.proofs.Common.{◌∙◌, sym, subst, ◌<◌, length}
 use Rattle.std.proofs.lemmas.List.Elements.{All-get_or}
 use Rattle.std.proofs.lemmas.Result.{IfOk-weaker}
 use Rattle.std.specs.Prelude.{All}
-use Rattle.tomex_sweep.specs.declared.front_row.FrontRow.{FrontRow}
-use Rattle.tomex_sweep.proofs.StudyFronts.{study_rows}
+use Rattle.tomex_pareto.specs.declared.front_row.FrontRow.{FrontRow}
+use Rattle.tomex_runs.proofs.StudyFronts.{study_rows}
 use Rattle.tomex_fronts.specs.FrontTable.{front_table_of}
 use Rattle.tomex_fronts.proofs.Tables.{HasNumbers, all_columns, columns_long}
 use Rattle.tomex_fronts.proofs.table.front.front_table.Goals as goal

@@ -3,8 +3,8 @@ use Rattle.std.proofs.Common.{◌≡◌, ◌<◌, ◌≤◌, get_or, ap, ◌∙�
 use Rattle.std.proofs.lemmas.Option.{slice_get_read}
 use Rattle.tomex_board.specs.declared.view.View.{View}
 use Rattle.tomex_config.specs.Configuration.{Configuration}
-use Rattle.tomex_sweep.specs.Cycles.{cycles_of}
-use Rattle.tomex_sweep.specs.Stops.{Going}
+use Rattle.tomex_runs.specs.Cycles.{cycles_of}
+use Rattle.tomex_runs.specs.Stops.{Going}
 use Rattle.tomex_sweep.proofs.Closing.{continues_on, first_running, next_running, look_on, over_on}
 use Rattle.tomex_sweep.proofs.Closing.{none_in_hand, row_there}
 use Rattle.tomex_sweep.proofs.desk.Desk.close_row.Goals as goal

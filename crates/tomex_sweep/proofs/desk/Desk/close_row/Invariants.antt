@@ -1,6 +1,6 @@
 -- The run stays that of the row in hand; each look comes nearer to its cycles.
 use Rattle.std.proofs.Common.{◌-◌, slice_index}
-use Rattle.tomex_sweep.specs.Cycles.{cycles_of}
+use Rattle.tomex_runs.specs.Cycles.{cycles_of}
 use Rattle.tomex_sweep.proofs.Closing.{IsRunning}
 use Rattle.tomex_sweep.proofs.desk.Desk.close_row.Given as goal
 

@@ -1,0 +1,34 @@
+-- The Pareto front of rows as a function: those that no other row dominates, found by comparing all pairs.
+use Rattle.std.specs.Prelude.{ℕ, suc, ◌==◌, nat_le, nat_lt, Bool, not, ◌&&◌, ◌||◌, if◌then◌else◌, List, [], ◌∷◌}
+use Rattle.std.specs.List.{filter, list_any}
+use Rattle.tomex_pareto.specs.declared.front_row.FrontRow.{FrontRow}
+
+-- a costs no more than b and takes no more cycles, and one of the two is strictly less
+abbrev pub dominates : FrontRow → FrontRow → Bool
+dominates a b = nat_le a.cost b.cost && nat_le a.cycles b.cycles && (nat_lt a.cost b.cost || nat_lt a.cycles b.cycles)
+
+-- no row dominates it
+abbrev pub is_undominated : List FrontRow → FrontRow → Bool
+is_undominated rows r = not (list_any (λ q. dominates q r) rows)
+
+-- by cost, then number
+abbrev pub comes_before : FrontRow → FrontRow → Bool
+comes_before a b = nat_lt a.cost b.cost || (a.cost == b.cost && nat_lt a.row b.row)
+
+-- a row at its place among ordered ones
+abbrev pub put : FrontRow → List FrontRow → List FrontRow
+put r [] = r ∷ []
+put r (q ∷ qs) = if comes_before r q then r ∷ q ∷ qs else q ∷ put r qs
+
+abbrev pub ordered : List FrontRow → List FrontRow
+ordered [] = []
+ordered (r ∷ rs) = put r (ordered rs)
+
+-- the rows that none of them dominates, found by comparing all pairs, ordered by cost, then number
+unfoldable pub front_of : List FrontRow → List FrontRow
+front_of rows = ordered (filter (is_undominated rows) rows)
+
+-- rows of these costs and cycles, numbered from n on
+abbrev pub rows_from : ℕ → List ℕ → List ℕ → List FrontRow
+rows_from n (c ∷ cs) (y ∷ ys) = record { row = n; cost = c; cycles = y } ∷ rows_from (suc n) cs ys
+rows_from n _ _ = []

@@ -1,0 +1,7 @@
+-- Lemmas of this crate.
+pub mod Totals
+pub mod StudyFronts
+pub mod Machines
+pub mod Stops
+pub mod Spares
+pub mod Knowing

@@ -1,0 +1,22 @@
+-- The run of the first program, at cycle 0.
+use Rattle.std.proofs.Common.{refl}
+use Rattle.std.proofs.lemmas.Option.{slice_get_read}
+use Rattle.tomex_cycle.specs.Seen.{seen}
+use Rattle.tomex_runs.proofs.Knowing.{first_known}
+use Rattle.tomex_runs.proofs.Stops.{first_going}
+use Rattle.tomex_runs.proofs.row_run.RowRun.new.Goals as goal
+
+pub new-requires-2-clause-known : goal.new-requires-2-clause-known
+new-requires-2-clause-known g c =
+    first_known c.args.programs.now c.args.config.now c.args.totals c.index-programs-0.result _ c.requires.totals
+    (slice_get_read c.args.programs.now _ 0 c.index-programs-0.result refl c.requires.some c.index-programs-0.is)
+    c.image-image.ensures.value
+
+pub invariant_of-result : goal.invariant_of-result
+invariant_of-result g c = (
+  first_going c.args.programs.now c.args.config.now c.index-programs-0.result (seen c.new-2.result) c.requires.ends
+      c.keeps_limits.ensures c.requires.few
+      (slice_get_read c.args.programs.now _ 0 c.index-programs-0.result refl c.requires.some c.index-programs-0.is)
+      (rw c.image-image.ensures.value at c.new-2.ensures),
+  c.requires.totals,
+)
