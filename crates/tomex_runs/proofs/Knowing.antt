@@ -142,11 +142,11 @@ known_at : (programs : List Workload) (config : Configuration) (totals : List (O
 known_at programs config totals place p None are at is = tt
 known_at programs config totals place p (Some n) are at is = are.known place p n at is
 
--- what is known of the first program
-pub first_known : (programs : List Workload) (config : Configuration) (totals : List (Option ℕ)) (p : Workload)
-    (image : Loaded) → AreTotals programs config totals → slice_get programs 0 ≡ Some p → image ≡ p.image
-    → IfSome (get_or totals 0 None) (λ n. total config image ≡ n)
-first_known programs config totals p image are at same =
+-- what is known of the program at a place
+pub known_of : (programs : List Workload) (config : Configuration) (totals : List (Option ℕ)) (place : ℕ) (p : Workload)
+    (image : Loaded) → AreTotals programs config totals → slice_get programs place ≡ Some p → place < 8
+    → image ≡ p.image → IfSome (get_or totals place None) (λ n. total config image ≡ n)
+known_of programs config totals place p image are at low same =
     let eight : length totals ≡ 8 = are.count in
-    rw same (known_at programs config totals 0 p (get_or totals 0 None) are at
-    (slice_get-get_or totals 0 None (omega arith)))
+    rw same (known_at programs config totals place p (get_or totals place None) are at
+    (slice_get-get_or totals place None (omega arith)))

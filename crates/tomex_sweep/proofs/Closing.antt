@@ -15,7 +15,8 @@ use Rattle.tomex_sweep.specs.Seats.{Continues}
 use Rattle.tomex_runs.specs.Stops.{Going, IsNearer, stop_at}
 use Rattle.tomex_runs.specs.declared.stop.Stop.{Stop}
 use Rattle.tomex_runs.specs.declared.stop.Stop.TheVariants.{Look, Over}
-use Rattle.tomex_sweep.proofs.Verdicts.{cycles_at, look_near, over_is}
+use Rattle.tomex_runs.proofs.Telling.{look_near, over_is}
+use Rattle.tomex_sweep.proofs.Verdicts.{cycles_at}
 
 -- nothing has happened to a seat
 pub continues_itself : (seat : Known) → Continues seat seat

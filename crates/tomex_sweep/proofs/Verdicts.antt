@@ -1,4 +1,4 @@
--- What looks and ends of a run say, and the front of judged configurations.
+-- The front of judged configurations, and of those that are all finished.
 use Rattle.std.proofs.Common.{◌≡◌, ℕ, zero, suc, ◌+◌, ◌-◌, ◌<◌, ◌≤◌, ⊎_elim, arith, ap, sym, refl, subst, ◌∙◌, List, []}
 use Rattle.std.proofs.Common.{◌∷◌, length, map, Bool, true, cond, get_or, Some, None, slice_get}
 use Rattle.std.proofs.lemmas.Bool.{cases_lt, lt-ltb, le-ltb}
@@ -12,32 +12,10 @@ use Rattle.tomex_pareto.specs.Front.{front_of}
 use Rattle.tomex_runs.specs.StudyFront.{front_of_study}
 use Rattle.tomex_sweep.specs.Marks.{AreJudged}
 use Rattle.tomex_lanes.specs.Parts.{is_closed}
-use Rattle.tomex_runs.specs.Stops.{Going, IsNearer, stop_at}
 use Rattle.tomex_pareto.specs.declared.front_row.FrontRow.{FrontRow}
 use Rattle.tomex_board.specs.declared.mark.Mark.{Mark}
 use Rattle.tomex_board.specs.declared.mark.Mark.TheVariants.{Finished, Dropped}
-use Rattle.tomex_runs.specs.declared.stop.Stop.{Stop}
-use Rattle.tomex_runs.specs.declared.stop.Stop.TheVariants.{Look, Over}
 use Rattle.tomex_sweep.proofs.Judged.{same_front}
-
-stop_over : (ps : List Workload) (config : Configuration) (n : ℕ) → plain_on ps config ≤ n
-    → stop_at ps config n ≡ Over (cycles_on ps config)
-stop_over ps config n l = ap (λ (t : Bool). cond t (Look (weighed ps config n)) (Over (cycles_on ps config)))
-    (le-ltb n (plain_on ps config) l)
-
-stop_look : (ps : List Workload) (config : Configuration) (n : ℕ) → n < plain_on ps config
-    → stop_at ps config n ≡ Look (weighed ps config n)
-stop_look ps config n l = ap (λ (t : Bool). cond t (Look (weighed ps config n)) (Over (cycles_on ps config)))
-    (lt-ltb n (plain_on ps config) l)
-
--- what an end says
-pub over_of : (ps : List Workload) (config : Configuration) (n r : ℕ) → Over r ≡ stop_at ps config n
-    → r ≡ cycles_on ps config
-over_of ps config n r e =
-    ⊎_elim (λ (l : n < plain_on ps config). absurd (let f : Over r ≡ Look (weighed ps config n) =
-    e ∙ stop_look ps config n l in cc))
-    (λ (l : plain_on ps config ≤ n). let f : Over r ≡ Over (cycles_on ps config) = e ∙ stop_over ps config n l in
-    cc) (cases_lt n (plain_on ps config))
 
 -- all configurations finished
 
@@ -87,23 +65,6 @@ study_front s ms is judged = same_front s.costs (cycles_of s) ms judged (as_long
 pub cycles_map : (s : DesignSpace) → map (cycles_on s.programs) s.rows ≡ cycles_of s
 unfolding cycles_of
 cycles_map s = refl
-
-same_cycles : (ps qs : List Workload) (r s : Configuration) → ps ≡ qs → r ≡ s → cycles_on ps r ≡ cycles_on qs s
-same_cycles ps qs r s e f = ap (λ (x : List Workload). cycles_on x r) e ∙ ap (λ (x : Configuration). cycles_on qs x) f
-
--- a look of the run brings it nearer to its cycles, of which no more have come
-pub look_near : (old new : Going) (ps : List Workload) (config : Configuration) (p : Stop) (seen : ℕ)
-    → old.programs ≡ ps → old.config ≡ config → p ≡ Look seen → IsNearer old new p
-    → (cycles_on ps config - new.reached < cycles_on ps config - old.reached) × (seen ≤ cycles_on ps config)
-look_near old new ps config p seen e f is up =
-    let c : cycles_on old.programs old.config ≡ cycles_on ps config =
-    same_cycles old.programs ps old.config config e f in
-    let (more, less, within) = up seen is in
-    (omega (arith, c, more, less), omega (arith, c, within))
-
-pub over_is : (ps qs : List Workload) (r s : Configuration) (p : Stop) (was y : ℕ) → ps ≡ qs → r ≡ s
-    → p ≡ stop_at ps r (was + 1024) → p ≡ Over y → y ≡ cycles_on qs s
-over_is ps qs r s p was y e f stop is = over_of ps r (was + 1024) y (sym is ∙ stop) ∙ same_cycles ps qs r s e f
 
 pub all_finished : (s : DesignSpace) (rows : List Configuration) (ms : List Mark) → rows ≡ s.rows
     → ms ≡ map Finished (map (cycles_on s.programs) rows) → ms ≡ map Finished (cycles_of s)
