@@ -1,8 +1,8 @@
 -- What a worker does with a row that it has in hand.
-use Rattle.std.proofs.Common.{◌≡◌, ℕ, ◌+◌, ◌-◌, ◌<◌, ◌≤◌, List, [], ◌∷◌, Some, slice_get, length, get_or, cond, ap}
+use Rattle.std.proofs.Common.{◌≡◌, ℕ, ◌+◌, ◌-◌, ◌<◌, ◌≤◌, List, [], ◌∷◌, Option, Some, slice_get, length, get_or, cond, ap}
 use Rattle.std.proofs.Common.{refl, sym, ◌∙◌, subst, inl, All, take, arith, eq-eqb}
-use Rattle.std.proofs.lemmas.List.{length-map}
 use Rattle.std.proofs.lemmas.List.Elements.{All-more, All-weaker}
+use Rattle.std.proofs.lemmas.Option.{slice_get_read}
 use Rattle.tomex_board.specs.Known.{Known}
 use Rattle.tomex_board.specs.declared.view.View.{View}
 use Rattle.tomex_board.specs.Views.{Has, KnowsNotOpen, Grows, without}
@@ -10,13 +10,15 @@ use Rattle.tomex_board.proofs.Closes.{grows_on}
 use Rattle.tomex_config.specs.Configuration.{Configuration}
 use Rattle.tomex_study.specs.Study.{DesignSpace, IsStudy}
 use Rattle.tomex_runs.specs.Cycles.{cycles_on, cycles_of}
+use Rattle.tomex_runs.specs.Knowledge.{AreTotals, AreTotalsOn}
+use Rattle.tomex_study.specs.Program.{Workload}
 use Rattle.tomex_sweep.specs.Plans.{IsPlanOf}
 use Rattle.tomex_sweep.specs.Seats.{Continues}
 use Rattle.tomex_runs.specs.Stops.{Going, IsNearer, stop_at}
 use Rattle.tomex_runs.specs.declared.stop.Stop.{Stop}
 use Rattle.tomex_runs.specs.declared.stop.Stop.TheVariants.{Look, Over}
 use Rattle.tomex_runs.proofs.Telling.{look_near, over_is}
-use Rattle.tomex_sweep.proofs.Verdicts.{cycles_at}
+use Rattle.tomex_sweep.proofs.Verdicts.{as_many_rows, cycles_at}
 
 -- nothing has happened to a seat
 pub continues_itself : (seat : Known) → Continues seat seat
@@ -70,9 +72,27 @@ none_in_hand hand after row is gone =
 pub row_there : (s : DesignSpace) (costs cycles : List ℕ) (row : ℕ) → IsStudy s → IsPlanOf s costs cycles
     → row < length costs → row < length s.rows
 row_there s costs cycles row is plan low =
-    let long : length s.costs ≡ length s.rows = ap length is.costs ∙ length-map _ _ in
+    let long : length s.costs ≡ length s.rows = as_many_rows s is in
     let same : length s.costs ≡ length costs = ap length plan.its_costs in
     omega arith
+
+-- the row that is read is the study's
+pub row_read : (rows all : List Configuration) (row : ℕ) (item : Configuration) → rows ≡ all → row < length all
+    → item ≡ get_or rows row item → slice_get all row ≡ Some item
+row_read rows all row item same low read =
+    let here : row < length rows = subst (λ (rs : List Configuration). row < length rs) (sym same) low in
+    ap (λ (rs : List Configuration). slice_get rs row) (sym same) ∙ slice_get_read rows (length rows) row item refl here
+    read
+
+-- totals on the row's configuration are totals on the row
+pub totals_on : (s : DesignSpace) (row : ℕ) (item : Configuration) (programs : List Workload) (totals : List (Option ℕ))
+    → programs ≡ s.programs → slice_get s.rows row ≡ Some item → AreTotals programs item totals
+    → AreTotalsOn s row totals
+totals_on s row item programs totals same at are = λ config here.
+    let both : Some item ≡ Some config = sym at ∙ here in
+    let e : item ≡ config = (cc) in
+    subst (λ (r : Configuration). AreTotals s.programs r totals) e
+    (subst (λ (ps : List Workload). AreTotals ps item totals) same are)
 
 pub first_running : (s : DesignSpace) (row : ℕ) (seat : Known) (run : Going) (item : Configuration)
     → seat.view.hand ≡ row ∷ [] → run.programs ≡ s.programs → run.config ≡ item → slice_get s.rows row ≡ Some item

@@ -17,7 +17,7 @@ use Rattle.tomex_config.specs.Configuration.{Configuration}
 use Rattle.tomex_study.specs.Program.{Workload}
 use Rattle.tomex_study.specs.Study.{DesignSpace, IsStudy}
 use Rattle.tomex_runs.specs.Cycles.{cycles_of, cycles_on}
-use Rattle.tomex_sweep.proofs.Verdicts.{cycles_at}
+use Rattle.tomex_sweep.proofs.Verdicts.{as_many_rows, cycles_at}
 use Rattle.tomex_sweep.specs.Marks.{AreJudged, left_of_mark, rows_left}
 
 get_set_same : (ms : List Mark) (i : ℕ) (x : Mark) → i < length ms → slice_get (set ms i x) i ≡ Some x
@@ -167,7 +167,7 @@ pub run_cycles : (s : DesignSpace) (programs : List Workload) (rows : List Confi
     (row y : ℕ) → IsStudy s → programs ≡ s.programs → rows ≡ s.rows → row < length s.costs → item ≡ get_or rows row item
     → y ≡ cycles_on programs item → y ≡ get_or (cycles_of s) row 0
 run_cycles s programs rows item row y is same_programs same_rows low at ran =
-    let long : length s.costs ≡ length s.rows = ap length is.costs ∙ length-map _ _ in
+    let long : length s.costs ≡ length s.rows = as_many_rows s is in
     let rows_long : length rows ≡ length s.rows = ap length same_rows in
     let read : slice_get rows row ≡ Some item = slice_get_read rows (length rows) row item refl (omega arith) at in
     let here : slice_get s.rows row ≡ Some item = ap (λ (rs : List Configuration). slice_get rs row) (sym same_rows)

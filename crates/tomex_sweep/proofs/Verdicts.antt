@@ -1,12 +1,11 @@
 -- The front of judged configurations, and of those that are all finished.
-use Rattle.std.proofs.Common.{◌≡◌, ℕ, zero, suc, ◌+◌, ◌-◌, ◌<◌, ◌≤◌, ⊎_elim, arith, ap, sym, refl, subst, ◌∙◌, List, []}
-use Rattle.std.proofs.Common.{◌∷◌, length, map, Bool, true, cond, get_or, Some, None, slice_get}
-use Rattle.std.proofs.lemmas.Bool.{cases_lt, lt-ltb, le-ltb}
-use Rattle.std.proofs.lemmas.List.{length-map}
+use Rattle.std.proofs.Common.{◌≡◌, ℕ, zero, suc, ◌+◌, ◌<◌, arith, ap, sym, refl, subst, ◌∙◌, List, [], ◌∷◌, ◌++◌}
+use Rattle.std.proofs.Common.{length, map, take, true, get_or, Some, None, slice_get}
+use Rattle.std.proofs.lemmas.List.{length-map, map-append, map_more}
 use Rattle.tomex_config.specs.Configuration.{Configuration}
 use Rattle.tomex_study.specs.Study.{DesignSpace, IsStudy}
 use Rattle.tomex_study.specs.Program.{Workload}
-use Rattle.tomex_runs.specs.Cycles.{cycles_on, cycles_of, plain_on, weighed}
+use Rattle.tomex_runs.specs.Cycles.{cycles_on, cycles_of}
 use Rattle.tomex_pareto.specs.Finished.{finished_from}
 use Rattle.tomex_pareto.specs.Front.{front_of}
 use Rattle.tomex_runs.specs.StudyFront.{front_of_study}
@@ -42,6 +41,10 @@ all_judged costs cycles same = record {
 
 -- a study's configurations
 
+-- there are as many as costs
+pub as_many_rows : (s : DesignSpace) → IsStudy s → length s.costs ≡ length s.rows
+as_many_rows s is = ap length is.costs ∙ length-map _ _
+
 pub as_long : (s : DesignSpace) → IsStudy s → length s.costs ≡ length (cycles_of s)
 unfolding cycles_of
 as_long s is = ap length is.costs ∙ (length-map _ _ ∙ sym (length-map _ _))
@@ -71,6 +74,19 @@ pub all_finished : (s : DesignSpace) (rows : List Configuration) (ms : List Mark
 all_finished s rows ms e is = is ∙ (ap (λ (rs : List Configuration). map Finished (map (cycles_on s.programs) rs)) e
     ∙ ap (λ (ys : List ℕ). map Finished ys) (cycles_map s))
 
+-- one configuration more is finished
+pub one_finished : (programs : List Workload) (rows : List Configuration) (i y : ℕ) (config : Configuration)
+    (before after : List Mark) → after ≡ before ++ Finished y ∷ [] → i < length rows → config ≡ get_or rows i config
+    → y ≡ cycles_on programs config → before ≡ map Finished (map (cycles_on programs) (take i rows))
+    → after ≡ map Finished (map (cycles_on programs) (take (i + 1) rows))
+one_finished programs rows i y config before after pushed low at ran is =
+    pushed ∙ (ap (λ (ms : List Mark). ms ++ Finished y ∷ []) is
+    ∙ (ap (λ (n : ℕ). map Finished (map (cycles_on programs) (take i rows)) ++ Finished n ∷ [])
+    (ran ∙ ap (cycles_on programs) at)
+    ∙ (sym (map-append (λ (n : ℕ). Finished n) (map (cycles_on programs) (take i rows))
+    (cycles_on programs (get_or rows i config) ∷ []))
+    ∙ ap (map Finished) (sym (map_more (cycles_on programs) rows i config low)))))
+
 pub finished_front : (s : DesignSpace) (ms slice : List Mark) (costs : List ℕ) {front : List FrontRow} → IsStudy s
     → ms ≡ map Finished (cycles_of s) → slice ≡ ms → costs ≡ s.costs → front ≡ front_of (finished_from 0 costs slice)
     → front ≡ front_of_study s
@@ -79,6 +95,12 @@ finished_front s ms slice costs {front} is marks e f h =
     subst (AreJudged s.costs (cycles_of s)) (sym marks) (all_judged s.costs (cycles_of s) (as_long s is)) in
     h ∙ (ap (λ (xs : List Mark). front_of (finished_from 0 costs xs)) e
     ∙ (ap (λ (cs : List ℕ). front_of (finished_from 0 cs ms)) f ∙ study_front s ms is judged))
+
+-- and there are as many marks as costs
+pub as_many_marks : (s : DesignSpace) (ms slice : List Mark) (costs : List ℕ) → IsStudy s
+    → ms ≡ map Finished (cycles_of s) → slice ≡ ms → costs ≡ s.costs → length slice ≡ length costs
+as_many_marks s ms slice costs is marks same its =
+    ap length same ∙ (ap length marks ∙ (length-map _ _ ∙ (sym (as_long s is) ∙ ap length (sym its))))
 
 pub judged_front : (s : DesignSpace) (ms slice : List Mark) (costs : List ℕ) {front : List FrontRow} → IsStudy s
     → AreJudged s.costs (cycles_of s) ms → slice ≡ ms → costs ≡ s.costs → front ≡ front_of (finished_from 0 costs slice)

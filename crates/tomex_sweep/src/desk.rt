@@ -128,8 +128,31 @@ impl<'s, J: Plan, A: Allocator + Clone, G: Gate> Desk<'s, J, A, G> {
         self.run_row(runs, knowledge, seat, row)
     }
 
+    /// Tries rows until none is left to take, and then each of the lane's list once more. None of that list is open then.
+    pub(crate) fn try_all(
+        &self,
+        alloc: A,
+        seat: &mut Seat<J>,
+        lane: &mut Lane<A>,
+    ) -> Result<(), AllocError>
+        requires plan { IsPlanOf self.now.study.now J.costs J.cycles }
+        requires board { seat.old.board ≡ self.now.board.now }
+        requires rows { lane.old.count ≡ length J.costs }
+        requires hand { seat.old.view.hand ≡ [] }
+        ensures lane { lane.new ≡ lane.old }
+        ensures seat { Continues seat.old seat.new }
+        ensures hand { OnOk result (seat.new.view.hand ≡ []) }
+        ensures not_open { OnOk result (All (KnowsNotOpen seat.new.view) lane.new.rows) }
+    {
+        self.study.keeps_limits();
+        let mut knowledge = Knowledge::new(alloc.clone()?, self.study.programs())?;
+        let mut runs = Runs::new(alloc);
+        self.try_taken(&mut runs, &mut knowledge, seat, lane)?;
+        self.try_listed(&mut runs, &mut knowledge, seat, lane)
+    }
+
     /// Takes rows as long as there are any, but at most as many as the study has, and tries each.
-    pub(crate) fn try_taken(
+    fn try_taken(
         &self,
         runs: &mut Runs<'s, A>,
         knowledge: &mut Knowledge<'s, A>,
@@ -156,7 +179,7 @@ impl<'s, J: Plan, A: Allocator + Clone, G: Gate> Desk<'s, J, A, G> {
     }
 
     /// Tries each row of the lane's list once, rising. None of them is open then.
-    pub(crate) fn try_listed(
+    fn try_listed(
         &self,
         runs: &mut Runs<'s, A>,
         knowledge: &mut Knowledge<'s, A>,

@@ -8,11 +8,30 @@ ghost use Rattle.tomex_sweep.specs.declared.outcome.SweepError.TheVariants.{Memo
 
 use crate::gate::{Gate, OpenGate};
 use crate::outcome::{Outcome, SweepError};
-use std::alloc::Allocator;
+use std::alloc::{AllocError, Allocator};
 use tomex_board::Mark;
 use tomex_pareto::front;
 use tomex_runs::Runs;
 use tomex_study::Study;
+
+/// The marks of a study's rows, each of which is run to its end.
+fn all_marks<A: Allocator + Clone, G: Gate>(
+    alloc: A,
+    study: &Study<A>,
+    gate: &G,
+) -> Result<Vec<Mark, A>, AllocError>
+    ensures { IfOk result (λ marks. marks.items ≡ map Finished (cycles_of study.now)) }
+{
+    study.keeps_limits();
+    let mut runs = Runs::new(alloc.clone()?);
+    let mut marks = Vec::with_capacity(alloc, study.rows().len())?;
+    for config in study.rows() {
+        gate.before(0, marks.len());
+        let cycles = runs.cycles(study.programs(), config)?;
+        marks.push(Mark::Finished(cycles))?;
+    }
+    Ok(marks)
+}
 
 /// `run_all` with a gate, which is told of worker 0 alone.
 pub fn run_all_under<A: Allocator + Clone, G: Gate>(
@@ -25,16 +44,9 @@ pub fn run_all_under<A: Allocator + Clone, G: Gate>(
     ensures gathered { IfOk result (λ o. o.gathered ≡ 0) }
     ensures refused { IfErr result (λ e. e ≡ Memory) }
 {
-    let count = study.rows().len();
-    gate.begins(count);
     study.keeps_limits();
-    let mut runs = Runs::new(alloc.clone()?);
-    let mut marks = Vec::with_capacity(alloc.clone()?, count)?;
-    for config in study.rows() {
-        gate.before(0, marks.len());
-        let cycles = runs.cycles(study.programs(), config)?;
-        marks.push(Mark::Finished(cycles))?;
-    }
+    gate.begins(study.rows().len());
+    let marks = all_marks(alloc.clone()?, study, gate)?;
     let front = front(alloc, study.costs(), marks.as_slice())?;
     Ok(Outcome {
         marks,

@@ -8,7 +8,6 @@ use crate::gate::Gate;
 use std::alloc::{AllocError, Allocator};
 use tomex_board::{Board, Plan, Seat};
 use tomex_lanes::{Lane, Part};
-use tomex_runs::{Knowledge, Runs};
 use tomex_study::Study;
 
 /// All that a worker does: it takes rows until it gets none, its own first, then those that it steals;
@@ -30,7 +29,6 @@ pub fn work<J: Plan, A: Allocator + Clone, G: Gate>(
     ensures board { IfOk result (λ p. p.seat.board ≡ seat.board) }
     ensures share { IfOk result (λ p. p.seat.view.share ≡ seat.view.share) }
 {
-    study.keeps_limits();
     let worker = lane.worker();
     let desk = Desk {
         study,
@@ -38,9 +36,6 @@ pub fn work<J: Plan, A: Allocator + Clone, G: Gate>(
         gate,
         worker,
     };
-    let mut knowledge = Knowledge::new(alloc.clone()?, study.programs())?;
-    let mut runs = Runs::new(alloc);
-    desk.try_taken(&mut runs, &mut knowledge, &mut seat, &mut lane)?;
-    desk.try_listed(&mut runs, &mut knowledge, &mut seat, &lane)?;
+    desk.try_all(alloc, &mut seat, &mut lane)?;
     Ok(Part::new(seat, lane.into_rows()))
 }

@@ -1,26 +1,20 @@
 -- A run that is over has the row's cycles; one that is given up has fewer than it has made.
-use Rattle.std.proofs.Common.{◌≡◌, ◌<◌, ◌≤◌, get_or, ap, ◌∙◌, refl, subst, sym, Some, slice_get, length, List, ℕ, arith}
-use Rattle.std.proofs.lemmas.Option.{slice_get_read}
+use Rattle.std.proofs.Common.{◌≡◌, ◌<◌, ◌≤◌, get_or, ap, ◌∙◌, subst, sym, length, List, ℕ, arith}
 use Rattle.tomex_board.specs.declared.view.View.{View}
 use Rattle.tomex_config.specs.Configuration.{Configuration}
 use Rattle.tomex_runs.specs.Cycles.{cycles_of}
 use Rattle.tomex_runs.specs.Stops.{Going}
-use Rattle.tomex_sweep.proofs.Closing.{continues_on, first_running, next_running, look_on, over_on}
-use Rattle.tomex_sweep.proofs.Closing.{none_in_hand, row_there}
+use Rattle.tomex_sweep.proofs.Closing.{continues_itself, continues_on, first_running, has_it}
+use Rattle.tomex_sweep.proofs.Closing.{look_on, next_running, none_in_hand, over_on, row_read, row_there}
 use Rattle.tomex_sweep.proofs.desk.Desk.close_row.Goals as goal
 
 pub loop-cycles-init : goal.loop-cycles-init
 loop-cycles-init g c =
-    let s = c.args.self.now.study.now in
-    let low : c.args.row < length c.rows.result.now =
-    subst (λ (rs : List Configuration). c.args.row < length rs) (sym c.rows.ensures.value)
-    (row_there s _ _ c.args.row c.keeps_limits.ensures c.requires.plan c.requires.row) in
-    let read : slice_get c.rows.result.now c.args.row ≡ Some c.index-rows-row.result =
-    slice_get_read c.rows.result.now _ c.args.row c.index-rows-row.result refl low c.index-rows-row.is in
-    let at : slice_get s.rows c.args.row ≡ Some c.index-rows-row.result =
-    ap (λ (rs : List Configuration). slice_get rs c.args.row) (sym c.rows.ensures.value) ∙ read in
     first_running _ _ _ _ c.index-rows-row.result c.requires.hand (ap (λ (r : Going). r.programs) c.in_ok-run.ensures
-    ∙ c.programs.ensures.value) (ap (λ (r : Going). r.config) c.in_ok-run.ensures) at
+    ∙ c.programs.ensures.value) (ap (λ (r : Going). r.config) c.in_ok-run.ensures)
+    (row_read _ _ c.args.row c.index-rows-row.result c.rows.ensures.value
+    (row_there c.args.self.now.study.now _ _ c.args.row c.keeps_limits.ensures c.requires.plan c.requires.row)
+    c.index-rows-row.is)
 
 pub finish-requires-clause-cycles : goal.finish-requires-clause-cycles
 finish-requires-clause-cycles g c =
@@ -85,3 +79,46 @@ returns-then-bound-weighed-clause-seat g c =
       share = ap (λ (v : View). v.share) c.give_up.ensures.view;
       grown = c.give_up.ensures.grown;
     }))
+
+pub begin-requires-clause-some : goal.begin-requires-clause-some
+begin-requires-clause-some g c = rw c.programs.ensures.value c.keeps_limits.ensures.some_programs
+
+pub begin-requires-clause-few : goal.begin-requires-clause-few
+begin-requires-clause-few g c = rw c.programs.ensures.value c.keeps_limits.ensures.few_programs
+
+pub begin-requires-clause-ends : goal.begin-requires-clause-ends
+begin-requires-clause-ends g c = rw c.programs.ensures.value c.keeps_limits.ensures.ends
+
+pub bounds-rows-row : goal.bounds-rows-row
+bounds-rows-row g c =
+    subst (λ (rs : List Configuration). c.args.row < length rs) (sym c.rows.ensures.value)
+    (row_there c.args.self.now.study.now _ _ c.args.row c.keeps_limits.ensures c.requires.plan c.requires.row)
+
+pub begin-requires-clause-totals : goal.begin-requires-clause-totals
+begin-requires-clause-totals g c =
+    rw c.programs.ensures.value
+    (c.requires.totals c.index-rows-row.result (row_read _ _ c.args.row c.index-rows-row.result c.rows.ensures.value
+    (row_there c.args.self.now.study.now _ _ c.args.row c.keeps_limits.ensures c.requires.plan c.requires.row)
+    c.index-rows-row.is))
+
+pub returns-in_err-run-clause-seat : goal.returns-in_err-run-clause-seat
+returns-in_err-run-clause-seat g c = continues_itself _
+
+pub returns-in_err-cycles-clause-seat : goal.returns-in_err-cycles-clause-seat
+returns-in_err-cycles-clause-seat g c = c.loop-cycles.invariant.seat
+
+pub finish-requires-clause-board : goal.finish-requires-clause-board
+finish-requires-clause-board g c = c.loop-cycles.invariant.seat.board ∙ c.requires.board
+
+pub finish-requires-clause-hand : goal.finish-requires-clause-hand
+finish-requires-clause-hand g c = has_it _ _ c.loop-cycles.invariant.hand
+
+pub look-requires-clause-board : goal.look-requires-clause-board
+look-requires-clause-board g c = c.loop-cycles.invariant.seat.board ∙ c.requires.board
+
+pub give_up-requires-clause-board : goal.give_up-requires-clause-board
+give_up-requires-clause-board g c =
+    c.look.ensures.board ∙ (c.loop-cycles.invariant.seat.board ∙ c.requires.board)
+
+pub give_up-requires-clause-hand : goal.give_up-requires-clause-hand
+give_up-requires-clause-hand g c = has_it _ _ (c.look.ensures.hand ∙ c.loop-cycles.invariant.hand)

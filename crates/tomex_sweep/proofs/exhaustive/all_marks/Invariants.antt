@@ -2,7 +2,7 @@
 use Rattle.std.proofs.Common.{◌≡◌, map, take}
 use Rattle.tomex_runs.specs.Cycles.{cycles_on}
 use Rattle.tomex_board.specs.declared.mark.Mark.TheVariants.{Finished}
-use Rattle.tomex_sweep.proofs.exhaustive.run_all_under.Given as goal
+use Rattle.tomex_sweep.proofs.exhaustive.all_marks.Given as goal
 
 abbrev pub invariant-loop-config : goal.invariant-loop-config
 invariant-loop-config g l = l.marks.items
