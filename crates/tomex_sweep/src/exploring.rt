@@ -15,10 +15,40 @@ use std::alloc::Allocator;
 use std::marker::Brand;
 use std::sync::Wait;
 use std::thread::Threads;
-use tomex_board::{Board, Plan};
+use tomex_board::{Board, Mark, Plan};
 use tomex_lanes::{deal, seated, settle};
 use tomex_pareto::front;
 use tomex_study::Study;
+
+/// The marks of a study's rows when all workers are done, on a board that is made for the study's costs and cycles.
+fn marks_of_workers<
+    J: Plan + Send + Sync,
+    R: Threads + Wait + Sync,
+    A: Allocator + Clone + Send + Sync + Drop,
+    G: Gate + Sync,
+    S: Stacks + Sync,
+>(
+    rt: &R,
+    alloc: A,
+    study: &Study<A>,
+    workers: usize,
+    gate: &G,
+    stacks: &S,
+) -> Result<Vec<Mark, A>, SweepError>
+    requires some_workers { 1 ≤ workers }
+    requires few_workers { workers ≤ 32 }
+    requires plan { IsPlanOf study.now J.costs J.cycles }
+    ensures { IfOk result (λ marks. AreJudged study.now.costs (cycles_of study.now) marks.items) }
+{
+    // Laws: the board wants cycles that fit its words, which those of lawful rows and programs do.
+    study.keeps_limits();
+    let costs = study.costs();
+    let lanes = deal(alloc.clone()?, workers, costs.len())?;
+    let (board, seat) = Board::<J, A>::new(alloc.clone()?, costs)?;
+    let crew = seated(alloc.clone()?, &board, seat, lanes)?;
+    let parts = run_workers(rt, alloc, study, &board, crew, gate, stacks)?;
+    Ok(settle(board, parts))
+}
 
 /// An exploration over a board that is made for the study's costs and cycles.
 fn explore_as<
@@ -43,15 +73,17 @@ fn explore_as<
     ensures front { IfOk result (λ o. o.front.items ≡ front_of_study study.now) }
     ensures gathered { IfOk result (λ o. o.gathered ≡ 0) }
 {
-    // Laws: the board wants cycles that fit its words, which those of lawful rows and programs do.
     study.keeps_limits();
     let costs = study.costs();
     gate.begins(costs.len());
-    let lanes = deal(alloc.clone()?, workers, costs.len())?;
-    let (board, seat) = Board::<J, A>::new(alloc.clone()?, costs)?;
-    let crew = seated(alloc.clone()?, &board, seat, lanes)?;
-    let parts = run_workers(rt, alloc.clone()?, study, &board, crew, gate, stacks)?;
-    let mut marks = settle(board, parts);
+    let mut marks = marks_of_workers::<J, R, A, G, S>(
+        rt,
+        alloc.clone()?,
+        study,
+        workers,
+        gate,
+        stacks,
+    )?;
     let gathered = gather(alloc.clone()?, study, &mut marks)?;
     let front = front(alloc, costs, marks.as_slice())?;
     Ok(Outcome {
