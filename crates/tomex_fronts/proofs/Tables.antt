@@ -1,8 +1,9 @@
 -- How wide columns are, and how long.
-use Rattle.std.proofs.Common.{◌≡◌, arith, refl, ℕ, max, List, [], ◌∷◌, ◌++◌, length, map}
+use Rattle.std.proofs.Common.{◌≡◌, ◌<◌, ◌≤◌, ap, arith, cond, refl, sym, ℕ, max, List, [], ◌∷◌, ◌++◌, length, map}
 use Rattle.std.specs.Prelude.{All, Bool, true, false, if◌then◌else◌, nat_lt}
 use Rattle.std.specs.List.{flat_map}
 use Rattle.std.specs.Fmt.{decimal}
+use Rattle.std.proofs.lemmas.Bool.{le-ltb, lt-ltb}
 use Rattle.std.proofs.lemmas.List.{length-map}
 use Rattle.std.proofs.lemmas.List.Elements.{All-append, All-cons, All-nil}
 use Rattle.tomex_study.specs.Program.{Workload}
@@ -88,3 +89,14 @@ pub all_columns : (s : DesignSpace) (front : List FrontRow) (none own all : List
     → own ≡ none ++ own_columns s front → all ≡ own ++ program_columns s front → all ≡ own_columns s front
     ++ program_columns s front
 all_columns s front none own all empty first last = rw (last, first, empty) refl
+
+-- of several programs each has a column
+pub several_columns : (s : DesignSpace) (front : List FrontRow) → 1 < length s.programs
+    → map (program_column s front) s.programs ≡ program_columns s front
+several_columns s front several =
+    ap (λ (t : Bool). cond t (map (program_column s front) s.programs) []) (sym (lt-ltb 1 (length s.programs) several))
+
+-- and one alone has none
+pub no_column : (s : DesignSpace) (front : List FrontRow) → length s.programs ≤ 1 → [] ≡ program_columns s front
+no_column s front one =
+    ap (λ (t : Bool). cond t (map (program_column s front) s.programs) []) (sym (le-ltb 1 (length s.programs) one))

@@ -16,8 +16,8 @@ use points::{push_circles, push_numbers};
 use stairs::push_staircase;
 use std::alloc::{AllocError, Allocator, Global};
 use std::fmt::Write;
-use tomex_study::Study;
 use tomex_pareto::FrontRow;
+use tomex_study::Study;
 
 /// Adds a piece of text.
 fn push<A: Allocator>(text: &mut String<A>, piece: &str) -> Result<(), AllocError>

@@ -18,7 +18,7 @@ use tomex_rvexec::Step;
 use tomex_study::Program;
 use tomex_timing::Times;
 use tomex_timing::evaluate::{times, total};
-use tomex_views::{first_issue, part_of, steps_of};
+use tomex_views::{first_issue, part_of};
 
 /// Adds the lines of an event, if it has any.
 fn push_event(
@@ -155,13 +155,13 @@ pub fn konata_text<A: Allocator + Clone>(
     ensures refused { IfErr result (λ error. IsUnlogged
         (steps_from program.now.limit (start_of program.now.image)) number error) }
 {
-    let steps = steps_of(alloc.clone()?, program)?;
+    let steps = program.steps();
     if steps.len() < number as usize {
         return Err(LogError::NoSuchStep);
     }
-    let times = times(alloc.clone()?, steps.as_slice(), config)?;
+    let times = times(alloc.clone()?, steps, config)?;
     let behind = number as usize - 1;
-    let shown_steps = part_of(steps.as_slice(), behind, count as usize);
+    let shown_steps = part_of(steps, behind, count as usize);
     let shown_times = part_of(times.as_slice(), behind, count as usize);
     Ok(log_of(alloc, heap, u64::from(number), shown_steps, shown_times)?)
 }

@@ -14,7 +14,7 @@ use std::alloc::{AllocError, Allocator, Global};
 use std::fmt::Write;
 use tomex_config::Config;
 use tomex_records::{into_text, push_decimal, push_instruction, put_record};
-use tomex_rvexec::{Step, trace};
+use tomex_rvexec::Step;
 use tomex_study::Program;
 use tomex_timing::Times;
 use tomex_timing::evaluate::{times, total};
@@ -169,10 +169,7 @@ pub fn times_report<A: Allocator + Clone>(
     ensures { IfOk result
         (λ text. text.items ≡ times_report_of config.now (steps_from program.now.limit (start_of program.now.image))) }
 {
-    // A program ends within its limit, so only memory can be wanting.
-    let Ok(steps) = trace(alloc.clone()?, program.image(), program.limit()) else {
-        return Err(AllocError);
-    };
-    let times = times(alloc.clone()?, steps.as_slice(), config)?;
-    text_of_times(alloc, heap, steps.as_slice(), times.as_slice())
+    let steps = program.steps();
+    let times = times(alloc.clone()?, steps, config)?;
+    text_of_times(alloc, heap, steps, times.as_slice())
 }

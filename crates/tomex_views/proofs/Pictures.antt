@@ -63,12 +63,11 @@ total_drop zero times = omega arith
 total_drop (suc n) [] = omega arith
 total_drop (suc n) (at ∷ times) = omega (arith, total_drop n times)
 
-pub part_ends : (n k : ℕ) (steps steps-slice : List Step) (times times-slice part : List Times)
-    → part ≡ take n (drop k times-slice) → times-slice ≡ times → total_of times ≤ 67 * length steps-slice
-    → steps-slice ≡ steps → length steps ≤ 262144 → total_of part < 2 ^ 32
-part_ends n k steps steps-slice times times-slice part is times_are bound steps_are few =
+pub part_ends : (n k : ℕ) (steps : List Step) (times times-slice part : List Times)
+    → part ≡ take n (drop k times-slice) → times-slice ≡ times → total_of times ≤ 67 * length steps
+    → length steps ≤ 262144 → total_of part < 2 ^ 32
+part_ends n k steps times times-slice part is times_are bound few =
     let ends = total_take n (drop k times-slice) in
     let all = total_drop k times-slice in
     let same = ap total_of times_are in
-    let many = ap (λ (l : List Step). length l) steps_are in
-    subst (λ (p : List Times). total_of p < 2 ^ 32) (sym is) (omega (arith, ends, all, same, many, bound, few))
+    subst (λ (p : List Times). total_of p < 2 ^ 32) (sym is) (omega (arith, ends, all, same, bound, few))

@@ -101,10 +101,9 @@ report_of (Ok text) visits tally is written ordered =
 report_of (Err e) visits tally is written ordered = tt
 
 -- the visits that were counted are those of the run
-pub visits_are : (config : Configuration) (run given made counted : List Step) (waits kept : List Waits) → made ≡ run
-    → given ≡ made → counted ≡ made
-    → waits ≡ waits_in config given → kept ≡ waits → zip counted kept ≡ visits_in config run
-visits_are config run given made counted waits kept is lent again waited held = rw (held, waited, again, lent, is) refl
+pub visits_are : (config : Configuration) (run made : List Step) (waits kept : List Waits) → made ≡ run
+    → waits ≡ waits_in config made → kept ≡ waits → zip made kept ≡ visits_in config run
+visits_are config run made waits kept is waited held = rw (held, waited, is) refl
 
 -- no wait is longer than a larger number
 pub wider : (n m : ℕ) (w : Waits) → n ≤ m → AreWithin n w → AreWithin m w

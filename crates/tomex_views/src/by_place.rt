@@ -11,7 +11,6 @@ ghost use Rattle.tomex_records.specs.Csv.{IsReady, record_text, written};
 ghost use Rattle.tomex_views.specs.ByPlace.{IsReportByPlace, header, sum_fields};
 ghost use Rattle.tomex_views.specs.Tally.{place_fields, report_of_tally, total_fields};
 
-use crate::steps::steps_of;
 use crate::tally::{Place, Sum, Tally, count_by_place};
 use csv::{ByteRecord, Writer};
 use std::alloc::{AllocError, Allocator, Global};
@@ -127,8 +126,8 @@ pub fn stalls_by_pc<A: Allocator + Clone>(
     ensures { IfOk result (λ text.
         IsReportByPlace config.now (steps_from program.now.limit (start_of program.now.image)) text.items) }
 {
-    let steps = steps_of(alloc.clone()?, program)?;
-    let waits = waits(alloc.clone()?, steps.as_slice(), config)?;
-    let tally = count_by_place(alloc.clone()?, steps.as_slice(), waits.as_slice())?;
+    let steps = program.steps();
+    let waits = waits(alloc.clone()?, steps, config)?;
+    let tally = count_by_place(alloc.clone()?, steps, waits.as_slice())?;
     text_of_tally(alloc, heap, &tally)
 }

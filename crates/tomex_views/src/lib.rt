@@ -9,7 +9,6 @@ mod picture_error;
 mod pipeline;
 mod stage;
 mod stalls;
-mod steps;
 mod tally;
 
 pub use by_place::stalls_by_pc;
@@ -18,4 +17,3 @@ pub use picture_error::PictureError;
 pub use pipeline::{first_issue, part_of, pipeline_text};
 pub use stage::{Stage, stage_in};
 pub use stalls::stalls_report;
-pub use steps::steps_of;

@@ -9,7 +9,6 @@ ghost use Rattle.tomex_views.specs.Chart.{most_signs, picture_of, signs_of};
 
 use crate::lines::{Frame, push_lines};
 use crate::picture_error::PictureError;
-use crate::steps::steps_of;
 use std::alloc::{AllocError, Allocator, Global};
 use std::fmt::Write;
 use tomex_config::Config;
@@ -109,13 +108,13 @@ pub fn pipeline_text<A: Allocator + Clone>(
     ensures refused { IfErr result (λ error. IsUnpictured config.now
         (steps_from program.now.limit (start_of program.now.image)) number count error) }
 {
-    let steps = steps_of(alloc.clone()?, program)?;
+    let steps = program.steps();
     if steps.len() < number as usize {
         return Err(PictureError::NoSuchStep);
     }
-    let times = times(alloc.clone()?, steps.as_slice(), config)?;
+    let times = times(alloc.clone()?, steps, config)?;
     let behind = number as usize - 1;
-    let shown_steps = part_of(steps.as_slice(), behind, count as usize);
+    let shown_steps = part_of(steps, behind, count as usize);
     let shown_times = part_of(times.as_slice(), behind, count as usize);
     if is_too_large(shown_times) {
         return Err(PictureError::TooLarge);

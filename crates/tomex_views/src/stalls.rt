@@ -10,7 +10,6 @@ ghost use Rattle.tomex_records.specs.Csv.{IsReady, written};
 ghost use Rattle.tomex_views.specs.StallsReport.{IsStallsReport, header, name_of_part, other_record, other_records};
 ghost use Rattle.tomex_views.specs.StallsReport.{part_fields, part_record, report_of_needs};
 
-use crate::steps::steps_of;
 use csv::{ByteRecord, Writer};
 use std::alloc::{AllocError, Allocator, Global};
 use std::fmt::Write;
@@ -174,7 +173,6 @@ pub fn stalls_report<A: Allocator + Clone>(
     ensures { IfOk result (λ text.
         IsStallsReport config.now (steps_from program.now.limit (start_of program.now.image)) text.items) }
 {
-    let steps = steps_of(alloc.clone()?, program)?;
-    let needs = needs(alloc.clone()?, steps.as_slice(), config)?;
+    let needs = needs(alloc.clone()?, program.steps(), config)?;
     text_of_needs(alloc, heap, config, &needs)
 }

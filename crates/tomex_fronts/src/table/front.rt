@@ -10,8 +10,8 @@ ghost use Rattle.tomex_fronts.specs.FrontTable.{setting_columns};
 use super::heading::{Heading, Setting};
 use super::{Column, table_of};
 use std::alloc::{AllocError, Allocator, Global};
-use tomex_study::Study;
 use tomex_pareto::FrontRow;
+use tomex_study::Study;
 
 /// What a front row has under a heading.
 #[tactic(auto, unfolding(crate::specs::FrontTable::number_under))]

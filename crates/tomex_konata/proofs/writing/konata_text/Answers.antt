@@ -4,5 +4,5 @@ use Rattle.tomex_konata.proofs.writing.konata_text.Goals as goal
 
 pub log_of-requires-clause-bound : goal.log_of-requires-clause-bound
 log_of-requires-clause-bound g c =
-    part_ends _ _ _ _ _ _ _ c.part_of-shown_times.ensures c.as_slice-3.ensures.value c.in_ok-times.ensures.bound
-    c.as_slice.ensures.value c.in_ok-steps.ensures.few
+    part_ends _ _ _ _ _ _ c.part_of-shown_times.ensures c.as_slice.ensures.value c.in_ok-times.ensures.bound
+    c.steps-steps.ensures.few

@@ -14,3 +14,13 @@ loop-config-preserved g c = record {
   limits = one_more IsWithinLimits _ c.loop-config.config-index c.config-item.result c.loop-config-test.true
       c.loop-config.invariant.limits c.config-item.is c.keeps_limits.ensures;
 }
+
+pub returns-clause-costs : goal.returns-clause-costs
+returns-clause-costs g c =
+    c.loop-config.invariant.costs
+    ∙ ap (map (λ (config : Configuration). cost_of config c.args.prices.now))
+    (take_all c.loop-config.config-index c.args.rows.now c.loop-config-test.false)
+
+pub returns-clause-limits : goal.returns-clause-limits
+returns-clause-limits g c =
+    all_of IsWithinLimits _ c.loop-config.config-index c.loop-config-test.false c.loop-config.invariant.limits

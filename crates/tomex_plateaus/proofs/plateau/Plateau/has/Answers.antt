@@ -1,5 +1,5 @@
 -- The two walks are over all parts and all kinds of units.
-use Rattle.std.proofs.Common.{rules, Bool, ◌≡◌, tests}
+use Rattle.std.proofs.Common.{rules, Bool, ◌≡◌, refl, tests}
 use Rattle.std.specs.List.{list_all}
 use Rattle.std.proofs.lemmas.Iterator.{YieldsList-from_slice}
 use Rattle.std.proofs.lemmas.Iterator.Search.{all_from_yields_List}
@@ -26,3 +26,10 @@ returns-then-all c =
     all_from_yields_List (has_latency c.args.self.now c.args.config.now) _ _ c.all-then-all.result
     c.all-then-all.ensures.ran (YieldsList-from_slice all_units cc) (λ x b q k. search (rules, tests)) in
     rw (← parts, c.if-all.true) units
+
+pub returns-else-all : goal.returns-else-all
+returns-else-all c =
+    let parts : c.all.result ≡ list_all (has_count c.args.self.now c.args.config.now) all_parts =
+    all_from_yields_List (has_count c.args.self.now c.args.config.now) _ _ c.all.result c.all.ensures.ran
+    (YieldsList-from_slice all_parts cc) (λ x b q k. search (rules, tests)) in
+    rw (← parts, c.if-all.false) refl
