@@ -1,5 +1,5 @@
 -- The code's floor and cost are those of the plan.
-use Rattle.std.proofs.Common.{arith, ap, ◌∙◌, ◌≡◌, ◌≤◌, ◌<◌, ℕ, List, length, get_or, slice_index, rules}
+use Rattle.std.proofs.Common.{arith, ap, ◌∙◌, ℕ, List, length, get_or, slice_index, rules}
 use Rattle.std.proofs.lemmas.List.{get_or_read}
 use Rattle.tomex_board.specs.Bands.{floors_of}
 use Rattle.tomex_board.proofs.Looks.{adds, finds, passes, skips}

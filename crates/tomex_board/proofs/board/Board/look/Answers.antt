@@ -1,6 +1,5 @@
 use Rattle.std.proofs.Common.{subst, sym, refl, ap, ◌∙◌, arith, ℕ, List, slice_index, length, ◌≡◌}
 use Rattle.tomex_board.specs.declared.bound.Bound.{Bound}
-use Rattle.tomex_board.specs.Words.{nothing_yet}
 use Rattle.tomex_board.specs.Bands.{floors_of}
 use Rattle.tomex_board.specs.Looking.{IsBound, IsLeastSoFar, SeesEach}
 use Rattle.tomex_board.proofs.Closes.{grows_on}
