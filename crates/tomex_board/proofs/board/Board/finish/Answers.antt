@@ -3,7 +3,9 @@ use Rattle.std.proofs.Common.{◌≡◌, ◌≤◌, ◌∙◌, ℕ, List, length
 use Rattle.std.proofs.lemmas.List.{get_or_read}
 use Rattle.tomex_board.specs.Words.{band_word}
 use Rattle.tomex_board.specs.Bands.{floors_of, IsBandOf}
+use Rattle.tomex_board.specs.declared.view.View.{View}
 use Rattle.tomex_board.specs.Views.{best}
+use Rattle.tomex_board.proofs.Closes.{grows_on}
 use Rattle.tomex_board.proofs.Finishes.{band_read, none_read, one_band, in_its_band, in_no_band}
 use Rattle.tomex_board.proofs.board.Board.finish.Goals as goal
 
@@ -46,6 +48,26 @@ returns-in-Some-clause-others g c = let costs = g.J.Plan.costs in
     λ k no. c.publish.ensures.others k
     (λ (e : k ≡ c.in-Some.k). no (subst (IsBandOf (floors_of costs) (slice_index costs c.args.i)) (sym e) band))
     ∙ ap (best k) c.mark_finished.ensures.view
+
+pub returns-in-Some-clause-hand : goal.returns-in-Some-clause-hand
+returns-in-Some-clause-hand g c =
+    c.publish.ensures.hand ∙ ap (λ (v : View). v.hand) c.mark_finished.ensures.view
+
+pub returns-in-Some-clause-share : goal.returns-in-Some-clause-share
+returns-in-Some-clause-share g c =
+    c.publish.ensures.share ∙ ap (λ (v : View). v.share) c.mark_finished.ensures.view
+
+pub returns-in-Some-clause-grown : goal.returns-in-Some-clause-grown
+returns-in-Some-clause-grown g c = grows_on _ _ _ c.mark_finished.ensures.grown c.publish.ensures.grown
+
+pub returns-in_default-clause-hand : goal.returns-in_default-clause-hand
+returns-in_default-clause-hand g c = ap (λ (v : View). v.hand) c.mark_finished.ensures.view
+
+pub returns-in_default-clause-share : goal.returns-in_default-clause-share
+returns-in_default-clause-share g c = ap (λ (v : View). v.share) c.mark_finished.ensures.view
+
+pub returns-in_default-clause-others : goal.returns-in_default-clause-others
+returns-in_default-clause-others g c = λ k no. ap (best k) c.mark_finished.ensures.view
 
 pub returns-in_default-clause-steps : goal.returns-in_default-clause-steps
 returns-in_default-clause-steps g c = let i = c.self.invariant in let n = ap (λ (l : List ℕ). length l) i.6 in
