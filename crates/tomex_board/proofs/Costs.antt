@@ -1,7 +1,8 @@
 -- The floors of the bands: how many there are, and that they rise.
 use Rattle.std.proofs.Common.{◌≡◌, ℕ, zero, suc, ◌+◌, ◌*◌, ◌/◌, ◌<◌, ◌≤◌, true, false, nat_le, if◌then◌else◌, List, []}
 use Rattle.std.proofs.Common.{◌∷◌, map, length, get_or, sym, refl, ap, ◌∙◌, arith, slice_index, slice_get, drop, Some}
-use Rattle.std.proofs.Common.{None}
+use Rattle.std.proofs.Common.{None, ◌⊎◌, ⊎_elim, subst}
+use Rattle.std.proofs.lemmas.Option.{slice_get_past}
 use Rattle.std.specs.List.{range_with_len}
 use Rattle.std.specs.Ordering.{nat_cmp, match_ordering}
 use Rattle.std.specs.declared.cmp.Ordering.{Ordering}
@@ -75,17 +76,36 @@ with_length rising [] = omega arith
 with_length rising (c ∷ costs) = let a = inserted_length rising c in
     let b = with_length (insert_key nat_cmp rising c) costs in omega arith
 
+up_to : (a b c : ℕ) → a ≤ b → b ≤ c → a ≤ c
+up_to a b c h t = omega arith
+
+no_more : (a b : ℕ) → a ≡ b → a ≤ b
+no_more a b e = omega arith
+
 -- there are at most 64
 among_length : (rising : List ℕ) → length (floors_among rising) ≤ 64
 among_length rising = dite (dec_le (length rising) 64)
-    (λ few. let e = ap (λ (l : List ℕ). length l) (among_few rising few) in omega arith)
-    (λ many. let e = ap (λ (l : List ℕ). length l) (among_many rising (omega arith)) in
-    let n = length-map-range_with_len (λ k. slice_index rising (k * length rising / 64)) 0 64 in omega arith)
+    (λ few. subst (λ (l : List ℕ). length l ≤ 64) (sym (among_few rising few)) few)
+    (λ many. subst (λ (l : List ℕ). length l ≤ 64) (sym (among_many rising (omega arith)))
+    (no_more _ 64 (length-map-range_with_len (λ k. slice_index rising (k * length rising / 64)) 0 64)))
+
+-- there is no floor past the distinct costs, nor past the bands
+among_past : (rising : List ℕ) (k : ℕ) → length rising ≤ k → slice_get (floors_among rising) k ≡ None
+among_past rising k past = dite (dec_le (length rising) 64)
+    (λ few. ap (λ (l : List ℕ). slice_get l k) (among_few rising few) ∙ slice_get_past rising k past)
+    (λ many. ap (λ (l : List ℕ). slice_get l k) (among_many rising (omega arith))
+    ∙ spread_ends rising k (omega arith))
+
+pub floor_past : (rising : List ℕ) (k : ℕ) → (length rising ≤ k) ⊎ ((k < length rising) × (64 ≤ k))
+    → slice_get (floors_among rising) k ≡ None
+floor_past rising k past = ⊎_elim (λ (short : length rising ≤ k). among_past rising k short)
+    (λ (more : (k < length rising) × (64 ≤ k)).
+    slice_get_past (floors_among rising) k (up_to _ 64 k (among_length rising) more.1)) past
 
 pub floors_are : (costs : List ℕ) → floors_of costs ≡ floors_among (distinct_costs costs)
 unfolding floors_of
 floors_are costs = refl
 
 pub floors_few : (costs : List ℕ) → length (floors_of costs) ≤ 64
-floors_few costs = let e = ap (λ (l : List ℕ). length l) (floors_are costs) in
-    let few = among_length (distinct_costs costs) in omega arith
+floors_few costs =
+    subst (λ (l : List ℕ). length l ≤ 64) (sym (floors_are costs)) (among_length (distinct_costs costs))

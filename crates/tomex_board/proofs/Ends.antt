@@ -1,6 +1,7 @@
 -- What the words of a closed board say.
 use Rattle.std.proofs.Common.{◌≡◌, ◌≢◌, ℕ, ◌<◌, ◌≤◌, List, [], map, take, length, get_or, sym, ap, ◌∙◌, subst, ⊎_elim}
 use Rattle.std.proofs.Common.{arith, Some, slice_get}
+use Rattle.std.proofs.lemmas.Grind.{common_steps}
 use mathlib.Core.Option.{some-injective}
 use lib.ListN.{get_elem?}
 use Rattle.atomic_table.specs.Table.{State, Final, Seen}
@@ -30,6 +31,9 @@ module _ (costs cycles : List ℕ) (id : ℕ) (v : View) (ws xs : List ℕ)
 
   long : n ≤ length ws
   long = let a = ap (λ (l : List ℕ). length l) f.2 in let b = o.words in omega arith
+
+  pub count : length marks ≡ n
+  count = let enough = long in grind (arith, common_steps)
 
   row : (i : ℕ) → i < n → FitsRow costs cycles ws i (get_or ws i 0)
   row i h = subst (λ (l : List ℕ). FitsRow costs cycles l i (get_or l i 0)) f.2 (o.rows i h)

@@ -9,8 +9,21 @@ use Rattle.tomex_board.specs.Bands.{IsBandOf}
 use Rattle.tomex_board.specs.Views.{after_closing, after_seeing}
 use Rattle.tomex_board.specs.Finishing.{IsFinishing}
 
+-- a band of floors and a cost as the code reads them
+pub band_read : (read floors : List ℕ) (x cost k : ℕ) → read ≡ floors → x ≡ cost → IsBandOf read x k
+    → IsBandOf floors cost k
+band_read read floors x cost k at is band =
+    subst (λ (l : List ℕ). IsBandOf l cost k) at (subst (λ (z : ℕ). IsBandOf read z k) is band)
+
+-- no floor as the code reads it is as high as the cost
+pub none_read : (read floors : List ℕ) (x cost : ℕ) → read ≡ floors → x ≡ cost
+    → ((k : ℕ) → k < length read → get_or read k 0 < x) → (k : ℕ) → k < length floors → get_or floors k 0 < cost
+none_read read floors x cost at is dear =
+    subst (λ (l : List ℕ). (k : ℕ) → k < length l → get_or l k 0 < cost) at
+    (subst (λ (z : ℕ). (k : ℕ) → k < length read → get_or read k 0 < z) is dear)
+
 -- a cost has one band at most
-one_band : (floors : List ℕ) (cost j k : ℕ) → IsBandOf floors cost j → IsBandOf floors cost k → j ≡ k
+pub one_band : (floors : List ℕ) (cost j k : ℕ) → IsBandOf floors cost j → IsBandOf floors cost k → j ≡ k
 one_band floors cost j k a b = dite (dec_le (j + 1) k)
     (λ less. let p = b.2 j (omega arith) in let q = a.1 in absurd (omega arith))
     (λ no. dite (dec_le (k + 1) j) (λ more. let p = a.2 k (omega arith) in let q = b.1 in

@@ -171,6 +171,18 @@ module _ (costs cycles floors : List ℕ) (cost k : ℕ) where
 pub sees_none : (floors : List ℕ) (cost : ℕ) (v : View) → SeesEach floors cost 0 v v
 sees_none floors cost v = record { found = []; bands = refl; bests = refl }
 
+pub stays : (v : View) → Grows v v
+stays v = record { noted = λ i h. h; marks = λ i m h. h; bests = λ k. omega arith }
+
+pub none_so_far : (costs cycles floors : List ℕ) (cost : ℕ) (v : View)
+    → IsLeastSoFar costs cycles floors cost 0 v nothing_yet
+none_so_far costs cycles floors cost v =
+    record { below = λ k h fit. absurd (omega arith); one = inl refl; bound = λ ne. absurd (ne refl) }
+
+-- a bound names its word
+pub its_word : (w : ℕ) (b : Bound) → b ≡ bound_of w → band_word b.cycles b.row ≡ w
+its_word w b is = ap (λ (z : Bound). band_word z.cycles z.row) is ∙ omega arith
+
 -- the word w is not empty, so it is one of the bests
 pub is_least : (costs cycles floors : List ℕ) (cost : ℕ) (v : View) (w : ℕ) (b : Bound)
     → IsLeastSoFar costs cycles floors cost (length floors) v w → w ≢ nothing_yet → band_word b.cycles b.row ≡ w

@@ -1,6 +1,6 @@
 //! A board and its seats: how they begin and end.
 
-ghost use Rattle.std.specs.Prelude.{◌≡◌, ◌≢◌, ℕ, [], Some, length, slice_get, IfOk};
+ghost use Rattle.std.specs.Prelude.{◌≡◌, ◌≢◌, ℕ, ◌+◌, [], Some, length, slice_get, IfOk};
 ghost use Rattle.tomex_board.specs.Plans.{IsPlan};
 ghost use Rattle.tomex_board.specs.Marks.{AreLawful};
 ghost use Rattle.tomex_board.specs.Views.{Has, KnowsNotOpen, Grows, IsWhole, HasTwo, first_view};
@@ -20,6 +20,12 @@ use crate::words::{NOTHING_YET, OPEN, read_marks};
 use atomic_table::Table;
 use std::alloc::{AllocError, Allocator, Global};
 use std::marker::{Model, PhantomData};
+
+/// The words of a board: one for each row, then 64 for the bands.
+type BoardTable<J, A> = Table<u64, View, (), Lawful<J>, A>;
+
+/// A seat at a board's words.
+type TableSeat = atomic_table::Seat<u64, View>;
 
 /// The marks and bands of a study's rows, which threads share.
 #[derive(Drop)]
@@ -94,10 +100,8 @@ impl<J: Plan, A: Allocator> Board<J, A> {
         let rows = costs.len();
         let marks = Vec::with_capacity(alloc.clone()?, rows)?;
         let floors = floors_of(alloc.clone()?, costs)?;
-        let mut words = vec![in alloc.clone()?; OPEN; rows]?;
-        words.resize(rows + BANDS, NOTHING_YET)?;
         let costs = Vec::from_slice(alloc.clone()?, costs)?;
-        let (table, inner) = Table::of_words(alloc, words.as_slice(), &())?;
+        let (table, inner) = Board::<J, A>::open_table(alloc, rows)?;
         let board = Board {
             table,
             rows,
@@ -112,6 +116,22 @@ impl<J: Plan, A: Allocator> Board<J, A> {
                 of: PhantomData,
             },
         ))
+    }
+
+    /// The table of a board whose rows are all open, and its first seat.
+    fn open_table(alloc: A, rows: usize) -> Result<(BoardTable<J, A>, TableSeat), AllocError>
+    where
+        A: Clone,
+        requires rows { rows ≡ length J.costs }
+        requires plan { IsPlan J.costs J.cycles }
+        ensures table { IfOk result (λ t. (t.0.shared.table_id.words ≡ length J.costs + 64)
+            × (t.0.shared.table_id.slots ≡ 0)) }
+        ensures seat { IfOk result (λ t. (t.1.table_id ≡ t.0.shared.table_id)
+            × (t.1.me ≡ (first_view, []))) }
+    {
+        let mut words = vec![in alloc.clone()?; OPEN; rows]?;
+        words.resize(rows + BANDS, NOTHING_YET)?;
+        Table::of_words(alloc, words.as_slice(), &())
     }
 
     /// A second seat, for another thread. It has noted what the first has, has nothing in hand, and

@@ -29,8 +29,8 @@ pub enum GridError {
 }
 
 /// Each configuration, once with each number of stations in a pool.
-fn vary_stations<A: Allocator>(
-    alloc: A,
+fn vary_stations<A: Allocator + Clone>(
+    alloc: &A,
     rows: &[Config],
     pool: PoolId,
     counts: &[u8],
@@ -38,7 +38,7 @@ fn vary_stations<A: Allocator>(
     requires { list_all (is_between 1 16) counts.now ≡ true }
     ensures { IfOk result (λ v. v.items ≡ vary (with_stations pool) counts.now rows.now) }
 {
-    let mut varied = Vec::new(alloc);
+    let mut varied = Vec::new(alloc.clone()?);
     for config in rows {
         for count in counts {
             varied.push(config.with_stations(pool, *count))?;
@@ -48,8 +48,8 @@ fn vary_stations<A: Allocator>(
 }
 
 /// Each configuration, once with each option for a kind of unit.
-fn vary_option<A: Allocator>(
-    alloc: A,
+fn vary_option<A: Allocator + Clone>(
+    alloc: &A,
     rows: &[Config],
     unit: UnitId,
     options: &[UnitOption],
@@ -57,7 +57,7 @@ fn vary_option<A: Allocator>(
     requires { list_all (is_option (most_units unit)) options.now ≡ true }
     ensures { IfOk result (λ v. v.items ≡ vary (with_option unit) options.now rows.now) }
 {
-    let mut varied = Vec::new(alloc);
+    let mut varied = Vec::new(alloc.clone()?);
     for config in rows {
         for option in options {
             varied.push(config.with_option(unit, *option))?;
@@ -67,15 +67,15 @@ fn vary_option<A: Allocator>(
 }
 
 /// Each configuration, once with each number of buses.
-fn vary_buses<A: Allocator>(
-    alloc: A,
+fn vary_buses<A: Allocator + Clone>(
+    alloc: &A,
     rows: &[Config],
     buses: &[u8],
 ) -> Result<Vec<Config, A>, AllocError>
     requires { list_all (is_between 1 8) buses.now ≡ true }
     ensures { IfOk result (λ v. v.items ≡ vary with_buses buses.now rows.now) }
 {
-    let mut varied = Vec::new(alloc);
+    let mut varied = Vec::new(alloc.clone()?);
     for config in rows {
         for count in buses {
             varied.push(config.with_buses(*count))?;
@@ -85,15 +85,15 @@ fn vary_buses<A: Allocator>(
 }
 
 /// Each configuration, once with each width.
-fn vary_width<A: Allocator>(
-    alloc: A,
+fn vary_width<A: Allocator + Clone>(
+    alloc: &A,
     rows: &[Config],
     widths: &[u8],
 ) -> Result<Vec<Config, A>, AllocError>
     requires { list_all (is_between 1 4) widths.now ≡ true }
     ensures { IfOk result (λ v. v.items ≡ vary with_width widths.now rows.now) }
 {
-    let mut varied = Vec::new(alloc);
+    let mut varied = Vec::new(alloc.clone()?);
     for config in rows {
         for width in widths {
             varied.push(config.with_width(*width))?;
@@ -104,53 +104,56 @@ fn vary_width<A: Allocator>(
 
 /// A configuration for each choice of stations.
 fn station_rows<A: Allocator + Clone>(
-    alloc: A,
+    alloc: &A,
     axes: &Axes<A>,
 ) -> Result<Vec<Config, A>, AllocError>
     requires { stations_in_range (lists_of axes.now) ≡ true }
     ensures { IfOk result (λ v. v.items ≡ station_rows (lists_of axes.now)) }
 {
-    let rows = [Config::plain()];
-    let rows = vary_stations(alloc.clone()?, &rows, PoolId::Alu, &axes.alu)?;
-    let rows = vary_stations(alloc.clone()?, &rows, PoolId::Mul, &axes.mul)?;
-    let rows = vary_stations(alloc.clone()?, &rows, PoolId::Div, &axes.div)?;
-    let rows = vary_stations(alloc.clone()?, &rows, PoolId::Load, &axes.load)?;
-    let rows = vary_stations(alloc.clone()?, &rows, PoolId::Store, &axes.store)?;
+    let plain = [Config::plain()];
+    let mut rows = vary_stations(alloc, &plain, PoolId::Alu, &axes.alu)?;
+    rows = vary_stations(alloc, &rows, PoolId::Mul, &axes.mul)?;
+    rows = vary_stations(alloc, &rows, PoolId::Div, &axes.div)?;
+    rows = vary_stations(alloc, &rows, PoolId::Load, &axes.load)?;
+    rows = vary_stations(alloc, &rows, PoolId::Store, &axes.store)?;
     vary_stations(alloc, &rows, PoolId::Bru, &axes.bru)
 }
 
 /// A configuration for each choice of stations and options.
-fn option_rows<A: Allocator + Clone>(alloc: A, axes: &Axes<A>) -> Result<Vec<Config, A>, AllocError>
+fn option_rows<A: Allocator + Clone>(
+    alloc: &A,
+    axes: &Axes<A>,
+) -> Result<Vec<Config, A>, AllocError>
     requires stations { stations_in_range (lists_of axes.now) ≡ true }
     requires options { options_in_range (lists_of axes.now) ≡ true }
     ensures { IfOk result (λ v. v.items ≡ option_rows (lists_of axes.now)) }
 {
-    let rows = station_rows(alloc.clone()?, axes)?;
-    let rows = vary_option(alloc.clone()?, &rows, UnitId::Alu, &axes.alu_units)?;
-    let rows = vary_option(alloc.clone()?, &rows, UnitId::Mul, &axes.mul_units)?;
-    let rows = vary_option(alloc.clone()?, &rows, UnitId::Div, &axes.div_units)?;
-    let rows = vary_option(alloc.clone()?, &rows, UnitId::Mem, &axes.mem_units)?;
+    let mut rows = station_rows(alloc, axes)?;
+    rows = vary_option(alloc, &rows, UnitId::Alu, &axes.alu_units)?;
+    rows = vary_option(alloc, &rows, UnitId::Mul, &axes.mul_units)?;
+    rows = vary_option(alloc, &rows, UnitId::Div, &axes.div_units)?;
+    rows = vary_option(alloc, &rows, UnitId::Mem, &axes.mem_units)?;
     vary_option(alloc, &rows, UnitId::Bru, &axes.bru_units)
 }
 
 /// A configuration for each choice of stations, options and buses.
-fn bus_rows<A: Allocator + Clone>(alloc: A, axes: &Axes<A>) -> Result<Vec<Config, A>, AllocError>
+fn bus_rows<A: Allocator + Clone>(alloc: &A, axes: &Axes<A>) -> Result<Vec<Config, A>, AllocError>
     requires stations { stations_in_range (lists_of axes.now) ≡ true }
     requires options { options_in_range (lists_of axes.now) ≡ true }
     requires rest { rest_in_range (lists_of axes.now) ≡ true }
     ensures { IfOk result (λ v. v.items ≡ bus_rows (lists_of axes.now)) }
 {
-    let rows = option_rows(alloc.clone()?, axes)?;
+    let rows = option_rows(alloc, axes)?;
     vary_buses(alloc, &rows, &axes.buses)
 }
 
 /// A configuration for each choice of all parts.
 #[tactic(auto, unfolding(crate::specs::Grid::in_range))]
-fn rows_of<A: Allocator + Clone>(alloc: A, axes: &Axes<A>) -> Result<Vec<Config, A>, AllocError>
+fn rows_of<A: Allocator + Clone>(alloc: &A, axes: &Axes<A>) -> Result<Vec<Config, A>, AllocError>
     requires { in_range (lists_of axes.now) ≡ true }
     ensures { IfOk result (λ v. v.items ≡ rows_of (lists_of axes.now)) }
 {
-    let rows = bus_rows(alloc.clone()?, axes)?;
+    let rows = bus_rows(alloc, axes)?;
     vary_width(alloc, &rows, &axes.width)
 }
 
@@ -170,7 +173,7 @@ pub fn grid<A: Allocator + Clone>(alloc: A, axes: &Axes<A>) -> Result<Vec<Config
     if axes.is_too_large() {
         return Err(GridError::TooMany);
     }
-    match rows_of(alloc, axes) {
+    match rows_of(&alloc, axes) {
         Ok(rows) => Ok(rows),
         Err(AllocError) => Err(GridError::Memory),
     }

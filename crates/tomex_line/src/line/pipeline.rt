@@ -9,8 +9,8 @@ ghost use Rattle.tomex_line.specs.Values.{IsPipelineAsked};
 
 use super::LineFault;
 use super::described::{Texts, taking};
-use super::studied::on_one_run;
-use super::values::{Bounds, CONFIG, flag, flag_of, number, number_of, word_of};
+use super::studied::{OneRun, on_one_run, one_run_of};
+use super::values::{Bounds, flag, flag_of, number, number_of};
 use clap::{ArgMatches, Command};
 use std::alloc::{AllocError, Global};
 
@@ -130,10 +130,15 @@ pub(super) fn line_of<'a>(
         line.study.now line.config line.program.now line.from line.steps line.konata) }
     ensures refused { IfErr result IsRefusal }
 {
+    let OneRun {
+        study,
+        config,
+        program,
+    } = one_run_of(alloc, matches)?;
     Ok(PipelineLine {
-        study: word_of(alloc, matches, "STUDY")?,
-        config: number_of(alloc, matches, "CONFIG", CONFIG)?,
-        program: word_of(alloc, matches, "PROGRAM")?,
+        study,
+        config,
+        program,
         from: number_of(alloc, matches, "from", STEP)?,
         steps: number_of(alloc, matches, "steps", STEP)?,
         konata: flag_of(matches, "konata"),

@@ -9,8 +9,8 @@ ghost use Rattle.tomex_line.specs.Values.{IsStallsAsked};
 
 use super::LineFault;
 use super::described::{Texts, taking};
-use super::studied::on_one_run;
-use super::values::{CONFIG, flag, flag_of, number_of, word_of};
+use super::studied::{OneRun, on_one_run, one_run_of};
+use super::values::{flag, flag_of};
 use clap::{ArgMatches, Command};
 use std::alloc::{AllocError, Global};
 
@@ -97,10 +97,15 @@ pub(super) fn line_of<'a>(
         IsStallsAsked (rows_of (found_of matches.now)) line.study.now line.config line.program.now line.by_pc) }
     ensures refused { IfErr result IsRefusal }
 {
+    let OneRun {
+        study,
+        config,
+        program,
+    } = one_run_of(alloc, matches)?;
     Ok(StallsLine {
-        study: word_of(alloc, matches, "STUDY")?,
-        config: number_of(alloc, matches, "CONFIG", CONFIG)?,
-        program: word_of(alloc, matches, "PROGRAM")?,
+        study,
+        config,
+        program,
         by_pc: flag_of(matches, "by-pc"),
     })
 }

@@ -1,12 +1,28 @@
 //! What the commands on a study take first: the study, and for one of its runs a configuration and a program.
-ghost use Rattle.std.specs.Prelude.{◌≡◌, IfOk};
+ghost use Rattle.std.specs.Prelude.{◌≡◌, ◌≤◌, IfOk, IfErr};
 ghost use Rattle.clap.specs.Simple.{app_of};
+ghost use Rattle.clap.specs.Words.{found_of};
+ghost use Rattle.clap.specs.Walk.{rows_of};
+ghost use Rattle.tomex_line.specs.Lines.{IsRefusal};
 ghost use Rattle.tomex_line.specs.Grammar.{study_app, one_run_app};
+ghost use Rattle.tomex_line.specs.Values.{IsTimesAsked};
 
+use super::LineFault;
 use super::described::{Texts, described, taking};
-use super::values::{CONFIG, numeral, word};
-use clap::Command;
+use super::values::{CONFIG, number_of, numeral, word, word_of};
+use clap::{ArgMatches, Command};
 use std::alloc::{AllocError, Global};
+
+/// The run that a command is asked about: a program on a configuration.
+pub struct OneRun<'a> {
+    /// The name of the study's file, as written.
+    pub study: &'a str,
+    /// The number of the configuration.
+    pub config: u32,
+    /// The name by which the study calls the program.
+    pub program: &'a str,
+    pub ghost config_to: { config ≤ 16383 },
+}
 
 const STUDY_HELP: &str = "The file of the study";
 
@@ -31,4 +47,17 @@ pub fn on_one_run<'a>(alloc: Global, name: &'a str, texts: Texts) -> Result<Comm
     let command = on_study(alloc, name, texts);
     let command = taking(command, numeral(alloc, "CONFIG", CONFIG, CONFIG_HELP));
     taking(command, word(alloc, "PROGRAM", PROGRAM_HELP))
+}
+
+/// The run that a line of such a command names.
+pub fn one_run_of<'a>(alloc: Global, matches: &ArgMatches<'a>) -> Result<OneRun<'a>, LineFault>
+    ensures run { IfOk result
+        (λ run. IsTimesAsked (rows_of (found_of matches.now)) run.study.now run.config run.program.now) }
+    ensures refused { IfErr result IsRefusal }
+{
+    Ok(OneRun {
+        study: word_of(alloc, matches, "STUDY")?,
+        config: number_of(alloc, matches, "CONFIG", CONFIG)?,
+        program: word_of(alloc, matches, "PROGRAM")?,
+    })
 }

@@ -9,8 +9,8 @@ ghost use Rattle.tomex_line.specs.Values.{IsTablesAsked};
 
 use super::LineFault;
 use super::described::{Texts, taking};
-use super::studied::on_one_run;
-use super::values::{Bounds, CONFIG, number_of, numeral, word_of};
+use super::studied::{OneRun, on_one_run, one_run_of};
+use super::values::{Bounds, number_of, numeral};
 use clap::{ArgMatches, Command};
 use std::alloc::{AllocError, Global};
 
@@ -102,10 +102,15 @@ pub(super) fn line_of<'a>(
         line.study.now line.config line.program.now line.cycle) }
     ensures refused { IfErr result IsRefusal }
 {
+    let OneRun {
+        study,
+        config,
+        program,
+    } = one_run_of(alloc, matches)?;
     Ok(TablesLine {
-        study: word_of(alloc, matches, "STUDY")?,
-        config: number_of(alloc, matches, "CONFIG", CONFIG)?,
-        program: word_of(alloc, matches, "PROGRAM")?,
+        study,
+        config,
+        program,
         cycle: number_of(alloc, matches, "CYCLE", CYCLE)?,
     })
 }

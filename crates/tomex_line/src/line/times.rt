@@ -9,8 +9,7 @@ ghost use Rattle.tomex_line.specs.Values.{IsTimesAsked};
 
 use super::LineFault;
 use super::described::Texts;
-use super::studied::on_one_run;
-use super::values::{CONFIG, number_of, word_of};
+use super::studied::{OneRun, on_one_run, one_run_of};
 use clap::{ArgMatches, Command};
 use std::alloc::{AllocError, Global};
 
@@ -80,9 +79,14 @@ pub(super) fn line_of<'a>(
         (λ line. IsTimesAsked (rows_of (found_of matches.now)) line.study.now line.config line.program.now) }
     ensures refused { IfErr result IsRefusal }
 {
+    let OneRun {
+        study,
+        config,
+        program,
+    } = one_run_of(alloc, matches)?;
     Ok(TimesLine {
-        study: word_of(alloc, matches, "STUDY")?,
-        config: number_of(alloc, matches, "CONFIG", CONFIG)?,
-        program: word_of(alloc, matches, "PROGRAM")?,
+        study,
+        config,
+        program,
     })
 }

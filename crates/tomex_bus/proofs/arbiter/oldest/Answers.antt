@@ -1,4 +1,6 @@
-use Rattle.std.proofs.Common.{arith}
+use Rattle.std.proofs.Common.{◌≡◌, true, arith, inl, ⊎_elim}
+use Rattle.tomex_sets.specs.Sets.{has}
+use Rattle.tomex_sets.proofs.Bits.{member_some}
 use Rattle.tomex_sets.proofs.Members.{inside_left}
 use Rattle.tomex_bus.proofs.Picking.{best_left}
 use Rattle.tomex_bus.proofs.arbiter.oldest.Goals as goal
@@ -31,3 +33,21 @@ members-preserved c =
           c.members.best c.members.best c.args.issue_numbers.now c.members.invariant.least without (omega arith)
           (omega (arith, c.if-issue_numbers-number.false));
     }
+
+pub members-init : goal.members-init
+members-init c =
+    let without = c.without_lowest-rest.ensures.others c.lowest-best.result c.lowest-best.ensures.member
+    c.lowest-best.ensures.least in
+    record {
+      below = c.lowest-best.ensures.below;
+      member = c.lowest-best.ensures.member;
+      rest = inside_left c.args.set c.args.set c.without_lowest-rest.result c.lowest-best.result (λ i low is. is)
+          without;
+      least = best_left c.args.set c.args.set c.without_lowest-rest.result c.lowest-best.result c.lowest-best.result
+          c.lowest-best.result c.args.issue_numbers.now (λ i low is. inl is) without (omega arith) (omega arith);
+    }
+
+pub returns-clause-least : goal.returns-clause-least
+returns-clause-least c = λ i low is.
+    ⊎_elim (λ (left : has c.members.rest i ≡ true). absurd (member_some c.members.rest i left c.members-test.false))
+    (λ h. h) (c.members.invariant.least i low is)

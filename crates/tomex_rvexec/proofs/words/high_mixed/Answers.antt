@@ -5,6 +5,13 @@ use Rattle.std.proofs.lemmas.Int.{fits_signed_mul, ints, to_z-of_z}
 use Rattle.tomex_rvexec.specs.Words.{high_half}
 use Rattle.tomex_rvexec.proofs.words.high_mixed.Goals as goal
 
+pub overflow_mul-widened : goal.overflow_mul-widened
+overflow_mul-widened c =
+    let left : FitsSigned w64 c.widened.result = omega (arith, ints) in
+    let right : FitsSigned w64 c.from.result = omega (arith, ints) in
+    simp to_z-of_z (fits_signed_mul w64 c.widened.result c.from.result (2 ^ 31) 4294967295 (omega (arith, ints))
+    (omega (arith, ints)) (omega arith))
+
 pub returns : goal.returns
 returns c =
     let left : FitsSigned w64 c.widened.result = omega (arith, ints) in

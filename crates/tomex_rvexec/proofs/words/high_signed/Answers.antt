@@ -5,6 +5,13 @@ use Rattle.std.proofs.lemmas.Int.{fits_signed_mul, ints, to_z-of_z}
 use Rattle.tomex_rvexec.specs.Words.{high_half}
 use Rattle.tomex_rvexec.proofs.words.high_signed.Goals as goal
 
+pub overflow_mul-widened : goal.overflow_mul-widened
+overflow_mul-widened c =
+    let left : FitsSigned w64 c.widened.result = omega (arith, ints) in
+    let right : FitsSigned w64 c.widened-2.result = omega (arith, ints) in
+    simp to_z-of_z (fits_signed_mul w64 c.widened.result c.widened-2.result (2 ^ 31) (2 ^ 31) (omega (arith, ints))
+    (omega (arith, ints)) (omega arith))
+
 pub returns : goal.returns
 returns c =
     let left : FitsSigned w64 c.widened.result = omega (arith, ints) in

@@ -1,7 +1,11 @@
 use Rattle.std.proofs.Common.{ap}
 use Rattle.tomex_board.specs.Known.{Known}
-use Rattle.tomex_board.proofs.Ends.{lawful, noted, held, shut, closed}
+use Rattle.tomex_board.proofs.Ends.{count, lawful, noted, held, shut, closed}
 use Rattle.tomex_board.proofs.board.Board.close.Goals as goal
+
+pub returns-clause-count : goal.returns-clause-count
+returns-clause-count g c = rw (c.read_marks.ensures, c.self.invariant.1)
+    (count g.J.Plan.costs g.J.Plan.cycles _ _ _ _ c.close_with-closed.ensures.values.2)
 
 pub returns-clause-lawful : goal.returns-clause-lawful
 returns-clause-lawful g c = rw (c.read_marks.ensures, c.self.invariant.1)

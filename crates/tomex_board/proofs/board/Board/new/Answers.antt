@@ -1,34 +1,32 @@
-use Rattle.std.proofs.Common.{rules, ◌∙◌, ◌+◌, subst, arith, ap, ℕ, ◌≡◌, length, get_or, List}
-use Rattle.std.proofs.lemmas.List.{get_or-replicate}
-use Rattle.std.specs.Result.{IsOk}
-use Rattle.tomex_board.specs.Words.{nothing_yet}
+use Rattle.std.proofs.Common.{◌≡◌, rules, ◌∙◌, ap, subst, sym, inl, refl, ℕ, length, List, []}
 use Rattle.tomex_board.specs.Bands.{floors_of}
+use Rattle.tomex_board.specs.Steps.{Seated}
+use Rattle.tomex_board.specs.Views.{Has, first_view}
 use Rattle.tomex_board.proofs.Costs.{floors_few}
-use Rattle.tomex_board.proofs.Shares.{opens}
 use Rattle.tomex_board.proofs.board.Board.new.Goals as goal
-
-pub of_words-requires : goal.of_words-requires
-of_words-requires g c = let J = g.J.Plan in let rows : ℕ = length c.args.costs.now in
-    let n : rows ≡ length J.costs = ap (λ (l : List ℕ). length l) c.requires.costs in
-    let at = c.resize.ensures.by_index in let old = c.in_ok-words.ensures in let len = old.len in
-    let value = c.as_slice.ensures.value in let ok : IsOk c.resize.result = search rules in
-    opens J.costs J.cycles c.as_slice.result.now (search rules)
-    (λ i h. ap (λ (l : List ℕ). get_or l i 0) value
-    ∙ (at.0 i 0 (omega arith) (omega arith)
-    ∙ (ap (λ (l : List ℕ). get_or l i 0) (old.items_if_clones_equal (λ y e. e))
-    ∙ get_or-replicate {A = ℕ} rows i 0 0 (omega arith))))
-    (λ k h. subst (λ (m : ℕ). get_or c.as_slice.result.now (m + k) 0 ≡ nothing_yet) n
-    (ap (λ (l : List ℕ). get_or l (rows + k) 0) value ∙ at.1 (rows + k) 0 ok (omega arith) (omega arith)))
 
 pub invariant_of-board : goal.invariant_of-board
 invariant_of-board g c = let J = g.J.Plan in let n = ap (λ (l : List ℕ). length l) c.requires.costs in (
   c.requires.plan,
   n,
+  c.in_ok-table.ensures.table.0,
+  c.in_ok-table.ensures.table.1,
+  c.in_ok-marks.ensures.items,
   search rules,
-  search rules,
-  search rules,
-  search rules,
-  search rules,
+  c.in_ok-costs.ensures.items ∙ c.requires.costs,
   c.in_ok-floors.ensures ∙ ap floors_of c.requires.costs,
   floors_few J.costs,
 )
+
+-- the first seat has nothing at hand, and the number 0
+begins : (m : Seated) → m ≡ (first_view, []) → (m.1 ≡ []) × ((x : ℕ) × Has m.0.share x)
+begins m is = (
+  ap (λ (m : Seated). m.1) is,
+  subst (λ (m : Seated). (x : ℕ) × Has m.0.share x) (sym is) (0, inl refl),
+)
+
+pub invariant_of-result : goal.invariant_of-result
+invariant_of-result g c = begins c.in_ok-table.inner.me c.in_ok-table.ensures.seat.1
+
+pub returns : goal.returns
+returns g c = (c.in_ok-table.ensures.seat.0, ap (λ (m : Seated). m.0) c.in_ok-table.ensures.seat.1)

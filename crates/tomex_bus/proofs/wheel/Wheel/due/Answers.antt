@@ -23,3 +23,8 @@ pub returns-else-due-ne0-clause-rest : goal.returns-else-due-ne0-clause-rest
 returns-else-due-ne0-clause-rest c =
     rw c.self.view_is at (none_given c.args.self.now c.self.inside.sets c.self.inside.filled c.self.inside.head
     c.self.view_is c.self.invariant c.if-due-ne0.false)
+
+pub invariant_of-self : goal.invariant_of-self
+invariant_of-self c =
+    emptied_ring c.self.inside.sets c.self.inside.filled c.self.inside.head c.without-self-inside.result
+    c.self.invariant c.without-self-inside.ensures

@@ -1,9 +1,10 @@
 -- A step goes on, ends the run or faults, and is the next of those that the run has.
-use Rattle.std.proofs.Common.{◌≡◌, ◌++◌, ◌∙◌, ap, sym, arith}
+use Rattle.std.proofs.Common.{◌≡◌, ◌++◌, ◌∙◌, ap, subst, sym, arith}
 use Rattle.std.proofs.lemmas.List.{length_push}
-use Rattle.tomex_rvexec.specs.Machine.{Goes, step_of}
+use Rattle.tomex_rvexec.specs.Machine.{Goes, State, step_of}
+use Rattle.tomex_rvexec.specs.Run.{Leads}
 use Rattle.tomex_rvexec.proofs.Stepping.{ended_ends, ends_here, fault_faults, kept, next_goes, leads_on}
-use Rattle.tomex_rvexec.proofs.tracing.trace.Goals as goal
+use Rattle.tomex_rvexec.proofs.tracing.record.Goals as goal
 
 pub returns-in-Ended-clause-ok : goal.returns-in-Ended-clause-ok
 returns-in-Ended-clause-ok g c =
@@ -24,7 +25,8 @@ returns-in-Ended-clause-ends g c = (
   c.in-Ended.field-0,
   c.loop-done-test.true,
   record {
-    leads = c.loop-done.invariant.leads;
+    leads = subst (λ (s : State). Leads s c.loop-done._done c.loop-done.cpu) c.requires.start
+        c.loop-done.invariant.leads;
     ends = ended_ends _ _ c.recorded_step.new.self _ _ c.in-Ended.is c.in-Ok.ensures.ok.1;
   },
 )
@@ -36,7 +38,8 @@ returns-in-Err-clause-err g c =
       c.loop-done.cpu,
       c.loop-done-test.true,
       record {
-        leads = c.loop-done.invariant.leads;
+        leads = subst (λ (s : State). Leads s c.loop-done._done c.loop-done.cpu) c.requires.start
+            c.loop-done.invariant.leads;
         faults = faults.0;
       },
       faults.1,
@@ -44,8 +47,11 @@ returns-in-Err-clause-err g c =
 
 pub returns-clause-err : goal.returns-clause-err
 returns-clause-err g c =
-    let all : c.loop-done._done ≡ c.args.limit = omega arith in
-    (c.loop-done.cpu, rw all at c.loop-done.invariant.leads)
+    let all : c.loop-done._done ≡ c.args.limit = omega arith in (
+      c.loop-done.cpu,
+      subst (λ (s : State). Leads s c.args.limit c.loop-done.cpu) c.requires.start
+          (rw all at c.loop-done.invariant.leads),
+    )
 
 pub loop-done-preserved : goal.loop-done-preserved
 loop-done-preserved g c =

@@ -1,0 +1,22 @@
+-- A steal leaves what is stolen from as it was.
+use Rattle.std.proofs.Common.{◌≡◌, ◌∙◌, ap, set}
+use Rattle.std.proofs.lemmas.List.{set-get_or}
+use Rattle.tomex_lanes.proofs.lane.Lane.take.Goals as goal
+
+pub loop-k-preserved : goal.loop-k-preserved
+loop-k-preserved g c = let i = c.loop-k.invariant in let others = c.loop-k.self-inside.others.items in (
+  i.0,
+  i.1,
+  i.2,
+  i.3,
+  ap (set others c.loop-k.k) (c.steal.ensures.same ∙ c.index_mut.ensures.value)
+      ∙ (set-get_or others c.loop-k.k c.index_mut.result.now ∙ i.4),
+)
+
+pub returns-in-Some-steal-clause-same : goal.returns-in-Some-steal-clause-same
+returns-in-Some-steal-clause-same g c = let i = c.loop-k.invariant in
+    let others = c.loop-k.self-inside.others.items in
+    let same : set others c.loop-k.k c.steal.new.self ≡ c.self.inside.others.items =
+    ap (set others c.loop-k.k) (c.steal.ensures.same ∙ c.index_mut.ensures.value)
+    ∙ (set-get_or others c.loop-k.k c.index_mut.result.now ∙ i.4) in
+    let is = c.self.view_is in cc
