@@ -2,20 +2,24 @@
 
 use std::alloc::{AllocError, Global};
 use std::test::Fail;
-use tomex_image::{ImageError, Window, load};
+use tomex_image::{Image, ImageError, Window, load};
 use tomex_samples::programs::ELF;
+
+/// Whether a memory is the product and zeros, 65,536 bytes in all.
+fn is_product(memory: &[u8]) -> bool {
+    memory.len() == 65536
+        && memory.starts_with(&ELF.as_slice()[84..])
+        && memory[16..].iter().all(|byte| *byte == 0)
+}
 
 #[test]
 fn with_ample_memory(rt: HostRuntime) -> Result<(), Fail> {
     let window = Window::new(65536, 65536).ok_or("no window")?;
-    let program = &ELF.as_slice()[84..];
-    for file in [program, ELF.as_slice()] {
+    for file in [&ELF.as_slice()[84..], ELF.as_slice()] {
         let image = load(rt.alloc(), file, window)?;
         assert!(rt; image.window() == window);
         assert!(rt; image.entry() == 65536);
-        assert!(rt; image.memory().len() == 65536);
-        assert!(rt; image.memory().starts_with(program));
-        assert!(rt; image.memory()[16..].iter().all(|byte| *byte == 0));
+        assert!(rt; is_product(image.memory()));
     }
     Ok(())
 }
@@ -49,37 +53,43 @@ fn of_products(alloc: Global) -> Result<Vec<u8>, AllocError> {
     Ok(bytes)
 }
 
-#[test]
-fn sixteen_segments_and_one_more(rt: HostRuntime) -> Result<(), Fail> {
+/// What a file of so many segments comes to in a window of 4096 bytes.
+fn loaded(alloc: Global, count: u8) -> Result<Result<Image, ImageError>, Fail> {
     let window = Window::new(65536, 4096).ok_or("no window")?;
-    let most = of_segments(rt.alloc(), 16)?;
-    assert!(rt; most.len() == 580);
-    let image = load(rt.alloc(), most.as_slice(), window)?;
-    assert!(rt; image.memory() == of_products(rt.alloc())?.as_slice());
-    let more = of_segments(rt.alloc(), 17)?;
-    let refused = load(rt.alloc(), more.as_slice(), window);
-    assert!(rt; refused.err() == Some(ImageError::TooManySegments));
-    Ok(())
+    let bytes = of_segments(alloc, count)?;
+    Ok(load(alloc, bytes.as_slice(), window))
 }
 
 #[test]
+fn sixteen_segments_and_one_more(rt: HostRuntime) -> Result<(), Fail> {
+    let products = of_products(rt.alloc())?;
+    assert!(rt; of_segments(rt.alloc(), 16)?.len() == 580);
+    assert!(rt; loaded(rt.alloc(), 16)??.memory() == products.as_slice());
+    assert!(rt; loaded(rt.alloc(), 17)?.err() == Some(ImageError::TooManySegments));
+    Ok(())
+}
+
+/// Refusals and their texts.
+static TEXTS: [(ImageError, &str); 12] = [
+    (ImageError::Empty, "empty"),
+    (ImageError::TooLarge, "too large"),
+    (ImageError::Truncated, "truncated"),
+    (ImageError::NotRiscv, "not RISC-V"),
+    (ImageError::NotExec, "not executable"),
+    (ImageError::HeaderSize, "header size"),
+    (ImageError::Dynamic, "dynamic"),
+    (ImageError::Segment, "segment"),
+    (ImageError::Overlap, "overlap"),
+    (ImageError::TooManySegments, "too many segments"),
+    (ImageError::Entry, "entry"),
+    (ImageError::Memory, "out of memory"),
+];
+
+#[test]
 fn refusals_have_texts(rt: HostRuntime) -> Result<(), Fail> {
-    for (error, text) in [
-        (ImageError::Empty, "empty"),
-        (ImageError::TooLarge, "too large"),
-        (ImageError::Truncated, "truncated"),
-        (ImageError::NotRiscv, "not RISC-V"),
-        (ImageError::NotExec, "not executable"),
-        (ImageError::HeaderSize, "header size"),
-        (ImageError::Dynamic, "dynamic"),
-        (ImageError::Segment, "segment"),
-        (ImageError::Overlap, "overlap"),
-        (ImageError::TooManySegments, "too many segments"),
-        (ImageError::Entry, "entry"),
-        (ImageError::Memory, "out of memory"),
-    ] {
+    for (error, text) in &TEXTS {
         let shown = format!(in rt.alloc(); "{error}")?;
-        assert!(rt; shown.as_str() == text);
+        assert!(rt; shown.as_str() == *text);
     }
     Ok(())
 }

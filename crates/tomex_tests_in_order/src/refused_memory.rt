@@ -42,6 +42,16 @@ const STORES: [u8; 20] = [
     0x73, 0x00, 0x10, 0x00,
 ];
 
+/// Whether a machine ends by its fifth step.
+fn ends_at_fifth(mut cpu: Cpu<Heap>) -> bool {
+    for _ in 0..4 {
+        if cpu.step() != Ok(Stepped::Next) {
+            return false;
+        }
+    }
+    cpu.step() == Ok(Stepped::Ended(EndKind::Ebreak))
+}
+
 /// Makes a machine of a program that stores, and steps it to its end.
 struct Step;
 
@@ -51,16 +61,10 @@ impl Attempt for Step {
             Ok(image) => image,
             Err(outcome) => return Ok(outcome),
         };
-        let mut cpu = match Cpu::new(heap, &image) {
-            Ok(cpu) => cpu,
-            Err(_) => return Ok(Try::Refused),
-        };
-        for _ in 0..4 {
-            if cpu.step() != Ok(Stepped::Next) {
-                return Ok(Try::Wrong);
-            }
+        match Cpu::new(heap, &image) {
+            Ok(cpu) => Ok(Try::right_if(ends_at_fifth(cpu))),
+            Err(_) => Ok(Try::Refused),
         }
-        Ok(Try::right_if(cpu.step() == Ok(Stepped::Ended(EndKind::Ebreak))))
     }
 }
 
