@@ -146,6 +146,15 @@ fn a_row_above_all_floors_is_not_published(rt: HostRuntime) -> Result<(), Fail> 
     Ok(())
 }
 
+/// Bands and their floors among the costs 1 to 100.
+static FLOORS: [(usize, Option<u64>); 5] = [
+    (0, Some(1)),
+    (1, Some(2)),
+    (2, Some(4)),
+    (63, Some(99)),
+    (64, None),
+];
+
 #[test]
 fn words_and_floors(rt: HostRuntime) -> Result<(), Fail> {
     assert!(rt; mark_word(Mark::Open) == 0);
@@ -155,10 +164,8 @@ fn words_and_floors(rt: HostRuntime) -> Result<(), Fail> {
     assert!(rt; band_word(2_000, 0) == 32_768_000);
     assert!(rt; band_word(500, 2) == 8_192_002);
     let costs = to_hundred(rt.alloc())?;
-    assert!(rt; floor(costs.as_slice(), 0) == Some(1));
-    assert!(rt; floor(costs.as_slice(), 1) == Some(2));
-    assert!(rt; floor(costs.as_slice(), 2) == Some(4));
-    assert!(rt; floor(costs.as_slice(), 63) == Some(99));
-    assert!(rt; floor(costs.as_slice(), 64) == None);
+    for (band, wanted) in &FLOORS {
+        assert!(rt; floor(costs.as_slice(), *band) == *wanted);
+    }
     Ok(())
 }

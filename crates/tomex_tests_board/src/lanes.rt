@@ -12,24 +12,36 @@ fn taken(lanes: &mut Vec<Lane<Global>>, worker: usize) -> Result<Option<usize>, 
     }
 }
 
+/// Workers' turns, each with the row that is taken, of seven rows that three workers have.
+static TURNS: [[(usize, usize); 7]; 4] = [
+    // One worker alone takes its own rows, then those of the next one, and so round.
+    [(1, 1), (1, 4), (1, 2), (1, 5), (1, 0), (1, 3), (1, 6)],
+    [(2, 2), (2, 5), (2, 0), (2, 3), (2, 6), (2, 1), (2, 4)],
+    // Where the next one has none left, the one after it is asked.
+    [(2, 2), (2, 5), (1, 1), (1, 4), (1, 0), (1, 3), (1, 6)],
+    [(0, 0), (1, 1), (2, 2), (0, 3), (1, 4), (2, 5), (2, 6)],
+];
+
+/// Whether three workers take these seven rows in these turns, and then none.
+fn are_taken(alloc: Global, turns: &[(usize, usize); 7]) -> Result<bool, Fail> {
+    let mut lanes = deal(alloc, 3, 7)?;
+    for (worker, row) in turns {
+        if taken(&mut lanes, *worker)? != Some(*row) {
+            return Ok(false);
+        }
+    }
+    Ok(
+        taken(&mut lanes, 0)? == None
+            && taken(&mut lanes, 1)? == None
+            && taken(&mut lanes, 2)? == None,
+    )
+}
+
 /// Of seven rows worker 0 has 0, 3 and 6, worker 1 has 1 and 4, and worker 2 has 2 and 5.
 #[test]
 fn rows_are_taken_and_stolen_in_turn(rt: HostRuntime) -> Result<(), Fail> {
-    for (turns, rest) in [
-        // One worker alone takes its own rows, then those of the next one, and so round.
-        ([1, 1, 1, 1, 1, 1, 1], [1, 4, 2, 5, 0, 3, 6]),
-        ([2, 2, 2, 2, 2, 2, 2], [2, 5, 0, 3, 6, 1, 4]),
-        // Where the next one has none left, the one after it is asked.
-        ([2, 2, 1, 1, 1, 1, 1], [2, 5, 1, 4, 0, 3, 6]),
-        ([0, 1, 2, 0, 1, 2, 2], [0, 1, 2, 3, 4, 5, 6]),
-    ] {
-        let mut lanes = deal(rt.alloc(), 3, 7)?;
-        for (worker, row) in turns.iter().zip(&rest) {
-            assert!(rt; taken(&mut lanes, *worker)? == Some(*row));
-        }
-        for worker in 0..3 {
-            assert!(rt; taken(&mut lanes, worker)? == None);
-        }
+    for turns in &TURNS {
+        assert!(rt; are_taken(rt.alloc(), turns)?);
     }
     Ok(())
 }
