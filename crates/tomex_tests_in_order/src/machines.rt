@@ -23,14 +23,29 @@ fn is_too_long(alloc: Global, image: &Image, limit: u32) -> bool {
     matches!(run(alloc, image, limit), Err(RunError::TooLong))
 }
 
+/// The product's steps, and what stays so after its end.
+static STEPPED: [Stepped; 5] = [
+    Stepped::Next,
+    Stepped::Next,
+    Stepped::Next,
+    Stepped::Ended(EndKind::Ebreak),
+    Stepped::Ended(EndKind::Ebreak),
+];
+
+/// Whether a machine steps so.
+fn steps_so(cpu: &mut Cpu, wanted: &[Stepped]) -> bool {
+    let mut same = true;
+    for stepped in wanted {
+        same = same && cpu.step() == Ok(*stepped);
+    }
+    same
+}
+
 #[test]
 fn steps_to_the_end_and_stays_there(rt: HostRuntime) -> Result<(), Fail> {
     let image = image_of(rt.alloc(), 0, 4096, PRODUCT.as_slice())?;
     let mut cpu = Cpu::new(rt.alloc(), &image)?;
-    let ended = Stepped::Ended(EndKind::Ebreak);
-    for wanted in [Stepped::Next, Stepped::Next, Stepped::Next, ended, ended] {
-        assert!(rt; cpu.step() == Ok(wanted));
-    }
+    assert!(rt; steps_so(&mut cpu, STEPPED.as_slice()));
     assert!(rt; cpu.pc() == 12);
     Ok(())
 }
