@@ -239,18 +239,19 @@ fn wide_runs(rt: HostRuntime) -> Result<(), Fail> {
     Ok(())
 }
 
+/// Whether a run of 68 cycles makes few of them.
+fn is_skipped<A: Allocator>(machine: &mut Machine<A>) -> bool {
+    let is_new = worked(machine) == 0;
+    let ends = ends_by(machine, 1000) && cycle_of(machine) == 68;
+    is_new && ends && 7 <= worked(machine) && worked(machine) <= 25
+}
+
 /// Of the 68 cycles of a run with a long multiplication few are made.
 #[test]
 fn a_long_wait_is_skipped(rt: HostRuntime) -> Result<(), Fail> {
-    let image = image_at_0(&rt, WAITED_FOR.as_slice())?;
     let config = config_of([1; 6], 1, 64, 1, 1)?;
+    let image = image_at_0(&rt, WAITED_FOR.as_slice())?;
     let mut machine = machine_of(&rt, &image, &config)?;
-    assert!(rt; worked(&machine) == 0);
-    assert!(rt; ends_by(&mut machine, 1000));
-    assert!(rt; cycle_of(&machine) == 68);
-    let made = worked(&machine);
-    holds(
-        7 <= made && made <= 25,
-        "too few or too many cycles were made",
-    )
+    assert!(rt; is_skipped(&mut machine));
+    Ok(())
 }

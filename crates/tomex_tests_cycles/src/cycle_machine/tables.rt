@@ -237,8 +237,9 @@ fn runs_on<A: Allocator>(machine: &mut Machine<A>) -> bool {
 /// A machine that knows a run before it makes it can't have this one: `jal x0,0` has no end.
 #[test]
 fn a_jump_to_itself_runs_on(rt: HostRuntime) -> Result<(), Fail> {
+    let config = config_of([1; 6], 1, 1, 1, 1)?;
     let image = image_at_0(&rt, [0x0000006f].as_slice())?;
-    let mut machine = machine_of(&rt, &image, &config_of([1; 6], 1, 1, 1, 1)?)?;
+    let mut machine = machine_of(&rt, &image, &config)?;
     assert!(rt; runs_on(&mut machine));
     let tables = tables_of(&machine);
     assert!(rt; tables.cycle() == 1000001);
