@@ -157,12 +157,14 @@ static FLOORS: [(usize, Option<u64>); 5] = [
 
 #[test]
 fn words_and_floors(rt: HostRuntime) -> Result<(), Fail> {
-    assert!(rt; mark_word(Mark::Open) == 0);
-    assert!(rt; mark_word(Mark::Taken) == 1);
-    assert!(rt; mark_word(Mark::Finished(2_000)) == 8_002);
-    assert!(rt; mark_word(Mark::Dropped(0)) == 3);
-    assert!(rt; band_word(2_000, 0) == 32_768_000);
-    assert!(rt; band_word(500, 2) == 8_192_002);
+    let (open, taken) = (mark_word(Mark::Open), mark_word(Mark::Taken));
+    assert!(rt; open == 0 && taken == 1);
+    let (finished, dropped) = (
+        mark_word(Mark::Finished(2_000)),
+        mark_word(Mark::Dropped(0)),
+    );
+    assert!(rt; finished == 8_002 && dropped == 3);
+    assert!(rt; band_word(2_000, 0) == 32_768_000 && band_word(500, 2) == 8_192_002);
     let costs = to_hundred(rt.alloc())?;
     for (band, wanted) in &FLOORS {
         assert!(rt; floor(costs.as_slice(), *band) == *wanted);

@@ -5,11 +5,8 @@ use std::test::Fail;
 use tomex_lanes::{Lane, deal};
 
 /// What a worker takes from its lane.
-fn taken(lanes: &mut Vec<Lane<Global>>, worker: usize) -> Result<Option<usize>, Fail> {
-    match lanes.get_mut(worker) {
-        Some(lane) => Ok(lane.take()),
-        None => Err("no such worker")?,
-    }
+fn taken(lanes: &mut [Lane<Global>], worker: usize) -> Option<usize> {
+    lanes.get_mut(worker)?.take()
 }
 
 /// Workers' turns, each with the row that is taken, of seven rows that three workers have.
@@ -23,25 +20,23 @@ static TURNS: [[(usize, usize); 7]; 4] = [
 ];
 
 /// Whether three workers take these seven rows in these turns, and then none.
-fn are_taken(alloc: Global, turns: &[(usize, usize); 7]) -> Result<bool, Fail> {
-    let mut lanes = deal(alloc, 3, 7)?;
+fn take_these(lanes: &mut [Lane<Global>], turns: &[(usize, usize); 7]) -> bool {
+    let mut same = lanes.len() == 3;
     for (worker, row) in turns {
-        if taken(&mut lanes, *worker)? != Some(*row) {
-            return Ok(false);
-        }
+        same = same && taken(lanes, *worker) == Some(*row);
     }
-    Ok(
-        taken(&mut lanes, 0)? == None
-            && taken(&mut lanes, 1)? == None
-            && taken(&mut lanes, 2)? == None,
-    )
+    for worker in 0..3 {
+        same = same && taken(lanes, worker) == None;
+    }
+    same
 }
 
 /// Of seven rows worker 0 has 0, 3 and 6, worker 1 has 1 and 4, and worker 2 has 2 and 5.
 #[test]
 fn rows_are_taken_and_stolen_in_turn(rt: HostRuntime) -> Result<(), Fail> {
     for turns in &TURNS {
-        assert!(rt; are_taken(rt.alloc(), turns)?);
+        let mut lanes = deal(rt.alloc(), 3, 7)?;
+        assert!(rt; take_these(lanes.as_mut_slice(), turns));
     }
     Ok(())
 }

@@ -49,13 +49,18 @@ fn takes_more(alloc: Global, costs: &[u64], blocks: u64) -> Result<bool, AllocEr
     Ok(refusals(alloc, &NewBoard { costs })? > Some(blocks))
 }
 
+/// Whether a board of a hundred rows does.
+fn hundred_takes_more(alloc: Global, blocks: u64) -> Result<bool, AllocError> {
+    let costs = hundred(alloc)?;
+    takes_more(alloc, costs.as_slice(), blocks)
+}
+
 #[test]
 fn of_boards(rt: HostRuntime) -> Result<(), Fail> {
     // The room for marks, the set of costs and its list, the words and those of bands, the costs, and
     // the table.
     assert!(rt; takes_more(rt.alloc(), [5, 9].as_slice(), 6)?);
     // And the floors that are spread among more costs than there are bands.
-    let costs = hundred(rt.alloc())?;
-    assert!(rt; takes_more(rt.alloc(), costs.as_slice(), 8)?);
+    assert!(rt; hundred_takes_more(rt.alloc(), 8)?);
     Ok(())
 }
