@@ -146,19 +146,28 @@ fn a_row_above_all_floors_is_not_published(rt: HostRuntime) -> Result<(), Fail> 
     Ok(())
 }
 
+/// Bands and their floors among the costs 1 to 100.
+static FLOORS: [(usize, Option<u64>); 5] = [
+    (0, Some(1)),
+    (1, Some(2)),
+    (2, Some(4)),
+    (63, Some(99)),
+    (64, None),
+];
+
 #[test]
 fn words_and_floors(rt: HostRuntime) -> Result<(), Fail> {
-    assert!(rt; mark_word(Mark::Open) == 0);
-    assert!(rt; mark_word(Mark::Taken) == 1);
-    assert!(rt; mark_word(Mark::Finished(2_000)) == 8_002);
-    assert!(rt; mark_word(Mark::Dropped(0)) == 3);
-    assert!(rt; band_word(2_000, 0) == 32_768_000);
-    assert!(rt; band_word(500, 2) == 8_192_002);
+    let (open, taken) = (mark_word(Mark::Open), mark_word(Mark::Taken));
+    assert!(rt; open == 0 && taken == 1);
+    let (finished, dropped) = (
+        mark_word(Mark::Finished(2_000)),
+        mark_word(Mark::Dropped(0)),
+    );
+    assert!(rt; finished == 8_002 && dropped == 3);
+    assert!(rt; band_word(2_000, 0) == 32_768_000 && band_word(500, 2) == 8_192_002);
     let costs = to_hundred(rt.alloc())?;
-    assert!(rt; floor(costs.as_slice(), 0) == Some(1));
-    assert!(rt; floor(costs.as_slice(), 1) == Some(2));
-    assert!(rt; floor(costs.as_slice(), 2) == Some(4));
-    assert!(rt; floor(costs.as_slice(), 63) == Some(99));
-    assert!(rt; floor(costs.as_slice(), 64) == None);
+    for (band, wanted) in &FLOORS {
+        assert!(rt; floor(costs.as_slice(), *band) == *wanted);
+    }
     Ok(())
 }

@@ -44,19 +44,23 @@ fn hundred(alloc: Global) -> Result<Vec<u64>, AllocError> {
     (0..100u64).collect(alloc)
 }
 
+/// Whether a board of rows with these costs takes more than so many blocks.
+fn takes_more(alloc: Global, costs: &[u64], blocks: u64) -> Result<bool, AllocError> {
+    Ok(refusals(alloc, &NewBoard { costs })? > Some(blocks))
+}
+
+/// Whether a board of a hundred rows does.
+fn hundred_takes_more(alloc: Global, blocks: u64) -> Result<bool, AllocError> {
+    let costs = hundred(alloc)?;
+    takes_more(alloc, costs.as_slice(), blocks)
+}
+
 #[test]
 fn of_boards(rt: HostRuntime) -> Result<(), Fail> {
-    let costs = hundred(rt.alloc())?;
-    let few = NewBoard {
-        costs: [5, 9].as_slice(),
-    };
-    let many = NewBoard {
-        costs: costs.as_slice(),
-    };
     // The room for marks, the set of costs and its list, the words and those of bands, the costs, and
     // the table.
-    assert!(rt; matches!(refusals(rt.alloc(), &few)?, Some(granted) if granted > 6));
+    assert!(rt; takes_more(rt.alloc(), [5, 9].as_slice(), 6)?);
     // And the floors that are spread among more costs than there are bands.
-    assert!(rt; matches!(refusals(rt.alloc(), &many)?, Some(granted) if granted > 8));
+    assert!(rt; hundred_takes_more(rt.alloc(), 8)?);
     Ok(())
 }

@@ -1,9 +1,9 @@
 //! Runs of the machine, beside worked examples, the in-order run and the recurrence.
 
-use std::alloc::Allocator;
+use std::alloc::{AllocError, Allocator, Global};
 use std::test::Fail;
 use tomex_config::{Config, UnitOption};
-use tomex_cycle::{Machine, Progress};
+use tomex_cycle::{Machine, Progress, Tables};
 use tomex_image::Image;
 use tomex_rvexec::End;
 use tomex_samples::image_of;
@@ -47,6 +47,15 @@ fn wide_config(stations: [u8; 6], parts: [u8; 4], width: u8) -> Result<Config, F
     Ok(Config::new(stations, units, buses, width).ok_or("no configuration")?)
 }
 
+/// A machine before its first cycle.
+fn machine_of<'a>(
+    rt: &HostRuntime,
+    image: &'a Image,
+    config: &Config,
+) -> Result<Machine<'a>, AllocError> {
+    Machine::new(rt.alloc(), image, config)
+}
+
 fn tick<A: Allocator>(machine: &mut Machine<A>) -> Progress {
     if machine.cycle() < 1000000000 {
         machine.tick()
@@ -57,6 +66,19 @@ fn tick<A: Allocator>(machine: &mut Machine<A>) -> Progress {
 
 fn cycle_of<A: Allocator>(machine: &Machine<A>) -> u64 {
     machine.cycle()
+}
+
+fn worked<A: Allocator>(machine: &Machine<A>) -> u64 {
+    machine.worked()
+}
+
+fn tables_of<A: Allocator>(machine: &Machine<A>) -> Tables {
+    machine.tables()
+}
+
+/// Whether the run ends by this cycle.
+fn ends_by<A: Allocator>(machine: &mut Machine<A>, to: u32) -> bool {
+    matches!(machine.advance(u64::from(to)), Progress::Ended)
 }
 
 /// Whether the next tick answers that the run goes on, and brings the machine to this cycle.
@@ -132,100 +154,104 @@ const WAITED_FOR: [u32; 3] = [0x020001b3, 0x00018213, 0x00100073];
 /// One station a pool, but for two of alu.
 const TWO_ALU: [u8; 6] = [2, 1, 1, 1, 1, 1];
 
-/// Ticks and one leap come to the total, and the run to this pc and register.
-fn comes_to(
+/// The same with two of load.
+const TWO_LOAD: [u8; 6] = [1, 1, 1, 2, 1, 1];
+
+/// A program with its stations, its alu units, the latencies of mul and mem, and its buses; its issue width; the
+/// total; and the last pc and a register's value at its end.
+type Worked = (&'static [u32], [u8; 6], [u8; 4], u8, u32, (u32, usize, u32));
+
+/// Whether one leap ends at the total.
+fn leaps_to(rt: &HostRuntime, image: &Image, config: &Config, total: u32) -> Result<bool, Fail> {
+    let mut machine = machine_of(rt, image, config)?;
+    let ends = ends_by(&mut machine, total.saturating_add(9));
+    Ok(ends && cycle_of(&machine) == u64::from(total))
+}
+
+/// The end of a run that ticks come to at the total.
+fn ticked(
     rt: &HostRuntime,
-    words: &[u32],
+    image: &Image,
     config: &Config,
     total: u32,
-    pc: u32,
-    register: usize,
-    value: u32,
-) -> Result<(), Fail> {
-    let image = image_at_0(rt, words)?;
-    let mut leaping = Machine::new(rt.alloc(), &image, config)?;
-    let answer = leaping.advance(u64::from(total) + 9);
-    holds(matches!(answer, Progress::Ended), "a leap doesn't end")?;
-    holds(
-        leaping.cycle() == u64::from(total),
-        "a leap to another cycle",
-    )?;
-    let mut machine = Machine::new(rt.alloc(), &image, config)?;
+) -> Result<End<Global>, Fail> {
+    let mut machine = machine_of(rt, image, config)?;
     run_to(&mut machine, total)?;
-    let end = end_of(machine)?;
-    holds(end.pc == pc, "another pc")?;
-    holds(
-        end.regs.get(register).copied() == Some(value),
-        "another value",
-    )
+    end_of(machine)
 }
+
+/// Ticks and one leap come to the total, and the run to this pc and register.
+fn comes_to(rt: &HostRuntime, row: &Worked) -> Result<(), Fail> {
+    let (words, stations, parts, width, total, (pc, register, value)) = *row;
+    let image = image_at_0(rt, words)?;
+    let config = wide_config(stations, parts, width)?;
+    let leaps = leaps_to(rt, &image, &config, total)?;
+    holds(leaps, "a leap to another cycle, or to no end")?;
+    let end = ticked(rt, &image, &config, total)?;
+    let is_same = end.pc == pc && end.regs.get(register).copied() == Some(value);
+    holds(is_same, "another pc, or another value")
+}
+
+static WORKED: [Worked; 17] = [
+    (&PRODUCT, TWO_ALU, [1, 3, 1, 1], 1, 8, (12, 3, 0x23)),
+    (&PRODUCT, [1; 6], [1, 3, 1, 1], 1, 10, (12, 3, 0x23)),
+    (&ONE_BUS, [1; 6], [1, 2, 1, 1], 1, 5, (8, 4, 1)),
+    (&ONE_BUS, [1; 6], [1, 2, 1, 2], 1, 4, (8, 4, 1)),
+    (&ONE_UNIT, TWO_ALU, [1, 3, 1, 2], 1, 8, (12, 5, 0)),
+    (&ONE_UNIT, TWO_ALU, [2, 3, 1, 2], 1, 7, (12, 5, 0)),
+    (&WRITTEN_TWICE, [1; 6], [1, 10, 1, 1], 1, 12, (8, 5, 1)),
+    (&STORED, TWO_ALU, [1, 1, 2, 1], 1, 9, (16, 2, 3)),
+    (&ASIDE, TWO_ALU, [1, 1, 2, 1], 1, 8, (16, 2, 0)),
+    (&INDIRECT, TWO_ALU, [1, 3, 1, 1], 1, 9, (16, 6, 16)),
+    (&DIRECT, TWO_ALU, [1, 3, 1, 1], 1, 7, (16, 6, 16)),
+    (&TWO_LOADS, TWO_LOAD, [1, 1, 2, 1], 1, 8, (12, 8, 256)),
+    (&TWO_LOADS, [1; 6], [1, 1, 2, 1], 1, 12, (12, 8, 256)),
+    (&NOTHING, [1; 6], [1, 1, 1, 1], 1, 2, (4, 0, 0)),
+    (&EBREAK, [1; 6], [1, 1, 1, 1], 1, 1, (0, 2, 65536)),
+    (&LOOP, [1; 6], [1, 1, 1, 1], 1, 2000, (12, 1, 0)),
+    (&WAITED_FOR, [1; 6], [1, 64, 1, 1], 1, 68, (8, 4, 0)),
+];
 
 #[test]
 fn worked_runs(rt: HostRuntime) -> Result<(), Fail> {
-    // stations, alu units, latencies of mul and mem, buses; total, last pc, a register's value
-    for (words, stations, [alu, mul, mem, buses], total, pc, register, value) in [
-        (PRODUCT.as_slice(), TWO_ALU, [1, 3, 1, 1], 8, 12, 3, 0x23),
-        (PRODUCT.as_slice(), [1; 6], [1, 3, 1, 1], 10, 12, 3, 0x23),
-        (ONE_BUS.as_slice(), [1; 6], [1, 2, 1, 1], 5, 8, 4, 1),
-        (ONE_BUS.as_slice(), [1; 6], [1, 2, 1, 2], 4, 8, 4, 1),
-        (ONE_UNIT.as_slice(), TWO_ALU, [1, 3, 1, 2], 8, 12, 5, 0),
-        (ONE_UNIT.as_slice(), TWO_ALU, [2, 3, 1, 2], 7, 12, 5, 0),
-        (WRITTEN_TWICE.as_slice(), [1; 6], [1, 10, 1, 1], 12, 8, 5, 1),
-        (STORED.as_slice(), TWO_ALU, [1, 1, 2, 1], 9, 16, 2, 3),
-        (ASIDE.as_slice(), TWO_ALU, [1, 1, 2, 1], 8, 16, 2, 0),
-        (INDIRECT.as_slice(), TWO_ALU, [1, 3, 1, 1], 9, 16, 6, 16),
-        (DIRECT.as_slice(), TWO_ALU, [1, 3, 1, 1], 7, 16, 6, 16),
-        (
-            TWO_LOADS.as_slice(),
-            [1, 1, 1, 2, 1, 1],
-            [1, 1, 2, 1],
-            8,
-            12,
-            8,
-            256,
-        ),
-        (TWO_LOADS.as_slice(), [1; 6], [1, 1, 2, 1], 12, 12, 8, 256),
-        (NOTHING.as_slice(), [1; 6], [1, 1, 1, 1], 2, 4, 0, 0),
-        (EBREAK.as_slice(), [1; 6], [1, 1, 1, 1], 1, 0, 2, 65536),
-        (LOOP.as_slice(), [1; 6], [1, 1, 1, 1], 2000, 12, 1, 0),
-        (WAITED_FOR.as_slice(), [1; 6], [1, 64, 1, 1], 68, 8, 4, 0),
-    ] {
-        let config = config_of(stations, alu, mul, mem, buses)?;
-        comes_to(&rt, words, &config, total, pc, register, value)?;
+    for row in &WORKED {
+        comes_to(&rt, row)?;
     }
     Ok(())
 }
+
+static WIDE: [Worked; 7] = [
+    (&PRODUCT, TWO_ALU, [2, 3, 1, 2], 1, 8, (12, 3, 0x23)),
+    (&PRODUCT, TWO_ALU, [2, 3, 1, 2], 2, 7, (12, 3, 0x23)),
+    (&PRODUCT, TWO_ALU, [2, 3, 1, 2], 4, 7, (12, 3, 0x23)),
+    (&PRODUCT, [1; 6], [1, 3, 1, 1], 2, 10, (12, 3, 0x23)),
+    (&INDIRECT, TWO_ALU, [1, 3, 1, 1], 4, 9, (16, 6, 16)),
+    (&NOTHING, [1; 6], [1, 1, 1, 1], 2, 2, (4, 0, 0)),
+    (&EBREAK, [1; 6], [1, 1, 1, 1], 4, 1, (0, 2, 65536)),
+];
 
 /// A product issues beside its producers, and nothing beside a JALR after it.
 #[test]
 fn wide_runs(rt: HostRuntime) -> Result<(), Fail> {
-    // stations, alu units, latencies of mul and mem, buses, width; total, last pc, a register's value
-    for (words, stations, parts, width, total, pc, register, value) in [
-        (PRODUCT.as_slice(), TWO_ALU, [2, 3, 1, 2], 1, 8, 12, 3, 0x23),
-        (PRODUCT.as_slice(), TWO_ALU, [2, 3, 1, 2], 2, 7, 12, 3, 0x23),
-        (PRODUCT.as_slice(), TWO_ALU, [2, 3, 1, 2], 4, 7, 12, 3, 0x23),
-        (PRODUCT.as_slice(), [1; 6], [1, 3, 1, 1], 2, 10, 12, 3, 0x23),
-        (INDIRECT.as_slice(), TWO_ALU, [1, 3, 1, 1], 4, 9, 16, 6, 16),
-        (NOTHING.as_slice(), [1; 6], [1, 1, 1, 1], 2, 2, 4, 0, 0),
-        (EBREAK.as_slice(), [1; 6], [1, 1, 1, 1], 4, 1, 0, 2, 65536),
-    ] {
-        let config = wide_config(stations, parts, width)?;
-        comes_to(&rt, words, &config, total, pc, register, value)?;
+    for row in &WIDE {
+        comes_to(&rt, row)?;
     }
     Ok(())
+}
+
+/// Whether a run of 68 cycles makes few of them.
+fn is_skipped<A: Allocator>(machine: &mut Machine<A>) -> bool {
+    let is_new = worked(machine) == 0;
+    let ends = ends_by(machine, 1000) && cycle_of(machine) == 68;
+    is_new && ends && 7 <= worked(machine) && worked(machine) <= 25
 }
 
 /// Of the 68 cycles of a run with a long multiplication few are made.
 #[test]
 fn a_long_wait_is_skipped(rt: HostRuntime) -> Result<(), Fail> {
-    let image = image_at_0(&rt, WAITED_FOR.as_slice())?;
     let config = config_of([1; 6], 1, 64, 1, 1)?;
-    let mut machine = Machine::new(rt.alloc(), &image, &config)?;
-    assert!(rt; machine.worked() == 0);
-    assert!(rt; matches!(machine.advance(1000), Progress::Ended));
-    assert!(rt; machine.cycle() == 68);
-    holds(
-        7 <= machine.worked() && machine.worked() <= 25,
-        "too few or too many cycles were made",
-    )
+    let image = image_at_0(&rt, WAITED_FOR.as_slice())?;
+    let mut machine = machine_of(&rt, &image, &config)?;
+    assert!(rt; is_skipped(&mut machine));
+    Ok(())
 }

@@ -27,7 +27,7 @@ fn config_of(stations: [u8; 6], latencies: [u8; 3], buses: u8) -> Result<Config,
 /// The trace of a program at address 0.
 fn trace_of(alloc: Global, words: &[u32]) -> Result<Vec<Step>, Fail> {
     let image = image_of(alloc, 0, 4096, words)?;
-    Ok(trace(alloc, &image, 1000).map_err(|_| "no trace")?)
+    Ok(trace(alloc, &image, 1000)?)
 }
 
 /// What a program's run on a configuration lacks.
@@ -51,25 +51,31 @@ fn waits_of(alloc: Global, words: &[u32], config: &Config) -> Result<Vec<Waits>,
 /// The count, peak and stalls of each part, in the order of reports.
 type Table = [(u64, u64, u64); 13];
 
-/// Whether the needs on a configuration are those of a table, and branch, operand, address, memory, drain and total
-/// these.
-fn are_needs(needs: &Needs, config: &Config, table: &Table, rest: &[u64; 6]) -> bool {
-    let mut same = true;
-    for (part, (count, peak, stalls)) in Part::ALL.iter().zip(table.iter()) {
-        let need = Need {
-            peak: *peak,
-            stalls: *stalls,
-        };
-        same = same && part.count(config) == *count && needs.need(*part) == need;
-    }
-    same && [
+/// The count, peak and stalls of a part.
+fn row_of(needs: &Needs, config: &Config, part: Part) -> (u64, u64, u64) {
+    let need = needs.need(part);
+    (part.count(config), need.peak, need.stalls)
+}
+
+/// Branch, operand, address, memory, drain and total.
+fn rest_of(needs: &Needs) -> [u64; 6] {
+    [
         needs.branch,
         needs.operand,
         needs.address,
         needs.memory,
         needs.drain(),
         needs.total,
-    ] == *rest
+    ]
+}
+
+/// Whether the needs on a configuration are those of a table, and the rest is this.
+fn are_needs(needs: &Needs, config: &Config, table: &Table, rest: &[u64; 6]) -> bool {
+    let mut same = rest_of(needs) == *rest;
+    for (part, row) in Part::ALL.iter().zip(table) {
+        same = same && row_of(needs, config, *part) == *row;
+    }
+    same
 }
 
 /// Waits in the order of the report by place.
@@ -93,6 +99,20 @@ fn are_waits(waits: &[Waits], table: &[[u64; 8]]) -> bool {
             .iter()
             .zip(table.iter())
             .all(|(step, numbers)| *step == waits_from(numbers))
+}
+
+/// Whether a program's run on a configuration lacks what its tables say.
+fn lacks(
+    alloc: Global,
+    words: &[u32],
+    config: &Config,
+    table: &Table,
+    rest: &[u64; 6],
+    waited: &[[u64; 8]],
+) -> Result<bool, Fail> {
+    let needs = needs_of(alloc, words, config)?;
+    let waits = waits_of(alloc, words, config)?;
+    Ok(are_needs(&needs, config, table, rest) && are_waits(waits.as_slice(), waited))
 }
 
 /// `addi x1,x0,5; addi x2,x0,7; mul x3,x1,x2; ebreak`
@@ -124,10 +144,17 @@ static PRODUCT_WAITS: [[u64; 8]; 4] = [
 #[test]
 fn a_product_waits_for_its_last_factor(rt: HostRuntime) -> Result<(), Fail> {
     let config = config_of([2, 1, 1, 1, 1, 1], [1, 3, 1], 1)?;
-    let needs = needs_of(rt.alloc(), PRODUCT.as_slice(), &config)?;
-    assert!(rt; are_needs(&needs, &config, &PRODUCT_NEEDS, &[0, 1, 0, 0, 4, 8]));
-    let waits = waits_of(rt.alloc(), PRODUCT.as_slice(), &config)?;
-    assert!(rt; are_waits(waits.as_slice(), PRODUCT_WAITS.as_slice()));
+    let (needs, waits) = (&PRODUCT_NEEDS, &PRODUCT_WAITS);
+    assert!(rt;
+        lacks(
+            rt.alloc(),
+            &PRODUCT,
+            &config,
+            needs,
+            &[0, 1, 0, 0, 4, 8],
+            waits
+        )?
+    );
     Ok(())
 }
 
@@ -165,30 +192,45 @@ static FOLLOWED_WAITS: [[u64; 8]; 7] = [
 #[test]
 fn the_followed_program_waits_for_its_load(rt: HostRuntime) -> Result<(), Fail> {
     let config = config_of([2, 1, 1, 1, 1, 1], [1, 5, 2], 1)?;
-    let needs = needs_of(rt.alloc(), FOLLOWED.as_slice(), &config)?;
-    assert!(rt; are_needs(&needs, &config, &FOLLOWED_NEEDS, &[0, 6, 2, 1, 6, 13]));
-    let waits = waits_of(rt.alloc(), FOLLOWED.as_slice(), &config)?;
-    assert!(rt; are_waits(waits.as_slice(), FOLLOWED_WAITS.as_slice()));
+    let (needs, waits) = (&FOLLOWED_NEEDS, &FOLLOWED_WAITS);
+    assert!(rt;
+        lacks(
+            rt.alloc(),
+            &FOLLOWED,
+            &config,
+            needs,
+            &[0, 6, 2, 1, 6, 13],
+            waits
+        )?
+    );
     Ok(())
 }
 
 /// `mul x3,x3,x0; add x4,x0,x4; sw x4,264(x0); lw x4,256(x0); ebreak`
 static STORE_BEFORE_LOAD: [u32; 5] = [0x020181b3, 0x00400233, 0x10402423, 0x10002203, 0x00100073];
 
+/// Whether a run has this total and waits for operands so long, with these needs of the bus and of the memory's units.
+fn are_shared(needs: &Needs, total: u64, operand: u64, buses: [u64; 2], units: [u64; 2]) -> bool {
+    let need = |[peak, stalls]: [u64; 2]| Need { peak, stalls };
+    needs.total == total
+        && needs.operand == operand
+        && needs.buses == need(buses)
+        && needs.need(Part::ALL[9]) == need(units)
+}
+
 #[test]
 fn a_second_bus_may_cost_a_cycle(rt: HostRuntime) -> Result<(), Fail> {
     let one_bus = config_of([1; 6], [2, 3, 2], 1)?;
     let two_buses = config_of([1; 6], [2, 3, 2], 2)?;
-    let one = needs_of(rt.alloc(), STORE_BEFORE_LOAD.as_slice(), &one_bus)?;
-    let two = needs_of(rt.alloc(), STORE_BEFORE_LOAD.as_slice(), &two_buses)?;
+    let one = needs_of(rt.alloc(), &STORE_BEFORE_LOAD, &one_bus)?;
+    let two = needs_of(rt.alloc(), &STORE_BEFORE_LOAD, &two_buses)?;
     // The sum waits for the bus, so the store takes the unit after the load.
-    assert!(rt; one.total == 8 && one.buses == Need { peak: 1, stalls: 1 });
-    assert!(rt; one.operand == 3 && one.need(Part::ALL[9]) == Need { peak: 1, stalls: 0 });
+    assert!(rt; are_shared(&one, 8, 3, [1, 1], [1, 0]));
     // With two it takes it before the load, which waits for it.
-    assert!(rt; two.total == 9 && two.buses == Need { peak: 2, stalls: 0 });
-    assert!(rt; two.operand == 2 && two.need(Part::ALL[9]) == Need { peak: 1, stalls: 1 });
+    assert!(rt; are_shared(&two, 9, 2, [2, 0], [1, 1]));
     // Either configuration's needs say that the other configuration may have other times.
-    assert!(rt; !one.suffice(&one_bus, &two_buses) && !two.suffice(&two_buses, &one_bus));
+    assert!(rt; !one.suffice(&one_bus, &two_buses));
+    assert!(rt; !two.suffice(&two_buses, &one_bus));
     Ok(())
 }
 
@@ -232,24 +274,37 @@ static EACH_CAUSE_WAITS: [[u64; 8]; 11] = [
 #[test]
 fn each_cause_is_charged(rt: HostRuntime) -> Result<(), Fail> {
     let config = config_of([1, 2, 1, 1, 1, 1], [1, 2, 2], 1)?;
-    let needs = needs_of(rt.alloc(), EACH_CAUSE.as_slice(), &config)?;
-    assert!(rt; are_needs(&needs, &config, &EACH_CAUSE_NEEDS, &[2, 5, 2, 1, 2, 20]));
-    let waits = waits_of(rt.alloc(), EACH_CAUSE.as_slice(), &config)?;
-    assert!(rt; are_waits(waits.as_slice(), EACH_CAUSE_WAITS.as_slice()));
+    let (needs, waits) = (&EACH_CAUSE_NEEDS, &EACH_CAUSE_WAITS);
+    assert!(rt;
+        lacks(
+            rt.alloc(),
+            &EACH_CAUSE,
+            &config,
+            needs,
+            &[2, 5, 2, 1, 2, 20],
+            waits
+        )?
+    );
     Ok(())
+}
+
+/// Whether a part isn't needed at all.
+fn is_idle(needs: &Needs, part: Part) -> bool {
+    needs.need(part) == Need { peak: 0, stalls: 0 }
 }
 
 #[test]
 fn parts_without_stalls_may_be_fewer(rt: HostRuntime) -> Result<(), Fail> {
     let large = config_of([16; 6], [1, 5, 2], 8)?;
-    let needs = needs_of(rt.alloc(), FOLLOWED.as_slice(), &large)?;
-    // What doesn't divide takes no div station and no div unit.
-    assert!(rt; needs.need(Part::ALL[2]) == Need { peak: 0, stalls: 0 });
-    assert!(rt; needs.need(Part::ALL[8]) == Need { peak: 0, stalls: 0 });
-    // Its peaks are enough, and one alu station less isn't.
     let enough = config_of([2, 1, 1, 1, 1, 1], [1, 5, 2], 2)?;
     let fewer = config_of([1, 1, 1, 1, 1, 1], [1, 5, 2], 2)?;
-    assert!(rt; needs.suffice(&large, &enough) && !needs.suffice(&large, &fewer));
+    let needs = needs_of(rt.alloc(), &FOLLOWED, &large)?;
+    // What doesn't divide takes no div station and no div unit.
+    assert!(rt; is_idle(&needs, Part::ALL[2]));
+    assert!(rt; is_idle(&needs, Part::ALL[8]));
+    // Its peaks are enough, and one alu station less isn't.
+    assert!(rt; needs.suffice(&large, &enough));
+    assert!(rt; !needs.suffice(&large, &fewer));
     Ok(())
 }
 
@@ -277,32 +332,26 @@ impl<'a> Attempt for Evaluation<'a> {
         if self.steps.len() > 1000 {
             return Ok(Try::Wrong);
         }
-        if self.by_step {
-            match waits(heap, self.steps, &self.config) {
-                Ok(waits) => Ok(Try::right_if(waits.len() == 4)),
-                Err(AllocError) => Ok(Try::Refused),
-            }
+        let is_right = if self.by_step {
+            waits(heap, self.steps, &self.config).map(|waits| waits.len() == 4)
         } else {
-            match needs(heap, self.steps, &self.config) {
-                Ok(needs) => Ok(Try::right_if(needs.total == 8)),
-                Err(AllocError) => Ok(Try::Refused),
-            }
-        }
+            needs(heap, self.steps, &self.config).map(|needs| needs.total == 8)
+        };
+        Ok(is_right.map_or(Try::Refused, Try::right_if))
     }
 }
 
 #[test]
 fn memory_is_refused(rt: HostRuntime) -> Result<(), Fail> {
-    let other = rt.alloc();
     let config = config_of([2, 1, 1, 1, 1, 1], [1, 3, 1], 1)?;
-    let steps = trace_of(other, PRODUCT.as_slice())?;
+    let trace = trace_of(rt.alloc(), &PRODUCT)?;
     for by_step in [false, true] {
         let evaluation = Evaluation {
-            steps: steps.as_slice(),
+            steps: trace.as_slice(),
             config,
             by_step,
         };
-        assert!(rt; matches!(refusals(other, &evaluation)?, Some(granted) if granted > 0));
+        assert!(rt; refusals(rt.alloc(), &evaluation)? > Some(0));
     }
     Ok(())
 }

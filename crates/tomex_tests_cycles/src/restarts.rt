@@ -5,16 +5,17 @@ use std::test::Fail;
 use tomex_config::{Config, UnitOption};
 use tomex_cycle::Machine;
 use tomex_image::{Image, Window, load};
+use tomex_rvexec::End;
 use tomex_samples::{Heap, ample, heap_of};
 
 /// `addi x8,x0,256; addi x1,x0,768; sw x1,0(x8); mul x5,x1,x1; lb x2,1(x8); sw x5,4(x8); ebreak`
-const FIRST: [u32; 7] = [
+static FIRST: [u32; 7] = [
     0x10000413, 0x30000093, 0x00142023, 0x021082b3, 0x00140103, 0x00542223, 0x00100073,
 ];
 
 /// What the first leaves in memory and in its registers, this one reads: `lw x1,256(x0); lw x2,260(x0);
 /// add x3,x1,x8; mul x4,x3,x5; sw x2,256(x0); ebreak`
-const SECOND: [u32; 6] = [
+static SECOND: [u32; 6] = [
     0x10002083, 0x10402103, 0x008081b3, 0x02518233, 0x10202023, 0x00100073,
 ];
 
@@ -49,16 +50,34 @@ fn are_alike<A: Allocator>(one: &Machine<A>, another: &Machine<A>) -> bool {
         && one.ended() == another.ended()
 }
 
+/// The end of a machine's run.
+fn end_of<A: Allocator>(machine: Machine<A>) -> Option<End<A>> {
+    if machine.ended() {
+        Some(machine.finish())
+    } else {
+        None
+    }
+}
+
+/// Whether two ends are the same.
+fn leave_alike<A: Allocator>(one: &End<A>, another: &End<A>) -> bool {
+    one.pc == another.pc
+        && one.steps == another.steps
+        && one.regs == another.regs
+        && one.memory.bytes() == another.memory.bytes()
+}
+
 /// Whether both machines have ended, and leave the same.
 fn end_alike<A: Allocator>(one: Machine<A>, another: Machine<A>) -> bool {
-    if !one.ended() || !another.ended() {
-        return false;
+    match (end_of(one), end_of(another)) {
+        (Some(mine), Some(same)) => leave_alike(&mine, &same),
+        _ => false,
     }
-    let (mine, same) = (one.finish(), another.finish());
-    mine.pc == same.pc
-        && mine.steps == same.steps
-        && mine.regs == same.regs
-        && mine.memory.bytes() == same.memory.bytes()
+}
+
+/// Whether a machine has made no cycle.
+fn is_new<A: Allocator>(machine: &Machine<A>) -> bool {
+    machine.cycle() == 0 && machine.worked() == 0
 }
 
 /// Advances up to a cycle.
@@ -91,7 +110,20 @@ fn machine_of<'a>(
     Ok(machine)
 }
 
-/// Whether a machine of one image that is cut short and started again over another one is as a new one.
+/// Whether a machine that is started again over an image is as a new one of it.
+fn restarts<'a>(
+    old: Machine<'a, Heap>,
+    new: Machine<'a, Heap>,
+    image: &'a Image<Heap>,
+    config: &Config,
+) -> bool {
+    match old.restart(image, config) {
+        Ok(machine) => is_new(&machine) && run_alike(machine, new),
+        Err(_) => false,
+    }
+}
+
+/// Whether that is so of a machine of one image that is cut short, and of another image.
 fn is_restarted<'a>(
     other: Global,
     first: &'a Image<Heap>,
@@ -100,30 +132,48 @@ fn is_restarted<'a>(
 ) -> Result<bool, Fail> {
     let (before, after) = (config_of(2, 9)?, config_of(1, 3)?);
     let old = machine_of(other, 2, first, &before, cut)?;
-    let Ok(machine) = old.restart(second, &after) else {
-        return Ok(false);
-    };
     let new = machine_of(other, 1, second, &after, 0)?;
-    Ok(machine.cycle() == 0 && machine.worked() == 0 && run_alike(machine, new))
+    Ok(restarts(old, new, second, &after))
 }
 
-/// Cut short before its first cycle, in its midst, and after its end; on an image of a smaller window, on one
-/// of a larger window, and on its own.
+/// Cycles at which a machine is cut short: before its first one, in its midst, and after its end.
+static CUTS: [u32; 5] = [0, 3, 8, 12, 100];
+
+/// Whether it is so wherever a machine is cut short.
+fn are_restarted(other: Global, first: &Image<Heap>, second: &Image<Heap>) -> Result<bool, Fail> {
+    let mut same = true;
+    for cut in &CUTS {
+        same = same && is_restarted(other, first, second, *cut)?;
+    }
+    Ok(same)
+}
+
+/// On an image of a smaller window, on one of a larger window, and on its own.
 #[test]
 fn a_machine_that_is_started_again_is_as_a_new_one(rt: HostRuntime) -> Result<(), Fail> {
-    let other = rt.alloc();
-    let first = image_of(other, FIRST.as_slice(), 8192)?;
-    let small = image_of(other, SECOND.as_slice(), 4096)?;
-    let large = image_of(other, SECOND.as_slice(), 65536)?;
-    for cut in [0, 3, 8, 12, 100] {
-        assert!(rt; is_restarted(other, &first, &small, cut)?);
-        assert!(rt; is_restarted(other, &first, &large, cut)?);
-        assert!(rt; is_restarted(other, &first, &first, cut)?);
+    let first = image_of(rt.alloc(), &FIRST, 8192)?;
+    assert!(rt; are_restarted(rt.alloc(), &first, &first)?);
+    for size in [4096, 65536] {
+        let second = image_of(rt.alloc(), &SECOND, size)?;
+        assert!(rt; are_restarted(rt.alloc(), &first, &second)?);
     }
     Ok(())
 }
 
-/// Whether a machine that has no memory for an image's window refuses it, and goes on as one that wasn't asked.
+/// Whether a machine that is refused an image goes on as one that wasn't asked.
+fn goes_on<'a>(
+    old: Machine<'a, Heap>,
+    new: Machine<'a, Heap>,
+    image: &'a Image<Heap>,
+    config: &Config,
+) -> bool {
+    match old.restart(image, config) {
+        Ok(_) => false,
+        Err(machine) => run_alike(machine, new),
+    }
+}
+
+/// Whether a machine that has no memory for an image's window refuses it, and goes on so.
 fn refuses<'a>(
     other: Global,
     first: &'a Image<Heap>,
@@ -132,11 +182,17 @@ fn refuses<'a>(
 ) -> Result<bool, Fail> {
     let (before, after) = (config_of(2, 9)?, config_of(1, 3)?);
     let old = machine_of(other, 1, first, &before, cut)?;
-    let Err(machine) = old.restart(large, &after) else {
-        return Ok(false);
-    };
     let new = machine_of(other, 1, first, &before, cut)?;
-    Ok(are_alike(&machine, &new) && run_alike(machine, new))
+    Ok(goes_on(old, new, large, &after))
+}
+
+/// Whether that is so wherever the machine is cut short.
+fn are_refused(other: Global, first: &Image<Heap>, large: &Image<Heap>) -> Result<bool, Fail> {
+    let mut same = true;
+    for cut in &CUTS {
+        same = same && refuses(other, first, large, *cut)?;
+    }
+    Ok(same)
 }
 
 /// Whether a machine takes an image in the memory that it has.
@@ -149,15 +205,12 @@ fn takes<'a>(other: Global, first: &'a Image<Heap>, second: &'a Image<Heap>) -> 
 /// A larger window wants more memory than the machine has, and an equal or smaller one doesn't.
 #[test]
 fn a_refused_restart_changes_nothing(rt: HostRuntime) -> Result<(), Fail> {
-    let other = rt.alloc();
-    let first = image_of(other, FIRST.as_slice(), 8192)?;
-    let large = image_of(other, SECOND.as_slice(), 8196)?;
-    for cut in [0, 3, 8, 12, 100] {
-        assert!(rt; refuses(other, &first, &large, cut)?);
-    }
+    let first = image_of(rt.alloc(), &FIRST, 8192)?;
+    let large = image_of(rt.alloc(), &SECOND, 8196)?;
+    assert!(rt; are_refused(rt.alloc(), &first, &large)?);
     for size in [4096, 8192] {
-        let second = image_of(other, SECOND.as_slice(), size)?;
-        assert!(rt; takes(other, &first, &second)?);
+        let second = image_of(rt.alloc(), &SECOND, size)?;
+        assert!(rt; takes(rt.alloc(), &first, &second)?);
     }
     Ok(())
 }

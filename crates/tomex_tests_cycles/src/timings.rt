@@ -1,8 +1,9 @@
 //! Runs of small programs, traced and timed.
 
+use std::alloc::Global;
 use std::test::Fail;
 use tomex_config::{Config, UnitOption};
-use tomex_rvexec::{Step, trace};
+use tomex_rvexec::trace;
 use tomex_samples::image_of;
 use tomex_timing::Times;
 use tomex_timing::evaluate::{times, total};
@@ -16,23 +17,30 @@ fn unit(latency: u8) -> UnitOption {
     }
 }
 
-/// The trace of a program at address 0.
-fn trace_of(rt: &HostRuntime, words: &[u32]) -> Result<Vec<Step>, Fail> {
-    let image = image_of(rt.alloc(), 0, 4096, words)?;
-    Ok(trace(rt.alloc(), &image, 1000).map_err(|_| "no trace")?)
+/// A configuration of one unit of each of these latencies, and one bus.
+fn config_of(stations: [u8; 6], latencies: [u8; 5]) -> Result<Config, Fail> {
+    let units = latencies.map(unit);
+    Ok(Config::new(stations, units, 1, 1).ok_or("no configuration")?)
+}
+
+/// The times of a program at address 0.
+fn times_of(alloc: Global, words: &[u32], config: &Config) -> Result<Vec<Times>, Fail> {
+    let image = image_of(alloc, 0, 4096, words)?;
+    let steps = trace(alloc, &image, 1000)?;
+    if steps.len() > 1000 {
+        return Err("a long trace".into());
+    }
+    Ok(times(alloc, steps.as_slice(), config)?)
 }
 
 /// `addi x1,x0,499; addi x1,x1,-1; bne x1,x0,-4; ebreak`
-const LOOP: [u32; 4] = [0x1f300093, 0xfff08093, 0xfe009ee3, 0x00100073];
+static LOOP: [u32; 4] = [0x1f300093, 0xfff08093, 0xfe009ee3, 0x00100073];
 
 #[test]
 fn a_loop_takes_its_cycles(rt: HostRuntime) -> Result<(), Fail> {
-    let steps = trace_of(&rt, LOOP.as_slice())?;
-    assert!(rt; steps.len() == 1000);
     for (latency, cycles) in [(1, 2000), (10, 6500)] {
-        let units = [unit(latency), unit(1), unit(1), unit(1), unit(1)];
-        let config = Config::new([1; 6], units, 1, 1).ok_or("no configuration")?;
-        let timed = times(rt.alloc(), steps.as_slice(), &config)?;
+        let config = config_of([1; 6], [latency, 1, 1, 1, 1])?;
+        let timed = times_of(rt.alloc(), &LOOP, &config)?;
         assert!(rt; timed.len() == 1000);
         assert!(rt; total(timed.as_slice()) == cycles);
     }
@@ -40,7 +48,7 @@ fn a_loop_takes_its_cycles(rt: HostRuntime) -> Result<(), Fail> {
 }
 
 /// `addi x8,x0,256; lb x1,0(x8); lb x2,0(x8); ebreak`
-const TWO_LOADS: [u32; 4] = [0x10000413, 0x00040083, 0x00040103, 0x00100073];
+static TWO_LOADS: [u32; 4] = [0x10000413, 0x00040083, 0x00040103, 0x00100073];
 
 /// The times of a load in its buffer's first or second station.
 fn load_times(cycles: [u64; 5], station: u8) -> Times {
@@ -54,49 +62,41 @@ fn load_times(cycles: [u64; 5], station: u8) -> Times {
     }
 }
 
+/// Whether the second load of a program of four steps has these times, where the first has its own.
+fn are_loads(timed: &[Times], second: Times) -> bool {
+    timed.len() == 4 && timed[1] == load_times([2, 4, 5, 6, 7], 0) && timed[2] == second
+}
+
 #[test]
 fn loads_of_one_byte_do_not_wait_for_each_other(rt: HostRuntime) -> Result<(), Fail> {
-    let steps = trace_of(&rt, TWO_LOADS.as_slice())?;
-    assert!(rt; steps.len() == 4);
-    let first = load_times([2, 4, 5, 6, 7], 0);
     for (stations, second, cycles) in [
         (2, load_times([3, 5, 6, 7, 8], 1), 8),
         (1, load_times([8, 9, 10, 11, 12], 0), 12),
     ] {
-        let units = [unit(1), unit(1), unit(1), unit(2), unit(1)];
-        let config = Config::new([1, 1, 1, stations, 1, 1], units, 1, 1).ok_or("no configuration")?;
-        let timed = times(rt.alloc(), steps.as_slice(), &config)?;
-        assert!(rt; timed.len() == 4);
-        assert!(rt; timed[1] == first);
-        assert!(rt; timed[2] == second);
+        let config = config_of([1, 1, 1, stations, 1, 1], [1, 1, 1, 2, 1])?;
+        let timed = times_of(rt.alloc(), &TWO_LOADS, &config)?;
+        assert!(rt; are_loads(timed.as_slice(), second));
         assert!(rt; total(timed.as_slice()) == cycles);
     }
     Ok(())
 }
 
 /// `mul x3,x0,x0; addi x4,x3,0; ebreak`
-const WAITED_FOR: [u32; 3] = [0x020001b3, 0x00018213, 0x00100073];
+static WAITED_FOR: [u32; 3] = [0x020001b3, 0x00018213, 0x00100073];
 
 #[test]
 fn ends_behind_a_long_product(rt: HostRuntime) -> Result<(), Fail> {
-    let steps = trace_of(&rt, WAITED_FOR.as_slice())?;
-    assert!(rt; steps.len() == 3);
-    let units = [unit(1), unit(64), unit(1), unit(1), unit(1)];
-    let config = Config::new([1; 6], units, 1, 1).ok_or("no configuration")?;
-    let timed = times(rt.alloc(), steps.as_slice(), &config)?;
-    assert!(rt; timed.len() == 3);
-    assert!(rt; timed[0].end == 66);
-    assert!(rt; timed[1].end == 68);
-    assert!(rt; timed[2].end == 3);
+    let config = config_of([1; 6], [1, 64, 1, 1, 1])?;
+    let timed = times_of(rt.alloc(), &WAITED_FOR, &config)?;
+    assert!(rt; timed.iter().map(|at| at.end).eq([66, 68, 3]));
     assert!(rt; total(timed.as_slice()) == 68);
     Ok(())
 }
 
 #[test]
 fn no_steps_take_no_cycles(rt: HostRuntime) -> Result<(), Fail> {
-    let config = Config::new([1; 6], [unit(1); 5], 1, 1).ok_or("no configuration")?;
-    let steps: Vec<Step> = Vec::new(rt.alloc());
-    let timed = times(rt.alloc(), steps.as_slice(), &config)?;
+    let config = config_of([1; 6], [1; 5])?;
+    let timed = times(rt.alloc(), &[], &config)?;
     assert!(rt; total(timed.as_slice()) == 0);
     Ok(())
 }
@@ -117,35 +117,31 @@ static TIMED: [(&[u32], [u8; 4], &[(u64, u64)]); 5] = [
     (&INDIRECT, [2, 1, 1, 4], &[(1, 3), (1, 7), (1, 8), (9, 9)]),
 ];
 
-/// The issue and the end of each of a program's four steps on such a machine.
-fn issues_and_ends(
-    rt: &HostRuntime,
-    words: &[u32],
-    machine: [u8; 4],
-) -> Result<Vec<(u64, u64)>, Fail> {
-    let [stations, units, buses, width] = machine;
+/// A machine of so many alu stations, alu units, buses and issues a cycle.
+fn machine_of(parts: [u8; 4]) -> Result<Config, Fail> {
+    let [stations, units, buses, width] = parts;
     let alus = UnitOption { units, ..unit(1) };
     let kinds = [alus, unit(3), unit(1), unit(1), unit(1)];
-    let config = Config::new([stations, 1, 1, 1, 1, 1], kinds, buses, width).ok_or(
-        "no configuration",
-    )?;
-    let steps = trace_of(rt, words)?;
-    if steps.len() != 4 {
-        return Err("another number of steps")?;
-    }
-    let timed = times(rt.alloc(), steps.as_slice(), &config)?;
-    let mut seen = Vec::new(rt.alloc());
-    for at in &timed {
-        seen.push((at.issue, at.end))?;
-    }
-    Ok(seen)
+    let config = Config::new([stations, 1, 1, 1, 1, 1], kinds, buses, width);
+    Ok(config.ok_or("no configuration")?)
+}
+
+/// Whether a program's steps issue and end in these cycles on such a machine.
+fn issue_and_end(
+    alloc: Global,
+    words: &[u32],
+    parts: [u8; 4],
+    wanted: &[(u64, u64)],
+) -> Result<bool, Fail> {
+    let timed = times_of(alloc, words, &machine_of(parts)?)?;
+    let seen = timed.iter().map(|at| (at.issue, at.end));
+    Ok(seen.eq(wanted.iter().copied()))
 }
 
 #[test]
 fn as_many_issue_as_the_width_says(rt: HostRuntime) -> Result<(), Fail> {
-    for (words, machine, wanted) in &TIMED {
-        let seen = issues_and_ends(&rt, words, *machine)?;
-        assert!(rt; seen.as_slice() == *wanted);
+    for (words, parts, wanted) in &TIMED {
+        assert!(rt; issue_and_end(rt.alloc(), words, *parts, wanted)?);
     }
     Ok(())
 }

@@ -1,5 +1,6 @@
 //! What the operations compute, by vectors from outside.
 
+use std::process::Abort;
 use tomex_rvdec::Op;
 use tomex_rvexec::{alu, muldiv, taken};
 
@@ -8,7 +9,7 @@ mod vectors;
 use vectors::{PRODUCTS, SHIFTED, SHIFTS};
 
 /// The operations of M, in the order of the vectors' columns.
-const M: [Op; 8] = [
+static M: [Op; 8] = [
     Op::Mul,
     Op::Mulh,
     Op::Mulhsu,
@@ -19,41 +20,55 @@ const M: [Op; 8] = [
     Op::Remu,
 ];
 
+/// Stops at the first operation of M that gives another value of these operands.
+fn check_m(rt: &impl Abort, a: u32, b: u32, wanted: &[u32; 8]) {
+    for (op, value) in M.iter().zip(wanted) {
+        assert!(rt;
+            muldiv(*op, a, b) == *value,
+            "{op:?} of {a:08x} and {b:08x}"
+        );
+    }
+}
+
 #[test]
 fn products_and_quotients(rt: HostRuntime) {
-    for (a, b, wanted) in PRODUCTS {
-        for (op, value) in M.iter().zip(wanted.as_slice()) {
-            assert_eq!(rt; (op, a, b, muldiv(*op, a, b)), (op, a, b, *value));
-        }
+    for (a, b, wanted) in &PRODUCTS {
+        check_m(&rt, *a, *b, wanted);
     }
 }
 
 #[test]
 fn every_shift(rt: HostRuntime) {
     let mut amount = 0u32;
-    for [left, right, signed] in SHIFTS {
-        assert!(rt; alu(Op::Sll, SHIFTED, amount) == left);
-        assert!(rt; alu(Op::Srl, SHIFTED, amount) == right);
-        assert!(rt; alu(Op::Sra, SHIFTED, amount) == signed);
+    for [left, right, signed] in &SHIFTS {
+        assert!(rt; alu(Op::Sll, SHIFTED, amount) == *left);
+        assert!(rt; alu(Op::Srl, SHIFTED, amount) == *right);
+        assert!(rt; alu(Op::Sra, SHIFTED, amount) == *signed);
         // A register's amount counts by its low five bits.
-        assert!(rt; alu(Op::Sra, SHIFTED, amount | 0xffff_ffe0) == signed);
+        assert!(rt; alu(Op::Sra, SHIFTED, amount | 0xffff_ffe0) == *signed);
         amount = amount.wrapping_add(1) % 32;
     }
 }
 
+const LOW: u32 = 1;
+
+const HIGH: u32 = 0xffff_ffff;
+
+/// Branches, each with its operands and whether it is taken.
+static BRANCHES: [(Op, u32, u32, bool); 6] = [
+    (Op::Blt, HIGH, LOW, true),
+    (Op::Bltu, HIGH, LOW, false),
+    (Op::Bge, LOW, HIGH, true),
+    (Op::Bgeu, LOW, HIGH, false),
+    (Op::Beq, HIGH, HIGH, true),
+    (Op::Bne, HIGH, HIGH, false),
+];
+
 #[test]
 fn comparisons(rt: HostRuntime) {
-    let (low, high) = (1, 0xffff_ffff);
-    assert!(rt; alu(Op::Slt, high, low) == 1);
-    assert!(rt; alu(Op::Sltu, high, low) == 0);
-    for (op, left, right, wanted) in [
-        (Op::Blt, high, low, true),
-        (Op::Bltu, high, low, false),
-        (Op::Bge, low, high, true),
-        (Op::Bgeu, low, high, false),
-        (Op::Beq, high, high, true),
-        (Op::Bne, high, high, false),
-    ] {
-        assert_eq!(rt; (op, taken(op, left, right)), (op, wanted));
+    assert!(rt; alu(Op::Slt, HIGH, LOW) == 1);
+    assert!(rt; alu(Op::Sltu, HIGH, LOW) == 0);
+    for (op, left, right, wanted) in &BRANCHES {
+        assert!(rt; taken(*op, *left, *right) == *wanted, "{op:?}");
     }
 }

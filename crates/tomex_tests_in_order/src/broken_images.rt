@@ -1,9 +1,10 @@
 //! Broken files: whatever their bytes, they are refused by name, or what they load runs to an end,
 //! a fault or the limit.
 
+use std::alloc::Global;
 use std::test::Fail;
-use tomex_image::{ImageError, Window, load};
-use tomex_rvexec::{FaultKind, RunError, run};
+use tomex_image::{Image, ImageError, Window, load};
+use tomex_rvexec::{Fault, FaultKind, RunError, run};
 use tomex_samples::programs::ELF;
 
 /// A window around the file's segment, small enough for thousands of loads.
@@ -11,29 +12,23 @@ fn window() -> Result<Window, Fail> {
     Ok(Window::new(65536, 4096).ok_or("no window")?)
 }
 
+/// Whether a run faults at its first instruction, which is illegal.
+fn is_illegal(alloc: Global, image: &Image) -> bool {
+    let illegal = Fault {
+        kind: FaultKind::Illegal,
+        pc: 65536,
+    };
+    matches!(run(alloc, image, 1000), Err(RunError::Fault(fault)) if fault == illegal)
+}
+
 #[test]
 fn every_beginning(rt: HostRuntime) -> Result<(), Fail> {
     for length in 0..ELF.len() {
         match load(rt.alloc(), &ELF.as_slice()[..length], window()?) {
-            Ok(image) => {
-                // Up to three bytes are no ELF file yet: a flat image of no legal instruction.
-                assert!(rt; 0 < length && length < 4);
-                match run(rt.alloc(), &image, 1000) {
-                    Err(RunError::Fault(fault)) => {
-                        assert!(rt; fault.kind == FaultKind::Illegal);
-                        assert!(rt; fault.pc == 65536);
-                    }
-                    _ => assert!(rt; false, "{length} bytes run"),
-                }
-            }
-            Err(error) => {
-                let wanted = if length == 0 {
-                    ImageError::Empty
-                } else {
-                    ImageError::Truncated
-                };
-                assert!(rt; error == wanted);
-            }
+            // Up to three bytes are no ELF file yet: a flat image of no legal instruction.
+            Ok(image) => { assert!(rt; 0 < length && length < 4 && is_illegal(rt.alloc(), &image)) }
+            Err(ImageError::Empty) => assert!(rt; length == 0),
+            Err(error) => assert!(rt; 0 < length && error == ImageError::Truncated),
         }
     }
     Ok(())
@@ -61,6 +56,20 @@ fn tell_off(left: &mut [(ImageError, u32)], error: ImageError) {
     }
 }
 
+/// Whether a changed file is loaded, and has memory for its run. A refusal is counted down.
+fn is_loaded(rt: &HostRuntime, bytes: &[u8], left: &mut [(ImageError, u32)]) -> Result<bool, Fail> {
+    match load(rt.alloc(), bytes, window()?) {
+        Ok(image) => match run(rt.alloc(), &image, 1000) {
+            Err(RunError::Memory) => Err("out of memory".into()),
+            _ => Ok(true),
+        },
+        Err(error) => {
+            tell_off(left, error);
+            Ok(false)
+        }
+    }
+}
+
 #[test]
 fn every_byte_changed(rt: HostRuntime) -> Result<(), Fail> {
     let mut left = REFUSED;
@@ -69,20 +78,15 @@ fn every_byte_changed(rt: HostRuntime) -> Result<(), Fail> {
         for value in 0..=255u8 {
             let mut bytes = *ELF;
             bytes[place] = value;
-            match load(rt.alloc(), bytes.as_slice(), window()?) {
-                Ok(image) => {
-                    let ran = run(rt.alloc(), &image, 1000);
-                    assert!(rt; !matches!(ran, Err(RunError::Memory)), "out of memory");
-                    loaded = loaded.saturating_add(1);
-                }
-                Err(error) => tell_off(&mut left, error),
+            if is_loaded(&rt, bytes.as_slice(), &mut left)? {
+                loaded = loaded.saturating_add(1);
             }
         }
     }
     // So many are loaded, which leaves as many as are refused: each of the 25,600 is counted once.
     assert!(rt; loaded == 16_357);
-    for (kind, count) in left {
-        assert_eq!(rt; (kind, count), (kind, 0));
+    for (kind, count) in &left {
+        assert!(rt; *count == 0, "{kind:?}");
     }
     Ok(())
 }

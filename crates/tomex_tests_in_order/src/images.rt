@@ -2,22 +2,38 @@
 
 use std::alloc::{AllocError, Global};
 use std::test::Fail;
-use tomex_image::{ImageError, Window, load};
+use tomex_image::{Image, ImageError, Window, load};
 use tomex_samples::programs::ELF;
+
+/// Whether a memory is the product and zeros, 65,536 bytes in all.
+fn is_product(memory: &[u8]) -> bool {
+    memory.len() == 65536
+        && memory.starts_with(&ELF.as_slice()[84..])
+        && memory[16..].iter().all(|byte| *byte == 0)
+}
+
+/// Whether a file is loaded as the product, which begins at the window's base.
+fn loads_product(alloc: Global, file: &[u8], window: Window) -> Result<bool, ImageError> {
+    let image = load(alloc, file, window)?;
+    let is_at_base = image.window() == window && image.entry() == 65536;
+    Ok(is_at_base && is_product(image.memory()))
+}
 
 #[test]
 fn with_ample_memory(rt: HostRuntime) -> Result<(), Fail> {
     let window = Window::new(65536, 65536).ok_or("no window")?;
-    let program = &ELF.as_slice()[84..];
-    for file in [program, ELF.as_slice()] {
-        let image = load(rt.alloc(), file, window)?;
-        assert!(rt; image.window() == window);
-        assert!(rt; image.entry() == 65536);
-        assert!(rt; image.memory().len() == 65536);
-        assert!(rt; image.memory().starts_with(program));
-        assert!(rt; image.memory()[16..].iter().all(|byte| *byte == 0));
-    }
+    assert!(rt; loads_product(rt.alloc(), &ELF.as_slice()[84..], window)?);
+    assert!(rt; loads_product(rt.alloc(), ELF.as_slice(), window)?);
     Ok(())
+}
+
+/// The header of a segment like the file's own at this offset and address.
+fn header(offset: u32, address: u32) -> [u8; 32] {
+    let mut bytes = [0; 32];
+    bytes.copy_from_slice(&ELF.as_slice()[52..84]);
+    bytes[4..8].copy_from_slice(&offset.to_le_bytes());
+    bytes[8..12].copy_from_slice(&address.to_le_bytes());
+    bytes
 }
 
 /// An ELF file of so many equal segments of 32 bytes, one after another, each of which begins with the product.
@@ -28,11 +44,7 @@ fn of_segments(alloc: Global, count: u8) -> Result<Vec<u8>, AllocError> {
     }
     let offset = 52 + 32 * u32::from(count);
     for number in 0..u32::from(count) {
-        let address = 65536 + 32 * number;
-        bytes.extend_from_slice(&ELF.as_slice()[52..56])?;
-        bytes.extend_from_slice(&offset.to_le_bytes())?;
-        bytes.extend_from_slice(&address.to_le_bytes())?;
-        bytes.extend_from_slice(&ELF.as_slice()[64..84])?;
+        bytes.extend_from_slice(&header(offset, 65536 + 32 * number))?;
     }
     bytes.extend_from_slice(&ELF.as_slice()[84..])?;
     Ok(bytes)
@@ -49,37 +61,43 @@ fn of_products(alloc: Global) -> Result<Vec<u8>, AllocError> {
     Ok(bytes)
 }
 
-#[test]
-fn sixteen_segments_and_one_more(rt: HostRuntime) -> Result<(), Fail> {
+/// What a file of so many segments comes to in a window of 4096 bytes.
+fn loaded(alloc: Global, count: u8) -> Result<Result<Image, ImageError>, Fail> {
     let window = Window::new(65536, 4096).ok_or("no window")?;
-    let most = of_segments(rt.alloc(), 16)?;
-    assert!(rt; most.len() == 580);
-    let image = load(rt.alloc(), most.as_slice(), window)?;
-    assert!(rt; image.memory() == of_products(rt.alloc())?.as_slice());
-    let more = of_segments(rt.alloc(), 17)?;
-    let refused = load(rt.alloc(), more.as_slice(), window);
-    assert!(rt; refused.err() == Some(ImageError::TooManySegments));
-    Ok(())
+    let bytes = of_segments(alloc, count)?;
+    Ok(load(alloc, bytes.as_slice(), window))
 }
 
 #[test]
+fn sixteen_segments_and_one_more(rt: HostRuntime) -> Result<(), Fail> {
+    let products = of_products(rt.alloc())?;
+    assert!(rt; of_segments(rt.alloc(), 16)?.len() == 580);
+    assert!(rt; loaded(rt.alloc(), 16)??.memory() == products.as_slice());
+    assert!(rt; loaded(rt.alloc(), 17)?.err() == Some(ImageError::TooManySegments));
+    Ok(())
+}
+
+/// Refusals and their texts.
+static TEXTS: [(ImageError, &str); 12] = [
+    (ImageError::Empty, "empty"),
+    (ImageError::TooLarge, "too large"),
+    (ImageError::Truncated, "truncated"),
+    (ImageError::NotRiscv, "not RISC-V"),
+    (ImageError::NotExec, "not executable"),
+    (ImageError::HeaderSize, "header size"),
+    (ImageError::Dynamic, "dynamic"),
+    (ImageError::Segment, "segment"),
+    (ImageError::Overlap, "overlap"),
+    (ImageError::TooManySegments, "too many segments"),
+    (ImageError::Entry, "entry"),
+    (ImageError::Memory, "out of memory"),
+];
+
+#[test]
 fn refusals_have_texts(rt: HostRuntime) -> Result<(), Fail> {
-    for (error, text) in [
-        (ImageError::Empty, "empty"),
-        (ImageError::TooLarge, "too large"),
-        (ImageError::Truncated, "truncated"),
-        (ImageError::NotRiscv, "not RISC-V"),
-        (ImageError::NotExec, "not executable"),
-        (ImageError::HeaderSize, "header size"),
-        (ImageError::Dynamic, "dynamic"),
-        (ImageError::Segment, "segment"),
-        (ImageError::Overlap, "overlap"),
-        (ImageError::TooManySegments, "too many segments"),
-        (ImageError::Entry, "entry"),
-        (ImageError::Memory, "out of memory"),
-    ] {
+    for (error, text) in &TEXTS {
         let shown = format!(in rt.alloc(); "{error}")?;
-        assert!(rt; shown.as_str() == text);
+        assert!(rt; shown.as_str() == *text);
     }
     Ok(())
 }

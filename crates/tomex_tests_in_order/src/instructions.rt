@@ -1,10 +1,11 @@
 //! Known words: what they are called, and that they come back from their instructions.
 
+use std::alloc::Global;
 use std::test::Fail;
 use tomex_rvdec::{decode, encode};
 
 /// Words, each the one that means an instruction of this text.
-const WORDS: [(u32, &str); 18] = [
+static WORDS: [(u32, &str); 18] = [
     (0x00500093, "addi x1,x0,5"),
     (0x022081b3, "mul x3,x1,x2"),
     (0x02528333, "mul x6,x5,x5"),
@@ -25,13 +26,18 @@ const WORDS: [(u32, &str); 18] = [
     (0x00100073, "ebreak"),
 ];
 
+/// What a word's instruction is called, and the word that comes back from it.
+fn told(alloc: Global, word: u32) -> Result<(String, u32), Fail> {
+    let instr = decode(word).ok_or("no instruction")?;
+    Ok((format!(in alloc; "{instr}")?, encode(&instr)))
+}
+
 #[test]
 fn words_and_their_texts(rt: HostRuntime) -> Result<(), Fail> {
-    for (word, text) in WORDS {
-        let instr = decode(word).ok_or("no instruction")?;
-        let shown = format!(in rt.alloc(); "{instr}")?;
-        assert!(rt; shown.as_str() == text);
-        assert!(rt; encode(&instr) == word);
+    for (word, text) in &WORDS {
+        let (shown, back) = told(rt.alloc(), *word)?;
+        assert!(rt; shown.as_str() == *text);
+        assert!(rt; back == *word);
     }
     Ok(())
 }

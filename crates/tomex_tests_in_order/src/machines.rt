@@ -1,25 +1,51 @@
 //! The in-order machine on small programs, and its steps on a memory alone.
 
+use std::alloc::Global;
 use std::test::Fail;
-use tomex_image::{Window, load};
+use tomex_image::Image;
 use tomex_rvdec::decode;
 use tomex_rvexec::{
-    ByteRange, Cpu, EndKind, Fault, FaultKind, Fetcher, Memory, RunError, Step, Stepped,
+    ByteRange, Cpu, End, EndKind, Fault, FaultKind, Fetcher, Memory, RunError, Step, Stepped,
     instruction_at, next_pc, result, run, store, trace,
 };
 use tomex_samples::image_of;
 
+/// The end of a run of at most so many steps.
+fn ran(alloc: Global, image: &Image, limit: u32) -> Result<End, Fail> {
+    Ok(run(alloc, image, limit)?)
+}
+
 /// `addi x1,x0,5; addi x2,x0,7; mul x3,x1,x2; ebreak`
 const PRODUCT: [u32; 4] = [0x00500093, 0x00700113, 0x022081b3, 0x00100073];
+
+/// Whether a program makes more than so many steps.
+fn is_too_long(alloc: Global, image: &Image, limit: u32) -> bool {
+    matches!(run(alloc, image, limit), Err(RunError::TooLong))
+}
+
+/// The product's steps, and what stays so after its end.
+static STEPPED: [Stepped; 5] = [
+    Stepped::Next,
+    Stepped::Next,
+    Stepped::Next,
+    Stepped::Ended(EndKind::Ebreak),
+    Stepped::Ended(EndKind::Ebreak),
+];
+
+/// Whether a machine steps so.
+fn steps_so(cpu: &mut Cpu, wanted: &[Stepped]) -> bool {
+    let mut same = true;
+    for stepped in wanted {
+        same = same && cpu.step() == Ok(*stepped);
+    }
+    same
+}
 
 #[test]
 fn steps_to_the_end_and_stays_there(rt: HostRuntime) -> Result<(), Fail> {
     let image = image_of(rt.alloc(), 0, 4096, PRODUCT.as_slice())?;
     let mut cpu = Cpu::new(rt.alloc(), &image)?;
-    let ended = Stepped::Ended(EndKind::Ebreak);
-    for wanted in [Stepped::Next, Stepped::Next, Stepped::Next, ended, ended] {
-        assert!(rt; cpu.step() == Ok(wanted));
-    }
+    assert!(rt; steps_so(&mut cpu, STEPPED.as_slice()));
     assert!(rt; cpu.pc() == 12);
     Ok(())
 }
@@ -42,17 +68,21 @@ const LOADED: [u32; 7] = [
     0x80c0_ff80,
 ];
 
+/// Programs, each with its steps and the values that it leaves in x1 and on.
+static ENDING: [(&[u32], u32, &[u32]); 2] = [(&PRODUCT, 4, &[5, 7, 35]), (&LOADS, 9, &LOADED)];
+
+/// Whether a program ends after so many steps, not within fewer, and leaves these values.
+fn ends(alloc: Global, words: &[u32], steps: u32, wanted: &[u32]) -> Result<bool, Fail> {
+    let image = image_of(alloc, 0, 4096, words)?;
+    let end = ran(alloc, &image, steps)?;
+    let is_alike = end.steps == steps && end.regs[1..].starts_with(wanted);
+    Ok(is_alike && is_too_long(alloc, &image, steps.saturating_sub(1)))
+}
+
 #[test]
 fn runs_within_the_limit(rt: HostRuntime) -> Result<(), Fail> {
-    for (words, steps, wanted) in [
-        (PRODUCT.as_slice(), 4, [5, 7, 35].as_slice()),
-        (LOADS.as_slice(), 9, LOADED.as_slice()),
-    ] {
-        let image = image_of(rt.alloc(), 0, 4096, words)?;
-        let end = run(rt.alloc(), &image, steps).map_err(|_| "no end")?;
-        assert!(rt; &end.regs.as_slice()[1..=wanted.len()] == wanted);
-        assert!(rt; end.steps == steps);
-        assert!(rt; matches!(run(rt.alloc(), &image, steps - 1), Err(RunError::TooLong)));
+    for (words, steps, wanted) in &ENDING {
+        assert!(rt; ends(rt.alloc(), words, *steps, wanted)?);
     }
     Ok(())
 }
@@ -63,20 +93,19 @@ const NEAR: [u32; 2] = [0x00108093, 0x7fd0006f];
 /// At 4096: `addi x4,x4,2; addi x3,x0,6; beq x4,x3,8; jal x0,-4108; ebreak`
 const FAR: [u32; 5] = [0x00220213, 0x00600193, 0x00320463, 0xff5fe06f, 0x00100073];
 
+/// The first of these at 0 and the second at 4096.
+fn near_and_far(alloc: Global) -> Result<Image, Fail> {
+    let mut words = NEAR.to_vec(alloc)?;
+    words.resize(1024, 0)?;
+    words.extend_from_slice(&FAR)?;
+    image_of(alloc, 0, 8192, words.as_slice())
+}
+
 #[test]
 fn instructions_that_share_a_line_of_the_cache(rt: HostRuntime) -> Result<(), Fail> {
-    let mut bytes = Vec::new(rt.alloc());
-    for word in NEAR {
-        bytes.extend_from_slice(&word.to_le_bytes())?;
-    }
-    bytes.resize(4096, 0)?;
-    for word in FAR {
-        bytes.extend_from_slice(&word.to_le_bytes())?;
-    }
-    let window = Window::new(0, 8192).ok_or("no window")?;
-    let image = load(rt.alloc(), bytes.as_slice(), window)?;
+    let image = near_and_far(rt.alloc())?;
     // Three rounds, in which each half's first two instructions put out the other's.
-    let end = run(rt.alloc(), &image, 18).map_err(|_| "no end")?;
+    let end = ran(rt.alloc(), &image, 18)?;
     assert!(rt; end.regs[1] == 3);
     assert!(rt; end.regs[4] == 6);
     assert!(rt; end.pc == 4112);
@@ -84,35 +113,39 @@ fn instructions_that_share_a_line_of_the_cache(rt: HostRuntime) -> Result<(), Fa
     Ok(())
 }
 
+/// Words, and whether their access is inside the window of 4096 bytes at the top.
+static AT_THE_TOP: [(u32, bool); 8] = [
+    // lw x1,-2(x0) and lw x0,-2(x0) have bytes past the top, which don't wrap to 0.
+    (0xffe02083, false),
+    (0xffe02003, false),
+    // lw x1,-4(x0), lh x1,-2(x0) and lb x1,-1(x0) end at the top.
+    (0xffc02083, true),
+    (0xffe01083, true),
+    (0xfff00083, true),
+    // lh x1,-1(x0) and sh x0,-1(x0) don't; nor does sb x0,0(x0), which is far below the window.
+    (0xfff01083, false),
+    (0xfe001fa3, false),
+    (0x00000023, false),
+];
+
+/// Whether the word's run ends. A run that doesn't has to fault by the word's access.
+fn is_inside(alloc: Global, word: u32) -> Result<bool, Fail> {
+    let image = image_of(alloc, 0xffff_f000, 4096, &[word, 0x00100073])?;
+    let outside = Fault {
+        kind: FaultKind::Access,
+        pc: 0xffff_f000,
+    };
+    match run(alloc, &image, 2) {
+        Ok(_) => Ok(true),
+        Err(RunError::Fault(fault)) if fault == outside => Ok(false),
+        Err(_) => Err("another error".into()),
+    }
+}
+
 #[test]
 fn accesses_across_the_edges(rt: HostRuntime) -> Result<(), Fail> {
-    for (word, is_inside) in [
-        // lw x1,-2(x0) and lw x0,-2(x0) have bytes past the top, which don't wrap to 0.
-        (0xffe02083, false),
-        (0xffe02003, false),
-        // lw x1,-4(x0), lh x1,-2(x0) and lb x1,-1(x0) end at the top.
-        (0xffc02083, true),
-        (0xffe01083, true),
-        (0xfff00083, true),
-        // lh x1,-1(x0) and sh x0,-1(x0) don't; nor does sb x0,0(x0), which is far below the window.
-        (0xfff01083, false),
-        (0xfe001fa3, false),
-        (0x00000023, false),
-    ] {
-        let image = image_of(rt.alloc(), 0xffff_f000, 4096, [word, 0x00100073].as_slice())?;
-        let ran = run(rt.alloc(), &image, 2);
-        let outside = Fault {
-            kind: FaultKind::Access,
-            pc: 0xffff_f000,
-        };
-        if is_inside {
-            assert!(rt; ran.is_ok(), "{word:08x}");
-        } else {
-            assert!(rt;
-                matches!(ran, Err(RunError::Fault(fault)) if fault == outside),
-                "{word:08x}"
-            );
-        }
+    for (word, wanted) in &AT_THE_TOP {
+        assert!(rt; is_inside(rt.alloc(), *word)? == *wanted, "{word:08x}");
     }
     Ok(())
 }
@@ -120,29 +153,46 @@ fn accesses_across_the_edges(rt: HostRuntime) -> Result<(), Fail> {
 /// `addi x8,x0,256; addi x1,x0,768; sw x1,0(x8); lb x2,1(x8); ebreak`
 const STORE_THEN_LOAD: [u32; 5] = [0x10000413, 0x30000093, 0x00142023, 0x00140103, 0x00100073];
 
+/// The bytes that each of its steps accesses, and the register that it writes.
+static ACCESSES: [(Option<ByteRange>, Option<u8>); 5] = [
+    (None, Some(8)),
+    (None, Some(1)),
+    (
+        Some(ByteRange {
+            from: 0x100,
+            to: 0x104,
+        }),
+        None,
+    ),
+    (
+        Some(ByteRange {
+            from: 0x101,
+            to: 0x102,
+        }),
+        Some(2),
+    ),
+    (None, None),
+];
+
+/// The trace of that program within so many steps.
+fn traced(alloc: Global, limit: u32) -> Result<Result<Vec<Step>, RunError>, Fail> {
+    let image = image_of(alloc, 0, 4096, &STORE_THEN_LOAD)?;
+    Ok(trace(alloc, &image, limit))
+}
+
+/// Whether these are the program's steps, by what they access and write.
+fn are_its_steps(steps: &[Step]) -> bool {
+    let mut same = steps.len() == 5;
+    for (step, (bytes, dest)) in steps.iter().zip(&ACCESSES) {
+        same = same && step.bytes() == *bytes && step.dest() == *dest;
+    }
+    same
+}
+
 #[test]
 fn traces_accesses(rt: HostRuntime) -> Result<(), Fail> {
-    let image = image_of(rt.alloc(), 0, 4096, STORE_THEN_LOAD.as_slice())?;
-    let steps = trace(rt.alloc(), &image, 5).map_err(|_| "no trace")?;
-    let stored = ByteRange {
-        from: 0x100,
-        to: 0x104,
-    };
-    let loaded = ByteRange {
-        from: 0x101,
-        to: 0x102,
-    };
-    assert!(rt; steps.len() == 5);
-    for (place, bytes, dest) in [
-        (1, None, Some(1)),
-        (2, Some(stored), None),
-        (3, Some(loaded), Some(2)),
-        (4, None, None),
-    ] {
-        assert!(rt; steps[place].bytes() == bytes);
-        assert!(rt; steps[place].dest() == dest);
-    }
-    assert!(rt; matches!(trace(rt.alloc(), &image, 4), Err(RunError::TooLong)));
+    assert!(rt; are_its_steps(traced(rt.alloc(), 5)??.as_slice()));
+    assert!(rt; traced(rt.alloc(), 4)?.err() == Some(RunError::TooLong));
     Ok(())
 }
 
@@ -156,32 +206,43 @@ fn step_of(word: u32, vj: u32, vk: u32) -> Result<Step, Fail> {
     })
 }
 
-#[test]
-fn steps_on_a_memory_alone(rt: HostRuntime) -> Result<(), Fail> {
-    let mut bytes = Vec::new(rt.alloc());
-    bytes.resize(16, 0)?;
-    let mut memory = Memory::new(0x100, bytes);
-    // sh x2,2(x1): within, and with its second byte past the end, where it writes none.
+/// A memory of 16 bytes from 256 on, in which `sh x2,2(x1)` has stored twice: within, and with its second byte past
+/// the end, where it writes none.
+fn stored_twice(alloc: Global) -> Result<Memory, Fail> {
+    let mut memory = Memory::new(0x100, vec![in alloc; 0u8; 16]?);
     for base in [0x100, 0x10d] {
         store(&step_of(0x0020_9123, base, 0x1234_80ff)?, &mut memory);
     }
-    for (word, vj, wanted) in [
-        // lw x3,0(x1)
-        (0x0000_a183, 0x100, Some(0x80ff_0000)),
-        (0x0000_a183, 0x10c, Some(0)),
-        (0x0000_a183, 0x10d, None),
-        // jalr x1,1(x2)
-        (0x0011_00e7, 0x201, Some(12)),
-    ] {
-        assert!(rt; result(&step_of(word, vj, 0)?, &memory) == wanted);
+    Ok(memory)
+}
+
+/// Words with the value of x1 or x2 that they read, and what they give on that memory.
+static RESULTS: [(u32, u32, Option<u32>); 4] = [
+    // lw x3,0(x1)
+    (0x0000_a183, 0x100, Some(0x80ff_0000)),
+    (0x0000_a183, 0x10c, Some(0)),
+    (0x0000_a183, 0x10d, None),
+    // jalr x1,1(x2)
+    (0x0011_00e7, 0x201, Some(12)),
+];
+
+/// Words with the values that they read, and where they lead.
+static NEXT: [(u32, u32, u32, u32); 3] = [
+    // jalr x1,1(x2)
+    (0x0011_00e7, 0x201, 0, 0x202),
+    // beq x1,x2,-8
+    (0xfe20_8ce3, 5, 5, 0),
+    (0xfe20_8ce3, 5, 6, 12),
+];
+
+#[test]
+fn steps_on_a_memory_alone(rt: HostRuntime) -> Result<(), Fail> {
+    let memory = stored_twice(rt.alloc())?;
+    for (word, vj, wanted) in &RESULTS {
+        assert!(rt; result(&step_of(*word, *vj, 0)?, &memory) == *wanted);
     }
-    for (word, vj, vk, wanted) in [
-        (0x0011_00e7, 0x201, 0, 0x202),
-        // beq x1,x2,-8
-        (0xfe20_8ce3, 5, 5, 0),
-        (0xfe20_8ce3, 5, 6, 12),
-    ] {
-        assert!(rt; next_pc(&step_of(word, vj, vk)?) == wanted);
+    for (word, vj, vk, wanted) in &NEXT {
+        assert!(rt; next_pc(&step_of(*word, *vj, *vk)?) == *wanted);
     }
     Ok(())
 }

@@ -42,25 +42,42 @@ const STORES: [u8; 20] = [
     0x73, 0x00, 0x10, 0x00,
 ];
 
+/// Whether a machine ends by its fifth step.
+fn ends_at_fifth(mut cpu: Cpu<Heap>) -> bool {
+    for _ in 0..4 {
+        if cpu.step() != Ok(Stepped::Next) {
+            return false;
+        }
+    }
+    cpu.step() == Ok(Stepped::Ended(EndKind::Ebreak))
+}
+
+/// How a machine of a program that stores came out, stepped to its end.
+fn stepped(heap: Heap, image: &Image<Heap>) -> Try {
+    match Cpu::new(heap, image) {
+        Ok(cpu) => Try::right_if(ends_at_fifth(cpu)),
+        Err(_) => Try::Refused,
+    }
+}
+
 /// Makes a machine of a program that stores, and steps it to its end.
 struct Step;
 
 impl Attempt for Step {
     fn attempt(&self, heap: Heap) -> Result<Try, AllocError> {
-        let image = match image_of(heap.clone()?, STORES.as_slice(), 0) {
-            Ok(image) => image,
-            Err(outcome) => return Ok(outcome),
-        };
-        let mut cpu = match Cpu::new(heap, &image) {
-            Ok(cpu) => cpu,
-            Err(_) => return Ok(Try::Refused),
-        };
-        for _ in 0..4 {
-            if cpu.step() != Ok(Stepped::Next) {
-                return Ok(Try::Wrong);
-            }
+        match image_of(heap.clone()?, STORES.as_slice(), 0) {
+            Ok(image) => Ok(stepped(heap, &image)),
+            Err(outcome) => Ok(outcome),
         }
-        Ok(Try::right_if(cpu.step() == Ok(Stepped::Ended(EndKind::Ebreak))))
+    }
+}
+
+/// How a run of the product came out.
+fn ran(heap: Heap, image: &Image<Heap>) -> Try {
+    match run(heap, image, 4) {
+        Ok(end) => Try::right_if(end.regs[3] == 35),
+        Err(RunError::Memory) => Try::Refused,
+        Err(_) => Try::Wrong,
     }
 }
 
@@ -69,15 +86,19 @@ struct Run;
 
 impl Attempt for Run {
     fn attempt(&self, heap: Heap) -> Result<Try, AllocError> {
-        let image = match image_in(heap.clone()?) {
-            Ok(image) => image,
-            Err(outcome) => return Ok(outcome),
-        };
-        match run(heap, &image, 4) {
-            Ok(end) => Ok(Try::right_if(end.regs[3] == 35)),
-            Err(RunError::Memory) => Ok(Try::Refused),
-            Err(_) => Ok(Try::Wrong),
+        match image_in(heap.clone()?) {
+            Ok(image) => Ok(ran(heap, &image)),
+            Err(outcome) => Ok(outcome),
         }
+    }
+}
+
+/// How the trace of the product's run came out.
+fn traced(heap: Heap, image: &Image<Heap>) -> Try {
+    match trace(heap, image, 4) {
+        Ok(steps) => Try::right_if(steps.len() == 4),
+        Err(RunError::Memory) => Try::Refused,
+        Err(_) => Try::Wrong,
     }
 }
 
@@ -86,14 +107,9 @@ struct Trace;
 
 impl Attempt for Trace {
     fn attempt(&self, heap: Heap) -> Result<Try, AllocError> {
-        let image = match image_in(heap.clone()?) {
-            Ok(image) => image,
-            Err(outcome) => return Ok(outcome),
-        };
-        match trace(heap, &image, 4) {
-            Ok(steps) if steps.len() == 4 => Ok(Try::Answered),
-            Err(RunError::Memory) => Ok(Try::Refused),
-            _ => Ok(Try::Wrong),
+        match image_in(heap.clone()?) {
+            Ok(image) => Ok(traced(heap, &image)),
+            Err(outcome) => Ok(outcome),
         }
     }
 }

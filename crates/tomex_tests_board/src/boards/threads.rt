@@ -35,6 +35,17 @@ fn claim_all<J: Plan>(
     Ok(won)
 }
 
+/// How many rows were won by exactly one.
+fn differing(up: &[bool], down: &[bool]) -> u32 {
+    let mut once = 0u32;
+    for (first, second) in up.iter().zip(down) {
+        if *first != *second {
+            once = once.wrapping_add(1);
+        }
+    }
+    once
+}
+
 /// How many rows exactly one of two threads won, where both claim all of them.
 fn won_once<J: Plan + Send + Sync, R: Threads + Sync>(
     rt: &R,
@@ -53,13 +64,7 @@ fn won_once<J: Plan + Send + Sync, R: Threads + Sync>(
         move || claim_all(alloc, shared, a, rows, true),
         move || claim_all(alloc, shared, b, rows, false),
     );
-    let mut once = 0u32;
-    for (first, second) in up?.iter().zip(down?.iter()) {
-        if *first != *second {
-            once = once.wrapping_add(1);
-        }
-    }
-    Ok(once)
+    Ok(differing(up?.as_slice(), down?.as_slice()))
 }
 
 /// Rows that all cost 7.

@@ -1,10 +1,11 @@
 //! Machines of programs that fault.
 
-use super::{config_of, cycle_of, holds, image_at_0, tick, wide_config};
+use super::{config_of, cycle_of, holds, image_at_0, machine_of, tick, wide_config};
 use std::alloc::Allocator;
 use std::test::Fail;
 use tomex_config::Config;
 use tomex_cycle::{Machine, Progress};
+use tomex_image::Image;
 use tomex_rvexec::{Fault, FaultKind, RunError, run};
 
 /// Programs, each with the kind and the place of its fault.
@@ -34,18 +35,26 @@ fn comes_to<A: Allocator>(machine: &mut Machine<A>, wanted: Fault) -> Result<(),
     Err("no such fault".into())
 }
 
-/// The machine of this configuration answers the fault of the in-order run.
+/// Whether the in-order run faults so.
+fn is_faulty(rt: &HostRuntime, image: &Image, wanted: Fault) -> bool {
+    matches!(run(rt.alloc(), image, 10), Err(RunError::Fault(fault)) if fault == wanted)
+}
+
+/// The in-order run of a program and its machine come to this fault.
+fn is_told(rt: &HostRuntime, config: &Config, words: &[u32], wanted: Fault) -> Result<(), Fail> {
+    let image = image_at_0(rt, words)?;
+    holds(is_faulty(rt, &image, wanted), "another fault of the run")?;
+    comes_to(&mut machine_of(rt, &image, config)?, wanted)
+}
+
+/// The machine of this configuration answers the faults of the in-order runs.
 fn are_told(rt: &HostRuntime, config: &Config) -> Result<(), Fail> {
     for (words, kind, pc) in &FAULTY {
-        let image = image_at_0(rt, words)?;
         let wanted = Fault {
             kind: *kind,
             pc: *pc,
         };
-        let ran = run(rt.alloc(), &image, 10);
-        let same = matches!(ran, Err(RunError::Fault(fault)) if fault == wanted);
-        holds(same, "another fault of the run")?;
-        comes_to(&mut Machine::new(rt.alloc(), &image, config)?, wanted)?;
+        is_told(rt, config, words, wanted)?;
     }
     Ok(())
 }

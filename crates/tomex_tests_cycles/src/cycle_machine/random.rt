@@ -2,15 +2,15 @@
 
 ghost use Rattle.std.specs.Prelude.{◌≤◌};
 
-use super::{cycle_of, end_of, has_ended, holds, image_at_0, tick, unit};
+use super::{cycle_of, end_of, has_ended, holds, image_at_0, machine_of, tables_of, tick, unit};
 use std::alloc::{Allocator, Global};
 use std::test::Fail;
 use tomex_config::Config;
 use tomex_cycle::{Busy, Field, Machine, Progress, Tables, Tag};
 use tomex_image::Image;
-use tomex_rvexec::{End, Operand, Step, run, trace};
+use tomex_rvexec::{End, Operand, run, trace};
+use tomex_timing::Done;
 use tomex_timing::evaluate::{times, total};
-use tomex_timing::{Done, Times};
 
 /// Marsaglia's xorshift of 32 bits.
 #[derive(Drop)]
@@ -148,8 +148,8 @@ fn shown(older: &[Done], d: &Done, cycle: u64) -> Option<Busy> {
     })
 }
 
-/// The tables after a cycle are those of the times.
-fn agree(tables: &Tables, steps: &[Done], cycle: u64) -> Result<(), Fail> {
+/// The busy stations after a cycle are those of the times.
+fn agree_on_stations(tables: &Tables, steps: &[Done], cycle: u64) -> Result<(), Fail> {
     let mut count = 0usize;
     for i in 0..steps.len() {
         if let Some(busy) = shown(&steps[..i], &steps[i], cycle) {
@@ -161,10 +161,13 @@ fn agree(tables: &Tables, steps: &[Done], cycle: u64) -> Result<(), Fail> {
             count = count.wrapping_add(1);
         }
     }
-    holds(
-        tables.busy().iter().flatten().count() == count,
-        "a station too many",
-    )?;
+    let found = tables.busy().iter().flatten().count();
+    holds(found == count, "a station too many")
+}
+
+/// The tables after a cycle are those of the times.
+fn agree(tables: &Tables, steps: &[Done], cycle: u64) -> Result<(), Fail> {
+    agree_on_stations(tables, steps, cycle)?;
     for register in 0..32u8 {
         let qi = tables.registers()[register as usize];
         holds(qi == awaited(steps, register, cycle), "another Qi")?;
@@ -184,7 +187,26 @@ fn advances<A: Allocator>(machine: &mut Machine<A>, by: u32, all: u64) -> bool {
     running == (to < all) && machine.cycle() == to.min(all)
 }
 
-/// Advances by 1 to 200 cycles at a time, over cycles in which nothing happens too, and compares where each stops.
+/// Advances a machine by 1 to 200 cycles at a time, over cycles in which nothing happens too, and compares where each
+/// stops.
+fn compare_stops<A: Allocator>(
+    machine: &mut Machine<A>,
+    steps: &[Done],
+    all: u64,
+    random: &mut Random,
+) -> Result<(), Fail> {
+    for _ in 0..5000u32 {
+        if has_ended(machine) {
+            return Ok(());
+        }
+        let by = random.below(199);
+        holds(advances(machine, by, all), "a piece stops elsewhere")?;
+        agree(&tables_of(machine), steps, cycle_of(machine))?;
+    }
+    Err("pieces don't end".into())
+}
+
+/// Makes a run in such pieces.
 fn compare_pieces(
     rt: &HostRuntime,
     image: &Image,
@@ -193,61 +215,63 @@ fn compare_pieces(
     all: u64,
     random: &mut Random,
 ) -> Result<(), Fail> {
-    let mut machine = Machine::new(rt.alloc(), image, config)?;
-    for _ in 0..5000u32 {
-        if has_ended(&machine) {
-            return Ok(());
-        }
-        let by = random.below(199);
-        holds(advances(&mut machine, by, all), "a piece stops elsewhere")?;
-        agree(&machine.tables(), steps, cycle_of(&machine))?;
-    }
-    Err("pieces don't end".into())
+    let mut machine = machine_of(rt, image, config)?;
+    compare_stops(&mut machine, steps, all, random)
 }
 
-/// The steps with their times.
-fn done_of(rt: &HostRuntime, steps: &[Step], timed: &[Times]) -> Result<Vec<Done>, Fail> {
-    let mut done = Vec::new(rt.alloc());
-    for (step, at) in steps.iter().zip(timed) {
-        done.push(Done {
-            step: *step,
-            at: *at,
-        })?;
-    }
-    Ok(done)
+/// The steps of a run with their times, and its total.
+fn done_of(rt: &HostRuntime, image: &Image, config: &Config) -> Result<(Vec<Done>, u64), Fail> {
+    let steps = trace(rt.alloc(), image, 1000)?;
+    let timed = times(rt.alloc(), steps.as_slice(), config)?;
+    let pairs = steps.iter().zip(timed.iter());
+    let done = pairs.map(|(step, at)| Done {
+        step: *step,
+        at: *at,
+    });
+    Ok((done.collect(rt.alloc())?, total(timed.as_slice())))
+}
+
+/// Whether two runs ended alike.
+fn end_alike(ended: &End<Global>, wanted: &End<Global>) -> bool {
+    ended.steps == wanted.steps
+        && ended.pc == wanted.pc
+        && ended.regs == wanted.regs
+        && ended.memory.bytes() == wanted.memory.bytes()
 }
 
 /// Compares the end of a run by tags with that of the run in order.
 fn compare_ends(rt: &HostRuntime, image: &Image, ended: &End<Global>) -> Result<(), Fail> {
-    let wanted = run(rt.alloc(), image, 1000).map_err(|_| "no end")?;
-    holds(ended.steps == wanted.steps, "another number of steps")?;
-    holds(ended.pc == wanted.pc, "another pc")?;
-    holds(ended.regs == wanted.regs, "other registers")?;
-    holds(
-        ended.memory.bytes() == wanted.memory.bytes(),
-        "another memory",
-    )
+    let wanted = run(rt.alloc(), image, 1000)?;
+    holds(end_alike(ended, &wanted), "another end")
 }
 
-/// Compares each cycle up to the last, which is `all`, and then the end.
-fn compare_cycles(
+/// Compares a machine's cycles up to the last, which is `all`.
+fn compare_cycles<A: Allocator>(
+    machine: &mut Machine<A>,
+    steps: &[Done],
+    all: u64,
+) -> Result<(), Fail> {
+    for cycle in 0..5000u64 {
+        if all <= cycle {
+            break;
+        }
+        agree(&tables_of(machine), steps, cycle)?;
+        let running = matches!(tick(machine), Progress::Running);
+        holds(running == (cycle + 1 < all), "another answer")?;
+    }
+    agree(&tables_of(machine), steps, all)
+}
+
+/// Makes each cycle up to the last, and compares it and then the end.
+fn compare_ticks(
     rt: &HostRuntime,
     image: &Image,
     config: &Config,
     steps: &[Done],
     all: u64,
 ) -> Result<(), Fail> {
-    let mut machine = Machine::new(rt.alloc(), image, config)?;
-    for cycle in 0..5000u64 {
-        if all < cycle {
-            break;
-        }
-        agree(&machine.tables(), steps, cycle)?;
-        if cycle < all {
-            let running = matches!(tick(&mut machine), Progress::Running);
-            holds(running == (cycle + 1 < all), "another answer")?;
-        }
-    }
+    let mut machine = machine_of(rt, image, config)?;
+    compare_cycles(&mut machine, steps, all)?;
     compare_ends(rt, image, &end_of(machine)?)
 }
 
@@ -259,72 +283,113 @@ fn compare(
     random: &mut Random,
 ) -> Result<(), Fail> {
     let image = image_at_0(rt, words)?;
-    let steps = trace(rt.alloc(), &image, 1000).map_err(|_| "no trace")?;
-    let timed = times(rt.alloc(), steps.as_slice(), config)?;
-    let done = done_of(rt, steps.as_slice(), timed.as_slice())?;
-    let all = total(timed.as_slice());
+    let (done, all) = done_of(rt, &image, config)?;
     compare_pieces(rt, &image, config, done.as_slice(), all, random)?;
-    compare_cycles(rt, &image, config, done.as_slice(), all)
+    compare_ticks(rt, &image, config, done.as_slice(), all)
+}
+
+/// Stations, units and their latencies by kind, buses and issue width.
+type Row = ([u8; 6], [u8; 5], [u8; 5], u8, u8);
+
+const SLOW: [u8; 5] = [1, 3, 7, 2, 1];
+
+const LONG: [u8; 5] = [1, 30, 64, 40, 12];
+
+const MANY: [u8; 5] = [3, 2, 2, 2, 1];
+
+const OF_MANY: [u8; 5] = [1, 5, 20, 4, 2];
+
+static ROWS: [Row; 10] = [
+    ([1; 6], [1; 5], SLOW, 1, 1),
+    ([2, 1, 1, 2, 1, 1], MANY, OF_MANY, 1, 1),
+    ([6, 3, 2, 5, 4, 2], [1; 5], SLOW, 2, 1),
+    ([16; 6], MANY, OF_MANY, 1, 1),
+    ([16; 6], [1; 5], SLOW, 8, 1),
+    ([4, 2, 1, 3, 2, 2], [1; 5], LONG, 1, 1),
+    ([1; 6], [1; 5], SLOW, 1, 4),
+    ([2, 1, 1, 2, 1, 1], MANY, OF_MANY, 1, 2),
+    ([6, 3, 2, 5, 4, 2], [1; 5], LONG, 2, 3),
+    ([16; 6], MANY, OF_MANY, 8, 4),
+];
+
+/// The configuration of a row.
+fn config_of(row: &Row) -> Result<Config, Fail> {
+    let (stations, units, latencies, buses, width) = *row;
+    let kinds = [
+        unit(units[0], latencies[0]),
+        unit(units[1], latencies[1]),
+        unit(units[2], latencies[2]),
+        unit(units[3], latencies[3]),
+        unit(units[4], latencies[4]),
+    ];
+    Ok(Config::new(stations, kinds, buses, width).ok_or("no configuration")?)
+}
+
+/// Runs a program on each row, and compares each cycle.
+fn compare_rows(
+    rt: &HostRuntime,
+    words: &[u32],
+    rows: &[Row],
+    random: &mut Random,
+) -> Result<(), Fail> {
+    for row in rows {
+        compare(rt, words, &config_of(row)?, random)?;
+    }
+    Ok(())
 }
 
 #[test]
 fn random_programs_agree(rt: HostRuntime) -> Result<(), Fail> {
-    let slow = [unit(1, 1), unit(1, 3), unit(1, 7), unit(1, 2), unit(1, 1)];
-    let long = [
-        unit(1, 1),
-        unit(1, 30),
-        unit(1, 64),
-        unit(1, 40),
-        unit(1, 12),
-    ];
-    let wide = [unit(3, 1), unit(2, 5), unit(2, 20), unit(2, 4), unit(1, 2)];
-    let rows = [
-        Config::new([1; 6], slow, 1, 1).ok_or("no configuration")?,
-        Config::new([2, 1, 1, 2, 1, 1], wide, 1, 1).ok_or("no configuration")?,
-        Config::new([6, 3, 2, 5, 4, 2], slow, 2, 1).ok_or("no configuration")?,
-        Config::new([16; 6], wide, 1, 1).ok_or("no configuration")?,
-        Config::new([16; 6], slow, 8, 1).ok_or("no configuration")?,
-        Config::new([4, 2, 1, 3, 2, 2], long, 1, 1).ok_or("no configuration")?,
-        Config::new([1; 6], slow, 1, 4).ok_or("no configuration")?,
-        Config::new([2, 1, 1, 2, 1, 1], wide, 1, 2).ok_or("no configuration")?,
-        Config::new([6, 3, 2, 5, 4, 2], long, 2, 3).ok_or("no configuration")?,
-        Config::new([16; 6], wide, 8, 4).ok_or("no configuration")?,
-    ];
     let mut random = Random { state: 2463534242 };
     for _ in 0..12 {
         let words = random.program();
-        for config in rows.iter() {
-            compare(&rt, words.as_slice(), config, &mut random)?;
-        }
+        compare_rows(&rt, words.as_slice(), ROWS.as_slice(), &mut random)?;
     }
     Ok(())
+}
+
+const SHORT: [u8; 5] = [1, 2, 3, 2, 1];
+
+static WIDE_ROWS: [Row; 3] = [
+    ([1; 6], [1; 5], SHORT, 1, 4),
+    ([4; 6], [1; 5], SHORT, 1, 2),
+    ([4; 6], [1; 5], SHORT, 2, 4),
+];
+
+/// `addi x10,x0,1; addi x10,x10,2`: two writers of one register; `mul x11,x10,x10; addi x12,x11,3; ebreak`
+static FOUR: [u32; 6] = [
+    0x00100513, 0x00250513, 0x02a505b3, 0x00358613, 0x00150513, 0x00100073,
+];
+
+/// `addi x0,x10,1`; `fence`; `ecall`; `jal x0` to the next one; `bne x0,x0,8`; `sw x10,256(x0)`
+static OTHERS: [u32; 6] = [
+    0x00150013, 0x0ff0000f, 0x00000073, 0x0040006f, 0x00001463, 0x10a02023,
+];
+
+/// Compares that program with another word in one of its first four places.
+fn compare_changed(
+    rt: &HostRuntime,
+    slot: usize,
+    word: u32,
+    random: &mut Random,
+) -> Result<(), Fail> {
+    let mut changed = FOUR;
+    if let Some(place) = changed.get_mut(slot) {
+        *place = word;
+    }
+    compare_rows(rt, changed.as_slice(), WIDE_ROWS.as_slice(), random)
 }
 
 /// Four instructions that may issue in one cycle, with another one in the place of each in turn.
 #[test]
 fn each_slot_of_a_wide_cycle(rt: HostRuntime) -> Result<(), Fail> {
-    let plain = [unit(1, 1), unit(1, 2), unit(1, 3), unit(1, 2), unit(1, 1)];
-    let rows = [
-        Config::new([1; 6], plain, 1, 4).ok_or("no configuration")?,
-        Config::new([4; 6], plain, 1, 2).ok_or("no configuration")?,
-        Config::new([4; 6], plain, 2, 4).ok_or("no configuration")?,
-    ];
-    // addi x10,x0,1; addi x10,x10,2: two writers of one register; mul x11,x10,x10; addi x12,x11,3; ebreak
-    let words = [
-        0x00100513, 0x00250513, 0x02a505b3, 0x00358613, 0x00150513, 0x00100073,
-    ];
     let mut random = Random { state: 88172645 };
     for slot in 0..4 {
-        // jalr x5 to the next one; addi x0,x10,1; fence; ecall; jal x0 to the next one; bne x0,x0,8; sw x10,256(x0)
+        // jalr x5 to the next one
         let jalr = 0x000002e7 | (4 * slot as u32 + 4) << 20;
-        for word in [
-            jalr, 0x00150013, 0x0ff0000f, 0x00000073, 0x0040006f, 0x00001463, 0x10a02023,
-        ] {
-            let mut changed = words;
-            changed[slot] = word;
-            for config in rows.iter() {
-                compare(&rt, changed.as_slice(), config, &mut random)?;
-            }
+        compare_changed(&rt, slot, jalr, &mut random)?;
+        for word in &OTHERS {
+            compare_changed(&rt, slot, *word, &mut random)?;
         }
     }
     Ok(())

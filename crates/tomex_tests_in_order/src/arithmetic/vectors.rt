@@ -1,7 +1,7 @@
 //! Vectors computed by C programs that gcc compiled, in C's own arithmetic of 64 and 128 bits.
 
 /// Two operands, and what MUL, MULH, MULHSU, MULHU, DIV, DIVU, REM and REMU give of them.
-pub const PRODUCTS: [(u32, u32, [u32; 8]); 27] = [
+pub static PRODUCTS: [(u32, u32, [u32; 8]); 27] = [
     (
         0x00000000,
         0x00000000,
@@ -224,7 +224,7 @@ pub const PRODUCTS: [(u32, u32, [u32; 8]); 27] = [
 pub const SHIFTED: u32 = 0x9abc_def1;
 
 /// It shifted by 0, 1 and so on up to 31: to the left, to the right, and with its sign copied.
-pub const SHIFTS: [[u32; 3]; 32] = [
+pub static SHIFTS: [[u32; 3]; 32] = [
     [0x9abcdef1, 0x9abcdef1, 0x9abcdef1],
     [0x3579bde2, 0x4d5e6f78, 0xcd5e6f78],
     [0x6af37bc4, 0x26af37bc, 0xe6af37bc],
