@@ -236,15 +236,19 @@ fn blocks_of_front<R: Threads + Wait + Sync>(
     Ok(refusals_of!(other, heap => explored_in(rt, heap, study, workers, front)))
 }
 
+/// The front of a study's rows, each run to its end.
+fn front_of(other: Global, study: &Study<Heap>) -> Result<Vec<FrontRow, Heap>, Fail> {
+    Ok(run_all(ample(other)?, study)?.front)
+}
+
 /// Each growth is refused in turn where there are enough rows for workers to learn from them.
 #[test]
 fn each_growth_of_learning_is_refused(rt: HostRuntime) -> Result<(), Fail> {
     let other = rt.alloc();
     let study = study_of(other, [4096, 4096], 16, 3)?;
-    let whole = run_all(ample(other)?, &study)?;
+    let front = front_of(other, &study)?;
     for workers in [1, 2] {
-        let blocks = blocks_of_front(&rt, other, &study, workers, whole.front.as_slice())?;
-        assert!(rt; blocks > Some(12));
+        assert!(rt; blocks_of_front(&rt, other, &study, workers, front.as_slice())? > Some(12));
     }
     Ok(())
 }

@@ -44,6 +44,11 @@ fn is_refused(alloc: Global, words: &[u32], limit: u32, error: ProgramError) -> 
 /// `addi x1,x0,5; addi x2,x0,7; mul x3,x1,x2; ebreak`
 const PRODUCT: [u32; 4] = [0x00500093, 0x00700113, 0x022081b3, 0x00100073];
 
+/// The product, within four steps.
+fn product(alloc: Global) -> Result<Program, Fail> {
+    Ok(program_of(alloc, PRODUCT.as_slice(), 4)??)
+}
+
 /// Whether a program is the product.
 fn is_product(program: &Program) -> bool {
     program.name() == "mul"
@@ -54,8 +59,7 @@ fn is_product(program: &Program) -> bool {
 
 #[test]
 fn four_steps_within_limits(rt: HostRuntime) -> Result<(), Fail> {
-    let product = program_of(rt.alloc(), PRODUCT.as_slice(), 4)??;
-    assert!(rt; is_product(&product));
+    assert!(rt; is_product(&product(rt.alloc())?));
     assert!(rt; is_refused(rt.alloc(), PRODUCT.as_slice(), 3, ProgramError::TooLong)?);
     Ok(())
 }
@@ -117,12 +121,12 @@ fn prices() -> Prices {
     Prices::new([10, 100, 0, 0, 0, 0], 7, 0)
 }
 
-/// The study of a program on a row of two alu stations and one of one.
-fn study_of(alloc: Global, program: Program) -> Result<Study, Fail> {
+/// The study of the product on a row of two alu stations and one of one.
+fn study_of_product(alloc: Global) -> Result<Study, Fail> {
     let two = config_of(2).ok_or("no configuration")?;
     let one = config_of(1).ok_or("no configuration")?;
     let rows = vec![in alloc; two, one]?;
-    let programs = vec![in alloc; program]?;
+    let programs = vec![in alloc; product(alloc)?]?;
     Ok(Study::new(alloc, programs, rows, prices(), false)?)
 }
 
@@ -144,8 +148,7 @@ fn has_product(study: &Study) -> bool {
 
 #[test]
 fn costs_of_two_rows(rt: HostRuntime) -> Result<(), Fail> {
-    let product = program_of(rt.alloc(), PRODUCT.as_slice(), 4)??;
-    let study = study_of(rt.alloc(), product)?;
+    let study = study_of_product(rt.alloc())?;
     assert!(rt; has_two_rows(&study));
     assert!(rt; has_product(&study));
     Ok(())
