@@ -11,60 +11,126 @@ const PLAIN: UnitOption = UnitOption {
     price: 0,
 };
 
+/// No value for any part.
+fn empty(alloc: Global) -> Axes {
+    Axes {
+        alu: Vec::new(alloc),
+        mul: Vec::new(alloc),
+        div: Vec::new(alloc),
+        load: Vec::new(alloc),
+        store: Vec::new(alloc),
+        bru: Vec::new(alloc),
+        alu_units: Vec::new(alloc),
+        mul_units: Vec::new(alloc),
+        div_units: Vec::new(alloc),
+        mem_units: Vec::new(alloc),
+        bru_units: Vec::new(alloc),
+        buses: Vec::new(alloc),
+        width: Vec::new(alloc),
+    }
+}
+
+/// Adds one station to each pool's list.
+fn add_stations(axes: &mut Axes) -> Result<(), AllocError> {
+    axes.alu.push(1)?;
+    axes.mul.push(1)?;
+    axes.div.push(1)?;
+    axes.load.push(1)?;
+    axes.store.push(1)?;
+    axes.bru.push(1)?;
+    Ok(())
+}
+
+/// Adds a plain option to each list of units, one bus, and the width of 1.
+fn add_units(axes: &mut Axes) -> Result<(), AllocError> {
+    axes.alu_units.push(PLAIN)?;
+    axes.mul_units.push(PLAIN)?;
+    axes.div_units.push(PLAIN)?;
+    axes.mem_units.push(PLAIN)?;
+    axes.bru_units.push(PLAIN)?;
+    axes.buses.push(1)?;
+    axes.width.push(1)?;
+    Ok(())
+}
+
 /// One value for each part: a single plain configuration.
 fn single(alloc: Global) -> Result<Axes, AllocError> {
-    Ok(Axes {
-        alu: vec![in alloc; 1]?,
-        mul: vec![in alloc; 1]?,
-        div: vec![in alloc; 1]?,
-        load: vec![in alloc; 1]?,
-        store: vec![in alloc; 1]?,
-        bru: vec![in alloc; 1]?,
-        alu_units: vec![in alloc; PLAIN]?,
-        mul_units: vec![in alloc; PLAIN]?,
-        div_units: vec![in alloc; PLAIN]?,
-        mem_units: vec![in alloc; PLAIN]?,
-        bru_units: vec![in alloc; PLAIN]?,
-        buses: vec![in alloc; 1]?,
-        width: vec![in alloc; 1]?,
-    })
+    let mut axes = empty(alloc);
+    add_stations(&mut axes)?;
+    add_units(&mut axes)?;
+    Ok(axes)
 }
 
-/// The values 1 to 16.
-fn sixteen(alloc: Global) -> Result<Vec<u8>, AllocError> {
-    (1..=16u8).collect(alloc)
+/// Adds the values 2 to `last`.
+fn add_to(list: &mut Vec<u8>, last: u8) -> Result<(), AllocError> {
+    for value in 2..=last {
+        list.push(value)?;
+    }
+    Ok(())
 }
 
-/// One value for each part, but for one list, which is as long as a list can be.
+/// Makes the values of a single configuration those of the most rows.
+fn add_most(axes: &mut Axes) -> Result<(), AllocError> {
+    add_to(&mut axes.alu, 16)?;
+    add_to(&mut axes.mul, 16)?;
+    add_to(&mut axes.div, 16)?;
+    add_to(&mut axes.buses, 4)
+}
+
+/// Makes a list as long as a list can be.
+fn lengthen<T: Copy>(list: &mut Vec<T>, value: T) -> Result<(), AllocError> {
+    list.resize(16_384, value)
+}
+
+/// Lengthens one of the lists of counts.
+fn lengthen_counts(axes: &mut Axes, list: u32) -> Result<(), AllocError> {
+    match list {
+        0 => lengthen(&mut axes.alu, 1),
+        1 => lengthen(&mut axes.mul, 1),
+        2 => lengthen(&mut axes.div, 1),
+        3 => lengthen(&mut axes.load, 1),
+        4 => lengthen(&mut axes.store, 1),
+        5 => lengthen(&mut axes.bru, 1),
+        _ => lengthen(&mut axes.buses, 1),
+    }
+}
+
+/// Lengthens one of the lists of options.
+fn lengthen_options(axes: &mut Axes, list: u32) -> Result<(), AllocError> {
+    match list {
+        0 => lengthen(&mut axes.alu_units, PLAIN),
+        1 => lengthen(&mut axes.mul_units, PLAIN),
+        2 => lengthen(&mut axes.div_units, PLAIN),
+        3 => lengthen(&mut axes.mem_units, PLAIN),
+        _ => lengthen(&mut axes.bru_units, PLAIN),
+    }
+}
+
+/// One value for each part, but for one of the twelve lists of counts and options.
 fn longest(alloc: Global, list: u32) -> Result<Axes, AllocError> {
     let mut axes = single(alloc)?;
-    let counts = vec![in alloc; 1u8; 16_384]?;
-    let options = vec![in alloc; PLAIN; 16_384]?;
-    match list {
-        0 => axes.alu = counts,
-        1 => axes.mul = counts,
-        2 => axes.div = counts,
-        3 => axes.load = counts,
-        4 => axes.store = counts,
-        5 => axes.bru = counts,
-        6 => axes.alu_units = options,
-        7 => axes.mul_units = options,
-        8 => axes.div_units = options,
-        9 => axes.mem_units = options,
-        10 => axes.bru_units = options,
-        _ => axes.buses = counts,
+    if list < 7 {
+        lengthen_counts(&mut axes, list)?;
+    } else {
+        lengthen_options(&mut axes, list - 7)?;
     }
     Ok(axes)
 }
 
-/// A plain configuration but for these parts.
-fn config(alu: u8, mul: u8, div: u8, buses: u8) -> Option<Config> {
+/// A plain configuration but for these stations of alu, mul and div, and buses.
+fn config(parts: [u8; 4]) -> Option<Config> {
+    let [alu, mul, div, buses] = parts;
     Config::new([alu, mul, div, 1, 1, 1], [PLAIN; 5], buses, 1)
 }
 
 /// Whether the axes are refused for this reason.
 fn is_refused(alloc: Global, axes: &Axes, error: GridError) -> bool {
     grid(alloc, axes).err() == Some(error)
+}
+
+/// The rows of these axes.
+fn rows_of(alloc: Global, axes: &Axes) -> Result<Vec<Config>, GridError> {
+    grid(alloc, axes)
 }
 
 /// Whether the axes have two rows of these costs.
@@ -74,45 +140,58 @@ fn cost_these(
     prices: &Prices,
     costs: [u64; 2],
 ) -> Result<bool, GridError> {
-    let rows = grid(alloc, axes)?;
+    let rows = rows_of(alloc, axes)?;
+    let mut same = rows.len() == 2;
     for (config, wanted) in rows.iter().zip(costs) {
-        if cost(config, prices) != wanted {
-            return Ok(false);
-        }
+        same = same && cost(config, prices) == wanted;
     }
-    Ok(rows.len() == 2)
+    Ok(same)
+}
+
+/// Rows of the largest grid, each by its place and its parts.
+static PLACES: [(usize, [u8; 4]); 6] = [
+    (0, [1, 1, 1, 1]),
+    (3, [1, 1, 1, 4]),
+    (4, [1, 1, 2, 1]),
+    (64, [1, 2, 1, 1]),
+    (1_024, [2, 1, 1, 1]),
+    (16_383, [16, 16, 16, 4]),
+];
+
+/// Whether those rows stand in their places.
+fn are_in_place(rows: &[Config]) -> bool {
+    let mut same = rows.len() == 16_384;
+    for (place, parts) in &PLACES {
+        same = same && rows.get(*place).copied() == config(*parts);
+    }
+    same
 }
 
 #[test]
 fn most_rows_and_one_bus_more(rt: HostRuntime) -> Result<(), Fail> {
     let mut axes = single(rt.alloc())?;
-    axes.alu = sixteen(rt.alloc())?;
-    axes.mul = sixteen(rt.alloc())?;
-    axes.div = sixteen(rt.alloc())?;
-    axes.buses = vec![in rt.alloc(); 1, 2, 3, 4]?;
-    let rows = grid(rt.alloc(), &axes)?;
-    assert!(rt; rows.len() == 16_384);
-    for (place, wanted) in [
-        (0, config(1, 1, 1, 1)),
-        (3, config(1, 1, 1, 4)),
-        (4, config(1, 1, 2, 1)),
-        (64, config(1, 2, 1, 1)),
-        (1_024, config(2, 1, 1, 1)),
-        (16_383, config(16, 16, 16, 4)),
-    ] {
-        assert_eq!(rt; (place, rows.get(place).copied()), (place, wanted));
-    }
+    add_most(&mut axes)?;
+    assert!(rt; are_in_place(rows_of(rt.alloc(), &axes)?.as_slice()));
     axes.buses.push(5)?;
     assert!(rt; is_refused(rt.alloc(), &axes, GridError::TooMany));
     Ok(())
 }
 
+/// Whether the axes have so many rows, each with these parts.
+fn gives(alloc: Global, axes: &Axes, count: usize, parts: [u8; 4]) -> Result<bool, GridError> {
+    let rows = rows_of(alloc, axes)?;
+    let mut same = rows.len() == count;
+    for made in &rows {
+        same = same && Some(*made) == config(parts);
+    }
+    Ok(same)
+}
+
 #[test]
 fn each_list_at_its_longest(rt: HostRuntime) -> Result<(), Fail> {
     for list in 0..12 {
-        let rows = grid(rt.alloc(), &longest(rt.alloc(), list)?)?;
-        assert!(rt; rows.len() == 16_384);
-        assert!(rt; rows.iter().all(|made| Some(*made) == config(1, 1, 1, 1)));
+        let axes = longest(rt.alloc(), list)?;
+        assert!(rt; gives(rt.alloc(), &axes, 16_384, [1; 4])?);
     }
     Ok(())
 }
@@ -121,11 +200,7 @@ fn each_list_at_its_longest(rt: HostRuntime) -> Result<(), Fail> {
 fn a_value_twice_gives_two_rows(rt: HostRuntime) -> Result<(), Fail> {
     let mut axes = single(rt.alloc())?;
     axes.mul = vec![in rt.alloc(); 2, 2]?;
-    let rows = grid(rt.alloc(), &axes)?;
-    assert!(rt; rows.len() == 2);
-    for made in &rows {
-        assert!(rt; Some(*made) == config(1, 2, 1, 1));
-    }
+    assert!(rt; gives(rt.alloc(), &axes, 2, [1, 2, 1, 1])?);
     Ok(())
 }
 
@@ -134,21 +209,39 @@ fn refusals_in_order(rt: HostRuntime) -> Result<(), Fail> {
     let mut axes = single(rt.alloc())?;
     axes.bru_units = vec![in rt.alloc(); UnitOption { units: 2, ..PLAIN }]?;
     assert!(rt; is_refused(rt.alloc(), &axes, GridError::OutOfRange));
-    axes.buses = Vec::new(rt.alloc());
+    axes.buses.clear();
     assert!(rt; is_refused(rt.alloc(), &axes, GridError::EmptyAxis));
     assert!(rt; !axes.is_too_large());
     Ok(())
 }
 
+/// One value for each part, where the unit of multiplications costs 50 and there are two buses.
+fn priced(alloc: Global) -> Result<Axes, AllocError> {
+    let mut axes = single(alloc)?;
+    axes.mul_units = vec![in alloc; UnitOption { price: 50, ..PLAIN }]?;
+    axes.buses = vec![in alloc; 2]?;
+    Ok(axes)
+}
+
 #[test]
 fn costs_of_two_rows(rt: HostRuntime) -> Result<(), Fail> {
-    let mut axes = single(rt.alloc())?;
+    let mut axes = priced(rt.alloc())?;
     axes.alu = vec![in rt.alloc(); 2, 1]?;
-    axes.mul_units = vec![in rt.alloc(); UnitOption { price: 50, ..PLAIN }]?;
-    axes.buses = vec![in rt.alloc(); 2]?;
     let prices = Prices::new([10, 100, 0, 0, 0, 0], 7, 0);
     assert!(rt; cost_these(rt.alloc(), &axes, &prices, [184, 174])?);
     Ok(())
+}
+
+/// Buses and widths, in the rows' order.
+static WIDTHS: [(u8, u8); 4] = [(1, 4), (1, 2), (3, 4), (3, 2)];
+
+/// Whether rows are of those buses and widths.
+fn are_of_widths(rows: &[Config]) -> bool {
+    let mut same = rows.len() == 4;
+    for (config, wanted) in rows.iter().zip(&WIDTHS) {
+        same = same && (config.buses(), config.width()) == *wanted;
+    }
+    same
 }
 
 #[test]
@@ -156,39 +249,41 @@ fn widths_vary_the_fastest(rt: HostRuntime) -> Result<(), Fail> {
     let mut axes = single(rt.alloc())?;
     axes.buses = vec![in rt.alloc(); 1, 3]?;
     axes.width = vec![in rt.alloc(); 4, 2]?;
-    let rows = grid(rt.alloc(), &axes)?;
-    assert!(rt; rows.len() == 4);
-    for (config, want) in rows.iter().zip([(1, 4), (1, 2), (3, 4), (3, 2)]) {
-        assert!(rt; (config.buses(), config.width()) == want);
-    }
+    assert!(rt; are_of_widths(rows_of(rt.alloc(), &axes)?.as_slice()));
     axes.width.push(5)?;
     assert!(rt; is_refused(rt.alloc(), &axes, GridError::OutOfRange));
-    axes.width = Vec::new(rt.alloc());
+    axes.width.clear();
     assert!(rt; is_refused(rt.alloc(), &axes, GridError::EmptyAxis));
     Ok(())
 }
 
 #[test]
 fn widths_cost_their_price(rt: HostRuntime) -> Result<(), Fail> {
-    let mut axes = single(rt.alloc())?;
-    axes.mul_units = vec![in rt.alloc(); UnitOption { price: 50, ..PLAIN }]?;
-    axes.buses = vec![in rt.alloc(); 2]?;
+    let mut axes = priced(rt.alloc())?;
     axes.width = vec![in rt.alloc(); 1, 4]?;
     let prices = Prices::new([10, 100, 0, 0, 0, 0], 7, 1000);
     assert!(rt; cost_these(rt.alloc(), &axes, &prices, [1174, 4174])?);
     Ok(())
 }
 
+/// The errors and their texts.
+static TEXTS: [(GridError, &str); 4] = [
+    (GridError::EmptyAxis, "an axis is empty"),
+    (GridError::OutOfRange, "a value is out of range"),
+    (GridError::TooMany, "too many configurations"),
+    (GridError::Memory, "out of memory"),
+];
+
+/// Whether an error is shown so.
+fn is_shown(alloc: Global, error: GridError, text: &str) -> Result<bool, AllocError> {
+    let shown = format!(in alloc; "{error}")?;
+    Ok(shown.as_str() == text)
+}
+
 #[test]
 fn texts_of_errors(rt: HostRuntime) -> Result<(), Fail> {
-    for (error, text) in [
-        (GridError::EmptyAxis, "an axis is empty"),
-        (GridError::OutOfRange, "a value is out of range"),
-        (GridError::TooMany, "too many configurations"),
-        (GridError::Memory, "out of memory"),
-    ] {
-        let shown = format!(in rt.alloc(); "{error}")?;
-        assert!(rt; shown.as_str() == text);
+    for (error, text) in &TEXTS {
+        assert!(rt; is_shown(rt.alloc(), *error, text)?);
     }
     Ok(())
 }

@@ -1,11 +1,11 @@
 //! A worker's machine takes its memory once: how many blocks a study takes doesn't depend on its rows.
 
-use std::alloc::Global;
+use std::alloc::{AllocError, Global};
 use std::sync::Wait;
 use std::test::Fail;
 use std::thread::Threads;
 use tomex_config::{Config, Prices, UnitOption};
-use tomex_image::{Window, load};
+use tomex_image::{Image, Window, load};
 use tomex_rvexec::trace;
 use tomex_samples::{Heap, Try, ample, refusals_of};
 use tomex_sweep::{
@@ -22,34 +22,76 @@ const COUNTED: [u32; 7] = [
 /// `addi x3,x0,24; mul x4,x3,x3; sw x4,0(x3); ebreak`, which overwrites that count.
 const OVERWRITTEN: [u32; 4] = [0x01800193, 0x02318233, 0x0041a023, 0x00100073];
 
-/// The program of these words at 0, in a window of so many bytes.
-fn program_of(other: Global, words: &[u32], size: u32) -> Result<Program<Heap>, Fail> {
+/// The bytes of these words.
+fn bytes_of(other: Global, words: &[u32]) -> Result<Vec<u8>, AllocError> {
     let mut bytes = Vec::new(other);
     for word in words {
         bytes.extend_from_slice(&word.to_le_bytes())?;
     }
-    let window = Window::new(0, size).ok_or("no window")?;
-    let image = load(ample(other)?, bytes.as_slice(), window)?;
-    let name = String::from_str(ample(other)?, "program")?;
-    let watch = Vec::new(ample(other)?);
-    Ok(Program::new(ample(other)?, name, image, 10_000, watch, 1)?)
+    Ok(bytes)
 }
 
-/// Rows of 1, 2, 3 and so on alu stations, each with 1, 2, 3 and so on buses.
-fn rows_of(other: Global, most_stations: u8, most_buses: u8) -> Result<Vec<Config, Heap>, Fail> {
+/// The image of these words at 0, in a window of so many bytes.
+fn image_at_0(other: Global, words: &[u32], size: u32) -> Result<Image<Heap>, Fail> {
+    let window = Window::new(0, size).ok_or("no window")?;
+    let bytes = bytes_of(other, words)?;
+    Ok(load(ample(other)?, bytes.as_slice(), window)?)
+}
+
+/// The program of an image, of which nothing is watched.
+fn named(other: Global, heap: Heap, image: Image<Heap>) -> Result<Program<Heap>, Fail> {
+    let watch = Vec::new(ample(other)?);
+    let name = String::from_str(ample(other)?, "program")?;
+    Ok(Program::new(heap, name, image, 10_000, watch, 1)?)
+}
+
+/// The program of these words at 0, in a window of so many bytes.
+fn program_of(other: Global, words: &[u32], size: u32) -> Result<Program<Heap>, Fail> {
+    let image = image_at_0(other, words, size)?;
+    named(other, ample(other)?, image)
+}
+
+/// A plain configuration of so many alu stations and buses.
+fn config_of(stations: u8, buses: u8) -> Result<Config, Fail> {
     let plain = UnitOption {
         units: 1,
         latency: 1,
         price: 0,
     };
+    let config = Config::new([stations, 1, 1, 1, 1, 1], [plain; 5], buses, 1);
+    Ok(config.ok_or("no configuration")?)
+}
+
+/// Rows of 1, 2, 3 and so on alu stations, each with 1, 2, 3 and so on buses.
+fn rows_of(other: Global, most_stations: u8, most_buses: u8) -> Result<Vec<Config, Heap>, Fail> {
     let mut configs = Vec::new(ample(other)?);
     for stations in 1..=most_stations {
         for buses in 1..=most_buses {
-            let config = Config::new([stations, 1, 1, 1, 1, 1], [plain; 5], buses, 1);
-            configs.push(config.ok_or("no configuration")?)?;
+            configs.push(config_of(stations, buses)?)?;
         }
     }
     Ok(configs)
+}
+
+/// Both programs, in windows of so many bytes.
+fn programs_of(other: Global, sizes: [u32; 2]) -> Result<Vec<Program<Heap>, Heap>, Fail> {
+    let mut programs = Vec::new(ample(other)?);
+    programs.push(program_of(other, OVERWRITTEN.as_slice(), sizes[0])?)?;
+    programs.push(program_of(other, COUNTED.as_slice(), sizes[1])?)?;
+    Ok(programs)
+}
+
+/// The study of these programs on these rows, of which an alu station costs 1.
+fn study_on(
+    heap: Heap,
+    programs: Vec<Program<Heap>, Heap>,
+    configs: Vec<Config, Heap>,
+) -> Result<Study<Heap>, Fail> {
+    if configs.is_empty() || configs.len() > 16_384 || programs.len() != 2 {
+        return Err("no rows")?;
+    }
+    let prices = Prices::new([1, 0, 0, 0, 0, 0], 0, 0);
+    Ok(Study::new(heap, programs, configs, prices, false)?)
 }
 
 /// The study of both programs, in windows of so many bytes, on rows of 1, 2, 3 and so on alu stations, each of
@@ -60,51 +102,86 @@ fn study_of(
     most_stations: u8,
     most_buses: u8,
 ) -> Result<Study<Heap>, Fail> {
-    let mut programs = Vec::new(ample(other)?);
-    programs.push(program_of(other, OVERWRITTEN.as_slice(), sizes[0])?)?;
-    programs.push(program_of(other, COUNTED.as_slice(), sizes[1])?)?;
     let configs = rows_of(other, most_stations, most_buses)?;
-    if configs.is_empty() || configs.len() > 16_384 || programs.len() != 2 {
-        return Err("no rows")?;
-    }
-    let prices = Prices::new([1, 0, 0, 0, 0, 0], 0, 0);
-    Ok(Study::new(ample(other)?, programs, configs, prices, false)?)
+    let programs = programs_of(other, sizes)?;
+    study_on(ample(other)?, programs, configs)
 }
 
-/// The cycles of each row, by the recurrence over the in-order run.
+/// The cycles of a program on a row, by the recurrence over the in-order run.
+fn cycles_of(other: Global, program: &Program<Heap>, config: &Config) -> Result<u64, Fail> {
+    let steps = trace(ample(other)?, program.image(), 10_000)?;
+    if steps.len() > 10_000 {
+        return Err("a long trace")?;
+    }
+    Ok(total(times(other, steps.as_slice(), config)?.as_slice()))
+}
+
+/// The cycles of all programs on a row.
+fn sum_of(other: Global, programs: &[Program<Heap>], config: &Config) -> Result<u64, Fail> {
+    let mut sum = 0u64;
+    for program in programs {
+        sum = sum.wrapping_add(cycles_of(other, program, config)?);
+    }
+    Ok(sum)
+}
+
+/// The cycles of each row.
 fn cycles_in(other: Global, study: &Study<Heap>) -> Result<Vec<u64>, Fail> {
     let mut cycles = Vec::new(other);
     for config in study.rows() {
-        let mut sum = 0u64;
-        for program in study.programs() {
-            let steps = trace(ample(other)?, program.image(), 10_000).map_err(|_| "no trace")?;
-            if steps.len() > 10_000 {
-                return Err("a long trace")?;
-            }
-            let timed = times(other, steps.as_slice(), config)?;
-            sum = sum.wrapping_add(total(timed.as_slice()));
-        }
-        cycles.push(sum)?;
+        cycles.push(sum_of(other, study.programs(), config)?)?;
     }
     Ok(cycles)
+}
+
+/// Whether all rows are finished, with these cycles.
+fn are_finished(marks: &[Mark], cycles: &[u64]) -> bool {
+    let mut same = marks.len() == cycles.len();
+    for (mark, wanted) in marks.iter().zip(cycles) {
+        same = same && *mark == Mark::Finished(*wanted);
+    }
+    same
 }
 
 /// How an exploration came out whose rows are all to be finished, with these cycles.
 fn tried(outcome: Result<Outcome<Heap>, SweepError>, cycles: &[u64]) -> Try {
     match outcome {
-        Ok(outcome) => {
-            let wanted = cycles.iter().map(|cycles| Mark::Finished(*cycles));
-            Try::right_if(
-                outcome.marks.len() == cycles.len() && outcome.marks.iter().copied().eq(wanted),
-            )
-        }
+        Ok(outcome) => Try::right_if(are_finished(outcome.marks.as_slice(), cycles)),
         Err(SweepError::Memory) => Try::Refused,
         Err(SweepError::Worker) => Try::Wrong,
     }
 }
 
-/// How many blocks are taken by the call that runs each row to its end, and by an exploration with one
-/// worker. None where one comes out wrong.
+/// How many blocks are taken by the call that runs each row to its end. None where it comes out wrong.
+fn blocks_of_all(
+    other: Global,
+    study: &Study<Heap>,
+    cycles: &[u64],
+) -> Result<Option<u64>, AllocError> {
+    Ok(refusals_of!(other, heap => tried(run_all(heap, study), cycles)))
+}
+
+/// How an exploration with one worker came out.
+fn explored_alone<R: Threads + Wait + Sync>(
+    rt: &R,
+    heap: Heap,
+    study: &Study<Heap>,
+    cycles: &[u64],
+) -> Try {
+    tried(explore(rt, heap, study, 1, &OpenGate), cycles)
+}
+
+/// How many blocks are taken by an exploration with one worker.
+fn blocks_of_one<R: Threads + Wait + Sync>(
+    rt: &R,
+    other: Global,
+    study: &Study<Heap>,
+    cycles: &[u64],
+) -> Result<Option<u64>, AllocError> {
+    Ok(refusals_of!(other, heap => explored_alone(rt, heap, study, cycles)))
+}
+
+/// How many blocks each of both takes on so many rows.
 fn blocks_of<R: Threads + Wait + Sync>(
     rt: &R,
     other: Global,
@@ -113,23 +190,21 @@ fn blocks_of<R: Threads + Wait + Sync>(
 ) -> Result<[Option<u64>; 2], Fail> {
     let study = study_of(other, sizes, rows, 1)?;
     let cycles = cycles_in(other, &study)?;
-    let all = refusals_of!(other, heap => tried(run_all(heap, &study), cycles.as_slice()));
-    let some = refusals_of!(other, heap => {
-        tried(explore(rt, heap, &study, 1, &OpenGate), cycles.as_slice())
-    });
-    Ok([all, some])
+    let all = blocks_of_all(other, &study, cycles.as_slice())?;
+    Ok([all, blocks_of_one(rt, other, &study, cycles.as_slice())?])
 }
+
+/// The windows' sizes, and the blocks of the call that runs each row: marks, the machine, finished rows (three
+/// blocks) and the front; one more where the second window is larger.
+static BLOCKS: [([u32; 2], u64); 3] = [([4096, 4096], 6), ([8192, 4096], 6), ([4096, 8192], 7)];
 
 /// What is kept of rows grows by doubling, and takes as many blocks for 9 rows as for 12.
 #[test]
 fn as_many_blocks_for_more_rows(rt: HostRuntime) -> Result<(), Fail> {
-    let other = rt.alloc();
-    // Marks, the machine, finished rows (three blocks) and the front; one more where the second window is larger.
-    for (sizes, blocks) in [([4096, 4096], 6), ([8192, 4096], 6), ([4096, 8192], 7)] {
-        let few = blocks_of(&rt, other, sizes, 9)?;
-        let many = blocks_of(&rt, other, sizes, 12)?;
-        assert!(rt; few[0] == Some(blocks));
-        assert!(rt; few[1].is_some());
+    for (sizes, blocks) in &BLOCKS {
+        let few = blocks_of(&rt, rt.alloc(), *sizes, 9)?;
+        let many = blocks_of(&rt, rt.alloc(), *sizes, 12)?;
+        assert!(rt; few[0] == Some(*blocks) && few[1].is_some());
         assert!(rt; few == many);
     }
     Ok(())
@@ -150,16 +225,30 @@ fn explored_in<R: Threads + Wait + Sync>(
     }
 }
 
+/// How many blocks an exploration by so many workers takes which is to have this front.
+fn blocks_of_front<R: Threads + Wait + Sync>(
+    rt: &R,
+    other: Global,
+    study: &Study<Heap>,
+    workers: usize,
+    front: &[FrontRow],
+) -> Result<Option<u64>, AllocError> {
+    Ok(refusals_of!(other, heap => explored_in(rt, heap, study, workers, front)))
+}
+
+/// The front of a study's rows, each run to its end.
+fn front_of(other: Global, study: &Study<Heap>) -> Result<Vec<FrontRow, Heap>, Fail> {
+    Ok(run_all(ample(other)?, study)?.front)
+}
+
 /// Each growth is refused in turn where there are enough rows for workers to learn from them.
 #[test]
 fn each_growth_of_learning_is_refused(rt: HostRuntime) -> Result<(), Fail> {
     let other = rt.alloc();
     let study = study_of(other, [4096, 4096], 16, 3)?;
-    let whole = run_all(ample(other)?, &study)?;
-    let front = whole.front.as_slice();
+    let front = front_of(other, &study)?;
     for workers in [1, 2] {
-        let blocks = refusals_of!(other, heap => explored_in(&rt, heap, &study, workers, front));
-        assert!(rt; matches!(blocks, Some(blocks) if blocks > 12));
+        assert!(rt; blocks_of_front(&rt, other, &study, workers, front.as_slice())? > Some(12));
     }
     Ok(())
 }

@@ -1,110 +1,206 @@
 //! What no contract says: that the calls succeed where there is memory, and the errors' texts.
 
-use std::alloc::Global;
+use std::alloc::{AllocError, Global};
 use std::test::Fail;
 use tomex_config::{Config, Prices, UnitOption};
-use tomex_image::Window;
+use tomex_image::{Image, Window};
 use tomex_rvexec::{Fault, FaultKind};
 use tomex_samples::image_of;
 use tomex_sweep::{Program, ProgramError, Study, WatchRange, can_watch};
 
-/// What becomes of these words as a program with this limit, whose first 16 bytes are watched.
+/// The watch of the first 16 bytes.
+fn first_bytes(alloc: Global) -> Result<Vec<WatchRange>, AllocError> {
+    let first = WatchRange {
+        address: 0,
+        length: 16,
+    };
+    Ok(vec![in alloc; first]?)
+}
+
+/// What becomes of an image as a program with this limit, whose first 16 bytes are watched.
+fn watched(alloc: Global, image: Image, limit: u32) -> Result<Result<Program, ProgramError>, Fail> {
+    let watch = first_bytes(alloc)?;
+    if limit < 1 || limit > 262_144 || !can_watch(image.window(), &watch) {
+        return Err("out of range")?;
+    }
+    let name = String::from_str(alloc, "mul")?;
+    Ok(Program::new(alloc, name, image, limit, watch, 1))
+}
+
+/// The same of these words.
 fn program_of(
     alloc: Global,
     words: &[u32],
     limit: u32,
 ) -> Result<Result<Program, ProgramError>, Fail> {
-    let name = String::from_str(alloc, "mul")?;
-    let image = image_of(alloc, 0, 4096, words)?;
-    let watch = vec![in alloc;
-        WatchRange {
-            address: 0,
-            length: 16
-        },
-    ]?;
-    if limit < 1 || limit > 262_144 || !can_watch(image.window(), &watch) {
-        return Err("out of range")?;
-    }
-    Ok(Program::new(alloc, name, image, limit, watch, 1))
+    watched(alloc, image_of(alloc, 0, 4096, words)?, limit)
+}
+
+/// Whether these words are refused for this reason.
+fn is_refused(alloc: Global, words: &[u32], limit: u32, error: ProgramError) -> Result<bool, Fail> {
+    Ok(program_of(alloc, words, limit)?.err() == Some(error))
 }
 
 /// `addi x1,x0,5; addi x2,x0,7; mul x3,x1,x2; ebreak`
 const PRODUCT: [u32; 4] = [0x00500093, 0x00700113, 0x022081b3, 0x00100073];
 
+/// The product, within four steps.
+fn product(alloc: Global) -> Result<Program, Fail> {
+    Ok(program_of(alloc, PRODUCT.as_slice(), 4)??)
+}
+
+/// Whether a program is the product.
+fn is_product(program: &Program) -> bool {
+    program.name() == "mul"
+        && program.limit() == 4
+        && program.image().memory().len() == 4096
+        && program.watch().len() == 1
+}
+
 #[test]
 fn four_steps_within_limits(rt: HostRuntime) -> Result<(), Fail> {
-    let product = program_of(rt.alloc(), PRODUCT.as_slice(), 4)??;
-    assert!(rt; product.name() == "mul");
-    assert!(rt; product.limit() == 4);
-    assert!(rt; product.image().memory().len() == 4096);
-    assert!(rt; product.watch().len() == 1);
-    let short = program_of(rt.alloc(), PRODUCT.as_slice(), 3)?;
-    assert!(rt; short.err() == Some(ProgramError::TooLong));
+    assert!(rt; is_product(&product(rt.alloc())?));
+    assert!(rt; is_refused(rt.alloc(), PRODUCT.as_slice(), 3, ProgramError::TooLong)?);
     Ok(())
+}
+
+const FAULT: Fault = Fault {
+    kind: FaultKind::Illegal,
+    pc: 4,
+};
+
+/// Errors and their texts.
+static TEXTS: [(ProgramError, &str); 3] = [
+    (ProgramError::Fault(FAULT), "fault: illegal at 00000004"),
+    (ProgramError::TooLong, "too long"),
+    (ProgramError::Memory, "out of memory"),
+];
+
+/// Whether an error is shown so.
+fn is_shown(alloc: Global, error: ProgramError, text: &str) -> Result<bool, AllocError> {
+    let shown = format!(in alloc; "{error}")?;
+    Ok(shown.as_str() == text)
 }
 
 #[test]
 fn a_fault_is_told(rt: HostRuntime) -> Result<(), Fail> {
     // addi x1,x0,5, then a word that is no instruction
     let words = [0x00500093, 0x00000000];
-    let fault = Fault {
-        kind: FaultKind::Illegal,
-        pc: 4,
-    };
-    let faulty = program_of(rt.alloc(), words.as_slice(), 262_144)?;
-    assert!(rt; faulty.err() == Some(ProgramError::Fault(fault)));
-    let shown = format!(in rt.alloc(); "{}", ProgramError::Fault(fault))?;
-    assert!(rt; shown.as_str() == "fault: illegal at 00000004");
-    let shown = format!(in rt.alloc(); "{}", ProgramError::TooLong)?;
-    assert!(rt; shown.as_str() == "too long");
-    let shown = format!(in rt.alloc(); "{}", ProgramError::Memory)?;
-    assert!(rt; shown.as_str() == "out of memory");
+    assert!(rt;
+        is_refused(
+            rt.alloc(),
+            words.as_slice(),
+            262_144,
+            ProgramError::Fault(FAULT)
+        )?
+    );
+    for (error, text) in &TEXTS {
+        assert!(rt; is_shown(rt.alloc(), *error, text)?);
+    }
     Ok(())
 }
 
-#[test]
-fn costs_of_two_rows(rt: HostRuntime) -> Result<(), Fail> {
+/// A row of so many alu stations and two buses, whose unit of multiplications costs 50.
+fn config_of(stations: u8) -> Option<Config> {
     let plain = UnitOption {
         units: 1,
         latency: 1,
         price: 0,
     };
-    let units = [
-        plain,
-        UnitOption { price: 50, ..plain },
-        plain,
-        plain,
-        plain,
-    ];
-    let two = Config::new([2, 1, 1, 1, 1, 1], units, 2, 1).ok_or("no configuration")?;
-    let one = Config::new([1, 1, 1, 1, 1, 1], units, 2, 1).ok_or("no configuration")?;
-    let prices = Prices::new([10, 100, 0, 0, 0, 0], 7, 0);
-    let product = program_of(rt.alloc(), PRODUCT.as_slice(), 4)??;
-    let programs = vec![in rt.alloc(); product]?;
-    let rows = vec![in rt.alloc(); two, one]?;
-    let study = Study::new(rt.alloc(), programs, rows, prices, false)?;
-    assert!(rt; study.costs() == [184, 174].as_slice());
-    assert!(rt; study.prices() == prices);
-    assert!(rt; study.rows().len() == 2);
-    assert!(rt; study.config(1).copied() == Some(one));
-    assert!(rt; study.config(2).copied() == None);
-    assert!(rt; study.programs().len() == 1);
-    assert!(rt; study.program("mul").map(|program| program.limit()) == Some(4));
-    assert!(rt; study.program("loop").is_none());
+    let mul = UnitOption { price: 50, ..plain };
+    Config::new(
+        [stations, 1, 1, 1, 1, 1],
+        [plain, mul, plain, plain, plain],
+        2,
+        1,
+    )
+}
+
+/// What stations and buses cost.
+fn prices() -> Prices {
+    Prices::new([10, 100, 0, 0, 0, 0], 7, 0)
+}
+
+/// The study of the product on a row of two alu stations and one of one.
+fn study_of_product(alloc: Global) -> Result<Study, Fail> {
+    let two = config_of(2).ok_or("no configuration")?;
+    let one = config_of(1).ok_or("no configuration")?;
+    let rows = vec![in alloc; two, one]?;
+    let programs = vec![in alloc; product(alloc)?]?;
+    Ok(Study::new(alloc, programs, rows, prices(), false)?)
+}
+
+/// Whether a study has those two rows at their prices.
+fn has_two_rows(study: &Study) -> bool {
+    study.costs() == [184, 174].as_slice()
+        && study.prices() == prices()
+        && study.rows().len() == 2
+        && study.config(1).copied() == config_of(1)
+        && study.config(2).copied() == None
+}
+
+/// Whether a study has the product alone.
+fn has_product(study: &Study) -> bool {
+    study.programs().len() == 1
+        && study.program("mul").map(|program| program.limit()) == Some(4)
+        && study.program("loop").is_none()
+}
+
+#[test]
+fn costs_of_two_rows(rt: HostRuntime) -> Result<(), Fail> {
+    let study = study_of_product(rt.alloc())?;
+    assert!(rt; has_two_rows(&study));
+    assert!(rt; has_product(&study));
     Ok(())
 }
+
+/// A window's first byte.
+const BYTE: WatchRange = WatchRange {
+    address: 0,
+    length: 1,
+};
+
+/// As many bytes as are watched at most.
+const MOST: WatchRange = WatchRange {
+    address: 0,
+    length: 4096,
+};
+
+/// No byte.
+const NONE: WatchRange = WatchRange {
+    address: 0,
+    length: 0,
+};
+
+/// The last word of a window of 65,536 bytes.
+const LAST: WatchRange = WatchRange {
+    address: 65_532,
+    length: 4,
+};
+
+/// That word and the one behind it.
+const BEYOND: WatchRange = WatchRange {
+    address: 65_532,
+    length: 8,
+};
+
+/// Lists of ranges, each with whether that window has them.
+static RANGES: [(&[WatchRange], bool); 8] = [
+    (&[], true),
+    (&[LAST], true),
+    (&[BEYOND], false),
+    (&[NONE], false),
+    (&[MOST], true),
+    (&[MOST, BYTE], false),
+    (&[BYTE; 8], true),
+    (&[BYTE; 9], false),
+];
 
 #[test]
 fn ranges_at_the_edges(rt: HostRuntime) -> Result<(), Fail> {
     let window = Window::new(0, 65_536).ok_or("no window")?;
-    let range = |address, length| WatchRange { address, length };
-    assert!(rt; can_watch(window, [].as_slice()));
-    assert!(rt; can_watch(window, [range(65_532, 4)].as_slice()));
-    assert!(rt; !can_watch(window, [range(65_532, 8)].as_slice()));
-    assert!(rt; !can_watch(window, [range(0, 0)].as_slice()));
-    assert!(rt; can_watch(window, [range(0, 4096)].as_slice()));
-    assert!(rt; !can_watch(window, [range(0, 4096), range(0, 1)].as_slice()));
-    assert!(rt; can_watch(window, [range(0, 1); 8].as_slice()));
-    assert!(rt; !can_watch(window, [range(0, 1); 9].as_slice()));
+    for (ranges, wanted) in &RANGES {
+        assert!(rt; can_watch(window, ranges) == *wanted);
+    }
     Ok(())
 }

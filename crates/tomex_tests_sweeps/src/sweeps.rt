@@ -53,13 +53,24 @@ fn study_on(alloc: Global, programs: Vec<Program>, rows: Vec<Config>) -> Result<
     Ok(Study::new(alloc, programs, rows, prices, false)?)
 }
 
-/// The study of the loop, of this weight, on rows that differ in the latency and the price of their alu unit.
-fn weighed_study(alloc: Global, options: &[(u8, u32)], weight: u32) -> Result<Study, Fail> {
+/// This program alone.
+fn only(alloc: Global, program: Program) -> Result<Vec<Program>, Fail> {
+    Ok(vec![in alloc; program]?)
+}
+
+/// Rows that differ in the latency and the price of their alu unit.
+fn rows_of(alloc: Global, options: &[(u8, u32)]) -> Result<Vec<Config>, Fail> {
     let mut rows = Vec::new(alloc);
     for (latency, price) in options {
         rows.push(config_of(unit(*latency, *price), unit(1, 0))?)?;
     }
-    let programs = vec![in alloc; program_of(alloc, "loop", LOOP.as_slice(), weight)?]?;
+    Ok(rows)
+}
+
+/// The study of the loop, of this weight, on such rows.
+fn weighed_study(alloc: Global, options: &[(u8, u32)], weight: u32) -> Result<Study, Fail> {
+    let rows = rows_of(alloc, options)?;
+    let programs = only(alloc, program_of(alloc, "loop", LOOP.as_slice(), weight)?)?;
     study_on(alloc, programs, rows)
 }
 
@@ -86,23 +97,53 @@ fn whole(alloc: Global, study: &Study) -> Result<Outcome, Fail> {
     Ok(run_all(alloc, study)?)
 }
 
+/// Whether a study's rows get these marks when each is run to its end.
+fn ends_with_marks(alloc: Global, study: &Study, marks: &[Mark]) -> Result<bool, Fail> {
+    Ok(whole(alloc, study)?.marks.as_slice() == marks)
+}
+
+/// Whether so many workers give a study's rows these marks.
+fn gives_marks<R: AllocGlobal + Threads + Wait + Sync>(
+    rt: &R,
+    study: &Study,
+    workers: usize,
+    marks: &[Mark],
+) -> Result<bool, Fail> {
+    Ok(explored(rt, study, workers, &OpenGate)?.marks.as_slice() == marks)
+}
+
+/// Whether so many workers find this front, and gather nothing.
+fn gives_front<R: AllocGlobal + Threads + Wait + Sync>(
+    rt: &R,
+    study: &Study,
+    workers: usize,
+    front: &[FrontRow],
+) -> Result<bool, Fail> {
+    let outcome = explored(rt, study, workers, &OpenGate)?;
+    Ok(outcome.gathered == 0 && outcome.front.as_slice() == front)
+}
+
+/// The front of the two rows of which one is slow.
+static FAST: [FrontRow; 1] = [FrontRow {
+    row: 0,
+    cost: 5,
+    cycles: 2000,
+}];
+
+/// Whether an outcome has these marks and that front, and nothing was gathered.
+fn finds_fast_row(outcome: &Outcome, marks: [Mark; 2]) -> bool {
+    outcome.marks.as_slice() == marks.as_slice()
+        && outcome.front.as_slice() == FAST.as_slice()
+        && outcome.gathered == 0
+}
+
 #[test]
 fn slow_row_is_dropped(rt: HostRuntime) -> Result<(), Fail> {
     let study = study_of(rt.alloc(), [(1, 5), (10, 9)].as_slice())?;
-    let front = [FrontRow {
-        row: 0,
-        cost: 5,
-        cycles: 2000,
-    }];
-    for (outcome, second) in [
-        (explored(&rt, &study, 1, &OpenGate)?, Mark::Dropped(0)),
-        (whole(rt.alloc(), &study)?, Mark::Finished(6500)),
-    ] {
-        let marks = [Mark::Finished(2000), second];
-        assert!(rt; outcome.marks.as_slice() == marks.as_slice());
-        assert!(rt; outcome.front.as_slice() == front.as_slice());
-        assert!(rt; outcome.gathered == 0);
-    }
+    let marks = [Mark::Finished(2000), Mark::Dropped(0)];
+    assert!(rt; finds_fast_row(&explored(&rt, &study, 1, &OpenGate)?, marks));
+    let marks = [Mark::Finished(2000), Mark::Finished(6500)];
+    assert!(rt; finds_fast_row(&whole(rt.alloc(), &study)?, marks));
     Ok(())
 }
 
@@ -116,21 +157,29 @@ fn rows_are_dropped_at_the_first_look_that_may(rt: HostRuntime) -> Result<(), Fa
         Mark::Finished(2500),
         Mark::Finished(3000),
     ];
-    assert!(rt; whole(rt.alloc(), &study)?.marks.as_slice() == marks.as_slice());
+    assert!(rt; ends_with_marks(rt.alloc(), &study, marks.as_slice())?);
     let marks = [Mark::Finished(2000), Mark::Dropped(0), Mark::Dropped(0)];
-    assert!(rt; explored(&rt, &study, 1, &OpenGate)?.marks.as_slice() == marks.as_slice());
+    assert!(rt; gives_marks(&rt, &study, 1, marks.as_slice())?);
     Ok(())
+}
+
+/// Whether so many workers finish three equal rows, and the first two are on the front.
+fn are_all_finished<R: AllocGlobal + Threads + Wait + Sync>(
+    rt: &R,
+    study: &Study,
+    workers: usize,
+) -> Result<bool, Fail> {
+    let outcome = explored(rt, study, workers, &OpenGate)?;
+    let marks = [Mark::Finished(2000); 3];
+    let is_finished = outcome.marks.as_slice() == marks.as_slice() && outcome.gathered == 0;
+    Ok(is_finished && are_on(outcome.front.as_slice(), &[0, 1]))
 }
 
 #[test]
 fn equal_rows_are_finished(rt: HostRuntime) -> Result<(), Fail> {
     let study = study_of(rt.alloc(), [(1, 5), (1, 5), (1, 9)].as_slice())?;
-    let marks = [Mark::Finished(2000); 3];
     for workers in [1, 2, 3, 32] {
-        let outcome = explored(&rt, &study, workers, &OpenGate)?;
-        assert!(rt; outcome.marks.as_slice() == marks.as_slice());
-        assert!(rt; outcome.gathered == 0);
-        assert!(rt; outcome.front.iter().map(|row| row.row).eq([0, 1]));
+        assert!(rt; are_all_finished(&rt, &study, workers)?);
     }
     Ok(())
 }
@@ -140,9 +189,9 @@ fn equal_rows_are_finished(rt: HostRuntime) -> Result<(), Fail> {
 fn a_look_is_told_by_the_weight(rt: HostRuntime) -> Result<(), Fail> {
     let study = weighed_study(rt.alloc(), [(1, 5), (2, 9)].as_slice(), 2)?;
     let marks = [Mark::Finished(4000), Mark::Dropped(0)];
-    assert!(rt; explored(&rt, &study, 1, &OpenGate)?.marks.as_slice() == marks.as_slice());
+    assert!(rt; gives_marks(&rt, &study, 1, marks.as_slice())?);
     let marks = [Mark::Finished(4000), Mark::Finished(5000)];
-    assert!(rt; whole(rt.alloc(), &study)?.marks.as_slice() == marks.as_slice());
+    assert!(rt; ends_with_marks(rt.alloc(), &study, marks.as_slice())?);
     Ok(())
 }
 
@@ -156,36 +205,46 @@ static WEIGHED: [(u32, [u64; 2], &[usize]); 5] = [
     (1_000, [73_000, 32_500], &[1]),
 ];
 
-/// The study of the loop and the product, of this weight, on those two rows, which cost the same.
-fn study_of_both(alloc: Global, weight: u32) -> Result<Study, Fail> {
-    let mut rows = Vec::new(alloc);
-    rows.push(config_of(unit(1, 5), unit(64, 0))?)?;
-    rows.push(config_of(unit(10, 5), unit(1, 0))?)?;
+/// The loop, and the product of this weight.
+fn both(alloc: Global, weight: u32) -> Result<Vec<Program>, Fail> {
     let mut programs = Vec::new(alloc);
     programs.push(program_of(alloc, "loop", LOOP.as_slice(), 1)?)?;
     programs.push(program_of(alloc, "product", PRODUCT.as_slice(), weight)?)?;
-    study_on(alloc, programs, rows)
+    Ok(programs)
+}
+
+/// The study of both on those two rows, which cost the same.
+fn study_of_both(alloc: Global, weight: u32) -> Result<Study, Fail> {
+    let fast_alu = config_of(unit(1, 5), unit(64, 0))?;
+    let fast_mul = config_of(unit(10, 5), unit(1, 0))?;
+    let rows = vec![in alloc; fast_alu, fast_mul]?;
+    study_on(alloc, both(alloc, weight)?, rows)
+}
+
+/// Whether a front is of these rows.
+fn are_on(front: &[FrontRow], rows: &[usize]) -> bool {
+    front.iter().map(|row| row.row).eq(rows.iter().copied())
 }
 
 /// Whether the study's rows take these cycles, and these rows are on its front.
 fn fronts<R: AllocGlobal + Threads + Wait + Sync>(
     rt: &R,
-    weight: u32,
+    study: &Study,
     cycles: [u64; 2],
     front: &[usize],
 ) -> Result<bool, Fail> {
-    let study = study_of_both(rt.alloc(), weight)?;
     let marks = [Mark::Finished(cycles[0]), Mark::Finished(cycles[1])];
-    let ran = whole(rt.alloc(), &study)?.marks.as_slice() == marks.as_slice();
-    let found = explored(rt, &study, 2, &OpenGate)?.front;
-    Ok(ran && found.iter().map(|row| row.row).eq(front.iter().copied()))
+    let ran = ends_with_marks(rt.alloc(), study, marks.as_slice())?;
+    let found = explored(rt, study, 2, &OpenGate)?.front;
+    Ok(ran && are_on(found.as_slice(), front))
 }
 
 /// Which of the rows is the better one is the weight's affair.
 #[test]
 fn weights_choose_the_front(rt: HostRuntime) -> Result<(), Fail> {
     for (weight, cycles, front) in &WEIGHED {
-        assert!(rt; fronts(&rt, *weight, *cycles, front)?);
+        let study = study_of_both(rt.alloc(), *weight)?;
+        assert!(rt; fronts(&rt, &study, *cycles, front)?);
     }
     Ok(())
 }

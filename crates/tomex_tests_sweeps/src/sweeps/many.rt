@@ -1,11 +1,12 @@
 //! More workers than rows, more rows than workers: each row is run once.
 
 use super::{explored, study_of};
+use std::alloc::{AllocError, Global};
 use std::sync::Wait;
 use std::sync::atomic::{AtomicU64, Ordering};
 use std::test::Fail;
 use std::thread::Threads;
-use tomex_sweep::{Gate, Mark, Study};
+use tomex_sweep::{Gate, Mark, Outcome, Study};
 
 /// Counts the calls for each row.
 #[derive(Drop)]
@@ -30,38 +31,45 @@ impl<'a> Gate for Counting<'a> {
     }
 }
 
+/// So many counts of calls.
+fn counts(alloc: Global, rows: usize) -> Result<Vec<AtomicU64>, AllocError> {
+    let mut calls = Vec::new(alloc);
+    for _ in 0..rows {
+        calls.push(AtomicU64::new(0))?;
+    }
+    Ok(calls)
+}
+
+/// Whether an outcome marks so many rows, the first of them as finished.
+fn marks_all(outcome: &Outcome, rows: usize) -> bool {
+    let is_finished = outcome.marks.first() == Some(&Mark::Finished(2000));
+    is_finished && outcome.gathered == 0 && outcome.marks.len() == rows
+}
+
 /// Whether so many workers run each row of a study once, and finish the first.
 fn is_run_once<R: AllocGlobal + Threads + Wait + Sync>(
     rt: &R,
     study: &Study,
     workers: usize,
 ) -> Result<bool, Fail> {
-    let mut calls = Vec::new(rt.alloc());
-    for _ in study.rows() {
-        calls.push(AtomicU64::new(0))?;
-    }
+    let rows = study.rows().len();
+    let calls = counts(rt.alloc(), rows)?;
     let gate = Counting {
         calls: calls.as_slice(),
     };
     let outcome = explored(rt, study, workers, &gate)?;
-    let is_finished = outcome.marks.first() == Some(&Mark::Finished(2000));
-    Ok(
-        is_finished
-            && gate.is_once_each()
-            && outcome.gathered == 0
-            && outcome.marks.len() == study.rows().len(),
-    )
+    Ok(marks_all(&outcome, rows) && gate.is_once_each())
 }
+
+/// A row that may be dropped, equal rows, and one row alone.
+static STUDIES: [&[(u8, u32)]; 3] = [&[(1, 5), (10, 9), (1, 9)], &[(1, 5); 7], &[(1, 5)]];
 
 #[test]
 fn each_row_is_run_once(rt: HostRuntime) -> Result<(), Fail> {
-    // A row that may be dropped, equal rows, and one row alone.
-    let some = study_of(rt.alloc(), [(1, 5), (10, 9), (1, 9)].as_slice())?;
-    let equal = study_of(rt.alloc(), [(1, 5); 7].as_slice())?;
-    let one = study_of(rt.alloc(), [(1, 5)].as_slice())?;
-    for study in [&some, &equal, &one] {
+    for options in &STUDIES {
+        let study = study_of(rt.alloc(), options)?;
         for workers in [1, 2, 3, 32] {
-            assert!(rt; is_run_once(&rt, study, workers)?, "{workers} workers");
+            assert!(rt; is_run_once(&rt, &study, workers)?, "{workers} workers");
         }
     }
     Ok(())

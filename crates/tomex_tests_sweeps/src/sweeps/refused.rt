@@ -2,8 +2,10 @@
 
 use super::study_of;
 use core::thread::Stack;
+use std::sync::Wait;
 use std::test::Fail;
-use tomex_sweep::{OpenGate, Stacks, SweepError, explore_on};
+use std::thread::Threads;
+use tomex_sweep::{OpenGate, Stacks, Study, SweepError, explore_on};
 
 /// No thread gets the stack that this worker asks for.
 #[derive(Drop)]
@@ -21,13 +23,30 @@ impl Stacks for Absurd {
     }
 }
 
+/// Whether so many workers, of whom this one's thread is refused, say so.
+fn is_told<R: AllocGlobal + Threads + Wait + Sync>(
+    rt: &R,
+    study: &Study,
+    worker: usize,
+    workers: usize,
+) -> bool {
+    let stacks = Absurd { worker };
+    let outcome = explore_on(
+        rt,
+        rt.alloc(),
+        study,
+        workers.max(1).min(32),
+        &OpenGate,
+        &stacks,
+    );
+    matches!(outcome, Err(SweepError::Worker))
+}
+
 #[test]
 fn a_refused_thread_is_told(rt: HostRuntime) -> Result<(), Fail> {
     let study = study_of(rt.alloc(), [(1, 5), (10, 9), (1, 9)].as_slice())?;
     for (worker, workers) in [(0, 1), (0, 3), (1, 2), (2, 3)] {
-        let stacks = Absurd { worker };
-        let outcome = explore_on(&rt, rt.alloc(), &study, workers, &OpenGate, &stacks);
-        assert!(rt; matches!(outcome, Err(SweepError::Worker)));
+        assert!(rt; is_told(&rt, &study, worker, workers));
     }
     Ok(())
 }

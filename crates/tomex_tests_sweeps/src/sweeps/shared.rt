@@ -1,13 +1,13 @@
 //! Runs that rows share: which programs run on a row, and that no mark depends on it.
 
-use super::{explored, program_of, study_on, unit, whole};
+use super::{explored, gives_front, gives_marks, only, program_of, study_on, unit, whole};
 use std::alloc::Global;
 use std::sync::Wait;
 use std::sync::atomic::{AtomicU64, Ordering};
 use std::test::Fail;
 use std::thread::Threads;
 use tomex_config::{Config, UnitOption};
-use tomex_sweep::{Gate, Mark, OpenGate, Program, Study};
+use tomex_sweep::{Gate, Mark, Program, Study};
 use tomex_timing::evaluate::{times, total};
 
 /// `addi x1,x0,400; mul x2,x1,x1; addi x1,x1,-1; bne x1,x0,-8; ebreak`
@@ -51,37 +51,59 @@ impl Random {
         }
     }
 
-    fn config(&mut self) -> Result<Config, Fail> {
-        let stations = [
+    /// The stations of each pool.
+    fn stations(&mut self) -> [u8; 6] {
+        [
             self.few(),
             self.few(),
             self.few(),
             self.few(),
             self.few(),
             self.few(),
-        ];
-        let units = [
+        ]
+    }
+
+    /// The units of each kind, where those of branches are plain.
+    fn units(&mut self) -> [UnitOption; 5] {
+        [
             self.option(),
             self.option(),
             self.option(),
             self.option(),
             unit(1, 0),
-        ];
+        ]
+    }
+
+    /// A configuration of these parts, with few buses and a small width.
+    fn config(&mut self) -> Result<Config, Fail> {
+        let stations = self.stations();
+        let units = self.units();
         Ok(Config::new(stations, units, self.few(), self.few()).ok_or("no configuration")?)
+    }
+
+    /// So many rows.
+    fn rows(&mut self, alloc: Global, count: u32) -> Result<Vec<Config>, Fail> {
+        let mut rows = Vec::new(alloc);
+        for _ in 0..count {
+            rows.push(self.config()?)?;
+        }
+        Ok(rows)
     }
 
     /// The study of two programs on 40 rows.
     fn study(&mut self, alloc: Global) -> Result<Study, Fail> {
-        let mut rows = Vec::new(alloc);
-        for _ in 0..40 {
-            rows.push(self.config()?)?;
-        }
-        let mut programs = Vec::new(alloc);
-        let weight = u32::from(self.few());
-        programs.push(program_of(alloc, "products", PRODUCTS.as_slice(), weight)?)?;
-        programs.push(program_of(alloc, "accesses", ACCESSES.as_slice(), 1)?)?;
+        let rows = self.rows(alloc, 40)?;
+        let programs = programs_of(alloc, u32::from(self.few()))?;
         study_on(alloc, programs, rows)
     }
+}
+
+/// The loop of products, of this weight, and the loop of accesses.
+fn programs_of(alloc: Global, weight: u32) -> Result<Vec<Program>, Fail> {
+    let mut programs = Vec::new(alloc);
+    programs.push(program_of(alloc, "products", PRODUCTS.as_slice(), weight)?)?;
+    programs.push(program_of(alloc, "accesses", ACCESSES.as_slice(), 1)?)?;
+    Ok(programs)
 }
 
 /// The cycles of a program on a row, by the recurrence.
@@ -104,24 +126,44 @@ fn weighed(totals: &[(u64, u64)], made: u64) -> u64 {
     sum
 }
 
-/// The mark of a row, given the rows before it: it is looked at at each multiple of 1,024 cycles.
-fn mark_of(totals: &[(u64, u64)], bound: Option<(u64, usize)>) -> Mark {
-    let mut plain = 0u64;
+/// All cycles of a row's programs.
+fn plain(totals: &[(u64, u64)]) -> u64 {
+    let mut sum = 0u64;
     for (total, _) in totals {
-        plain = plain.wrapping_add(*total);
+        sum = sum.wrapping_add(*total);
     }
+    sum
+}
+
+/// Whether a row is seen to be worse than that bound: it is looked at at each multiple of 1,024 cycles.
+fn is_dropped(totals: &[(u64, u64)], all: u64, bound: u64) -> bool {
     for look in 1..1_000u64 {
         let made = look * 1024;
-        if plain <= made {
-            break;
+        if all <= made {
+            return false;
         }
-        if let Some((cycles, row)) = bound {
-            if cycles < weighed(totals, made) {
-                return Mark::Dropped(row);
-            }
+        if bound < weighed(totals, made) {
+            return true;
         }
     }
-    Mark::Finished(weighed(totals, plain))
+    false
+}
+
+/// The mark of a row, given the best of the rows before it.
+fn mark_of(totals: &[(u64, u64)], bound: Option<(u64, usize)>) -> Mark {
+    let all = plain(totals);
+    match bound {
+        Some((cycles, row)) if is_dropped(totals, all, cycles) => Mark::Dropped(row),
+        _ => Mark::Finished(weighed(totals, all)),
+    }
+}
+
+/// The better of a bound and a row with these cycles: its cycles, and its number.
+fn better(best: Option<(u64, usize)>, cycles: u64, row: usize) -> Option<(u64, usize)> {
+    match best {
+        Some((least, _)) if least <= cycles => best,
+        _ => Some((cycles, row)),
+    }
 }
 
 /// The best of the finished rows that cost no more: its cycles, and its number.
@@ -129,63 +171,86 @@ fn bound_of(marks: &[Mark], costs: &[u64], cost: u64) -> Option<(u64, usize)> {
     let mut best = None;
     for (row, (mark, other)) in marks.iter().zip(costs).enumerate() {
         if let Mark::Finished(cycles) = mark {
-            let is_better = match best {
-                None => true,
-                Some((least, _)) => *cycles < least,
-            };
-            if *other <= cost && is_better {
-                best = Some((*cycles, row));
+            if *other <= cost {
+                best = better(best, *cycles, row);
             }
         }
     }
     best
 }
 
+/// The cycles of each program on a row, with its weight.
+fn totals_of(
+    alloc: Global,
+    programs: &[Program],
+    config: &Config,
+) -> Result<Vec<(u64, u64)>, Fail> {
+    let mut totals = Vec::new(alloc);
+    for program in programs {
+        let cycles = cycles_of(alloc, program, config)?;
+        totals.push((cycles, u64::from(program.weight())))?;
+    }
+    Ok(totals)
+}
+
 /// The marks that one worker gives which runs each row.
 fn marks_of(alloc: Global, study: &Study) -> Result<Vec<Mark>, Fail> {
     let mut marks = Vec::new(alloc);
     for (config, cost) in study.rows().iter().zip(study.costs()) {
-        let mut totals = Vec::new(alloc);
-        for program in study.programs() {
-            let cycles = cycles_of(alloc, program, config)?;
-            totals.push((cycles, u64::from(program.weight())))?;
-        }
+        let totals = totals_of(alloc, study.programs(), config)?;
         let bound = bound_of(marks.as_slice(), study.costs(), *cost);
         marks.push(mark_of(totals.as_slice(), bound))?;
     }
     Ok(marks)
 }
 
+/// Fails, and tells which study it was, unless that is so.
+fn holds_for(turn: u32, is_so: bool) -> Result<(), Fail> {
+    if is_so {
+        return Ok(());
+    }
+    Err(Fail::new(format_args!("study {turn}")))
+}
+
+/// Whether one worker marks a study's rows as plain runs of them do.
+fn is_marked_so<R: AllocGlobal + Threads + Wait + Sync>(
+    rt: &R,
+    study: &Study,
+) -> Result<bool, Fail> {
+    let marks = marks_of(rt.alloc(), study)?;
+    gives_marks(rt, study, 1, marks.as_slice())
+}
+
 #[test]
 fn marks_are_those_of_plain_runs(rt: HostRuntime) -> Result<(), Fail> {
     let mut random = Random { state: 2463534242 };
-    for turn in 0..200 {
+    for turn in 0..200u32 {
         let study = random.study(rt.alloc())?;
-        let marks = marks_of(rt.alloc(), &study)?;
-        let outcome = explored(&rt, &study, 1, &OpenGate)?;
-        assert!(rt;
-            outcome.marks.as_slice() == marks.as_slice(),
-            "study {turn}"
-        );
+        holds_for(turn, is_marked_so(&rt, &study)?)?;
     }
     Ok(())
+}
+
+/// Whether each number of workers gives the front of all rows.
+fn is_front_of_all<R: AllocGlobal + Threads + Wait + Sync>(
+    rt: &R,
+    study: &Study,
+) -> Result<bool, Fail> {
+    let front = whole(rt.alloc(), study)?.front;
+    let mut same = true;
+    for workers in [1, 2, 3, 7, 32] {
+        same = same && gives_front(rt, study, workers, front.as_slice())?;
+    }
+    Ok(same)
 }
 
 /// Any number of workers gives the front of all rows.
 #[test]
 fn fronts_are_those_of_all_rows(rt: HostRuntime) -> Result<(), Fail> {
     let mut random = Random { state: 88172645 };
-    for turn in 0..30 {
+    for turn in 0..30u32 {
         let study = random.study(rt.alloc())?;
-        let front = whole(rt.alloc(), &study)?.front;
-        for workers in [1, 2, 3, 7, 32] {
-            let outcome = explored(&rt, &study, workers, &OpenGate)?;
-            assert!(rt;
-                outcome.front.as_slice() == front.as_slice(),
-                "study {turn}"
-            );
-            assert!(rt; outcome.gathered == 0);
-        }
+        holds_for(turn, is_front_of_all(&rt, &study)?)?;
     }
     Ok(())
 }
@@ -223,22 +288,36 @@ fn counted<R: AllocGlobal + Threads + Wait + Sync>(
     ])
 }
 
+/// A row with so many stations of dividers, and with so many dividers.
+fn divided(stations: u8, units: u8) -> Result<Config, Fail> {
+    let divider = UnitOption {
+        units,
+        latency: units.wrapping_mul(4),
+        price: 0,
+    };
+    let units = [unit(1, 0), unit(3, 0), divider, unit(1, 0), unit(1, 0)];
+    let config = Config::new([1, 1, stations, 1, 1, 1], units, 1, 1);
+    Ok(config.ok_or("no configuration")?)
+}
+
 /// Rows that differ in the dividers and their stations, of which a loop of products has no use.
-fn dividers(alloc: Global, counts: u8) -> Result<Study, Fail> {
+fn dividers(alloc: Global, counts: u8) -> Result<Vec<Config>, Fail> {
     let mut rows = Vec::new(alloc);
     for stations in 1..=counts {
         for units in 1..=4u8 {
-            let divider = UnitOption {
-                units,
-                latency: 4 * units,
-                price: 0,
-            };
-            let units = [unit(1, 0), unit(3, 0), divider, unit(1, 0), unit(1, 0)];
-            let config = Config::new([1, 1, stations, 1, 1, 1], units, 1, 1);
-            rows.push(config.ok_or("no configuration")?)?;
+            rows.push(divided(stations, units)?)?;
         }
     }
-    let programs = vec![in alloc; program_of(alloc, "products", PRODUCTS.as_slice(), 1)?]?;
+    Ok(rows)
+}
+
+/// The study of that loop on those rows.
+fn divided_study(alloc: Global, counts: u8) -> Result<Study, Fail> {
+    let rows = dividers(alloc, counts)?;
+    let programs = only(
+        alloc,
+        program_of(alloc, "products", PRODUCTS.as_slice(), 1)?,
+    )?;
     study_on(alloc, programs, rows)
 }
 
@@ -246,7 +325,7 @@ fn dividers(alloc: Global, counts: u8) -> Result<Study, Fail> {
 /// few they are.
 #[test]
 fn rows_that_cannot_differ_share_a_run(rt: HostRuntime) -> Result<(), Fail> {
-    assert!(rt; counted(&rt, &dividers(rt.alloc(), 16)?)? == [64, 1]);
-    assert!(rt; counted(&rt, &dividers(rt.alloc(), 1)?)? == [4, 1]);
+    assert!(rt; counted(&rt, &divided_study(rt.alloc(), 16)?)? == [64, 1]);
+    assert!(rt; counted(&rt, &divided_study(rt.alloc(), 1)?)? == [4, 1]);
     Ok(())
 }
