@@ -25,24 +25,35 @@ fn refusal<R: AllocGlobal>(rt: &R, study: &str) -> Result<String, Fail> {
 /// The study is refused by this text, or read where the text is empty.
 fn is_told<R: Abort + AllocGlobal>(rt: &R, study: &str, wanted: &str) -> Result<(), Fail> {
     let text = refusal(rt, study)?;
-    assert_eq!(rt; text.as_str(), wanted, "{study}");
+    assert!(rt; text.as_str() == wanted, "{text}: {study}");
     Ok(())
+}
+
+/// A study of two programs.
+const STUDY_OF_TWO: &str = "[[program]]\nname = \"a\"\nfile = \"z.bin\"\n\
+    [[program]]\nname = \"b\"\nfile = \"y.bin\"\n";
+
+/// Studies and the names of their files.
+static NAMES: [(&str, &[&str]); 3] = [
+    (STUDY_M, &["mul.bin"]),
+    (STUDY_L, &["loop.bin"]),
+    (STUDY_OF_TWO, &["z.bin", "y.bin"]),
+];
+
+/// Whether a study's files have these names.
+fn are_named<R: AllocGlobal>(rt: &R, study: &str, files: &[&str]) -> Result<bool, Fail> {
+    let names = file_names(rt.alloc(), rt.alloc(), study.as_bytes())?;
+    let mut same = names.len() == files.len();
+    for (name, file) in names.iter().zip(files) {
+        same = same && name.as_str() == *file;
+    }
+    Ok(same)
 }
 
 #[test]
 fn names_of_files(rt: HostRuntime) -> Result<(), Fail> {
-    let two = "[[program]]\nname = \"a\"\nfile = \"z.bin\"\n\
-        [[program]]\nname = \"b\"\nfile = \"y.bin\"\n";
-    for (study, files) in [
-        (STUDY_M, ["mul.bin"].as_slice()),
-        (STUDY_L, ["loop.bin"].as_slice()),
-        (two, ["z.bin", "y.bin"].as_slice()),
-    ] {
-        let names = file_names(rt.alloc(), rt.alloc(), study.as_bytes())?;
-        assert!(rt; names.len() == files.len());
-        for (name, file) in names.iter().zip(files) {
-            assert!(rt; name.as_str() == *file);
-        }
+    for (study, files) in &NAMES {
+        assert!(rt; are_named(&rt, study, files)?);
     }
     Ok(())
 }
@@ -194,21 +205,30 @@ fn option_is_refused<R: Abort + AllocGlobal>(
     is_told(rt, study.as_str(), wanted.as_str())
 }
 
+/// Kinds of unit, each with more units than it may have.
+static ABOVE: [(&str, &str); 5] = [
+    ("alu", "units = 9"),
+    ("mul", "units = 9"),
+    ("div", "units = 9"),
+    ("mem", "units = 9"),
+    ("bru", "units = 2"),
+];
+
 #[test]
 fn refused_options(rt: HostRuntime) -> Result<(), Fail> {
-    for (kind, above) in [
-        ("alu", "units = 9"),
-        ("mul", "units = 9"),
-        ("div", "units = 9"),
-        ("mem", "units = 9"),
-        ("bru", "units = 2"),
-    ] {
+    for (kind, above) in &ABOVE {
         for (option, fault) in &OPTIONS {
             option_is_refused(&rt, kind, option, fault)?;
         }
         option_is_refused(&rt, kind, above, "units out of range")?;
     }
     Ok(())
+}
+
+/// Whether a refusal has this text.
+fn reads<R: AllocGlobal>(rt: &R, error: StudyError, wanted: &str) -> Result<bool, Fail> {
+    let text = format!(in rt.alloc(); "{error}")?;
+    Ok(text.as_str() == wanted)
 }
 
 #[test]
@@ -218,21 +238,12 @@ fn texts_of_the_programs_refusals(rt: HostRuntime) -> Result<(), Fail> {
         kind: FaultKind::MisalignedTarget,
         pc: 12,
     };
-    for (error, wanted) in [
-        (StudyError::Files, "study: wrong number of files"),
-        (
-            StudyError::Image(name()?, ImageError::NotRiscv),
-            "program loop: image: not RISC-V",
-        ),
-        (
-            StudyError::Fault(name()?, fault),
-            "program loop: fault: misaligned target at 0000000c",
-        ),
-        (StudyError::TooLong(name()?), "program loop: too long"),
-        (StudyError::Memory, "out of memory"),
-    ] {
-        let text = format!(in rt.alloc(); "{error}")?;
-        assert!(rt; text.as_str() == wanted);
-    }
+    assert!(rt; reads(&rt, StudyError::Files, "study: wrong number of files")?);
+    let image = StudyError::Image(name()?, ImageError::NotRiscv);
+    assert!(rt; reads(&rt, image, "program loop: image: not RISC-V")?);
+    let told = "program loop: fault: misaligned target at 0000000c";
+    assert!(rt; reads(&rt, StudyError::Fault(name()?, fault), told)?);
+    assert!(rt; reads(&rt, StudyError::TooLong(name()?), "program loop: too long")?);
+    assert!(rt; reads(&rt, StudyError::Memory, "out of memory")?);
     Ok(())
 }

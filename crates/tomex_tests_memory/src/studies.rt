@@ -76,9 +76,9 @@ impl Attempt for TimesReport {
 #[test]
 fn of_studies_and_reports(rt: HostRuntime) -> Result<(), Fail> {
     let other = rt.alloc();
-    assert!(rt; matches!(refusals(other, &FileNames { other })?, Some(granted) if granted > 2));
-    assert!(rt; matches!(refusals(other, &ReadStudy { other })?, Some(granted) if granted > 6));
-    assert!(rt; matches!(refusals(other, &TimesReport { other })?, Some(granted) if granted > 3));
+    assert!(rt; refusals(other, &FileNames { other })? > Some(2));
+    assert!(rt; refusals(other, &ReadStudy { other })? > Some(6));
+    assert!(rt; refusals(other, &TimesReport { other })? > Some(2));
     Ok(())
 }
 
@@ -104,22 +104,57 @@ impl<'a> Attempt for Grid<'a> {
     }
 }
 
+/// These numbers as a list in such memory.
+fn counts(heap: &Heap, numbers: &[u8]) -> Result<Vec<u8, Heap>, AllocError> {
+    numbers.to_vec(heap.clone()?)
+}
+
+/// Four lists of one number.
+fn ones(heap: &Heap) -> Result<[Vec<u8, Heap>; 4], AllocError> {
+    Ok([
+        counts(heap, &[1])?,
+        counts(heap, &[1])?,
+        counts(heap, &[1])?,
+        counts(heap, &[1])?,
+    ])
+}
+
+/// A list of one plain unit.
+fn plain(heap: &Heap) -> Result<Vec<UnitOption, Heap>, AllocError> {
+    [PLAIN].to_vec(heap.clone()?)
+}
+
+/// Five such lists.
+fn plain_units(heap: &Heap) -> Result<[Vec<UnitOption, Heap>; 5], AllocError> {
+    Ok([
+        plain(heap)?,
+        plain(heap)?,
+        plain(heap)?,
+        plain(heap)?,
+        plain(heap)?,
+    ])
+}
+
 /// Axes of four rows.
 fn axes_in(heap: &Heap) -> Result<Axes<Heap>, AllocError> {
+    let (alu, buses) = (counts(heap, &[1, 2])?, counts(heap, &[1, 3])?);
+    let [mul, div, load, store] = ones(heap)?;
+    let (bru, width) = (counts(heap, &[1])?, counts(heap, &[1])?);
+    let [alu_units, mul_units, div_units, mem_units, bru_units] = plain_units(heap)?;
     Ok(Axes {
-        alu: vec![in heap.clone()?; 1, 2]?,
-        mul: vec![in heap.clone()?; 1]?,
-        div: vec![in heap.clone()?; 1]?,
-        load: vec![in heap.clone()?; 1]?,
-        store: vec![in heap.clone()?; 1]?,
-        bru: vec![in heap.clone()?; 1]?,
-        alu_units: vec![in heap.clone()?; PLAIN]?,
-        mul_units: vec![in heap.clone()?; PLAIN]?,
-        div_units: vec![in heap.clone()?; PLAIN]?,
-        mem_units: vec![in heap.clone()?; PLAIN]?,
-        bru_units: vec![in heap.clone()?; PLAIN]?,
-        buses: vec![in heap.clone()?; 1, 3]?,
-        width: vec![in heap.clone()?; 1]?,
+        alu,
+        mul,
+        div,
+        load,
+        store,
+        bru,
+        alu_units,
+        mul_units,
+        div_units,
+        mem_units,
+        bru_units,
+        buses,
+        width,
     })
 }
 
@@ -127,6 +162,32 @@ fn axes_in(heap: &Heap) -> Result<Axes<Heap>, AllocError> {
 fn product_in(heap: Heap) -> Result<Image<Heap>, AllocError> {
     let window = Window::new(65536, 4096).ok_or(AllocError)?;
     load(heap, ELF.as_slice(), window).map_err(|_| AllocError)
+}
+
+/// The program of the product, made in that memory of parts in ample memory.
+fn program_in(
+    heap: Heap,
+    other: Global,
+) -> Result<Result<Program<Heap>, ProgramError>, AllocError> {
+    let (names, watches) = (ample(other)?, ample(other)?);
+    let image = product_in(ample(other)?)?;
+    let name = String::from_str(names, "mul")?;
+    Ok(Program::new(heap, name, image, 4, Vec::new(watches), 1))
+}
+
+/// How the making of a study of a program and a configuration came out.
+fn studied(
+    heap: Heap,
+    other: Global,
+    program: Program<Heap>,
+    config: Config,
+) -> Result<Try, AllocError> {
+    let programs = vec![in ample(other)?; program]?;
+    let rows = vec![in ample(other)?; config]?;
+    match Study::new(heap, programs, rows, Prices::new([1; 6], 1, 0), false) {
+        Ok(study) => Ok(Try::right_if(study.costs() == [7].as_slice())),
+        Err(AllocError) => Ok(Try::Refused),
+    }
 }
 
 /// Makes a program of the product, and a study of it and a configuration.
@@ -138,20 +199,10 @@ struct Parts {
 
 impl Attempt for Parts {
     fn attempt(&self, heap: Heap) -> Result<Try, AllocError> {
-        let other = ample(self.other)?;
-        let name = String::from_str(other.clone()?, "mul")?;
-        let image = product_in(other.clone()?)?;
-        let watch = Vec::new(other.clone()?);
-        let program = match Program::new(heap.clone()?, name, image, 4, watch, 1) {
-            Ok(program) => program,
-            Err(ProgramError::Memory) => return Ok(Try::Refused),
-            Err(_) => return Ok(Try::Wrong),
-        };
-        let programs = vec![in other.clone()?; program]?;
-        let rows = vec![in other; self.config]?;
-        match Study::new(heap, programs, rows, Prices::new([1; 6], 1, 0), false) {
-            Ok(study) => Ok(Try::right_if(study.costs() == [7].as_slice())),
-            Err(AllocError) => Ok(Try::Refused),
+        match program_in(heap.clone()?, self.other)? {
+            Ok(program) => studied(heap, self.other, program, self.config),
+            Err(ProgramError::Memory) => Ok(Try::Refused),
+            Err(_) => Ok(Try::Wrong),
         }
     }
 }
@@ -176,14 +227,19 @@ impl Attempt for Times {
     }
 }
 
+/// How many blocks a grid of four rows takes.
+fn blocks_of_grid(other: Global) -> Result<Option<u64>, AllocError> {
+    let axes = axes_in(&ample(other)?)?;
+    refusals(other, &Grid { axes: &axes })
+}
+
 #[test]
 fn of_their_parts(rt: HostRuntime) -> Result<(), Fail> {
     let other = rt.alloc();
-    let axes = axes_in(&ample(other)?)?;
-    assert!(rt; matches!(refusals(other, &Grid { axes: &axes })?, Some(granted) if granted > 2));
+    assert!(rt; blocks_of_grid(other)? > Some(2));
     let config = Config::new([1; 6], [PLAIN; 5], 1, 1).ok_or("no configuration")?;
     // The bytes that the run changes, its steps, the facts of each, and a cost.
     assert!(rt; refusals(other, &Parts { other, config })? == Some(4));
-    assert!(rt; matches!(refusals(other, &Times { other, config })?, Some(granted) if granted > 1));
+    assert!(rt; refusals(other, &Times { other, config })? > Some(1));
     Ok(())
 }

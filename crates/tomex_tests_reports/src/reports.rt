@@ -1,7 +1,11 @@
 //! Reports of whole studies: the worked examples, by one worker or several, and with no dropping.
 
 use crate::answers::report_of;
+use std::alloc::{AllocError, Global};
+use std::sync::Wait;
 use std::test::Fail;
+use std::thread::Threads;
+use tomex_report::AnswerError;
 use tomex_samples::studies::DROPPED;
 use tomex_sweep::OpenGate;
 
@@ -50,25 +54,41 @@ static REPORTS: [(&str, &[[u32; 4]], &str); 4] = [
     ),
 ];
 
+/// The files of these programs.
+fn files_of(alloc: Global, programs: &[[u32; 4]]) -> Result<Vec<Vec<u8>>, AllocError> {
+    let mut files = Vec::new(alloc);
+    for words in programs {
+        let mut file = Vec::new(alloc);
+        for word in words {
+            file.extend_from_slice(&word.to_le_bytes())?;
+        }
+        files.push(file)?;
+    }
+    Ok(files)
+}
+
+/// Whether any number of workers gives this report of a study.
+fn is_reported<R: AllocGlobal + Threads + Wait + Sync>(
+    rt: &R,
+    study: &str,
+    files: &[Vec<u8>],
+    wanted: &str,
+) -> Result<bool, AnswerError> {
+    let mut same = true;
+    for workers in [None, Some(1), Some(2), Some(32)] {
+        let text = report_of(rt, rt.alloc(), rt.alloc(), study, files, workers, &OpenGate)?;
+        same = same && text.as_slice() == wanted.as_bytes();
+    }
+    Ok(same)
+}
+
 #[test]
 fn worked_reports(rt: HostRuntime) -> Result<(), Fail> {
-    let heap = rt.alloc();
     for (study, programs, records) in &REPORTS {
-        let mut files = Vec::new(heap);
-        for words in *programs {
-            let mut file = Vec::new(heap);
-            for word in words {
-                file.extend_from_slice(&word.to_le_bytes())?;
-            }
-            files.push(file)?;
-        }
-        let wanted = format!(in heap; "{HEADER}{records}")?;
-        for workers in [None, Some(1), Some(2), Some(32)] {
-            let text = report_of(&rt, heap, heap, study, &files, workers, &OpenGate).map_err(
-                |_| "no report",
-            )?;
-            assert!(rt; text.as_slice() == wanted.as_bytes());
-        }
+        let files = files_of(rt.alloc(), programs)?;
+        let wanted = format!(in rt.alloc(); "{HEADER}{records}")?;
+        let told = is_reported(&rt, study, files.as_slice(), wanted.as_str());
+        assert!(rt; matches!(told, Ok(true)));
     }
     Ok(())
 }

@@ -1,12 +1,11 @@
 //! Whole studies, with their programs' files: what they come to, and damaged ones.
 
 use super::studies::{STUDY_L, STUDY_M};
-use std::process::Abort;
 use std::test::Fail;
 use tomex_config::Config;
 use tomex_report::{StudyError, file_names, read_study};
 use tomex_rvdec::PoolId;
-use tomex_sweep::{Study, WatchRange};
+use tomex_sweep::{Program, Study, WatchRange};
 
 /// `addi x1,x0,5; addi x2,x0,7; mul x3,x1,x2; ebreak`
 const PRODUCT: &[u8; 16] = b"\x93\x00\x50\x00\x13\x01\x70\x00\xb3\x81\x20\x02\x73\x00\x10\x00";
@@ -35,38 +34,57 @@ fn refusal<R: AllocGlobal>(rt: &R, study: &str, files: &[&[u8]]) -> Result<Strin
     }
 }
 
-#[test]
-fn a_study_has_what_its_document_says(rt: HostRuntime) -> Result<(), Fail> {
-    let text = "[[program]]\nname = \"first\"\nfile = \"a\"\nlimit = 4\nwatch = [[8, 4]]\n\
-        [[program]]\nname = \"second\"\nfile = \"b\"\nbase = 65536\nsize = 4096\n\
-        [prices]\nalu = 10\nmul = 100\nbus = 7\n[axes]\nalu = [2, 1]\nbuses = [2]\n\
-        [[unit.mul]]\nprice = 50\n";
-    let study = reading(&rt, text.as_bytes(), &[PRODUCT.as_slice(), LOOP.as_slice()])??;
-    assert!(rt; study.costs() == [184, 174].as_slice());
-    let alu_stations = |config: &Config| config.stations(PoolId::Alu);
-    assert!(rt; study.rows().len() == 2);
-    assert!(rt; study.config(0).map(alu_stations) == Some(2));
-    assert!(rt; study.config(1).map(alu_stations) == Some(1));
-    assert!(rt; study.config(1).map(|config| config.buses()) == Some(2));
-    let [first, second] = study.programs() else {
-        return Err("not two programs")?;
-    };
-    assert!(rt; first.name() == "first");
-    assert!(rt; first.limit() == 4);
-    assert!(rt; first.image().window().base() == 0);
-    assert!(rt; first.image().window().size() == 65_536);
-    assert!(rt; first.image().memory().starts_with(PRODUCT.as_slice()));
+const WHOLE: &str = "[[program]]\nname = \"first\"\nfile = \"a\"\nlimit = 4\nwatch = [[8, 4]]\n\
+    [[program]]\nname = \"second\"\nfile = \"b\"\nbase = 65536\nsize = 4096\n\
+    [prices]\nalu = 10\nmul = 100\nbus = 7\n[axes]\nalu = [2, 1]\nbuses = [2]\n\
+    [[unit.mul]]\nprice = 50\n";
+
+/// Whether a row has so many alu stations and two buses.
+fn is_row(row: Option<&Config>, stations: u8) -> bool {
+    match row {
+        Some(config) => config.stations(PoolId::Alu) == stations && config.buses() == 2,
+        None => false,
+    }
+}
+
+/// Whether a program has this name and limit, and this file's bytes in a window of this base and size.
+fn is_program(program: &Program, name: &str, limit: u32, window: [u32; 2], file: &[u8]) -> bool {
+    let image = program.image();
+    program.name() == name
+        && program.limit() == limit
+        && [image.window().base(), image.window().size()] == window
+        && image.memory().starts_with(file)
+}
+
+/// Whether its programs are what it says.
+fn are_its_programs(programs: &[Program]) -> bool {
     let watched = WatchRange {
         address: 8,
         length: 4,
     };
-    assert!(rt; first.watch() == [watched].as_slice());
-    assert!(rt; second.name() == "second");
-    assert!(rt; second.limit() == 262_144);
-    assert!(rt; second.image().window().base() == 65_536);
-    assert!(rt; second.image().window().size() == 4096);
-    assert!(rt; second.image().memory().starts_with(LOOP.as_slice()));
-    assert!(rt; second.watch().len() == 0);
+    match programs {
+        [first, second] => {
+            is_program(first, "first", 4, [0, 65_536], PRODUCT.as_slice())
+                && first.watch() == [watched].as_slice()
+                && is_program(second, "second", 262_144, [65_536, 4096], LOOP.as_slice())
+                && second.watch().len() == 0
+        }
+        _ => false,
+    }
+}
+
+#[test]
+fn a_study_has_what_its_document_says(rt: HostRuntime) -> Result<(), Fail> {
+    let study = reading(
+        &rt,
+        WHOLE.as_bytes(),
+        &[PRODUCT.as_slice(), LOOP.as_slice()],
+    )??;
+    assert!(rt; study.costs() == [184, 174].as_slice());
+    assert!(rt; study.rows().len() == 2);
+    assert!(rt; is_row(study.config(0), 2));
+    assert!(rt; is_row(study.config(1), 1));
+    assert!(rt; are_its_programs(study.programs()));
     Ok(())
 }
 
@@ -83,56 +101,62 @@ fn files_are_as_many_as_programs(rt: HostRuntime) -> Result<(), Fail> {
     Ok(())
 }
 
+const LIMITED: &str = "[[program]]\nname = \"first\"\nfile = \"a\"\nlimit = 4\n\
+    [[program]]\nname = \"second\"\nfile = \"b\"\nlimit = 999\n";
+
+const ZEROS: &[u8; 4] = b"\x00\x00\x00\x00";
+
+/// The files of its programs, and the text of its refusal, an empty one where it is read.
+static FAILING: [(&[u8], &[u8], &str); 7] = [
+    (PRODUCT, PRODUCT, ""),
+    (b"", ZEROS, "program first: image: empty"),
+    (PRODUCT, b"\x7fELF", "program second: image: truncated"),
+    (PRODUCT, ZEROS, "program second: fault: illegal at 00000000"),
+    (PRODUCT, LOOP, "program second: too long"),
+    (LOOP, ZEROS, "program first: too long"),
+    (
+        ZEROS,
+        b"\x7fELF",
+        "program first: fault: illegal at 00000000",
+    ),
+];
+
 #[test]
 fn the_first_program_that_fails_is_named(rt: HostRuntime) -> Result<(), Fail> {
-    let text = "[[program]]\nname = \"first\"\nfile = \"a\"\nlimit = 4\n\
-        [[program]]\nname = \"second\"\nfile = \"b\"\nlimit = 999\n";
-    let product = PRODUCT.as_slice();
-    let repeats = LOOP.as_slice();
-    let zeros = b"\x00\x00\x00\x00".as_slice();
-    let elf = b"\x7fELF".as_slice();
-    for (files, wanted) in [
-        ([product, product], ""),
-        ([b"".as_slice(), zeros], "program first: image: empty"),
-        ([product, elf], "program second: image: truncated"),
-        (
-            [product, zeros],
-            "program second: fault: illegal at 00000000",
-        ),
-        ([product, repeats], "program second: too long"),
-        ([repeats, zeros], "program first: too long"),
-        ([zeros, elf], "program first: fault: illegal at 00000000"),
-    ] {
-        let told = refusal(&rt, text, files.as_slice())?;
-        assert!(rt; told.as_str() == wanted);
+    for (first, second, wanted) in &FAILING {
+        let told = refusal(&rt, LIMITED, &[*first, *second])?;
+        assert!(rt; told.as_str() == *wanted);
     }
     Ok(())
 }
 
-/// A damaged study of one program is read with a file that runs, or refused by name as its document
-/// is without files.
-fn answers<R: Abort + AllocGlobal>(rt: &R, study: &[u8]) -> Result<(), Fail> {
+/// Whether two refusals of a study have one text.
+fn are_alike<R: AllocGlobal>(
+    rt: &R,
+    refused: &StudyError,
+    named: &StudyError,
+) -> Result<bool, Fail> {
+    let told = format!(in rt.alloc(); "{refused}")?;
+    let same = told == format!(in rt.alloc(); "{named}")?;
+    Ok(same && told.starts_with("study: "))
+}
+
+/// Whether a damaged study of one program is read with a file that runs, or refused by name as its document is without
+/// files.
+fn is_answered<R: AllocGlobal>(rt: &R, study: &[u8]) -> Result<bool, Fail> {
     let read = reading(rt, study, &[LOOP.as_slice()])?;
     match (read, file_names(rt.alloc(), rt.alloc(), study)) {
-        (Ok(read), Ok(names)) => {
-            assert!(rt; names.len() == 1);
-            assert!(rt; read.programs().len() == 1);
-        }
-        (Err(refused), Err(named)) => {
-            let told = format!(in rt.alloc(); "{refused}")?;
-            assert!(rt; told == format!(in rt.alloc(); "{named}")?);
-            assert!(rt; told.starts_with("study: "), "{told}");
-        }
-        _ => assert!(rt; false, "read with its files or named without, but not both"),
+        (Ok(read), Ok(names)) => Ok(names.len() == 1 && read.programs().len() == 1),
+        (Err(refused), Err(named)) => are_alike(rt, &refused, &named),
+        _ => Ok(false),
     }
-    Ok(())
 }
 
 #[test]
 fn every_beginning_is_answered(rt: HostRuntime) -> Result<(), Fail> {
     let study = STUDY_L.as_bytes();
     for length in 0..study.len() {
-        answers(&rt, &study[..length])?;
+        assert!(rt; is_answered(&rt, &study[..length])?, "{length} bytes");
     }
     Ok(())
 }
@@ -146,7 +170,7 @@ fn every_damaged_byte_is_answered(rt: HostRuntime) -> Result<(), Fail> {
             if place < damaged.len() {
                 damaged[place] = value;
             }
-            answers(&rt, &damaged)?;
+            assert!(rt; is_answered(&rt, &damaged)?, "{value} at {place}");
         }
     }
     Ok(())
