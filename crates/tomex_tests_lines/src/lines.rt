@@ -1,6 +1,7 @@
 //! What no contract says of the command line: how the words of a line are read, and the parser's texts.
 
 use std::alloc::{AllocError, Global};
+use std::process::Abort;
 use std::test::Fail;
 use tomex_command::tell_line_fault;
 use tomex_line::{Line, LineFault, not_text, read_line, unread};
@@ -15,217 +16,232 @@ fn words(alloc: Global, line: &str) -> Result<Vec<String>, AllocError> {
     Ok(words)
 }
 
-/// What the words after the program's name come to: the name and the numbers of a run, or the kind of
-/// the fault and its text.
-fn told(alloc: Global, line: &str) -> Result<String, AllocError> {
-    let line = format!(in alloc; "tomex {line}")?;
-    let words = words(alloc, line.as_str())?;
-    match read_line(alloc, words.as_slice()) {
-        Ok(Line::Run(run)) => {
+/// The kind of a command, the file that it reads, and its numbers and flags.
+fn told_line(alloc: Global, line: &Line) -> Result<String, AllocError> {
+    match line {
+        Line::Run(run) => {
             format!(in alloc; "run {} {} {} {}", run.image, run.base, run.size, run.limit)
         }
-        Ok(Line::Times(times)) => {
+        Line::Times(times) => {
             format!(in alloc; "times {} {} {}", times.study, times.config, times.program)
         }
-        Ok(Line::Stalls(stalls)) => {
+        Line::All(all) => format!(in alloc; "all {}", all.study),
+        Line::Explore(explore) => {
+            format!(in alloc; "explore {} {}", explore.study, explore.workers)
+        }
+        Line::Front(front) => format!(in alloc; "front {} {}", front.study, front.workers),
+        Line::Plot(plot) => format!(in alloc; "plot {} {}", plot.study, plot.workers),
+        other => told_of_a_program(alloc, other),
+    }
+}
+
+/// The same of what is asked of one program on one row.
+fn told_of_a_program(alloc: Global, line: &Line) -> Result<String, AllocError> {
+    match line {
+        Line::Stalls(stalls) => {
             let (study, config) = (stalls.study, stalls.config);
             format!(in alloc;
                 "stalls {study} {config} {} {}",
                 stalls.program, stalls.by_pc
             )
         }
-        Ok(Line::Pipeline(pipeline)) => {
+        Line::Pipeline(pipeline) => {
             let (study, config) = (pipeline.study, pipeline.config);
             format!(in alloc;
                 "pipeline {study} {config} {} {} {} {}",
                 pipeline.program, pipeline.from, pipeline.steps, pipeline.konata
             )
         }
-        Ok(Line::Tables(tables)) => {
+        Line::Tables(tables) => {
             let (study, config) = (tables.study, tables.config);
             format!(in alloc;
                 "tables {study} {config} {} {}",
                 tables.program, tables.cycle
             )
         }
-        Ok(Line::All(all)) => format!(in alloc; "all {}", all.study),
-        Ok(Line::Explore(explore)) => {
-            format!(in alloc; "explore {} {}", explore.study, explore.workers)
-        }
-        Ok(Line::Front(front)) => format!(in alloc; "front {} {}", front.study, front.workers),
-        Ok(Line::Plot(plot)) => format!(in alloc; "plot {} {}", plot.study, plot.workers),
-        Err(LineFault::Help(text)) => format!(in alloc; "help {text}"),
-        Err(LineFault::Usage(text)) => format!(in alloc; "usage {text}"),
-        Err(LineFault::Memory) => String::from_str(alloc, "memory"),
+        _ => String::from_str(alloc, "another line"),
     }
+}
+
+/// The kind of a fault, and its text.
+fn told_fault(alloc: Global, fault: &LineFault) -> Result<String, AllocError> {
+    match fault {
+        LineFault::Help(text) => format!(in alloc; "help {text}"),
+        LineFault::Usage(text) => format!(in alloc; "usage {text}"),
+        LineFault::Memory => String::from_str(alloc, "memory"),
+    }
+}
+
+/// What the words after the program's name come to: the name and the numbers of a run, or the kind of
+/// the fault and its text.
+fn told(alloc: Global, line: &str) -> Result<String, AllocError> {
+    let line = format!(in alloc; "tomex {line}")?;
+    let words = words(alloc, line.as_str())?;
+    match read_line(alloc, words.as_slice()) {
+        Ok(line) => told_line(alloc, &line),
+        Err(fault) => told_fault(alloc, &fault),
+    }
+}
+
+/// Lines, and how what they come to begins.
+static READ: [(&str, &str); 35] = [
+    ("run mul.bin", "run mul.bin 0 65536 262144"),
+    (
+        "run a --base 4294967292 --size 4 --limit 1",
+        "run a 4294967292 4 1",
+    ),
+    ("times study 0 a", "times study 0 a"),
+    ("times study 16383 -- -a", "times study 16383 -a"),
+    ("stalls study 0 a", "stalls study 0 a false"),
+    ("stalls study 0 a --by-pc", "stalls study 0 a true"),
+    (
+        "stalls --by-pc study 16383 -- -a",
+        "stalls study 16383 -a true",
+    ),
+    ("stalls --help", "help Prints, for each part"),
+    ("stalls -h", "help Prints which parts"),
+    ("pipeline study 0 a", "pipeline study 0 a 1 32 false"),
+    (
+        "pipeline study 0 a --konata",
+        "pipeline study 0 a 1 32 true",
+    ),
+    (
+        "pipeline study 0 a --from 262144 --steps 1",
+        "pipeline study 0 a 262144 1 false",
+    ),
+    (
+        "pipeline --konata --steps=262144 study 16383 -- -a",
+        "pipeline study 16383 -a 1 262144 true",
+    ),
+    ("pipeline --help", "help Draws the instructions"),
+    ("pipeline -h", "help Draws what instructions"),
+    ("tables study 0 a 0", "tables study 0 a 0"),
+    (
+        "tables study 16383 -- -a 17563648",
+        "tables study 16383 -a 17563648",
+    ),
+    ("tables --help", "help Prints the tables"),
+    ("tables -h", "help Prints the stations"),
+    (
+        "run --limit=262144 --size=1048576 a",
+        "run a 0 1048576 262144",
+    ),
+    ("run --size 4 -- -x", "run -x 0 4 262144"),
+    ("all study.toml", "all study.toml"),
+    ("explore study.toml", "explore study.toml 1"),
+    ("explore --workers 32 a", "explore a 32"),
+    ("front a", "front a 1"),
+    ("front a --workers 2", "front a 2"),
+    ("plot a", "plot a 1"),
+    ("plot --workers=32 a", "plot a 32"),
+    ("--help", "help Runs RV32IM programs"),
+    ("-h", "help Runs RV32IM programs"),
+    ("run --help", "help Runs an image"),
+    ("run -h", "help Runs an image"),
+    ("help run", "help Runs an image"),
+    ("--version", "help tomex 0.1.0\n"),
+    ("walk", "usage error: unrecognized subcommand 'walk'"),
+];
+
+/// Stops where what a line comes to begins otherwise.
+fn begins(rt: &impl Abort, alloc: Global, line: &str, start: &str) -> Result<(), Fail> {
+    let text = told(alloc, line)?;
+    assert!(rt; text.starts_with(start), "{line}: {text}");
+    Ok(())
 }
 
 #[test]
 fn lines_are_read(rt: HostRuntime) -> Result<(), Fail> {
-    for (line, start) in [
-        ("run mul.bin", "run mul.bin 0 65536 262144"),
-        (
-            "run a --base 4294967292 --size 4 --limit 1",
-            "run a 4294967292 4 1",
-        ),
-        ("times study 0 a", "times study 0 a"),
-        ("times study 16383 -- -a", "times study 16383 -a"),
-        ("stalls study 0 a", "stalls study 0 a false"),
-        ("stalls study 0 a --by-pc", "stalls study 0 a true"),
-        (
-            "stalls --by-pc study 16383 -- -a",
-            "stalls study 16383 -a true",
-        ),
-        ("stalls --help", "help Prints, for each part"),
-        ("stalls -h", "help Prints which parts"),
-        ("pipeline study 0 a", "pipeline study 0 a 1 32 false"),
-        (
-            "pipeline study 0 a --konata",
-            "pipeline study 0 a 1 32 true",
-        ),
-        (
-            "pipeline study 0 a --from 262144 --steps 1",
-            "pipeline study 0 a 262144 1 false",
-        ),
-        (
-            "pipeline --konata --steps=262144 study 16383 -- -a",
-            "pipeline study 16383 -a 1 262144 true",
-        ),
-        ("pipeline --help", "help Draws the instructions"),
-        ("pipeline -h", "help Draws what instructions"),
-        ("tables study 0 a 0", "tables study 0 a 0"),
-        (
-            "tables study 16383 -- -a 17563648",
-            "tables study 16383 -a 17563648",
-        ),
-        ("tables --help", "help Prints the tables"),
-        ("tables -h", "help Prints the stations"),
-        (
-            "run --limit=262144 --size=1048576 a",
-            "run a 0 1048576 262144",
-        ),
-        ("run --size 4 -- -x", "run -x 0 4 262144"),
-        ("all study.toml", "all study.toml"),
-        ("explore study.toml", "explore study.toml 1"),
-        ("explore --workers 32 a", "explore a 32"),
-        ("front a", "front a 1"),
-        ("front a --workers 2", "front a 2"),
-        ("plot a", "plot a 1"),
-        ("plot --workers=32 a", "plot a 32"),
-        ("--help", "help Runs RV32IM programs"),
-        ("-h", "help Runs RV32IM programs"),
-        ("run --help", "help Runs an image"),
-        ("run -h", "help Runs an image"),
-        ("help run", "help Runs an image"),
-        ("--version", "help tomex 0.1.0\n"),
-        ("walk", "usage error: unrecognized subcommand 'walk'"),
-    ] {
-        let text = told(rt.alloc(), line)?;
-        assert!(rt; text.starts_with(start), "{line}: {text}");
+    for (line, start) in &READ {
+        begins(&rt, rt.alloc(), line, start)?;
     }
     Ok(())
+}
+
+/// Lines that are refused.
+static REFUSED: [&str; 30] = [
+    "run a --base 4294967293",
+    "run a --base -4",
+    "run a --base 0x10",
+    "run a --size 3",
+    "run a --size 1048577",
+    "run a --size 8 --size 8",
+    "run a --limit 0",
+    "run a --limit 262145",
+    "run a b",
+    "run",
+    "times study 16384 a",
+    "times study 0x1 a",
+    "times study 0",
+    "stalls study 16384 a",
+    "stalls study 0",
+    "stalls study 0 a --by-pc 1",
+    "stalls study 0 a --by-pc --by-pc",
+    "pipeline study 16384 a",
+    "pipeline study 0",
+    "pipeline study 0 a --from 0",
+    "pipeline study 0 a --from 262145",
+    "pipeline study 0 a --steps 0",
+    "pipeline study 0 a --steps 262145",
+    "pipeline study 0 a --konata 1",
+    "pipeline study 0 a --konata --konata",
+    "tables study 16384 a 0",
+    "tables study 0 a 17563649",
+    "tables study 0 a -1",
+    "tables study 0 a 0x1",
+    "tables study 0 a",
+];
+
+/// Whether the program's name alone is a mistake.
+fn is_mistaken(alloc: Global) -> Result<bool, AllocError> {
+    let name = words(alloc, "tomex")?;
+    Ok(matches!(read_line(alloc, name.as_slice()), Err(LineFault::Usage(_))))
 }
 
 #[test]
 fn lines_are_refused(rt: HostRuntime) -> Result<(), Fail> {
-    for line in [
-        "run a --base 4294967293",
-        "run a --base -4",
-        "run a --base 0x10",
-        "run a --size 3",
-        "run a --size 1048577",
-        "run a --size 8 --size 8",
-        "run a --limit 0",
-        "run a --limit 262145",
-        "run a b",
-        "run",
-        "times study 16384 a",
-        "times study 0x1 a",
-        "times study 0",
-        "stalls study 16384 a",
-        "stalls study 0",
-        "stalls study 0 a --by-pc 1",
-        "stalls study 0 a --by-pc --by-pc",
-        "pipeline study 16384 a",
-        "pipeline study 0",
-        "pipeline study 0 a --from 0",
-        "pipeline study 0 a --from 262145",
-        "pipeline study 0 a --steps 0",
-        "pipeline study 0 a --steps 262145",
-        "pipeline study 0 a --konata 1",
-        "pipeline study 0 a --konata --konata",
-        "tables study 16384 a 0",
-        "tables study 0 a 17563649",
-        "tables study 0 a -1",
-        "tables study 0 a 0x1",
-        "tables study 0 a",
-    ] {
-        let text = told(rt.alloc(), line)?;
-        assert!(rt; text.starts_with("usage error: "), "{line}: {text}");
+    for line in &REFUSED {
+        begins(&rt, rt.alloc(), line, "usage error: ")?;
     }
-    let name = words(rt.alloc(), "tomex")?;
-    assert!(rt;
-        matches!(
-            read_line(rt.alloc(), name.as_slice()),
-            Err(LineFault::Usage(_))
-        )
-    );
+    assert!(rt; is_mistaken(rt.alloc())?);
     Ok(())
 }
+
+/// Whether a fault that is told, to an output which takes so many bytes, has this status, and writes these texts.
+fn is_told(
+    alloc: Global,
+    fault: LineFault,
+    room: usize,
+    status: u8,
+    output: &str,
+    error: &str,
+) -> bool {
+    let mut out = Narrow::new(alloc, room, 3);
+    let mut err = Narrow::new(alloc, 100, 3);
+    tell_line_fault(&fault, &mut out, &mut err) == status
+        && out.bytes.as_slice() == output.as_bytes()
+        && err.bytes.as_slice() == error.as_bytes()
+}
+
+/// A text of help.
+fn help(alloc: Global) -> Result<LineFault, AllocError> {
+    Ok(LineFault::Help(String::from_str(alloc, "help")?))
+}
+
+/// What no memory is left for.
+const NO_MEMORY: &str = "tomex: out of memory\n";
 
 #[test]
 fn faults_of_a_line_are_told(rt: HostRuntime) -> Result<(), Fail> {
     let alloc = rt.alloc();
-    for (fault, room, status, output, error) in [
-        (
-            LineFault::Help(String::from_str(alloc, "help")?),
-            100,
-            0,
-            "help",
-            "",
-        ),
-        (
-            LineFault::Help(String::from_str(alloc, "help")?),
-            2,
-            3,
-            "he",
-            "tomex: cannot write\n",
-        ),
-        (
-            LineFault::Usage(String::from_str(alloc, "usage")?),
-            100,
-            2,
-            "",
-            "usage",
-        ),
-        (LineFault::Memory, 100, 3, "", "tomex: out of memory\n"),
-        (
-            unread(false, not_text(alloc)),
-            100,
-            2,
-            "",
-            "error: the command line is not UTF-8\n",
-        ),
-        (
-            unread(false, Err(AllocError)),
-            100,
-            3,
-            "",
-            "tomex: out of memory\n",
-        ),
-        (
-            unread(true, not_text(alloc)),
-            100,
-            3,
-            "",
-            "tomex: out of memory\n",
-        ),
-    ] {
-        let mut out = Narrow::new(alloc, room, 3);
-        let mut err = Narrow::new(alloc, 100, 3);
-        assert!(rt; tell_line_fault(&fault, &mut out, &mut err) == status);
-        assert!(rt; out.bytes.as_slice() == output.as_bytes());
-        assert!(rt; err.bytes.as_slice() == error.as_bytes());
-    }
+    assert!(rt; is_told(alloc, help(alloc)?, 100, 0, "help", ""));
+    assert!(rt; is_told(alloc, help(alloc)?, 2, 3, "he", "tomex: cannot write\n"));
+    let usage = LineFault::Usage(String::from_str(alloc, "usage")?);
+    assert!(rt; is_told(alloc, usage, 100, 2, "", "usage"));
+    assert!(rt; is_told(alloc, LineFault::Memory, 100, 3, "", NO_MEMORY));
+    let told = "error: the command line is not UTF-8\n";
+    assert!(rt; is_told(alloc, unread(false, not_text(alloc)), 100, 2, "", told));
+    assert!(rt; is_told(alloc, unread(false, Err(AllocError)), 100, 3, "", NO_MEMORY));
+    assert!(rt; is_told(alloc, unread(true, not_text(alloc)), 100, 3, "", NO_MEMORY));
     Ok(())
 }
