@@ -101,6 +101,80 @@ pub fn comes_to<R: Abort + AllocGlobal + Threads + Wait + Sync>(
     comes_to_within(rt, files, words, 10_000, wanted)
 }
 
+/// The words of a line, apart at each space.
+pub fn words_of<'a>(alloc: Global, line: &'a str) -> Result<Vec<&'a str>, AllocError> {
+    let mut words = Vec::new(alloc);
+    for word in line.split(' ') {
+        words.push(word)?;
+    }
+    Ok(words)
+}
+
+/// The files of a study, where there is one, and of its programs.
+fn files_of<'a>(
+    alloc: Global,
+    study: Option<&'a str>,
+    programs: &[(&'a str, &'a [u8])],
+) -> Result<Vec<(&'a str, &'a [u8])>, AllocError> {
+    let mut files = Vec::new(alloc);
+    if let Some(study) = study {
+        files.push(("study", study.as_bytes()))?;
+    }
+    files.extend_from_slice(programs)?;
+    Ok(files)
+}
+
+/// A line over a study, or none, and its programs' files comes to this status, output and telling, where the output
+/// takes so many bytes.
+pub fn asks_within<R: Abort + AllocGlobal + Threads + Wait + Sync>(
+    rt: &R,
+    study: Option<&str>,
+    programs: &[(&str, &[u8])],
+    line: &str,
+    room: usize,
+    wanted: (u8, &str, &str),
+) -> Result<(), Fail> {
+    let files = files_of(rt.alloc(), study, programs)?;
+    let words = words_of(rt.alloc(), line)?;
+    comes_to_within(rt, files.as_slice(), words.as_slice(), room, wanted)
+}
+
+/// What is asked of a study, and the status, output and telling that come of it.
+pub type Asked = (&'static str, (u8, &'static str, &'static str));
+
+/// Each of these lines over a study and its programs' files comes to what stands beside it.
+pub fn each_comes_to<R: Abort + AllocGlobal + Threads + Wait + Sync>(
+    rt: &R,
+    study: &str,
+    programs: &[(&str, &[u8])],
+    asked: &[Asked],
+) -> Result<(), Fail> {
+    for (line, wanted) in asked {
+        asks_within(rt, Some(study), programs, line, 10_000, *wanted)?;
+    }
+    Ok(())
+}
+
+/// A study, or none, and its programs' files, with the status and the telling of their refusal.
+pub type Refused = (
+    Option<&'static str>,
+    &'static [(&'static str, &'static [u8])],
+    u8,
+    &'static str,
+);
+
+/// This line is refused so over each of these.
+pub fn each_is_refused<R: Abort + AllocGlobal + Threads + Wait + Sync>(
+    rt: &R,
+    line: &str,
+    refused: &[Refused],
+) -> Result<(), Fail> {
+    for (study, programs, status, told) in refused {
+        asks_within(rt, *study, programs, line, 10_000, (*status, "", *told))?;
+    }
+    Ok(())
+}
+
 /// The text of a run that ends: the registers that aren't zero, and the last line.
 pub fn text_of(alloc: Global, registers: &[(usize, u32)], last: &str) -> Result<String, Fail> {
     let mut text = String::new(alloc);
@@ -318,27 +392,39 @@ fn lines_that_ask_for_help(rt: HostRuntime) -> Result<(), Fail> {
     Ok(())
 }
 
+/// Names, and how they are shown.
+static NAMES: [(&str, &str); 4] = [
+    ("a b\\\"é", "a b\\\"é"),
+    ("a\n\r\t\0b", "a\\n\\r\\t\\0b"),
+    ("\x1b[2J\x7f", "\\u{1b}[2J\\u{7f}"),
+    ("\u{85}\u{9f}\u{a0}", "\\u{85}\\u{9f}\u{a0}"),
+];
+
+/// What Rust shows of a character.
+fn escaped(alloc: Global, letter: char) -> Result<String, AllocError> {
+    let mut escaped = String::new(alloc);
+    for part in letter.escape_debug() {
+        escaped.push(part)?;
+    }
+    Ok(escaped)
+}
+
+/// Whether a name is shown as Rust shows the characters that have to be escaped.
+fn is_escaped(alloc: Global, name: &str, shown: &str) -> Result<bool, AllocError> {
+    for letter in name.chars() {
+        if letter.is_control() && !shown.contains(escaped(alloc, letter)?.as_str()) {
+            return Ok(false);
+        }
+    }
+    Ok(true)
+}
+
 #[test]
 fn names_are_shown_on_one_line(rt: HostRuntime) -> Result<(), Fail> {
-    for (name, shown) in [
-        ("a b\\\"é", "a b\\\"é"),
-        ("a\n\r\t\0b", "a\\n\\r\\t\\0b"),
-        ("\x1b[2J\x7f", "\\u{1b}[2J\\u{7f}"),
-        ("\u{85}\u{9f}\u{a0}", "\\u{85}\\u{9f}\u{a0}"),
-    ] {
+    for (name, shown) in &NAMES {
         let told = format!(in rt.alloc(); "tomex: cannot read {shown}\n")?;
-        let words = ["tomex", "run", name];
-        comes_to(&rt, [].as_slice(), words.as_slice(), (3, "", told.as_str()))?;
-        // So does Rust show the characters that have to be escaped.
-        for letter in name.chars() {
-            if letter.is_control() {
-                let mut escaped = String::new(rt.alloc());
-                for part in letter.escape_debug() {
-                    escaped.push(part)?;
-                }
-                assert!(rt; shown.contains(escaped.as_str()), "{escaped}");
-            }
-        }
+        comes_to(&rt, &[], &["tomex", "run", *name], (3, "", told.as_str()))?;
+        assert!(rt; is_escaped(rt.alloc(), name, shown)?);
     }
     Ok(())
 }

@@ -1,5 +1,5 @@
 //! Front reports, over studies and programs in memory.
-use crate::commands::{comes_to_within, outcome_of};
+use crate::commands::{asks_within, outcome_of, words_of};
 use std::process::Abort;
 use std::sync::Wait;
 use std::sync::atomic::{AtomicU64, Ordering};
@@ -68,73 +68,77 @@ const REPORT_OF_TWO: &str = front_report_of!(
      0,0,2008,1,1,1,1,1,1,1,1,1,1,1,1,1,1,1,1,1,loop,1000,2000,ebreak,x2=00010000,00000000:9300301f\n"
 );
 
-/// These words of a line, over a study and both programs' files, come to this status, output and telling, where
-/// the output takes so many bytes.
+/// This line, over a study and both programs' files, comes to this status, output and telling, where the output takes
+/// so many bytes.
 pub fn explores_to<R: Abort + AllocGlobal + Threads + Wait + Sync>(
     rt: &R,
-    words: &[&str],
-    study: &[u8],
+    line: &str,
+    study: &str,
     room: usize,
     wanted: (u8, &str, &str),
 ) -> Result<(), Fail> {
-    let files = [
-        ("study", study),
+    let programs = [
         ("mul.bin", PRODUCT.as_slice()),
         ("loop.bin", LOOP.as_slice()),
     ];
-    comes_to_within(rt, files.as_slice(), words, room, wanted)
+    asks_within(rt, Some(study), &programs, line, room, wanted)
 }
 
 /// The lines that run all rows and that explore them.
-static LINES: [&[&str]; 2] = [&["tomex", "all", "study"], &["tomex", "explore", "study"]];
+static LINES: [&str; 2] = ["tomex all study", "tomex explore study"];
 
 /// The same, and with more workers.
-static ALL_LINES: [&[&str]; 4] = [
-    &["tomex", "all", "study"],
-    &["tomex", "explore", "study"],
-    &["tomex", "explore", "study", "--workers", "2"],
-    &["tomex", "explore", "--workers=32", "study"],
+static ALL_LINES: [&str; 4] = [
+    "tomex all study",
+    "tomex explore study",
+    "tomex explore study --workers 2",
+    "tomex explore --workers=32 study",
+];
+
+/// Studies and their reports.
+static REPORTS: [(&str, &str); 7] = [
+    (PRICED, PRICED_REPORT),
+    (DROPPED, DROPPED_REPORT),
+    (TWO, REPORT_OF_TWO),
+    (WEIGHED, WEIGHED_REPORT),
+    (WEIGHT_ONE, DEFAULT_REPORT),
+    (NO_PRICE, DEFAULT_REPORT),
+    (ONE_WIDTH, DEFAULT_REPORT),
 ];
 
 #[test]
 fn worked_reports(rt: HostRuntime) -> Result<(), Fail> {
-    for (study, report) in [
-        (PRICED, PRICED_REPORT),
-        (DROPPED, DROPPED_REPORT),
-        (TWO, REPORT_OF_TWO),
-        (WEIGHED, WEIGHED_REPORT),
-        (WEIGHT_ONE, DEFAULT_REPORT),
-        (NO_PRICE, DEFAULT_REPORT),
-        (ONE_WIDTH, DEFAULT_REPORT),
-    ] {
+    for (study, report) in &REPORTS {
         for line in &ALL_LINES {
-            explores_to(&rt, line, study.as_bytes(), 10_000, (0, report, ""))?;
+            explores_to(&rt, line, study, 10_000, (0, *report, ""))?;
         }
     }
     Ok(())
 }
 
+/// A study whose program's file is missing.
+const MISSING: &str = "[[program]]\nname = \"a\"\nfile = \"a.bin\"\n";
+
+/// A study with a key of another time.
+const STATIONS: &str = "[[program]]\nname = \"mul\"\nfile = \"mul.bin\"\n[prices]\nalu = 10\n\
+    [axes]\nalu = [2, 1]\n[[unit.mul]]\nlatency = 3\n[stations]\n";
+
+/// Studies, each with the status and the telling of its refusal.
+static REFUSED: [(&str, u8, &str); 3] = [
+    ("", 1, "tomex: study: top: program missing\n"),
+    (MISSING, 3, "tomex: cannot read a.bin\n"),
+    (STATIONS, 1, "tomex: study: top: unknown key\n"),
+];
+
 #[test]
 fn studies_that_no_report_is_made_of(rt: HostRuntime) -> Result<(), Fail> {
-    let missing = "[[program]]\nname = \"a\"\nfile = \"a.bin\"\n";
-    for line in &LINES {
-        for (study, status, told) in [
-            ("", 1, "tomex: study: top: program missing\n"),
-            (missing, 3, "tomex: cannot read a.bin\n"),
-        ] {
-            explores_to(&rt, line, study.as_bytes(), 10_000, (status, "", told))?;
+    for (study, status, told) in &REFUSED {
+        for line in &LINES {
+            explores_to(&rt, line, study, 10_000, (*status, "", *told))?;
         }
-        let stations = format!(in rt.alloc(); "{PRICED}[stations]\n")?;
-        let told = "tomex: study: top: unknown key\n";
-        explores_to(&rt, line, stations.as_bytes(), 10_000, (1, "", told))?;
     }
-    explores_to(
-        &rt,
-        ["tomex", "explore", "other"].as_slice(),
-        b"".as_slice(),
-        100,
-        (3, "", "tomex: cannot read other\n"),
-    )
+    let told = "tomex: cannot read other\n";
+    explores_to(&rt, "tomex explore other", "", 100, (3, "", told))
 }
 
 /// Keeps what it was told last, and how often it was told that the work is over.
@@ -156,48 +160,71 @@ impl Meter for LastTold {
     }
 }
 
-#[test]
-fn a_meter_is_told_how_far_it_is(rt: HostRuntime) -> Result<(), Fail> {
+impl LastTold {
+    /// Whether it was told last that the second of two rows began, and once that the work is over.
+    fn is_over(&self) -> bool {
+        self.done.load(Ordering::SeqCst) == 1
+            && self.of.load(Ordering::SeqCst) == 2
+            && self.clears.load(Ordering::SeqCst) == 1
+    }
+}
+
+/// Whether a meter is told so of the study of two rows, whose report comes of a line.
+fn is_told<R: AllocGlobal + Threads + Wait + Sync>(rt: &R, line: &str) -> Result<bool, Fail> {
     let files = [
         ("study", PRICED.as_bytes()),
         ("mul.bin", PRODUCT.as_slice()),
     ];
+    let meter = LastTold {
+        done: AtomicU64::new(9),
+        of: AtomicU64::new(9),
+        clears: AtomicU64::new(0),
+    };
+    let words = words_of(rt.alloc(), line)?;
+    let outcome = outcome_of(rt, rt.alloc(), &files, words.as_slice(), &meter, 10_000)?;
+    let is_whole = outcome.out.as_slice() == PRICED_REPORT.as_bytes();
+    Ok(outcome.status == 0 && is_whole && meter.is_over())
+}
+
+#[test]
+fn a_meter_is_told_how_far_it_is(rt: HostRuntime) -> Result<(), Fail> {
     for line in &LINES {
-        let meter = LastTold {
-            done: AtomicU64::new(9),
-            of: AtomicU64::new(9),
-            clears: AtomicU64::new(0),
-        };
-        let outcome = outcome_of(&rt, rt.alloc(), files.as_slice(), line, &meter, 10_000)?;
-        assert!(rt; outcome.status == 0);
-        assert!(rt; outcome.out.as_slice() == PRICED_REPORT.as_bytes());
-        // The second of two rows began last.
-        assert!(rt; meter.done.load(Ordering::SeqCst) == 1);
-        assert!(rt; meter.of.load(Ordering::SeqCst) == 2);
-        assert!(rt; meter.clears.load(Ordering::SeqCst) == 1);
+        assert!(rt; is_told(&rt, line)?);
     }
     Ok(())
 }
 
+/// Whether a sink that takes so many bytes, so many a put, takes these of the report.
+fn takes(mut sink: Narrow, wanted: Result<(), WriteFault>) -> bool {
+    let report = DROPPED_REPORT.as_bytes();
+    let count = match wanted {
+        Ok(()) => report.len(),
+        Err(fault) => fault.written.min(report.len()),
+    };
+    write_all_of(&mut sink, report) == wanted && sink.bytes.as_slice() == &report[..count]
+}
+
 #[test]
 fn writers_that_fail_on_their_way(rt: HostRuntime) -> Result<(), Fail> {
-    let report = DROPPED_REPORT.as_bytes();
-    for room in 0..report.len() {
-        let mut sink = Narrow::new(rt.alloc(), room, 1000);
-        assert!(rt; write_all_of(&mut sink, report) == Err(WriteFault { written: room }));
-        assert!(rt; sink.bytes.as_slice() == &report[..room]);
+    let length = DROPPED_REPORT.len();
+    for room in 0..length {
+        let sink = Narrow::new(rt.alloc(), room, 1000);
+        assert!(rt; takes(sink, Err(WriteFault { written: room })));
     }
-    let mut slow = Narrow::new(rt.alloc(), report.len(), 1);
-    assert!(rt; write_all_of(&mut slow, report) == Ok(()));
-    assert!(rt; slow.bytes.as_slice() == report);
+    assert!(rt; takes(Narrow::new(rt.alloc(), length, 1), Ok(())));
     let mut silent = Narrow::new(rt.alloc(), 0, 1);
     silent.is_silent = true;
-    assert!(rt; write_all_of(&mut silent, report) == Err(WriteFault { written: 0 }));
-    for room in [0, 1, 100, report.len() - 1] {
+    assert!(rt; takes(silent, Err(WriteFault { written: 0 })));
+    for room in [0, 1, 100, length - 1] {
         let (taken, _) = DROPPED_REPORT.split_at(room);
         for line in &LINES {
-            let wanted = (3, taken, "tomex: cannot write\n");
-            explores_to(&rt, line, DROPPED.as_bytes(), room, wanted)?;
+            explores_to(
+                &rt,
+                line,
+                DROPPED,
+                room,
+                (3, taken, "tomex: cannot write\n"),
+            )?;
         }
     }
     Ok(())

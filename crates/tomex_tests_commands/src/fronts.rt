@@ -92,51 +92,42 @@ pub const DROPPED_PICTURE: &str = "\
     </svg>\n";
 
 /// These lines, over a study, come to this text.
-static SHOWN: [(&[&str], &str, &str); 9] = [
-    (&["tomex", "front", "study"], PRICED, PRICED_TABLE),
-    (
-        &["tomex", "front", "study", "--workers", "2"],
-        PRICED,
-        PRICED_TABLE,
-    ),
-    (
-        &["tomex", "front", "--workers=32", "study"],
-        PRICED,
-        PRICED_TABLE,
-    ),
-    (&["tomex", "front", "study"], WEIGHED, WEIGHED_TABLE),
-    (&["tomex", "front", "study"], TWO, TABLE_OF_TWO),
-    (&["tomex", "front", "study"], DROPPED, DROPPED_TABLE),
-    (&["tomex", "plot", "study"], PRICED, PRICED_PICTURE),
-    (
-        &["tomex", "plot", "study", "--workers", "2"],
-        PRICED,
-        PRICED_PICTURE,
-    ),
-    (&["tomex", "plot", "study"], DROPPED, DROPPED_PICTURE),
+static SHOWN: [(&str, &str, &str); 9] = [
+    ("tomex front study", PRICED, PRICED_TABLE),
+    ("tomex front study --workers 2", PRICED, PRICED_TABLE),
+    ("tomex front --workers=32 study", PRICED, PRICED_TABLE),
+    ("tomex front study", WEIGHED, WEIGHED_TABLE),
+    ("tomex front study", TWO, TABLE_OF_TWO),
+    ("tomex front study", DROPPED, DROPPED_TABLE),
+    ("tomex plot study", PRICED, PRICED_PICTURE),
+    ("tomex plot study --workers 2", PRICED, PRICED_PICTURE),
+    ("tomex plot study", DROPPED, DROPPED_PICTURE),
 ];
 
 #[test]
 fn fronts_for_people(rt: HostRuntime) -> Result<(), Fail> {
-    for (words, study, shown) in &SHOWN {
-        explores_to(&rt, words, study.as_bytes(), 10_000, (0, *shown, ""))?;
+    for (line, study, shown) in &SHOWN {
+        explores_to(&rt, line, study, 10_000, (0, *shown, ""))?;
     }
     Ok(())
 }
 
+/// A study whose program's file is missing.
+const MISSING: &str = "[[program]]\nname = \"a\"\nfile = \"a.bin\"\n";
+
+/// Studies with how many bytes the output takes, the status and what is told.
+static NOT_SHOWN: [(&str, usize, u8, &str); 3] = [
+    ("", 100, 1, "tomex: study: top: program missing\n"),
+    (MISSING, 100, 3, "tomex: cannot read a.bin\n"),
+    (PRICED, 0, 3, "tomex: cannot write\n"),
+];
+
 /// Studies are refused as `explore` refuses them, and a text is printed as far as the output takes it.
 #[test]
 fn fronts_that_are_not_shown(rt: HostRuntime) -> Result<(), Fail> {
-    let missing = "[[program]]\nname = \"a\"\nfile = \"a.bin\"\n";
-    for command in ["front", "plot"] {
-        let words = ["tomex", command, "study"];
-        for (study, room, wanted) in [
-            ("", 100, (1, "", "tomex: study: top: program missing\n")),
-            (missing, 100, (3, "", "tomex: cannot read a.bin\n")),
-            (PRICED, 0, (3, "", "tomex: cannot write\n")),
-        ] {
-            explores_to(&rt, words.as_slice(), study.as_bytes(), room, wanted)?;
-        }
+    for (study, room, status, told) in &NOT_SHOWN {
+        explores_to(&rt, "tomex front study", study, *room, (*status, "", *told))?;
+        explores_to(&rt, "tomex plot study", study, *room, (*status, "", *told))?;
     }
     Ok(())
 }

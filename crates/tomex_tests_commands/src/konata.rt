@@ -1,6 +1,6 @@
 //! Logs of instructions for the viewer Konata, over studies and programs in memory. The stored ones are those of a
 //! second implementation of the rules.
-use super::commands::{comes_to, outcome_of};
+use super::commands::{Asked, each_comes_to, outcome_of};
 use super::pipeline::SLOW_LOOP;
 use std::test::Fail;
 use tomex_samples::programs::{LOOP, PRODUCT};
@@ -50,51 +50,66 @@ const NO_ROW: (u8, &str, &str) = (1, "", "tomex: no such row\n");
 
 const NO_PROGRAM: (u8, &str, &str) = (1, "", "tomex: no such program\n");
 
-/// A row, a program, the first step, how many, and what comes of them.
-static ASKED: [(&str, &str, &str, &str, (u8, &str, &str)); 9] = [
-    ("0", "mul", "1", "32", (0, PRODUCT_LOG, "")),
-    ("0", "mul", "1", "262144", (0, PRODUCT_LOG, "")),
-    ("0", "mul", "4", "1", (0, THE_LAST, "")),
-    ("0", "mul", "5", "1", NO_STEP),
-    ("0", "mul", "262144", "262144", NO_STEP),
+/// What is asked, and what comes of it.
+static ASKED: [Asked; 9] = [
+    (
+        "tomex pipeline study 0 mul --konata --from 1 --steps 32",
+        (0, PRODUCT_LOG, ""),
+    ),
+    (
+        "tomex pipeline study 0 mul --konata --from 1 --steps 262144",
+        (0, PRODUCT_LOG, ""),
+    ),
+    (
+        "tomex pipeline study 0 mul --konata --from 4 --steps 1",
+        (0, THE_LAST, ""),
+    ),
+    (
+        "tomex pipeline study 0 mul --konata --from 5 --steps 1",
+        NO_STEP,
+    ),
+    (
+        "tomex pipeline study 0 mul --konata --from 262144 --steps 262144",
+        NO_STEP,
+    ),
     // The row is looked for first, then the program.
-    ("2", "div", "5", "1", NO_ROW),
-    ("2", "mul", "5", "1", NO_ROW),
-    ("0", "div", "5", "1", NO_PROGRAM),
-    ("0", "div", "1", "1", NO_PROGRAM),
+    (
+        "tomex pipeline study 2 div --konata --from 5 --steps 1",
+        NO_ROW,
+    ),
+    (
+        "tomex pipeline study 2 mul --konata --from 5 --steps 1",
+        NO_ROW,
+    ),
+    (
+        "tomex pipeline study 0 div --konata --from 5 --steps 1",
+        NO_PROGRAM,
+    ),
+    (
+        "tomex pipeline study 0 div --konata --from 1 --steps 1",
+        NO_PROGRAM,
+    ),
 ];
 
 #[test]
 fn what_instructions_do(rt: HostRuntime) -> Result<(), Fail> {
-    let files = [
-        ("study", PRODUCT_STUDY.as_bytes()),
-        ("mul.bin", PRODUCT.as_slice()),
-    ];
-    for (row, program, from, steps, wanted) in &ASKED {
-        let words = [
-            "tomex", "pipeline", "study", *row, *program, "--konata", "--from", *from, "--steps",
-            *steps,
-        ];
-        comes_to(&rt, files.as_slice(), words.as_slice(), *wanted)?;
-    }
-    Ok(())
+    each_comes_to(
+        &rt,
+        PRODUCT_STUDY,
+        &[("mul.bin", PRODUCT.as_slice())],
+        &ASKED,
+    )
 }
+
+static OF_FOLLOWED: [Asked; 1] = [(
+    "tomex pipeline study 0 followed --from 3 --steps 3 --konata",
+    (0, FOLLOWED_LOG, ""),
+)];
 
 #[test]
 fn without_their_producers(rt: HostRuntime) -> Result<(), Fail> {
-    let files = [
-        ("study", FOLLOWED_STUDY.as_bytes()),
-        ("followed.bin", FOLLOWED.as_slice()),
-    ];
-    let words = [
-        "tomex", "pipeline", "study", "0", "followed", "--from", "3", "--steps", "3", "--konata",
-    ];
-    comes_to(
-        &rt,
-        files.as_slice(),
-        words.as_slice(),
-        (0, FOLLOWED_LOG, ""),
-    )
+    let programs = [("followed.bin", FOLLOWED.as_slice())];
+    each_comes_to(&rt, FOLLOWED_STUDY, &programs, &OF_FOLLOWED)
 }
 
 /// A log may have any size, of what no picture is made too.
@@ -115,7 +130,7 @@ fn of_any_size(rt: HostRuntime) -> Result<(), Fail> {
         &NoMeter,
         1_000_000,
     )?;
-    assert_eq!(rt; outcome.status, 0);
+    assert!(rt; outcome.status == 0);
     assert!(rt; outcome.out.ends_with(b"R\t999\t999\t0\n".as_slice()));
     Ok(())
 }

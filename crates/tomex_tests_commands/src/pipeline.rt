@@ -1,6 +1,6 @@
 //! Pictures of instructions, over studies and programs in memory. Their signs stand in the cycles that the tests of
 //! times reports have.
-use super::commands::comes_to;
+use super::commands::{Asked, each_comes_to};
 use std::test::Fail;
 use tomex_samples::programs::{LOOP, PRODUCT};
 use tomex_samples::studies::PRODUCT_STUDY;
@@ -33,50 +33,63 @@ const NO_ROW: (u8, &str, &str) = (1, "", "tomex: no such row\n");
 
 const NO_PROGRAM: (u8, &str, &str) = (1, "", "tomex: no such program\n");
 
-/// A row, a program, the first step, how many, and what comes of them.
-static ASKED: [(&str, &str, &str, &str, (u8, &str, &str)); 11] = [
-    ("0", "mul", "1", "32", (0, ON_TWO_STATIONS, "")),
-    ("0", "mul", "1", "262144", (0, ON_TWO_STATIONS, "")),
-    ("1", "mul", "1", "4", (0, ON_ONE_STATION, "")),
-    ("0", "mul", "2", "2", (0, TWO_OF_THEM, "")),
-    ("0", "mul", "4", "1", (0, THE_LAST, "")),
-    ("0", "mul", "4", "2", (0, THE_LAST, "")),
-    ("0", "mul", "5", "1", NO_STEP),
-    ("0", "mul", "262144", "262144", NO_STEP),
+/// What is asked, and what comes of it.
+static ASKED: [Asked; 11] = [
+    (
+        "tomex pipeline study 0 mul --from 1 --steps 32",
+        (0, ON_TWO_STATIONS, ""),
+    ),
+    (
+        "tomex pipeline study 0 mul --from 1 --steps 262144",
+        (0, ON_TWO_STATIONS, ""),
+    ),
+    (
+        "tomex pipeline study 1 mul --from 1 --steps 4",
+        (0, ON_ONE_STATION, ""),
+    ),
+    (
+        "tomex pipeline study 0 mul --from 2 --steps 2",
+        (0, TWO_OF_THEM, ""),
+    ),
+    (
+        "tomex pipeline study 0 mul --from 4 --steps 1",
+        (0, THE_LAST, ""),
+    ),
+    (
+        "tomex pipeline study 0 mul --from 4 --steps 2",
+        (0, THE_LAST, ""),
+    ),
+    ("tomex pipeline study 0 mul --from 5 --steps 1", NO_STEP),
+    (
+        "tomex pipeline study 0 mul --from 262144 --steps 262144",
+        NO_STEP,
+    ),
     // The row is looked for first, then the program.
-    ("2", "div", "5", "1", NO_ROW),
-    ("2", "mul", "5", "1", NO_ROW),
-    ("0", "div", "5", "1", NO_PROGRAM),
+    ("tomex pipeline study 2 div --from 5 --steps 1", NO_ROW),
+    ("tomex pipeline study 2 mul --from 5 --steps 1", NO_ROW),
+    ("tomex pipeline study 0 div --from 5 --steps 1", NO_PROGRAM),
 ];
 
 #[test]
 fn what_instructions_do(rt: HostRuntime) -> Result<(), Fail> {
-    let files = [
-        ("study", PRODUCT_STUDY.as_bytes()),
-        ("mul.bin", PRODUCT.as_slice()),
-    ];
-    for (row, program, from, steps, wanted) in &ASKED {
-        let words = [
-            "tomex", "pipeline", "study", *row, *program, "--from", *from, "--steps", *steps,
-        ];
-        comes_to(&rt, files.as_slice(), words.as_slice(), *wanted)?;
-    }
-    Ok(())
+    each_comes_to(
+        &rt,
+        PRODUCT_STUDY,
+        &[("mul.bin", PRODUCT.as_slice())],
+        &ASKED,
+    )
 }
 
 /// Without options it begins with the first instruction.
+static PLAIN: [Asked; 1] = [("tomex pipeline study 1 mul", (0, ON_ONE_STATION, ""))];
+
 #[test]
 fn of_the_first_instructions(rt: HostRuntime) -> Result<(), Fail> {
-    let files = [
-        ("study", PRODUCT_STUDY.as_bytes()),
-        ("mul.bin", PRODUCT.as_slice()),
-    ];
-    let words = ["tomex", "pipeline", "study", "1", "mul"];
-    comes_to(
+    each_comes_to(
         &rt,
-        files.as_slice(),
-        words.as_slice(),
-        (0, ON_ONE_STATION, ""),
+        PRODUCT_STUDY,
+        &[("mul.bin", PRODUCT.as_slice())],
+        &PLAIN,
     )
 }
 
@@ -85,20 +98,18 @@ pub const SLOW_LOOP: &str =
     "[[program]]\nname = \"loop\"\nfile = \"loop.bin\"\n[[unit.bru]]\nlatency = 64\n";
 
 /// What is too large is told last.
+static TOO_LARGE: [Asked; 2] = [
+    (
+        "tomex pipeline study 0 loop --steps 262144 --from 1",
+        (1, "", "tomex: picture too large\n"),
+    ),
+    (
+        "tomex pipeline study 0 loop --steps 262144 --from 1001",
+        NO_STEP,
+    ),
+];
+
 #[test]
 fn pictures_that_are_too_large(rt: HostRuntime) -> Result<(), Fail> {
-    let files = [
-        ("study", SLOW_LOOP.as_bytes()),
-        ("loop.bin", LOOP.as_slice()),
-    ];
-    for (from, told) in [
-        ("1", "tomex: picture too large\n"),
-        ("1001", "tomex: no such step\n"),
-    ] {
-        let words = [
-            "tomex", "pipeline", "study", "0", "loop", "--steps", "262144", "--from", from,
-        ];
-        comes_to(&rt, files.as_slice(), words.as_slice(), (1, "", told))?;
-    }
-    Ok(())
+    each_comes_to(&rt, SLOW_LOOP, &[("loop.bin", LOOP.as_slice())], &TOO_LARGE)
 }

@@ -1,7 +1,7 @@
 //! The text of a run, and whole runs of the program, whose command line takes other memory, with memory refused.
 
 use super::fronts::{DROPPED_PICTURE, DROPPED_TABLE};
-use crate::commands::{PRODUCT_END, outcome_of, text_of};
+use crate::commands::{PRODUCT_END, outcome_of, text_of, words_of};
 use crate::konata::PRODUCT_LOG;
 use crate::pipeline::ON_ONE_STATION;
 use std::alloc::AllocError;
@@ -39,7 +39,7 @@ impl Attempt for Text {
 #[test]
 fn of_the_text_of_a_run(rt: HostRuntime) -> Result<(), Fail> {
     // A text grows several times, how often is the library's affair.
-    assert!(rt; matches!(refusals(rt.alloc(), &Text)?, Some(granted) if granted > 2));
+    assert!(rt; refusals(rt.alloc(), &Text)? > Some(2));
     Ok(())
 }
 
@@ -77,13 +77,9 @@ fn each_is_granted<R: AllocGlobal + Threads + Wait + Sync>(
     asked: &[(&str, &str, u64)],
 ) -> Result<(), Fail> {
     for (line, output, least) in asked {
-        let mut words = Vec::new(rt.alloc());
-        for word in line.split(' ') {
-            words.push(word)?;
-        }
-        match granted(rt, words.as_slice(), files, *output)? {
-            Some(granted) if granted >= *least => {}
-            _ => return Err("a command answers wrongly, or with too few blocks".into()),
+        let words = words_of(rt.alloc(), line)?;
+        if granted(rt, words.as_slice(), files, *output)? < Some(*least) {
+            return Err("a command answers wrongly, or with too few blocks".into());
         }
     }
     Ok(())

@@ -1,5 +1,5 @@
 //! Tables after a cycle, over studies and programs in memory.
-use super::commands::comes_to;
+use super::commands::{Asked, Refused, each_comes_to, each_is_refused};
 use super::times::SUM;
 use std::test::Fail;
 use tomex_samples::programs::PRODUCT;
@@ -30,38 +30,30 @@ const NO_ROW: (u8, &str, &str) = (1, "", "tomex: no such row\n");
 
 const NO_PROGRAM: (u8, &str, &str) = (1, "", "tomex: no such program\n");
 
-/// A study, and the name and the bytes of its program's file.
-type OneProgram = (&'static str, &'static str, &'static [u8]);
+static OF_PRODUCT: [Asked; 5] = [
+    ("tomex tables study 0 mul 0", (0, "cycle 0\n", "")),
+    ("tomex tables study 0 mul 3", (0, PRODUCT_AFTER_3, "")),
+    ("tomex tables study 0 mul 8", (0, "cycle 8\n", "")),
+    ("tomex tables study 0 mul 9", PAST),
+    ("tomex tables study 0 mul 17563648", PAST),
+];
 
-const PRODUCT_OF: OneProgram = (PRODUCT_STUDY, "mul.bin", PRODUCT);
-
-const TWICE_OF: OneProgram = (SLOW, "a", WRITTEN_TWICE);
-
-const STORED_OF: OneProgram = (MEMORY, "a", STORED);
-
-/// Studies, with a program, a cycle, and what comes of the tables on the first row.
-static WORKED: [(OneProgram, &str, &str, (u8, &str, &str)); 10] = [
-    (PRODUCT_OF, "mul", "0", (0, "cycle 0\n", "")),
-    (PRODUCT_OF, "mul", "3", (0, PRODUCT_AFTER_3, "")),
-    (PRODUCT_OF, "mul", "8", (0, "cycle 8\n", "")),
-    (PRODUCT_OF, "mul", "9", PAST),
-    (PRODUCT_OF, "mul", "17563648", PAST),
+static OF_TWICE: [Asked; 3] = [
     (
-        TWICE_OF,
-        "twice",
-        "4",
+        "tomex tables study 0 twice 4",
         (
             0,
             "cycle 4\nmul0 mul Vj=00000000 Vk=00010000 Qj=- Qk=- A=-\n",
             "",
         ),
     ),
-    (TWICE_OF, "twice", "12", (0, "cycle 12\n", "")),
-    (TWICE_OF, "twice", "13", PAST),
+    ("tomex tables study 0 twice 12", (0, "cycle 12\n", "")),
+    ("tomex tables study 0 twice 13", PAST),
+];
+
+static OF_STORED: [Asked; 2] = [
     (
-        STORED_OF,
-        "stored",
-        "5",
+        "tomex tables study 0 stored 5",
         (
             0,
             "cycle 5\n\
@@ -71,32 +63,27 @@ static WORKED: [(OneProgram, &str, &str, (u8, &str, &str)); 10] = [
             "",
         ),
     ),
-    (STORED_OF, "stored", "10", PAST),
+    ("tomex tables study 0 stored 10", PAST),
 ];
 
 #[test]
 fn tables_of_worked_runs(rt: HostRuntime) -> Result<(), Fail> {
-    for ((study, name, bytes), program, cycle, wanted) in &WORKED {
-        let files = [("study", study.as_bytes()), (*name, *bytes)];
-        let words = ["tomex", "tables", "study", "0", *program, *cycle];
-        comes_to(&rt, files.as_slice(), words.as_slice(), *wanted)?;
-    }
-    Ok(())
+    let (product, twice) = (PRODUCT.as_slice(), WRITTEN_TWICE.as_slice());
+    each_comes_to(&rt, PRODUCT_STUDY, &[("mul.bin", product)], &OF_PRODUCT)?;
+    each_comes_to(&rt, SLOW, &[("a", twice)], &OF_TWICE)?;
+    each_comes_to(&rt, MEMORY, &[("a", STORED.as_slice())], &OF_STORED)
 }
 
-/// Rows, programs and cycles, and what comes of them in the study of two programs. They are looked for in this
-/// order.
-static ASKED: [(&str, &str, &str, (u8, &str, &str)); 11] = [
-    ("0", "mul", "8", (0, "cycle 8\n", "")),
-    ("0", "mul", "9", PAST),
-    ("1", "mul", "10", (0, "cycle 10\n", "")),
-    ("1", "mul", "11", PAST),
-    ("1", "sum", "3", (0, "cycle 3\n", "")),
-    ("1", "sum", "4", PAST),
+/// What is asked of the study of two programs: rows, programs and cycles are looked for in this order.
+static ASKED: [Asked; 11] = [
+    ("tomex tables study 0 mul 8", (0, "cycle 8\n", "")),
+    ("tomex tables study 0 mul 9", PAST),
+    ("tomex tables study 1 mul 10", (0, "cycle 10\n", "")),
+    ("tomex tables study 1 mul 11", PAST),
+    ("tomex tables study 1 sum 3", (0, "cycle 3\n", "")),
+    ("tomex tables study 1 sum 4", PAST),
     (
-        "1",
-        "mul",
-        "4",
+        "tomex tables study 1 mul 4",
         (
             0,
             "cycle 4\nalu0 addi Vj=00000000 Vk=- Qj=- Qk=- A=-\nx2 Qi=alu0\n",
@@ -104,50 +91,36 @@ static ASKED: [(&str, &str, &str, (u8, &str, &str)); 11] = [
         ),
     ),
     (
-        "1",
-        "sum",
-        "1",
+        "tomex tables study 1 sum 1",
         (
             0,
             "cycle 1\nalu0 addi Vj=00000000 Vk=- Qj=- Qk=- A=-\nx1 Qi=alu0\n",
             "",
         ),
     ),
-    ("2", "div", "17563648", NO_ROW),
-    ("2", "mul", "17563648", NO_ROW),
-    ("1", "div", "17563648", NO_PROGRAM),
+    ("tomex tables study 2 div 17563648", NO_ROW),
+    ("tomex tables study 2 mul 17563648", NO_ROW),
+    ("tomex tables study 1 div 17563648", NO_PROGRAM),
 ];
 
 #[test]
 fn rows_programs_and_cycles(rt: HostRuntime) -> Result<(), Fail> {
-    let two = [
-        ("study", TWO.as_bytes()),
-        ("a", PRODUCT.as_slice()),
-        ("z", SUM.as_slice()),
-    ];
-    for (row, program, cycle, wanted) in &ASKED {
-        let words = ["tomex", "tables", "study", *row, *program, *cycle];
-        comes_to(&rt, two.as_slice(), words.as_slice(), *wanted)?;
-    }
-    Ok(())
+    let programs = [("a", PRODUCT.as_slice()), ("z", SUM.as_slice())];
+    each_comes_to(&rt, TWO, &programs, &ASKED)
 }
+
+static REFUSED: [Refused; 3] = [
+    (None, &[], 3, "tomex: cannot read study\n"),
+    (Some(TWO), &[], 3, "tomex: cannot read z\n"),
+    (
+        Some(PRODUCT_STUDY),
+        &[("mul.bin", b"\x00\x00\x00\x00")],
+        1,
+        "tomex: program mul: fault: illegal at 00000000\n",
+    ),
+];
 
 #[test]
 fn studies_that_are_refused(rt: HostRuntime) -> Result<(), Fail> {
-    let words = ["tomex", "tables", "study", "9", "div", "9"];
-    let study = ("study", PRODUCT_STUDY.as_bytes());
-    let two = ("study", TWO.as_bytes());
-    let faulty = ("mul.bin", b"\x00\x00\x00\x00".as_slice());
-    for (files, status, told) in [
-        ([].as_slice(), 3, "tomex: cannot read study\n"),
-        ([two].as_slice(), 3, "tomex: cannot read z\n"),
-        (
-            [study, faulty].as_slice(),
-            1,
-            "tomex: program mul: fault: illegal at 00000000\n",
-        ),
-    ] {
-        comes_to(&rt, files, words.as_slice(), (status, "", told))?;
-    }
-    Ok(())
+    each_is_refused(&rt, "tomex tables study 9 div 9", &REFUSED)
 }

@@ -1,5 +1,5 @@
 //! Times reports, over studies and programs in memory.
-use super::commands::comes_to;
+use super::commands::{Asked, Refused, each_comes_to, each_is_refused};
 use std::test::Fail;
 use tomex_samples::programs::PRODUCT;
 use tomex_samples::studies::{PRODUCT_STUDY, PRODUCT_TIMES};
@@ -26,75 +26,68 @@ const SUM_REPORT: &str = "step,pc,instr,issue,addr,start,finish,end,station\n\
     2,00000004,ebreak,2,-,2,2,2,-\n\
     total,-,-,-,-,-,-,3,-\n";
 
-/// Rows and programs, of the study of one program or of that of two, and what comes of them.
-static ASKED: [(bool, &str, &str, (u8, &str, &str)); 7] = [
-    (false, "0", "mul", (0, ON_TWO_STATIONS, "")),
-    (false, "1", "mul", (0, PRODUCT_TIMES, "")),
+/// What is asked of the study of one program.
+static OF_ONE: [Asked; 5] = [
+    ("tomex times study 0 mul", (0, ON_TWO_STATIONS, "")),
+    ("tomex times study 1 mul", (0, PRODUCT_TIMES, "")),
     // The row is looked for first.
-    (false, "2", "div", (1, "", "tomex: no such row\n")),
-    (false, "16383", "mul", (1, "", "tomex: no such row\n")),
-    (false, "0", "div", (1, "", "tomex: no such program\n")),
-    (true, "1", "mul", (0, PRODUCT_TIMES, "")),
-    (true, "1", "sum", (0, SUM_REPORT, "")),
+    ("tomex times study 2 div", (1, "", "tomex: no such row\n")),
+    (
+        "tomex times study 16383 mul",
+        (1, "", "tomex: no such row\n"),
+    ),
+    (
+        "tomex times study 0 div",
+        (1, "", "tomex: no such program\n"),
+    ),
+];
+
+/// And of that of two.
+static OF_TWO: [Asked; 2] = [
+    ("tomex times study 1 mul", (0, PRODUCT_TIMES, "")),
+    ("tomex times study 1 sum", (0, SUM_REPORT, "")),
 ];
 
 #[test]
 fn a_row_and_a_program(rt: HostRuntime) -> Result<(), Fail> {
-    let one = [
-        ("study", PRODUCT_STUDY.as_bytes()),
-        ("mul.bin", PRODUCT.as_slice()),
-    ];
-    let two = [
-        ("study", TWO.as_bytes()),
-        ("a", PRODUCT.as_slice()),
-        ("z", SUM.as_slice()),
-    ];
-    for (of_two, row, program, wanted) in &ASKED {
-        let files = if *of_two {
-            two.as_slice()
-        } else {
-            one.as_slice()
-        };
-        let words = ["tomex", "times", "study", *row, *program];
-        comes_to(&rt, files, words.as_slice(), *wanted)?;
-    }
-    Ok(())
+    let (product, sum) = (PRODUCT.as_slice(), SUM.as_slice());
+    each_comes_to(&rt, PRODUCT_STUDY, &[("mul.bin", product)], &OF_ONE)?;
+    each_comes_to(&rt, TWO, &[("a", product), ("z", sum)], &OF_TWO)
 }
+
+static REFUSED: [Refused; 8] = [
+    (None, &[], 3, "tomex: cannot read study\n"),
+    (Some(PRODUCT_STUDY), &[], 3, "tomex: cannot read mul.bin\n"),
+    (Some(""), &[], 1, "tomex: study: top: program missing\n"),
+    (
+        Some(PRODUCT_STUDY),
+        &[("mul.bin", b"\x00\x00\x00\x00")],
+        1,
+        "tomex: program mul: fault: illegal at 00000000\n",
+    ),
+    (
+        Some(PRODUCT_STUDY),
+        &[("mul.bin", b"")],
+        1,
+        "tomex: program mul: image: empty\n",
+    ),
+    // Files are read in the order of the programs, and all of them before one is looked at.
+    (Some(TWO), &[], 3, "tomex: cannot read z\n"),
+    (
+        Some(TWO),
+        &[("z", b"\x00\x00\x00\x00")],
+        3,
+        "tomex: cannot read a\n",
+    ),
+    (
+        Some(TWO),
+        &[("z", b"\x00\x00\x00\x00"), ("a", b"\x00\x00\x00\x00")],
+        1,
+        "tomex: program sum: fault: illegal at 00000000\n",
+    ),
+];
 
 #[test]
 fn studies_that_are_refused(rt: HostRuntime) -> Result<(), Fail> {
-    let study = ("study", PRODUCT_STUDY.as_bytes());
-    let two = ("study", TWO.as_bytes());
-    let zeros = b"\x00\x00\x00\x00".as_slice();
-    for (files, status, told) in [
-        ([].as_slice(), 3, "tomex: cannot read study\n"),
-        ([study].as_slice(), 3, "tomex: cannot read mul.bin\n"),
-        (
-            [("study", b"".as_slice())].as_slice(),
-            1,
-            "tomex: study: top: program missing\n",
-        ),
-        (
-            [study, ("mul.bin", zeros)].as_slice(),
-            1,
-            "tomex: program mul: fault: illegal at 00000000\n",
-        ),
-        (
-            [study, ("mul.bin", b"".as_slice())].as_slice(),
-            1,
-            "tomex: program mul: image: empty\n",
-        ),
-        // Files are read in the order of the programs, and all of them before one is looked at.
-        ([two].as_slice(), 3, "tomex: cannot read z\n"),
-        ([two, ("z", zeros)].as_slice(), 3, "tomex: cannot read a\n"),
-        (
-            [two, ("z", zeros), ("a", zeros)].as_slice(),
-            1,
-            "tomex: program sum: fault: illegal at 00000000\n",
-        ),
-    ] {
-        let words = ["tomex", "times", "study", "9", "mul"];
-        comes_to(&rt, files, words.as_slice(), (status, "", told))?;
-    }
-    Ok(())
+    each_is_refused(&rt, "tomex times study 9 mul", &REFUSED)
 }

@@ -1,6 +1,6 @@
 //! The product on a machine that issues two instructions in a cycle, over a study and a program in memory. Its cycles
 //! are counted by hand: both factors issue in cycle 1, and the product, which waits for them, with EBREAK in cycle 2.
-use super::commands::comes_to;
+use super::commands::{Asked, each_comes_to};
 use std::test::Fail;
 use tomex_samples::programs::PRODUCT;
 
@@ -26,18 +26,13 @@ const STALLS: &str = "part,count,peak,stalls\n\
     buses,2,2,0\nwidth,2,2,1\n\
     branch,-,-,0\noperand,-,-,1\naddress,-,-,0\nmemory,-,-,0\ndrain,-,-,5\ntotal,-,-,7\n";
 
+static ASKED: [Asked; 3] = [
+    ("tomex times study 0 mul", (0, TIMES, "")),
+    ("tomex tables study 0 mul 2", (0, AFTER_2, "")),
+    ("tomex stalls study 0 mul", (0, STALLS, "")),
+];
+
 #[test]
 fn two_issue_in_a_cycle(rt: HostRuntime) -> Result<(), Fail> {
-    let files = [("study", WIDE.as_bytes()), ("mul.bin", PRODUCT.as_slice())];
-    for (words, text) in [
-        (["tomex", "times", "study", "0", "mul"].as_slice(), TIMES),
-        (
-            ["tomex", "tables", "study", "0", "mul", "2"].as_slice(),
-            AFTER_2,
-        ),
-        (["tomex", "stalls", "study", "0", "mul"].as_slice(), STALLS),
-    ] {
-        comes_to(&rt, files.as_slice(), words, (0, text, ""))?;
-    }
-    Ok(())
+    each_comes_to(&rt, WIDE, &[("mul.bin", PRODUCT.as_slice())], &ASKED)
 }
