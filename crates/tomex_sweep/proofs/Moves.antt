@@ -18,3 +18,8 @@ pub ended : {Y Z : Type 0} (g : Y → Z) (xs : List Z) (rest : List Y) (goal : L
     ++ map g rest ≡ goal → xs ≡ goal
 ended g xs [] goal none h = sym (append-nil xs) ∙ h
 ended g xs (y ∷ ys) goal none h = absurd (omega arith)
+
+-- nothing is on the one side yet
+pub begun : {X Y Z : Type 0} (f : X → Z) (g : Y → Z) (xs : List X) (rest all : List Y) → xs ≡ [] → rest ≡ all
+    → map f xs ++ map g rest ≡ map g all
+begun f g xs rest all none same = ap (λ l. map f l ++ map g rest) none ∙ ap (map g) same

@@ -75,3 +75,9 @@ returns-in_err-axes g c =
     (goes_on _ _ _ _ c.in_ok-unit.ensures
     (goes_on _ _ _ _ c.in_ok-programs.ensures
     (goes_on _ _ _ _ c.in_ok-prices.ensures (stops _ _ _ (c.in_err-axes.ensures other)))))))))
+
+pub returns-in_err-known_keys : goal.returns-in_err-known_keys
+unfolding outline_of
+returns-in_err-known_keys g c =
+    let p = err_from_is_err_and c.from_residual.result c.from_residual.ensures.1 in
+    rw (p.1, p.2) (λ other. stops _ _ _ (sym (rw c.as_slice.ensures at c.in_err-known_keys.ensures)))

@@ -4,7 +4,7 @@ use Rattle.std.proofs.lemmas.Bool.{true≢false}
 use Rattle.std.proofs.lemmas.List.Elements.{All-rest, All-head}
 use Rattle.std.specs.Vec.Iter.{into_iter_items}
 use Rattle.tomex_sweep.specs.Crews.{CanStart, given_by, owed_by}
-use Rattle.tomex_sweep.proofs.Moves.{moved, ended}
+use Rattle.tomex_sweep.proofs.Moves.{begun, moved, ended}
 use Rattle.tomex_sweep.proofs.crew.run_in.Goals as goal
 use Rattle.tomex_sweep.proofs.crew.run_in.Goals.{in-Ok-push-2, in-Err-push-2}
 
@@ -37,3 +37,21 @@ returns g c =
     search rules in
     ended (λ h. owed_by h.promise.0.value) _ (into_iter_items c.loop-handle.handle-iterator) _ none
     (c.loop-handle.invariant c.if-refused.false)
+
+pub loop-worker-init : goal.loop-worker-init
+loop-worker-init g c =
+    let all = c.into_iter-worker-iterator.ensures.into_iter_gives.0 in (
+      begun (λ h. owed_by h.promise.0.value) owed_by c.new-handles.result.items _ _ c.new-handles.ensures.items all,
+      subst (All (CanStart c.args.shop.now.board.now (length g.J.Plan.costs))) (sym all) c.requires.all,
+    )
+
+pub loop-handle-init : goal.loop-handle-init
+loop-handle-init g c = λ _.
+    let none : length (into_iter_items c.loop-worker.worker-iterator) ≡ 0 = let s = c.in-None.ensures.steps in
+    search rules in
+    begun given_by (λ h. owed_by h.promise.0.value) c.new-parts.result.items _ _ c.new-parts.ensures.items
+    c.into_iter-handle-iterator.ensures.into_iter_gives.0
+    ∙ ended owed_by _ (into_iter_items c.loop-worker.worker-iterator) _ none c.loop-worker.invariant.0
+
+pub loop-handle-preserved : goal.loop-handle-preserved
+loop-handle-preserved g c = λ not. absurd (true≢false not)

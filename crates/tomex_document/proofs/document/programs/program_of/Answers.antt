@@ -69,3 +69,16 @@ returns g c =
     (goes_on _ _ _ _ c.in_ok-watch.ensures.read
     (goes_on _ _ _ _ (sym (rw c.between-2.ensures at c.in_ok-weight.ensures.read))
     (rw (c.new.ensures, c.has_key-weighed.ensures) refl)))))))
+
+pub returns-in_err-known_keys : goal.returns-in_err-known_keys
+unfolding program_of
+returns-in_err-known_keys g c =
+    let p = err_from_is_err_and c.from_residual.result c.from_residual.ensures.1 in
+    rw (p.1, p.2) (λ other. stops _ _ _ (sym (rw c.as_slice.ensures at c.in_err-known_keys.ensures)))
+
+pub returns-in_err-name : goal.returns-in_err-name
+unfolding program_of
+returns-in_err-name g c =
+    let p = err_from_is_err_and c.from_residual-in_err-name.result c.from_residual-in_err-name.ensures.1 in
+    let known = sym (rw c.as_slice.ensures at c.in_ok-known_keys.ensures) in
+    rw (p.1, p.2) (λ other. goes_on _ _ _ _ known (stops _ _ _ (c.in_err-name.ensures.read other)))

@@ -1,6 +1,7 @@
 use Rattle.std.proofs.Common.{rules, ◌∙◌, Some, ap, arith, refl, sym}
 use Rattle.std.specs.Prelude.{is_some}
-use Rattle.tomex_tags.specs.Contents.{with_address}
+use Rattle.tomex_tags.specs.Contents.{lacks_address, with_address}
+use Rattle.tomex_tags.specs.WaitSets.{waits}
 use Rattle.tomex_tags.proofs.Listening.{address_own, address_same, own_here, same_listens}
 use Rattle.tomex_tags.proofs.Slots.{at_place, filled_by, set_none, set_place, said_same}
 use Rattle.tomex_tags.proofs.Entering.{address_entered}
@@ -51,3 +52,23 @@ returns-in_default c = record {
   busy = refl;
   issue_numbers = refl;
 }
+
+pub bounds-self-inside-place : goal.bounds-self-inside-place
+bounds-self-inside-place c =
+    let low = c.at.ensures.low (rw c.in-Some.is refl) in
+    omega (arith, low, c.self.invariant.six)
+
+pub address-requires-in-Some-clause-low : goal.address-requires-in-Some-clause-low
+address-requires-in-Some-clause-low c = let low = c.at.ensures.low (rw c.in-Some.is refl) in omega (arith, low)
+
+pub address-requires-in-Some-clause-lacking : goal.address-requires-in-Some-clause-lacking
+address-requires-in-Some-clause-lacking c =
+    let at = rw (← c.self.view_is) at (sym c.at.ensures.value ∙ c.in-Some.is) in
+    let low = c.at.ensures.low (rw c.in-Some.is refl) in
+    c.self.invariant.wait_sets.lacking c.args.place (omega (arith, low)) ∙ ap lacks_address at
+
+pub address-requires-in-Some-clause-waiting : goal.address-requires-in-Some-clause-waiting
+address-requires-in-Some-clause-waiting c =
+    let at = rw (← c.self.view_is) at (sym c.at.ensures.value ∙ c.in-Some.is) in
+    let low = c.at.ensures.low (rw c.in-Some.is refl) in
+    c.self.invariant.wait_sets.waiting c.args.place (omega (arith, low)) ∙ ap waits at
