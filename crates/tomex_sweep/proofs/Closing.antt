@@ -1,5 +1,6 @@
 -- What a worker does with a row that it has in hand.
-use Rattle.std.proofs.Common.{◌≡◌, ℕ, ◌+◌, ◌-◌, ◌<◌, ◌≤◌, List, [], ◌∷◌, Option, Some, slice_get, length, get_or, cond, ap}
+use Rattle.std.proofs.Common.{◌≡◌, ℕ, ◌+◌, ◌-◌, ◌<◌, ◌≤◌, List, [], ◌∷◌, Option, Some, slice_get, length, get_or}
+use Rattle.std.proofs.Common.{ap, cond}
 use Rattle.std.proofs.Common.{refl, sym, ◌∙◌, subst, inl, All, take, arith, eq-eqb}
 use Rattle.std.proofs.lemmas.List.Elements.{All-more, All-weaker}
 use Rattle.std.proofs.lemmas.Option.{slice_get_read}

@@ -11,7 +11,8 @@ use Rattle.tomex_pareto.specs.declared.front_row.FrontRow.{FrontRow}
 use Rattle.tomex_pareto.specs.Finished.{finished_from}
 use Rattle.tomex_pareto.specs.Front.{front_of, rows_from}
 use Rattle.tomex_pareto.specs.Pareto.{Dominates}
-use Rattle.tomex_pareto.proofs.Finished.{IsAt, at_row, finished_apart, finished_of, of_finished, row_at, rows_apart, same_row}
+use Rattle.tomex_pareto.proofs.Finished.{IsAt, at_row, finished_apart, finished_of, of_finished, row_at, rows_apart}
+use Rattle.tomex_pareto.proofs.Finished.{same_row}
 use Rattle.tomex_pareto.proofs.Pareto.{Has, front_is, only_front}
 use Rattle.tomex_sweep.specs.Marks.{AreJudged}
 

@@ -128,7 +128,7 @@ impl<'s, J: Plan, A: Allocator + Clone, G: Gate> Desk<'s, J, A, G> {
         self.run_row(runs, knowledge, seat, row)
     }
 
-    /// Tries rows until none is left to take, and then each of the lane's list once more. None of that list is open then.
+    /// Tries rows until none is left to take, then each of the lane's list once more. None of that list is open then.
     pub(crate) fn try_all(
         &self,
         alloc: A,

@@ -22,6 +22,6 @@ cycles-requires-clause-ends g c = rw c.programs.ensures.value c.keeps_limits.ens
 pub loop-config-preserved : goal.loop-config-preserved
 loop-config-preserved g c =
     one_finished c.args.study.now.programs c.rows-config-items.result.now c.loop-config.config-index
-    c.in_ok-cycles.cycles c.config-item.result c.loop-config.marks.items c.push.new.self.items c.in_ok-push.ensures.items
-    c.loop-config-test.true c.config-item.is
+    c.in_ok-cycles.cycles c.config-item.result c.loop-config.marks.items c.push.new.self.items
+    c.in_ok-push.ensures.items c.loop-config-test.true c.config-item.is
     (rw (← c.programs.ensures.value) c.in_ok-cycles.ensures) c.loop-config.invariant
