@@ -5,7 +5,7 @@ use Rattle.tomex_command.specs.declared.failure.Failure.TheVariants.{CannotWrite
 use Rattle.tomex_line.specs.declared.line.Line.{Line}
 use Rattle.tomex_line.specs.declared.line.Line.TheVariants.{Run, Times, Stalls, Pipeline, Tables}
 use Rattle.tomex_line.specs.declared.line.Line.TheVariants.{All, Explore, Front, Plot}
-use Rattle.tomex_line.specs.declared.line.LineFault.{LineFault}
+use Rattle.tomex_arguments.specs.declared.fault.LineFault.{LineFault}
 use Rattle.tomex_line.specs.Asked.{IsAsked, IsNoCommand}
 use Rattle.tomex_report.specs.declared.front_view.FrontView.TheVariants.{Report, Table, Picture}
 use Rattle.tomex_streams.specs.Files.{Told}

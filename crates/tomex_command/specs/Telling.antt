@@ -5,9 +5,9 @@ use Rattle.tomex_command.specs.declared.failure.Failure.TheVariants.{BadWindow, 
 use Rattle.tomex_command.specs.declared.failure.Failure.TheVariants.{NoSuchProgram, CyclePastEnd, NoSuchStep}
 use Rattle.tomex_command.specs.declared.failure.Failure.TheVariants.{PictureTooLarge, CannotRead, CannotWrite}
 use Rattle.tomex_command.specs.declared.failure.Failure.TheVariants.{Memory, Worker}
-use Rattle.tomex_line.specs.declared.line.LineFault.{LineFault}
-use Rattle.tomex_line.specs.declared.line.LineFault.TheVariants.{Help, Usage}
-use Rattle.tomex_line.specs.declared.line.LineFault.TheVariants as faults
+use Rattle.tomex_arguments.specs.declared.fault.LineFault.{LineFault}
+use Rattle.tomex_arguments.specs.declared.fault.LineFault.TheVariants.{Help, Usage}
+use Rattle.tomex_arguments.specs.declared.fault.LineFault.TheVariants as faults
 use Rattle.tomex_streams.specs.Names.{shown_name}
 use Rattle.tomex_streams.specs.Sinks.{Seen, IsWhole, IsCut, IsWritten}
 use Rattle.tomex_command.specs.Statuses.{status_of_failure}

@@ -5,8 +5,8 @@ use Rattle.clap.specs.declared.error.kind.ErrorKind.TheVariants.{DisplayHelp, Di
 use Rattle.tomex_line.specs.declared.line.Line.{Line}
 use Rattle.tomex_line.specs.declared.line.Line.TheVariants.{Run, Times, Stalls, Pipeline, Tables}
 use Rattle.tomex_line.specs.declared.line.Line.TheVariants.{All, Explore, Front, Plot}
-use Rattle.tomex_line.specs.declared.line.LineFault.{LineFault}
-use Rattle.tomex_line.specs.declared.line.LineFault.TheVariants.{Help, Usage, Memory}
+use Rattle.tomex_arguments.specs.declared.fault.LineFault.{LineFault}
+use Rattle.tomex_arguments.specs.declared.fault.LineFault.TheVariants.{Help, Usage, Memory}
 use Rattle.tomex_line.specs.Grammar.{tomex_app}
 use Rattle.tomex_line.specs.Values.{IsRunAsked, IsTimesAsked, IsStallsAsked, IsPipelineAsked}
 use Rattle.tomex_line.specs.Values.{IsTablesAsked, IsAllAsked, IsExploreAsked}

@@ -1,4 +1,3 @@
 pub mod Asked
 pub mod Grammar
-pub mod Lines
 pub mod Values

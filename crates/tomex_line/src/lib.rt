@@ -1,9 +1,8 @@
-//! The command line: what it may ask for, and what it says that is wrong with it. No other part of the
-//! program knows of `clap`.
+//! The command line: what it may ask for, and what it says that is wrong with it. No part of the program
+//! above knows of `clap`.
 #![tactic(auto)]
 
 mod line;
-mod system;
 
 pub use line::all::AllLine;
 pub use line::explore::ExploreLine;
@@ -12,5 +11,5 @@ pub use line::run::RunLine;
 pub use line::stalls::StallsLine;
 pub use line::tables::TablesLine;
 pub use line::times::TimesLine;
-pub use line::{Line, LineFault, read_line};
-pub use system::{not_text, unread};
+pub use line::{Line, read_line};
+pub use tomex_arguments::{LineFault, not_text, unread};

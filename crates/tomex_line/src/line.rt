@@ -1,14 +1,13 @@
-//! The command line, read by `clap`. No other part of the program knows of `clap`.
+//! The command line, read by `clap`. No part of the program above knows of `clap`.
 //!
 //! Each command has a file here with two functions: `grammar`, what `clap` is to read and to say in
 //! its help, and `line_of`, what was read. A further command is a further file, a variant of `Line`
 //! and a line in each of `grammar` and `line_of` below.
-ghost use Rattle.tomex_line.specs.Lines.{IsRefusal, StandsFor, status_of};
 ghost use Rattle.std.specs.Prelude.{◌≡◌, IfOk, IfErr, map, string_bytes};
+ghost use Rattle.tomex_arguments.specs.Faults.{IsRefusal};
 ghost use Rattle.tomex_line.specs.Grammar.{bare_app, tomex_app};
 ghost use Rattle.clap.specs.Words.{app_of, subcommand_rows_of};
 ghost use Rattle.tomex_line.specs.Asked.{IsCommand, IsAsked, IsNoCommand};
-ghost use Rattle.tomex_line.specs.declared.line.LineFault.TheVariants.{Memory};
 
 pub mod all;
 mod described;
@@ -24,7 +23,6 @@ pub mod times;
 mod values;
 
 use all::AllLine;
-use clap::error::ErrorKind;
 use clap::{ArgMatches, Command};
 use described::offering;
 use explore::ExploreLine;
@@ -34,7 +32,7 @@ use stalls::StallsLine;
 use std::alloc::{AllocError, Global};
 use tables::TablesLine;
 use times::TimesLine;
-use values::refused;
+use tomex_arguments::{LineFault, fault_of, refused};
 
 /// What a command line asks for.
 #[derive(Clone, Copy)]
@@ -48,38 +46,6 @@ pub enum Line<'a> {
     Explore(ExploreLine<'a>),
     Front(ExploreLine<'a>),
     Plot(ExploreLine<'a>),
-}
-
-/// A command line that asks for no command.
-#[derive(Drop)]
-pub enum LineFault {
-    /// It asks for help or the version: the text, for the standard output.
-    Help(String),
-    /// It is refused: what is wrong, for the standard error.
-    Usage(String),
-    /// There was no memory to read it.
-    Memory,
-}
-
-impl LineFault {
-    /// The exit status: 0 for help, 2 for a refused line, 3 for want of memory.
-    pub fn status(&self) -> u8
-        ensures { result ≡ status_of self.now }
-    {
-        match self {
-            LineFault::Help(_) => 0,
-            LineFault::Usage(_) => 2,
-            LineFault::Memory => 3,
-        }
-    }
-}
-
-impl From<AllocError> for LineFault {
-    ghost from_gives = { λ _ fault. fault ≡ Memory };
-
-    fn from(_error: AllocError) -> LineFault {
-        LineFault::Memory
-    }
 }
 
 const ABOUT: &str = "Runs RV32IM programs, and explores Tomasulo processors that run them";
@@ -163,20 +129,6 @@ fn study_line_of<'a>(alloc: Global, matches: &ArgMatches<'a>) -> Result<Line<'a>
         Some(("front", inner)) => explore::line_of(alloc, inner).map(Line::Front),
         Some(("plot", inner)) => explore::line_of(alloc, inner).map(Line::Plot),
         _ => Err(refused(alloc, "command")),
-    }
-}
-
-/// What an error of the parser says. Want of memory, also for the text itself, is no refused line.
-fn fault_of(alloc: Global, error: &clap::Error) -> LineFault
-    ensures { StandsFor error.now result }
-{
-    if error.kind() == ErrorKind::OutOfMemory {
-        return LineFault::Memory;
-    }
-    match format!(in alloc; "{error}") {
-        Ok(text) if error.use_stderr() => LineFault::Usage(text),
-        Ok(text) => LineFault::Help(text),
-        Err(_) => LineFault::Memory,
     }
 }
 

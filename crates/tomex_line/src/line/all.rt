@@ -1,18 +1,17 @@
 //! `all STUDY`
 ghost use Rattle.std.specs.Prelude.{◌≡◌, IfOk, IfErr};
-ghost use Rattle.tomex_line.specs.Lines.{IsRefusal};
+ghost use Rattle.tomex_arguments.specs.Faults.{IsRefusal};
 ghost use Rattle.tomex_line.specs.Grammar.{all_shape};
 ghost use Rattle.clap.specs.Simple.{shape_of};
 ghost use Rattle.clap.specs.Words.{found_of};
 ghost use Rattle.clap.specs.Walk.{rows_of};
 ghost use Rattle.tomex_line.specs.Values.{IsAllAsked};
 
-use super::LineFault;
 use super::described::Texts;
 use super::studied::on_study;
-use super::values::word_of;
 use clap::{ArgMatches, Command};
 use std::alloc::{AllocError, Global};
+use tomex_arguments::{LineFault, word_of};
 
 /// A front report that was asked for, of rows that are all run to their ends.
 #[derive(Clone, Copy)]

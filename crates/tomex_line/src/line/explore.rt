@@ -1,18 +1,18 @@
 //! `explore STUDY [--workers N]`, and what other commands that explore a study take.
 ghost use Rattle.std.specs.Prelude.{◌≡◌, ◌≤◌, IfOk, IfErr};
-ghost use Rattle.tomex_line.specs.Lines.{IsRefusal};
+ghost use Rattle.tomex_arguments.specs.Faults.{IsRefusal};
 ghost use Rattle.tomex_line.specs.Grammar.{explore_shape, exploring_shape};
 ghost use Rattle.clap.specs.Simple.{shape_of};
 ghost use Rattle.clap.specs.Words.{found_of};
 ghost use Rattle.clap.specs.Walk.{rows_of};
 ghost use Rattle.tomex_line.specs.Values.{IsExploreAsked};
 
-use super::LineFault;
 use super::described::{Texts, taking};
 use super::studied::on_study;
-use super::values::{Bounds, number, number_of, word_of};
+use super::values::number;
 use clap::{ArgMatches, Command};
 use std::alloc::{AllocError, Global};
+use tomex_arguments::{Bounds, LineFault, number_of, word_of};
 
 const WORKERS: Bounds = Bounds {
     least: 1,

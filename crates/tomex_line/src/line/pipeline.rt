@@ -1,18 +1,18 @@
 //! `pipeline STUDY CONFIG PROGRAM [--from N] [--steps N] [--konata]`
 ghost use Rattle.std.specs.Prelude.{◌≡◌, ◌≤◌, IfOk, IfErr};
-ghost use Rattle.tomex_line.specs.Lines.{IsRefusal};
+ghost use Rattle.tomex_arguments.specs.Faults.{IsRefusal};
 ghost use Rattle.tomex_line.specs.Grammar.{pipeline_shape};
 ghost use Rattle.clap.specs.Simple.{shape_of};
 ghost use Rattle.clap.specs.Words.{found_of};
 ghost use Rattle.clap.specs.Walk.{rows_of};
 ghost use Rattle.tomex_line.specs.Values.{IsPipelineAsked};
 
-use super::LineFault;
 use super::described::{Texts, taking};
 use super::studied::{OneRun, on_one_run, one_run_of};
-use super::values::{Bounds, flag, flag_of, number, number_of};
+use super::values::{flag, number};
 use clap::{ArgMatches, Command};
 use std::alloc::{AllocError, Global};
+use tomex_arguments::{Bounds, LineFault, flag_of, number_of};
 
 /// The numbers of a run's instructions, and how many there can be.
 const STEP: Bounds = Bounds {

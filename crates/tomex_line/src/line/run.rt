@@ -1,17 +1,17 @@
 //! `run IMAGE [--base N] [--size N] [--limit N]`
 ghost use Rattle.std.specs.Prelude.{◌≡◌, ◌≤◌, IfOk, IfErr};
-ghost use Rattle.tomex_line.specs.Lines.{IsRefusal};
+ghost use Rattle.tomex_arguments.specs.Faults.{IsRefusal};
 ghost use Rattle.tomex_line.specs.Grammar.{run_shape};
 ghost use Rattle.clap.specs.Simple.{shape_of};
 ghost use Rattle.clap.specs.Words.{found_of};
 ghost use Rattle.clap.specs.Walk.{rows_of};
 ghost use Rattle.tomex_line.specs.Values.{IsRunAsked};
 
-use super::LineFault;
 use super::described::{Texts, described, taking};
-use super::values::{Bounds, number, number_of, word, word_of};
+use super::values::{number, word};
 use clap::{ArgMatches, Command};
 use std::alloc::{AllocError, Global};
+use tomex_arguments::{Bounds, LineFault, number_of, word_of};
 
 const BASE: Bounds = Bounds {
     least: 0,

@@ -1,18 +1,18 @@
 //! `stalls STUDY CONFIG PROGRAM [--by-pc]`
 ghost use Rattle.std.specs.Prelude.{◌≡◌, ◌≤◌, IfOk, IfErr};
-ghost use Rattle.tomex_line.specs.Lines.{IsRefusal};
+ghost use Rattle.tomex_arguments.specs.Faults.{IsRefusal};
 ghost use Rattle.tomex_line.specs.Grammar.{stalls_shape};
 ghost use Rattle.clap.specs.Simple.{shape_of};
 ghost use Rattle.clap.specs.Words.{found_of};
 ghost use Rattle.clap.specs.Walk.{rows_of};
 ghost use Rattle.tomex_line.specs.Values.{IsStallsAsked};
 
-use super::LineFault;
 use super::described::{Texts, taking};
 use super::studied::{OneRun, on_one_run, one_run_of};
-use super::values::{flag, flag_of};
+use super::values::flag;
 use clap::{ArgMatches, Command};
 use std::alloc::{AllocError, Global};
+use tomex_arguments::{LineFault, flag_of};
 
 /// A stalls report that was asked for.
 #[derive(Clone, Copy)]

@@ -3,15 +3,21 @@ ghost use Rattle.std.specs.Prelude.{◌≡◌, ◌≤◌, IfOk, IfErr};
 ghost use Rattle.clap.specs.Simple.{app_of};
 ghost use Rattle.clap.specs.Words.{found_of};
 ghost use Rattle.clap.specs.Walk.{rows_of};
-ghost use Rattle.tomex_line.specs.Lines.{IsRefusal};
+ghost use Rattle.tomex_arguments.specs.Faults.{IsRefusal};
 ghost use Rattle.tomex_line.specs.Grammar.{study_app, one_run_app};
 ghost use Rattle.tomex_line.specs.Values.{IsTimesAsked};
 
-use super::LineFault;
 use super::described::{Texts, described, taking};
-use super::values::{CONFIG, number_of, numeral, word, word_of};
+use super::values::{numeral, word};
 use clap::{ArgMatches, Command};
 use std::alloc::{AllocError, Global};
+use tomex_arguments::{Bounds, LineFault, number_of, word_of};
+
+/// The numbers of a study's configurations.
+const CONFIG: Bounds = Bounds {
+    least: 0,
+    greatest: 16_383,
+};
 
 /// The run that a command is asked about: a program on a configuration.
 pub struct OneRun<'a> {

@@ -1,18 +1,18 @@
 //! `tables STUDY CONFIG PROGRAM CYCLE`
 ghost use Rattle.std.specs.Prelude.{◌≡◌, ◌≤◌, IfOk, IfErr};
-ghost use Rattle.tomex_line.specs.Lines.{IsRefusal};
+ghost use Rattle.tomex_arguments.specs.Faults.{IsRefusal};
 ghost use Rattle.tomex_line.specs.Grammar.{tables_shape};
 ghost use Rattle.clap.specs.Simple.{shape_of};
 ghost use Rattle.clap.specs.Words.{found_of};
 ghost use Rattle.clap.specs.Walk.{rows_of};
 ghost use Rattle.tomex_line.specs.Values.{IsTablesAsked};
 
-use super::LineFault;
 use super::described::{Texts, taking};
 use super::studied::{OneRun, on_one_run, one_run_of};
-use super::values::{Bounds, number_of, numeral};
+use super::values::numeral;
 use clap::{ArgMatches, Command};
 use std::alloc::{AllocError, Global};
+use tomex_arguments::{Bounds, LineFault, number_of};
 
 /// No program takes more cycles: 67 for each of 262,144 instructions.
 const CYCLE: Bounds = Bounds {

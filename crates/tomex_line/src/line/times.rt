@@ -1,17 +1,17 @@
 //! `times STUDY CONFIG PROGRAM`
 ghost use Rattle.std.specs.Prelude.{◌≡◌, ◌≤◌, IfOk, IfErr};
-ghost use Rattle.tomex_line.specs.Lines.{IsRefusal};
+ghost use Rattle.tomex_arguments.specs.Faults.{IsRefusal};
 ghost use Rattle.tomex_line.specs.Grammar.{times_shape};
 ghost use Rattle.clap.specs.Simple.{shape_of};
 ghost use Rattle.clap.specs.Words.{found_of};
 ghost use Rattle.clap.specs.Walk.{rows_of};
 ghost use Rattle.tomex_line.specs.Values.{IsTimesAsked};
 
-use super::LineFault;
 use super::described::Texts;
 use super::studied::{OneRun, on_one_run, one_run_of};
 use clap::{ArgMatches, Command};
 use std::alloc::{AllocError, Global};
+use tomex_arguments::LineFault;
 
 /// A times report that was asked for.
 #[derive(Clone, Copy)]

@@ -9,9 +9,9 @@ use Rattle.clap.specs.declared.error.kind.ErrorKind.TheVariants.{DisplayHelp, Di
 use Rattle.clap.proofs.OnLiterals.{clap_on_literals}
 use Rattle.tomex_line.specs.Asked.{IsCommand, IsNoCommand}
 use Rattle.tomex_line.specs.Grammar.{tomex_app}
-use Rattle.tomex_line.specs.Lines.{StandsFor}
-use Rattle.tomex_line.specs.declared.line.LineFault.{LineFault}
-use Rattle.tomex_line.specs.declared.line.LineFault.TheVariants.{Help, Usage, Memory}
+use Rattle.tomex_arguments.specs.Faults.{StandsFor}
+use Rattle.tomex_arguments.specs.declared.fault.LineFault.{LineFault}
+use Rattle.tomex_arguments.specs.declared.fault.LineFault.TheVariants.{Help, Usage, Memory}
 use Rattle.tomex_line.proofs.line.read_line.Goals as goal
 
 is_plain : is_simple tomex_app ≡ true

@@ -1,5 +1,5 @@
 use Rattle.std.proofs.Common.{rules}
-use Rattle.tomex_line.proofs.line.fault_of.Goals as goal
+use Rattle.tomex_arguments.proofs.fault.fault_of.Goals as goal
 
 pub returns-in-Ok : goal.returns-in-Ok
 returns-in-Ok c = search rules fits 100

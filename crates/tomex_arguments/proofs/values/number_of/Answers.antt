@@ -7,8 +7,8 @@ use Rattle.clap.specs.Words.{ReadsOne, found_of, one_text}
 use Rattle.clap.specs.Walk.{Text, rows_of}
 use Rattle.clap.specs.declared.parser.matches.Found.{Found}
 use Rattle.clap.proofs.WalkLemmas.{one_text-rows}
-use Rattle.tomex_line.specs.Values.{IsNumber}
-use Rattle.tomex_line.proofs.line.values.number_of.Goals as goal
+use Rattle.tomex_arguments.specs.Values.{IsNumber}
+use Rattle.tomex_arguments.proofs.values.number_of.Goals as goal
 
 -- how the library reads a number of 32 bits
 abbrev Gives : List ℕ → Result ℕ ParseIntError → Type 0

@@ -2,7 +2,7 @@
 use Rattle.std.proofs.Common.{◌∙◌}
 use Rattle.clap.specs.Words.{found_of}
 use Rattle.clap.proofs.WalkLemmas.{one_text-rows}
-use Rattle.tomex_line.proofs.line.values.flag_of.Goals as goal
+use Rattle.tomex_arguments.proofs.values.flag_of.Goals as goal
 
 pub returns : goal.returns
 returns c =

@@ -1,9 +1,9 @@
 //! A command line that the system doesn't give as words of text.
 ghost use Rattle.std.specs.Prelude.{◌≡◌, true, false, string_bytes, IfOk, IfErr};
-ghost use Rattle.tomex_line.specs.Lines.{not_text};
-ghost use Rattle.tomex_line.specs.declared.line.LineFault.TheVariants as fault;
+ghost use Rattle.tomex_arguments.specs.Faults.{not_text};
+ghost use Rattle.tomex_arguments.specs.declared.fault.LineFault.TheVariants as fault;
 
-use crate::line::LineFault;
+use crate::fault::LineFault;
 use std::alloc::{AllocError, Global};
 
 /// What is said of a line with a word that is no UTF-8 text.

@@ -3,8 +3,8 @@ use Rattle.std.specs.Prelude.{ℕ, ◌≢◌, ◌≡◌, ◌⊎◌, ◌++◌, �
 use Rattle.clap.specs.Values.{kind_of}
 use Rattle.clap.specs.declared.error.Error.{Error}
 use Rattle.clap.specs.declared.error.kind.ErrorKind.TheVariants.{DisplayHelp, DisplayVersion, OutOfMemory}
-use Rattle.tomex_line.specs.declared.line.LineFault.{LineFault}
-use Rattle.tomex_line.specs.declared.line.LineFault.TheVariants.{Help, Usage, Memory}
+use Rattle.tomex_arguments.specs.declared.fault.LineFault.{LineFault}
+use Rattle.tomex_arguments.specs.declared.fault.LineFault.TheVariants.{Help, Usage, Memory}
 
 -- the exit status
 abbrev pub status_of : LineFault → ℕ

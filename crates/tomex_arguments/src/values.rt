@@ -1,0 +1,58 @@
+//! The values of a line, as `clap` read them.
+ghost use Rattle.std.specs.Prelude.{◌≡◌, ◌≤◌, IfOk, IfErr};
+ghost use Rattle.tomex_arguments.specs.Faults.{IsRefusal};
+ghost use Rattle.clap.specs.Words.{found_of};
+ghost use Rattle.clap.specs.Walk.{rows_of};
+ghost use Rattle.tomex_arguments.specs.Values.{IsFlag, IsNumber, IsWord};
+
+use crate::fault::{LineFault, refused};
+use clap::ArgMatches;
+use std::alloc::Global;
+
+/// The least and the greatest value of a number.
+#[derive(Clone, Copy)]
+pub struct Bounds {
+    pub least: u32,
+    pub greatest: u32,
+}
+
+/// The number that an option was given, or its default. The parser refuses what is out of bounds, but
+/// promises so of the numbers of no subcommand: so it is tested again.
+pub fn number_of(
+    alloc: Global,
+    matches: &ArgMatches<'_>,
+    name: &str,
+    bounds: Bounds,
+) -> Result<u32, LineFault>
+    ensures number { IfOk result
+        (λ number. IsNumber (rows_of (found_of matches.now)) name.now number) }
+    ensures within { IfOk result (λ number. (bounds.least ≤ number) × (number ≤ bounds.greatest)) }
+    ensures refused { IfErr result IsRefusal }
+{
+    match matches.get_one::<u32>(name) {
+        Some(number) if bounds.least <= number && number <= bounds.greatest => Ok(number),
+        _ => Err(refused(alloc, name)),
+    }
+}
+
+/// A word as it was written.
+pub fn word_of<'a>(
+    alloc: Global,
+    matches: &ArgMatches<'a>,
+    name: &str,
+) -> Result<&'a str, LineFault>
+    ensures word { IfOk result (λ word. IsWord (rows_of (found_of matches.now)) name.now word.now) }
+    ensures refused { IfErr result IsRefusal }
+{
+    match matches.get_str(name) {
+        Some(text) => Ok(text),
+        None => Err(refused(alloc, name)),
+    }
+}
+
+/// Whether a flag was given.
+pub fn flag_of(matches: &ArgMatches<'_>, name: &str) -> bool
+    ensures { IsFlag (rows_of (found_of matches.now)) name.now result }
+{
+    matches.get_flag(name)
+}
