@@ -10,7 +10,7 @@ use Rattle.tomex_cycle.specs.Seen.{Seen, seen_after}
 use Rattle.tomex_study.specs.Program.{Workload, IsProgram}
 use Rattle.tomex_runs.proofs.Machines.{Advances, advanced_from}
 use Rattle.tomex_runs.proofs.Totals.{ends_at_most}
-use Rattle.tomex_report.specs.TablesText.{tables_text_of}
+use Rattle.tomex_texts.specs.TablesText.{tables_text_of}
 use Rattle.tomex_command.specs.TablesLines.{IsTextAfter}
 
 -- where a machine of the program on the configuration stands then

@@ -4,7 +4,7 @@ use Rattle.tomex_config.specs.Configuration.{Configuration}
 use Rattle.tomex_timing.specs.Tables.{tables_of}
 use Rattle.tomex_cycle.specs.Run.{run_of, total}
 use Rattle.tomex_study.specs.Program.{Workload}
-use Rattle.tomex_report.specs.TablesText.{tables_text_of}
+use Rattle.tomex_texts.specs.TablesText.{tables_text_of}
 use Rattle.tomex_command.specs.declared.failure.Failure.{Failure}
 use Rattle.tomex_command.specs.declared.failure.Failure.TheVariants.{CyclePastEnd, Memory}
 use Rattle.tomex_line.specs.declared.line.tables.TablesLine.{TablesLine}

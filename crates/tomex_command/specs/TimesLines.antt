@@ -4,7 +4,7 @@ use Rattle.tomex_rvexec.specs.Run.{start_of}
 use Rattle.tomex_rvexec.specs.Trace.{steps_from}
 use Rattle.tomex_config.specs.Configuration.{Configuration}
 use Rattle.tomex_study.specs.Program.{Workload}
-use Rattle.tomex_report.specs.TimesReport.{times_report_of}
+use Rattle.tomex_texts.specs.TimesReport.{times_report_of}
 use Rattle.tomex_command.specs.declared.failure.Failure.{Failure}
 use Rattle.tomex_line.specs.declared.line.times.TimesLine.{TimesLine}
 use Rattle.tomex_command.specs.Chosen.{IsChosenIn, IsChoiceFailure}

@@ -14,11 +14,11 @@ use Rattle.tomex_pareto.specs.declared.front_row.FrontRow.{FrontRow}
 use Rattle.tomex_fronts.specs.FrontTable.{config_of}
 use Rattle.tomex_fronts.proofs.Loops.{item_more}
 use Rattle.tomex_fronts.proofs.Zips.{at_both}
-use Rattle.tomex_report.specs.declared.ends.ProgramEnd.{ProgramEnd}
-use Rattle.tomex_report.specs.declared.row_ends.RowEnds.{RowEnds}
-use Rattle.tomex_report.specs.Ends.{IsProgramEnd}
-use Rattle.tomex_report.specs.RowEnds.{AreEndsOf}
-use Rattle.tomex_report.proofs.Records.{at_read}
+use Rattle.tomex_texts.specs.declared.ends.ProgramEnd.{ProgramEnd}
+use Rattle.tomex_texts.specs.declared.row_ends.RowEnds.{RowEnds}
+use Rattle.tomex_texts.specs.Ends.{IsProgramEnd}
+use Rattle.tomex_texts.specs.RowEnds.{AreEndsOf}
+use Rattle.tomex_texts.proofs.Records.{at_read}
 
 -- there is an end for each program
 pub has_end : {A : Type 0} (s : DesignSpace) (r : FrontRow) (e : RowEnds A) (place : ℕ) (p : Workload) → AreEndsOf s r e

@@ -1,8 +1,2 @@
 pub mod Oks
-pub mod Ended
-pub mod Watched
-pub mod Records
-pub mod Machines
-pub mod Rows
-pub mod Loops
 pub mod Cycles

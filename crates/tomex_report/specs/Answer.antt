@@ -4,7 +4,7 @@ use Rattle.tomex_study.specs.Study.{DesignSpace}
 use Rattle.tomex_fronts.specs.FrontTable.{front_table_of}
 use Rattle.tomex_fronts.specs.Plot.{front_picture_of}
 use Rattle.tomex_reading.specs.Study.{IsStudyOf, IsStudyRefusal}
-use Rattle.tomex_report.specs.FrontReport.{report_of}
+use Rattle.tomex_texts.specs.FrontReport.{report_of}
 use Rattle.tomex_report.specs.declared.answer_error.AnswerError.{AnswerError}
 use Rattle.tomex_report.specs.declared.answer_error.AnswerError.TheVariants.{Study, Sweep}
 use Rattle.tomex_report.specs.declared.front_view.FrontView.{FrontView}

@@ -1,6 +1,1 @@
-pub mod TimesReport
-pub mod TablesText
-pub mod Ends
-pub mod RowEnds
-pub mod FrontReport
 pub mod Answer

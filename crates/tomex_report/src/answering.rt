@@ -7,7 +7,7 @@ ghost use Rattle.tomex_report.specs.declared.answer_error.AnswerError.TheVariant
 ghost use Rattle.tomex_report.specs.Answer.{IsAnswer, IsAnswerRefusal, IsShown, shown_as};
 ghost use Rattle.tomex_reading.specs.Study.{IsStudyOf};
 ghost use Rattle.tomex_report.specs.declared.front_view.FrontView.TheVariants.{Table, Picture};
-ghost use Rattle.tomex_report.specs.FrontReport.{report_of};
+ghost use Rattle.tomex_texts.specs.FrontReport.{report_of};
 
 use crate::answer_error::AnswerError;
 use crate::front_text::front_report;

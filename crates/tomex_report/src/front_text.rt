@@ -4,20 +4,17 @@ ghost use Rattle.std.specs.Prelude.{◌≡◌, ◌++◌, IfOk, OnOk};
 ghost use Rattle.std.specs.List.{AllZip, flat_map};
 ghost use Rattle.tomex_runs.specs.StudyFront.{front_of_study};
 ghost use Rattle.tomex_records.specs.Csv.{IsReady, written};
-ghost use Rattle.tomex_report.specs.Ends.{IsProgramEnd};
-ghost use Rattle.tomex_report.specs.RowEnds.{AreEndsOf};
-ghost use Rattle.tomex_report.specs.FrontReport.{program_record, records_of, report_of};
+ghost use Rattle.tomex_texts.specs.Ends.{IsProgramEnd};
+ghost use Rattle.tomex_texts.specs.RowEnds.{AreEndsOf};
+ghost use Rattle.tomex_texts.specs.FrontReport.{program_record, records_of, report_of};
 
-use crate::ends::ProgramEnd;
-use crate::front_fields::fill_record;
-use crate::front_header::columns;
-use crate::row_ends::RowEnds;
 use csv::{ByteRecord, Writer};
 use std::alloc::{AllocError, Allocator, Global};
 use tomex_config::Config;
 use tomex_records::{into_text, put_record};
 use tomex_study::{Program, Study};
 use tomex_sweep::FrontRow;
+use tomex_texts::{ProgramEnd, RowEnds, columns, fill_record};
 
 /// Writes the records of a front row's programs.
 fn put_programs<A: Allocator>(
@@ -103,7 +100,7 @@ fn put_rows<A: Allocator>(
 /// for each row of the front a record for each program.
 ///
 /// What `csv` needs for its records it takes of `heap`.
-#[tactic(auto, unfolding(crate::specs::FrontReport::report_of))]
+#[tactic(auto, unfolding(tomex_texts::specs::FrontReport::report_of))]
 pub fn front_report<A: Allocator + Clone>(
     alloc: A,
     heap: Global,

@@ -3,12 +3,12 @@
 ghost use Rattle.std.specs.Prelude.{◌≡◌, ◌<◌, length, Some, slice_get, IfOk};
 ghost use Rattle.std.specs.List.{AllZip};
 ghost use Rattle.tomex_fronts.specs.FrontTable.{cycles_on};
-ghost use Rattle.tomex_report.specs.RowEnds.{AreEndsOf};
+ghost use Rattle.tomex_texts.specs.RowEnds.{AreEndsOf};
 
-use crate::row_ends::RowEnds;
 use std::alloc::{AllocError, Allocator};
 use tomex_study::{Program, Study};
 use tomex_sweep::FrontRow;
+use tomex_texts::RowEnds;
 
 /// What a front is shown as.
 #[derive(Clone, Copy, Debug, PartialEq, Eq)]

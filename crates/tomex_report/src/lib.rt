@@ -5,31 +5,18 @@
 
 mod answer_error;
 mod answering;
-mod end_texts;
-mod ends;
-mod front_fields;
-mod front_header;
 mod front_text;
 mod front_view;
-mod laws;
-mod program_ends;
 mod replaying;
-mod row_ends;
-mod tables;
-mod times;
 
 pub use answer_error::AnswerError;
 pub use answering::{answer, answer_all, answer_all_under, answer_picture, answer_table};
-pub use ends::ProgramEnd;
 pub use front_text::front_report;
 pub use front_view::FrontView;
-pub use laws::limit_changes_no_end;
 pub use replaying::replay;
-pub use row_ends::RowEnds;
-pub use tables::tables_text;
-pub use times::times_report;
 pub use tomex_document::{Key, Place, documents_have_a_grid};
 pub use tomex_fronts::{front_picture, front_table};
 pub use tomex_konata::{LogError, konata_text};
 pub use tomex_reading::{StudyError, file_names, read_study};
+pub use tomex_texts::{ProgramEnd, RowEnds, limit_changes_no_end, tables_text, times_report};
 pub use tomex_views::{PictureError, pipeline_text, stalls_by_pc, stalls_report};

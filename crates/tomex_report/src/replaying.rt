@@ -2,15 +2,14 @@
 
 ghost use Rattle.std.specs.Prelude.{◌≡◌, ◌<◌, length, All, IfOk};
 ghost use Rattle.std.specs.List.{AllZip};
-ghost use Rattle.tomex_report.specs.RowEnds.{AreEndsOf};
+ghost use Rattle.tomex_texts.specs.RowEnds.{AreEndsOf};
 
-use crate::program_ends::each_end;
-use crate::row_ends::RowEnds;
 use rayon::prelude::*;
 use std::alloc::{AllocError, Allocator};
 use std::thread::Threads;
 use tomex_study::Study;
 use tomex_sweep::FrontRow;
+use tomex_texts::{RowEnds, each_end};
 
 /// How the programs end on one row, which is run again.
 fn ends_of<A: Allocator + Clone>(

@@ -9,7 +9,7 @@ use Rattle.tomex_runs.specs.Cycles.{cycles_on, cycles_of}
 use Rattle.tomex_pareto.specs.Finished.{finished_from}
 use Rattle.tomex_pareto.specs.Front.{front_of}
 use Rattle.tomex_runs.specs.StudyFront.{front_of_study}
-use Rattle.tomex_sweep.specs.Marks.{AreJudged}
+use Rattle.tomex_workers.specs.Marks.{AreJudged}
 use Rattle.tomex_lanes.specs.Parts.{is_closed}
 use Rattle.tomex_pareto.specs.declared.front_row.FrontRow.{FrontRow}
 use Rattle.tomex_board.specs.declared.mark.Mark.{Mark}
@@ -41,24 +41,9 @@ all_judged costs cycles same = record {
 
 -- a study's configurations
 
--- there are as many as costs
-pub as_many_rows : (s : DesignSpace) → IsStudy s → length s.costs ≡ length s.rows
-as_many_rows s is = ap length is.costs ∙ length-map _ _
-
 pub as_long : (s : DesignSpace) → IsStudy s → length s.costs ≡ length (cycles_of s)
 unfolding cycles_of
 as_long s is = ap length is.costs ∙ (length-map _ _ ∙ sym (length-map _ _))
-
-map_at : (f : Configuration → ℕ) (rows : List Configuration) (k : ℕ) (config : Configuration)
-    → slice_get rows k ≡ Some config → get_or (map f rows) k 0 ≡ f config
-map_at f [] k config e = absurd (let g : None ≡ Some config = e in cc)
-map_at f (r ∷ rs) zero config e = let g : r ≡ config = cc in ap f g
-map_at f (r ∷ rs) (suc k) config e = map_at f rs k config e
-
-pub cycles_at : (s : DesignSpace) (k : ℕ) (config : Configuration) → slice_get s.rows k ≡ Some config
-    → get_or (cycles_of s) k 0 ≡ cycles_on s.programs config
-unfolding cycles_of
-cycles_at s k config at = map_at (cycles_on s.programs) s.rows k config at
 
 pub study_front : (s : DesignSpace) (ms : List Mark) → IsStudy s → AreJudged s.costs (cycles_of s) ms
     → front_of (finished_from 0 s.costs ms) ≡ front_of_study s

@@ -3,7 +3,7 @@ use Rattle.std.specs.Prelude.{◌≡◌, ℕ, List, [], All, length}
 use Rattle.atomic_table.specs.Seated.{TableId}
 use Rattle.tomex_lanes.specs.Parts.{Equipped, Returned}
 use Rattle.tomex_study.specs.Study.{DesignSpace}
-use Rattle.tomex_sweep.specs.Plans.{IsPlanOf}
+use Rattle.tomex_workers.specs.Plans.{IsPlanOf}
 
 -- its seat is of the board, with nothing in hand, and its lane was dealt from so many rows of all workers
 abbrev pub CanStart : TableId → ℕ → Equipped → Type 0

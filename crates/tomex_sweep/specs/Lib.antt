@@ -1,8 +1,5 @@
--- What contracts cite: the plan of a study's board, workers and what they owe, and marks of rows.
-pub mod Plans
-pub mod Seats
+-- What contracts cite: workers and what they owe.
 pub mod Crews
-pub mod Marks
 pub use Rattle.tomex_image.specs.Image
 pub use Rattle.tomex_rvexec.specs.Run
 pub use Rattle.tomex_config.specs.Configuration

@@ -1,13 +1,11 @@
 //! Workers in threads.
 
 ghost use Rattle.std.specs.Prelude.{◌≡◌, length, map, IfOk};
-ghost use Rattle.tomex_sweep.specs.Plans.{IsPlanOf};
+ghost use Rattle.tomex_workers.specs.Plans.{IsPlanOf};
 ghost use Rattle.tomex_sweep.specs.Crews.{CanStart, CanRun, given_by, owed_by};
 
-use crate::gate::Gate;
 use crate::outcome::SweepError;
 use crate::stacks::Stacks;
-use crate::working::work;
 use std::alloc::{AllocError, Allocator};
 use std::snapshot::Snapshot;
 use std::sync::Wait;
@@ -16,6 +14,7 @@ use std::thread::{Promise, PromisedHandle, Scope, Threads};
 use tomex_board::{Board, Plan};
 use tomex_lanes::{Part, Worker};
 use tomex_study::Study;
+use tomex_workers::{Gate, work};
 
 /// What a thread promises: a part with the worker's rows, and a seat of its board with its numbers.
 #[derive(Drop)]

@@ -6,13 +6,13 @@ ghost use Rattle.tomex_runs.specs.StudyFront.{front_of_study};
 ghost use Rattle.tomex_board.specs.declared.mark.Mark.TheVariants.{Finished};
 ghost use Rattle.tomex_sweep.specs.declared.outcome.SweepError.TheVariants.{Memory};
 
-use crate::gate::{Gate, OpenGate};
 use crate::outcome::{Outcome, SweepError};
 use std::alloc::{AllocError, Allocator};
 use tomex_board::Mark;
 use tomex_pareto::front;
 use tomex_runs::Runs;
 use tomex_study::Study;
+use tomex_workers::{Gate, OpenGate};
 
 /// The marks of a study's rows, each of which is run to its end.
 fn all_marks<A: Allocator + Clone, G: Gate>(

@@ -3,12 +3,10 @@
 ghost use Rattle.std.specs.Prelude.{◌≡◌, ◌≤◌, IfOk};
 ghost use Rattle.tomex_runs.specs.Cycles.{cycles_of};
 ghost use Rattle.tomex_runs.specs.StudyFront.{front_of_study};
-ghost use Rattle.tomex_sweep.specs.Marks.{AreJudged};
-ghost use Rattle.tomex_sweep.specs.Plans.{IsPlanOf};
+ghost use Rattle.tomex_workers.specs.Marks.{AreJudged};
+ghost use Rattle.tomex_workers.specs.Plans.{IsPlanOf};
 
 use crate::crew::run_workers;
-use crate::gate::Gate;
-use crate::leftovers::gather;
 use crate::outcome::{Outcome, SweepError};
 use crate::stacks::{Stacks, UsualStacks};
 use std::alloc::Allocator;
@@ -19,6 +17,7 @@ use tomex_board::{Board, Mark, Plan};
 use tomex_lanes::{deal, seated, settle};
 use tomex_pareto::front;
 use tomex_study::Study;
+use tomex_workers::{Gate, gather};
 
 /// The marks of a study's rows when all workers are done, on a board that is made for the study's costs and cycles.
 fn marks_of_workers<

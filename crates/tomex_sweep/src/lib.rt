@@ -3,22 +3,17 @@
 #![tactic(auto)]
 
 mod crew;
-mod desk;
 mod exhaustive;
 mod exploring;
-mod gate;
-mod leftovers;
 mod outcome;
 mod stacks;
-mod working;
 
 pub use exhaustive::{run_all, run_all_under};
 pub use exploring::{explore, explore_on};
-pub use gate::{Gate, OpenGate};
 pub use outcome::{Outcome, SweepError};
 pub use stacks::{Stacks, UsualStacks};
 pub use tomex_board::Mark;
 pub use tomex_pareto::{FrontRow, front_is_the_undominated_rows};
 pub use tomex_runs::limit_changes_no_total;
 pub use tomex_study::{Program, ProgramError, Study, WatchRange, can_watch, watched_bytes};
-pub use working::work;
+pub use tomex_workers::{Gate, OpenGate, work};

@@ -2,7 +2,7 @@
 use Rattle.std.proofs.Common.{◌≡◌, ◌++◌, drop}
 use Rattle.std.specs.List.{flat_map}
 use Rattle.tomex_records.specs.Csv.{IsReady, written}
-use Rattle.tomex_report.specs.FrontReport.{program_record}
+use Rattle.tomex_texts.specs.FrontReport.{program_record}
 use Rattle.tomex_report.proofs.front_text.put_programs.Given as goal
 
 abbrev pub invariant-loop-place : goal.invariant-loop-place

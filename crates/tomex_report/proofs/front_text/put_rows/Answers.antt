@@ -1,7 +1,7 @@
 -- There are ends for each row of the front.
 use Rattle.std.proofs.Common.{arith}
 use Rattle.std.proofs.lemmas.Slice.Zip.{AllZip-long}
-use Rattle.tomex_report.proofs.Records.{at_read}
+use Rattle.tomex_texts.proofs.Records.{at_read}
 use Rattle.tomex_report.proofs.front_text.put_rows.Goals as goal
 
 pub offset_bounds-ends-place : goal.offset_bounds-ends-place

@@ -2,7 +2,7 @@
 use Rattle.std.proofs.Common.{refl}
 use Rattle.std.proofs.lemmas.List.{take_all}
 use Rattle.std.proofs.lemmas.Option.{slice_get_read}
-use Rattle.tomex_report.proofs.Records.{one_more}
+use Rattle.tomex_texts.proofs.Records.{one_more}
 use Rattle.tomex_report.proofs.front_view.cycles_by_program.Goals as goal
 
 pub program_cycles-requires-clause-program : goal.program_cycles-requires-clause-program

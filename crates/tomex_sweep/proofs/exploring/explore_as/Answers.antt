@@ -1,6 +1,6 @@
 -- The marks are all judged: nothing is left to gather, and their front is the study's.
 use Rattle.std.proofs.Common.{◌∙◌}
-use Rattle.tomex_sweep.proofs.Gathered.{none_left}
+use Rattle.tomex_workers.proofs.Gathered.{none_left}
 use Rattle.tomex_sweep.proofs.Verdicts.{judged_front}
 use Rattle.tomex_sweep.proofs.exploring.explore_as.Goals as goal
 

@@ -1,9 +1,0 @@
--- The texts so far, and those of the registers to come.
-use Rattle.std.proofs.Common.{◌≡◌, ◌++◌, drop, map}
-use Rattle.std.specs.Prelude.{string_bytes}
-use Rattle.tomex_report.specs.FrontReport.{nonzero_from}
-use Rattle.tomex_report.proofs.end_texts.register_texts.Given as goal
-
-abbrev pub invariant-loop-register : goal.invariant-loop-register
-invariant-loop-register l = map string_bytes l.texts.items ++ nonzero_from l.register (drop l.register l.registers)
-    ≡ nonzero_from 0 l.registers

@@ -1,0 +1,5 @@
+pub mod TimesReport
+pub mod TablesText
+pub mod Ends
+pub mod RowEnds
+pub mod FrontReport

@@ -1,0 +1,149 @@
+//! The fields of the front report's records.
+
+ghost use Rattle.std.specs.Prelude.{◌≡◌, ◌++◌, ◌∷◌, [], OnOk, length};
+ghost use Rattle.std.specs.List.{flat_map};
+ghost use Rattle.csv.specs.Records.{fields_of, partial_of};
+ghost use Rattle.tomex_config.specs.Cost.{all_units};
+ghost use Rattle.tomex_study.specs.Watch.{watched_bytes};
+ghost use Rattle.tomex_texts.specs.Ends.{IsProgramEnd};
+ghost use Rattle.tomex_texts.specs.FrontReport.{end_fields, if_wide, program_fields, row_fields};
+ghost use Rattle.tomex_texts.specs.FrontReport.{station_fields, unit_fields};
+ghost use Rattle.std.specs.Fmt.{decimal};
+
+use crate::end_texts::{registers_text, watch_text};
+use crate::ends::ProgramEnd;
+use csv::ByteRecord;
+use std::alloc::{AllocError, Allocator, Global};
+use std::fmt::Write;
+use tomex_config::Config;
+use tomex_pareto::FrontRow;
+use tomex_records::push_decimal;
+use tomex_rvdec::{PoolId, UnitId};
+use tomex_study::{Program, WatchRange};
+
+/// Adds the stations of each pool.
+#[tactic(auto, unfolding(crate::specs::FrontReport::station_fields))]
+fn push_stations(
+    fields: &mut ByteRecord,
+    scratch: &mut String,
+    config: &Config,
+) -> Result<(), AllocError>
+    requires { partial_of fields.old ≡ [] }
+    ensures fields { OnOk result (fields_of fields.new
+        ≡ fields_of fields.old ++ station_fields config.now) }
+    ensures whole { OnOk result (partial_of fields.new ≡ []) }
+{
+    for pool in PoolId::ALL {
+        push_decimal(fields, scratch, u64::from(config.stations(pool)))?;
+    }
+    Ok(())
+}
+
+/// Adds the units and the latency of each kind.
+fn push_units(
+    fields: &mut ByteRecord,
+    scratch: &mut String,
+    config: &Config,
+) -> Result<(), AllocError>
+    requires { partial_of fields.old ≡ [] }
+    ensures fields { OnOk result
+        (fields_of fields.new ≡ fields_of fields.old ++ flat_map (unit_fields config.now) all_units) }
+    ensures whole { OnOk result (partial_of fields.new ≡ []) }
+{
+    for unit in UnitId::ALL {
+        push_decimal(fields, scratch, u64::from(config.units(unit)))?;
+        push_decimal(fields, scratch, u64::from(config.latency(unit)))?;
+    }
+    Ok(())
+}
+
+/// Adds a number to a record of a report that shows widths and weights.
+fn push_if_wide(
+    fields: &mut ByteRecord,
+    scratch: &mut String,
+    wide: bool,
+    number: u64,
+) -> Result<(), AllocError>
+    requires { partial_of fields.old ≡ [] }
+    ensures fields { OnOk result (fields_of fields.new
+        ≡ fields_of fields.old ++ if_wide wide (decimal number)) }
+    ensures whole { OnOk result (partial_of fields.new ≡ []) }
+{
+    if wide {
+        push_decimal(fields, scratch, number)?;
+    }
+    Ok(())
+}
+
+/// Adds a front row's number, cost and cycles, and its parts.
+fn push_row(
+    fields: &mut ByteRecord,
+    scratch: &mut String,
+    wide: bool,
+    front: FrontRow,
+    config: &Config,
+) -> Result<(), AllocError>
+    requires { partial_of fields.old ≡ [] }
+    ensures fields { OnOk result (fields_of fields.new
+        ≡ fields_of fields.old ++ row_fields wide front config.now) }
+    ensures whole { OnOk result (partial_of fields.new ≡ []) }
+{
+    push_decimal(fields, scratch, front.row as u64)?;
+    push_decimal(fields, scratch, front.cost)?;
+    push_decimal(fields, scratch, front.cycles)?;
+    push_stations(fields, scratch, config)?;
+    push_units(fields, scratch, config)?;
+    push_decimal(fields, scratch, u64::from(config.buses()))?;
+    push_if_wide(fields, scratch, wide, u64::from(config.width()))?;
+    Ok(())
+}
+
+/// Adds what an end is shown as, of a program that watches these ranges.
+fn push_end<A: Allocator>(
+    fields: &mut ByteRecord,
+    scratch: &mut String,
+    heap: Global,
+    ranges: &[WatchRange],
+    end: &ProgramEnd<A>,
+) -> Result<(), AllocError>
+    requires whole { partial_of fields.old ≡ [] }
+    requires watched { length end.now.watched.items ≡ watched_bytes ranges.now }
+    ensures fields { OnOk result (fields_of fields.new
+        ≡ fields_of fields.old ++ end_fields ranges.now end.now) }
+    ensures whole { OnOk result (partial_of fields.new ≡ []) }
+{
+    push_decimal(fields, scratch, u64::from(end.steps))?;
+    push_decimal(fields, scratch, end.total)?;
+    let kind = end.kind;
+    scratch.clear();
+    write!(scratch, "{kind}")?;
+    fields.push_field(scratch.as_bytes())?;
+    fields.push_field(registers_text(heap, end.regs.as_slice())?.as_bytes())?;
+    fields.push_field(watch_text(heap, ranges, end.watched.as_slice())?.as_bytes())?;
+    Ok(())
+}
+
+/// Makes a record the one of a program on a front row.
+pub fn fill_record<A: Allocator>(
+    fields: &mut ByteRecord,
+    heap: Global,
+    wide: bool,
+    front: FrontRow,
+    config: &Config,
+    program: &Program<A>,
+    end: &ProgramEnd<A>,
+) -> Result<(), AllocError>
+    requires { IsProgramEnd config.now program.now end.now }
+    ensures { OnOk result (fields_of fields.new
+        ≡ row_fields wide front config.now ++ program_fields wide config.now program.now) }
+{
+    program.keeps_limits();
+    program.image().fills_its_window();
+    let mut scratch = String::new(heap);
+    fields.clear();
+    push_row(fields, &mut scratch, wide, front, config)?;
+    fields.push_field(program.name().as_bytes())?;
+    push_if_wide(fields, &mut scratch, wide, u64::from(program.weight()))?;
+    push_end(fields, &mut scratch, heap, program.watch(), end)?;
+    Ok(())
+}

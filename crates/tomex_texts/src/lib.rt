@@ -1,0 +1,22 @@
+//! The texts of reports: how programs end on a configuration, the columns and fields of the front report, the times
+//! report of a program, and the text of a machine's tables.
+#![tactic(auto)]
+
+mod end_texts;
+mod ends;
+mod front_fields;
+mod front_header;
+mod laws;
+mod program_ends;
+mod row_ends;
+mod tables;
+mod times;
+
+pub use ends::ProgramEnd;
+pub use front_fields::fill_record;
+pub use front_header::columns;
+pub use laws::limit_changes_no_end;
+pub use program_ends::each_end;
+pub use row_ends::RowEnds;
+pub use tables::tables_text;
+pub use times::times_report;

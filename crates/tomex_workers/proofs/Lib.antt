@@ -1,0 +1,4 @@
+-- Lemmas of this crate.
+pub mod Rows
+pub mod Closing
+pub mod Gathered

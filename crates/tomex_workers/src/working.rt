@@ -1,0 +1,41 @@
+//! A worker's whole body.
+
+ghost use Rattle.std.specs.Prelude.{◌≡◌, [], length, IfOk};
+ghost use Rattle.tomex_workers.specs.Plans.{IsPlanOf};
+
+use crate::desk::Desk;
+use crate::gate::Gate;
+use std::alloc::{AllocError, Allocator};
+use tomex_board::{Board, Plan, Seat};
+use tomex_lanes::{Lane, Part};
+use tomex_study::Study;
+
+/// All that a worker does: it takes rows until it gets none, its own first, then those that it steals;
+/// each that it claims it runs and closes. Then it tries each row of its own list once more, so that none
+/// of them is open when it ends.
+pub fn work<J: Plan, A: Allocator + Clone, G: Gate>(
+    alloc: A,
+    study: &Study<A>,
+    board: &Board<J, A>,
+    mut seat: Seat<J>,
+    mut lane: Lane<A>,
+    gate: &G,
+) -> Result<Part<J, A>, AllocError>
+    requires board { seat.board ≡ board.now }
+    requires plan { IsPlanOf study.now J.costs J.cycles }
+    requires rows { lane.count ≡ length J.costs }
+    requires hand { seat.view.hand ≡ [] }
+    ensures rows { IfOk result (λ p. p.rows ≡ lane.rows) }
+    ensures board { IfOk result (λ p. p.seat.board ≡ seat.board) }
+    ensures share { IfOk result (λ p. p.seat.view.share ≡ seat.view.share) }
+{
+    let worker = lane.worker();
+    let desk = Desk {
+        study,
+        board,
+        gate,
+        worker,
+    };
+    desk.try_all(alloc, &mut seat, &mut lane)?;
+    Ok(Part::new(seat, lane.into_rows()))
+}
