@@ -1,6 +1,6 @@
 //! Workers in threads.
 
-ghost use Rattle.std.specs.Prelude.{◌≡◌, length, map, IfOk};
+ghost use Rattle.std.specs.Prelude.{◌≡◌, [], length, map, IfOk};
 ghost use Rattle.tomex_workers.specs.Plans.{IsPlanOf};
 ghost use Rattle.tomex_sweep.specs.Crews.{CanStart, CanRun, given_by, owed_by};
 
@@ -79,6 +79,70 @@ fn drain<R: Threads, J: Plan, A: Allocator>(rt: &R, handles: Vec<Running<J, A>, 
     }
 }
 
+/// Starts a thread for each worker, in their order. Where one is refused, all that were started are waited for.
+fn start_all<
+    's,
+    E,
+    R: Threads,
+    J: Plan + Send + Sync + 's,
+    A: Allocator + Clone + Send + Sync + Drop + 's,
+    G: Gate + Sync,
+    S: Stacks,
+>(
+    rt: &R,
+    scope: &Scope<'s, E>,
+    alloc: &A,
+    shop: &Workshop<'s, J, A, G, S>,
+    workers: Vec<Worker<J, A>, A>,
+) -> Result<Vec<Running<J, A>, A>, SweepError>
+    requires { CanRun shop.now.study.now J.costs J.cycles shop.now.board.now workers.items }
+    ensures { IfOk result (λ v. map (λ h. owed_by h.promise.0.value) v.items ≡ map owed_by workers.items) }
+{
+    let mut handles = Vec::new(alloc.clone()?);
+    for worker in workers {
+        let handle = match start(scope, alloc, shop, worker) {
+            Ok(handle) => handle,
+            Err(error) => {
+                drain(rt, handles);
+                return Err(error);
+            }
+        };
+        match handles.push(handle) {
+            Ok(()) => {}
+            Err(_) => {
+                drain(rt, handles);
+                return Err(SweepError::Memory);
+            }
+        }
+    }
+    Ok(handles)
+}
+
+/// Waits for all threads, in their order, and adds what each gives to the parts, of which there are none yet.
+fn join_all<R: Threads, J: Plan, A: Allocator>(
+    rt: &R,
+    handles: Vec<Running<J, A>, A>,
+    mut parts: Vec<Part<J, A>, A>,
+) -> Result<Vec<Part<J, A>, A>, SweepError>
+    requires { parts.items ≡ [] }
+    ensures { IfOk result (λ v. map given_by v.items ≡ map (λ h. owed_by h.promise.0.value) handles.items) }
+{
+    let mut refused = false;
+    for handle in handles {
+        match handle.join(rt) {
+            Ok(part) => match parts.push(part) {
+                Ok(()) => {}
+                Err(_) => refused = true,
+            },
+            Err(_) => refused = true,
+        }
+    }
+    if refused {
+        return Err(SweepError::Memory);
+    }
+    Ok(parts)
+}
+
 /// Starts a thread for each worker, and waits for all that were started, also where one was refused.
 fn run_in<
     's,
@@ -98,38 +162,8 @@ fn run_in<
     requires { CanRun shop.now.study.now J.costs J.cycles shop.now.board.now workers.items }
     ensures { IfOk result (λ v. map given_by v.items ≡ map owed_by workers.items) }
 {
-    let mut handles = Vec::new(alloc.clone()?);
-    let mut parts = Vec::new(alloc.clone()?);
-    for worker in workers {
-        let handle = match start(scope, &alloc, shop, worker) {
-            Ok(handle) => handle,
-            Err(error) => {
-                drain(rt, handles);
-                return Err(error);
-            }
-        };
-        match handles.push(handle) {
-            Ok(()) => {}
-            Err(_) => {
-                drain(rt, handles);
-                return Err(SweepError::Memory);
-            }
-        }
-    }
-    let mut refused = false;
-    for handle in handles {
-        match handle.join(rt) {
-            Ok(part) => match parts.push(part) {
-                Ok(()) => {}
-                Err(_) => refused = true,
-            },
-            Err(_) => refused = true,
-        }
-    }
-    if refused {
-        return Err(SweepError::Memory);
-    }
-    Ok(parts)
+    let handles = start_all(rt, scope, &alloc, shop, workers)?;
+    join_all(rt, handles, Vec::new(alloc))
 }
 
 /// What the workers give back, in their order, each from a thread of its own.
