@@ -1,5 +1,5 @@
 -- Each part's stalls are small, and so is each wait.
-use Rattle.std.proofs.Common.{◌^◌, ◌≤◌, arith}
+use Rattle.std.proofs.Common.{◌^◌, ◌≤◌, arith, rules}
 use Rattle.tomex_timing.specs.declared.part.Part.TheVariants.{Stations, Units, Buses, Width}
 use Rattle.tomex_timing.proofs.needs.Needs.note.Goals as goal
 
@@ -20,3 +20,6 @@ note_station-requires-clause-needs c = λ p. c.requires.needs.parts (Stations p)
 
 pub note_unit-requires-clause-needs : goal.note_unit-requires-clause-needs
 note_unit-requires-clause-needs c = λ u. c.requires.needs.parts (Units u)
+
+pub returns : goal.returns
+returns c = search rules fits 100
