@@ -1,9 +1,13 @@
 //! The document of a study: what its bytes stand for.
 
-ghost use Rattle.std.specs.Prelude.{◌≡◌};
+ghost use Rattle.std.specs.Prelude.{◌≡◌, ◌≤◌, [], length, Ok, Err, if◌then◌else◌};
 ghost use Rattle.std.specs.List.{list_any};
-ghost use Rattle.toml.specs.View.{table_view};
-ghost use Rattle.tomex_values.specs.Readings.{Gives};
+ghost use Rattle.toml.specs.View.{table_view, items_view};
+ghost use Rattle.tomex_config.specs.Grid.{is_too_large};
+ghost use Rattle.tomex_values.specs.Readings.{Gives, ◌>>=◌ as and_then};
+ghost use Rattle.tomex_document.specs.Program.{programs_of};
+ghost use Rattle.tomex_document.specs.Prices.{prices_of};
+ghost use Rattle.tomex_document.specs.Axes.{axes_of};
 ghost use Rattle.tomex_document.specs.Document.{is_wide, members_of, outline_of, document_of};
 
 mod axes;
@@ -23,7 +27,7 @@ use std::alloc::{Allocator, Global};
 use std::marker::Model;
 use tomex_config::{Axes, Prices};
 use tomex_values::{DocumentError, Key, Place, has_key, known_keys, table_at};
-use toml::Table;
+use toml::{Table, Value};
 
 /// A study before its programs' files are read.
 #[derive(Drop)]
@@ -79,21 +83,26 @@ fn is_wide<A: Allocator>(programs: &[Entry<A>], prices: &Table, axes: &Table) ->
     is_weighed(programs) || has_key(prices, Key::Width) || has_key(axes, Key::Width)
 }
 
-#[tactic(auto, unfolding(crate::specs::Document::outline_of))]
-fn outline_of<A: Allocator + Clone>(
+/// What these tables stand for, place by place.
+fn outline_from<A: Allocator + Clone>(
     alloc: A,
-    heap: Global,
-    top: &Table,
+    tables: &[Value],
+    price_table: &Table,
+    axis_table: &Table,
+    unit: &Table,
 ) -> Result<Outline<A>, DocumentError>
-    ensures { Gives (λ o. o) result (outline_of (table_view top.now)) }
+    requires { length tables.now ≤ 8 }
+    ensures { Gives (λ o. o) result
+        (and_then (programs_of 1 [] (items_view tables.now)) (λ programs.
+        and_then (prices_of (table_view price_table.now)) (λ prices.
+        and_then (axes_of (table_view axis_table.now) (table_view unit.now)) (λ axes.
+        if is_too_large axes then Err DocumentError.TooMany else Ok (record {
+          programs = programs;
+          prices = prices;
+          axes = axes;
+          wide = is_wide programs (table_view price_table.now) (table_view axis_table.now);
+        }))))) }
 {
-    let keys = [Key::Program, Key::Prices, Key::Axes, Key::Unit];
-    known_keys(top, Place::Top, keys.as_slice())?;
-    let tables = program_tables(top)?;
-    let empty = Table::new(heap);
-    let price_table = table_at(top, Place::Top, Key::Prices, &empty)?;
-    let axis_table = table_at(top, Place::Top, Key::Axes, &empty)?;
-    let unit = table_at(top, Place::Top, Key::Unit, &empty)?;
     let programs = programs_of(alloc.clone()?, tables)?;
     let prices = prices_of(price_table)?;
     let axes = axes_of(alloc, axis_table, unit)?;
@@ -108,6 +117,23 @@ fn outline_of<A: Allocator + Clone>(
             wide,
         })
     }
+}
+
+fn outline_of<A: Allocator + Clone>(
+    alloc: A,
+    heap: Global,
+    top: &Table,
+) -> Result<Outline<A>, DocumentError>
+    ensures { Gives (λ o. o) result (outline_of (table_view top.now)) }
+{
+    let keys = [Key::Program, Key::Prices, Key::Axes, Key::Unit];
+    known_keys(top, Place::Top, keys.as_slice())?;
+    let tables = program_tables(top)?;
+    let empty = Table::new(heap);
+    let price_table = table_at(top, Place::Top, Key::Prices, &empty)?;
+    let axis_table = table_at(top, Place::Top, Key::Axes, &empty)?;
+    let unit = table_at(top, Place::Top, Key::Unit, &empty)?;
+    outline_from(alloc, tables, price_table, axis_table, unit)
 }
 
 /// What the bytes of a study stand for, or the first test of the document that they fail.

@@ -1,22 +1,24 @@
 -- Files that are not what their entries ask for, and programs one after another.
 use Rattle.std.proofs.Common.{⊎_elim, ◌≡◌, ◌≢◌, ◌⊎◌, Ok, Err, inl, inr, ℕ, zero, suc, List, [], ◌∷◌, ◌++◌, take, Some}
 use Rattle.std.proofs.Common.{None, ◌+◌, ◌<◌, ◌≤◌, ◌∙◌, ap, sym, refl, arith, add-one, length, get_or, map}
-use Rattle.std.specs.Prelude.{slice_get, Bool, true, false, MatchBool}
+use Rattle.std.specs.Prelude.{slice_get, Bool, true, false, MatchBool, Result, IfOk, IfErr}
 use Rattle.std.proofs.lemmas.List.{length-map, take_all}
 use Rattle.std.proofs.lemmas.Option.{slice_get_read, slice_get-map}
 use Rattle.tomex_image.specs.Image.{Loaded}
 use Rattle.tomex_image.specs.Window.{Span}
 use Rattle.tomex_image.specs.Loading.{elf_placed, flat_placed, is_elf, placed}
+use Rattle.tomex_config.specs.Grid.{grid_of}
 use Rattle.tomex_study.specs.Program.{Workload}
+use Rattle.tomex_study.specs.Study.{DesignSpace, costs_of}
 use Rattle.tomex_document.specs.Program.{ProgramEntry}
 use Rattle.tomex_reading.specs.Study.{AreProgramsOf, IsFileRefusal, IsFirstRefusal, IsProgramOf, IsStudyRefusal}
+use Rattle.tomex_reading.specs.Study.{IsRefusalOfFiles, IsStudyOf}
 use Rattle.tomex_reading.specs.declared.error.StudyError.{StudyError}
-use Rattle.tomex_reading.specs.declared.error.StudyError.TheVariants.{Files, Memory}
+use Rattle.tomex_reading.specs.declared.error.StudyError.TheVariants.{Memory}
 use Rattle.tomex_values.specs.declared.error.DocumentError.{DocumentError}
 use Rattle.tomex_values.specs.declared.error.DocumentError.TheVariants as documents
 use Rattle.tomex_reading.specs.Refusals.{IsDocumentRefusal, told_as}
 use Rattle.tomex_document.specs.Document.{Document, document_of}
-use Rattle.tomex_document.proofs.Counted.{document_has_programs}
 
 -- an image of a file has the window that was asked for
 pub in_window : (file : List ℕ) (window : Span) (image : Loaded) → placed file window image → image.window ≡ window
@@ -117,17 +119,45 @@ pub document_refused : (bytes : List ℕ) (files : List (List ℕ)) (fault : Doc
 document_refused bytes files fault error told given =
     ⊎_elim (λ memory. inl memory) (λ refusal. inr (inl refusal)) (names_refused bytes fault error told given)
 
--- as many files as programs, one of which is refused
-pub file_refused : (bytes : List ℕ) (files : List (List ℕ)) (document : Document) (error : StudyError)
-    → document_of bytes ≡ Ok document → length files ≡ length document.programs
-    → (error ≡ Memory) ⊎ IsFirstRefusal document.programs files error → IsStudyRefusal bytes files error
-file_refused bytes files document error read count (inl memory) = inl memory
-file_refused bytes files document error read count (inr first) = inr (inr (document, read, inr (count, first)))
+-- a test of the files fails
+files_refused : (bytes : List ℕ) (files : List (List ℕ)) (document : Document) (error : StudyError)
+    → document_of bytes ≡ Ok document → (error ≡ Memory) ⊎ IsRefusalOfFiles document files error
+    → IsStudyRefusal bytes files error
+files_refused bytes files document error read (inl memory) = inl memory
+files_refused bytes files document error read (inr refusal) = inr (inr (document, read, refusal))
 
--- another number of files
-pub count_refused : (bytes : List ℕ) (files : List (List ℕ)) (document : Document) → document_of bytes ≡ Ok document
-    → length files ≢ length document.programs → IsStudyRefusal bytes files Files
-count_refused bytes files document read count = inr (inr (document, read, inl (refl, count)))
+-- what was made of the document and the files is their study
+pub study_made : (bytes : List ℕ) (files : List (List ℕ)) (document : Document) (result : Result DesignSpace StudyError)
+    → document_of bytes ≡ Ok document
+    → IfOk result (λ s. AreProgramsOf document.programs files s.programs × (grid_of document.axes ≡ Ok s.rows)
+    × (s.prices ≡ document.prices) × (s.costs ≡ costs_of s.prices s.rows) × (s.wide ≡ document.wide))
+    → IfOk result (λ s. IsStudyOf bytes files s)
+study_made bytes files document (Ok study) read made = record {
+  document = document;
+  read = read;
+  programs = made.0;
+  rows = made.1;
+  prices = made.2;
+  costs = made.3;
+  wide = made.4;
+}
+study_made bytes files document (Err error) read made = tt
+
+-- or refused
+pub study_refused : (bytes : List ℕ) (files : List (List ℕ)) (document : Document)
+    (result : Result DesignSpace StudyError) → document_of bytes ≡ Ok document
+    → IfErr result (λ error. (error ≡ Memory) ⊎ IsRefusalOfFiles document files error)
+    → IfErr result (λ error. IsStudyRefusal bytes files error)
+study_refused bytes files document (Ok study) read refusal = tt
+study_refused bytes files document (Err error) read refusal = files_refused bytes files document error read refusal
+
+-- as many files as programs, one of which is refused
+pub file_refused : (files : List (List ℕ)) (document : Document) (error : StudyError)
+    → length files ≡ length document.programs
+    → (error ≡ Memory) ⊎ IsFirstRefusal document.programs files error
+    → (error ≡ Memory) ⊎ IsRefusalOfFiles document files error
+file_refused files document error count (inl memory) = inl memory
+file_refused files document error count (inr first) = inr (inr (count, first))
 
 -- a program for each entry
 pub length-programs : (entries : List ProgramEntry) (files : List (List ℕ)) (programs : List Workload)
@@ -140,11 +170,9 @@ length-programs (e ∷ es) (f ∷ fs) [] are = absurd are
 length-programs (e ∷ es) (f ∷ fs) (p ∷ ps) are = ap suc (length-programs es fs ps are.1)
 
 -- as many programs as a document has: 1 to 8
-pub some_programs : (bytes : List ℕ) (document : Document) (entries : List ProgramEntry) (files : List (List ℕ))
-    (programs : List Workload) → document_of bytes ≡ Ok document → entries ≡ document.programs
-    → AreProgramsOf entries files programs → (1 ≤ length programs) × (length programs ≤ 8)
-some_programs bytes document entries files programs read same are =
-    let has = document_has_programs bytes document read in
-    let count : length programs ≡ length document.programs = length-programs entries files programs are
-    ∙ ap length same in
-    (omega (arith, count, has.0), omega (arith, count, has.1))
+pub some_programs : (named entries : List ProgramEntry) (files : List (List ℕ)) (programs : List Workload)
+    → 1 ≤ length named → length named ≤ 8 → entries ≡ named → AreProgramsOf entries files programs
+    → (1 ≤ length programs) × (length programs ≤ 8)
+some_programs named entries files programs some few same are =
+    let count : length programs ≡ length named = length-programs entries files programs are ∙ ap length same in
+    (omega (arith, count, some), omega (arith, count, few))

@@ -1,15 +1,17 @@
 //! Whole studies: the document, and the programs that its files hold.
 
-ghost use Rattle.std.specs.Prelude.{◌≡◌, ◌≢◌, ◌≤◌, ◌⊎◌, length, map, IfOk, IfErr, None, string_bytes};
+ghost use Rattle.std.specs.Prelude.{◌≡◌, ◌≢◌, ◌≤◌, ◌⊎◌, length, map, IfOk, IfErr, None, Ok, string_bytes};
 ghost use Rattle.tomex_image.specs.Loading.{placed, refused};
+ghost use Rattle.tomex_config.specs.Grid.{grid_of};
 ghost use Rattle.tomex_study.specs.Program.{refusal_of};
+ghost use Rattle.tomex_study.specs.Study.{costs_of};
 ghost use Rattle.tomex_reading.specs.Study.{AreProgramsOf, FailsToEnd, IsFileRefusal, IsFirstRefusal};
-ghost use Rattle.tomex_reading.specs.Study.{IsProgramOf, IsStudyOf, IsStudyRefusal};
+ghost use Rattle.tomex_reading.specs.Study.{IsProgramOf, IsRefusalOfFiles, IsStudyOf, IsStudyRefusal};
 
 use crate::error::StudyError;
 use std::alloc::{Allocator, Global};
 use tomex_config::grid;
-use tomex_document::{Entry, document_of};
+use tomex_document::{Entry, Outline, document_of};
 use tomex_image::{Image, ImageError, load};
 use tomex_study::{Program, ProgramError, Study};
 
@@ -94,6 +96,36 @@ fn programs_of<A: Allocator + Clone>(
     Ok(programs)
 }
 
+/// The study of this outline and the files of its programs, or the first test of the files that they fail.
+/// The names that refusals tell are made in `heap`.
+fn study_from<A: Allocator + Clone>(
+    alloc: A,
+    heap: Global,
+    outline: &Outline<A>,
+    files: &[Vec<u8, A>],
+) -> Result<Study<A>, StudyError>
+    requires some { 1 ≤ length outline.now.programs }
+    requires few { length outline.now.programs ≤ 8 }
+    ensures ok { IfOk result
+        (λ s. AreProgramsOf outline.now.programs (map (λ f. f.items) files.now) s.programs
+        × (grid_of outline.now.axes ≡ Ok s.rows) × (s.prices ≡ outline.now.prices)
+        × (s.costs ≡ costs_of s.prices s.rows) × (s.wide ≡ outline.now.wide)) }
+    ensures err { IfErr result
+        (λ error. (error ≡ StudyError.Memory)
+        ⊎ IsRefusalOfFiles outline.now (map (λ f. f.items) files.now) error) }
+{
+    if files.len() != outline.programs.len() {
+        return Err(StudyError::Files);
+    }
+    let entries = outline.programs.as_slice();
+    let programs = programs_of(alloc.clone()?, heap, entries, files)?;
+    // The axes of a document span a grid, so only memory can be wanting.
+    let Ok(rows) = grid(alloc.clone()?, &outline.axes) else {
+        return Err(StudyError::Memory);
+    };
+    Ok(Study::new(alloc, programs, rows, outline.prices, outline.wide)?)
+}
+
 /// The study that the bytes and the programs' files stand for, or the first test that they fail:
 /// those of the document, then that there is a file for each program, then program by program
 /// that its file is an image and that its run ends.
@@ -110,17 +142,5 @@ pub fn read_study<A: Allocator + Clone>(
         (λ error. IsStudyRefusal study.now (map (λ f. f.items) files.now) error) }
 {
     let outline = document_of(alloc.clone()?, heap, study)?;
-    if files.len() != outline.programs.len() {
-        return Err(StudyError::Files);
-    }
-    let entries = outline.programs.as_slice();
-    let programs = match programs_of(alloc.clone()?, heap, entries, files) {
-        Ok(programs) => programs,
-        Err(error) => return Err(error),
-    };
-    // The axes of a document span a grid, so only memory can be wanting.
-    let Ok(rows) = grid(alloc.clone()?, &outline.axes) else {
-        return Err(StudyError::Memory);
-    };
-    Ok(Study::new(alloc, programs, rows, outline.prices, outline.wide)?)
+    study_from(alloc, heap, &outline, files)
 }

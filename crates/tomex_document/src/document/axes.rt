@@ -1,17 +1,19 @@
 //! The axes of the grid of configurations.
 
-ghost use Rattle.std.specs.Prelude.{◌≡◌};
-ghost use Rattle.toml.specs.View.{table_view};
-ghost use Rattle.tomex_config.specs.Grid.{lists_of};
-ghost use Rattle.tomex_values.specs.Readings.{Gives};
+ghost use Rattle.std.specs.Prelude.{◌≡◌, List, option_map, Ok};
+ghost use Rattle.toml.specs.View.{table_view, items_view};
+ghost use Rattle.tomex_config.specs.Grid.{Lists, lists_of};
+ghost use Rattle.tomex_values.specs.Lists.{counts_at};
+ghost use Rattle.tomex_values.specs.Readings.{Gives, ◌>>=◌ as and_then};
 ghost use Rattle.tomex_document.specs.Axes.{axis_counts, axes_of, counts_of};
+ghost use Rattle.tomex_document.specs.Units.{options_of, unit_tables};
 
 use super::units::{options_of, unit_tables};
 use std::alloc::Allocator;
-use tomex_config::Axes;
+use tomex_config::{Axes, UnitOption};
 use tomex_rvdec::UnitId;
 use tomex_values::{DocumentError, Key, Place, counts_at, known_keys};
-use toml::Table;
+use toml::{Table, Value};
 
 /// The counts of stations and buses, and the widths.
 #[derive(Drop)]
@@ -24,6 +26,18 @@ struct Counts<A: Allocator> {
     bru: Vec<u8, A>,
     buses: Vec<u8, A>,
     width: Vec<u8, A>,
+}
+
+/// The counts at a key of the axes, made in a clone of the allocator.
+fn read_counts<A: Allocator + Clone>(
+    alloc: &A,
+    table: &Table,
+    key: Key,
+    most: u8,
+) -> Result<Vec<u8, A>, DocumentError>
+    ensures { Gives (λ v. v.items) result (counts_at Place.Axes key most (table_view table.now)) }
+{
+    counts_at(alloc.clone()?, table, Place::Axes, key, most)
 }
 
 /// The counts that the table of axes gives.
@@ -44,13 +58,14 @@ fn axis_counts<A: Allocator + Clone>(alloc: A, table: &Table) -> Result<Counts<A
         Key::Width,
     ];
     known_keys(table, Place::Axes, keys.as_slice())?;
-    let alu = counts_at(alloc.clone()?, table, Place::Axes, Key::Alu, 16)?;
-    let mul = counts_at(alloc.clone()?, table, Place::Axes, Key::Mul, 16)?;
-    let div = counts_at(alloc.clone()?, table, Place::Axes, Key::Div, 16)?;
-    let load = counts_at(alloc.clone()?, table, Place::Axes, Key::Load, 16)?;
-    let store = counts_at(alloc.clone()?, table, Place::Axes, Key::Store, 16)?;
-    let bru = counts_at(alloc.clone()?, table, Place::Axes, Key::Bru, 16)?;
-    let buses = counts_at(alloc.clone()?, table, Place::Axes, Key::Buses, 8)?;
+    let shared = &alloc;
+    let alu = read_counts(shared, table, Key::Alu, 16)?;
+    let mul = read_counts(shared, table, Key::Mul, 16)?;
+    let div = read_counts(shared, table, Key::Div, 16)?;
+    let load = read_counts(shared, table, Key::Load, 16)?;
+    let store = read_counts(shared, table, Key::Store, 16)?;
+    let bru = read_counts(shared, table, Key::Bru, 16)?;
+    let buses = read_counts(shared, table, Key::Buses, 8)?;
     let width = counts_at(alloc, table, Place::Axes, Key::Width, 4)?;
     Ok(Counts {
         alu,
@@ -64,8 +79,56 @@ fn axis_counts<A: Allocator + Clone>(alloc: A, table: &Table) -> Result<Counts<A
     })
 }
 
+/// The options of a kind, made in a clone of the allocator.
+fn read_options<A: Allocator + Clone>(
+    alloc: &A,
+    values: Option<&[Value]>,
+    unit: UnitId,
+) -> Result<Vec<UnitOption, A>, DocumentError>
+    ensures { Gives
+        (λ v. v.items) result (options_of unit (option_map (λ s. items_view s.now) values.entry)) }
+{
+    options_of(alloc.clone()?, values, unit)
+}
+
+/// The options of each kind of unit.
+#[derive(Drop)]
+struct Options<A: Allocator> {
+    alu: Vec<UnitOption, A>,
+    mul: Vec<UnitOption, A>,
+    div: Vec<UnitOption, A>,
+    mem: Vec<UnitOption, A>,
+    bru: Vec<UnitOption, A>,
+}
+
+/// The options that the table of the unit gives, kind by kind, whatever whole is put together from them.
+fn unit_options<A: Allocator + Clone>(alloc: A, unit: &Table) -> Result<Options<A>, DocumentError>
+    ensures { (whole : (alu mul div mem bru : List UnitOption) → Lists) → Gives
+        (λ o. whole o.alu.items o.mul.items o.div.items o.mem.items o.bru.items) result
+        (and_then (unit_tables (table_view unit.now)) (λ tables.
+        and_then (options_of UnitId.Alu tables.alu) (λ alu.
+        and_then (options_of UnitId.Mul tables.mul) (λ mul.
+        and_then (options_of UnitId.Div tables.div) (λ div.
+        and_then (options_of UnitId.Mem tables.mem) (λ mem.
+        and_then (options_of UnitId.Bru tables.bru) (λ bru. Ok (whole alu mul div mem bru)))))))) }
+{
+    let tables = unit_tables(unit)?;
+    let shared = &alloc;
+    let alu = read_options(shared, tables.alu, UnitId::Alu)?;
+    let mul = read_options(shared, tables.mul, UnitId::Mul)?;
+    let div = read_options(shared, tables.div, UnitId::Div)?;
+    let mem = read_options(shared, tables.mem, UnitId::Mem)?;
+    let bru = options_of(alloc, tables.bru, UnitId::Bru)?;
+    Ok(Options {
+        alu,
+        mul,
+        div,
+        mem,
+        bru,
+    })
+}
+
 /// The axes that the tables of the axes and of the unit give.
-#[tactic(auto, unfolding(crate::specs::Axes::axes_of))]
 pub fn axes_of<A: Allocator + Clone>(
     alloc: A,
     axes: &Table,
@@ -74,12 +137,7 @@ pub fn axes_of<A: Allocator + Clone>(
     ensures { Gives lists_of result (axes_of (table_view axes.now) (table_view unit.now)) }
 {
     let counts = axis_counts(alloc.clone()?, axes)?;
-    let tables = unit_tables(unit)?;
-    let alu_units = options_of(alloc.clone()?, tables.alu, UnitId::Alu)?;
-    let mul_units = options_of(alloc.clone()?, tables.mul, UnitId::Mul)?;
-    let div_units = options_of(alloc.clone()?, tables.div, UnitId::Div)?;
-    let mem_units = options_of(alloc.clone()?, tables.mem, UnitId::Mem)?;
-    let bru_units = options_of(alloc, tables.bru, UnitId::Bru)?;
+    let options = unit_options(alloc, unit)?;
     Ok(Axes {
         alu: counts.alu,
         mul: counts.mul,
@@ -87,11 +145,11 @@ pub fn axes_of<A: Allocator + Clone>(
         load: counts.load,
         store: counts.store,
         bru: counts.bru,
-        alu_units,
-        mul_units,
-        div_units,
-        mem_units,
-        bru_units,
+        alu_units: options.alu,
+        mul_units: options.mul,
+        div_units: options.div,
+        mem_units: options.mem,
+        bru_units: options.bru,
         buses: counts.buses,
         width: counts.width,
     })

@@ -56,8 +56,8 @@ fn text_at<'a>(table: &'a Table, place: Place, key: Key) -> Result<&'a str, Docu
 }
 
 #[tactic(auto, unfolding(crate::specs::Program::name_at))]
-fn name_at<A: Allocator>(
-    alloc: A,
+fn name_at<A: Allocator + Clone>(
+    alloc: &A,
     table: &Table,
     place: Place,
     earlier: &[Entry<A>],
@@ -65,6 +65,7 @@ fn name_at<A: Allocator>(
     ensures read { Gives string_bytes result (name_at place earlier.now (table_view table.now)) }
     ensures lawful { IfOk result (λ s. is_name (string_bytes s) ≡ true) }
 {
+    let alloc = alloc.clone()?;
     let name = text_at(table, place, Key::Name)?;
     if is_name(name) && !is_taken(earlier, name) {
         Ok(String::from_str(alloc, name)?)
@@ -74,10 +75,15 @@ fn name_at<A: Allocator>(
 }
 
 #[tactic(auto, unfolding(crate::specs::Program::file_at))]
-fn file_at<A: Allocator>(alloc: A, table: &Table, place: Place) -> Result<String<A>, DocumentError>
+fn file_at<A: Allocator + Clone>(
+    alloc: &A,
+    table: &Table,
+    place: Place,
+) -> Result<String<A>, DocumentError>
     ensures read { Gives string_bytes result (file_at place (table_view table.now)) }
     ensures named { IfOk result (λ s. string_bytes s ≢ []) }
 {
+    let alloc = alloc.clone()?;
     let file = text_at(table, place, Key::File)?;
     if file.is_empty() {
         Err(DocumentError::Range(place, Key::File))
@@ -121,13 +127,14 @@ fn window_at(table: &Table, place: Place) -> Result<Window, DocumentError>
 
 #[tactic(auto, unfolding(crate::specs::Program::program_of))]
 fn program_of<A: Allocator + Clone>(
-    alloc: A,
+    alloc: &A,
     table: &Table,
     place: Place,
     earlier: &[Entry<A>],
 ) -> Result<Entry<A>, DocumentError>
     ensures { Gives (λ e. e) result (program_of place earlier.now (table_view table.now)) }
 {
+    let alloc = alloc.clone()?;
     let keys = [
         Key::Name,
         Key::File,
@@ -138,8 +145,9 @@ fn program_of<A: Allocator + Clone>(
         Key::Weight,
     ];
     known_keys(table, place, keys.as_slice())?;
-    let name = name_at(alloc.clone()?, table, place, earlier)?;
-    let file = file_at(alloc.clone()?, table, place)?;
+    let shared = &alloc;
+    let name = name_at(shared, table, place, earlier)?;
+    let file = file_at(shared, table, place)?;
     let window = window_at(table, place)?;
     let limit = number_at(
         table,
@@ -168,12 +176,7 @@ pub fn programs_of<A: Allocator + Clone>(
         let Some(table) = value.as_table() else {
             return Err(DocumentError::Kind(Place::Top, Key::Program));
         };
-        let entry = program_of(
-            alloc.clone()?,
-            table,
-            Place::Program(number),
-            entries.as_slice(),
-        )?;
+        let entry = program_of(&alloc, table, Place::Program(number), entries.as_slice())?;
         entries.push(entry)?;
         number += 1;
     }

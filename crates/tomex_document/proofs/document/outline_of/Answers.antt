@@ -1,9 +1,25 @@
--- The top is read first, then place by place, up to the first fault.
-use Rattle.std.proofs.Common.{sym}
+-- The top is read first, up to the first fault, and then its tables.
+use Rattle.std.proofs.Common.{◌≡◌, Ok, sym}
 use Rattle.std.proofs.lemmas.Result.{err_from_is_err_and}
 use Rattle.tomex_document.specs.Document.{outline_of}
 use Rattle.tomex_values.proofs.Outcomes.{goes_on, stops}
+use Rattle.tomex_values.specs.Readings.{Gives, Reading, ◌>>=◌}
 use Rattle.tomex_document.proofs.document.outline_of.Goals as goal
+
+-- what the rest gives is what the whole gives
+rest_gives : {X Y Z : Type 0} (view : Z → Y) (result : Reading Z) (reading : Reading X) (next : X → Reading Y) (x : X)
+    → reading ≡ Ok x → Gives view result (next x) → Gives view result (reading >>= next)
+rest_gives view result reading next x given rest = rw given rest
+
+pub returns : goal.returns
+unfolding outline_of
+returns g c =
+    let known = sym (rw c.as_slice.ensures at c.in_ok-known_keys.ensures) in
+    rest_gives _ _ _ _ _ known
+    (rest_gives _ _ _ _ _ c.in_ok-tables.ensures.read
+    (rest_gives _ _ _ _ _ c.in_ok-price_table.ensures
+    (rest_gives _ _ _ _ _ c.in_ok-axis_table.ensures
+    (rest_gives _ _ _ _ _ c.in_ok-unit.ensures c.outline_from.ensures))))
 
 pub returns-in_err-tables : goal.returns-in_err-tables
 unfolding outline_of
@@ -39,42 +55,6 @@ returns-in_err-unit g c =
     (goes_on _ _ _ _ c.in_ok-tables.ensures.read
     (goes_on _ _ _ _ c.in_ok-price_table.ensures
     (goes_on _ _ _ _ c.in_ok-axis_table.ensures (stops _ _ _ c.in_err-unit.ensures)))))
-
-pub returns-in_err-programs : goal.returns-in_err-programs
-unfolding outline_of
-returns-in_err-programs g c =
-    let p = err_from_is_err_and c.from_residual-in_err-programs.result c.from_residual-in_err-programs.ensures.1 in
-    let known = sym (rw c.as_slice.ensures at c.in_ok-known_keys.ensures) in
-    rw (p.1, p.2) (λ other. goes_on _ _ _ _ known
-    (goes_on _ _ _ _ c.in_ok-tables.ensures.read
-    (goes_on _ _ _ _ c.in_ok-price_table.ensures
-    (goes_on _ _ _ _ c.in_ok-axis_table.ensures
-    (goes_on _ _ _ _ c.in_ok-unit.ensures (stops _ _ _ (c.in_err-programs.ensures other)))))))
-
-pub returns-in_err-prices : goal.returns-in_err-prices
-unfolding outline_of
-returns-in_err-prices g c =
-    let p = err_from_is_err_and c.from_residual-in_err-prices.result c.from_residual-in_err-prices.ensures.1 in
-    let known = sym (rw c.as_slice.ensures at c.in_ok-known_keys.ensures) in
-    rw (p.1, p.2) (λ other. goes_on _ _ _ _ known
-    (goes_on _ _ _ _ c.in_ok-tables.ensures.read
-    (goes_on _ _ _ _ c.in_ok-price_table.ensures
-    (goes_on _ _ _ _ c.in_ok-axis_table.ensures
-    (goes_on _ _ _ _ c.in_ok-unit.ensures
-    (goes_on _ _ _ _ c.in_ok-programs.ensures (stops _ _ _ c.in_err-prices.ensures)))))))
-
-pub returns-in_err-axes : goal.returns-in_err-axes
-unfolding outline_of
-returns-in_err-axes g c =
-    let p = err_from_is_err_and c.from_residual-in_err-axes.result c.from_residual-in_err-axes.ensures.1 in
-    let known = sym (rw c.as_slice.ensures at c.in_ok-known_keys.ensures) in
-    rw (p.1, p.2) (λ other. goes_on _ _ _ _ known
-    (goes_on _ _ _ _ c.in_ok-tables.ensures.read
-    (goes_on _ _ _ _ c.in_ok-price_table.ensures
-    (goes_on _ _ _ _ c.in_ok-axis_table.ensures
-    (goes_on _ _ _ _ c.in_ok-unit.ensures
-    (goes_on _ _ _ _ c.in_ok-programs.ensures
-    (goes_on _ _ _ _ c.in_ok-prices.ensures (stops _ _ _ (c.in_err-axes.ensures other)))))))))
 
 pub returns-in_err-known_keys : goal.returns-in_err-known_keys
 unfolding outline_of

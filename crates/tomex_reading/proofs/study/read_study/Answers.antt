@@ -1,24 +1,32 @@
--- A document has 1 to 8 programs, and its files are as many.
-use Rattle.std.proofs.Common.{◌∙◌, ap, arith, length}
-use Rattle.tomex_document.specs.Document.{Document}
-use Rattle.std.proofs.lemmas.List.{length-map}
-use Rattle.tomex_reading.proofs.Studies.{file_refused, some_programs}
+-- The document is refused, or what its files give is the study.
+use Rattle.std.proofs.Common.{inl}
+use Rattle.std.proofs.lemmas.Result.{err_from_is_err_and}
+use Rattle.tomex_document.proofs.Counted.{document_has_programs}
+use Rattle.tomex_reading.proofs.Studies.{document_refused, study_made, study_refused}
 use Rattle.tomex_reading.proofs.study.read_study.Goals as goal
 
-pub new-requires-clause-some_programs : goal.new-requires-clause-some_programs
-new-requires-clause-some_programs g c =
-    (some_programs _ _ _ _ _ c.in_ok-outline.ensures (c.as_slice-entries.ensures.value
-    ∙ ap (λ (d : Document). d.programs) c.outline.view_is) c.in-Ok.ensures.ok).0
+pub returns-in_err-clone-clause-err : goal.returns-in_err-clone-clause-err
+returns-in_err-clone-clause-err g c =
+    let p = err_from_is_err_and c.from_residual.result c.from_residual.ensures.1 in
+    rw p.1 (inl p.2)
 
-pub new-requires-clause-few_programs : goal.new-requires-clause-few_programs
-new-requires-clause-few_programs g c =
-    (some_programs _ _ _ _ _ c.in_ok-outline.ensures (c.as_slice-entries.ensures.value
-    ∙ ap (λ (d : Document). d.programs) c.outline.view_is) c.in-Ok.ensures.ok).1
+pub returns-in_err-outline-clause-err : goal.returns-in_err-outline-clause-err
+returns-in_err-outline-clause-err g c =
+    let p = err_from_is_err_and c.from_residual-in_err-outline.result c.from_residual-in_err-outline.ensures.1 in
+    rw p.1 (document_refused _ _ _ _ p.2 c.in_err-outline.ensures)
 
-pub returns-in-Err-clause-err : goal.returns-in-Err-clause-err
-returns-in-Err-clause-err g c =
-    let entries = c.as_slice-entries.ensures.value ∙ ap (λ (d : Document). d.programs) c.outline.view_is in
-    let long = length-map c.args.files.now (λ f. f.items) in
-    let same = ap (λ (d : Document). length d.programs) c.outline.view_is in
-    file_refused _ _ _ _ c.in_ok-outline.ensures (omega (arith, long, same, c.len.ensures, c.if-files-len.false))
-    (rw entries at c.in-Err.ensures.err)
+pub study_from-requires-clause-some : goal.study_from-requires-clause-some
+study_from-requires-clause-some g c = (document_has_programs _ _ c.in_ok-outline.ensures).0
+
+pub study_from-requires-clause-few : goal.study_from-requires-clause-few
+study_from-requires-clause-few g c = (document_has_programs _ _ c.in_ok-outline.ensures).1
+
+pub returns-clause-ok : goal.returns-clause-ok
+returns-clause-ok g c =
+    study_made c.args.study.now _ c.in_ok-outline.outline c.study_from.result c.in_ok-outline.ensures
+    c.study_from.ensures.ok
+
+pub returns-clause-err : goal.returns-clause-err
+returns-clause-err g c =
+    study_refused c.args.study.now _ c.in_ok-outline.outline c.study_from.result c.in_ok-outline.ensures
+    c.study_from.ensures.err

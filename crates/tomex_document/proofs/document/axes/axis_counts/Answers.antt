@@ -1,5 +1,5 @@
 -- The counts are read in order, up to the first fault.
-use Rattle.std.proofs.Common.{sym}
+use Rattle.std.proofs.Common.{refl, sym}
 use Rattle.std.proofs.lemmas.Result.{err_from_is_err_and}
 use Rattle.tomex_document.specs.Axes.{axis_counts}
 use Rattle.tomex_values.proofs.Outcomes.{goes_on, stops}
@@ -81,3 +81,29 @@ returns-in_err-width g c =
     (goes_on _ _ _ _ c.in_ok-store.ensures
     (goes_on _ _ _ _ c.in_ok-bru.ensures
     (goes_on _ _ _ _ c.in_ok-buses.ensures (stops _ _ _ (c.in_err-width.ensures other))))))))))
+
+pub returns-in_err-known_keys : goal.returns-in_err-known_keys
+unfolding axis_counts
+returns-in_err-known_keys g c =
+    let p = err_from_is_err_and c.from_residual.result c.from_residual.ensures.1 in
+    rw (p.1, p.2) (λ other. stops _ _ _ (sym (rw c.as_slice.ensures at c.in_err-known_keys.ensures)))
+
+pub returns-in_err-alu : goal.returns-in_err-alu
+unfolding axis_counts
+returns-in_err-alu g c =
+    let p = err_from_is_err_and c.from_residual-in_err-alu.result c.from_residual-in_err-alu.ensures.1 in
+    let known = sym (rw c.as_slice.ensures at c.in_ok-known_keys.ensures) in
+    rw (p.1, p.2) (λ other. goes_on _ _ _ _ known (stops _ _ _ (c.in_err-alu.ensures other)))
+
+pub returns : goal.returns
+unfolding axis_counts
+returns g c =
+    let known = sym (rw c.as_slice.ensures at c.in_ok-known_keys.ensures) in
+    goes_on _ _ _ _ known
+    (goes_on _ _ _ _ c.in_ok-alu.ensures
+    (goes_on _ _ _ _ c.in_ok-mul.ensures
+    (goes_on _ _ _ _ c.in_ok-div.ensures
+    (goes_on _ _ _ _ c.in_ok-load.ensures
+    (goes_on _ _ _ _ c.in_ok-store.ensures
+    (goes_on _ _ _ _ c.in_ok-bru.ensures
+    (goes_on _ _ _ _ c.in_ok-buses.ensures (goes_on _ _ _ _ c.in_ok-width.ensures refl))))))))
