@@ -1,3 +1,4 @@
+pub mod Written
 pub mod Sums
 pub mod Tallies
 pub mod Reports

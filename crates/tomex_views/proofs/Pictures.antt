@@ -1,11 +1,15 @@
 -- What a picture's loops have written one turn later, and that the steps shown end no later than the whole run.
 use Rattle.std.proofs.Common.{◌≡◌, ◌∙◌, ap, ap₂, sym, subst, refl, arith, ℕ, zero, suc, ◌+◌, ◌-◌, ◌*◌, ◌^◌, ◌<◌, ◌≤◌}
-use Rattle.std.proofs.Common.{List, [], ◌∷◌, ◌++◌, append_assoc, drop, get_or, length, take}
+use Rattle.std.proofs.Common.{List, [], ◌∷◌, ◌++◌, append_assoc, drop, get_or, length, length-drop, take, false}
+use Rattle.std.specs.Prelude.{min, nat_lt}
 use Rattle.std.specs.List.{flat_map, range_with_len}
+use Rattle.std.proofs.lemmas.List.{length-take}
+use borrow.Author.Tests.{ltb-false}
 use Rattle.tomex_rvexec.specs.declared.step.Step.{Step}
-use Rattle.tomex_timing.specs.Search.{total_of}
+use Rattle.tomex_config.specs.Configuration.{Configuration}
+use Rattle.tomex_timing.specs.Search.{times_in, total_of}
 use Rattle.tomex_timing.specs.declared.times.Times.{Times}
-use Rattle.tomex_views.specs.Chart.{chart, line_of, lines_of, sign_in}
+use Rattle.tomex_views.specs.Chart.{IsPictureOf, chart, line_of, lines_of, most_signs, picture_of, shown, sign_in, signs_of}
 use Rattle.tomex_views.specs.declared.lines.Frame.{Frame}
 
 -- the sign of the next cycle
@@ -71,3 +75,48 @@ part_ends n k steps times times-slice part is times_are bound few =
     let all = total_drop k times-slice in
     let same = ap total_of times_are in
     subst (λ (p : List Times). total_of p < 2 ^ 32) (sym is) (omega (arith, ends, all, same, bound, few))
+
+-- how long a part is
+part_length : {X : Type 0} (n k : ℕ) (xs part : List X) → part ≡ take n (drop k xs)
+    → length part ≡ min n (length xs - k)
+part_length n k xs part is = ap length is ∙ (length-take n (drop k xs) ∙ ap (min n) (length-drop k xs))
+
+module _ {X Y : Type 0} (n k : ℕ) (xs : List X) (kept slice : List Y) (same : slice ≡ kept)
+    (pairs : length kept ≡ length xs) where
+  -- a part begins within the list
+  pub part_there : (number : ℕ) → number ≤ length xs → number - 1 ≤ length slice
+  part_there number low = let long : length slice ≡ length kept = ap length same in omega (arith, low, pairs)
+
+  pub part_few : (part : List Y) → part ≡ take n (drop k slice) → length xs ≤ 262144 → length part ≤ 262144
+  part_few part is few =
+      let long : length slice ≡ length kept = ap length same in
+      omega (arith, part_length n k slice part is, few, pairs)
+
+  pub parts_paired : (those : List X) (part : List Y) → those ≡ take n (drop k xs) → part ≡ take n (drop k slice)
+      → length part ≡ length those
+  parts_paired those part those_are is =
+      let long : length slice ≡ length xs = ap length same ∙ pairs in
+      part_length n k slice part is ∙ (ap (λ (m : ℕ). min n (m - k)) long ∙ sym (part_length n k xs those those_are))
+
+-- and its numbers are no large ones
+pub numbers_few : {X : Type 0} (n k number from : ℕ) (xs part : List X) → from ≡ number → number < 4294967296
+    → part ≡ take n (drop k xs) → length xs ≤ 262144 → from + length part < 9223372036854775808
+numbers_few n k number from xs part same low is few = omega (arith, part_length n k xs part is, same, low, few)
+
+-- the text is the picture that was asked for
+pub pictured : (config : Configuration) (run made steps : List Step) (kept slice times : List Times)
+    (number count from : ℕ) (text : List ℕ) → made ≡ run → kept ≡ times_in config made → slice ≡ kept
+    → steps ≡ shown number count made → times ≡ shown number count slice → number ≤ length made
+    → nat_lt most_signs (signs_of times) ≡ false → from ≡ number → text ≡ picture_of from steps times
+    → IsPictureOf config run number count text
+pictured config run made steps kept slice times number count from text is kept_is same steps_are times_are low few
+    from_is text_is =
+    let of_run : times ≡ shown number count (times_in config run) =
+    times_are ∙ ap (λ (ts : List Times). shown number count ts) (same ∙ (kept_is ∙ ap (times_in config) is)) in
+    let those : steps ≡ shown number count run = steps_are ∙ ap (λ (ss : List Step). shown number count ss) is in
+    record {
+      there = subst (λ (ss : List Step). number ≤ length ss) is low;
+      drawn = subst (λ (ts : List Times). signs_of ts ≤ most_signs) of_run (ltb-false most_signs (signs_of times) few);
+      is = text_is ∙ (ap (λ (f : ℕ). picture_of f steps times) from_is
+          ∙ ap₂ (λ (a : List Step) (b : List Times). picture_of number a b) those of_run);
+    }

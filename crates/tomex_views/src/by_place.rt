@@ -1,6 +1,7 @@
 //! The stalls report by place in the program.
 
-ghost use Rattle.std.specs.Prelude.{◌≡◌, ◌++◌, ◌∷◌, [], IfOk, OnOk};
+ghost use Rattle.std.specs.Prelude.{◌≡◌, ◌++◌, ◌∷◌, [], IfOk, OnOk, map};
+ghost use Rattle.std.specs.Fmt.{decimal};
 ghost use Rattle.std.specs.BTreeMap.{IsOrdered, values};
 ghost use Rattle.std.specs.Ordering.{nat_cmp};
 ghost use Rattle.std.specs.List.{flat_map};
@@ -19,9 +20,12 @@ use tomex_records::{into_text, push_decimal, push_instruction, push_names, put_r
 use tomex_study::Program;
 use tomex_timing::evaluate::waits;
 
-/// The names of the columns.
-fn header_of(heap: Global) -> Result<ByteRecord, AllocError>
-    ensures { IfOk result (λ made. fields_of made ≡ header) }
+/// Writes the names of the columns.
+fn put_header<A: Allocator>(writer: &mut Writer<Vec<u8, A>>, heap: Global) -> Result<(), AllocError>
+    requires ready { IsReady writer.old }
+    ensures ready { OnOk result (IsReady writer.new) }
+    ensures text { OnOk result (written (λ v. v.items) writer.new
+        ≡ written (λ v. v.items) writer.old ++ record_text header) }
 {
     let mut record = ByteRecord::new(heap);
     let names = [
@@ -29,7 +33,24 @@ fn header_of(heap: Global) -> Result<ByteRecord, AllocError>
         "unit", "bus",
     ];
     push_names(&mut record, &names)?;
-    Ok(record)
+    put_record(writer, &record)
+}
+
+/// Adds a field of decimal digits for each of these numbers.
+fn push_decimals(
+    fields: &mut ByteRecord,
+    scratch: &mut String,
+    numbers: &[u64],
+) -> Result<(), AllocError>
+    requires { partial_of fields.old ≡ [] }
+    ensures fields { OnOk result (fields_of fields.new
+        ≡ fields_of fields.old ++ map decimal numbers.now) }
+    ensures whole { OnOk result (partial_of fields.new ≡ []) }
+{
+    for number in numbers {
+        push_decimal(fields, scratch, *number)?;
+    }
+    Ok(())
 }
 
 /// Adds how many steps there are, and how long they wait.
@@ -40,15 +61,18 @@ fn push_sum(fields: &mut ByteRecord, scratch: &mut String, sum: &Sum) -> Result<
     ensures whole { OnOk result (partial_of fields.new ≡ []) }
 {
     let waits = &sum.waits;
-    push_decimal(fields, scratch, sum.steps)?;
-    push_decimal(fields, scratch, waits.branch)?;
-    push_decimal(fields, scratch, waits.width)?;
-    push_decimal(fields, scratch, waits.station)?;
-    push_decimal(fields, scratch, waits.operand)?;
-    push_decimal(fields, scratch, waits.address)?;
-    push_decimal(fields, scratch, waits.memory)?;
-    push_decimal(fields, scratch, waits.unit)?;
-    push_decimal(fields, scratch, waits.bus)
+    let numbers = [
+        sum.steps,
+        waits.branch,
+        waits.width,
+        waits.station,
+        waits.operand,
+        waits.address,
+        waits.memory,
+        waits.unit,
+        waits.bus,
+    ];
+    push_decimals(fields, scratch, &numbers)
 }
 
 /// Makes a record the one of an address.
@@ -62,6 +86,22 @@ fn fill_place(
     fields.clear();
     push_instruction(fields, scratch, &place.first)?;
     push_sum(fields, scratch, &place.sum)
+}
+
+/// Writes the record of an address.
+fn put_place<A: Allocator>(
+    writer: &mut Writer<Vec<u8, A>>,
+    record: &mut ByteRecord,
+    scratch: &mut String,
+    place: &Place,
+) -> Result<(), AllocError>
+    requires ready { IsReady writer.old }
+    ensures ready { OnOk result (IsReady writer.new) }
+    ensures text { OnOk result (written (λ v. v.items) writer.new
+        ≡ written (λ v. v.items) writer.old ++ record_text (place_fields place.now)) }
+{
+    fill_place(record, scratch, place)?;
+    put_record(writer, record)
 }
 
 /// Writes the records of the addresses, rising.
@@ -80,20 +120,41 @@ fn put_places<A: Allocator>(
     let mut record = ByteRecord::new(heap);
     let mut scratch = String::new(heap);
     for place in tally.places.values() {
-        fill_place(&mut record, &mut scratch, place)?;
-        put_record(writer, &record)?;
+        put_place(writer, &mut record, &mut scratch, place)?;
     }
     Ok(())
 }
 
-/// The record of all steps.
-fn total_record(heap: Global, all: &Sum) -> Result<ByteRecord, AllocError>
-    ensures { IfOk result (λ made. fields_of made ≡ total_fields all.now) }
+/// Writes the record of all steps.
+fn put_total<A: Allocator>(
+    writer: &mut Writer<Vec<u8, A>>,
+    heap: Global,
+    all: &Sum,
+) -> Result<(), AllocError>
+    requires { IsReady writer.old }
+    ensures { OnOk result (written (λ v. v.items) writer.new
+        ≡ written (λ v. v.items) writer.old ++ record_text (total_fields all.now)) }
 {
     let mut record = ByteRecord::new(heap);
     push_names(&mut record, &["total", "-"])?;
     push_sum(&mut record, &mut String::new(heap), all)?;
-    Ok(record)
+    put_record(writer, &record)
+}
+
+/// Writes the report of what was counted.
+fn put_tally<A: Allocator>(
+    writer: &mut Writer<Vec<u8, A>>,
+    heap: Global,
+    tally: &Tally<A>,
+) -> Result<(), AllocError>
+    requires { IsReady writer.old }
+    ensures text { OnOk result (written (λ v. v.items) writer.new
+        ≡ written (λ v. v.items) writer.old ++ report_of_tally tally.now) }
+    ensures rising { OnOk result (IsOrdered nat_cmp tally.now.places) }
+{
+    put_header(writer, heap)?;
+    put_places(writer, heap, tally)?;
+    put_total(writer, heap, &tally.all)
 }
 
 /// The report of what was counted.
@@ -106,9 +167,7 @@ fn text_of_tally<A: Allocator>(
     ensures rising { OnOk result (IsOrdered nat_cmp tally.now.places) }
 {
     let mut writer = Writer::from_writer(Vec::new(alloc));
-    put_record(&mut writer, &header_of(heap)?)?;
-    put_places(&mut writer, heap, tally)?;
-    put_record(&mut writer, &total_record(heap, &tally.all)?)?;
+    put_tally(&mut writer, heap, tally)?;
     into_text(writer)
 }
 

@@ -1,6 +1,8 @@
 //! The lines of a picture.
 
-ghost use Rattle.std.specs.Prelude.{◌≡◌, ◌+◌, ◌<◌, ◌^◌, ◌++◌, length, OnOk, string_bytes};
+ghost use Rattle.std.specs.Prelude.{◌≡◌, ◌+◌, ◌<◌, ◌^◌, ◌++◌, codes, length, OnOk, string_bytes};
+ghost use Rattle.tomex_rvdec.specs.Text.{instr_text};
+ghost use Rattle.tomex_rvexec.specs.Texts.{hex8};
 ghost use Rattle.tomex_views.specs.Chart.{chart, line_of, lines_of};
 
 use crate::stage::sign_in;
@@ -37,6 +39,16 @@ fn push_chart<A: Allocator>(
     Ok(())
 }
 
+/// Adds what stands behind a step's chart: its address and its instruction.
+fn push_what<A: Allocator>(text: &mut String<A>, step: &Step) -> Result<(), AllocError>
+    ensures { OnOk result (string_bytes text.new ≡ string_bytes text.old
+        ++ (codes " " ++ (hex8 step.now.pc ++ (codes " " ++ (instr_text step.now.instr ++ codes "\n"))))) }
+{
+    let (pc, instr) = (step.pc, step.instr);
+    write!(text, " {pc:08x} {instr}\n")?;
+    Ok(())
+}
+
 /// Adds a step's line.
 #[tactic(auto, unfolding(crate::specs::Chart::line_of))]
 fn push_line<A: Allocator>(
@@ -50,12 +62,10 @@ fn push_line<A: Allocator>(
     ensures { OnOk result (string_bytes text.new
         ≡ string_bytes text.old ++ line_of frame.now number step.now at.now) }
 {
-    let (pc, instr) = (step.pc, step.instr);
     push_aligned_number(text, scratch, frame.digits, number)?;
     text.push_str(" ")?;
     push_chart(text, at, frame.first, frame.until)?;
-    write!(text, " {pc:08x} {instr}\n")?;
-    Ok(())
+    push_what(text, step)
 }
 
 /// Adds the lines of the steps from a number on.

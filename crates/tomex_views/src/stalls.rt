@@ -6,7 +6,7 @@ ghost use Rattle.csv.specs.Records.{fields_of, partial_of};
 ghost use Rattle.tomex_rvexec.specs.Run.{start_of};
 ghost use Rattle.tomex_rvexec.specs.Trace.{steps_from};
 ghost use Rattle.tomex_timing.specs.Needs.{all_parts};
-ghost use Rattle.tomex_records.specs.Csv.{IsReady, written};
+ghost use Rattle.tomex_records.specs.Csv.{IsReady, record_text, written};
 ghost use Rattle.tomex_views.specs.StallsReport.{IsStallsReport, header, name_of_part, other_record, other_records};
 ghost use Rattle.tomex_views.specs.StallsReport.{part_fields, part_record, report_of_needs};
 
@@ -19,13 +19,16 @@ use tomex_study::Program;
 use tomex_timing::evaluate::needs;
 use tomex_timing::{Needs, Part};
 
-/// The names of the columns.
-fn header_of(heap: Global) -> Result<ByteRecord, AllocError>
-    ensures { IfOk result (λ made. fields_of made ≡ header) }
+/// Writes the names of the columns.
+fn put_header<A: Allocator>(writer: &mut Writer<Vec<u8, A>>, heap: Global) -> Result<(), AllocError>
+    requires ready { IsReady writer.old }
+    ensures ready { OnOk result (IsReady writer.new) }
+    ensures text { OnOk result (written (λ v. v.items) writer.new
+        ≡ written (λ v. v.items) writer.old ++ record_text header) }
 {
     let mut record = ByteRecord::new(heap);
     push_names(&mut record, &["part", "count", "peak", "stalls"])?;
-    Ok(record)
+    put_record(writer, &record)
 }
 
 /// Adds a part's name.
@@ -142,6 +145,22 @@ fn put_others<A: Allocator>(
     put_other(writer, heap, "total", needs.total)
 }
 
+/// Writes the report of these needs.
+fn put_needs<A: Allocator>(
+    writer: &mut Writer<Vec<u8, A>>,
+    heap: Global,
+    config: &Config,
+    needs: &Needs,
+) -> Result<(), AllocError>
+    requires { IsReady writer.old }
+    ensures { OnOk result (written (λ v. v.items) writer.new
+        ≡ written (λ v. v.items) writer.old ++ report_of_needs config.now needs.now) }
+{
+    put_header(writer, heap)?;
+    put_parts(writer, heap, config, needs)?;
+    put_others(writer, heap, needs)
+}
+
 /// The report of these needs.
 fn text_of_needs<A: Allocator>(
     alloc: A,
@@ -152,9 +171,7 @@ fn text_of_needs<A: Allocator>(
     ensures { IfOk result (λ text. text.items ≡ report_of_needs config.now needs.now) }
 {
     let mut writer = Writer::from_writer(Vec::new(alloc));
-    put_record(&mut writer, &header_of(heap)?)?;
-    put_parts(&mut writer, heap, config, needs)?;
-    put_others(&mut writer, heap, needs)?;
+    put_needs(&mut writer, heap, config, needs)?;
     into_text(writer)
 }
 
