@@ -1,7 +1,7 @@
 -- The places and the cycles of a log's steps and events, and that its events in their order are written as the log.
 use Rattle.std.proofs.Common.{◌≡◌, ◌∙◌, ap, ap₂, sym, subst, refl, arith, inl, inr, ℕ, zero, suc, ◌+◌, ◌<◌, ◌≤◌, ◌==◌}
-use Rattle.std.proofs.Common.{Bool, false, cond, List, [], ◌∷◌, ◌++◌, append_assoc, length, map, Some}
-use Rattle.std.specs.Prelude.{All, nat_lt, not, ◌&&◌}
+use Rattle.std.proofs.Common.{Bool, false, cond, List, [], ◌∷◌, ◌++◌, append_assoc, length, map, Some, Ok, Err, Vec}
+use Rattle.std.specs.Prelude.{All, IfOk, Result, nat_lt, not, ◌&&◌}
 use Rattle.std.specs.List.{filter, flat_map, list_any, slice_get}
 use Rattle.std.specs.List.Sorted.{ties}
 use Rattle.std.specs.Ordering.{is_lt, nat_cmp}
@@ -11,14 +11,16 @@ use Rattle.std.proofs.lemmas.List.Elements.{All-tail, All-weaker}
 use Rattle.std.proofs.lemmas.List.Sorted.{All-permutation}
 use Rattle.std.proofs.lemmas.List.Sums.{sum_by-cons}
 use Rattle.tomex_rvexec.specs.declared.step.Step.{Step}
-use Rattle.tomex_timing.specs.Search.{total_of}
+use Rattle.tomex_config.specs.Configuration.{Configuration}
+use Rattle.tomex_timing.specs.Search.{times_in, total_of}
 use Rattle.tomex_timing.specs.declared.times.Done.{Done}
 use Rattle.tomex_timing.specs.declared.times.Times.{Times}
 use Rattle.tomex_konata.specs.declared.entries.Entry.{Entry}
 use Rattle.tomex_konata.specs.declared.events.Event.{Event}
 use Rattle.tomex_konata.specs.declared.events.Kind.TheVariants.{Change}
-use Rattle.tomex_konata.specs.Konata.{cycles_of, entries_from, entry_of, gone_before, head_of, log_of}
-use Rattle.tomex_views.specs.Chart.{first_issue}
+use Rattle.tomex_konata.specs.Konata.{IsLogOf, cycles_of, entries_from, entry_of, gone_before}
+use Rattle.tomex_konata.specs.Konata.{head_of, log_of}
+use Rattle.tomex_views.specs.Chart.{first_issue, shown}
 use Rattle.tomex_konata.specs.Kept.{ArePut, change_cycles, change_in, changes_of, events_of, once, out_of, written}
 use Rattle.tomex_konata.proofs.Sorting.{filter_alike, rises}
 use Rattle.tomex_konata.proofs.Written.{AreThere, cycles_are}
@@ -198,11 +200,37 @@ kept vs ws stable t =
     ∙ (stable x ∙ filter_alike (ties by_cycle x) (λ v. v.cycle == t) (λ v. tie t v.cycle) vs)
 
 -- behind its head the cycles are the log
-pub log_is : (number first : ℕ) (steps : List Step) (times : List Times) (none headed text bytes lines : List ℕ)
-    → none ≡ [] → headed ≡ none ++ head_of first
-    → text ≡ headed ++ lines → bytes ≡ text → first ≡ first_issue times
+pub log_is : (number first : ℕ) (steps : List Step) (times : List Times) (lines : List ℕ) → first ≡ first_issue times
     → lines ≡ cycles_of number (entries_from [] steps times) first 0 (total_of times + 2)
-    → bytes ≡ log_of number steps times
-log_is number first steps times none headed text bytes lines empty head more made is those =
-    made ∙ (more ∙ (ap₂ (λ (a b : List ℕ). a ++ b) (head ∙ ap (λ (z : List ℕ). z ++ head_of first) empty) those
-    ∙ ap (λ (f : ℕ). head_of f ++ cycles_of number (entries_from [] steps times) f 0 (total_of times + 2)) is))
+    → head_of first ++ lines ≡ log_of number steps times
+log_is number first steps times lines is those =
+    ap (λ (z : List ℕ). head_of first ++ z) those
+    ∙ ap (λ (f : ℕ). head_of f ++ cycles_of number (entries_from [] steps times) f 0 (total_of times + 2)) is
+
+-- a text that is made of one is made of an equal one
+pub made_of : {B E : Type 0} (r : Result (Vec ℕ B) E) (lines whole : List ℕ) → lines ≡ whole
+    → IfOk r (λ text. text.items ≡ lines) → IfOk r (λ text. text.items ≡ whole)
+made_of (Ok text) lines whole is made = made ∙ is
+made_of (Err e) lines whole is made = tt
+
+-- a text that begins with nothing
+pub headed : (none head text bytes lines : List ℕ) (first : ℕ) → none ≡ [] → head ≡ none ++ head_of first
+    → text ≡ head ++ lines → bytes ≡ text → bytes ≡ head_of first ++ lines
+headed none head text bytes lines first empty begun more made =
+    made ∙ (more ∙ ap (λ (z : List ℕ). z ++ lines) (begun ∙ ap (λ (z : List ℕ). z ++ head_of first) empty))
+
+-- the text is the log that was asked for
+pub logged : (config : Configuration) (run made steps : List Step) (kept slice times : List Times)
+    (number count from : ℕ) (text : List ℕ) → made ≡ run → kept ≡ times_in config made → slice ≡ kept
+    → steps ≡ shown number count made → times ≡ shown number count slice → number ≤ length made
+    → from ≡ number → text ≡ log_of from steps times → IsLogOf config run number count text
+logged config run made steps kept slice times number count from text is kept_is same steps_are times_are low from_is
+    text_is =
+    let of_run : times ≡ shown number count (times_in config run) =
+    times_are ∙ ap (λ (ts : List Times). shown number count ts) (same ∙ (kept_is ∙ ap (times_in config) is)) in
+    let those : steps ≡ shown number count run = steps_are ∙ ap (λ (ss : List Step). shown number count ss) is in
+    record {
+      there = subst (λ (ss : List Step). number ≤ length ss) is low;
+      is = text_is ∙ (ap (λ (f : ℕ). log_of f steps times) from_is
+          ∙ ap₂ (λ (a : List Step) (b : List Times). log_of number a b) those of_run);
+    }

@@ -62,8 +62,10 @@ fn push_issue(text: &mut String, number: u64, entry: &Entry) -> Result<(), Alloc
         ≡ string_bytes text.old ++ issue_lines number entry.now) }
 {
     let (id, pc, instr) = (entry.id, entry.step.pc, entry.step.instr);
-    write!(text, "I\t{id}\t{number}\t0\n")?;
-    write!(text, "L\t{id}\t0\t{pc:08x}: {instr}\n")?;
+    write!(
+        text,
+        "I\t{id}\t{number}\t0\nL\t{id}\t0\t{pc:08x}: {instr}\n"
+    )?;
     push_station(text, id, entry.step.pool(), entry.at.station)
 }
 

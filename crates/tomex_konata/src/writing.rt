@@ -62,14 +62,6 @@ fn push_in_cycle<A: Allocator>(
     Ok(cycle)
 }
 
-/// Adds what each log begins with.
-fn push_head<A: Allocator>(text: &mut String<A>, first: u64) -> Result<(), AllocError>
-    ensures { OnOk result (string_bytes text.new ≡ string_bytes text.old ++ head_of first) }
-{
-    write!(text, "Kanata\t0004\nC=\t{first}\n")?;
-    Ok(())
-}
-
 /// How many steps went out with an event.
 fn gone_after(gone: u64, kind: Kind) -> u64
     requires { gone < 2 ^ 63 }
@@ -108,6 +100,27 @@ fn push_events<A: Allocator>(
     Ok(())
 }
 
+/// What each log begins with, and the lines of events.
+fn text_of<A: Allocator>(
+    alloc: A,
+    heap: Global,
+    number: u64,
+    first: u64,
+    entries: &[Entry],
+    events: &[Event],
+) -> Result<Vec<u8, A>, AllocError>
+    requires there { All (λ event. event.id < length entries.now) events.now }
+    requires few { All (λ entry. number + entry.id < 2 ^ 64) entries.now }
+    requires many { length events.now < 2 ^ 63 }
+    ensures { IfOk result (λ text. text.items
+        ≡ head_of first ++ written number entries.now first 0 events.now) }
+{
+    let mut text = String::new(alloc);
+    write!(&mut text, "Kanata\t0004\nC=\t{first}\n")?;
+    push_events(&mut text, heap, number, first, entries, events)?;
+    Ok(text.into_bytes())
+}
+
 /// The log of steps with these times, from a number on.
 fn log_of<A: Allocator + Clone>(
     alloc: A,
@@ -124,17 +137,14 @@ fn log_of<A: Allocator + Clone>(
     let first = first_issue(times);
     let entries = entries_of(alloc.clone()?, steps, times)?;
     let events = ordered_events(alloc.clone()?, entries.as_slice(), total(times) + 1)?;
-    let mut text = String::new(alloc);
-    push_head(&mut text, first)?;
-    push_events(
-        &mut text,
+    text_of(
+        alloc,
         heap,
         number,
         first,
         entries.as_slice(),
         events.as_slice(),
-    )?;
-    Ok(text.into_bytes())
+    )
 }
 
 /// The log of some steps of a program's run on a configuration for the viewer Konata, `count` of them at most from
