@@ -1,7 +1,8 @@
 -- What a picture's loops have written one turn later, and that the steps shown end no later than the whole run.
 use Rattle.std.proofs.Common.{◌≡◌, ◌∙◌, ap, ap₂, sym, subst, refl, arith, ℕ, zero, suc, ◌+◌, ◌-◌, ◌*◌, ◌^◌, ◌<◌, ◌≤◌}
 use Rattle.std.proofs.Common.{List, [], ◌∷◌, ◌++◌, append_assoc, drop, get_or, length, length-drop, take, false}
-use Rattle.std.specs.Prelude.{min, nat_lt}
+use Rattle.std.specs.Prelude.{codes, min, nat_lt}
+use Rattle.std.specs.Fmt.{decimal}
 use Rattle.std.specs.List.{flat_map, range_with_len}
 use Rattle.std.proofs.lemmas.List.{length-take}
 use borrow.Author.Tests.{ltb-false}
@@ -9,7 +10,8 @@ use Rattle.tomex_rvexec.specs.declared.step.Step.{Step}
 use Rattle.tomex_config.specs.Configuration.{Configuration}
 use Rattle.tomex_timing.specs.Search.{times_in, total_of}
 use Rattle.tomex_timing.specs.declared.times.Times.{Times}
-use Rattle.tomex_views.specs.Chart.{IsPictureOf, chart, line_of, lines_of, most_signs, picture_of, shown, sign_in, signs_of}
+use Rattle.tomex_views.specs.Chart.{IsPictureOf, chart, first_issue, frame_of, line_of, lines_of, most_signs}
+use Rattle.tomex_views.specs.Chart.{picture_of, shown, sign_in, signs_of}
 use Rattle.tomex_views.specs.declared.lines.Frame.{Frame}
 
 -- the sign of the next cycle
@@ -102,6 +104,27 @@ module _ {X Y : Type 0} (n k : ℕ) (xs : List X) (kept slice : List Y) (same : 
 pub numbers_few : {X : Type 0} (n k number from : ℕ) (xs part : List X) → from ≡ number → number < 4294967296
     → part ≡ take n (drop k xs) → length xs ≤ 262144 → from + length part < 9223372036854775808
 numbers_few n k number from xs part same low is few = omega (arith, part_length n k xs part is, same, low, few)
+
+-- what comes behind five pieces
+line_behind : (a b c d e rest : List ℕ) → (a ++ (b ++ (c ++ (d ++ e)))) ++ rest ≡ a ++ (b ++ (c ++ (d ++ (e ++ rest))))
+line_behind a b c d e rest =
+    append_assoc a (b ++ (c ++ (d ++ e))) rest
+    ∙ ap (λ (z : List ℕ). a ++ z) (append_assoc b (c ++ (d ++ e)) rest
+    ∙ ap (λ (z : List ℕ). b ++ z) (append_assoc c (d ++ e) rest
+    ∙ ap (λ (z : List ℕ). c ++ z) (append_assoc d e rest)))
+
+-- the line with the cycles, and those of the steps behind it
+pub drawn_is : (number first last : ℕ) (steps : List Step) (times : List Times) (frame : Frame)
+    (none head text bytes : List ℕ) → none ≡ []
+    → head ≡ none ++ (codes "cycles " ++ (decimal first ++ (codes " to " ++ (decimal last ++ codes "\n"))))
+    → text ≡ head ++ lines_of frame number steps times → bytes ≡ text → first ≡ first_issue times
+    → last ≡ total_of times → frame ≡ frame_of number times → bytes ≡ picture_of number steps times
+drawn_is number first last steps times frame none head text bytes empty begun more made first_is last_is frame_is =
+    let line = codes "cycles " ++ (decimal first ++ (codes " to " ++ (decimal last ++ codes "\n"))) in
+    made ∙ (more ∙ (ap (λ (z : List ℕ). z ++ lines_of frame number steps times)
+    (begun ∙ ap (λ (z : List ℕ). z ++ line) empty) ∙ rw (first_is, last_is, frame_is)
+    (line_behind (codes "cycles ") (decimal (first_issue times)) (codes " to ") (decimal (total_of times)) (codes "\n")
+    (lines_of (frame_of number times) number steps times))))
 
 -- the text is the picture that was asked for
 pub pictured : (config : Configuration) (run made steps : List Step) (kept slice times : List Times)

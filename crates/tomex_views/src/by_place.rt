@@ -20,6 +20,12 @@ use tomex_records::{into_text, push_decimal, push_instruction, push_names, put_r
 use tomex_study::Program;
 use tomex_timing::evaluate::waits;
 
+/// The names of the columns.
+const COLUMNS: [&str; 11] = [
+    "pc", "instr", "steps", "branch", "width", "station", "operand", "address", "memory", "unit",
+    "bus",
+];
+
 /// Writes the names of the columns.
 fn put_header<A: Allocator>(writer: &mut Writer<Vec<u8, A>>, heap: Global) -> Result<(), AllocError>
     requires ready { IsReady writer.old }
@@ -28,11 +34,7 @@ fn put_header<A: Allocator>(writer: &mut Writer<Vec<u8, A>>, heap: Global) -> Re
         ≡ written (λ v. v.items) writer.old ++ record_text header) }
 {
     let mut record = ByteRecord::new(heap);
-    let names = [
-        "pc", "instr", "steps", "branch", "width", "station", "operand", "address", "memory",
-        "unit", "bus",
-    ];
-    push_names(&mut record, &names)?;
+    push_names(&mut record, &COLUMNS)?;
     put_record(writer, &record)
 }
 

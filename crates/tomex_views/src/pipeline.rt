@@ -1,8 +1,6 @@
 //! The picture of some steps of a run on one configuration.
 
-ghost use Rattle.std.specs.Prelude.{◌≡◌, ◌+◌, ◌<◌, ◌≤◌, ◌^◌, ◌++◌, codes, drop, length, nat_lt, take};
-ghost use Rattle.std.specs.Prelude.{IfErr, IfOk, OnOk, string_bytes};
-ghost use Rattle.std.specs.Fmt.{decimal};
+ghost use Rattle.std.specs.Prelude.{◌≡◌, ◌+◌, ◌<◌, ◌≤◌, ◌^◌, drop, length, nat_lt, take, IfErr, IfOk};
 ghost use Rattle.tomex_rvexec.specs.Run.{start_of};
 ghost use Rattle.tomex_rvexec.specs.Trace.{steps_from};
 ghost use Rattle.tomex_timing.specs.Search.{total_of};
@@ -69,15 +67,6 @@ fn frame_of(heap: Global, number: u64, times: &[Times]) -> Result<Frame, AllocEr
     })
 }
 
-/// Adds the line with the cycles.
-fn push_cycles<A: Allocator>(text: &mut String<A>, first: u64, last: u64) -> Result<(), AllocError>
-    ensures { OnOk result (string_bytes text.new ≡ string_bytes text.old
-        ++ (codes "cycles " ++ (decimal first ++ (codes " to " ++ (decimal last ++ codes "\n"))))) }
-{
-    write!(text, "cycles {first} to {last}\n")?;
-    Ok(())
-}
-
 /// The picture of steps with these times, from a number on.
 fn picture_of<A: Allocator>(
     alloc: A,
@@ -93,8 +82,9 @@ fn picture_of<A: Allocator>(
     ensures { IfOk result (λ text. text.items ≡ picture_of number steps.now times.now) }
 {
     let frame = frame_of(heap, number, times)?;
+    let (first, last) = (first_issue(times), total(times));
     let mut text = String::new(alloc);
-    push_cycles(&mut text, frame.first, total(times))?;
+    write!(&mut text, "cycles {first} to {last}\n")?;
     push_lines(&mut text, heap, &frame, number, steps, times)?;
     Ok(text.into_bytes())
 }
