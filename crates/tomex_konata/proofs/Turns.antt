@@ -1,7 +1,7 @@
 -- What the loops over a step's cycles and over events have made one turn later.
 use Rattle.std.proofs.Common.{◌≡◌, ◌∙◌, ap, ap₂, sym, refl, arith, ℕ, zero, suc, ◌+◌, ◌-◌, ◌<◌, ◌≤◌, ◌==◌, Bool, true}
 use Rattle.std.proofs.Common.{false, cond, List, [], ◌∷◌, ◌++◌, append_assoc, drop, get_or, length, length-drop, map}
-use Rattle.std.proofs.Common.{All, subst, take, Some}
+use Rattle.std.proofs.Common.{take, Some}
 use Rattle.std.specs.List.{list_any, slice_get}
 use Rattle.std.proofs.lemmas.List.{append-nil, drop_all, take_all}
 use Rattle.std.proofs.lemmas.Option.{slice_get_read}
@@ -96,15 +96,11 @@ few_gone gone gone' i kind is few = rw is (go kind)
     go Change = omega (arith, few)
     go Out = omega (arith, few)
 
--- an event's step has no large number
-pub few_at : (number index : ℕ) (entries : List Entry) (events : List Event) (entry first : Entry) (none : Event)
-    → All (λ event. event.id < length entries) events → All (λ e. number + e.id < 18446744073709551616) entries
-    → index < length events → entry ≡ get_or entries (get_or events index none).id first
-    → number + entry.id < 18446744073709551616
-few_at number index entries events entry first none there few within is =
-    subst (λ (e : Entry). number + e.id < 18446744073709551616) (sym is)
-    (few (get_or events index none).id first (there index none within))
-
--- fewer steps went out than there are events
-pub gone_low : (gone index n : ℕ) → gone ≤ index → index < n → n < 9223372036854775808 → gone < 9223372036854775808
-gone_low gone index n behind within many = omega (arith, behind, within, many)
+-- behind the last event
+pub all_written : (number : ℕ) (entries : List Entry) (events : List Event) (index since gone : ℕ)
+    (text whole : List ℕ) → length events ≤ index
+    → text ++ written number entries since gone (drop index events) ≡ whole → text ≡ whole
+all_written number entries events index since gone text whole past so_far =
+    sym (append-nil text)
+    ∙ (ap (λ (vs : List Event). text ++ written number entries since gone vs) (sym (drop_all index events past))
+    ∙ so_far)

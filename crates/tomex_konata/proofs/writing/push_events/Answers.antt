@@ -2,10 +2,10 @@
 use Rattle.std.proofs.Common.{refl}
 use Rattle.tomex_konata.specs.declared.events.Event.{Event}
 use Rattle.tomex_konata.specs.declared.events.Kind.TheVariants.{Change}
-use Rattle.tomex_konata.proofs.Turns.{event_more, few_at, few_gone, gone_low}
+use Rattle.tomex_konata.proofs.Turns.{all_written, event_more, few_gone}
 use Rattle.tomex_konata.proofs.writing.push_events.Goals as goal
 
-abbrev no_event : Event
+no_event : Event
 no_event = record { cycle = 0; kind = Change; id = 0 }
 
 pub loop-event-preserved : goal.loop-event-preserved
@@ -21,14 +21,7 @@ loop-event-preserved g c = record {
       c.gone_after-gone.ensures c.loop-event.invariant.text;
 }
 
-pub bounds-entries-event : goal.bounds-entries-event
-bounds-entries-event g c = c.requires.there c.loop-event.event-index no_event c.loop-event-test.true
-
-pub push_event-requires : goal.push_event-requires
-push_event-requires g c = record {
-  few = few_at c.args.number c.loop-event.event-index c.args.entries.now c.args.events.now _ _ no_event
-      c.requires.there c.requires.few c.loop-event-test.true c.index-entries-event.is;
-}
-
-pub gone_after-gone-requires : goal.gone_after-gone-requires
-gone_after-gone-requires g c = gone_low _ _ _ c.loop-event.invariant.few c.loop-event-test.true c.requires.many
+pub returns : goal.returns
+returns g c =
+    all_written c.args.number c.args.entries.now c.args.events.now c.loop-event.event-index _ _ _ _
+    c.loop-event-test.false c.loop-event.invariant.text
