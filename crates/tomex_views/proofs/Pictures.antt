@@ -4,7 +4,7 @@ use Rattle.std.proofs.Common.{List, [], ◌∷◌, ◌++◌, append_assoc, drop,
 use Rattle.std.specs.Prelude.{codes, min, nat_lt}
 use Rattle.std.specs.Fmt.{decimal}
 use Rattle.std.specs.List.{flat_map, range_with_len}
-use Rattle.std.proofs.lemmas.List.{length-take}
+use Rattle.std.proofs.lemmas.List.{append-nil, drop_all, length-take}
 use borrow.Author.Tests.{ltb-false}
 use Rattle.tomex_rvexec.specs.declared.step.Step.{Step}
 use Rattle.tomex_config.specs.Configuration.{Configuration}
@@ -57,6 +57,15 @@ line_more frame number index steps times step first at none before after whole w
     ∙ (ap (λ (z : List ℕ). z ++ rest) grown
     ∙ (append_assoc before line rest
     ∙ (ap (λ (z : List ℕ). before ++ z) (sym at_index) ∙ so_far)))
+
+-- behind the last step
+pub no_line : (frame : Frame) (number index : ℕ) (steps : List Step) (times : List Times) (text whole : List ℕ)
+    → length steps ≤ index → text ++ lines_of frame number (drop index steps) (drop index times) ≡ whole
+    → text ≡ whole
+no_line frame number index steps times text whole past so_far =
+    sym (append-nil text)
+    ∙ (ap (λ (ss : List Step). text ++ lines_of frame number ss (drop index times)) (sym (drop_all index steps past))
+    ∙ so_far)
 
 -- the greatest end of some steps is no later than that of all
 total_take : (n : ℕ) (times : List Times) → total_of (take n times) ≤ total_of times

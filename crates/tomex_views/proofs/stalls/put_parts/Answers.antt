@@ -3,6 +3,7 @@ use Rattle.std.proofs.Common.{refl}
 use Rattle.tomex_timing.specs.Needs.{all_parts}
 use Rattle.tomex_views.specs.StallsReport.{part_record}
 use Rattle.tomex_records.proofs.Pieces.{next_piece}
+use Rattle.tomex_views.proofs.Written.{all_put}
 use Rattle.tomex_views.proofs.stalls.put_parts.Goals as goal
 
 pub loop-part-preserved : goal.loop-part-preserved
@@ -11,3 +12,8 @@ loop-part-preserved g c = record {
   text = next_piece (part_record c.args.config.now c.args.needs.now) all_parts c.loop-part.part-index _ _ _ _ _
       c.loop-part-test.true refl c.loop-part.invariant.text c.in_ok-put_part.ensures.text;
 }
+
+pub returns-clause-text : goal.returns-clause-text
+returns-clause-text g c =
+    all_put (part_record c.args.config.now c.args.needs.now) all_parts c.loop-part.part-index _ _
+    c.loop-part-test.false c.loop-part.invariant.text
