@@ -2,6 +2,7 @@
 use Rattle.std.specs.Prelude.{ℕ, List, [], ◌∷◌, Ok}
 use Rattle.toml.specs.Data.{Members}
 use Rattle.tomex_rvdec.specs.declared.pool.UnitId.TheVariants as units
+use Rattle.tomex_config.specs.declared.config.UnitOption.{UnitOption}
 use Rattle.tomex_config.specs.Grid.{Lists}
 use Rattle.tomex_values.specs.declared.place.Key.TheVariants as key
 use Rattle.tomex_values.specs.declared.place.Place.TheVariants as place
@@ -48,17 +49,23 @@ axis_counts members = do
   width ← counts_at place.Axes key.Width 4 members
   Ok (record { alu = alu; mul = mul; div = div; load = load; store = store; bru = bru; buses = buses; width = width })
 
--- the places of the axes and of the unit, and then the options of each kind
+-- the places of the unit, and then the options of each kind, of which a whole is put together
+abbrev pub unit_options : Members → (List UnitOption → List UnitOption → List UnitOption → List UnitOption
+    → List UnitOption → Lists) → Reading Lists
+unit_options unit whole = do
+  tables ← unit_tables unit
+  alu ← options_of units.Alu tables.alu
+  mul ← options_of units.Mul tables.mul
+  div ← options_of units.Div tables.div
+  mem ← options_of units.Mem tables.mem
+  bru ← options_of units.Bru tables.bru
+  Ok (whole alu mul div mem bru)
+
+-- the places of the axes, and then those of the unit
 unfoldable pub axes_of : Members → Members → Reading Lists
 axes_of axes unit = do
   counts ← axis_counts axes
-  tables ← unit_tables unit
-  alu_units ← options_of units.Alu tables.alu
-  mul_units ← options_of units.Mul tables.mul
-  div_units ← options_of units.Div tables.div
-  mem_units ← options_of units.Mem tables.mem
-  bru_units ← options_of units.Bru tables.bru
-  Ok (record {
+  unit_options unit (λ alu_units mul_units div_units mem_units bru_units. record {
     alu = counts.alu;
     mul = counts.mul;
     div = counts.div;

@@ -2,7 +2,7 @@
 use Rattle.std.specs.Prelude.{ℕ, Bool, ◌||◌, List, [], ◌∷◌, map, Option, Some, None, Ok, Err, if◌then◌else◌}
 use Rattle.std.specs.List.{list_any}
 use Rattle.std.specs.Str.{is_utf8}
-use Rattle.toml.specs.Data.{Members}
+use Rattle.toml.specs.Data.{Items, Members}
 use Rattle.toml.specs.Parse.{parse_document}
 use Rattle.tomex_config.specs.Cost.{PriceList}
 use Rattle.tomex_config.specs.Grid.{Lists, is_too_large}
@@ -37,14 +37,9 @@ abbrev pub is_wide : List ProgramEntry → Members → Members → Bool
 is_wide programs prices axes =
     list_any (λ entry. entry.weighed) programs || (has_key key.Width prices || has_key key.Width axes)
 
--- the keys at the top, and then place by place
-unfoldable pub outline_of : Members → Reading Document
-outline_of top = do
-  _ ← known_keys place.Top (key.Program ∷ key.Prices ∷ key.Axes ∷ key.Unit ∷ []) top
-  tables ← program_tables top
-  price_table ← table_at place.Top key.Prices top
-  axis_table ← table_at place.Top key.Axes top
-  unit ← table_at place.Top key.Unit top
+-- place by place: the programs, the prices, the axes, and whether these span too many configurations
+abbrev pub outline_from : Items → Members → Members → Members → Reading Document
+outline_from tables price_table axis_table unit = do
   programs ← programs_of 1 [] tables
   prices ← prices_of price_table
   axes ← axes_of axis_table unit
@@ -56,6 +51,16 @@ outline_of top = do
         axes = axes;
         wide = is_wide programs price_table axis_table;
       })
+
+-- the keys at the top, and then place by place
+unfoldable pub outline_of : Members → Reading Document
+outline_of top = do
+  _ ← known_keys place.Top (key.Program ∷ key.Prices ∷ key.Axes ∷ key.Unit ∷ []) top
+  tables ← program_tables top
+  price_table ← table_at place.Top key.Prices top
+  axis_table ← table_at place.Top key.Axes top
+  unit ← table_at place.Top key.Unit top
+  outline_from tables price_table axis_table unit
 
 -- what the bytes stand for
 unfoldable pub document_of : List ℕ → Reading Document

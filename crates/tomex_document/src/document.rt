@@ -1,14 +1,10 @@
 //! The document of a study: what its bytes stand for.
 
-ghost use Rattle.std.specs.Prelude.{◌≡◌, ◌≤◌, [], length, Ok, Err, if◌then◌else◌};
+ghost use Rattle.std.specs.Prelude.{◌≡◌, ◌≤◌, length};
 ghost use Rattle.std.specs.List.{list_any};
 ghost use Rattle.toml.specs.View.{table_view, items_view};
-ghost use Rattle.tomex_config.specs.Grid.{is_too_large};
-ghost use Rattle.tomex_values.specs.Readings.{Gives, ◌>>=◌ as and_then};
-ghost use Rattle.tomex_document.specs.Program.{programs_of};
-ghost use Rattle.tomex_document.specs.Prices.{prices_of};
-ghost use Rattle.tomex_document.specs.Axes.{axes_of};
-ghost use Rattle.tomex_document.specs.Document.{is_wide, members_of, outline_of, document_of};
+ghost use Rattle.tomex_values.specs.Readings.{Gives};
+ghost use Rattle.tomex_document.specs.Document.{is_wide, members_of, outline_from, outline_of, document_of};
 
 mod axes;
 mod entry;
@@ -93,15 +89,8 @@ fn outline_from<A: Allocator + Clone>(
 ) -> Result<Outline<A>, DocumentError>
     requires { length tables.now ≤ 8 }
     ensures { Gives (λ o. o) result
-        (and_then (programs_of 1 [] (items_view tables.now)) (λ programs.
-        and_then (prices_of (table_view price_table.now)) (λ prices.
-        and_then (axes_of (table_view axis_table.now) (table_view unit.now)) (λ axes.
-        if is_too_large axes then Err DocumentError.TooMany else Ok (record {
-          programs = programs;
-          prices = prices;
-          axes = axes;
-          wide = is_wide programs (table_view price_table.now) (table_view axis_table.now);
-        }))))) }
+        (outline_from (items_view tables.now) (table_view price_table.now) (table_view axis_table.now)
+        (table_view unit.now)) }
 {
     let programs = programs_of(alloc.clone()?, tables)?;
     let prices = prices_of(price_table)?;

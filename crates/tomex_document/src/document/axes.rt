@@ -1,12 +1,12 @@
 //! The axes of the grid of configurations.
 
-ghost use Rattle.std.specs.Prelude.{◌≡◌, List, option_map, Ok};
+ghost use Rattle.std.specs.Prelude.{◌≡◌, option_map};
 ghost use Rattle.toml.specs.View.{table_view, items_view};
-ghost use Rattle.tomex_config.specs.Grid.{Lists, lists_of};
+ghost use Rattle.tomex_config.specs.Grid.{lists_of};
 ghost use Rattle.tomex_values.specs.Lists.{counts_at};
-ghost use Rattle.tomex_values.specs.Readings.{Gives, ◌>>=◌ as and_then};
-ghost use Rattle.tomex_document.specs.Axes.{axis_counts, axes_of, counts_of};
-ghost use Rattle.tomex_document.specs.Units.{options_of, unit_tables};
+ghost use Rattle.tomex_values.specs.Readings.{Gives};
+ghost use Rattle.tomex_document.specs.Axes.{axis_counts, axes_of, counts_of, unit_options};
+ghost use Rattle.tomex_document.specs.Units.{options_of};
 
 use super::units::{options_of, unit_tables};
 use std::alloc::Allocator;
@@ -103,14 +103,9 @@ struct Options<A: Allocator> {
 
 /// The options that the table of the unit gives, kind by kind, whatever whole is put together from them.
 fn unit_options<A: Allocator + Clone>(alloc: A, unit: &Table) -> Result<Options<A>, DocumentError>
-    ensures { (whole : (alu mul div mem bru : List UnitOption) → Lists) → Gives
+    ensures { (whole : _) → Gives
         (λ o. whole o.alu.items o.mul.items o.div.items o.mem.items o.bru.items) result
-        (and_then (unit_tables (table_view unit.now)) (λ tables.
-        and_then (options_of UnitId.Alu tables.alu) (λ alu.
-        and_then (options_of UnitId.Mul tables.mul) (λ mul.
-        and_then (options_of UnitId.Div tables.div) (λ div.
-        and_then (options_of UnitId.Mem tables.mem) (λ mem.
-        and_then (options_of UnitId.Bru tables.bru) (λ bru. Ok (whole alu mul div mem bru)))))))) }
+        (unit_options (table_view unit.now) whole) }
 {
     let tables = unit_tables(unit)?;
     let shared = &alloc;

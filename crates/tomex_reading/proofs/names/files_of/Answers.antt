@@ -1,20 +1,14 @@
--- The file of the program at hand is one more.
-use Rattle.std.proofs.Common.{◌≡◌, ◌∙◌, ap, arith, sym, ℕ, List, [], ◌∷◌, ◌++◌, map, refl}
+-- The files of the programs so far, and of all of them at the end.
+use Rattle.std.proofs.Common.{◌∙◌, ap, arith, sym, refl}
+use Rattle.std.proofs.lemmas.Grind.{common_steps}
 use Rattle.std.proofs.lemmas.Iterator.Adapters.{YieldsList-from_vec}
 use Rattle.std.proofs.lemmas.Iterator.Consumers.{YieldsList-end}
-use Rattle.std.proofs.lemmas.List.{map-append, map-id}
+use Rattle.std.proofs.lemmas.List.{map-id}
 use Rattle.tomex_document.specs.Document.{files_of}
-use Rattle.tomex_document.specs.Program.{ProgramEntry}
 use Rattle.tomex_reading.proofs.names.files_of.Goals as goal
 
-one_more : {X : Type 0} (seen : X → List ℕ) (files after : List X) (file : X) (programs : List ProgramEntry)
-    (program : ProgramEntry) → after ≡ files ++ file ∷ [] → seen file ≡ program.file
-    → map seen files ≡ files_of programs → map seen after ≡ files_of (programs ++ program ∷ [])
-one_more seen files after file programs program grown is here = rw (grown, map-append, map-append, here, is) refl
-
 pub loop-program-preserved : goal.loop-program-preserved
-loop-program-preserved g c =
-    one_more _ _ _ _ _ _ c.in_ok-push.ensures.items c.into_file.ensures c.loop-program.invariant
+loop-program-preserved g c = grind (arith, common_steps)
 
 pub loop-program-init : goal.loop-program-init
 loop-program-init g c = rw c.new-files.ensures.items refl
