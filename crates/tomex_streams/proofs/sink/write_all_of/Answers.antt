@@ -11,3 +11,6 @@ loop-written-preserved g c =
       took = appends_both _ _ _ _ _ _ (take-then_take _ _ _) before.took c.in-Ok.ensures.ok;
       fine = c.in-Ok.ensures.fine (λ none. absurd (c.in-Ok.count-test.1 none)) ∙ before.fine;
     }
+
+pub returns-in-Err-clause-all : goal.returns-in-Err-clause-all
+returns-in-Err-clause-all g c = search rules fits 100

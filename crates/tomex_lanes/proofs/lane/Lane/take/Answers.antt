@@ -1,5 +1,5 @@
 -- A steal leaves what is stolen from as it was.
-use Rattle.std.proofs.Common.{◌≡◌, ◌∙◌, ap, set}
+use Rattle.std.proofs.Common.{◌≡◌, ◌∙◌, ap, set, rules}
 use Rattle.std.proofs.lemmas.List.{set-get_or}
 use Rattle.tomex_lanes.proofs.lane.Lane.take.Goals as goal
 
@@ -20,3 +20,6 @@ returns-in-Some-steal-clause-same g c = let i = c.loop-k.invariant in
     ap (set others c.loop-k.k) (c.steal.ensures.same ∙ c.index_mut.ensures.value)
     ∙ (set-get_or others c.loop-k.k c.index_mut.result.now ∙ i.4) in
     let is = c.self.view_is in cc
+
+pub returns-in-Some-clause-list : goal.returns-in-Some-clause-list
+returns-in-Some-clause-list g c = search rules fits 100

@@ -1,5 +1,5 @@
 -- The totals that are known or learnt are those of the row's configuration.
-use Rattle.std.proofs.Common.{◌<◌, ap, ◌∙◌, sym, subst, List, length}
+use Rattle.std.proofs.Common.{◌<◌, ap, ◌∙◌, sym, subst, List, length, rules}
 use Rattle.tomex_config.specs.Configuration.{Configuration}
 use Rattle.tomex_runs.specs.Knowledge.{KnowledgeOf}
 use Rattle.tomex_workers.proofs.Closing.{continues_itself, row_read, row_there, totals_on}
@@ -21,3 +21,6 @@ close_row-requires-clause-totals g c =
     (row_read _ _ c.args.row c.index-rows-row.result c.rows.ensures.value
     (row_there c.args.self.now.study.now _ _ c.args.row c.keeps_limits.ensures c.requires.plan c.requires.row)
     c.index-rows-row.is) c.in_ok-totals.ensures.totals
+
+pub returns-clause-hand : goal.returns-clause-hand
+returns-clause-hand g c = search rules fits 100
