@@ -14,6 +14,8 @@ mod fronts;
 #[cfg(test)]
 mod konata;
 #[cfg(test)]
+mod line_faults;
+#[cfg(test)]
 mod pipeline;
 #[cfg(test)]
 mod refused_memory;

@@ -3,7 +3,7 @@
 use std::process::Abort;
 use std::test::Fail;
 use tomex_image::ImageError;
-use tomex_report::{StudyError, file_names};
+use tomex_reading::{StudyError, file_names};
 use tomex_rvexec::{Fault, FaultKind};
 
 mod reading;

@@ -13,43 +13,36 @@ use csv::{ByteRecord, Writer};
 use std::alloc::{AllocError, Allocator, Global};
 use std::fmt::Write;
 use tomex_config::Config;
-use tomex_records::{into_text, push_decimal, push_instruction, put_record};
+use tomex_records::{into_text, push_decimal, push_instruction, push_names, put_record};
 use tomex_rvexec::Step;
 use tomex_study::Program;
 use tomex_timing::Times;
 use tomex_timing::evaluate::{times, total};
 
 /// The names of the columns.
+const COLUMNS: [&str; 9] = [
+    "step", "pc", "instr", "issue", "addr", "start", "finish", "end", "station",
+];
+
+/// The record of the columns' names.
 fn header_of(heap: Global) -> Result<ByteRecord, AllocError>
     ensures { IfOk result (λ made. fields_of made ≡ header) }
 {
     let mut record = ByteRecord::new(heap);
-    record.push_field(b"step")?;
-    record.push_field(b"pc")?;
-    record.push_field(b"instr")?;
-    record.push_field(b"issue")?;
-    record.push_field(b"addr")?;
-    record.push_field(b"start")?;
-    record.push_field(b"finish")?;
-    record.push_field(b"end")?;
-    record.push_field(b"station")?;
+    push_names(&mut record, &COLUMNS)?;
     Ok(record)
 }
 
-/// The fields of the total.
+/// What stands before the total's cycles.
+const TOTAL: [&str; 7] = ["total", "-", "-", "-", "-", "-", "-"];
+
+/// The record of the total.
 fn total_record(heap: Global, total: u64) -> Result<ByteRecord, AllocError>
     ensures { IfOk result (λ made. fields_of made ≡ total_fields total) }
 {
     let mut record = ByteRecord::new(heap);
-    let digits = format!(in heap; "{total}")?;
-    record.push_field(b"total")?;
-    record.push_field(b"-")?;
-    record.push_field(b"-")?;
-    record.push_field(b"-")?;
-    record.push_field(b"-")?;
-    record.push_field(b"-")?;
-    record.push_field(b"-")?;
-    record.push_field(digits.as_bytes())?;
+    push_names(&mut record, &TOTAL)?;
+    push_decimal(&mut record, &mut String::new(heap), total)?;
     record.push_field(b"-")?;
     Ok(record)
 }

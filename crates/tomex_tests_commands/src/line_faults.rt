@@ -1,0 +1,46 @@
+//! How a line that asks for no command is told.
+
+use std::alloc::{AllocError, Global};
+use std::test::Fail;
+use tomex_command::tell_line_fault;
+use tomex_line::{LineFault, not_text, unread};
+use tomex_samples::in_memory::Narrow;
+
+/// Whether a fault that is told, to an output which takes so many bytes, has this status, and writes these texts.
+fn is_told(
+    alloc: Global,
+    fault: LineFault,
+    room: usize,
+    status: u8,
+    output: &str,
+    error: &str,
+) -> bool {
+    let mut out = Narrow::new(alloc, room, 3);
+    let mut err = Narrow::new(alloc, 100, 3);
+    tell_line_fault(&fault, &mut out, &mut err) == status
+        && out.bytes.as_slice() == output.as_bytes()
+        && err.bytes.as_slice() == error.as_bytes()
+}
+
+/// A text of help.
+fn help(alloc: Global) -> Result<LineFault, AllocError> {
+    Ok(LineFault::Help(String::from_str(alloc, "help")?))
+}
+
+/// What no memory is left for.
+const NO_MEMORY: &str = "tomex: out of memory\n";
+
+#[test]
+fn faults_of_a_line_are_told(rt: HostRuntime) -> Result<(), Fail> {
+    let alloc = rt.alloc();
+    assert!(rt; is_told(alloc, help(alloc)?, 100, 0, "help", ""));
+    assert!(rt; is_told(alloc, help(alloc)?, 2, 3, "he", "tomex: cannot write\n"));
+    let usage = LineFault::Usage(String::from_str(alloc, "usage")?);
+    assert!(rt; is_told(alloc, usage, 100, 2, "", "usage"));
+    assert!(rt; is_told(alloc, LineFault::Memory, 100, 3, "", NO_MEMORY));
+    let told = "error: the command line is not UTF-8\n";
+    assert!(rt; is_told(alloc, unread(false, not_text(alloc)), 100, 2, "", told));
+    assert!(rt; is_told(alloc, unread(false, Err(AllocError)), 100, 3, "", NO_MEMORY));
+    assert!(rt; is_told(alloc, unread(true, not_text(alloc)), 100, 3, "", NO_MEMORY));
+    Ok(())
+}
