@@ -8,12 +8,12 @@ use Rattle.tomex_config.specs.Configuration.{Configuration, IsWithinLimits}
 use Rattle.tomex_rvdec.specs.declared.pool.PoolId.{PoolId}
 use Rattle.tomex_rvdec.specs.declared.pool.PoolId.TheVariants as pools
 use Rattle.tomex_rvdec.specs.declared.pool.UnitId.{UnitId}
-use Rattle.tomex_rvexec.specs.declared.step.ByteRange.{ByteRange}
-use Rattle.tomex_rvexec.specs.declared.step.Step.{Step}
-use Rattle.tomex_rvexec.specs.Flow.{covers, is_among, overwrites}
+use Rattle.tomex_steps.specs.declared.step.ByteRange.{ByteRange}
+use Rattle.tomex_steps.specs.declared.step.Step.{Step}
+use Rattle.tomex_steps.specs.Results.{covers, is_among, overwrites}
 use Rattle.tomex_rvexec.specs.History.{byte_after}
-use Rattle.tomex_rvexec.specs.Steps.{bytes_of, is_in, is_store, step_pool, step_unit}
-use Rattle.tomex_rvexec.proofs.FlowFields.{unit_with_pool}
+use Rattle.tomex_steps.specs.Steps.{bytes_of, is_in, is_store, step_pool, step_unit}
+use Rattle.tomex_steps.proofs.Fields.{unit_with_pool}
 use Rattle.tomex_timing.specs.declared.times.Done.{Done}
 use Rattle.tomex_timing.specs.History.{cycle_of}
 use Rattle.tomex_timing.specs.Recurrence.{AreTimed, IsTimed, IsLeast, can_start, conflicts, shares_byte}

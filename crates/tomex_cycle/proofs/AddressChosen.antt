@@ -7,20 +7,19 @@ use Rattle.std.proofs.lemmas.Bool.{cases_Bool, ltb-true, lt-ltb, leb-true, leb-f
 use Rattle.std.proofs.lemmas.Bool.{and_right, eq-eqb, eqb-true, eqb-false}
 use Rattle.tomex_config.specs.Configuration.{Configuration, IsWithinLimits}
 use Rattle.tomex_timing.specs.declared.times.Done.{Done}
-use Rattle.tomex_timing.specs.History.{cycle_of, is_memory, last_address}
+use Rattle.tomex_timing.specs.History.{cycle_of, is_memory, last_address, source_end}
 use Rattle.tomex_timing.specs.Recurrence.{AreTimed, IsTimed, IsLeast, can_address}
 use Rattle.tomex_cycle.specs.Run.{AreIssuedBy}
 use Rattle.tomex_cycle.specs.Views.{place_of, holds_place, station_of, clocks}
 use Rattle.tomex_image.specs.Image.{Loaded}
-use Rattle.tomex_timing.specs.declared.tables.Tag.{Tag}
+use Rattle.tomex_reservations.specs.declared.tables.Tag.{Tag}
 use Rattle.std.specs.Prelude.{option_map}
 use Rattle.tomex_rvdec.specs.declared.op.Op.{Op}
 use Rattle.tomex_rvdec.specs.declared.op.Op.TheVariants as ops
 use Rattle.tomex_rvdec.specs.Meaning.{form_of}
 use Rattle.tomex_rvdec.specs.Operands.{sources_at}
-use Rattle.tomex_rvexec.specs.declared.step.Step.{Step}
-use Rattle.tomex_rvexec.specs.Steps.{address_of, j_of, operand}
-use Rattle.tomex_timing.specs.History.{source_end}
+use Rattle.tomex_steps.specs.declared.step.Step.{Step}
+use Rattle.tomex_steps.specs.Steps.{address_of, j_of, operand}
 use Rattle.tomex_timing.specs.Tables.{field_of, field_from, producer}
 use Rattle.tomex_cycle.proofs.Fields.{there_test}
 use Rattle.tomex_cycle.proofs.Places.{is_vacant, least_test}

@@ -6,7 +6,7 @@ use Rattle.std.specs.Prelude.{nat_lt, nat_le, if◌then◌else◌, ◌&&◌, ◌
 use Rattle.std.proofs.lemmas.Bool.{cases_Bool, ltb-true, leb-true, le-leb, and_parts}
 use Rattle.std.proofs.lemmas.Bool.{eq-eqb, eqb-true, eqb-false, ne_eqb, both_ways}
 use Rattle.std.proofs.lemmas.List.{get_or-set_same, get_or-set_other, length-set}
-use Rattle.tomex_rvexec.specs.Steps.{step_pool}
+use Rattle.tomex_steps.specs.Steps.{step_pool, address_of, is_number}
 use Rattle.tomex_cycle.specs.Phases.{MakesAddress}
 use Rattle.tomex_config.specs.Configuration.{Configuration, IsWithinLimits}
 use Rattle.tomex_timing.specs.declared.times.Done.{Done}
@@ -16,7 +16,6 @@ use Rattle.tomex_cycle.specs.Run.{AreIssuedBy}
 use Rattle.tomex_cycle.specs.Views.{place_of, holds_place, order_of, ShowsStations, station_at, station_of, clocks}
 use Rattle.tomex_image.specs.Image.{Loaded}
 use Rattle.std.specs.Prelude.{option_map}
-use Rattle.tomex_rvexec.specs.Steps.{address_of, is_number}
 use Rattle.tomex_cycle.proofs.Fields.{tag_there, timed_part, issued_part}
 use Rattle.tomex_cycle.proofs.Places.{place_low, low, station_here, is_vacant, vacant}
 use Rattle.tomex_cycle.proofs.Totals.{issued_more}
@@ -26,8 +25,8 @@ use Rattle.tomex_tags.specs.Contents.{lacks_address, with_address}
 use Rattle.tomex_tags.specs.Places.{place_at, place_of_tag}
 use Rattle.tomex_tags.specs.Pools.{Pools, AreBusy}
 use Rattle.tomex_tags.specs.declared.station.Station.{Station}
-use Rattle.tomex_timing.specs.declared.tables.Field.{Field}
-use Rattle.tomex_timing.specs.declared.tables.Field.TheVariants.{Value, Waits, Unread}
+use Rattle.tomex_reservations.specs.declared.tables.Field.{Field}
+use Rattle.tomex_reservations.specs.declared.tables.Field.TheVariants.{Value, Waits, Unread}
 use Rattle.tomex_bus.specs.Picks.{IsInIssueOrder}
 use Rattle.tomex_cycle.proofs.Orders.{order_is}
 use Rattle.tomex_cycle.proofs.AddressChosen.{or_else, waits_for_address, chosen, address_rises, none_waits}

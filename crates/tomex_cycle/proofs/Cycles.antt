@@ -11,21 +11,19 @@ use Rattle.tomex_rvdec.specs.declared.pool.UnitId.{UnitId}
 use Rattle.tomex_rvdec.specs.Operands.{unit_at}
 use Rattle.tomex_rvexec.specs.declared.outcome.EndKind.{EndKind}
 use Rattle.tomex_rvexec.specs.declared.outcome.Fault.{Fault}
-use Rattle.tomex_rvexec.specs.Flow.{overwrites}
+use Rattle.tomex_steps.specs.Results.{overwrites}
 use Rattle.tomex_rvexec.specs.Machine.{State}
-use Rattle.tomex_rvexec.specs.Memory.{Bytes}
+use Rattle.tomex_steps.specs.Memory.{Bytes}
 use Rattle.tomex_rvexec.specs.Run.{RunEnds}
-use Rattle.tomex_rvexec.specs.Steps.{step_pool, is_in, is_store}
+use Rattle.tomex_steps.specs.Steps.{step_pool, is_in, is_store}
 use Rattle.tomex_timing.specs.declared.times.Done.{Done}
-use Rattle.tomex_timing.specs.History.{cycle_of}
+use Rattle.tomex_timing.specs.History.{cycle_of, greatest_end}
 use Rattle.tomex_timing.specs.Recurrence.{AreTimed, IsTimed, IsLeast, can_start}
 use Rattle.tomex_cycle.specs.declared.fetch.Fetch.{Fetch}
 use Rattle.tomex_cycle.specs.Run.{RunEndsAfter, first_timed, byte_at, IsHistory}
 use Rattle.tomex_cycle.specs.Views.{clocks, ShowsMemory}
 use Rattle.tomex_cycle.specs.Phases.{IsIssuedTo, IsSnapshot, IsYetToIssue, MakesStarts, MakesAddress, MakesIssue}
-use Rattle.tomex_cycle.specs.Phases.{MakesEnds}
-use Rattle.tomex_timing.specs.History.{greatest_end}
-use Rattle.tomex_cycle.specs.Phases.{is_done}
+use Rattle.tomex_cycle.specs.Phases.{MakesEnds, is_done}
 use Rattle.tomex_cycle.specs.declared.progress.Progress.{Progress}
 use Rattle.tomex_cycle.specs.declared.progress.Progress.TheVariants.{Running, Ended}
 use Rattle.tomex_cycle.proofs.Totals.{done_is}

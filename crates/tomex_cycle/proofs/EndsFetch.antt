@@ -11,14 +11,15 @@ use Rattle.tomex_rvdec.specs.Parts.{place_of_pool}
 use Rattle.tomex_rvdec.specs.declared.pool.PoolId.{PoolId}
 use Rattle.tomex_rvdec.specs.declared.pool.PoolId.TheVariants as pools
 use Rattle.tomex_rvdec.specs.declared.pool.UnitId.{UnitId}
-use Rattle.tomex_rvexec.proofs.FlowFields.{unit_with_pool}
+use Rattle.tomex_steps.proofs.Fields.{unit_with_pool}
 use Rattle.tomex_rvexec.proofs.FlowHistories.{unread_j, unread_k}
 use Rattle.tomex_rvexec.specs.declared.outcome.EndKind.{EndKind}
-use Rattle.tomex_rvexec.specs.declared.step.Operand.{Operand}
-use Rattle.tomex_rvexec.specs.declared.step.Step.{Step}
-use Rattle.tomex_rvexec.specs.Flow.{end_of, next_pc_of}
+use Rattle.tomex_steps.specs.declared.step.Operand.{Operand}
+use Rattle.tomex_steps.specs.declared.step.Step.{Step}
+use Rattle.tomex_rvexec.specs.Flow.{end_of}
+use Rattle.tomex_steps.specs.Results.{next_pc_of}
 use Rattle.tomex_rvexec.specs.History.{Follows as Reads}
-use Rattle.tomex_rvexec.specs.Steps.{is_branch, is_in, is_number, j_of, k_of, operand, step_pool, step_unit, step_dest}
+use Rattle.tomex_steps.specs.Steps.{is_branch, is_in, is_number, j_of, k_of, operand, step_pool, step_unit, step_dest}
 use Rattle.tomex_timing.specs.declared.times.Done.{Done}
 use Rattle.tomex_timing.specs.History.{cycle_of, source_end, writer_end}
 use Rattle.tomex_timing.specs.Recurrence.{AreTimed, IsTimed, are_branches_finished, can_issue, can_start, has_operands}
@@ -34,13 +35,12 @@ use Rattle.tomex_cycle.specs.Ends.{AreEnding, AreNamed}
 use Rattle.tomex_cycle.proofs.Accesses.{start_clear}
 use Rattle.tomex_cycle.proofs.AddressChosen.{some_none_of}
 use Rattle.tomex_cycle.proofs.Addresses.{number_is_some}
-use Rattle.tomex_cycle.proofs.Places.{pool_low}
+use Rattle.tomex_cycle.proofs.Places.{pool_low, low}
 use Rattle.tomex_cycle.proofs.Cycles.{can_start_later}
 use Rattle.tomex_cycle.proofs.EndsInTurn.{ends_same}
 use Rattle.tomex_cycle.proofs.EndsPass.{ends_in, option_cases, slot_here, ending_is}
 use Rattle.tomex_cycle.proofs.EndsState.{j_cases, k_cases, later, registers_at, sent_all, stations_at}
 use Rattle.tomex_cycle.proofs.Fields.{unit_later}
-use Rattle.tomex_cycle.proofs.Places.{low}
 use Rattle.tomex_cycle.proofs.Totals.{place_there, reach}
 use Rattle.tomex_tags.specs.Contents.{step_in}
 use Rattle.tomex_tags.specs.Operands.{value_in}
@@ -52,7 +52,7 @@ use Rattle.tomex_sets.specs.Sets.{has}
 use Rattle.tomex_cycle.specs.Starts.{AreLow}
 use Rattle.tomex_cycle.proofs.StartsDone.{low_of, or_cases}
 use Rattle.tomex_rvdec.specs.Operands.{dest_of}
-use Rattle.tomex_timing.specs.declared.tables.Tag.{Tag}
+use Rattle.tomex_reservations.specs.declared.tables.Tag.{Tag}
 
 -- Branches have the last places.
 
@@ -141,7 +141,7 @@ starts_with config d older timed some =
 
 producer_none : (t r : ℕ) (h : List Done) → writer_end h r ≤ t → producer t h r ≡ None
 producer_none t r [] l = refl
-producer_none t r (d ∷ older) l = elim (cases_Bool (is_number (Rattle.tomex_rvexec.specs.Steps.step_dest d.step) r)) [
+producer_none t r (d ∷ older) l = elim (cases_Bool (is_number (Rattle.tomex_steps.specs.Steps.step_dest d.step) r)) [
   | inl e ↦ let k : d.at.end ≤ t = rw e at l in rw (e, le-ltb t d.at.end k) refl
   | inr e ↦ rw e (producer_none t r older (rw e at l))
 ]

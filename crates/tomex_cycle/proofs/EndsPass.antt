@@ -9,7 +9,7 @@ use Rattle.tomex_image.specs.Image.{Loaded}
 use Rattle.tomex_config.specs.Configuration.{Configuration, IsWithinLimits}
 use Rattle.tomex_rvdec.specs.declared.pool.PoolId.{PoolId}
 use Rattle.tomex_rvdec.specs.Operands.{unit_at}
-use Rattle.tomex_rvexec.specs.Steps.{is_number, step_dest, step_pool}
+use Rattle.tomex_steps.specs.Steps.{is_number, step_dest, step_pool}
 use Rattle.tomex_timing.specs.declared.times.Done.{Done}
 use Rattle.tomex_timing.specs.Recurrence.{AreTimed, IsLeast, can_end}
 use Rattle.tomex_timing.specs.Tables.{tag_at}
@@ -19,9 +19,8 @@ use Rattle.tomex_cycle.specs.Ends.{is_finished_by, AreEnding, can_send, ends_alo
 use Rattle.tomex_membuf.specs.Order.{is_finished_before}
 use Rattle.tomex_cycle.proofs.AddressChosen.{some_none_of}
 use Rattle.tomex_cycle.proofs.Addresses.{number_is_some}
-use Rattle.tomex_cycle.proofs.Places.{place_low, is_vacant, vacant}
+use Rattle.tomex_cycle.proofs.Places.{place_low, is_vacant, vacant, least_test, low, station_here}
 use Rattle.tomex_cycle.proofs.Fields.{dest_later, timed_part}
-use Rattle.tomex_cycle.proofs.Places.{least_test, low, station_here}
 use Rattle.tomex_cycle.proofs.Totals.{place_there, reach}
 use Rattle.tomex_tags.specs.Places.{place_at}
 use Rattle.tomex_tags.specs.Pools.{Pools, AreBusy}

@@ -10,14 +10,14 @@ use Rattle.tomex_rvdec.specs.declared.op.Form.{Form}
 use Rattle.tomex_rvdec.specs.declared.op.Form.TheVariants as forms
 use Rattle.tomex_rvdec.specs.Meaning.{form_of}
 use Rattle.tomex_rvdec.specs.Operands.{sources_at}
-use Rattle.tomex_rvexec.specs.declared.step.Operand.{Operand}
-use Rattle.tomex_rvexec.specs.declared.step.Step.{Step}
-use Rattle.tomex_rvexec.specs.Flow.{result_of}
+use Rattle.tomex_steps.specs.declared.step.Operand.{Operand}
+use Rattle.tomex_steps.specs.declared.step.Step.{Step}
+use Rattle.tomex_steps.specs.Results.{result_of}
 use Rattle.tomex_rvexec.specs.History.{Follows, byte_after, register_after}
-use Rattle.tomex_rvexec.specs.Steps.{is_number, j_of, k_of, operand, step_dest, step_pool}
-use Rattle.tomex_timing.specs.declared.tables.Field.{Field}
-use Rattle.tomex_timing.specs.declared.tables.Field.TheVariants.{Value, Waits, Unread}
-use Rattle.tomex_timing.specs.declared.tables.Tag.{Tag}
+use Rattle.tomex_steps.specs.Steps.{is_number, j_of, k_of, operand, step_dest, step_pool}
+use Rattle.tomex_reservations.specs.declared.tables.Field.{Field}
+use Rattle.tomex_reservations.specs.declared.tables.Field.TheVariants.{Value, Waits, Unread}
+use Rattle.tomex_reservations.specs.declared.tables.Tag.{Tag}
 use Rattle.tomex_timing.specs.declared.times.Done.{Done}
 use Rattle.tomex_timing.specs.Recurrence.{AreTimed}
 use Rattle.tomex_timing.specs.Tables.{field_from, field_of, producer}
@@ -25,10 +25,9 @@ use Rattle.tomex_cycle.specs.Run.{ArePast, AreIssuedBy, steps_in}
 use Rattle.tomex_cycle.specs.Views.{clocks, place_of, sent_at, station_at, station_of, ShowsRegisters}
 use Rattle.tomex_cycle.specs.Ends.{after_ends, sends_of, sent_below, HaveReceived}
 use Rattle.tomex_cycle.proofs.Addresses.{number_is_some}
-use Rattle.tomex_cycle.proofs.Places.{place_low}
+use Rattle.tomex_cycle.proofs.Places.{place_low, is_vacant, low, vacant, vacant_none}
 use Rattle.tomex_cycle.proofs.EndsPass.{ends_in, idle_ends}
 use Rattle.tomex_cycle.proofs.Fields.{heard_is, issued_part, silent, timed_part}
-use Rattle.tomex_cycle.proofs.Places.{is_vacant, low, vacant, vacant_none}
 use Rattle.tomex_cycle.proofs.Totals.{reach}
 use Rattle.tomex_tags.specs.Contents.{hears}
 use Rattle.tomex_tags.specs.Operands.{heard}

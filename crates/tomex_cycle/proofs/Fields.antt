@@ -9,19 +9,17 @@ use Rattle.tomex_config.specs.Configuration.{Configuration, IsWithinLimits}
 use Rattle.tomex_rvdec.specs.declared.pool.PoolId.{PoolId}
 use Rattle.tomex_rvdec.specs.declared.pool.UnitId.{UnitId}
 use Rattle.tomex_rvdec.specs.Operands.{unit_at}
-use Rattle.tomex_rvexec.proofs.FlowFields.{dest_needs_pool}
-use Rattle.tomex_timing.specs.History.{cycle_of}
-use Rattle.tomex_timing.specs.Recurrence.{IsLeast, can_start}
+use Rattle.tomex_steps.proofs.Fields.{dest_needs_pool}
+use Rattle.tomex_timing.specs.History.{cycle_of, source_end, writer_end}
+use Rattle.tomex_timing.specs.Recurrence.{IsLeast, can_start, AreTimed, IsTimed}
 use Rattle.tomex_cycle.proofs.Cycles.{can_start_later}
-use Rattle.tomex_rvexec.specs.declared.step.Operand.{Operand}
-use Rattle.tomex_rvexec.specs.Flow.{result_of}
+use Rattle.tomex_steps.specs.declared.step.Operand.{Operand}
+use Rattle.tomex_steps.specs.Results.{result_of}
 use Rattle.tomex_rvexec.specs.History.{byte_after, register_after}
-use Rattle.tomex_rvexec.specs.Steps.{is_number, step_dest, step_pool}
-use Rattle.tomex_timing.specs.declared.tables.Field.TheVariants.{Value, Waits}
-use Rattle.tomex_timing.specs.declared.tables.Tag.{Tag}
+use Rattle.tomex_steps.specs.Steps.{is_number, step_dest, step_pool}
+use Rattle.tomex_reservations.specs.declared.tables.Field.TheVariants.{Value, Waits}
+use Rattle.tomex_reservations.specs.declared.tables.Tag.{Tag}
 use Rattle.tomex_timing.specs.declared.times.Done.{Done}
-use Rattle.tomex_timing.specs.History.{source_end, writer_end}
-use Rattle.tomex_timing.specs.Recurrence.{AreTimed, IsTimed}
 use Rattle.tomex_timing.specs.Tables.{field_of, field_from, producer, tag_of, unsent_tag}
 use Rattle.tomex_cycle.specs.Run.{AreIssuedBy, steps_in}
 use Rattle.tomex_cycle.specs.Views.{holds_place, place_of, sent_at}

@@ -11,9 +11,9 @@ use Rattle.tomex_config.specs.Configuration.{Configuration, IsWithinLimits}
 use Rattle.tomex_rvexec.specs.declared.outcome.EndKind.{EndKind}
 use Rattle.tomex_rvexec.specs.Machine.{State}
 use Rattle.tomex_rvexec.specs.Run.{RunEnds}
-use Rattle.tomex_rvexec.specs.Steps.{is_number, j_of, step_pool, step_unit}
-use Rattle.tomex_timing.specs.declared.tables.Field.{Field}
-use Rattle.tomex_timing.specs.declared.tables.Field.TheVariants.{Value, Waits, Unread}
+use Rattle.tomex_steps.specs.Steps.{is_number, j_of, step_pool, step_unit}
+use Rattle.tomex_reservations.specs.declared.tables.Field.{Field}
+use Rattle.tomex_reservations.specs.declared.tables.Field.TheVariants.{Value, Waits, Unread}
 use Rattle.tomex_timing.specs.declared.times.Done.{Done}
 use Rattle.tomex_timing.specs.declared.times.Times.{Times}
 use Rattle.tomex_timing.specs.History.{cycle_of, greatest_end, is_memory, last_address}
@@ -31,7 +31,7 @@ use Rattle.tomex_cycle.proofs.Addresses.{waiting_is}
 use Rattle.tomex_bus.specs.Picks.{IsInIssueOrder}
 use Rattle.tomex_cycle.proofs.IssueOrder.{first_waiting, next_address, where_base_is_there}
 use Rattle.tomex_cycle.specs.declared.fetch.Fetch.{Fetch}
-use Rattle.tomex_rvexec.specs.Memory.{Bytes}
+use Rattle.tomex_steps.specs.Memory.{Bytes}
 use Rattle.tomex_rvexec.specs.declared.outcome.Fault.{Fault}
 use Rattle.tomex_tags.specs.declared.register_status.RegStatus.{RegStatus}
 use Rattle.tomex_cycle.specs.Run.{AreIssuedBy, IsHistory, first_timed}

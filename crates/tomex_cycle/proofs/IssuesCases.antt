@@ -13,15 +13,15 @@ use Rattle.tomex_rvdec.specs.Parts.{place_of_pool}
 use Rattle.tomex_rvexec.specs.declared.outcome.EndKind.{EndKind}
 use Rattle.tomex_rvexec.specs.declared.outcome.Fault.{Fault}
 use Rattle.tomex_rvexec.specs.declared.outcome.FaultKind.{FaultKind}
-use Rattle.tomex_rvexec.specs.declared.step.Step.{Step}
+use Rattle.tomex_steps.specs.declared.step.Step.{Step}
 use Rattle.tomex_rvexec.specs.Fetch.{instruction_at}
 use Rattle.tomex_rvexec.specs.Flow.{end_of}
 use Rattle.tomex_rvexec.specs.History.{step_after}
 use Rattle.tomex_rvexec.specs.Machine.{State}
 use Rattle.tomex_rvexec.specs.Run.{RunEnds}
-use Rattle.tomex_rvexec.specs.Steps.{is_branch, j_of, k_of, step_pool}
+use Rattle.tomex_steps.specs.Steps.{is_branch, j_of, k_of, step_pool}
 use Rattle.tomex_timing.specs.Tables.{field_of}
-use Rattle.tomex_timing.specs.declared.tables.Field.{Field}
+use Rattle.tomex_reservations.specs.declared.tables.Field.{Field}
 use Rattle.tomex_timing.specs.declared.times.Done.{Done}
 use Rattle.tomex_timing.specs.Recurrence.{AreTimed, IsLeast, can_issue, can_issue_another}
 use Rattle.tomex_timing.specs.Search.{least, times_of}
@@ -33,8 +33,7 @@ use Rattle.tomex_cycle.specs.declared.fetch.Fetch.TheVariants.{At, Waits, Stoppe
 use Rattle.tomex_cycle.specs.Issue.{IsIssuing, IssuesNext}
 use Rattle.tomex_cycle.specs.Run.{AreIssuedBy, first_timed}
 use Rattle.tomex_cycle.specs.Views.{ShowsRegisters, ShowsStations, clocks, fetch_after, fetch_of, station_of}
-use Rattle.tomex_cycle.proofs.Places.{pool_low}
-use Rattle.tomex_cycle.proofs.Places.{low}
+use Rattle.tomex_cycle.proofs.Places.{pool_low, low}
 use Rattle.tomex_cycle.proofs.Runs.{run_count, next_done, run_next, run_timed}
 use Rattle.tomex_cycle.proofs.Totals.{reach, stopped_is}
 use Rattle.tomex_cycle.proofs.IssuesNumbers.{free_is, room}

@@ -1,31 +1,28 @@
 -- The numbers of a pool's stations: which are free, and how many are held.
-use Rattle.std.proofs.Common.{ℕ, zero, suc, ◌+◌, ◌*◌, ◌<◌, ◌≤◌, ◌≡◌, ◌∙◌, Bool, true, false, cond, arith, refl, List}
+use Rattle.std.proofs.Common.{ℕ, zero, suc, ◌+◌, ◌*◌, ◌<◌, ◌≤◌, ◌≡◌, ◌∙◌, Bool, true, false, arith, refl, List}
 use Rattle.std.proofs.Common.{[], ◌∷◌, Option, Some, None, ap, sym, inl, inr}
 use Rattle.std.specs.Prelude.{nat_lt, nat_le, ◌&&◌, ◌==◌, not, count_by, is_none, MatchOption}
 use Rattle.std.specs.List.{list_all}
 use Rattle.std.proofs.lemmas.Bool.{cases_Bool, cases_order, ltb-true, lt-ltb, le-ltb, leb-true, leb-false, le-leb}
-use Rattle.std.proofs.lemmas.Bool.{lt-leb, and_parts, eqb-true, eq-eqb, ne_eqb, both_ways}
+use Rattle.std.proofs.lemmas.Bool.{lt-leb, and_parts, eqb-true, both_ways}
 use Rattle.std.proofs.lemmas.List.Sums.{sum_by-cons}
 use Rattle.tomex_image.specs.Image.{Loaded}
 use Rattle.tomex_config.specs.Configuration.{Configuration, stations_of}
 use Rattle.tomex_rvdec.specs.declared.pool.PoolId.{PoolId}
 use Rattle.tomex_rvdec.specs.Parts.{place_of_pool}
-use Rattle.tomex_rvexec.specs.Steps.{is_in, is_number, step_pool}
+use Rattle.tomex_steps.specs.Steps.{is_in, is_number, step_pool}
 use Rattle.tomex_timing.specs.declared.times.Done.{Done}
 use Rattle.tomex_timing.specs.Recurrence.{AreTimed, IsLeast}
 use Rattle.tomex_timing.specs.Search.{least}
 use Rattle.tomex_timing.specs.Station.{has_station, is_free, is_held}
 use Rattle.tomex_timing.proofs.Least.{least_same}
 use Rattle.tomex_timing.proofs.Search.{issue_station}
-use Rattle.tomex_timing.proofs.Stations.{number_is}
+use Rattle.tomex_timing.proofs.Stations.{lower, number_is, one, split_count}
 use Rattle.tomex_cycle.specs.Run.{AreIssuedBy}
 use Rattle.tomex_cycle.specs.Views.{clocks, holds_place, station_at}
 use Rattle.tomex_cycle.proofs.Places.{AreLow, same_place}
 use Rattle.tomex_tags.specs.Places.{pool_at}
 use Rattle.tomex_tags.proofs.Serving.{pool_place}
-
-abbrev one : Bool → ℕ
-one b = cond b 1 0
 
 same_pool : (p q : PoolId) → (place_of_pool q == place_of_pool p) ≡ true → q ≡ p
 same_pool p q e = sym (pool_place q) ∙ (ap pool_at (eqb-true (place_of_pool q) (place_of_pool p) e) ∙ pool_place p)
@@ -79,43 +76,11 @@ held_most config p u (d ∷ older) timed issued = elim (cases_Bool (is_held p u 
 
 -- Where a number is free, a station is left.
 
-abbrev lower : Option ℕ → ℕ → Bool
-lower None n = false
-lower (Some m) n = nat_lt m n
-
-split_number : (m n : ℕ) → one (nat_lt m (suc n)) ≡ one (nat_lt m n) + one (m == n)
-split_number m n = elim (cases_order m n) [
-  | inl e ↦ rw (e, lt-ltb n (suc n) (omega arith), le-ltb n n (omega arith), eq-eqb n n refl) refl
-  | inr (inl l) ↦ rw (lt-ltb m (suc n) (omega arith), lt-ltb m n l, ne_eqb m n (λ (e : m ≡ n). absurd (omega arith)))
-      refl
-  | inr (inr l) ↦ rw (
-    le-ltb m (suc n) (omega arith),
-    le-ltb m n (omega arith),
-    ne_eqb m n
-        (λ (e : m ≡ n). absurd (omega arith)),
-  ) refl
-]
-
-split_one : (b : Bool) (st : Option ℕ) (n : ℕ) → one (b && lower st (suc n)) ≡ one (b && lower st n)
-    + one (b && is_number st n)
-split_one false st n = refl
-split_one true None n = refl
-split_one true (Some m) n = split_number m n
-
 abbrev below : PoolId → ℕ → ℕ → Done → Bool
 below p u n d = is_held p u d && lower d.at.station n
 
 abbrev numbered : PoolId → ℕ → ℕ → Done → Bool
 numbered p u k d = is_held p u d && is_number d.at.station k
-
-split_count : (p : PoolId) (u n : ℕ) (h : List Done) → count_by (below p u (suc n)) h ≡ count_by (below p u n) h
-    + count_by (numbered p u n) h
-split_count p u n [] = refl
-split_count p u n (d ∷ h) =
-    let e = split_count p u n h in
-    let f : one (is_held p u d && lower d.at.station (suc n)) ≡ one (is_held p u d && lower d.at.station n)
-    + one (is_held p u d && is_number d.at.station n) = split_one (is_held p u d) d.at.station n in
-    rw (sum_by-cons, sum_by-cons, sum_by-cons) (omega arith)
 
 none_below : (p : PoolId) (u : ℕ) (h : List Done) → count_by (below p u 0) h ≡ 0
 none_below p u [] = refl
@@ -132,14 +97,14 @@ few_below p u zero h each = let e = none_below p u h in omega arith
 few_below p u (suc n) h each =
     let a : count_by (below p u n) h ≤ n = few_below p u n h each in
     let b : count_by (numbered p u n) h ≤ 1 = each n in
-    let e = split_count p u n h in
+    let e = split_count (is_held p u) (λ d. d.at.station) n h in
     omega arith
 
 less_below : (p : PoolId) (u n m : ℕ) (h : List Done) → ((k : ℕ) → count_by (numbered p u k) h ≤ 1) → m < n
     → count_by (numbered p u m) h ≡ 0 → count_by (below p u n) h < n
 less_below p u zero m h each l none = absurd (omega arith)
 less_below p u (suc n) m h each l none =
-    let e = split_count p u n h in
+    let e = split_count (is_held p u) (λ d. d.at.station) n h in
     elim (cases_order m n) [
       | inl same ↦
           let a : count_by (below p u n) h ≤ n = few_below p u n h each in

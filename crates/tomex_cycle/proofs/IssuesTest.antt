@@ -6,13 +6,14 @@ use Rattle.std.proofs.lemmas.Bool.{cases_Bool, cases_order, ltb-true, ltb-false,
 use Rattle.tomex_image.specs.Image.{Loaded, IsLoaded}
 use Rattle.tomex_config.specs.Configuration.{Configuration, IsWithinLimits}
 use Rattle.tomex_rvexec.specs.declared.outcome.EndKind.{EndKind}
-use Rattle.tomex_rvexec.specs.declared.step.Step.{Step}
+use Rattle.tomex_steps.specs.declared.step.Step.{Step}
 use Rattle.tomex_rvexec.specs.Fetch.{instruction_at}
-use Rattle.tomex_rvexec.specs.Flow.{end_of, next_pc_of}
+use Rattle.tomex_rvexec.specs.Flow.{end_of}
+use Rattle.tomex_steps.specs.Results.{next_pc_of}
 use Rattle.tomex_rvexec.specs.History.{Follows, pc_after, step_after}
 use Rattle.tomex_rvexec.specs.Machine.{State}
 use Rattle.tomex_rvexec.specs.Run.{RunEnds}
-use Rattle.tomex_rvexec.specs.Steps.{is_branch, step_pool}
+use Rattle.tomex_steps.specs.Steps.{is_branch, step_pool}
 use Rattle.tomex_rvexec.proofs.FlowEnds.{step_follows}
 use Rattle.tomex_timing.specs.declared.times.Done.{Done}
 use Rattle.tomex_timing.specs.Recurrence.{AreTimed, are_branches_finished, can_issue, can_issue_another}

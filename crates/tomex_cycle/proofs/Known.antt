@@ -9,15 +9,15 @@ use Rattle.std.proofs.lemmas.List.{get_or-replicate, get_or-set_same, get_or-set
 use Rattle.tomex_rvdec.specs.Operands.{dest_of}
 use Rattle.tomex_rvdec.specs.Parts.{place_of_pool}
 use Rattle.tomex_rvdec.specs.declared.pool.PoolId.{PoolId}
-use Rattle.tomex_rvexec.specs.Steps.{is_number}
+use Rattle.tomex_steps.specs.Steps.{is_number}
 use Rattle.tomex_sets.specs.Sets.{has}
 use Rattle.tomex_bus.specs.Wheel.{HasPut, IsEmpty, Lacks, is_due}
 use Rattle.tomex_sets.proofs.Bits.{none_in}
 use Rattle.tomex_tags.specs.Contents.{with_address}
 use Rattle.tomex_tags.specs.Pools.{is_open}
 use Rattle.tomex_tags.specs.declared.station.Station.{Station}
-use Rattle.tomex_timing.specs.declared.tables.Field.{Field}
-use Rattle.tomex_timing.specs.declared.tables.Field.TheVariants.{Value, Waits, Unread}
+use Rattle.tomex_reservations.specs.declared.tables.Field.{Field}
+use Rattle.tomex_reservations.specs.declared.tables.Field.TheVariants.{Value, Waits, Unread}
 use Rattle.tomex_cycle.specs.Ends.{can_send, finishes}
 use Rattle.tomex_membuf.specs.Order.{is_finished_before}
 use Rattle.tomex_cycle.specs.Finishes.{IsTimetableOf, has_stayed}

@@ -7,7 +7,7 @@ use Rattle.std.proofs.lemmas.Bool.{leb-true, lt-leb, lt-ltb, ltb-true, ltb-false
 use Rattle.std.proofs.lemmas.List.{get_or_past}
 use Rattle.tomex_rvdec.specs.Operands.{dest_of}
 use Rattle.tomex_rvdec.specs.declared.pool.UnitId.TheVariants as units
-use Rattle.tomex_rvexec.specs.Steps.{is_number}
+use Rattle.tomex_steps.specs.Steps.{is_number}
 use Rattle.tomex_bus.specs.Picks.{IsPicked}
 use Rattle.tomex_bus.proofs.Picking.{none_picked}
 use Rattle.tomex_sets.specs.Sets.{has}

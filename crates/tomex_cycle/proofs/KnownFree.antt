@@ -5,7 +5,7 @@ use Rattle.std.specs.Prelude.{nat_lt, ◌==◌, ◌≢◌, ◌&&◌, not, is_som
 use Rattle.std.proofs.lemmas.Bool.{both_ways, cases_Bool, eq-eqb, eqb-true, eqb-false, lt-ltb, ltb-true, ltb-false}
 use Rattle.std.proofs.lemmas.List.{get_or_past}
 use Rattle.tomex_rvdec.specs.Operands.{dest_of}
-use Rattle.tomex_rvexec.specs.Steps.{is_number}
+use Rattle.tomex_steps.specs.Steps.{is_number}
 use Rattle.tomex_bus.specs.Wheel.{HasPassed, IsClearTo, IsNext, is_due}
 use Rattle.tomex_sets.proofs.Bits.{none_in}
 use Rattle.tomex_tags.specs.declared.station.Station.{Station}

@@ -7,7 +7,7 @@ use Rattle.tomex_image.specs.Image.{Loaded}
 use Rattle.tomex_config.specs.Configuration.{Configuration}
 use Rattle.tomex_rvexec.specs.declared.outcome.EndKind.{EndKind}
 use Rattle.tomex_rvexec.specs.Machine.{State}
-use Rattle.tomex_rvexec.specs.Memory.{Bytes}
+use Rattle.tomex_steps.specs.Memory.{Bytes}
 use Rattle.tomex_rvexec.specs.Run.{EndsWithin, RunEnds}
 use Rattle.tomex_timing.specs.declared.times.Done.{Done}
 use Rattle.tomex_timing.specs.History.{greatest_end}

@@ -8,7 +8,7 @@ use Rattle.std.proofs.lemmas.Bool.{cases_Bool, cases_order, both_ways, ltb-true,
 use Rattle.std.proofs.lemmas.List.{get_or_past}
 use Rattle.tomex_image.specs.Image.{Loaded}
 use Rattle.tomex_config.specs.Configuration.{Configuration, IsWithinLimits}
-use Rattle.tomex_rvexec.specs.Steps.{is_number, step_pool}
+use Rattle.tomex_steps.specs.Steps.{is_number, step_pool}
 use Rattle.tomex_timing.specs.declared.times.Done.{Done}
 use Rattle.tomex_timing.specs.Recurrence.{AreTimed}
 use Rattle.tomex_sets.specs.Sets.{has}

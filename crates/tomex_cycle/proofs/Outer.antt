@@ -8,36 +8,34 @@ use Rattle.std.proofs.lemmas.List.{get_or-replicate}
 use Rattle.tomex_image.specs.Image.{Loaded, IsLoaded}
 use Rattle.tomex_config.specs.Configuration.{Configuration, IsWithinLimits}
 use Rattle.tomex_rvexec.specs.declared.outcome.EndKind.{EndKind}
-use Rattle.tomex_rvexec.specs.declared.step.Step.{Step}
-use Rattle.tomex_rvexec.specs.History.{step_after}
+use Rattle.tomex_steps.specs.declared.step.Step.{Step}
+use Rattle.tomex_rvexec.specs.History.{step_after, Follows, Leaves, byte_after, register_after, history as first_steps}
 use Rattle.tomex_rvexec.specs.Machine.{State}
-use Rattle.tomex_rvexec.specs.Memory.{Bytes}
+use Rattle.tomex_steps.specs.Memory.{Bytes}
 use Rattle.tomex_rvexec.specs.Run.{RunEnds, EndsWithin, start_of}
-use Rattle.tomex_rvexec.specs.Steps.{is_number, step_dest}
-use Rattle.tomex_timing.specs.declared.tables.Busy.{Busy}
-use Rattle.tomex_timing.specs.declared.tables.Tag.{Tag}
+use Rattle.tomex_steps.specs.Steps.{is_number, step_dest, is_store}
+use Rattle.tomex_reservations.specs.declared.tables.Busy.{Busy}
+use Rattle.tomex_reservations.specs.declared.tables.Tag.{Tag}
 use Rattle.tomex_timing.specs.declared.times.Done.{Done}
 use Rattle.tomex_timing.specs.History.{greatest_end}
-use Rattle.tomex_timing.specs.Tables.{Tables, tables_of, shown, qi_of, all_tags}
+use Rattle.tomex_reservations.specs.Shown.{Tables}
+use Rattle.tomex_timing.specs.Tables.{tables_of, shown, qi_of, all_tags, producer}
 use Rattle.tomex_cycle.specs.declared.fetch.Fetch.{Fetch}
 use Rattle.tomex_cycle.specs.declared.fetch.Fetch.TheVariants.{At, Stopped}
 use Rattle.tomex_cycle.specs.declared.progress.Progress.{Progress}
 use Rattle.tomex_cycle.specs.declared.progress.Progress.TheVariants.{Running}
-use Rattle.tomex_cycle.specs.Run.{first_timed, run_of, AreIssuedBy, IsHistory}
+use Rattle.tomex_cycle.specs.Run.{first_timed, run_of, AreIssuedBy, IsHistory, steps_in, byte_at}
 use Rattle.tomex_cycle.specs.Views.{clocks, ShowsRegisters, ShowsStations}
 use Rattle.tomex_cycle.specs.Phases.{IsIssuedTo, IsSnapshot, IsYetToIssue}
 use Rattle.tomex_cycle.specs.Seen.{Seen}
-use Rattle.tomex_rvexec.specs.Flow.{IsState, overwrites}
-use Rattle.tomex_rvexec.specs.History.{Follows, Leaves, byte_after, register_after, history as first_steps}
-use Rattle.tomex_rvexec.specs.Steps.{is_store}
+use Rattle.tomex_rvexec.specs.Flow.{IsState}
+use Rattle.tomex_steps.specs.Results.{overwrites}
 use Rattle.tomex_rvexec.proofs.FlowEnds.{step_ends_it, step_follows, step_joins, end_is}
 use Rattle.tomex_rvexec.proofs.FlowHistories.{same_registers, same_memory}
 use Rattle.tomex_rvexec.proofs.FlowRuns.{run_state}
 use Rattle.tomex_rvexec.proofs.FlowStates.{end_writes_no_register, end_writes_no_byte}
-use Rattle.tomex_timing.specs.Tables.{producer}
 use Rattle.tomex_timing.proofs.Bound.{timed_by}
 use Rattle.tomex_timing.proofs.Settled.{AllBy}
-use Rattle.tomex_cycle.specs.Run.{steps_in, byte_at}
 use Rattle.tomex_cycle.specs.Sound.{IsSound, IsAfter}
 use Rattle.tomex_cycle.proofs.Runs.{run_timed, steps_are, run_none, run_whole, run_history, rest_to, AreLater}
 use Rattle.tomex_cycle.proofs.Totals.{more_left, stops}

@@ -11,7 +11,7 @@ use Rattle.tomex_config.specs.Configuration.{Configuration, IsWithinLimits, stat
 use Rattle.tomex_rvdec.specs.declared.pool.PoolId.{PoolId}
 use Rattle.tomex_rvdec.specs.declared.pool.PoolId.TheVariants as pools
 use Rattle.tomex_rvdec.specs.Parts.{place_of_pool}
-use Rattle.tomex_rvexec.specs.Steps.{is_in, is_number, step_pool}
+use Rattle.tomex_steps.specs.Steps.{is_in, is_number, step_pool}
 use Rattle.tomex_timing.specs.declared.times.Done.{Done}
 use Rattle.tomex_timing.specs.Recurrence.{AreTimed, IsLeast}
 use Rattle.tomex_timing.specs.Search.{least}

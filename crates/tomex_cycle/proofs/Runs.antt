@@ -7,7 +7,7 @@ use Rattle.std.proofs.lemmas.List.{reverse-reverse}
 use Rattle.tomex_image.specs.Image.{Loaded, IsLoaded}
 use Rattle.tomex_config.specs.Configuration.{Configuration, IsWithinLimits}
 use Rattle.tomex_rvexec.specs.declared.outcome.EndKind.{EndKind}
-use Rattle.tomex_rvexec.specs.declared.step.Step.{Step}
+use Rattle.tomex_steps.specs.declared.step.Step.{Step}
 use Rattle.tomex_rvexec.specs.Flow.{IsAllowed, end_of}
 use Rattle.tomex_rvexec.specs.History.{step_after, history as first_steps}
 use Rattle.tomex_rvexec.specs.Machine.{State}

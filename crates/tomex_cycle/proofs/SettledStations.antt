@@ -10,7 +10,7 @@ use Rattle.tomex_image.specs.Image.{Loaded}
 use Rattle.tomex_config.specs.Configuration.{Configuration, IsWithinLimits}
 use Rattle.tomex_rvdec.specs.declared.pool.UnitId.{UnitId}
 use Rattle.tomex_rvdec.specs.Operands.{dest_of}
-use Rattle.tomex_rvexec.specs.Steps.{address_of, is_branch, is_number, step_pool, step_unit, j_of, k_of}
+use Rattle.tomex_steps.specs.Steps.{address_of, is_branch, is_number, step_pool, step_unit, j_of, k_of}
 use Rattle.tomex_timing.specs.declared.times.Done.{Done}
 use Rattle.tomex_timing.specs.History.{cycle_of, is_memory, last_address, source_end}
 use Rattle.tomex_timing.specs.Recurrence.{AreTimed, IsTimed, IsLeast, are_conflicts_finished, can_address, can_issue}

@@ -8,7 +8,7 @@ use Rattle.tomex_config.specs.Configuration.{Configuration, IsWithinLimits}
 use Rattle.tomex_rvexec.specs.declared.outcome.EndKind.{EndKind}
 use Rattle.tomex_rvexec.specs.declared.outcome.Fault.{Fault}
 use Rattle.tomex_rvexec.specs.Machine.{State}
-use Rattle.tomex_rvexec.specs.Memory.{Bytes}
+use Rattle.tomex_steps.specs.Memory.{Bytes}
 use Rattle.tomex_rvexec.specs.Run.{RunEnds}
 use Rattle.tomex_timing.specs.Recurrence.{AreTimed}
 use Rattle.tomex_cycle.specs.Settled.{AllSettled}

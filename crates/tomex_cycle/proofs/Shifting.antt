@@ -7,12 +7,12 @@ use Rattle.std.proofs.lemmas.Bool.{both_ways, cases_Bool, le-ltb, ltb-true, ltb-
 use Rattle.tomex_image.specs.Image.{Loaded}
 use Rattle.tomex_config.specs.Configuration.{Configuration, IsWithinLimits}
 use Rattle.tomex_rvexec.specs.declared.outcome.EndKind.{EndKind}
-use Rattle.tomex_rvexec.specs.declared.step.Operand.{Operand}
+use Rattle.tomex_steps.specs.declared.step.Operand.{Operand}
 use Rattle.tomex_rvexec.specs.Flow.{end_of}
 use Rattle.tomex_rvexec.specs.Machine.{State}
-use Rattle.tomex_rvexec.specs.Memory.{Bytes}
+use Rattle.tomex_steps.specs.Memory.{Bytes}
 use Rattle.tomex_rvexec.specs.Run.{RunEnds}
-use Rattle.tomex_rvexec.specs.Steps.{is_branch, is_number, step_dest, j_of, k_of}
+use Rattle.tomex_steps.specs.Steps.{is_branch, is_number, step_dest, j_of, k_of}
 use Rattle.tomex_timing.specs.declared.times.Done.{Done}
 use Rattle.tomex_timing.specs.History.{cycle_of}
 use Rattle.tomex_timing.specs.Search.{times_of}

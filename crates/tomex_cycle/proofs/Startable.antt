@@ -3,8 +3,8 @@ use Rattle.std.proofs.Common.{ℕ, ◌<◌, ◌≡◌, ◌∙◌, Bool, true, fa
 use Rattle.std.proofs.Common.{sym, inl, inr, slice_index, slice_index_or}
 use Rattle.std.specs.Prelude.{◌==◌, ◌≢◌, ◌&&◌, ◌||◌, not, is_none, is_some}
 use Rattle.std.proofs.lemmas.Bool.{cases_Bool, both_ways, and_parts, eqb-true, eqb-false}
-use Rattle.tomex_rvexec.specs.Steps.{bytes_at, is_in, is_number}
-use Rattle.tomex_rvexec.proofs.FlowFields.{bytes_of_op}
+use Rattle.tomex_steps.specs.Steps.{bytes_at, is_in, is_number}
+use Rattle.tomex_steps.proofs.Fields.{bytes_of_op}
 use Rattle.tomex_sets.specs.Sets.{has, IsWith, IsWithout}
 use Rattle.tomex_bus.specs.Picks.{IsInIssueOrder, IsPicked}
 use Rattle.tomex_config.specs.Configuration.{Configuration, option_of}

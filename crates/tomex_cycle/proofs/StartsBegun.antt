@@ -5,7 +5,7 @@ use Rattle.std.specs.Prelude.{nat_lt, ◌&&◌, ◌==◌, ◌≢◌, is_some}
 use Rattle.std.proofs.lemmas.Bool.{both_ways, cases_Bool, lt-ltb, le-ltb, and_right, eqb-true, eqb-false, cases_order}
 use Rattle.std.proofs.lemmas.List.{get_or-set_same, get_or-set_other, length-set}
 use Rattle.tomex_config.specs.Configuration.{Configuration}
-use Rattle.tomex_rvexec.specs.Memory.{Bytes}
+use Rattle.tomex_steps.specs.Memory.{Bytes}
 use Rattle.tomex_rvexec.specs.declared.outcome.Fault.{Fault}
 use Rattle.tomex_cycle.specs.Starts.{AllCanBegin, CanBegin, HaveBegun, begun, begun_if, AreLow}
 use Rattle.tomex_tags.specs.Pools.{Pools}

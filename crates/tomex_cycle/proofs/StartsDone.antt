@@ -5,16 +5,16 @@ use Rattle.std.specs.Prelude.{◌==◌, is_some, ◌||◌, nat_lt, if◌then◌e
 use Rattle.std.proofs.lemmas.Bool.{cases_Bool, lt-ltb, and_parts, ltb-true, ltb-false, both_ways, eqb-true, lt-leb}
 use Rattle.tomex_image.specs.Image.{Loaded}
 use Rattle.tomex_config.specs.Configuration.{Configuration}
-use Rattle.tomex_rvexec.specs.Flow.{byte_in}
-use Rattle.tomex_rvexec.specs.Memory.{Bytes}
-use Rattle.tomex_rvexec.specs.Steps.{step_unit}
+use Rattle.tomex_steps.specs.Results.{byte_in}
+use Rattle.tomex_steps.specs.Memory.{Bytes}
+use Rattle.tomex_steps.specs.Steps.{step_unit}
 use Rattle.tomex_rvexec.specs.declared.outcome.Fault.{Fault}
-use Rattle.tomex_rvexec.specs.declared.step.Step.{Step}
+use Rattle.tomex_steps.specs.declared.step.Step.{Step}
 use Rattle.tomex_timing.specs.declared.times.Done.{Done}
 use Rattle.tomex_timing.specs.Recurrence.{AreTimed}
 use Rattle.tomex_cycle.specs.Phases.{MakesStarts}
 use Rattle.tomex_cycle.specs.Run.{AreIssuedBy, ArePast}
-use Rattle.tomex_rvexec.specs.Access.{IsInside}
+use Rattle.tomex_steps.specs.Access.{IsInside}
 use Rattle.tomex_cycle.specs.Starts.{AllCanBegin, AllInside, CanBegin, HaveBegun, HaveStored, begun, IsStarting, AreLow}
 use Rattle.tomex_cycle.specs.Views.{ShowsMemory, clocks, holds_place, station_at, station_of}
 use Rattle.tomex_cycle.proofs.StartsMade.{begins_at, inside_is, some_is, step_is}

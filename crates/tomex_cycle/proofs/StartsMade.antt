@@ -10,13 +10,14 @@ use Rattle.tomex_rvdec.specs.declared.op.Op.{Op}
 use Rattle.tomex_rvdec.specs.declared.op.Op.TheVariants as ops
 use Rattle.tomex_rvdec.specs.declared.pool.UnitId.{UnitId}
 use Rattle.tomex_rvdec.specs.Operands.{sources_of, unit_of}
-use Rattle.tomex_rvexec.specs.declared.step.ByteRange.{ByteRange}
-use Rattle.tomex_rvexec.specs.declared.step.Step.{Step}
-use Rattle.tomex_rvexec.specs.Flow.{IsAllowed, byte_in, end_at, is_among, result_of}
+use Rattle.tomex_steps.specs.declared.step.ByteRange.{ByteRange}
+use Rattle.tomex_steps.specs.declared.step.Step.{Step}
+use Rattle.tomex_rvexec.specs.Flow.{IsAllowed, end_at}
+use Rattle.tomex_steps.specs.Results.{byte_in, is_among, result_of}
 use Rattle.tomex_rvexec.specs.History.{byte_after}
-use Rattle.tomex_rvexec.specs.Memory.{Bytes}
-use Rattle.tomex_rvexec.specs.Steps.{bytes_of, j_of, k_of, operand, step_pool, step_unit}
-use Rattle.tomex_rvexec.proofs.FlowFields.{unit_with_pool}
+use Rattle.tomex_steps.specs.Memory.{Bytes}
+use Rattle.tomex_steps.specs.Steps.{bytes_of, j_of, k_of, operand, step_pool, step_unit}
+use Rattle.tomex_steps.proofs.Fields.{unit_with_pool}
 use Rattle.tomex_rvexec.proofs.FlowHistories.{unread_j, unread_k}
 use Rattle.tomex_rvexec.proofs.FlowRuns.{same_result}
 use Rattle.tomex_timing.specs.declared.times.Done.{Done}
@@ -24,7 +25,7 @@ use Rattle.tomex_timing.specs.History.{cycle_of, source_end}
 use Rattle.tomex_timing.specs.Recurrence.{AreTimed, IsLeast, are_conflicts_finished, can_start, has_unit}
 use Rattle.tomex_timing.specs.Tables.{field_of, producer}
 use Rattle.tomex_cycle.specs.Run.{AreIssuedBy, ArePast, steps_in}
-use Rattle.tomex_rvexec.specs.Access.{IsInside}
+use Rattle.tomex_steps.specs.Access.{IsInside}
 use Rattle.tomex_cycle.specs.Starts.{begun, begun_if, finish_from}
 use Rattle.tomex_cycle.specs.Views.{ShowsMemory, clocks, holds_place, station_at, station_of}
 use Rattle.tomex_cycle.proofs.Accesses.{found_is}

@@ -4,8 +4,8 @@ use Rattle.std.proofs.Common.{slice_index_or}
 use Rattle.std.specs.Prelude.{nat_lt, ◌&&◌}
 use Rattle.std.proofs.lemmas.Bool.{and_right}
 use Rattle.tomex_config.specs.Configuration.{Configuration}
-use Rattle.tomex_rvexec.specs.Flow.{byte_in}
-use Rattle.tomex_rvexec.specs.Memory.{Bytes}
+use Rattle.tomex_steps.specs.Results.{byte_in}
+use Rattle.tomex_steps.specs.Memory.{Bytes}
 use Rattle.tomex_sets.proofs.Bits.{none_in}
 use Rattle.tomex_cycle.specs.Phases.{MakesStarts}
 use Rattle.tomex_cycle.specs.Starts.{HaveBegun, HaveStored, IsStarting, begun_if, stored_at, written_by}

@@ -10,25 +10,21 @@ use Rattle.tomex_config.specs.Configuration.{Configuration, IsWithinLimits, opti
 use Rattle.tomex_rvdec.specs.declared.pool.UnitId.{UnitId}
 use Rattle.tomex_rvdec.specs.declared.pool.UnitId.TheVariants as units
 use Rattle.tomex_rvdec.specs.Parts.{place_of_unit}
-use Rattle.tomex_rvexec.specs.Steps.{bytes_of, is_number, j_of, k_of, step_pool, step_unit}
-use Rattle.tomex_rvexec.proofs.FlowFields.{unit_with_pool}
-use Rattle.tomex_timing.specs.declared.tables.Tag.{Tag}
+use Rattle.tomex_steps.specs.Steps.{bytes_of, is_number, j_of, k_of, step_pool, step_unit}
+use Rattle.tomex_steps.proofs.Fields.{unit_with_pool}
+use Rattle.tomex_reservations.specs.declared.tables.Tag.{Tag}
 use Rattle.tomex_timing.specs.declared.times.Done.{Done}
 use Rattle.tomex_timing.specs.History.{cycle_of, is_memory, is_of, last_address, source_end}
-use Rattle.tomex_timing.specs.Recurrence.{AreTimed, IsTimed, IsLeast, are_conflicts_finished, can_start}
-use Rattle.tomex_timing.specs.Recurrence.{has_unit}
+use Rattle.tomex_timing.specs.Recurrence.{AreTimed, IsTimed, IsLeast, are_conflicts_finished, can_start, has_unit}
 use Rattle.tomex_timing.specs.Tables.{tag_at, tag_of}
 use Rattle.tomex_cycle.specs.Run.{AreIssuedBy}
 use Rattle.tomex_cycle.specs.Starts.{wanted, kind_if, is_among, kind_of, IsStarting, AreStartable, is_clear}
-use Rattle.tomex_cycle.specs.Views.{ShowsStations, clocks, holds_place, order_of, place_of}
-use Rattle.tomex_cycle.specs.Views.{station_of}
+use Rattle.tomex_cycle.specs.Views.{ShowsStations, clocks, holds_place, order_of, place_of, station_of}
 use Rattle.tomex_cycle.proofs.AddressChosen.{address_rises}
 use Rattle.tomex_cycle.proofs.Addresses.{order_here, number_is_some}
-use Rattle.tomex_cycle.proofs.Totals.{issued_more}
-use Rattle.tomex_cycle.proofs.Places.{order-append}
+use Rattle.tomex_cycle.proofs.Totals.{issued_more, reach}
+use Rattle.tomex_cycle.proofs.Places.{order-append, is_vacant, vacant, least_test}
 use Rattle.tomex_cycle.proofs.Fields.{timed_part, issued_part}
-use Rattle.tomex_cycle.proofs.Places.{is_vacant, vacant, least_test}
-use Rattle.tomex_cycle.proofs.Totals.{reach}
 use Rattle.tomex_membuf.proofs.Older.{no_option}
 use Rattle.tomex_cycle.proofs.IssueOrder.{no_access}
 use Rattle.tomex_tags.specs.Contents.{bytes_in, is_waiting}

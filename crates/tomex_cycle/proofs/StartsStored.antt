@@ -3,11 +3,11 @@ use Rattle.std.proofs.Common.{length, slice_index_or, zero, suc, Option, Some, N
 use Rattle.std.proofs.Common.{true, false, arith, refl, List, ap, sym}
 use Rattle.std.specs.Prelude.{if◌then◌else◌, ◌&&◌, IfSome}
 use Rattle.std.proofs.lemmas.Bool.{and_parts}
-use Rattle.tomex_rvexec.specs.declared.step.ByteRange.{ByteRange}
-use Rattle.tomex_rvexec.specs.Access.{HasStored, IsInside}
-use Rattle.tomex_rvexec.specs.Flow.{byte_in, covers, overwrites, stored_byte}
-use Rattle.tomex_rvexec.specs.Memory.{Bytes}
-use Rattle.tomex_rvexec.specs.Steps.{bytes_of}
+use Rattle.tomex_steps.specs.declared.step.ByteRange.{ByteRange}
+use Rattle.tomex_steps.specs.Access.{HasStored, IsInside}
+use Rattle.tomex_steps.specs.Results.{byte_in, covers, overwrites, stored_byte}
+use Rattle.tomex_steps.specs.Memory.{Bytes}
+use Rattle.tomex_steps.specs.Steps.{bytes_of}
 use Rattle.tomex_cycle.specs.Starts.{AllInside, HaveStored, stored_at, written_by, AreLow}
 use Rattle.tomex_tags.specs.Contents.{step_in}
 use Rattle.tomex_tags.specs.WaitSets.{IsSetOf, holds_store}

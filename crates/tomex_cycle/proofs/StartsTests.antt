@@ -6,14 +6,13 @@ use Rattle.std.proofs.lemmas.Bool.{MatchBool-at_false, cases_Bool, ltb-true, ltb
 use Rattle.std.proofs.lemmas.Bool.{leb-false, le-leb, or_right, eq-eqb}
 use Rattle.tomex_image.specs.Image.{Loaded}
 use Rattle.tomex_config.specs.Configuration.{Configuration, IsWithinLimits}
-use Rattle.tomex_rvexec.specs.declared.step.Step.{Step}
-use Rattle.tomex_rvexec.specs.Steps.{address_of, bytes_of, is_store, j_of, k_of, step_pool}
-use Rattle.tomex_rvexec.proofs.FlowFields.{bytes_of_memory}
-use Rattle.tomex_timing.specs.declared.tables.Tag.{Tag}
+use Rattle.tomex_steps.specs.declared.step.Step.{Step}
+use Rattle.tomex_steps.specs.Steps.{address_of, bytes_of, is_store, j_of, k_of, step_pool}
+use Rattle.tomex_steps.proofs.Fields.{bytes_of_memory}
+use Rattle.tomex_reservations.specs.declared.tables.Tag.{Tag}
 use Rattle.tomex_timing.specs.declared.times.Done.{Done}
 use Rattle.tomex_timing.specs.History.{cycle_of, is_memory, last_address, source_end}
-use Rattle.tomex_timing.specs.Recurrence.{AreTimed, IsTimed, IsLeast, are_conflicts_finished, can_address}
-use Rattle.tomex_timing.specs.Recurrence.{conflicts}
+use Rattle.tomex_timing.specs.Recurrence.{AreTimed, IsTimed, IsLeast, are_conflicts_finished, can_address, conflicts}
 use Rattle.tomex_timing.specs.Tables.{field_of, field_from}
 use Rattle.tomex_cycle.specs.Run.{AreIssuedBy}
 use Rattle.tomex_cycle.specs.Starts.{is_clear}
@@ -21,11 +20,9 @@ use Rattle.tomex_cycle.specs.Views.{Clocks, ShowsStations, clocks, holds_place, 
 use Rattle.tomex_cycle.specs.Views.{station_of}
 use Rattle.tomex_cycle.proofs.AddressChosen.{address_rises}
 use Rattle.tomex_cycle.proofs.Addresses.{order_here}
-use Rattle.tomex_cycle.proofs.Totals.{issued_more}
-use Rattle.tomex_cycle.proofs.Places.{place_low}
+use Rattle.tomex_cycle.proofs.Totals.{issued_more, reach}
+use Rattle.tomex_cycle.proofs.Places.{place_low, low, station_here}
 use Rattle.tomex_cycle.proofs.Fields.{there_test, tag_there, timed_part, issued_part}
-use Rattle.tomex_cycle.proofs.Places.{low, station_here}
-use Rattle.tomex_cycle.proofs.Totals.{reach}
 use Rattle.tomex_membuf.proofs.Older.{no_option, share_none}
 use Rattle.tomex_membuf.specs.Order.{is_finished_before, lets_pass}
 use Rattle.tomex_tags.specs.Contents.{bytes_in, is_waiting, step_in}

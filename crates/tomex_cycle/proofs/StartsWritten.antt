@@ -6,9 +6,9 @@ use Rattle.std.proofs.lemmas.Bool.{cases_Bool, ltb-true, lt-ltb, le-leb, lt-leb,
 use Rattle.std.proofs.lemmas.Bool.{eqb-false, ne_eqb, both_ways, cases_order}
 use Rattle.tomex_image.specs.Image.{Loaded}
 use Rattle.tomex_config.specs.Configuration.{Configuration, IsWithinLimits}
-use Rattle.tomex_rvexec.specs.declared.step.Step.{Step}
-use Rattle.tomex_rvexec.specs.Flow.{covers, overwrites, stored_byte}
-use Rattle.tomex_rvexec.specs.Steps.{is_number, is_store, step_pool, step_unit}
+use Rattle.tomex_steps.specs.declared.step.Step.{Step}
+use Rattle.tomex_steps.specs.Results.{covers, overwrites, stored_byte}
+use Rattle.tomex_steps.specs.Steps.{is_number, is_store, step_pool, step_unit}
 use Rattle.tomex_timing.specs.declared.times.Done.{Done}
 use Rattle.tomex_timing.specs.History.{cycle_of}
 use Rattle.tomex_timing.specs.Recurrence.{AreTimed, IsLeast, are_conflicts_finished, can_start, conflicts}
@@ -16,9 +16,8 @@ use Rattle.tomex_cycle.specs.Run.{AreIssuedBy, ArePast, byte_at}
 use Rattle.tomex_cycle.specs.Starts.{stored_at, written_by}
 use Rattle.tomex_cycle.specs.Views.{clocks, holds_place, place_of, station_at, station_of}
 use Rattle.tomex_cycle.proofs.Accesses.{conflict_at, starts_clear, store_unit}
-use Rattle.tomex_cycle.proofs.Places.{place_low}
+use Rattle.tomex_cycle.proofs.Places.{place_low, is_vacant, low, vacant}
 use Rattle.tomex_cycle.proofs.Fields.{tag_there}
-use Rattle.tomex_cycle.proofs.Places.{is_vacant, low, vacant}
 use Rattle.tomex_cycle.proofs.StartsMade.{late_unit, not_u, step_is}
 use Rattle.tomex_cycle.proofs.StartsPicked.{starts_at, starts_in}
 use Rattle.tomex_cycle.proofs.Totals.{reach}

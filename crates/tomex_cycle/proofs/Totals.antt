@@ -11,11 +11,12 @@ use Rattle.tomex_rvdec.specs.declared.pool.PoolId.{PoolId}
 use Rattle.tomex_rvdec.specs.declared.pool.UnitId.{UnitId}
 use Rattle.tomex_rvdec.specs.Operands.{unit_at}
 use Rattle.tomex_rvexec.specs.declared.outcome.EndKind.{EndKind}
-use Rattle.tomex_rvexec.specs.declared.step.Step.{Step}
-use Rattle.tomex_rvexec.specs.Flow.{end_of, next_pc_of}
+use Rattle.tomex_steps.specs.declared.step.Step.{Step}
+use Rattle.tomex_rvexec.specs.Flow.{end_of}
+use Rattle.tomex_steps.specs.Results.{next_pc_of}
 use Rattle.tomex_rvexec.specs.Machine.{State}
 use Rattle.tomex_rvexec.specs.Run.{RunEnds}
-use Rattle.tomex_rvexec.specs.Steps.{step_pool, step_dest, is_branch}
+use Rattle.tomex_steps.specs.Steps.{step_pool, step_dest, is_branch}
 use Rattle.tomex_timing.specs.declared.times.Done.{Done}
 use Rattle.tomex_timing.specs.History.{greatest_end}
 use Rattle.tomex_timing.specs.Recurrence.{AreTimed, IsTimed, IsLeast, can_end}
@@ -30,11 +31,10 @@ use Rattle.tomex_rvexec.specs.History.{step_after}
 use Rattle.tomex_rvexec.proofs.FlowEnds.{step_goes_on, step_ends_it}
 use Rattle.tomex_cycle.specs.Phases.{is_done, IsIssuedTo, IsYetToIssue}
 use Rattle.tomex_bus.specs.Picks.{IsInIssueOrder}
-use Rattle.tomex_tags.specs.Pools.{AreBusy}
+use Rattle.tomex_tags.specs.Pools.{AreBusy, Pools}
 use Rattle.tomex_cycle.proofs.Orders.{empty_order, empty_set, order_is}
 use Rattle.tomex_cycle.proofs.Runs.{rest_to, run_next, run_none, run_timed, step_is, AreLater, next_done}
 use Rattle.tomex_tags.specs.Places.{place_at}
-use Rattle.tomex_tags.specs.Pools.{Pools}
 use Rattle.tomex_tags.specs.declared.register_status.RegStatus.{RegStatus}
 
 -- what holds of the times of each step of a history

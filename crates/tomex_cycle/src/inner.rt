@@ -17,10 +17,10 @@ use crate::fetch::Fetch;
 use crate::finishes::Finishes;
 use crate::phases;
 use crate::progress::CycleOutcome;
-use crate::tables::Tables;
 use std::alloc::{AllocError, Allocator, Global};
 use tomex_config::Config;
 use tomex_image::Image;
+use tomex_reservations::Tables;
 use tomex_rvexec::{End, Fetcher, Memory, initial_sp};
 use tomex_tags::{Pools, RegStatus};
 

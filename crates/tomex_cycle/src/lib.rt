@@ -17,9 +17,7 @@ mod phases;
 mod progress;
 mod skipping;
 mod starts;
-mod tables;
 
 pub use machine::Machine;
 pub use progress::Progress;
-pub use tables::Tables;
-pub use tomex_timing::{Busy, Field, Tag};
+pub use tomex_reservations::{Busy, Field, Tables, Tag};

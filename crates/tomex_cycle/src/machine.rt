@@ -12,11 +12,11 @@ use crate::finishes::Finishes;
 use crate::inner::{Inner, Making};
 use crate::progress::{CycleOutcome, Progress};
 use crate::skipping::skip_quiet;
-use crate::tables::Tables;
 use std::alloc::{AllocError, Allocator, Global};
 use std::marker::Model;
 use tomex_config::Config;
 use tomex_image::Image;
+use tomex_reservations::Tables;
 use tomex_rvexec::{End, Fetcher};
 
 /// The cycle of a machine that has made none.

@@ -6,7 +6,7 @@ use Rattle.toml.specs.Data.{Members}
 use Rattle.tomex_rvdec.specs.declared.pool.UnitId.TheVariants as units
 use Rattle.tomex_config.specs.Configuration.{is_between, is_option}
 use Rattle.tomex_config.specs.Grid.{Lists, has_zero, stations_in_range, options_in_range, rest_in_range, has_empty}
-use Rattle.tomex_config.specs.Grid.{in_range, is_too_large}
+use Rattle.tomex_config.specs.Grid.{in_range}
 use Rattle.tomex_values.specs.declared.place.Key.TheVariants as key
 use Rattle.tomex_values.specs.declared.place.Place.TheVariants as place
 use Rattle.tomex_values.specs.Table.{known_keys}

@@ -1,5 +1,5 @@
 -- What a document's parts were read from.
-use Rattle.std.proofs.Common.{◌≡◌, Bool, false, List, [], ◌∷◌, Ok, refl, ap, sym, subst}
+use Rattle.std.proofs.Common.{◌≡◌, false, [], ◌∷◌, Ok, subst}
 use Rattle.toml.specs.Data.{Items, Members}
 use Rattle.tomex_config.specs.Grid.{is_too_large}
 use Rattle.tomex_values.specs.declared.error.DocumentError.TheVariants.{TooMany}

@@ -10,7 +10,7 @@ use Rattle.std.proofs.lemmas.List.Elements.{All-append, All-cons, All-from_recur
 use Rattle.std.proofs.lemmas.List.Elements.{All-tail, All-weaker}
 use Rattle.std.proofs.lemmas.List.Sorted.{All-permutation}
 use Rattle.std.proofs.lemmas.List.Sums.{sum_by-cons}
-use Rattle.tomex_rvexec.specs.declared.step.Step.{Step}
+use Rattle.tomex_steps.specs.declared.step.Step.{Step}
 use Rattle.tomex_config.specs.Configuration.{Configuration}
 use Rattle.tomex_timing.specs.Search.{times_in, total_of}
 use Rattle.tomex_timing.specs.declared.times.Done.{Done}
@@ -18,8 +18,7 @@ use Rattle.tomex_timing.specs.declared.times.Times.{Times}
 use Rattle.tomex_konata.specs.declared.entries.Entry.{Entry}
 use Rattle.tomex_konata.specs.declared.events.Event.{Event}
 use Rattle.tomex_konata.specs.declared.events.Kind.TheVariants.{Change}
-use Rattle.tomex_konata.specs.Konata.{IsLogOf, cycles_of, entries_from, entry_of, gone_before}
-use Rattle.tomex_konata.specs.Konata.{head_of, log_of}
+use Rattle.tomex_konata.specs.Konata.{IsLogOf, cycles_of, entries_from, entry_of, gone_before, head_of, log_of}
 use Rattle.tomex_views.specs.Chart.{first_issue, shown}
 use Rattle.tomex_konata.specs.Kept.{ArePut, change_cycles, change_in, changes_of, events_of, once, out_of, written}
 use Rattle.tomex_konata.proofs.Sorting.{filter_alike, rises}

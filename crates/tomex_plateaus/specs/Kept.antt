@@ -1,6 +1,6 @@
 -- The plateaus that are kept of one program.
 use Rattle.std.specs.Prelude.{ℕ, ◌<◌, ◌≤◌, ◌^◌, List, length, All}
-use Rattle.tomex_rvexec.specs.declared.step.Step.{Step}
+use Rattle.tomex_steps.specs.declared.step.Step.{Step}
 use Rattle.tomex_plateaus.specs.declared.plateau.Plateau.{Plateau}
 use Rattle.tomex_plateaus.specs.declared.plateaus.TheConstants.{MOST}
 use Rattle.tomex_plateaus.specs.Plateaus.{IsPlateauOf}

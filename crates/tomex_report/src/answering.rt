@@ -45,21 +45,27 @@ fn shown<R: Threads + Sync, A: Allocator + Clone + Send + Sync + Drop>(
     front_table(alloc, heap, study, front, cycles.as_slice())
 }
 
+/// So many workers, and what they tell of their rows.
+#[derive(Drop)]
+struct Crew<'g, G> {
+    workers: usize,
+    gate: &'g G,
+}
+
 /// The front of a study, which workers explore, shown.
 fn explored<R: Threads + Wait + Sync, A: Allocator + Clone + Send + Sync + Drop, G: Gate + Sync>(
     rt: &R,
     alloc: A,
     heap: Global,
     study: &Study<A>,
-    workers: usize,
-    gate: &G,
+    crew: Crew<G>,
     view: FrontView,
 ) -> Result<Vec<u8, A>, SweepError>
-    requires some_workers { 1 ≤ workers }
-    requires few_workers { workers ≤ 32 }
+    requires some_workers { 1 ≤ crew.workers }
+    requires few_workers { crew.workers ≤ 32 }
     ensures { IfOk result (λ text. text.items ≡ shown_as view study.now) }
 {
-    let outcome = explore(rt, alloc.clone()?, study, workers, gate)?;
+    let outcome = explore(rt, alloc.clone()?, study, crew.workers, crew.gate)?;
     Ok(shown(rt, alloc, heap, study, outcome.front.as_slice(), view)?)
 }
 
@@ -80,6 +86,29 @@ fn studied<A: Allocator + Clone>(
     match read_study(own, heap, study, files) {
         Ok(read) => Ok(read),
         Err(error) => Err(AnswerError::Study(error)),
+    }
+}
+
+/// The front of the study that the bytes and the files stand for, shown.
+fn answer_as<R: Threads + Wait + Sync, A: Allocator + Clone + Send + Sync + Drop, G: Gate + Sync>(
+    rt: &R,
+    alloc: A,
+    heap: Global,
+    study: &[u8],
+    files: &[Vec<u8, A>],
+    crew: Crew<G>,
+    view: FrontView,
+) -> Result<Vec<u8, A>, AnswerError>
+    requires some_workers { 1 ≤ crew.workers }
+    requires few_workers { crew.workers ≤ 32 }
+    ensures ok { IfOk result
+        (λ text. IsShown view study.now (map (λ f. f.items) files.now) text.items) }
+    ensures err { IfErr result (λ e. IsAnswerRefusal study.now (map (λ f. f.items) files.now) e) }
+{
+    let read = studied(&alloc, heap, study, files)?;
+    match explored(rt, alloc, heap, &read, crew, view) {
+        Ok(text) => Ok(text),
+        Err(error) => Err(AnswerError::Sweep(error)),
     }
 }
 
@@ -107,11 +136,8 @@ pub fn answer<R: Threads + Wait + Sync, A: Allocator + Clone + Send + Sync + Dro
         (λ text. IsAnswer study.now (map (λ f. f.items) files.now) text.items) }
     ensures err { IfErr result (λ e. IsAnswerRefusal study.now (map (λ f. f.items) files.now) e) }
 {
-    let read = studied(&alloc, heap, study, files)?;
-    match explored(rt, alloc, heap, &read, workers, gate, FrontView::Report) {
-        Ok(text) => Ok(text),
-        Err(error) => Err(AnswerError::Sweep(error)),
-    }
+    let crew = Crew { workers, gate };
+    answer_as(rt, alloc, heap, study, files, crew, FrontView::Report)
 }
 
 /// The front of a study as a table. Refusals are those of `answer`.
@@ -134,11 +160,8 @@ pub fn answer_table<
         (λ text. IsShown Table study.now (map (λ f. f.items) files.now) text.items) }
     ensures err { IfErr result (λ e. IsAnswerRefusal study.now (map (λ f. f.items) files.now) e) }
 {
-    let read = studied(&alloc, heap, study, files)?;
-    match explored(rt, alloc, heap, &read, workers, gate, FrontView::Table) {
-        Ok(text) => Ok(text),
-        Err(error) => Err(AnswerError::Sweep(error)),
-    }
+    let crew = Crew { workers, gate };
+    answer_as(rt, alloc, heap, study, files, crew, FrontView::Table)
 }
 
 /// The front of a study as a picture in SVG. Refusals are those of `answer`.
@@ -161,11 +184,8 @@ pub fn answer_picture<
         (λ text. IsShown Picture study.now (map (λ f. f.items) files.now) text.items) }
     ensures err { IfErr result (λ e. IsAnswerRefusal study.now (map (λ f. f.items) files.now) e) }
 {
-    let read = studied(&alloc, heap, study, files)?;
-    match explored(rt, alloc, heap, &read, workers, gate, FrontView::Picture) {
-        Ok(text) => Ok(text),
-        Err(error) => Err(AnswerError::Sweep(error)),
-    }
+    let crew = Crew { workers, gate };
+    answer_as(rt, alloc, heap, study, files, crew, FrontView::Picture)
 }
 
 /// The report of a study, whose rows are all run to their ends on the calling thread.

@@ -11,7 +11,7 @@ use Rattle.std.proofs.lemmas.Option.{get_or_from_slice_get, slice_get-get_or, sl
 use Rattle.tomex_image.specs.Image.{Loaded}
 use Rattle.tomex_rvexec.specs.Run.{start_of}
 use Rattle.tomex_rvexec.specs.Trace.{steps_from}
-use Rattle.tomex_rvexec.specs.declared.step.Step.{Step}
+use Rattle.tomex_steps.specs.declared.step.Step.{Step}
 use Rattle.tomex_config.specs.Configuration.{Configuration}
 use Rattle.tomex_timing.specs.Search.{times_in, total_of}
 use Rattle.tomex_plateaus.specs.Kept.{Kept}

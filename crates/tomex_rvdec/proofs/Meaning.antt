@@ -24,7 +24,7 @@ selected_selects op w h = found (λ o. selects o w) operations op h
 pub means_meaning : (w : ℕ) (x : Instruction) → Means w x → meaning w ≡ Some x
 means_meaning w x m = let e : selected w ≡ Some x.op = selected_by x.op w m.1 in rw e (ap Some (sym m.2))
 
-op_of_operands : (f : Form) (w : ℕ) (op : Op) → (operands_at f w op).op ≡ op
+pub op_of_operands : (f : Form) (w : ℕ) (op : Op) → (operands_at f w op).op ≡ op
 op_of_operands forms.Register w op = refl
 op_of_operands forms.Immediate w op = refl
 op_of_operands forms.Offset w op = refl

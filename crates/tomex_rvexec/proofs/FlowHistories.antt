@@ -13,13 +13,15 @@ use Rattle.tomex_rvdec.specs.declared.op.Form.TheVariants as forms
 use Rattle.tomex_rvdec.specs.Instruction.{Instruction}
 use Rattle.tomex_rvdec.specs.Meaning.{form_of, meaning, operands_at, selected}
 use Rattle.tomex_rvdec.specs.Operands.{pool_of, sources_at, sources_of}
-use Rattle.tomex_rvexec.specs.declared.step.Step.{Step}
-use Rattle.tomex_rvexec.specs.Flow.{IsState, overwrites, result_of, stored_byte}
+use Rattle.tomex_rvdec.proofs.Meaning.{op_of_operands}
+use Rattle.tomex_steps.specs.declared.step.Step.{Step}
+use Rattle.tomex_rvexec.specs.Flow.{IsState}
+use Rattle.tomex_steps.specs.Results.{overwrites, result_of, stored_byte}
 use Rattle.tomex_rvexec.specs.History.{Follows, HasBytesAfter, Leaves, byte_after, register_after}
 use Rattle.tomex_rvexec.specs.Machine.{State}
-use Rattle.tomex_rvexec.specs.Memory.{word_read}
+use Rattle.tomex_steps.specs.Memory.{word_read}
 use Rattle.tomex_rvexec.specs.Run.{start_of}
-use Rattle.tomex_rvexec.specs.Steps.{j_of, k_of, operand, step_dest, step_pool, is_number}
+use Rattle.tomex_steps.specs.Steps.{j_of, k_of, operand, step_dest, step_pool, is_number}
 use Rattle.tomex_rvexec.proofs.FlowSteps.{never_zero}
 
 pub same_registers : (i : Loaded) (steps : List Step) (s : State) (regs : List ℕ) → Leaves i steps s → IsState s
@@ -64,18 +66,6 @@ unread_at forms.Whole w op = (λ f e. refl, λ e. refl)
 fence_waits_nowhere : (op : Op) → form_of op ≡ forms.Fence → pool_of op ≡ None
 fence_waits_nowhere Fence e = refl
 fence_waits_nowhere op e = cc
-
-op_of_operands : (f : Form) (w : ℕ) (op : Op) → (operands_at f w op).op ≡ op
-op_of_operands forms.Register w op = refl
-op_of_operands forms.Immediate w op = refl
-op_of_operands forms.Offset w op = refl
-op_of_operands forms.Shift w op = refl
-op_of_operands forms.Store w op = refl
-op_of_operands forms.Branch w op = refl
-op_of_operands forms.Upper w op = refl
-op_of_operands forms.Jump w op = refl
-op_of_operands forms.Fence w op = refl
-op_of_operands forms.Whole w op = refl
 
 abbrev UnreadIn : Op → ℕ → ℕ → Type 0
 UnreadIn op rs1 rs2 = (IsSome (pool_of op) → (sources_at (form_of op) rs1 rs2).j ≡ None → rs1 ≡ 0)

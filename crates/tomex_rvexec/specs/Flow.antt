@@ -1,89 +1,17 @@
--- What a step computes from its operands, and what it changes (RV32I, sections 2.4 to 2.6; M,
--- chapter 7): its result, the pc that follows it, and the bytes that a store leaves. All of it is
--- a function of the step, and of the bytes that a load reads.
-use Rattle.std.specs.Prelude.{◌≡◌, ℕ, ◌+◌, ◌-◌, ◌*◌, ◌/◌, ◌%◌, ◌^◌, ◌<◌, ◌≤◌, Bool, false, ◌&&◌, nat_le}
-use Rattle.std.specs.Prelude.{nat_lt, if◌then◌else◌, Option, Some, None, IfSome, length, slice_index}
+-- What a step changes in the machine: its pc, its registers and its memory. Each step of a run has
+-- the values that its results say.
+use Rattle.std.specs.Prelude.{◌≡◌, ℕ, ◌+◌, ◌%◌, ◌^◌, ◌<◌, ◌≤◌, false, if◌then◌else◌, Option, Some, None, IfSome}
+use Rattle.std.specs.Prelude.{length, slice_index}
 use Rattle.tomex_image.specs.Image.{Loaded}
 use Rattle.tomex_rvdec.specs.declared.op.Op.{Op}
-use Rattle.tomex_rvdec.specs.declared.op.Op.TheVariants.{Lui, Auipc, Jal, Jalr, Lb, Lh, Lw, Lbu, Lhu, Ecall, Ebreak}
-use Rattle.tomex_rvdec.specs.declared.op.Form.{Form}
-use Rattle.tomex_rvdec.specs.declared.op.Form.TheVariants as forms
-use Rattle.tomex_rvdec.specs.declared.pool.PoolId.{PoolId}
-use Rattle.tomex_rvdec.specs.declared.pool.PoolId.TheVariants as pools
-use Rattle.tomex_rvdec.specs.Meaning.{form_of}
-use Rattle.tomex_rvdec.specs.Operands.{pool_of}
+use Rattle.tomex_rvdec.specs.declared.op.Op.TheVariants.{Ecall, Ebreak}
 use Rattle.tomex_rvexec.specs.declared.outcome.EndKind.{EndKind}
 use Rattle.tomex_rvexec.specs.declared.outcome.EndKind.TheVariants as ends
-use Rattle.tomex_rvexec.specs.declared.step.Step.{Step}
-use Rattle.tomex_rvexec.specs.declared.step.ByteRange.{ByteRange}
-use Rattle.tomex_rvexec.specs.Machine.{State, base_of, from_byte, from_half}
-use Rattle.tomex_rvexec.specs.Memory.{Bytes}
-use Rattle.tomex_rvexec.specs.Steps.{address_of, bytes_of, is_number, is_store, step_dest}
-use Rattle.tomex_rvexec.specs.Words.{sum, alu_of, muldiv_of, is_taken}
-
--- the second operand of an operation: rs2's value, or the immediate
-abbrev pub second_at : Form → Step → ℕ
-second_at forms.Register x = x.vk
-second_at _ x = x.instr.imm
-
--- what a load makes of the bytes from an address on
-abbrev pub loaded : Op → (ℕ → ℕ) → ℕ → ℕ
-loaded Lb byte a = from_byte (byte a)
-loaded Lh byte a = from_half (byte a + 256 * byte (a + 1))
-loaded Lw byte a = byte a + 256 * byte (a + 1) + 65536 * byte (a + 2) + 16777216 * byte (a + 3)
-loaded Lbu byte a = byte a
-loaded Lhu byte a = byte a + 256 * byte (a + 1)
-loaded _ byte a = 0
-
--- what the unit of a pool computes
-abbrev pub computed : Option PoolId → Op → Step → (ℕ → ℕ) → ℕ
-computed (Some pools.Alu) op x byte = alu_of op x.vj (second_at (form_of op) x)
-computed (Some pools.Mul) op x byte = muldiv_of op x.vj x.vk
-computed (Some pools.Div) op x byte = muldiv_of op x.vj x.vk
-computed (Some pools.Load) op x byte = loaded op byte (address_of x)
-computed _ op x byte = 0
-
-abbrev pub result_at : Op → Step → (ℕ → ℕ) → ℕ
-result_at Lui x byte = x.instr.imm
-result_at Auipc x byte = sum x.pc x.instr.imm
-result_at Jal x byte = sum x.pc 4
-result_at Jalr x byte = sum x.pc 4
-result_at op x byte = computed (pool_of op) op x byte
-
--- the result of a step: what its destination gets. A load's is made of the bytes that it reads, by
--- address; no other depends on memory
-abbrev pub result_of : Step → (ℕ → ℕ) → ℕ
-result_of x byte = result_at x.instr.op x byte
-
--- JALR clears the lowest bit of its target
-abbrev pub next_at : Op → Step → ℕ
-next_at Jal x = sum x.pc x.instr.imm
-next_at Jalr x = sum x.vj x.instr.imm / 2 * 2
-next_at op x = if is_taken op x.vj x.vk then sum x.pc x.instr.imm else sum x.pc 4
-
--- the pc after a step: the target of a jump or of a branch that is taken, else the next instruction
-abbrev pub next_pc_of : Step → ℕ
-next_pc_of x = next_at x.instr.op x
-
-abbrev pub is_among : Option ByteRange → ℕ → Bool
-is_among None a = false
-is_among (Some bytes) a = nat_le bytes.from a && nat_lt a bytes.to
-
--- whether a load or store touches the byte at an address
-abbrev pub covers : Step → ℕ → Bool
-covers x a = is_among (bytes_of x) a
-
--- whether a step writes the byte at an address
-abbrev pub overwrites : Step → ℕ → Bool
-overwrites x a = is_store x && covers x a
-
--- the byte that a store leaves at an address, the low one of rs2's value first
-abbrev pub stored_byte : Step → ℕ → ℕ
-stored_byte x a = x.vk / 256 ^ (a - address_of x) % 256
-
--- the byte of a memory at an address
-abbrev pub byte_in : Bytes → ℕ → ℕ
-byte_in memory a = slice_index memory.bytes (a - memory.base)
+use Rattle.tomex_rvexec.specs.Machine.{State, base_of}
+use Rattle.tomex_steps.specs.declared.step.Step.{Step}
+use Rattle.tomex_steps.specs.Memory.{Bytes}
+use Rattle.tomex_steps.specs.Results.{byte_in, next_pc_of, overwrites, result_of, stored_byte}
+use Rattle.tomex_steps.specs.Steps.{bytes_of, is_number, is_store, step_dest}
 
 abbrev pub memory_of : State → Bytes
 memory_of s = record { base = base_of s; bytes = s.memory }

@@ -1,10 +1,6 @@
-pub mod Memory
-pub mod Words
-pub mod Steps
 pub mod Fetch
 pub mod Machine
 pub mod Flow
-pub mod Access
 pub mod History
 pub mod Run
 pub mod Trace

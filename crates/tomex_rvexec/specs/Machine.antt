@@ -1,8 +1,8 @@
 -- The in-order step: what one instruction of RV32IM does to pc, registers and memory
 -- (the manual's chapters RV32I and M), in this project's environment: memory is one window,
 -- instructions are fetched from the image as it was loaded, ECALL and EBREAK end the program.
-use Rattle.std.specs.Prelude.{ℕ, ◌+◌, ◌*◌, ◌/◌, ◌%◌, ◌-◌, ◌^◌, List, slice_index, slice_set, Bool}
-use Rattle.std.specs.Prelude.{nat_eq, nat_lt, if◌then◌else◌, Option, Some, None, option_map}
+use Rattle.std.specs.Prelude.{ℕ, ◌*◌, ◌/◌, ◌%◌, ◌-◌, List, slice_index, slice_set, Bool}
+use Rattle.std.specs.Prelude.{nat_eq, if◌then◌else◌, Option, Some, None, option_map}
 use Rattle.tomex_rvdec.specs.declared.op.Op.{Op}
 use Rattle.tomex_rvdec.specs.declared.op.Op.TheVariants.{Lui, Auipc, Jal, Jalr, Beq, Bne, Blt, Bge, Bltu, Bgeu, Lb}
 use Rattle.tomex_rvdec.specs.declared.op.Op.TheVariants.{Lh, Lw, Lbu, Lhu, Sb, Sh, Sw, Addi, Slti, Sltiu, Xori, Ori}
@@ -12,15 +12,15 @@ use Rattle.tomex_rvdec.specs.declared.op.Op.TheVariants.{Remu, Fence, Ecall, Ebr
 use Rattle.tomex_rvdec.specs.Instruction.{Instruction}
 use Rattle.tomex_rvdec.specs.Meaning.{meaning}
 use Rattle.tomex_image.specs.Image.{Loaded}
-use Rattle.tomex_rvexec.specs.declared.step.Step.{Step}
+use Rattle.tomex_steps.specs.declared.step.Step.{Step}
 use Rattle.tomex_rvexec.specs.declared.outcome.EndKind.{EndKind}
 use Rattle.tomex_rvexec.specs.declared.outcome.EndKind.TheVariants as ends
 use Rattle.tomex_rvexec.specs.declared.outcome.FaultKind.{FaultKind}
 use Rattle.tomex_rvexec.specs.declared.outcome.FaultKind.TheVariants.{Fetch, Illegal, MisalignedTarget, Access}
 use Rattle.tomex_rvexec.specs.Fetch.{word_at}
-use Rattle.tomex_rvexec.specs.Words.{sum, alu_of, muldiv_of, is_taken}
-use Rattle.tomex_rvexec.specs.Memory.{is_inside, byte_read, half_read, word_read}
-use Rattle.tomex_rvexec.specs.Memory.{byte_written, half_written, word_written}
+use Rattle.tomex_steps.specs.Words.{sum, alu_of, muldiv_of, is_taken}
+use Rattle.tomex_steps.specs.Memory.{is_inside, byte_read, half_read, word_read, from_byte, from_half}
+use Rattle.tomex_steps.specs.Memory.{byte_written, half_written, word_written}
 
 -- a program that runs: its image, and what a step may change
 pub record State : Type 0 where
@@ -76,13 +76,6 @@ stores s address count written =
     if holds s address count
     then Goes (record s { pc = next_pc s; memory = written s.memory (address - base_of s) })
     else Faults Access
-
--- bytes and halves whose sign is extended
-abbrev pub from_byte : ℕ → ℕ
-from_byte b = if nat_lt b 128 then b else b + (2 ^ 32 - 256)
-
-abbrev pub from_half : ℕ → ℕ
-from_half h = if nat_lt h 32768 then h else h + (2 ^ 32 - 65536)
 
 -- what an operation does, given its step: a row for each of them
 abbrev pub executes : Op → Step → State → Outcome

@@ -5,14 +5,12 @@ ghost use Rattle.tomex_rvexec.specs.Run.{initial_sp};
 
 use crate::end::End;
 use crate::fetcher::Fetcher;
-use crate::memory::Memory;
 use crate::outcome::{EndKind, Fault, FaultKind, Stepped};
-use crate::step::Step;
-use crate::words::{alu, muldiv, taken};
 use std::alloc::{AllocError, Allocator, Global};
 use std::marker::Model;
 use tomex_image::{Image, Window};
 use tomex_rvdec::Op;
+use tomex_steps::{Memory, Step, alu, muldiv, taken};
 
 mod effects;
 
@@ -50,7 +48,7 @@ pub fn initial_sp(window: Window) -> u32
 }
 
 impl<'a, A: Allocator> Cpu<'a, A> {
-    ghost use Rattle.std.specs.Prelude.{◌≡◌, IfOk, IfErr, IfSome, IfNone, slice_index, Some, ◌<◌, IsTrue, false};
+    ghost use Rattle.std.specs.Prelude.{◌≡◌, IfOk, IfErr, IfSome, IfNone, Some, ◌<◌, IsTrue, false};
     ghost use Rattle.tomex_rvexec.specs.Machine.{step_of, coming_of, executes, holds};
     ghost use Rattle.tomex_rvexec.specs.Run.{start_of, Answers};
 
@@ -79,14 +77,6 @@ impl<'a, A: Allocator> Cpu<'a, A> {
         self.pc
     }
 
-    #[inline(always)]
-    fn register(&self, r: u8) -> u32
-        requires { r < 32 }
-        ensures { result ≡ slice_index self.now.regs r }
-    {
-        self.regs[r as usize]
-    }
-
     /// A fault of the instruction at the pc.
     fn fault(&self, kind: FaultKind) -> Fault
         ensures { result ≡ record { kind = kind; pc = self.now.pc } }
@@ -107,13 +97,11 @@ impl<'a, A: Allocator> Cpu<'a, A> {
             Ok(instr) => instr,
             Err(kind) => return Err(self.fault(kind)),
         };
-        let vj = self.register(instr.rs1());
-        let vk = self.register(instr.rs2());
         Ok(Step {
             pc: self.pc,
             instr,
-            vj,
-            vk,
+            vj: self.regs[instr.rs1() as usize],
+            vk: self.regs[instr.rs2() as usize],
         })
     }
 

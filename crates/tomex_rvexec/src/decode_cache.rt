@@ -18,7 +18,7 @@ pub struct Line {
 
 /// The instructions that were decoded of late, by address: a direct-mapped cache with a line for
 /// each word of 4 KiB, so that a loop is decoded once.
-#[derive(Clone, Copy)]
+#[derive(Drop)]
 pub struct DecodeCache {
     pub lines: [Option<Line>; LINES],
 }

@@ -3,7 +3,6 @@
 ghost use Rattle.std.specs.Prelude.{◌≡◌};
 ghost use Rattle.tomex_rvexec.specs.declared.end.RunError.TheVariants.{Memory};
 
-use crate::memory;
 use crate::outcome::{EndKind, Fault};
 use std::alloc::{AllocError, AllocFailed, Allocator, Global};
 
@@ -16,7 +15,7 @@ pub struct End<A: Allocator = Global> {
     pub pc: u32,
     pub steps: u32,
     pub regs: [u32; 32],
-    pub memory: memory::Memory<A>,
+    pub memory: tomex_steps::Memory<A>,
 }
 
 /// Why a run has no end.

@@ -49,49 +49,6 @@ fn marks_of_workers<
     Ok(settle(board, parts))
 }
 
-/// An exploration over a board that is made for the study's costs and cycles.
-fn explore_as<
-    J: Plan + Send + Sync,
-    R: Threads + Wait + Sync,
-    A: Allocator + Clone + Send + Sync + Drop,
-    G: Gate + Sync,
-    S: Stacks + Sync,
->(
-    rt: &R,
-    alloc: A,
-    study: &Study<A>,
-    workers: usize,
-    gate: &G,
-    stacks: &S,
-) -> Result<Outcome<A>, SweepError>
-    requires some_workers { 1 ≤ workers }
-    requires few_workers { workers ≤ 32 }
-    requires plan { IsPlanOf study.now J.costs J.cycles }
-    ensures marks { IfOk result
-        (λ o. AreJudged study.now.costs (cycles_of study.now) o.marks.items) }
-    ensures front { IfOk result (λ o. o.front.items ≡ front_of_study study.now) }
-    ensures gathered { IfOk result (λ o. o.gathered ≡ 0) }
-{
-    study.keeps_limits();
-    let costs = study.costs();
-    gate.begins(costs.len());
-    let mut marks = marks_of_workers::<J, R, A, G, S>(
-        rt,
-        alloc.clone()?,
-        study,
-        workers,
-        gate,
-        stacks,
-    )?;
-    let gathered = gather(alloc.clone()?, study, &mut marks)?;
-    let front = front(alloc, costs, marks.as_slice())?;
-    Ok(Outcome {
-        marks,
-        front,
-        gathered,
-    })
-}
-
 /// `explore` with threads whose stacks are as the caller says.
 pub fn explore_on<
     R: Threads + Wait + Sync,
@@ -113,7 +70,24 @@ pub fn explore_on<
     ensures front { IfOk result (λ o. o.front.items ≡ front_of_study study.now) }
     ensures gathered { IfOk result (λ o. o.gathered ≡ 0) }
 {
-    explore_as::<Brand, R, A, G, S>(rt, alloc, study, workers, gate, stacks)
+    study.keeps_limits();
+    let costs = study.costs();
+    gate.begins(costs.len());
+    let mut marks = marks_of_workers::<Brand, R, A, G, S>(
+        rt,
+        alloc.clone()?,
+        study,
+        workers,
+        gate,
+        stacks,
+    )?;
+    let gathered = gather(alloc.clone()?, study, &mut marks)?;
+    let front = front(alloc, costs, marks.as_slice())?;
+    Ok(Outcome {
+        marks,
+        front,
+        gathered,
+    })
 }
 
 /// Runs each row until it is over, or until a finished row is known that costs no more and takes

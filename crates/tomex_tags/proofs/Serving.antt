@@ -11,7 +11,7 @@ use Rattle.tomex_rvdec.specs.declared.pool.PoolId.TheVariants as pools
 use Rattle.tomex_rvdec.specs.declared.pool.UnitId.{UnitId}
 use Rattle.tomex_rvdec.specs.declared.op.Op.{Op}
 use Rattle.tomex_rvdec.specs.declared.pool.UnitId.TheVariants as units
-use Rattle.tomex_rvexec.specs.Steps.{is_in}
+use Rattle.tomex_steps.specs.Steps.{is_in}
 use Rattle.tomex_timing.specs.History.{is_of}
 use Rattle.tomex_timing.specs.Recurrence.{IsLeast}
 use Rattle.tomex_sets.specs.Sets.{has}

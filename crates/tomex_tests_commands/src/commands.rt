@@ -352,42 +352,35 @@ fn images_are_refused(rt: HostRuntime) -> Result<(), Fail> {
     Ok(())
 }
 
-/// Lines that the parser refuses.
-static MISTAKEN: [&[&str]; 15] = [
-    &["tomex"],
-    &["tomex", "jump"],
-    &["tomex", "run"],
-    &["tomex", "run", "image", "--limit", "0"],
-    &["tomex", "run", "image", "--limit", "262145"],
-    &["tomex", "run", "image", "--size", "x"],
-    &["tomex", "run", "image", "--base", "0", "--base", "0"],
-    &["tomex", "explore", "study", "--workers", "0"],
-    &["tomex", "explore", "study", "--workers", "33"],
-    &["tomex", "explore"],
-    &["tomex", "front"],
-    &["tomex", "front", "study", "--workers", "33"],
-    &["tomex", "plot", "study", "--workers", "0"],
-    &["tomex", "all"],
-    &["tomex", "all", "study", "--workers", "1"],
+/// Lines that ask for no command, and their statuses: help, and what the parser refuses.
+static ASIDE: [(u8, &[&str]); 17] = [
+    (0, &["tomex", "--help"]),
+    (0, &["tomex", "run", "-h"]),
+    (2, &["tomex"]),
+    (2, &["tomex", "jump"]),
+    (2, &["tomex", "run"]),
+    (2, &["tomex", "run", "image", "--limit", "0"]),
+    (2, &["tomex", "run", "image", "--limit", "262145"]),
+    (2, &["tomex", "run", "image", "--size", "x"]),
+    (2, &["tomex", "run", "image", "--base", "0", "--base", "0"]),
+    (2, &["tomex", "explore", "study", "--workers", "0"]),
+    (2, &["tomex", "explore", "study", "--workers", "33"]),
+    (2, &["tomex", "explore"]),
+    (2, &["tomex", "front"]),
+    (2, &["tomex", "front", "study", "--workers", "33"]),
+    (2, &["tomex", "plot", "study", "--workers", "0"]),
+    (2, &["tomex", "all"]),
+    (2, &["tomex", "all", "study", "--workers", "1"]),
 ];
 
+/// Help goes to the standard output, and what is wrong to the standard error.
 #[test]
-fn lines_that_the_parser_refuses(rt: HostRuntime) -> Result<(), Fail> {
-    for words in &MISTAKEN {
+fn lines_that_ask_for_no_command(rt: HostRuntime) -> Result<(), Fail> {
+    for (status, words) in &ASIDE {
         let outcome = run_into(&rt, None, words, 10_000)?;
-        assert!(rt; outcome.status == 2 && outcome.out.is_empty() && !outcome.err.is_empty());
-    }
-    Ok(())
-}
-
-#[test]
-fn lines_that_ask_for_help(rt: HostRuntime) -> Result<(), Fail> {
-    for words in [
-        ["tomex", "--help"].as_slice(),
-        ["tomex", "run", "-h"].as_slice(),
-    ] {
-        let outcome = run_into(&rt, None, words, 10_000)?;
-        assert!(rt; outcome.status == 0 && !outcome.out.is_empty() && outcome.err.is_empty());
+        assert!(rt; outcome.status == *status);
+        let is_help = *status == 0;
+        assert!(rt; outcome.out.is_empty() != is_help && outcome.err.is_empty() == is_help);
     }
     Ok(())
 }

@@ -29,13 +29,9 @@ fn holds(ok: bool, what: &'static str) -> Result<(), Fail> {
     if ok { Ok(()) } else { Err(what.into()) }
 }
 
-/// A configuration of one unit a kind but for the alu units, of latency 1 but for mul and mem.
-fn config_of(stations: [u8; 6], alu: u8, mul: u8, mem: u8, buses: u8) -> Result<Config, Fail> {
-    wide_config(stations, [alu, mul, mem, buses], 1)
-}
-
-/// The same with an issue width.
-fn wide_config(stations: [u8; 6], parts: [u8; 4], width: u8) -> Result<Config, Fail> {
+/// A configuration of these stations, alu units, latencies of mul and mem, buses and issue width: of one unit a kind
+/// else, and of latency 1.
+fn config_of(stations: [u8; 6], parts: [u8; 4], width: u8) -> Result<Config, Fail> {
     let [alu, mul, mem, buses] = parts;
     let units = [
         unit(alu, 1),
@@ -184,7 +180,7 @@ fn ticked(
 fn comes_to(rt: &HostRuntime, row: &Worked) -> Result<(), Fail> {
     let (words, stations, parts, width, total, (pc, register, value)) = *row;
     let image = image_at_0(rt, words)?;
-    let config = wide_config(stations, parts, width)?;
+    let config = config_of(stations, parts, width)?;
     let leaps = leaps_to(rt, &image, &config, total)?;
     holds(leaps, "a leap to another cycle, or to no end")?;
     let end = ticked(rt, &image, &config, total)?;
@@ -192,7 +188,7 @@ fn comes_to(rt: &HostRuntime, row: &Worked) -> Result<(), Fail> {
     holds(is_same, "another pc, or another value")
 }
 
-static WORKED: [Worked; 17] = [
+static WORKED: [Worked; 24] = [
     (&PRODUCT, TWO_ALU, [1, 3, 1, 1], 1, 8, (12, 3, 0x23)),
     (&PRODUCT, [1; 6], [1, 3, 1, 1], 1, 10, (12, 3, 0x23)),
     (&ONE_BUS, [1; 6], [1, 2, 1, 1], 1, 5, (8, 4, 1)),
@@ -210,17 +206,7 @@ static WORKED: [Worked; 17] = [
     (&EBREAK, [1; 6], [1, 1, 1, 1], 1, 1, (0, 2, 65536)),
     (&LOOP, [1; 6], [1, 1, 1, 1], 1, 2000, (12, 1, 0)),
     (&WAITED_FOR, [1; 6], [1, 64, 1, 1], 1, 68, (8, 4, 0)),
-];
-
-#[test]
-fn worked_runs(rt: HostRuntime) -> Result<(), Fail> {
-    for row in &WORKED {
-        comes_to(&rt, row)?;
-    }
-    Ok(())
-}
-
-static WIDE: [Worked; 7] = [
+    // A product issues beside its producers, and nothing beside a JALR after it.
     (&PRODUCT, TWO_ALU, [2, 3, 1, 2], 1, 8, (12, 3, 0x23)),
     (&PRODUCT, TWO_ALU, [2, 3, 1, 2], 2, 7, (12, 3, 0x23)),
     (&PRODUCT, TWO_ALU, [2, 3, 1, 2], 4, 7, (12, 3, 0x23)),
@@ -230,10 +216,9 @@ static WIDE: [Worked; 7] = [
     (&EBREAK, [1; 6], [1, 1, 1, 1], 4, 1, (0, 2, 65536)),
 ];
 
-/// A product issues beside its producers, and nothing beside a JALR after it.
 #[test]
-fn wide_runs(rt: HostRuntime) -> Result<(), Fail> {
-    for row in &WIDE {
+fn worked_runs(rt: HostRuntime) -> Result<(), Fail> {
+    for row in &WORKED {
         comes_to(&rt, row)?;
     }
     Ok(())
@@ -249,7 +234,7 @@ fn is_skipped<A: Allocator>(machine: &mut Machine<A>) -> bool {
 /// Of the 68 cycles of a run with a long multiplication few are made.
 #[test]
 fn a_long_wait_is_skipped(rt: HostRuntime) -> Result<(), Fail> {
-    let config = config_of([1; 6], 1, 64, 1, 1)?;
+    let config = config_of([1; 6], [1, 64, 1, 1], 1)?;
     let image = image_at_0(&rt, WAITED_FOR.as_slice())?;
     let mut machine = machine_of(&rt, &image, &config)?;
     assert!(rt; is_skipped(&mut machine));

@@ -1,12 +1,5 @@
-//! Tests of grids, studies and their explorations: they say what no contract does, hold workers, refuse threads, and
-//! refuse each growth of each call in turn.
+//! Tests of explorations: they say what no contract does, hold workers and refuse threads.
 #![tactic(auto)]
 
-#[cfg(test)]
-mod grids;
-#[cfg(test)]
-mod once;
-#[cfg(test)]
-mod programs;
 #[cfg(test)]
 mod sweeps;

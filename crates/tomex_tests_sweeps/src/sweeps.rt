@@ -53,11 +53,6 @@ fn study_on(alloc: Global, programs: Vec<Program>, rows: Vec<Config>) -> Result<
     Ok(Study::new(alloc, programs, rows, prices, false)?)
 }
 
-/// This program alone.
-fn only(alloc: Global, program: Program) -> Result<Vec<Program>, Fail> {
-    Ok(vec![in alloc; program]?)
-}
-
 /// Rows that differ in the latency and the price of their alu unit.
 fn rows_of(alloc: Global, options: &[(u8, u32)]) -> Result<Vec<Config>, Fail> {
     let mut rows = Vec::new(alloc);
@@ -70,7 +65,7 @@ fn rows_of(alloc: Global, options: &[(u8, u32)]) -> Result<Vec<Config>, Fail> {
 /// The study of the loop, of this weight, on such rows.
 fn weighed_study(alloc: Global, options: &[(u8, u32)], weight: u32) -> Result<Study, Fail> {
     let rows = rows_of(alloc, options)?;
-    let programs = only(alloc, program_of(alloc, "loop", LOOP.as_slice(), weight)?)?;
+    let programs = vec![in alloc; program_of(alloc, "loop", LOOP.as_slice(), weight)?]?;
     study_on(alloc, programs, rows)
 }
 
@@ -92,14 +87,9 @@ fn explored<R: AllocGlobal + Threads + Wait + Sync, G: Gate + Sync>(
     Ok(explore(rt, rt.alloc(), study, workers, gate)?)
 }
 
-/// The marks of each row when it is run to its end.
-fn whole(alloc: Global, study: &Study) -> Result<Outcome, Fail> {
-    Ok(run_all(alloc, study)?)
-}
-
 /// Whether a study's rows get these marks when each is run to its end.
 fn ends_with_marks(alloc: Global, study: &Study, marks: &[Mark]) -> Result<bool, Fail> {
-    Ok(whole(alloc, study)?.marks.as_slice() == marks)
+    Ok(run_all(alloc, study)?.marks.as_slice() == marks)
 }
 
 /// Whether so many workers give a study's rows these marks.
@@ -143,7 +133,7 @@ fn slow_row_is_dropped(rt: HostRuntime) -> Result<(), Fail> {
     let marks = [Mark::Finished(2000), Mark::Dropped(0)];
     assert!(rt; finds_fast_row(&explored(&rt, &study, 1, &OpenGate)?, marks));
     let marks = [Mark::Finished(2000), Mark::Finished(6500)];
-    assert!(rt; finds_fast_row(&whole(rt.alloc(), &study)?, marks));
+    assert!(rt; finds_fast_row(&run_all(rt.alloc(), &study)?, marks));
     Ok(())
 }
 
@@ -205,20 +195,14 @@ static WEIGHED: [(u32, [u64; 2], &[usize]); 5] = [
     (1_000, [73_000, 32_500], &[1]),
 ];
 
-/// The loop, and the product of this weight.
-fn both(alloc: Global, weight: u32) -> Result<Vec<Program>, Fail> {
+/// The study of the loop, and of the product of this weight, on those two rows, which cost the same.
+fn study_of_both(alloc: Global, weight: u32) -> Result<Study, Fail> {
     let mut programs = Vec::new(alloc);
     programs.push(program_of(alloc, "loop", LOOP.as_slice(), 1)?)?;
     programs.push(program_of(alloc, "product", PRODUCT.as_slice(), weight)?)?;
-    Ok(programs)
-}
-
-/// The study of both on those two rows, which cost the same.
-fn study_of_both(alloc: Global, weight: u32) -> Result<Study, Fail> {
     let fast_alu = config_of(unit(1, 5), unit(64, 0))?;
     let fast_mul = config_of(unit(10, 5), unit(1, 0))?;
-    let rows = vec![in alloc; fast_alu, fast_mul]?;
-    study_on(alloc, both(alloc, weight)?, rows)
+    study_on(alloc, programs, vec![in alloc; fast_alu, fast_mul]?)
 }
 
 /// Whether a front is of these rows.

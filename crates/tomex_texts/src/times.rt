@@ -6,7 +6,7 @@ ghost use Rattle.tomex_records.specs.Csv.{IsReady, written};
 ghost use Rattle.tomex_texts.specs.TimesReport.{cycle_text, station_text, fields_of_step, header, report_of_times};
 ghost use Rattle.tomex_texts.specs.TimesReport.{step_records, times_report_of, total_fields};
 ghost use Rattle.tomex_rvexec.specs.Run.{start_of};
-ghost use Rattle.tomex_rvexec.specs.Steps.{step_pool};
+ghost use Rattle.tomex_steps.specs.Steps.{step_pool};
 ghost use Rattle.tomex_rvexec.specs.Trace.{steps_from};
 
 use csv::{ByteRecord, Writer};

@@ -7,7 +7,7 @@ use Rattle.std.specs.Option.{ForSome}
 use Rattle.std.proofs.lemmas.Bool.{cases_Bool, and_parts, le-leb, lt-leb, leb-true, ltb-true}
 use Rattle.std.proofs.lemmas.Bool.{lt-ltb, or_right}
 use Rattle.tomex_rvdec.specs.declared.pool.UnitId.{UnitId}
-use Rattle.tomex_rvexec.specs.Steps.{step_unit, j_of, k_of}
+use Rattle.tomex_steps.specs.Steps.{step_unit, j_of, k_of}
 use Rattle.tomex_config.specs.Configuration.{Configuration, IsWithinLimits}
 use Rattle.tomex_timing.specs.declared.next.Marks.{Marks}
 use Rattle.tomex_timing.specs.declared.part.Waits.{Waits}
@@ -15,16 +15,14 @@ use Rattle.tomex_timing.specs.declared.times.Done.{Done}
 use Rattle.tomex_timing.specs.declared.window.Facts.{Facts}
 use Rattle.tomex_timing.specs.declared.window.Latest.{Latest}
 use Rattle.tomex_timing.specs.History.{cycle_of, source_end, last_issue}
-use Rattle.tomex_timing.specs.Needs.{waits_of, lacks_operand, lacks_address}
-use Rattle.tomex_timing.specs.Needs.{lacks_memory, lacks_unit, start_waits}
+use Rattle.tomex_timing.specs.Needs.{waits_of, lacks_operand, lacks_address, lacks_memory, lacks_unit, start_waits}
 use Rattle.tomex_timing.specs.Recurrence.{IsLeast, IsTimed, AreTimed, can_issue, can_start}
 use Rattle.tomex_timing.specs.Recurrence.{has_operands, are_conflicts_finished}
 use Rattle.tomex_timing.specs.Waiting.{clear_among, operands_from, marks_among, marks_from, waits_by}
 use Rattle.tomex_timing.specs.Window.{Live, facts_of, recent, conflicts_with, is_finished_conflict}
 use Rattle.tomex_timing.specs.Window.{end_among, ready_from, IsKept}
 use Rattle.tomex_timing.proofs.Bands.{band, none_of}
-use Rattle.tomex_timing.proofs.WindowTests.{AreClosed, all_recent, max_split, after_split}
-use Rattle.tomex_timing.proofs.WindowTests.{issue_agree, ready_split}
+use Rattle.tomex_timing.proofs.WindowTests.{AreClosed, all_recent, max_split, after_split, issue_agree, ready_split}
 use Rattle.tomex_timing.proofs.Windows.{source_agree}
 use Rattle.tomex_timing.proofs.Width.{issue_from as issue_after}
 use Rattle.tomex_timing.proofs.IssueWaits.{same_waits, low_of, branches_of, from_of, branch_waits, width_waits}

@@ -4,7 +4,7 @@ use Rattle.std.proofs.Common.{take}
 use Rattle.std.specs.Prelude.{slice_index_or}
 use Rattle.std.proofs.lemmas.List.{length-map, map-append, take_more}
 use Rattle.std.proofs.lemmas.List.Elements.{All-push}
-use Rattle.tomex_rvexec.specs.declared.step.Step.{Step}
+use Rattle.tomex_steps.specs.declared.step.Step.{Step}
 use Rattle.tomex_config.specs.Configuration.{Configuration, IsWithinLimits}
 use Rattle.tomex_timing.specs.declared.accesses.Access.{Access}
 use Rattle.tomex_timing.specs.declared.needs.Needs.{Needs}
@@ -13,7 +13,8 @@ use Rattle.tomex_timing.specs.declared.part.Waits.{Waits}
 use Rattle.tomex_timing.specs.declared.waiting.Taken.{Taken}
 use Rattle.tomex_timing.specs.declared.window.Facts.{Facts}
 use Rattle.tomex_timing.specs.declared.window.Latest.{Latest}
-use Rattle.tomex_timing.specs.Ahead.{IsNextBy, Reserved}
+use Rattle.tomex_timing.specs.Ahead.{IsNextBy}
+use Rattle.tomex_reservations.specs.Reservations.{Reserved}
 use Rattle.tomex_timing.specs.History.{last_issue}
 use Rattle.tomex_timing.specs.Needs.{AreNeeds, waits_in}
 use Rattle.tomex_timing.specs.Search.{history}

@@ -1,6 +1,6 @@
 -- The least number that passes a test: it is one, and a bounded search finds it.
 use Rattle.std.proofs.Common.{ℕ, zero, suc, ◌+◌, ◌<◌, ◌≤◌, ◌≡◌, Bool, true, false, refl, IsTrue, arith, inl, inr, subst}
-use Rattle.std.proofs.Common.{add-zero, zero-add}
+use Rattle.std.proofs.Common.{add-zero, zero-add, sym, ◌∙◌}
 use Rattle.std.specs.Prelude.{◌==◌}
 use Rattle.std.proofs.lemmas.Bool.{cases_Bool, cases_order, both_ways, eq-eqb, ne_eqb}
 use Rattle.tomex_timing.specs.Recurrence.{IsLeast}
@@ -47,3 +47,7 @@ least_test p a u l le = elim (cases_order a u) [
   | inr (inl k) ↦ absurd (omega arith)
   | inr (inr k) ↦ rw (l.1 u k, ne_eqb a u (λ (e : a ≡ u). absurd (omega arith))) refl
 ]
+
+-- a search from one cycle on, of a test that is as another from there on
+pub least_agree : (p q : ℕ → Bool) (a : ℕ) → ((t : ℕ) → p t ≡ q t) → IsLeast p a → IsLeast q a
+least_agree p q a agree x = (let h : q a ≡ p a = sym (agree a) in h ∙ x.0, λ s l. sym (agree s) ∙ x.1 s l)

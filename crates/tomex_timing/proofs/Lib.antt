@@ -17,9 +17,6 @@ pub mod Taken
 pub mod InUse
 pub mod Telling
 pub mod Serving
-pub mod Searching
-pub mod Reserving
-pub mod FreeStations
 pub mod UnderWay
 pub mod WindowTests
 pub mod Windows

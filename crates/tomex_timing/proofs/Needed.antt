@@ -1,13 +1,13 @@
 -- One step more: the needs that are counted stay those of the history.
 use Rattle.std.proofs.Common.{ℕ, suc, ◌+◌, ◌<◌, ◌≤◌, ◌≡◌, ◌∙◌, true, cond, arith, refl, ap, sym, inl, inr, List, []}
 use Rattle.std.proofs.Common.{◌∷◌, Option, Some, None}
-use Rattle.std.specs.Prelude.{◌==◌, ◌&&◌, count_by, is_some, length, slice_index_or}
+use Rattle.std.specs.Prelude.{◌==◌, ◌&&◌, count_by, is_some, length, slice_index_or, slice_set}
 use Rattle.std.proofs.lemmas.Bool.{cases_Bool, and_right, eqb-true, ne_eqb, both_ways, eq-eqb}
 use Rattle.std.proofs.lemmas.List.{get_or-set_same, get_or-set_other, get_or-replicate, length-set}
 use Rattle.tomex_rvdec.specs.Parts.{place_of_pool, place_of_unit}
 use Rattle.tomex_rvdec.specs.declared.pool.PoolId.{PoolId}
 use Rattle.tomex_rvdec.specs.declared.pool.UnitId.{UnitId}
-use Rattle.tomex_rvexec.specs.Steps.{step_pool, step_unit, step_dest, is_in}
+use Rattle.tomex_steps.specs.Steps.{step_pool, step_unit, step_dest, is_in}
 use Rattle.tomex_config.specs.Configuration.{Configuration, IsWithinLimits}
 use Rattle.tomex_timing.specs.declared.needs.Needs.{Needs}
 use Rattle.tomex_timing.specs.declared.part.Need.{Need}
@@ -47,45 +47,36 @@ same_need a b e f =
 no_more : (need : Need) → need ≡ need_after need 0 0
 no_more need = same_need need (need_after need 0 0) (omega arith) (omega arith)
 
+-- of the needs of several parts, what one step more makes of one of them
+part_after : (i p taken waited : ℕ) (xs : List Need) → i < length xs
+    → slice_index_or (slice_set xs p (need_after (slice_index_or xs p no_need) taken waited)) i no_need
+    ≡ need_after (slice_index_or xs i no_need) (cond (p == i) taken 0) (cond (p == i) waited 0)
+part_after i p taken waited xs there = elim (cases_Bool (p == i)) [
+  | inl e ↦
+      let same : p ≡ i = eqb-true p i e in
+      rw (e, same) (get_or-set_same xs i (need_after (slice_index_or xs i no_need) taken waited) no_need there)
+  | inr e ↦
+      rw e
+      (get_or-set_other xs p i (need_after (slice_index_or xs p no_need) taken waited) no_need
+      (λ (s : i ≡ p). absurd (both_ways _ e (eq-eqb p i (sym s))))
+      ∙ no_more (slice_index_or xs i no_need))
+]
+
 pool_part : (pool : PoolId) (x : Option PoolId) (taken waited : ℕ) (xs : List Need) → length xs ≡ 6
     → slice_index_or (stations_after x taken waited xs) (place_of_pool pool) no_need
     ≡ need_after (slice_index_or xs (place_of_pool pool) no_need) (cond (is_in pool x) taken 0)
     (cond (is_in pool x) waited 0)
 pool_part pool None taken waited xs len = no_more (slice_index_or xs (place_of_pool pool) no_need)
-pool_part pool (Some p) taken waited xs len = elim (cases_Bool (place_of_pool p == place_of_pool pool)) [
-  | inl e ↦
-      let same : place_of_pool p ≡ place_of_pool pool = eqb-true (place_of_pool p) (place_of_pool pool) e in
-      let m : place_of_pool pool < length xs = rw len (pool_in pool) in
-      rw (e, same) (get_or-set_same xs (place_of_pool pool)
-      (need_after (slice_index_or xs (place_of_pool pool) no_need) taken waited) no_need m)
-  | inr e ↦
-      rw e
-      (get_or-set_other xs (place_of_pool p) (place_of_pool pool)
-      (need_after (slice_index_or xs (place_of_pool p) no_need) taken waited) no_need
-      (λ (s : place_of_pool pool ≡ place_of_pool p). absurd
-      (both_ways _ e (eq-eqb (place_of_pool p) (place_of_pool pool) (sym s))))
-      ∙ no_more (slice_index_or xs (place_of_pool pool) no_need))
-]
+pool_part pool (Some p) taken waited xs len =
+    part_after (place_of_pool pool) (place_of_pool p) taken waited xs (rw len (pool_in pool))
 
 unit_part : (unit : UnitId) (x : Option UnitId) (taken waited : ℕ) (xs : List Need) → length xs ≡ 5
     → slice_index_or (units_after x taken waited xs) (place_of_unit unit) no_need
     ≡ need_after (slice_index_or xs (place_of_unit unit) no_need) (cond (is_of unit x) taken 0)
     (cond (is_of unit x) waited 0)
 unit_part unit None taken waited xs len = no_more (slice_index_or xs (place_of_unit unit) no_need)
-unit_part unit (Some p) taken waited xs len = elim (cases_Bool (place_of_unit p == place_of_unit unit)) [
-  | inl e ↦
-      let same : place_of_unit p ≡ place_of_unit unit = eqb-true (place_of_unit p) (place_of_unit unit) e in
-      let m : place_of_unit unit < length xs = rw len (unit_in unit) in
-      rw (e, same) (get_or-set_same xs (place_of_unit unit)
-      (need_after (slice_index_or xs (place_of_unit unit) no_need) taken waited) no_need m)
-  | inr e ↦
-      rw e
-      (get_or-set_other xs (place_of_unit p) (place_of_unit unit)
-      (need_after (slice_index_or xs (place_of_unit p) no_need) taken waited) no_need
-      (λ (s : place_of_unit unit ≡ place_of_unit p). absurd
-      (both_ways _ e (eq-eqb (place_of_unit p) (place_of_unit unit) (sym s))))
-      ∙ no_more (slice_index_or xs (place_of_unit unit) no_need))
-]
+unit_part unit (Some p) taken waited xs len =
+    part_after (place_of_unit unit) (place_of_unit p) taken waited xs (rw len (unit_in unit))
 
 length-stations_after : (x : Option PoolId) (taken waited : ℕ) (xs : List Need)
     → length (stations_after x taken waited xs) ≡ length xs

@@ -8,9 +8,9 @@ use Rattle.std.proofs.lemmas.Bool.{cases_Bool, and_from, and_parts, le-leb, lt-l
 use Rattle.tomex_rvdec.specs.Parts.{place_of_unit}
 use Rattle.tomex_rvdec.specs.declared.pool.PoolId.{PoolId}
 use Rattle.tomex_rvdec.specs.declared.pool.UnitId.{UnitId}
-use Rattle.tomex_rvexec.specs.Steps.{step_pool, step_unit, step_dest, j_of, k_of}
-use Rattle.tomex_rvexec.specs.declared.step.Operand.{Operand}
-use Rattle.tomex_rvexec.specs.declared.step.Step.{Step}
+use Rattle.tomex_steps.specs.Steps.{step_pool, step_unit, step_dest, j_of, k_of}
+use Rattle.tomex_steps.specs.declared.step.Operand.{Operand}
+use Rattle.tomex_steps.specs.declared.step.Step.{Step}
 use Rattle.tomex_config.specs.Configuration.{Configuration, IsWithinLimits, stations_of, option_of}
 use Rattle.tomex_timing.specs.declared.accesses.Access.{Access}
 use Rattle.tomex_timing.specs.declared.next.Marks.{Marks}
@@ -19,21 +19,22 @@ use Rattle.tomex_timing.specs.declared.part.Part.TheVariants.{Stations}
 use Rattle.tomex_timing.specs.declared.times.Done.{Done}
 use Rattle.tomex_timing.specs.declared.window.Facts.{Facts}
 use Rattle.tomex_timing.specs.declared.window.Latest.{Latest}
-use Rattle.tomex_timing.specs.Ahead.{ArePast, IsFreeFirst, IsIdle, IsNextBy, Reserved, RunsOn, TakesBus, TakesStation}
-use Rattle.tomex_timing.specs.Ahead.{bus_line, end_at, end_in, is_left, is_past}
+use Rattle.tomex_timing.specs.Ahead.{ArePast, IsIdle, IsNextBy, RunsOn, TakesBus, TakesStation, end_in, is_past}
+use Rattle.tomex_reservations.specs.Reservations.{IsFreeFirst, Reserved, bus_line, end_at, is_left, IsFirst}
 use Rattle.tomex_timing.specs.History.{last_issue}
 use Rattle.tomex_timing.specs.Recurrence.{IsLeast, AreTimed}
 use Rattle.tomex_timing.specs.Search.{least}
 use Rattle.tomex_timing.specs.Station.{is_held, has_station, is_free}
 use Rattle.tomex_timing.specs.Waiting.{buses_taken, clear_among, marks_among, marks_from, units_taken}
-use Rattle.tomex_timing.specs.Window.{EndsAfterAmong, IsFirst, IsNext, end_among, facts_of, has_bus_among}
+use Rattle.tomex_timing.specs.Window.{EndsAfterAmong, IsNext, end_among, facts_of, has_bus_among}
 use Rattle.tomex_timing.specs.Window.{has_station_among, is_free_among, issue_from, may_start, ready_of, recent}
 use Rattle.tomex_timing.specs.Window.{register_of}
 use Rattle.tomex_timing.proofs.Charges.{clear_same}
 use Rattle.tomex_timing.proofs.Limits.{latency_low, stations_high}
 use Rattle.tomex_timing.proofs.Orders.{dest_unit}
 use Rattle.tomex_timing.proofs.Pigeons.{stations_fit}
-use Rattle.tomex_timing.proofs.Searching.{first_here, least_agree}
+use Rattle.tomex_timing.proofs.Least.{least_agree}
+use Rattle.tomex_reservations.proofs.Searching.{first_here}
 use Rattle.tomex_timing.proofs.Shown.{IsShown, conflicts_among, results_among, starts_among}
 use Rattle.tomex_timing.proofs.Stations.{number_is}
 use Rattle.tomex_timing.proofs.Taken.{peak_within}

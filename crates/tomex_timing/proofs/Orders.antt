@@ -5,11 +5,11 @@ use Rattle.std.specs.Bool.{MatchBool}
 use Rattle.std.proofs.lemmas.Bool.{and_parts, leb-true, lt-ltb, ltb-true, MatchBool-at_true}
 use Rattle.tomex_rvdec.specs.declared.pool.PoolId.{PoolId}
 use Rattle.tomex_rvdec.specs.declared.pool.UnitId.{UnitId}
-use Rattle.tomex_rvexec.specs.declared.step.ByteRange.{ByteRange}
-use Rattle.tomex_rvexec.specs.declared.step.Step.{Step}
-use Rattle.tomex_rvexec.specs.Flow.{is_among}
-use Rattle.tomex_rvexec.specs.Steps.{bytes_of, step_dest, step_pool, step_unit}
-use Rattle.tomex_rvexec.proofs.FlowFields.{dest_needs_pool, unit_with_pool}
+use Rattle.tomex_steps.specs.declared.step.ByteRange.{ByteRange}
+use Rattle.tomex_steps.specs.declared.step.Step.{Step}
+use Rattle.tomex_steps.specs.Results.{is_among}
+use Rattle.tomex_steps.specs.Steps.{bytes_of, step_dest, step_pool, step_unit}
+use Rattle.tomex_steps.proofs.Fields.{dest_needs_pool, unit_with_pool}
 use Rattle.tomex_config.specs.Configuration.{Configuration}
 use Rattle.tomex_timing.specs.declared.times.Done.{Done}
 use Rattle.tomex_timing.specs.History.{cycle_of, greatest_end, last_address}

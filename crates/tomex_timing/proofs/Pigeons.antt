@@ -7,7 +7,7 @@ use Rattle.std.proofs.lemmas.Bool.{cases_Bool, cases_order, and_parts, eqb-true,
 use Rattle.std.proofs.lemmas.List.Sums.{sum_by-cons}
 use Rattle.tomex_rvdec.specs.Parts.{place_of_pool}
 use Rattle.tomex_rvdec.specs.declared.pool.PoolId.{PoolId}
-use Rattle.tomex_rvexec.specs.Steps.{step_pool, is_in, is_number}
+use Rattle.tomex_steps.specs.Steps.{step_pool, is_in, is_number}
 use Rattle.tomex_config.specs.Configuration.{Configuration}
 use Rattle.tomex_timing.specs.declared.times.Done.{Done}
 use Rattle.tomex_timing.specs.declared.part.Part.TheVariants.{Stations}

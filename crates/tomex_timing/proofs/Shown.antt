@@ -9,14 +9,15 @@ use Rattle.std.proofs.lemmas.List.Elements.{All-from_recursion}
 use Rattle.tomex_rvdec.specs.Parts.{place_of_unit}
 use Rattle.tomex_rvdec.specs.declared.pool.PoolId.{PoolId}
 use Rattle.tomex_rvdec.specs.declared.pool.UnitId.{UnitId}
-use Rattle.tomex_rvexec.specs.Steps.{step_pool, step_unit, step_dest, is_in, is_number}
-use Rattle.tomex_rvexec.specs.declared.step.Step.{Step}
+use Rattle.tomex_steps.specs.Steps.{step_pool, step_unit, step_dest, is_in, is_number}
+use Rattle.tomex_steps.specs.declared.step.Step.{Step}
 use Rattle.tomex_config.specs.Configuration.{Configuration, IsWithinLimits}
 use Rattle.tomex_timing.specs.declared.accesses.Access.{Access}
 use Rattle.tomex_timing.specs.declared.times.Done.{Done}
 use Rattle.tomex_timing.specs.declared.window.Facts.{Facts}
 use Rattle.tomex_timing.specs.declared.window.Latest.{Latest}
-use Rattle.tomex_timing.specs.Ahead.{Reserved, IsSettledBy, bus_line, end_at, is_past, station_place, taken_at}
+use Rattle.tomex_timing.specs.Ahead.{IsSettledBy, is_past}
+use Rattle.tomex_reservations.specs.Reservations.{Reserved, bus_line, end_at, station_place, taken_at}
 use Rattle.tomex_timing.specs.History.{is_of, last_issue, greatest_end}
 use Rattle.tomex_timing.specs.Recurrence.{AreTimed}
 use Rattle.tomex_timing.specs.Search.{history}

@@ -13,26 +13,26 @@ use Rattle.std.proofs.lemmas.List.Sums.{sum_by-cons}
 use Rattle.tomex_rvdec.specs.Parts.{place_of_pool, place_of_unit}
 use Rattle.tomex_rvdec.specs.declared.pool.PoolId.{PoolId}
 use Rattle.tomex_rvdec.specs.declared.pool.UnitId.{UnitId}
-use Rattle.tomex_rvexec.specs.Steps.{step_pool, step_unit, step_dest, j_of, k_of, bytes_of, is_in, is_number, is_store}
-use Rattle.tomex_rvexec.specs.declared.step.ByteRange.{ByteRange}
-use Rattle.tomex_rvexec.specs.declared.step.Step.{Step}
+use Rattle.tomex_steps.specs.Steps.{step_pool, step_unit, step_dest, j_of, k_of, bytes_of, is_in, is_number, is_store}
+use Rattle.tomex_steps.specs.declared.step.ByteRange.{ByteRange}
+use Rattle.tomex_steps.specs.declared.step.Step.{Step}
 use Rattle.tomex_config.specs.Configuration.{Configuration, IsWithinLimits, option_of, stations_of}
-use Rattle.tomex_rvexec.specs.declared.step.Operand.{Operand}
+use Rattle.tomex_steps.specs.declared.step.Operand.{Operand}
 use Rattle.tomex_timing.specs.declared.accesses.Access.{Access}
 use Rattle.tomex_timing.specs.declared.next.Next.{Next}
 use Rattle.tomex_timing.specs.declared.times.Done.{Done}
 use Rattle.tomex_timing.specs.declared.times.Times.{Times}
 use Rattle.tomex_timing.specs.declared.window.Facts.{Facts}
 use Rattle.tomex_timing.specs.declared.window.Latest.{Latest}
-use Rattle.tomex_timing.specs.Ahead.{CanKeep, IsIdle, IsNextBy, IsTableAfter, Reserved, RunsOn, TakesBus, TakesStation}
-use Rattle.tomex_timing.specs.Ahead.{accesses_after, accesses_with, bus_line, end_at, end_in, ends_after, ends_with}
-use Rattle.tomex_timing.specs.Ahead.{is_left, is_past, one, station_place, taken_at}
+use Rattle.tomex_timing.specs.Ahead.{CanKeep, IsIdle, IsNextBy, IsTableAfter, RunsOn, TakesBus, TakesStation}
+use Rattle.tomex_reservations.specs.Reservations.{Reserved, bus_line, end_at, is_left, station_place, taken_at, IsFirst}
+use Rattle.tomex_timing.specs.Ahead.{accesses_after, accesses_with, end_in, ends_after, ends_with, is_past, one}
 use Rattle.tomex_timing.specs.History.{is_of, last_issue, greatest_end}
 use Rattle.tomex_timing.specs.Recurrence.{AreTimed}
 use Rattle.tomex_timing.specs.Search.{history, times_in}
 use Rattle.tomex_timing.specs.Station.{is_free}
 use Rattle.tomex_timing.specs.Waiting.{marks_among}
-use Rattle.tomex_timing.specs.Window.{facts_of, register_of, HasRegisters, IsFirst, is_finished_conflict, latest_after}
+use Rattle.tomex_timing.specs.Window.{facts_of, register_of, HasRegisters, is_finished_conflict, latest_after}
 use Rattle.tomex_timing.specs.Window.{Live, live_of, recent, sends_in, starts_in, IsKept}
 use Rattle.tomex_timing.proofs.Limits.{buses_high, pool_in, stations_high, units_high}
 use Rattle.tomex_timing.proofs.Histories.{are_timed}

@@ -9,12 +9,11 @@ use Rattle.std.proofs.lemmas.List.Sums.{sum_by-cons, sum_by-append}
 use Rattle.std.proofs.lemmas.List.Folds.{list_all-append}
 use Rattle.tomex_rvdec.specs.declared.pool.PoolId.{PoolId}
 use Rattle.tomex_rvdec.specs.declared.pool.UnitId.{UnitId}
-use Rattle.tomex_rvexec.specs.Steps.{step_pool, j_of, k_of, is_branch, is_in, is_number}
-use Rattle.tomex_rvexec.specs.declared.step.Step.{Step}
+use Rattle.tomex_steps.specs.Steps.{step_pool, j_of, k_of, is_branch, is_in, is_number}
+use Rattle.tomex_steps.specs.declared.step.Step.{Step}
 use Rattle.tomex_config.specs.Configuration.{Configuration, IsWithinLimits}
 use Rattle.tomex_timing.specs.declared.times.Done.{Done}
-use Rattle.tomex_timing.specs.History.{is_of, source_end, last_issue, last_address}
-use Rattle.tomex_timing.specs.History.{greatest_end}
+use Rattle.tomex_timing.specs.History.{is_of, source_end, last_issue, last_address, greatest_end}
 use Rattle.tomex_timing.specs.Station.{has_station, is_free}
 use Rattle.tomex_timing.specs.Recurrence.{IsLeast, AreTimed, can_issue, can_address, can_start, can_end}
 use Rattle.tomex_timing.specs.Recurrence.{can_issue_another, are_branches_finished}

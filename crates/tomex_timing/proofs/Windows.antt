@@ -12,9 +12,9 @@ use Rattle.std.proofs.lemmas.Bool.{le-leb, ne_eqb, and_parts, MatchBool-at_true}
 use Rattle.std.proofs.lemmas.Bool.{MatchBool-at_false}
 use Rattle.std.proofs.lemmas.List.Sums.{sum_by-cons}
 use Rattle.tomex_rvdec.specs.declared.pool.UnitId.{UnitId}
-use Rattle.tomex_rvexec.specs.Steps.{step_pool, step_unit, step_dest, j_of, k_of}
-use Rattle.tomex_rvexec.specs.declared.step.Operand.{Operand}
-use Rattle.tomex_rvexec.specs.declared.step.Step.{Step}
+use Rattle.tomex_steps.specs.Steps.{step_pool, step_unit, step_dest, j_of, k_of}
+use Rattle.tomex_steps.specs.declared.step.Operand.{Operand}
+use Rattle.tomex_steps.specs.declared.step.Step.{Step}
 use Rattle.tomex_config.specs.Configuration.{Configuration, IsWithinLimits, option_of}
 use Rattle.tomex_timing.specs.declared.times.Done.{Done}
 use Rattle.tomex_timing.specs.declared.times.Times.{Times}
@@ -24,11 +24,11 @@ use Rattle.tomex_timing.specs.Station.{is_free}
 use Rattle.tomex_timing.specs.Recurrence.{IsLeast, IsTimed, AreTimed, can_issue, can_address, can_start, can_end}
 use Rattle.tomex_timing.specs.Window.{Live, facts_of, live_of, recent, has_station_among, is_free_among}
 use Rattle.tomex_timing.specs.Window.{branch_finish, may_start}
-use Rattle.tomex_timing.specs.Window.{has_bus_among, IsFirst, end_among, IsNext, IsKept, written_by, addressed_by}
-use Rattle.tomex_timing.specs.Window.{latest_after}
+use Rattle.tomex_timing.specs.Window.{has_bus_among, end_among, IsNext, IsKept, written_by, addressed_by, latest_after}
+use Rattle.tomex_reservations.specs.Reservations.{IsFirst}
 use Rattle.tomex_timing.proofs.Limits.{latency_low}
 use Rattle.tomex_timing.proofs.Search.{address_pos}
-use Rattle.tomex_timing.proofs.Searching.{least_agree}
+use Rattle.tomex_timing.proofs.Least.{least_agree}
 use Rattle.tomex_timing.proofs.Width.{issue_from, none_later}
 use Rattle.tomex_timing.proofs.WindowTests.{AreClosed, issue_agree, start_agree, end_agree, free_agree, address_agree}
 

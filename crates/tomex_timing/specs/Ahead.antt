@@ -1,14 +1,14 @@
 -- What the evaluator holds of the steps before, in place of a list of them: the reservation table of the cycles
--- ahead, the ends of the stations' steps, and the accesses under way.
-use Rattle.std.specs.Prelude.{ℕ, ◌+◌, ◌*◌, ◌-◌, ◌^◌, ◌<◌, ◌≤◌, ◌≡◌, ◌==◌, nat_lt, nat_le, Bool, not, ◌&&◌}
+-- ahead, the ends of the stations' steps, and the accesses under way; and what a next step makes of them.
+use Rattle.std.specs.Prelude.{ℕ, ◌+◌, ◌-◌, ◌^◌, ◌<◌, ◌≤◌, ◌≡◌, ◌==◌, nat_lt, nat_le, Bool, not, ◌&&◌}
 use Rattle.std.specs.Prelude.{◌||◌, if◌then◌else◌, List, [], ◌∷◌, ◌++◌, Option, Some, None, is_some, IfSome}
-use Rattle.std.specs.Prelude.{slice_index, slice_index_or, slice_set, replicate, MatchOption, All}
+use Rattle.std.specs.Prelude.{slice_index, slice_set, MatchOption, All}
 use Rattle.std.specs.Bool.{MatchBool}
 use Rattle.std.specs.List.{list_all, filter}
-use Rattle.tomex_rvdec.specs.Parts.{place_of_pool, place_of_unit}
+use Rattle.tomex_rvdec.specs.Parts.{place_of_unit}
 use Rattle.tomex_rvdec.specs.declared.pool.PoolId.{PoolId}
 use Rattle.tomex_rvdec.specs.declared.pool.UnitId.{UnitId}
-use Rattle.tomex_rvexec.specs.declared.step.ByteRange.{ByteRange}
+use Rattle.tomex_steps.specs.declared.step.ByteRange.{ByteRange}
 use Rattle.tomex_config.specs.Configuration.{Configuration, stations_of, option_of}
 use Rattle.tomex_timing.specs.declared.accesses.Access.{Access}
 use Rattle.tomex_timing.specs.declared.next.Next.{Next}
@@ -18,52 +18,9 @@ use Rattle.tomex_timing.specs.declared.window.Latest.{Latest}
 use Rattle.tomex_timing.specs.History.{is_of}
 use Rattle.tomex_timing.specs.Recurrence.{shares_byte}
 use Rattle.tomex_timing.specs.Waiting.{operands_from}
-use Rattle.tomex_timing.specs.Window.{IsFirst, address_among, issue_from, ready_from}
-
--- The reservation table.
-
--- the first cycle that it has, and of each from there on how many are taken of each line: of the five kinds of unit,
--- in their order, and of the buses
-pub record Reserved : Type 0 where
-  pub base : ℕ
-  pub slots : List (List ℕ)
-
-abbrev pub bus_line : ℕ
-bus_line = 5
-
--- a cycle in which nothing is taken
-abbrev pub free_slot : List ℕ
-free_slot = replicate 6 0
-
--- how many are taken of a line in a cycle; past the table's end none are
-abbrev pub taken_at : Reserved → ℕ → ℕ → ℕ
-taken_at table line t = slice_index (slice_index_or table.slots (t - table.base) free_slot) line
-
--- one of so many is left
-abbrev pub is_left : Reserved → ℕ → ℕ → ℕ → Bool
-is_left table line most t = nat_lt (taken_at table line t) most
-
--- after one more of a line is taken in a cycle
-abbrev pub taken_with : Reserved → ℕ → ℕ → ℕ → ℕ → ℕ
-taken_with table line cycle l t = if l == line && t == cycle then taken_at table l t + 1 else taken_at table l t
-
--- The stations.
-
--- where a pool's station stands
-abbrev pub station_place : PoolId → ℕ → ℕ
-station_place pool n = 16 * place_of_pool pool + n
-
-abbrev pub end_at : List ℕ → PoolId → ℕ → ℕ
-end_at ends pool n = slice_index ends (station_place pool n)
-
--- in the cycle, and in none before it from this one on, a station of the pool is free, and this is the least number
--- of one
-pub record IsFreeFirst (ends : List ℕ) (pool : PoolId) (count from cycle n : ℕ) : Type 0 where
-  pub begun : from ≤ cycle
-  pub there : n < count
-  pub free : end_at ends pool n < cycle
-  pub least : (k : ℕ) → k < n → cycle ≤ end_at ends pool k
-  pub none : (k t : ℕ) → k < count → from ≤ t → t < cycle → t ≤ end_at ends pool k
+use Rattle.tomex_timing.specs.Window.{address_among, issue_from, ready_from}
+use Rattle.tomex_reservations.specs.Reservations.{Reserved, IsFirst, IsFreeFirst, bus_line, end_at, is_left}
+use Rattle.tomex_reservations.specs.Reservations.{station_place, taken_at}
 
 -- The accesses under way.
 

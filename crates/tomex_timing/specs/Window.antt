@@ -8,10 +8,10 @@ use Rattle.std.specs.List.{list_all}
 use Rattle.tomex_rvdec.specs.declared.pool.PoolId.{PoolId}
 use Rattle.tomex_rvdec.specs.declared.pool.PoolId.TheVariants.{Load, Store}
 use Rattle.tomex_rvdec.specs.declared.pool.UnitId.{UnitId}
-use Rattle.tomex_rvexec.specs.Steps.{step_pool, step_unit, step_dest, j_of, k_of, bytes_of}
-use Rattle.tomex_rvexec.specs.Steps.{is_branch, is_store, is_in, is_number}
-use Rattle.tomex_rvexec.specs.declared.step.Operand.{Operand}
-use Rattle.tomex_rvexec.specs.declared.step.Step.{Step}
+use Rattle.tomex_steps.specs.Steps.{step_pool, step_unit, step_dest, j_of, k_of, bytes_of}
+use Rattle.tomex_steps.specs.Steps.{is_branch, is_store, is_in, is_number}
+use Rattle.tomex_steps.specs.declared.step.Operand.{Operand}
+use Rattle.tomex_steps.specs.declared.step.Step.{Step}
 use Rattle.tomex_config.specs.Configuration.{Configuration, stations_of, option_of}
 use Rattle.tomex_timing.specs.declared.times.Done.{Done}
 use Rattle.tomex_timing.specs.declared.times.Times.{Times}
@@ -19,6 +19,7 @@ use Rattle.tomex_timing.specs.declared.window.Facts.{Facts}
 use Rattle.tomex_timing.specs.declared.window.Latest.{Latest}
 use Rattle.tomex_timing.specs.History.{is_of, cycle_of, last_issue, last_address, writer_end, greatest_end}
 use Rattle.tomex_timing.specs.Recurrence.{IsLeast, shares_byte}
+use Rattle.tomex_reservations.specs.Reservations.{IsFirst}
 
 abbrev pub register_of : Option Operand → Option ℕ
 register_of None = None
@@ -68,10 +69,6 @@ recent cycle (d ∷ older) = if nat_le cycle d.at.end then recent cycle older ++
 
 abbrev pub is_memory_pool : Option PoolId → Bool
 is_memory_pool pool = is_in Load pool || is_in Store pool
-
--- t is the first number from this one on that passes
-abbrev pub IsFirst : ℕ → (ℕ → Bool) → ℕ → Type 0
-IsFirst from p t = IsLeast (λ s. nat_le from s && p s) t
 
 -- issue
 

@@ -9,14 +9,11 @@
 
 mod accesses;
 pub mod evaluate;
-mod free_stations;
 mod laws;
 mod needs;
 mod next;
 mod part;
-mod reservation_table;
 mod run;
-mod tables;
 mod times;
 mod waiting;
 mod window;
@@ -31,5 +28,5 @@ pub use laws::{
 pub use needs::Needs;
 pub use part::{Need, Part, Waits};
 pub use run::Run;
-pub use tables::{Busy, Field, Tag};
 pub use times::{Done, Times};
+pub use tomex_reservations::{Busy, Field, Tag};

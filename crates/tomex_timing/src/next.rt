@@ -3,18 +3,17 @@
 ghost use Rattle.std.specs.Prelude.{◌≡◌, ℕ, ◌+◌, ◌-◌, ◌^◌, ◌<◌, ◌≤◌, None, max, IfSome};
 ghost use Rattle.tomex_config.specs.Configuration.{IsWithinLimits, option_of};
 ghost use Rattle.tomex_rvdec.specs.Parts.{place_of_unit};
-ghost use Rattle.tomex_timing.specs.Ahead.{IsIdle, IsNextBy, IsSettledBy, TakesBus, TakesStation};
-ghost use Rattle.tomex_timing.specs.Ahead.{bus_line, end_at, end_in, taken_at};
+ghost use Rattle.tomex_timing.specs.Ahead.{IsIdle, IsNextBy, IsSettledBy, TakesBus, TakesStation, end_in};
+ghost use Rattle.tomex_reservations.specs.Reservations.{bus_line, end_at, taken_at};
 ghost use Rattle.tomex_timing.specs.History.{cycle_of};
 ghost use Rattle.tomex_timing.specs.Window.{HasRegisters, address_among, is_memory_pool, issue_from, ready_from};
 
 use crate::accesses::past_conflicts;
-use crate::free_stations::Stations;
-use crate::reservation_table::{BUSES, ReservationTable, Room};
 use crate::times::Times;
 use crate::window::{Facts, Latest, Window};
 use std::alloc::Allocator;
 use tomex_config::Config;
+use tomex_reservations::{BUSES, ReservationTable, Room, Stations};
 use tomex_rvdec::PoolId;
 
 /// The cycles from which on a next step lacks one thing less. Without a unit it lacks nothing from its

@@ -6,10 +6,9 @@ ghost use Rattle.tomex_timing.specs.Ahead.{CanKeep, CanReserve, IsTableAfter, ac
 ghost use Rattle.tomex_timing.specs.Window.{AreFacts, facts_of, register_of, HasRegisters, nothing_yet, latest_after};
 
 use crate::accesses::Access;
-use crate::free_stations::Stations;
-use crate::reservation_table::{BUSES, ReservationTable};
 use crate::times::Times;
 use std::alloc::{AllocError, Allocator};
+use tomex_reservations::{BUSES, ReservationTable, Stations};
 use tomex_rvdec::{PoolId, UnitId};
 use tomex_rvexec::{ByteRange, Operand, Step};
 

@@ -1,9 +1,9 @@
 -- The pictures of short runs, computed by the definition itself.
 use Rattle.std.proofs.Common.{◌≡◌, refl, ℕ, List}
-use Rattle.std.specs.Prelude.{codes}
+use Rattle.std.specs.Prelude.{◌++◌, codes}
 use Rattle.std.specs.Fmt.{char_count, digits, padded_integral}
 use Rattle.tomex_rvdec.specs.declared.pool.UnitId.TheVariants as units
-use Rattle.tomex_rvexec.specs.declared.step.Step.{Step}
+use Rattle.tomex_steps.specs.declared.step.Step.{Step}
 use Rattle.tomex_config.specs.Configuration.{Configuration, plain}
 use Rattle.tomex_timing.specs.Search.{times_in, times_of}
 use Rattle.tomex_timing.proofs.Programs.{product, two_results, stored_and_loaded, two_alu_stations, with_latency}
@@ -15,7 +15,11 @@ picture number count config steps =
     picture_of number (shown number count steps) (shown number count (times_in config steps))
 
 product_picture : picture 1 32 (with_latency units.Mul two_alu_stations 3) product
-    ≡ codes "cycles 1 to 8\n1 IEW      00000000 addi x1,x0,5\n2  IEW     00000004 addi x2,x0,7\n3   I=EEEW 00000008 mul x3,x1,x2\n4    I     0000000c ebreak\n"
+    ≡ codes "cycles 1 to 8\n"
+    ++ codes "1 IEW      00000000 addi x1,x0,5\n"
+    ++ codes "2  IEW     00000004 addi x2,x0,7\n"
+    ++ codes "3   I=EEEW 00000008 mul x3,x1,x2\n"
+    ++ codes "4    I     0000000c ebreak\n"
 unfolding line_of sign_in times_of digits padded_integral char_count
 product_picture = refl
 

@@ -231,18 +231,14 @@ fn done_of(rt: &HostRuntime, image: &Image, config: &Config) -> Result<(Vec<Done
     Ok((done.collect(rt.alloc())?, total(timed.as_slice())))
 }
 
-/// Whether two runs ended alike.
-fn end_alike(ended: &End<Global>, wanted: &End<Global>) -> bool {
-    ended.steps == wanted.steps
-        && ended.pc == wanted.pc
-        && ended.regs == wanted.regs
-        && ended.memory.bytes() == wanted.memory.bytes()
-}
-
 /// Compares the end of a run by tags with that of the run in order.
 fn compare_ends(rt: &HostRuntime, image: &Image, ended: &End<Global>) -> Result<(), Fail> {
     let wanted = run(rt.alloc(), image, 1000)?;
-    holds(end_alike(ended, &wanted), "another end")
+    let is_same = ended.steps == wanted.steps
+        && ended.pc == wanted.pc
+        && ended.regs == wanted.regs
+        && ended.memory.bytes() == wanted.memory.bytes();
+    holds(is_same, "another end")
 }
 
 /// Compares a machine's cycles up to the last, which is `all`.

@@ -2,7 +2,7 @@
 
 use super::{
     INDIRECT, PRODUCT, STORED, TWO_ALU, WRITTEN_TWICE, config_of, holds, image_at_0, machine_of,
-    tables_of, tick, wide_config,
+    tables_of, tick,
 };
 use Field::{Unread, Value, Waits};
 use std::alloc::Allocator;
@@ -53,13 +53,6 @@ fn show(tables: &Tables, stations: &[Station], status: &[(usize, Tag)]) -> Resul
     )
 }
 
-/// Makes so many ticks.
-fn make<A: Allocator>(machine: &mut Machine<A>, ticks: u32) {
-    for _ in 0..ticks {
-        tick(machine);
-    }
-}
-
 /// The tables of a program after a cycle.
 fn tables_after(
     rt: &HostRuntime,
@@ -69,7 +62,9 @@ fn tables_after(
 ) -> Result<Tables, Fail> {
     let image = image_at_0(rt, words)?;
     let mut machine = machine_of(rt, &image, config)?;
-    make(&mut machine, cycle);
+    for _ in 0..cycle {
+        tick(&mut machine);
+    }
     let tables = tables_of(&machine);
     if tables.cycle() == u64::from(cycle) {
         Ok(tables)
@@ -123,7 +118,7 @@ const BRU_0: Tag = Tag {
 /// A long multiplication, which waits for nothing.
 const SLOW: Station = (MUL_0, WRITTEN_TWICE[0], Value(0), Value(65536), None);
 
-static SHOWN: [Shown; 6] = [
+static SHOWN: [Shown; 7] = [
     Shown {
         words: &PRODUCT,
         pools: TWO_ALU,
@@ -187,26 +182,25 @@ static SHOWN: [Shown; 6] = [
         ],
         status: &[(6, MUL_0)],
     },
+    // What issues beside its producers takes their tags.
+    Shown {
+        words: &PRODUCT,
+        pools: TWO_ALU,
+        parts: [2, 3, 1, 2],
+        width: 4,
+        cycle: 1,
+        stations: &[
+            (ALU_0, PRODUCT[0], Value(0), Unread, None),
+            (ALU_1, PRODUCT[1], Value(0), Unread, None),
+            (MUL_0, PRODUCT[2], Waits(ALU_0), Waits(ALU_1), None),
+        ],
+        status: &[(1, ALU_0), (2, ALU_1), (3, MUL_0)],
+    },
 ];
-
-/// What issues beside its producers takes their tags.
-static SHOWN_WIDE: Shown = Shown {
-    words: &PRODUCT,
-    pools: TWO_ALU,
-    parts: [2, 3, 1, 2],
-    width: 4,
-    cycle: 1,
-    stations: &[
-        (ALU_0, PRODUCT[0], Value(0), Unread, None),
-        (ALU_1, PRODUCT[1], Value(0), Unread, None),
-        (MUL_0, PRODUCT[2], Waits(ALU_0), Waits(ALU_1), None),
-    ],
-    status: &[(1, ALU_0), (2, ALU_1), (3, MUL_0)],
-};
 
 /// The tables of its program show what it says.
 fn compare(rt: &HostRuntime, shown: &Shown) -> Result<(), Fail> {
-    let config = wide_config(shown.pools, shown.parts, shown.width)?;
+    let config = config_of(shown.pools, shown.parts, shown.width)?;
     let tables = tables_after(rt, shown.words, &config, shown.cycle)?;
     show(&tables, shown.stations, shown.status)
 }
@@ -217,11 +211,6 @@ fn worked_tables(rt: HostRuntime) -> Result<(), Fail> {
         compare(&rt, shown)?;
     }
     Ok(())
-}
-
-#[test]
-fn tables_of_a_wide_cycle(rt: HostRuntime) -> Result<(), Fail> {
-    compare(&rt, &SHOWN_WIDE)
 }
 
 /// Whether the run goes on through a million ticks and one.
@@ -237,7 +226,7 @@ fn runs_on<A: Allocator>(machine: &mut Machine<A>) -> bool {
 /// A machine that knows a run before it makes it can't have this one: `jal x0,0` has no end.
 #[test]
 fn a_jump_to_itself_runs_on(rt: HostRuntime) -> Result<(), Fail> {
-    let config = config_of([1; 6], 1, 1, 1, 1)?;
+    let config = config_of([1; 6], [1; 4], 1)?;
     let image = image_at_0(&rt, [0x0000006f].as_slice())?;
     let mut machine = machine_of(&rt, &image, &config)?;
     assert!(rt; runs_on(&mut machine));

@@ -1,13 +1,13 @@
 //! Runs that rows share: which programs run on a row, and that no mark depends on it.
 
-use super::{explored, gives_front, gives_marks, only, program_of, study_on, unit, whole};
+use super::{explored, gives_front, gives_marks, program_of, study_on, unit};
 use std::alloc::Global;
 use std::sync::Wait;
 use std::sync::atomic::{AtomicU64, Ordering};
 use std::test::Fail;
 use std::thread::Threads;
 use tomex_config::{Config, UnitOption};
-use tomex_sweep::{Gate, Mark, Program, Study};
+use tomex_sweep::{Gate, Mark, Program, Study, run_all};
 use tomex_timing::evaluate::{times, total};
 
 /// `addi x1,x0,400; mul x2,x1,x1; addi x1,x1,-1; bne x1,x0,-8; ebreak`
@@ -236,7 +236,7 @@ fn is_front_of_all<R: AllocGlobal + Threads + Wait + Sync>(
     rt: &R,
     study: &Study,
 ) -> Result<bool, Fail> {
-    let front = whole(rt.alloc(), study)?.front;
+    let front = run_all(rt.alloc(), study)?.front;
     let mut same = true;
     for workers in [1, 2, 3, 7, 32] {
         same = same && gives_front(rt, study, workers, front.as_slice())?;
@@ -314,11 +314,8 @@ fn dividers(alloc: Global, counts: u8) -> Result<Vec<Config>, Fail> {
 /// The study of that loop on those rows.
 fn divided_study(alloc: Global, counts: u8) -> Result<Study, Fail> {
     let rows = dividers(alloc, counts)?;
-    let programs = only(
-        alloc,
-        program_of(alloc, "products", PRODUCTS.as_slice(), 1)?,
-    )?;
-    study_on(alloc, programs, rows)
+    let program = program_of(alloc, "products", PRODUCTS.as_slice(), 1)?;
+    study_on(alloc, vec![in alloc; program]?, rows)
 }
 
 /// The machine runs once where only a part differs that the program never uses, and each row has its turn, however

@@ -2,8 +2,8 @@
 use Rattle.tomex_runs.specs.Cycles.{cycles_of}
 use Rattle.tomex_sweep.proofs.exploring.explore_on.Given as goal
 
-abbrev pub ghosts-explore_as : goal.ghosts-explore_as
-ghosts-explore_as g a = record {
+abbrev pub ghosts-marks_of_workers : goal.ghosts-marks_of_workers
+ghosts-marks_of_workers g a = record {
   costs = a.study.now.costs;
   cycles = cycles_of a.study.now;
 }

@@ -1,6 +1,6 @@
 -- After the greatest end each station is free.
 use Rattle.std.proofs.Common.{arith}
-use Rattle.tomex_timing.proofs.FreeStations.{free_by}
+use Rattle.tomex_reservations.proofs.FreeStations.{free_by}
 use Rattle.tomex_timing.proofs.next.station_of.Goals as goal
 
 pub returns-in-Some-clause-by : goal.returns-in-Some-clause-by

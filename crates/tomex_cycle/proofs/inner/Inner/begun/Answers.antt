@@ -1,5 +1,5 @@
 use Rattle.std.proofs.Common.{ap, ℕ, refl}
-use Rattle.tomex_rvexec.specs.Memory.{Bytes}
+use Rattle.tomex_steps.specs.Memory.{Bytes}
 use Rattle.tomex_cycle.specs.declared.fetch.Fetch.TheVariants.{At}
 use Rattle.tomex_cycle.proofs.Outer.{start_shown}
 use Rattle.tomex_cycle.proofs.inner.Inner.begun.Goals as goal

@@ -1,5 +1,5 @@
 -- Several programs have a column each, and one alone has none.
-use Rattle.std.proofs.Common.{◌<◌, ◌≤◌, ◌++◌, ◌∙◌, [], List, ap, length, subst, sym}
+use Rattle.std.proofs.Common.{◌<◌, ◌≤◌, ◌++◌, ◌∙◌, List, ap, length, subst, sym}
 use Rattle.std.proofs.lemmas.List.{append-nil}
 use Rattle.tomex_study.specs.Program.{Workload}
 use Rattle.tomex_fronts.specs.Table.{NamedNumbers}

@@ -1,0 +1,175 @@
+//! The reservation table: how many units of each kind, and how many buses, are taken in the cycles ahead.
+
+ghost use Rattle.std.specs.Prelude.{◌≡◌, ℕ, ◌+◌, ◌-◌, ◌^◌, ◌<◌, ◌≤◌, OnOk, length, max, []};
+ghost use Rattle.tomex_reservations.specs.Reservations.{Reserved, is_left, taken_at, taken_with, IsFirst};
+
+use std::alloc::{AllocError, Allocator};
+use std::marker::Model;
+
+/// The line of the buses. Those of the kinds of unit stand before it, in the order of `UnitId::ALL`.
+pub const BUSES: usize = 5;
+
+/// Room is made for so many cycles at once.
+const STRIDE: usize = 64;
+
+/// And so many are let go of at once.
+const PAST: u64 = 1024;
+
+/// How many are taken of each line in each cycle.
+#[derive(Drop)]
+pub struct ReservationTable<A: Allocator> {
+    /// The first cycle that it has.
+    base: u64,
+    /// Of each cycle from there on. Past its end nothing is taken.
+    slots: Vec<[u8; 6], A>,
+}
+
+impl<A: Allocator> Model for ReservationTable<A> {
+    ghost use Rattle.tomex_reservations.specs.Reservations.{Reserved};
+
+    ghost Value = { Reserved };
+
+    ghost view = { λ t. record { base = t.base; slots = t.slots.items } };
+}
+
+/// A cycle in which one of a line is left, and how many are taken in it with that one.
+#[derive(Clone, Copy)]
+pub struct Room {
+    pub cycle: u64,
+    pub taken: u64,
+}
+
+impl<A: Allocator> ReservationTable<A> {
+    /// Nothing is taken yet.
+    pub fn new(alloc: A) -> ReservationTable<A>
+        ensures { result ≡ record { base = 0; slots = [] } }
+    {
+        ReservationTable {
+            base: 0,
+            slots: Vec::new(alloc),
+        }
+    }
+
+    /// How many are taken of a line in a cycle.
+    #[inline(always)]
+    fn taken(&self, line: usize, cycle: u64) -> u8
+        requires line { line < 6 }
+        requires ahead { self.now.base ≤ cycle }
+        ensures { result ≡ taken_at self.now line cycle }
+    {
+        match self.slots.get((cycle - self.base) as usize) {
+            None => 0,
+            Some(slot) => slot[line],
+        }
+    }
+
+    /// The first cycle from `from` on in which fewer are taken of a line than there are. Past the cycle `bound`
+    /// none are.
+    // Mostly it is `from` itself: the search is apart, so that the look before it is a few instructions.
+    #[inline(always)]
+    pub fn first(&self, line: usize, most: u8, from: u64, bound: u64) -> Room
+        requires line { line < 6 }
+        requires most { 1 ≤ most }
+        requires ahead { self.now.base ≤ from }
+        requires quiet { (t : ℕ) → bound < t → taken_at self.now line t ≡ 0 }
+        requires from { from < 2 ^ 63 + 128 }
+        requires small { bound < 2 ^ 63 }
+        ensures first { IsFirst from (is_left self.now line most) result.cycle }
+        ensures taken { result.taken ≡ taken_at self.now line result.cycle + 1 }
+        ensures from { from ≤ result.cycle }
+        ensures by { result.cycle ≤ max from (bound + 1) }
+    {
+        let taken = self.taken(line, from);
+        if taken < most {
+            Room {
+                cycle: from,
+                taken: u64::from(taken) + 1,
+            }
+        } else {
+            self.search(line, most, from, bound)
+        }
+    }
+
+    /// The same, by a search.
+    fn search(&self, line: usize, most: u8, from: u64, bound: u64) -> Room
+        requires line { line < 6 }
+        requires most { 1 ≤ most }
+        requires ahead { self.now.base ≤ from }
+        requires quiet { (t : ℕ) → bound < t → taken_at self.now line t ≡ 0 }
+        requires from { from < 2 ^ 63 + 128 }
+        requires small { bound < 2 ^ 63 }
+        ensures first { IsFirst from (is_left self.now line most) result.cycle }
+        ensures taken { result.taken ≡ taken_at self.now line result.cycle + 1 }
+        ensures from { from ≤ result.cycle }
+        ensures by { result.cycle ≤ max from (bound + 1) }
+    {
+        let mut cycle = from;
+        loop {
+            let taken = self.taken(line, cycle);
+            if taken < most {
+                return Room {
+                    cycle,
+                    taken: u64::from(taken) + 1,
+                };
+            }
+            cycle += 1;
+        }
+    }
+
+    /// Makes room up to a place, and for it.
+    fn grow(&mut self, place: usize) -> Result<(), AllocError>
+        ensures base { self.new.base ≡ self.old.base }
+        ensures room { OnOk result (place < length self.new.slots) }
+        ensures same { (l t : ℕ) → taken_at self.new l t ≡ taken_at self.old l t }
+    {
+        if self.slots.len() <= place {
+            self.slots.resize(place.saturating_add(STRIDE), [0; 6])?;
+        }
+        Ok(())
+    }
+
+    /// Takes one more of a line in a cycle.
+    #[inline(always)]
+    pub fn take(&mut self, line: usize, cycle: u64) -> Result<(), AllocError>
+        requires line { line < 6 }
+        requires ahead { self.old.base ≤ cycle }
+        requires few { taken_at self.old line cycle < 255 }
+        ensures base { self.new.base ≡ self.old.base }
+        ensures taken { OnOk result
+            ((l t : ℕ) → l < 6 → self.old.base ≤ t → taken_at self.new l t ≡ taken_with self.old line cycle l t) }
+    {
+        let place = (cycle - self.base) as usize;
+        self.grow(place)?;
+        self.slots[place][line] += 1;
+        Ok(())
+    }
+
+    /// Lets go of the cycles before one, if they are many: nothing that is asked lies there any more.
+    #[inline(always)]
+    pub fn pass(&mut self, cycle: u64)
+        requires later { self.old.base ≤ cycle }
+        ensures base { self.new.base ≤ cycle }
+        ensures same { (l t : ℕ) → cycle ≤ t → taken_at self.new l t ≡ taken_at self.old l t }
+    {
+        if cycle - self.base >= PAST {
+            self.forget(cycle);
+        }
+    }
+
+    /// Lets go of the cycles before one.
+    fn forget(&mut self, cycle: u64)
+        requires later { self.old.base ≤ cycle }
+        ensures base { self.new.base ≡ cycle }
+        ensures same { (l t : ℕ) → cycle ≤ t → taken_at self.new l t ≡ taken_at self.old l t }
+    {
+        let past = (cycle - self.base) as usize;
+        if past < self.slots.len() {
+            let rest = self.slots.len() - past;
+            self.slots.copy_within(past.., 0);
+            self.slots.truncate(rest);
+        } else {
+            self.slots.clear();
+        }
+        self.base = cycle;
+    }
+}

@@ -1,0 +1,19 @@
+-- The marks are all judged: nothing is left to gather, and their front is the study's.
+use Rattle.std.proofs.Common.{◌∙◌}
+use Rattle.tomex_workers.proofs.Gathered.{none_left}
+use Rattle.tomex_sweep.proofs.Verdicts.{judged_front}
+use Rattle.tomex_sweep.proofs.exploring.explore_on.Goals as goal
+
+pub gather-requires-clause-count : goal.gather-requires-clause-count
+gather-requires-clause-count g c = c.in_ok-marks.ensures.count
+
+pub gather-requires-clause-lawful : goal.gather-requires-clause-lawful
+gather-requires-clause-lawful g c = c.in_ok-marks.ensures.lawful
+
+pub returns-clause-front : goal.returns-clause-front
+returns-clause-front g c =
+    judged_front c.args.study.now _ _ _ c.keeps_limits.ensures c.in_ok-gathered.ensures.judged c.as_slice.ensures.value
+    c.costs-costs.ensures.value c.in_ok-front.ensures
+
+pub returns-clause-gathered : goal.returns-clause-gathered
+returns-clause-gathered g c = c.in_ok-gathered.ensures.counted ∙ none_left _ c.in_ok-marks.ensures.closed

@@ -1,0 +1,7 @@
+//! Tests of the recurrence: times, waits and needs of worked examples.
+#![tactic(auto)]
+
+#[cfg(test)]
+mod needs;
+#[cfg(test)]
+mod timings;
