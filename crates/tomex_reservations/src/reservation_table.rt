@@ -1,6 +1,6 @@
 //! The reservation table: how many units of each kind, and how many buses, are taken in the cycles ahead.
 
-ghost use Rattle.std.specs.Prelude.{◌≡◌, ℕ, ◌+◌, ◌-◌, ◌^◌, ◌<◌, ◌≤◌, OnOk, length, max, []};
+ghost use Rattle.std.specs.Prelude.{◌≡◌, ℕ, ◌+◌, ◌-◌, ◌^◌, ◌<◌, ◌≤◌, OnErr, OnOk, length, max, []};
 ghost use Rattle.tomex_reservations.specs.Reservations.{Reserved, is_left, taken_at, taken_with, IsFirst};
 
 use std::alloc::{AllocError, Allocator};
@@ -137,6 +137,8 @@ impl<A: Allocator> ReservationTable<A> {
         ensures base { self.new.base ≡ self.old.base }
         ensures taken { OnOk result
             ((l t : ℕ) → l < 6 → self.old.base ≤ t → taken_at self.new l t ≡ taken_with self.old line cycle l t) }
+        ensures refused { OnErr result
+            ((l t : ℕ) → taken_at self.new l t ≡ taken_at self.old l t) }
     {
         let place = (cycle - self.base) as usize;
         self.grow(place)?;
