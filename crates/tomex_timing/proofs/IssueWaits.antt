@@ -15,90 +15,25 @@ use Rattle.tomex_timing.specs.Window.{branch_finish}
 use Rattle.tomex_timing.proofs.Bands.{band, is_in_band}
 use Rattle.tomex_timing.proofs.WindowTests.{max_split, slot_split, branch_split}
 
+abbrev waits_made : (branch width station operand address memory unit bus : ℕ) → Waits
+waits_made branch width station operand address memory unit bus = record {
+  branch = branch;
+  width = width;
+  station = station;
+  operand = operand;
+  address = address;
+  memory = memory;
+  unit = unit;
+  bus = bus;
+}
+
 pub same_waits : (a b : Waits) → a.branch ≡ b.branch → a.width ≡ b.width → a.station ≡ b.station → a.operand ≡ b.operand
     → a.address ≡ b.address → a.memory ≡ b.memory → a.unit ≡ b.unit → a.bus ≡ b.bus → a ≡ b
 same_waits a b e1 e2 e3 e4 e5 e6 e7 e8 =
-    let f1 : ℕ → Waits = λ k. record {
-      branch = k;
-      width = a.width;
-      station = a.station;
-      operand = a.operand;
-      address = a.address;
-      memory = a.memory;
-      unit = a.unit;
-      bus = a.bus;
-    } in
-    let f2 : ℕ → Waits = λ k. record {
-      branch = b.branch;
-      width = k;
-      station = a.station;
-      operand = a.operand;
-      address = a.address;
-      memory = a.memory;
-      unit = a.unit;
-      bus = a.bus;
-    } in
-    let f3 : ℕ → Waits = λ k. record {
-      branch = b.branch;
-      width = b.width;
-      station = k;
-      operand = a.operand;
-      address = a.address;
-      memory = a.memory;
-      unit = a.unit;
-      bus = a.bus;
-    } in
-    let f4 : ℕ → Waits = λ k. record {
-      branch = b.branch;
-      width = b.width;
-      station = b.station;
-      operand = k;
-      address = a.address;
-      memory = a.memory;
-      unit = a.unit;
-      bus = a.bus;
-    } in
-    let f5 : ℕ → Waits = λ k. record {
-      branch = b.branch;
-      width = b.width;
-      station = b.station;
-      operand = b.operand;
-      address = k;
-      memory = a.memory;
-      unit = a.unit;
-      bus = a.bus;
-    } in
-    let f6 : ℕ → Waits = λ k. record {
-      branch = b.branch;
-      width = b.width;
-      station = b.station;
-      operand = b.operand;
-      address = b.address;
-      memory = k;
-      unit = a.unit;
-      bus = a.bus;
-    } in
-    let f7 : ℕ → Waits = λ k. record {
-      branch = b.branch;
-      width = b.width;
-      station = b.station;
-      operand = b.operand;
-      address = b.address;
-      memory = b.memory;
-      unit = k;
-      bus = a.bus;
-    } in
-    let f8 : ℕ → Waits = λ k. record {
-      branch = b.branch;
-      width = b.width;
-      station = b.station;
-      operand = b.operand;
-      address = b.address;
-      memory = b.memory;
-      unit = b.unit;
-      bus = k;
-    } in
-    ap f1 e1 ∙ (ap f2 e2 ∙ (ap f3 e3 ∙ (ap f4 e4 ∙ (ap f5 e5 ∙ (ap f6 e6 ∙ (ap f7 e7 ∙ ap f8 e8))))))
+    let e : waits_made a.branch a.width a.station a.operand a.address a.memory a.unit a.bus
+    ≡ waits_made b.branch b.width b.station b.operand b.address b.memory b.unit b.bus =
+    rw (e1, e2, e3, e4, e5, e6, e7, e8) refl in
+    e
 
 -- issue
 

@@ -118,58 +118,23 @@ timed_is config [] good = tt
 timed_is config (s ∷ older) good = let earlier = timed_is config older good in
     (times_are config (timed_of config older) s good earlier, earlier)
 
+abbrev times_made : (issue : ℕ) (address : Option ℕ) (start finish end : ℕ) (station : Option ℕ) → Times
+times_made issue address start finish end station = record {
+  issue = issue;
+  address = address;
+  start = start;
+  finish = finish;
+  end = end;
+  station = station;
+}
+
 same_record : (a b : Times) → a.issue ≡ b.issue → a.address ≡ b.address → a.start ≡ b.start → a.finish ≡ b.finish
     → a.end ≡ b.end → a.station ≡ b.station → a ≡ b
 same_record a b e1 e2 e3 e4 e5 e6 =
-    let f1 : ℕ → Times = λ k. record {
-      issue = k;
-      address = a.address;
-      start = a.start;
-      finish = a.finish;
-      end = a.end;
-      station = a.station;
-    } in
-    let f2 : Option ℕ → Times = λ k. record {
-      issue = b.issue;
-      address = k;
-      start = a.start;
-      finish = a.finish;
-      end = a.end;
-      station = a.station;
-    } in
-    let f3 : ℕ → Times = λ k. record {
-      issue = b.issue;
-      address = b.address;
-      start = k;
-      finish = a.finish;
-      end = a.end;
-      station = a.station;
-    } in
-    let f4 : ℕ → Times = λ k. record {
-      issue = b.issue;
-      address = b.address;
-      start = b.start;
-      finish = k;
-      end = a.end;
-      station = a.station;
-    } in
-    let f5 : ℕ → Times = λ k. record {
-      issue = b.issue;
-      address = b.address;
-      start = b.start;
-      finish = b.finish;
-      end = k;
-      station = a.station;
-    } in
-    let f6 : Option ℕ → Times = λ k. record {
-      issue = b.issue;
-      address = b.address;
-      start = b.start;
-      finish = b.finish;
-      end = b.end;
-      station = k;
-    } in
-    ap f1 e1 ∙ (ap f2 e2 ∙ (ap f3 e3 ∙ (ap f4 e4 ∙ (ap f5 e5 ∙ ap f6 e6))))
+    let e : times_made a.issue a.address a.start a.finish a.end a.station
+    ≡ times_made b.issue b.address b.start b.finish b.end b.station =
+    rw (e1, e2, e3, e4, e5, e6) refl in
+    e
 
 same_end : (config : Configuration) (older : List Done) (s : Step) (f a b : ℕ)
     → MatchBool (is_some (step_dest s)) (IsLeast (can_end config older f) a) (a ≡ f)
