@@ -1,0 +1,28 @@
+//! The reservation table with memory, and with each growth of it refused.
+
+use std::alloc::AllocError;
+use std::test::Fail;
+use tomex_reservations::{BUSES, ReservationTable};
+use tomex_samples::{Attempt, Heap, Try, refusals};
+
+/// The bus is taken in cycle 5.
+#[derive(Drop)]
+struct Taking;
+
+impl Attempt for Taking {
+    fn attempt(&self, heap: Heap) -> Result<Try, AllocError> {
+        let mut table = ReservationTable::new(heap);
+        if table.take(BUSES, 5).is_err() {
+            return Ok(Try::Refused);
+        }
+        let room = table.first(BUSES, 1, 5, 5);
+        Ok(Try::right_if(room.cycle == 6 && room.taken == 1))
+    }
+}
+
+/// One of one bus is left in the cycle after it.
+#[test]
+fn a_taken_bus_is_left_a_cycle_later(rt: HostRuntime) -> Result<(), Fail> {
+    assert!(rt; refusals(rt.alloc(), &Taking)? > Some(0));
+    Ok(())
+}
