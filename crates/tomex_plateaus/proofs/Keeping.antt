@@ -33,3 +33,12 @@ another_one steps found oldest p kept one =
       few = rw length-set few;
       place = (let l : (oldest + 1) % 1024 < 1024 = omega arith in l);
     }
+
+-- what is kept with one plateau more, while there are few, and once there are as many as are kept
+pub kept_few : (k : Kept) (p : Plateau) → length k.found < MOST
+    → kept_with p k ≡ record { steps = k.steps; found = k.found ++ (p ∷ []); oldest = k.oldest }
+kept_few k p low = rw lt-ltb low refl
+
+pub kept_many : (k : Kept) (p : Plateau) → MOST ≤ length k.found
+    → kept_with p k ≡ record { steps = k.steps; found = set k.found k.oldest p; oldest = (k.oldest + 1) % MOST }
+kept_many k p many = rw le-ltb many refl

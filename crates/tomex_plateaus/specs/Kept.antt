@@ -1,12 +1,13 @@
 -- The plateaus that are kept of one program.
-use Rattle.std.specs.Prelude.{ℕ, ◌<◌, ◌≤◌, ◌^◌, List, length, All}
+use Rattle.std.specs.Prelude.{◌≡◌, ℕ, ◌+◌, ◌%◌, ◌<◌, ◌≤◌, ◌^◌, nat_lt, true, if◌then◌else◌, List, [], ◌∷◌, ◌++◌, length}
+use Rattle.std.specs.Prelude.{All, slice_set}
 use Rattle.tomex_steps.specs.declared.step.Step.{Step}
+use Rattle.tomex_config.specs.Configuration.{Configuration}
 use Rattle.tomex_plateaus.specs.declared.plateau.Plateau.{Plateau}
 use Rattle.tomex_plateaus.specs.declared.plateaus.TheConstants.{MOST}
-use Rattle.tomex_plateaus.specs.Plateaus.{IsPlateauOf}
+use Rattle.tomex_plateaus.specs.Plateaus.{IsPlateauOf, lies_on}
 
--- the steps of the program's run, and its plateaus, of which the one at a place is the oldest where there are
--- as many as are kept
+-- the steps of the program's run, its plateaus, and the place of the oldest of them, if there are as many as are kept
 pub record Kept : Type 0 where
   pub steps : List Step
   pub found : List Plateau
@@ -18,3 +19,16 @@ pub record AreKept (k : Kept) : Type 0 where
   pub are : All (IsPlateauOf k.steps) k.found
   pub few : length k.found ≤ MOST
   pub place : k.oldest < MOST
+
+-- with one plateau more, which takes the place of the oldest if there are as many as are kept
+abbrev pub kept_with : Plateau → Kept → Kept
+kept_with p k =
+    if nat_lt (length k.found) MOST
+    then record { steps = k.steps; found = k.found ++ (p ∷ []); oldest = k.oldest }
+    else record { steps = k.steps; found = slice_set k.found k.oldest p; oldest = (k.oldest + 1) % MOST }
+
+-- one plateau more is kept, and the configuration lies on it
+pub record HasLearnt (config : Configuration) (old new : Kept) : Type 0 where
+  pub plateau : Plateau
+  pub on : lies_on config plateau ≡ true
+  pub kept : new ≡ kept_with plateau old

@@ -1,4 +1,4 @@
--- Plateaus: configurations on which a program takes the same cycles, as the needs of one run tell them.
+-- Plateaus: configurations on which a program takes the same cycles, as the demands of one run give them.
 use Rattle.std.specs.Prelude.{◌≡◌, ℕ, min, ◌==◌, nat_le, Bool, true, ◌&&◌, if◌then◌else◌, List}
 use Rattle.std.specs.Prelude.{[], ◌∷◌, map, reverse, Option, option_map, slice_index_or}
 use Rattle.std.specs.List.{find, list_all}
@@ -8,11 +8,12 @@ use Rattle.tomex_rvdec.specs.declared.pool.PoolId.TheVariants as pools
 use Rattle.tomex_rvdec.specs.declared.pool.UnitId.{UnitId}
 use Rattle.tomex_steps.specs.declared.step.Step.{Step}
 use Rattle.tomex_config.specs.Configuration.{Configuration, IsWithinLimits, stations_of, option_of}
-use Rattle.tomex_timing.specs.declared.needs.Needs.{Needs}
-use Rattle.tomex_timing.specs.declared.part.Need.{Need}
+use Rattle.tomex_timing.specs.declared.demands.Demand.{Demand}
+use Rattle.tomex_timing.specs.declared.demands.Demands.{Demands}
 use Rattle.tomex_timing.specs.declared.part.Part.{Part}
 use Rattle.tomex_timing.specs.declared.part.Part.TheVariants.{Stations, Units, Buses, Width}
-use Rattle.tomex_timing.specs.Needs.{all_parts, all_units, count_of, need_of}
+use Rattle.tomex_timing.specs.Demands.{demand_of}
+use Rattle.tomex_timing.specs.Needs.{all_parts, all_units, count_of}
 use Rattle.tomex_timing.specs.Search.{times_in, total_of}
 use Rattle.tomex_plateaus.specs.declared.interval.Interval.{Interval}
 use Rattle.tomex_plateaus.specs.declared.plateau.Plateau.{Plateau}
@@ -46,41 +47,41 @@ abbrev pub IsPlateauOf : List Step → Plateau → Type 0
 IsPlateauOf steps p = (config : Configuration) → IsWithinLimits config → lies_on config p ≡ true
     → total_of (times_in config steps) ≡ p.total
 
--- the total that the newest plateau says on which a configuration lies; the last of the list is the newest
+-- the total of the last plateau of a list on which a configuration lies
 abbrev pub total_known : Configuration → List Plateau → Option ℕ
 total_known config found = option_map (λ p. p.total) (find (lies_on config) (reverse found))
 
--- Of a part for which no step waits, a run is served as well by each count from what it takes at once on; of another
--- one by its configuration's own count. A configuration's counts are at most 16.
-abbrev pub counts_for : Need → ℕ → Interval
-counts_for need count =
-    if need.stalls == 0 then record { least = min need.peak 255; most = 255 }
-    else record { least = count; most = count }
+-- Of a part for which no step waits, a run is served as well by each count from its peak on; of another one by its
+-- configuration's own count. A configuration's counts are at most 16.
+abbrev pub counts_for : Demand → ℕ → Interval
+counts_for demand count =
+    if demand.waits then record { least = count; most = count }
+    else record { least = min demand.peak 255; most = 255 }
 
--- and where it uses no unit of a kind, any latency will do
-abbrev pub latencies_for : Need → ℕ → Interval
-latencies_for need latency =
-    if need.peak == 0 then record { least = 0; most = 255 } else record { least = latency; most = latency }
+-- and if it uses no unit of a kind, any latency will do
+abbrev pub latencies_for : Demand → ℕ → Interval
+latencies_for demand latency =
+    if demand.peak == 0 then record { least = 0; most = 255 } else record { least = latency; most = latency }
 
-abbrev pub stations_for : Needs → Configuration → PoolId → Interval
-stations_for needs own pool = counts_for (need_of needs (Stations pool)) (stations_of own pool)
+abbrev pub stations_for : Demands → Configuration → PoolId → Interval
+stations_for demands own pool = counts_for (demand_of demands (Stations pool)) (stations_of own pool)
 
-abbrev pub units_for : Needs → Configuration → UnitId → Interval
-units_for needs own unit = counts_for (need_of needs (Units unit)) (option_of own unit).units
+abbrev pub units_for : Demands → Configuration → UnitId → Interval
+units_for demands own unit = counts_for (demand_of demands (Units unit)) (option_of own unit).units
 
-abbrev pub latency_for : Needs → Configuration → UnitId → Interval
-latency_for needs own unit = latencies_for (need_of needs (Units unit)) (option_of own unit).latency
+abbrev pub latency_for : Demands → Configuration → UnitId → Interval
+latency_for demands own unit = latencies_for (demand_of demands (Units unit)) (option_of own unit).latency
 
 abbrev pub all_pools : List PoolId
 all_pools = pools.Alu ∷ pools.Mul ∷ pools.Div ∷ pools.Load ∷ pools.Store ∷ pools.Bru ∷ []
 
--- the plateau that needs tell of a run on its own configuration
-abbrev pub plateau_of : Needs → Configuration → Plateau
-plateau_of needs own = record {
-  stations = map (stations_for needs own) all_pools;
-  units = map (units_for needs own) all_units;
-  latencies = map (latency_for needs own) all_units;
-  buses = counts_for needs.buses own.buses;
-  width = counts_for needs.width own.width;
-  total = needs.total;
+-- the plateau that the demands of a run on its own configuration give
+abbrev pub plateau_of : Demands → Configuration → Plateau
+plateau_of demands own = record {
+  stations = map (stations_for demands own) all_pools;
+  units = map (units_for demands own) all_units;
+  latencies = map (latency_for demands own) all_units;
+  buses = counts_for demands.buses own.buses;
+  width = counts_for demands.width own.width;
+  total = demands.total;
 }

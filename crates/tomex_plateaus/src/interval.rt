@@ -3,7 +3,7 @@
 ghost use Rattle.std.specs.Prelude.{◌≡◌};
 ghost use Rattle.tomex_plateaus.specs.Plateaus.{is_within, counts_for, latencies_for};
 
-use tomex_timing::Need;
+use tomex_timing::Demand;
 
 /// The numbers from `least` to `most`.
 #[derive(Clone, Copy, Debug, PartialEq, Eq)]
@@ -13,28 +13,28 @@ pub struct Interval {
 }
 
 impl Interval {
-    /// The counts of a part that serve a run as well as a configuration's own, given what the run needs of it.
-    pub(crate) fn of_counts(need: Need, count: u8) -> Interval
-        ensures { result ≡ counts_for need count }
+    /// The counts of a part on which a run takes the same cycles as on a configuration's own count.
+    pub(crate) fn of_counts(demand: Demand, count: u8) -> Interval
+        ensures { result ≡ counts_for demand count }
     {
-        if need.stalls == 0 {
-            Interval {
-                least: need.peak.min(255) as u8,
-                most: u8::MAX,
-            }
-        } else {
+        if demand.waits {
             Interval {
                 least: count,
                 most: count,
+            }
+        } else {
+            Interval {
+                least: demand.peak.min(255) as u8,
+                most: u8::MAX,
             }
         }
     }
 
     /// The same of a kind of unit's latencies.
-    pub(crate) fn of_latencies(need: Need, latency: u8) -> Interval
-        ensures { result ≡ latencies_for need latency }
+    pub(crate) fn of_latencies(demand: Demand, latency: u8) -> Interval
+        ensures { result ≡ latencies_for demand latency }
     {
-        if need.peak == 0 {
+        if demand.peak == 0 {
             Interval {
                 least: 0,
                 most: u8::MAX,
@@ -47,7 +47,7 @@ impl Interval {
         }
     }
 
-    /// Whether a number is one of them.
+    /// True if a number is one of them.
     pub fn has(self, number: u64) -> bool
         ensures { result ≡ is_within self number }
     {

@@ -1,10 +1,10 @@
 //! Laws of plateaus. These functions do nothing: their contracts are the laws.
 
-ghost use Rattle.tomex_plateaus.specs.Laws.{OwnConfigurationLiesOn, PlateauTells};
+ghost use Rattle.tomex_plateaus.specs.Laws.{OwnConfigurationLiesOn, TotalIsThatOfThePlateau};
 
-/// The needs of a run tell a plateau of its program: its own configuration lies on it, and on each configuration of
+/// The demands of a run give a plateau of its program: its own configuration lies on it, and on each configuration of
 /// it the program takes the run's cycles.
-pub fn needs_tell_a_plateau()
+pub fn demands_give_a_plateau()
     ensures own { OwnConfigurationLiesOn }
-    ensures total { PlateauTells }
+    ensures total { TotalIsThatOfThePlateau }
 {}

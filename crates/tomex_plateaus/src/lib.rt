@@ -1,4 +1,4 @@
-//! Plateaus: regions of the design space on which a program takes the same cycles. The needs of one run tell one.
+//! Plateaus: regions of the design space on which a program takes the same cycles. The demands of one run give one.
 #![tactic(auto)]
 
 mod interval;
@@ -7,6 +7,6 @@ mod plateau;
 mod plateaus;
 
 pub use interval::Interval;
-pub use laws::needs_tell_a_plateau;
+pub use laws::demands_give_a_plateau;
 pub use plateau::Plateau;
 pub use plateaus::Plateaus;

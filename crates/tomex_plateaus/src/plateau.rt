@@ -7,7 +7,7 @@ ghost use Rattle.tomex_plateaus.specs.Plateaus.{stations_for, units_for, latency
 use crate::interval::Interval;
 use tomex_config::Config;
 use tomex_rvdec::{PoolId, UnitId};
-use tomex_timing::{Needs, Part};
+use tomex_timing::{Demands, Part};
 
 /// A region of the design space, given by how many a configuration may have of each part and how long its units may
 /// take, and the cycles that a program takes on each configuration of it.
@@ -22,58 +22,58 @@ pub struct Plateau {
     pub total: u64,
 }
 
-/// The numbers of a pool's stations that serve a run as well as its own configuration's.
-fn stations_for(needs: &Needs, own: &Config, pool: PoolId) -> Interval
-    ensures { result ≡ stations_for needs.now own.now pool }
+/// The numbers of a pool's stations on which a run takes the same cycles as on its own configuration.
+fn stations_for(demands: &Demands, own: &Config, pool: PoolId) -> Interval
+    ensures { result ≡ stations_for demands.now own.now pool }
 {
-    Interval::of_counts(needs.need(Part::Stations(pool)), own.stations(pool))
+    Interval::of_counts(demands.demand(Part::Stations(pool)), own.stations(pool))
 }
 
 /// The same of a kind's units.
-fn units_for(needs: &Needs, own: &Config, unit: UnitId) -> Interval
-    ensures { result ≡ units_for needs.now own.now unit }
+fn units_for(demands: &Demands, own: &Config, unit: UnitId) -> Interval
+    ensures { result ≡ units_for demands.now own.now unit }
 {
-    Interval::of_counts(needs.need(Part::Units(unit)), own.units(unit))
+    Interval::of_counts(demands.demand(Part::Units(unit)), own.units(unit))
 }
 
 /// And of their latencies.
-fn latency_for(needs: &Needs, own: &Config, unit: UnitId) -> Interval
-    ensures { result ≡ latency_for needs.now own.now unit }
+fn latency_for(demands: &Demands, own: &Config, unit: UnitId) -> Interval
+    ensures { result ≡ latency_for demands.now own.now unit }
 {
-    Interval::of_latencies(needs.need(Part::Units(unit)), own.latency(unit))
+    Interval::of_latencies(demands.demand(Part::Units(unit)), own.latency(unit))
 }
 
 impl Plateau {
-    /// The plateau that the needs of a run tell, which was made on its own configuration.
-    pub fn of(needs: &Needs, own: &Config) -> Plateau
-        ensures { result ≡ plateau_of needs.now own.now }
+    /// The plateau that the demands of a run give, which was made on its own configuration.
+    pub fn of(demands: &Demands, own: &Config) -> Plateau
+        ensures { result ≡ plateau_of demands.now own.now }
     {
         Plateau {
             stations: [
-                stations_for(needs, own, PoolId::Alu),
-                stations_for(needs, own, PoolId::Mul),
-                stations_for(needs, own, PoolId::Div),
-                stations_for(needs, own, PoolId::Load),
-                stations_for(needs, own, PoolId::Store),
-                stations_for(needs, own, PoolId::Bru),
+                stations_for(demands, own, PoolId::Alu),
+                stations_for(demands, own, PoolId::Mul),
+                stations_for(demands, own, PoolId::Div),
+                stations_for(demands, own, PoolId::Load),
+                stations_for(demands, own, PoolId::Store),
+                stations_for(demands, own, PoolId::Bru),
             ],
             units: [
-                units_for(needs, own, UnitId::Alu),
-                units_for(needs, own, UnitId::Mul),
-                units_for(needs, own, UnitId::Div),
-                units_for(needs, own, UnitId::Mem),
-                units_for(needs, own, UnitId::Bru),
+                units_for(demands, own, UnitId::Alu),
+                units_for(demands, own, UnitId::Mul),
+                units_for(demands, own, UnitId::Div),
+                units_for(demands, own, UnitId::Mem),
+                units_for(demands, own, UnitId::Bru),
             ],
             latencies: [
-                latency_for(needs, own, UnitId::Alu),
-                latency_for(needs, own, UnitId::Mul),
-                latency_for(needs, own, UnitId::Div),
-                latency_for(needs, own, UnitId::Mem),
-                latency_for(needs, own, UnitId::Bru),
+                latency_for(demands, own, UnitId::Alu),
+                latency_for(demands, own, UnitId::Mul),
+                latency_for(demands, own, UnitId::Div),
+                latency_for(demands, own, UnitId::Mem),
+                latency_for(demands, own, UnitId::Bru),
             ],
-            buses: Interval::of_counts(needs.buses, own.buses()),
-            width: Interval::of_counts(needs.width, own.width()),
-            total: needs.total,
+            buses: Interval::of_counts(demands.buses, own.buses()),
+            width: Interval::of_counts(demands.width, own.width()),
+            total: demands.total,
         }
     }
 
@@ -96,7 +96,7 @@ impl Plateau {
         self.latencies[unit.place()]
     }
 
-    /// Whether a configuration lies on it.
+    /// True if a configuration lies on it.
     pub fn has(&self, config: &Config) -> bool
         ensures { result ≡ lies_on config.now self.now }
     {

@@ -1,8 +1,8 @@
 //! The plateaus of one program.
 
-ghost use Rattle.std.specs.Prelude.{◌≡◌, ◌≤◌, ◌<◌, ◌++◌, ◌∷◌, [], ◌^◌, length, slice_set, IfSome, OnOk, Some};
+ghost use Rattle.std.specs.Prelude.{◌≡◌, ◌<◌, [], ◌^◌, length, IfOk, IfSome, OnErr, OnOk, Some};
 ghost use Rattle.tomex_timing.specs.Search.{times_in, total_of};
-ghost use Rattle.tomex_plateaus.specs.Kept.{AreKept};
+ghost use Rattle.tomex_plateaus.specs.Kept.{AreKept, HasLearnt, kept_with};
 ghost use Rattle.tomex_plateaus.specs.Plateaus.{IsPlateauOf, total_known};
 
 use crate::plateau::Plateau;
@@ -11,16 +11,16 @@ use std::marker::Model;
 use tomex_config::Config;
 use tomex_timing::Run;
 
-/// So many of them are kept.
+/// How many are kept.
 const MOST: usize = 1024;
 
-/// Plateaus of a program, as the needs of its runs have told them.
+/// Plateaus of a program, as the demands of its runs gave them.
 #[derive(Drop)]
 pub struct Plateaus<'s, A: Allocator> {
     /// A run of the program.
     run: &'s Run<A>,
     found: Vec<Plateau, A>,
-    /// The place of the oldest, if there are as many as are kept.
+    /// The place of the oldest, once there are as many as are kept.
     oldest: usize,
 }
 
@@ -48,17 +48,17 @@ impl<'s, A: Allocator> Plateaus<'s, A> {
     }
 
     /// The cycles that the program takes on a configuration, if the configuration lies on one of its plateaus. The
-    /// newest are asked first.
+    /// end of the list is asked first; on whichever plateau it lies, the total is the same.
     pub fn total_on(&self, config: &Config) -> Option<u64>
         ensures known { result ≡ total_known config.now self.now.found }
         ensures total { IfSome result (λ n. total_of (times_in config.now self.now.steps) ≡ n) }
     {
         config.keeps_limits();
-        self.newest_total(config)
+        self.last_total(config)
     }
 
-    /// What the newest plateau says on which a configuration lies.
-    fn newest_total(&self, config: &Config) -> Option<u64>
+    /// The total of the last plateau on which a configuration lies.
+    fn last_total(&self, config: &Config) -> Option<u64>
         ensures known { result ≡ total_known config.now self.now.found }
         ensures kept { AreKept self.now }
     {
@@ -69,12 +69,9 @@ impl<'s, A: Allocator> Plateaus<'s, A> {
     /// Keeps one more, in the place of the oldest if there are as many as are kept.
     fn keep(&mut self, plateau: Plateau) -> Result<(), AllocError>
         requires { IsPlateauOf self.old.steps plateau }
-        ensures steps { self.new.steps ≡ self.old.steps }
+        ensures one { OnOk result (self.new ≡ kept_with plateau self.old) }
+        ensures refused { OnErr result (self.new ≡ self.old) }
         ensures kept { AreKept self.new }
-        ensures one_more { OnOk result (length self.old.found < MOST
-            → self.new.found ≡ self.old.found ++ plateau ∷ []) }
-        ensures another { OnOk result (MOST ≤ length self.old.found
-            → self.new.found ≡ slice_set self.old.found self.old.oldest plateau) }
     {
         if self.found.len() < MOST {
             self.found.push(plateau)?;
@@ -85,18 +82,20 @@ impl<'s, A: Allocator> Plateaus<'s, A> {
         Ok(())
     }
 
-    /// Takes the needs of the program's run on a configuration, and keeps the plateau that they tell. The
-    /// configuration lies on it.
+    /// Evaluates the program's run on a configuration, and keeps the plateau that its demands give: the run's cycles.
+    /// If memory is refused, nothing is forgotten.
     ///
     /// The work is that of `times`, without its list.
-    pub fn learn(&mut self, alloc: A, config: &Config) -> Result<(), AllocError>
-        ensures steps { self.new.steps ≡ self.old.steps }
+    pub fn learn(&mut self, alloc: A, config: &Config) -> Result<u64, AllocError>
+        ensures total { IfOk result (λ n. total_of (times_in config.now self.old.steps) ≡ n) }
         ensures known { OnOk result
             (total_known config.now self.new.found ≡ Some (total_of (times_in config.now self.new.steps))) }
+        ensures learnt { OnOk result (HasLearnt config.now self.old self.new) }
+        ensures refused { OnErr result (self.new ≡ self.old) }
     {
         config.keeps_limits();
-        let needs = self.run.needs(&alloc, config)?;
-        self.keep(Plateau::of(&needs, config))?;
-        Ok(())
+        let demands = self.run.demands(&alloc, config)?;
+        self.keep(Plateau::of(&demands, config))?;
+        Ok(demands.total)
     }
 }

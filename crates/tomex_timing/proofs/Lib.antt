@@ -33,3 +33,4 @@ pub mod ShownTurns
 pub mod WaitLists
 pub mod NeedTurns
 pub mod HeldNeeds
+pub mod Demanded

@@ -6,5 +6,6 @@ pub mod Needs
 pub mod Tables
 pub mod Window
 pub mod Waiting
+pub mod Demands
 pub mod Ahead
 pub mod Laws

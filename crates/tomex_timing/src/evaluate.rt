@@ -1,6 +1,7 @@
 //! The evaluation of a run.
 
 ghost use Rattle.std.specs.Prelude.{◌≡◌, ◌<◌, ◌≤◌, ◌*◌, ◌^◌, List, length, All, IfOk};
+ghost use Rattle.tomex_timing.specs.Demands.{AreDemands};
 ghost use Rattle.tomex_timing.specs.Needs.{AreNeeds, waits_in};
 ghost use Rattle.tomex_timing.specs.Recurrence.{AreTimed};
 ghost use Rattle.tomex_timing.specs.Search.{history, times_in, total_of};
@@ -8,6 +9,7 @@ ghost use Rattle.tomex_steps.specs.declared.step.Step.{Step};
 ghost use Rattle.tomex_timing.specs.Waiting.{AreWithin};
 ghost use Rattle.tomex_timing.specs.Window.{AreFacts};
 
+use crate::demands::Demands;
 use crate::needs::Needs;
 use crate::next::next_step;
 use crate::part::Waits;
@@ -106,6 +108,31 @@ pub(crate) fn needs_of<A: Allocator>(
         window.keep(step, &next.at)?;
     }
     Ok(needs)
+}
+
+/// What the run whose steps have these facts asks of a configuration's parts. It adds nothing up: of a wait it notes
+/// that there is one.
+pub(crate) fn demands_of<A: Allocator>(
+    alloc: &A,
+    facts: &[Facts],
+    config: &Config,
+) -> Result<Demands, AllocError>
+    requires run { (steps : List Step) × AreFacts steps facts.now }
+    requires few { length facts.now < 2 ^ 28 }
+    ensures exact { IfOk result (λ d. (steps : List Step) → AreFacts steps facts.now
+        → AreDemands config.now (history config.now steps) d) }
+{
+    let mut window = Window::new(alloc, alloc);
+    let mut demands = Demands::none();
+    config.keeps_limits();
+    for step in facts {
+        let next = next_step(config, &window, step);
+        let waits = waits_of(&window.latest, &next);
+        let taken = taken_by(&window.latest, &next);
+        demands.note(step, &waits, &taken, &next.at);
+        window.keep(step, &next.at)?;
+    }
+    Ok(demands)
 }
 
 /// The cycles that a run takes: the greatest end of its steps, 0 of none.

@@ -8,6 +8,7 @@
 #![tactic(auto)]
 
 mod accesses;
+mod demands;
 pub mod evaluate;
 mod laws;
 mod needs;
@@ -18,6 +19,7 @@ mod times;
 mod waiting;
 mod window;
 
+pub use demands::{Demand, Demands};
 pub use laws::{
     accesses_of_one_byte_wait, all_parts_stand_in_order, cycles_are_accounted_for,
     each_step_has_one_set_of_times, issues_alone_at_width_one, issues_fit_the_width,

@@ -1,10 +1,12 @@
 //! A run whose steps have been read once for all the configurations on which it is timed.
 
 ghost use Rattle.std.specs.Prelude.{◌≡◌, ◌<◌, ◌^◌, length, IfOk};
+ghost use Rattle.tomex_timing.specs.Demands.{AreDemands};
 ghost use Rattle.tomex_timing.specs.Needs.{AreNeeds};
 ghost use Rattle.tomex_timing.specs.Search.{history};
 
-use crate::evaluate::needs_of;
+use crate::demands::Demands;
+use crate::evaluate::{demands_of, needs_of};
 use crate::needs::Needs;
 use crate::window::{Facts, facts_of};
 use std::alloc::{AllocError, Allocator, Global};
@@ -53,5 +55,14 @@ impl<A: Allocator> Run<A> {
         ensures exact { IfOk result (λ n. AreNeeds config.now (history config.now self.now) n) }
     {
         needs_of(alloc, &self.facts, config)
+    }
+
+    /// What its steps ask of a configuration's parts: of its needs no more than which parts are waited for, and the
+    /// peaks. It takes less work.
+    pub fn demands(&self, alloc: &A, config: &Config) -> Result<Demands, AllocError>
+        requires few { length self.now < 2 ^ 28 }
+        ensures exact { IfOk result (λ d. AreDemands config.now (history config.now self.now) d) }
+    {
+        demands_of(alloc, &self.facts, config)
     }
 }

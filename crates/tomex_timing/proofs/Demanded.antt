@@ -1,0 +1,128 @@
+-- One step more: what is counted of its demands is what its needs say of them.
+use Rattle.std.proofs.Common.{ℕ, ◌+◌, ◌∙◌, ◌≡◌, [], ap, arith, refl, sym, Bool, true, false, List, Option, Some, None}
+use Rattle.std.proofs.Common.{map, take, zero, suc}
+use Rattle.std.specs.Prelude.{◌==◌, nat_lt, not, ◌||◌, slice_index_or}
+use Rattle.std.proofs.Math.ListN.{get_or-map}
+use Rattle.std.proofs.Math.ListN.{set}
+use Rattle.std.proofs.lemmas.Bool.{lt-ltb, ne_eqb}
+use Rattle.std.proofs.lemmas.List.{map-set}
+use Rattle.tomex_rvdec.specs.Parts.{place_of_pool, place_of_unit}
+use Rattle.tomex_rvdec.specs.declared.pool.PoolId.{PoolId}
+use Rattle.tomex_rvdec.specs.declared.pool.UnitId.{UnitId}
+use Rattle.tomex_steps.specs.declared.step.Step.{Step}
+use Rattle.tomex_config.specs.Configuration.{Configuration}
+use Rattle.tomex_reservations.specs.Reservations.{Reserved}
+use Rattle.tomex_timing.specs.declared.accesses.Access.{Access}
+use Rattle.tomex_timing.specs.declared.demands.Demand.{Demand}
+use Rattle.tomex_timing.specs.declared.demands.Demands.{Demands}
+use Rattle.tomex_timing.specs.declared.needs.Needs.{Needs}
+use Rattle.tomex_timing.specs.declared.next.Next.{Next}
+use Rattle.tomex_timing.specs.declared.part.Need.{Need}
+use Rattle.tomex_timing.specs.declared.part.Part.{Part}
+use Rattle.tomex_timing.specs.declared.part.Part.TheVariants.{Stations, Units, Buses, Width}
+use Rattle.tomex_timing.specs.declared.part.Waits.{Waits}
+use Rattle.tomex_timing.specs.declared.times.Done.{Done}
+use Rattle.tomex_timing.specs.declared.times.Times.{Times}
+use Rattle.tomex_timing.specs.declared.waiting.Taken.{Taken}
+use Rattle.tomex_timing.specs.declared.window.Facts.{Facts}
+use Rattle.tomex_timing.specs.declared.window.Latest.{Latest}
+use Rattle.tomex_timing.specs.Ahead.{IsNextBy}
+use Rattle.tomex_timing.specs.Demands.{AreDemands, demand_after, demand_from, demand_of, demands_after, demands_of}
+use Rattle.tomex_timing.specs.Demands.{no_demand}
+use Rattle.tomex_timing.specs.Demands.{nothing_asked, stations_asked, units_asked}
+use Rattle.tomex_timing.specs.Needs.{AreNeeds, no_need, peak, stalls}
+use Rattle.tomex_timing.specs.History.{greatest_end}
+use Rattle.tomex_timing.specs.Search.{history}
+use Rattle.tomex_timing.specs.Waiting.{need_after, needs_after, nothing_needed, stations_after, units_after}
+use Rattle.tomex_timing.specs.Waiting.{taken_from, waits_by}
+use Rattle.tomex_timing.proofs.HeldNeeds.{held_needs}
+use Rattle.tomex_timing.proofs.Needed.{needs_none}
+use Rattle.tomex_timing.proofs.Shown.{IsShown}
+use Rattle.tomex_timing.proofs.ShownTurns.{IsStep}
+
+or_none : (b : Bool) → b ≡ (b || false)
+or_none true = refl
+or_none false = refl
+
+or_some : (b : Bool) → true ≡ (b || true)
+or_some true = refl
+or_some false = refl
+
+-- some wait if some waited before, or the step does
+waits_more : (w s : ℕ) → not ((w + s) == 0) ≡ (not (s == 0) || nat_lt 0 w)
+waits_more zero s = let e : 0 + s ≡ s = omega arith in rw e (or_none (not (s == 0)))
+waits_more (suc w) s =
+    let some : (suc w + s == 0) ≡ false = ne_eqb (suc w + s) 0 (λ (e : suc w + s ≡ 0). absurd (omega arith)) in
+    let waits : nat_lt 0 (suc w) ≡ true = lt-ltb 0 (suc w) (omega arith) in
+    rw (some, waits) (or_some (not (s == 0)))
+
+demand_more : (need : Need) (taken waited : ℕ)
+    → demand_from (need_after need taken waited) ≡ demand_after (demand_from need) taken waited
+demand_more need taken waited = rw waits_more refl
+
+part_asked : (needs : List Need) (place taken waited : ℕ)
+    → map demand_from (set needs place (need_after (slice_index_or needs place no_need) taken waited))
+    ≡ set (map demand_from needs) place
+    (demand_after (slice_index_or (map demand_from needs) place no_demand) taken waited)
+part_asked needs place taken waited =
+    map-set demand_from needs place (need_after (slice_index_or needs place no_need) taken waited)
+    ∙ ap (set (map demand_from needs) place)
+    (demand_more (slice_index_or needs place no_need) taken waited
+    ∙ ap (λ d. demand_after d taken waited) (sym (get_or-map demand_from needs place no_need)))
+
+stations_more : (pool : Option PoolId) (taken waited : ℕ) (needs : List Need)
+    → map demand_from (stations_after pool taken waited needs)
+    ≡ stations_asked pool taken waited (map demand_from needs)
+stations_more None taken waited needs = refl
+stations_more (Some pool) taken waited needs = part_asked needs (place_of_pool pool) taken waited
+
+units_more : (unit : Option UnitId) (taken waited : ℕ) (needs : List Need)
+    → map demand_from (units_after unit taken waited needs) ≡ units_asked unit taken waited (map demand_from needs)
+units_more None taken waited needs = refl
+units_more (Some unit) taken waited needs = part_asked needs (place_of_unit unit) taken waited
+
+pub demands_more : (f : Facts) (waits : Waits) (taken : Taken) (at : Times) (needs : Needs)
+    → demands_of (needs_after f waits taken at needs) ≡ demands_after f waits taken at (demands_of needs)
+demands_more f waits taken at needs =
+    rw (
+      stations_more f.pool taken.station waits.station needs.stations,
+      units_more f.unit taken.unit waits.unit needs.units,
+      demand_more needs.buses taken.bus waits.bus,
+      demand_more needs.width taken.width waits.width,
+    ) refl
+
+pub demands_none : (config : Configuration) → AreDemands config [] nothing_asked
+demands_none config = record { needs = nothing_needed; are = needs_none config; same = refl }
+
+-- the demands of a run's steps so far, after one more
+pub held_demands : (config : Configuration) (steps : List Step) (i : ℕ) (x : Step) (f : Facts) (latest : Latest)
+    (table : Reserved) (taken : List ℕ) (accesses : List Access) (next : Next) (demands : Demands) (waits : Waits)
+    (takes : Taken) → IsStep config steps i x f → IsShown (history config (take i steps)) latest table taken accesses
+    → IsNextBy config latest table taken accesses f next
+    → waits ≡ waits_by latest next.marks next.at → takes ≡ taken_from latest next
+    → AreDemands config (history config (take i steps)) demands
+    → AreDemands config (history config (take (i + 1) steps)) (demands_after f waits takes next.at demands)
+held_demands config steps i x f latest table taken accesses next demands waits takes step shown by told took before =
+    record {
+      needs = needs_after f waits takes next.at before.needs;
+      are = held_needs config steps i x f latest table taken accesses next before.needs waits takes step shown by told
+          took before.are;
+      same = rw before.same (sym (demands_more f waits takes next.at before.needs));
+    }
+
+-- the demand for a part is its peak, and whether it has stalls
+pub demand_is : {config : Configuration} {h : List Done} {demands : Demands} (part : Part)
+    → AreDemands config h demands
+    → demand_of demands part ≡ record { peak = peak part h; waits = not (stalls config part h == 0) }
+demand_is (Stations pool) is =
+    rw is.same (get_or-map demand_from is.needs.stations (place_of_pool pool) no_need
+    ∙ ap demand_from (is.are.parts (Stations pool)))
+demand_is (Units unit) is =
+    rw is.same (get_or-map demand_from is.needs.units (place_of_unit unit) no_need
+    ∙ ap demand_from (is.are.parts (Units unit)))
+demand_is Buses is = rw is.same (ap demand_from (is.are.parts Buses))
+demand_is Width is = rw is.same (ap demand_from (is.are.parts Width))
+
+pub demands_total : {config : Configuration} {h : List Done} {demands : Demands} → AreDemands config h demands
+    → demands.total ≡ greatest_end h
+demands_total is = rw is.same is.are.total

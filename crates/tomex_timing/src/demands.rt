@@ -1,0 +1,108 @@
+//! What a run asks of a configuration's parts: how much at once, and whether that was enough.
+
+ghost use Rattle.std.specs.Prelude.{◌≡◌};
+ghost use Rattle.tomex_timing.specs.Demands.{demand_after, demand_of, demands_after, nothing_asked};
+ghost use Rattle.tomex_timing.specs.Demands.{stations_asked, units_asked};
+
+use crate::part::{Part, Waits};
+use crate::times::Times;
+use crate::waiting::Taken;
+use crate::window::Facts;
+use tomex_rvdec::{PoolId, UnitId};
+
+/// The most that a run takes of a part at once, and whether any step waits for it. `Need` says for how long.
+#[derive(Clone, Copy, Debug, PartialEq, Eq)]
+pub struct Demand {
+    pub peak: u64,
+    pub waits: bool,
+}
+
+/// What a run on a configuration asks of its parts, and the cycles that it takes.
+#[derive(Clone, Copy, Debug, PartialEq, Eq)]
+pub struct Demands {
+    /// In the order of `PoolId::ALL` and of `UnitId::ALL`.
+    pub stations: [Demand; 6],
+    pub units: [Demand; 5],
+    pub buses: Demand,
+    pub width: Demand,
+    /// The cycles of the run.
+    pub total: u64,
+}
+
+impl Demand {
+    /// After one more step, which takes that much of the part at once and waits for it for that many cycles.
+    #[inline(always)]
+    fn after(self, taken: u64, waited: u64) -> Demand
+        ensures { result ≡ demand_after self taken waited }
+    {
+        Demand {
+            peak: taken.max(self.peak),
+            waits: self.waits || 0 < waited,
+        }
+    }
+}
+
+/// Notes what a step takes of its pool, and how long it waits for it.
+#[inline(always)]
+fn note_station(demands: &mut [Demand; 6], pool: Option<PoolId>, taken: u64, waited: u64)
+    ensures { demands.new ≡ stations_asked pool taken waited demands.old }
+{
+    if let Some(pool) = pool {
+        let place = pool.place();
+        demands[place] = demands[place].after(taken, waited);
+    }
+}
+
+/// The same of its kind of unit.
+#[inline(always)]
+fn note_unit(demands: &mut [Demand; 5], unit: Option<UnitId>, taken: u64, waited: u64)
+    ensures { demands.new ≡ units_asked unit taken waited demands.old }
+{
+    if let Some(unit) = unit {
+        let place = unit.place();
+        demands[place] = demands[place].after(taken, waited);
+    }
+}
+
+impl Demands {
+    /// Of no steps.
+    pub(crate) fn none() -> Demands
+        ensures { result ≡ nothing_asked }
+    {
+        let nothing = Demand {
+            peak: 0,
+            waits: false,
+        };
+        Demands {
+            stations: [nothing; 6],
+            units: [nothing; 5],
+            buses: nothing,
+            width: nothing,
+            total: 0,
+        }
+    }
+
+    /// The demand for a part.
+    pub fn demand(&self, part: Part) -> Demand
+        ensures { result ≡ demand_of self.now part }
+    {
+        match part {
+            Part::Stations(pool) => self.stations[pool.place()],
+            Part::Units(unit) => self.units[unit.place()],
+            Part::Buses => self.buses,
+            Part::Width => self.width,
+        }
+    }
+
+    /// Notes a step with its waits and with what it takes.
+    #[inline(always)]
+    pub(crate) fn note(&mut self, facts: &Facts, waits: &Waits, taken: &Taken, at: &Times)
+        ensures { self.new ≡ demands_after facts.now waits.now taken.now at.now self.old }
+    {
+        self.buses = self.buses.after(taken.bus, waits.bus);
+        self.width = self.width.after(taken.width, waits.width);
+        self.total = at.end.max(self.total);
+        note_station(&mut self.stations, facts.pool, taken.station, waits.station);
+        note_unit(&mut self.units, facts.unit, taken.unit, waits.unit);
+    }
+}
