@@ -1,9 +1,9 @@
 -- What a search among plateaus finds.
 use Rattle.std.proofs.Common.{◌≡◌, ℕ, ◌-◌, ◌<◌, ◌≤◌, ◌++◌, ◌+◌, arith, ap, sym, ◌∙◌, refl, subst, Bool, true, false}
-use Rattle.std.proofs.Common.{List, [], ◌∷◌, length, get_or, Option, Some, None, All, reverse, inl, inr}
+use Rattle.std.proofs.Common.{List, [], ◌∷◌, length, get_or, Option, Some, None, All, reverse, inl, inr, ⊎_elim}
 use Rattle.std.specs.Prelude.{option_map, IfSome}
 use Rattle.std.specs.List.{find}
-use Rattle.std.proofs.lemmas.Bool.{cases_Bool, cases_order}
+use Rattle.std.proofs.lemmas.Bool.{cases_Bool, cases_lt}
 use Rattle.std.proofs.lemmas.List.{get_or-reverse, get_or-set_same, get_or_push, length_push, length-reverse}
 use Rattle.std.proofs.lemmas.List.{reverse-reverse}
 use Rattle.std.proofs.Math.ListN.{set, length-set}
@@ -13,7 +13,8 @@ use Rattle.tomex_config.specs.Configuration.{Configuration, IsWithinLimits}
 use Rattle.tomex_timing.specs.Search.{times_in, total_of}
 use Rattle.tomex_plateaus.specs.declared.plateau.Plateau.{Plateau}
 use Rattle.tomex_plateaus.specs.declared.plateaus.TheConstants.{MOST}
-use Rattle.tomex_plateaus.specs.Kept.{Kept, AreKept}
+use Rattle.tomex_plateaus.specs.Kept.{Kept, AreKept, kept_with}
+use Rattle.tomex_plateaus.proofs.Keeping.{kept_few, kept_many}
 use Rattle.tomex_plateaus.specs.Plateaus.{IsPlateauOf, lies_on, total_known}
 
 all_reverse : {X : Type 0} (P : X → Type 0) (xs : List X) → All P xs → All P (reverse xs)
@@ -88,27 +89,21 @@ pub is_known : (config : Configuration) (steps : List Step) (found : List Platea
 is_known config steps found k d good all low on =
     known_in config steps found (find (lies_on config) (reverse found)) k d good all low on refl
 
-another : (config : Configuration) (k m : Kept) (p : Plateau) → IsWithinLimits config → AreKept k → AreKept m
-    → lies_on config p ≡ true → m.found ≡ set k.found k.oldest p → MOST ≤ length k.found
-    → total_known config m.found ≡ Some (total_of (times_in config m.steps))
-another config k m p good old new on is many =
-    let place : k.oldest < MOST = old.place in
-    let low : k.oldest < length k.found = omega arith in
-    let long : length m.found ≡ length k.found = rw is (length-set k.found k.oldest p) in
-    let at : get_or m.found k.oldest p ≡ p = rw is (get_or-set_same k.found k.oldest p p low) in
-    is_known config m.steps m.found k.oldest p good new.are (omega arith) (rw at on)
-
 -- a plateau that is kept is one of the list, so the total of each configuration on it is known
 pub learnt : (config : Configuration) (k m : Kept) (p : Plateau) → IsWithinLimits config → AreKept k → AreKept m
-    → lies_on config p ≡ true
-    → (length k.found < MOST → m.found ≡ k.found ++ p ∷ []) → (MOST ≤ length k.found → m.found ≡ set k.found k.oldest p)
+    → lies_on config p ≡ true → m ≡ kept_with p k
     → total_known config m.found ≡ Some (total_of (times_in config m.steps))
-learnt config k m p good old new on more other = elim (cases_order (length k.found) MOST) [
-  | inl same ↦ another config k m p good old new on (other (omega arith)) (omega arith)
-  | inr (inl less) ↦
-      let is : m.found ≡ k.found ++ p ∷ [] = more less in
-      let long : length m.found ≡ length k.found + 1 = rw is (length_push k.found p) in
-      let at : get_or m.found (length k.found) p ≡ p = rw is (get_or_push k.found p p (length k.found) refl) in
-      is_known config m.steps m.found (length k.found) p good new.are (omega arith) (rw at on)
-  | inr (inr greater) ↦ another config k m p good old new on (other (omega arith)) (omega arith)
-]
+learnt config k m p good old new on is = ⊎_elim
+    (λ (low : length k.found < MOST).
+    let found : m.found ≡ k.found ++ p ∷ [] = ap (λ (x : Kept). x.found) (is ∙ kept_few k p low) in
+    let long : length m.found ≡ length k.found + 1 = rw found (length_push k.found p) in
+    let at : get_or m.found (length k.found) p ≡ p = rw found (get_or_push k.found p p (length k.found) refl) in
+    is_known config m.steps m.found (length k.found) p good new.are (omega arith) (rw at on))
+    (λ (many : MOST ≤ length k.found).
+    let found : m.found ≡ set k.found k.oldest p = ap (λ (x : Kept). x.found) (is ∙ kept_many k p many) in
+    let place : k.oldest < MOST = old.place in
+    let low : k.oldest < length k.found = omega arith in
+    let long : length m.found ≡ length k.found = rw found (length-set k.found k.oldest p) in
+    let at : get_or m.found k.oldest p ≡ p = rw found (get_or-set_same k.found k.oldest p p low) in
+    is_known config m.steps m.found k.oldest p good new.are (omega arith) (rw at on))
+    (cases_lt (length k.found) MOST)

@@ -1,11 +1,13 @@
 -- One plateau more, or another one, in the list of a program's.
-use Rattle.std.proofs.Common.{◌<◌, ◌≤◌, ◌≡◌, ◌+◌, ◌++◌, ◌∷◌, [], ◌%◌, ℕ, List, arith, length}
+use Rattle.std.proofs.Common.{◌<◌, ◌≤◌, ◌≡◌, ◌+◌, ◌++◌, ◌∷◌, [], ◌%◌, ℕ, List, arith, length, refl}
 use Rattle.std.proofs.Math.ListN.{set, length-set}
+use Rattle.std.proofs.lemmas.Bool.{le-ltb, lt-ltb}
 use Rattle.std.proofs.lemmas.List.{length_push}
 use Rattle.std.proofs.lemmas.List.Elements.{All-push, All-set}
 use Rattle.tomex_steps.specs.declared.step.Step.{Step}
 use Rattle.tomex_plateaus.specs.declared.plateau.Plateau.{Plateau}
-use Rattle.tomex_plateaus.specs.Kept.{AreKept}
+use Rattle.tomex_plateaus.specs.Kept.{AreKept, Kept, kept_with}
+use Rattle.tomex_plateaus.specs.declared.plateaus.TheConstants.{MOST}
 use Rattle.tomex_plateaus.specs.Plateaus.{IsPlateauOf}
 
 pub one_more : (steps : List Step) (found all : List Plateau) (oldest : ℕ) (p : Plateau)
@@ -37,8 +39,8 @@ another_one steps found oldest p kept one =
 -- what is kept with one plateau more, while there are few, and once there are as many as are kept
 pub kept_few : (k : Kept) (p : Plateau) → length k.found < MOST
     → kept_with p k ≡ record { steps = k.steps; found = k.found ++ (p ∷ []); oldest = k.oldest }
-kept_few k p low = rw lt-ltb low refl
+kept_few k p low = rw (lt-ltb (length k.found) MOST low) refl
 
 pub kept_many : (k : Kept) (p : Plateau) → MOST ≤ length k.found
     → kept_with p k ≡ record { steps = k.steps; found = set k.found k.oldest p; oldest = (k.oldest + 1) % MOST }
-kept_many k p many = rw le-ltb many refl
+kept_many k p many = rw (le-ltb (length k.found) MOST many) refl

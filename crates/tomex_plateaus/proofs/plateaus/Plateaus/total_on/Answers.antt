@@ -4,5 +4,5 @@ use Rattle.tomex_plateaus.proofs.plateaus.Plateaus.total_on.Goals as goal
 
 pub returns-clause-total : goal.returns-clause-total
 returns-clause-total g c =
-    total_told c.args.config.now c.args.self.now.steps c.args.self.now.found c.newest_total.result
-    c.keeps_limits.ensures c.newest_total.ensures.kept.are c.newest_total.ensures.known
+    total_told c.args.config.now c.args.self.now.steps c.args.self.now.found c.last_total.result
+    c.keeps_limits.ensures c.last_total.ensures.kept.are c.last_total.ensures.known
