@@ -69,6 +69,7 @@ impl<'s, A: Allocator> Plateaus<'s, A> {
     /// Keeps one more, in the place of the oldest if there are as many as are kept.
     fn keep(&mut self, plateau: Plateau) -> Result<(), AllocError>
         requires { IsPlateauOf self.old.steps plateau }
+        ensures steps { self.new.steps ≡ self.old.steps }
         ensures one { OnOk result (self.new ≡ kept_with plateau self.old) }
         ensures refused { OnErr result (self.new ≡ self.old) }
         ensures kept { AreKept self.new }
@@ -87,6 +88,7 @@ impl<'s, A: Allocator> Plateaus<'s, A> {
     ///
     /// The work is that of `times`, without its list.
     pub fn learn(&mut self, alloc: A, config: &Config) -> Result<u64, AllocError>
+        ensures steps { self.new.steps ≡ self.old.steps }
         ensures total { IfOk result (λ n. total_of (times_in config.now self.old.steps) ≡ n) }
         ensures known { OnOk result
             (total_known config.now self.new.found ≡ Some (total_of (times_in config.now self.new.steps))) }

@@ -2,7 +2,5 @@
 pub mod Totals
 pub mod StudyFronts
 pub mod Machines
-pub mod Stops
-pub mod Telling
-pub mod Spares
+pub mod Looking
 pub mod Knowing

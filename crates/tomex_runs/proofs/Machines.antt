@@ -1,7 +1,6 @@
 -- Machines that are asked to go on to a cycle.
-use Rattle.std.proofs.Common.{◌≡◌, ℕ, ◌<◌, ◌≤◌, arith, ap, sym, ◌∙◌, refl, min, max, Bool, true, false, nat_lt, subst}
-use Rattle.std.proofs.Common.{cond}
-use Rattle.std.proofs.lemmas.Bool.{ltb-true, ltb-false, le-ltb, true≢false, false≢true}
+use Rattle.std.proofs.Common.{◌≡◌, ℕ, ◌≤◌, arith, ap, sym, ◌∙◌, min, max, Bool, true, nat_lt, subst, cond}
+use Rattle.std.proofs.lemmas.Bool.{le-ltb}
 use Rattle.tomex_image.specs.Image.{Loaded}
 use Rattle.tomex_rvexec.specs.Run.{EndsWithin}
 use Rattle.tomex_config.specs.Configuration.{Configuration, IsWithinLimits}
@@ -10,14 +9,6 @@ use Rattle.tomex_cycle.specs.Run.{total}
 use Rattle.tomex_cycle.specs.Seen.{Seen, seen_after, is_end}
 use Rattle.tomex_study.specs.Program.{Workload, IsProgram}
 use Rattle.tomex_runs.proofs.Totals.{total_bound, ends_at_most}
-
-at_false : (b : Bool) → is_end (cond b Running Ended) ≡ false → b ≡ true
-at_false true e = refl
-at_false false e = absurd (true≢false e)
-
-at_true : (b : Bool) → is_end (cond b Running Ended) ≡ true → b ≡ false
-at_true true e = absurd (false≢true e)
-at_true false e = refl
 
 -- what a machine promises that is asked to go on to a cycle
 abbrev pub Advances : Seen → Seen → ℕ → Type 0
@@ -33,19 +24,6 @@ advanced_from p config m n to program image mine low goes =
     goes ends ∙ (ap (λ (k : ℕ). seen_after m.image m.config k) most
     ∙ (ap (λ (r : Configuration). seen_after m.image r to) mine
     ∙ ap (λ (i : Loaded). seen_after i config to) image))
-
--- where it is running the cycle is below the total, and else it is not
-pub running_below : (config : Configuration) (i : Loaded) (to : ℕ) (n : Seen) → n ≡ seen_after i config to
-    → is_end n.status ≡ false → to < total config i
-running_below config i to n is on =
-    ltb-true to (total config i) (at_false (nat_lt to (total config i)) (ap (λ (s : Seen). is_end s.status) (sym is)
-    ∙ on))
-
-pub ended_past : (config : Configuration) (i : Loaded) (to : ℕ) (n : Seen) → n ≡ seen_after i config to
-    → is_end n.status ≡ true → total config i ≤ to
-ended_past config i to n is off =
-    ltb-false to (total config i) (at_true (nat_lt to (total config i)) (ap (λ (s : Seen). is_end s.status) (sym is)
-    ∙ off))
 
 -- a machine that has ended
 pub record HasEnded (config : Configuration) (p : Workload) (n : Seen) : Type 0 where

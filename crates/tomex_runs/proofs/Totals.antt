@@ -1,11 +1,13 @@
 -- How many cycles a run takes at most, and sums of the totals of the programs.
 use Rattle.std.proofs.Common.{◌≡◌, ℕ, zero, suc, ◌+◌, ◌-◌, ◌*◌, ◌≤◌, arith, ap, sym, ◌∙◌, List, [], ◌∷◌, length, take}
-use Rattle.std.proofs.Common.{get_or, Some, slice_get, refl, All, min}
+use Rattle.std.proofs.Common.{get_or, Some, slice_get, refl, All, min, ◌<◌, drop}
+use Rattle.std.specs.Prelude.{sum}
+use Rattle.std.proofs.Math.Seq.{drop-cons}
 use Rattle.std.proofs.Math.Nat.{mul-le-mul, mul-le-mul_left, mul-le-mul_right}
 use Rattle.std.proofs.lemmas.List.Elements.{All-head, All-tail}
-use Rattle.std.proofs.lemmas.List.Sums.{sum_by_more, sum_by-cons, sum_by-take-le, sum_by-le}
-use Rattle.std.proofs.lemmas.List.{take_all}
-use Rattle.std.proofs.lemmas.Option.{get_or_from_slice_get, slice_get_within}
+use Rattle.std.proofs.lemmas.List.Sums.{sum-map, sum_by_more, sum_by-cons, sum_by-take-le, sum_by-le}
+use Rattle.std.proofs.lemmas.List.{drop_all, get_or-map, length-map, take_all}
+use Rattle.std.proofs.lemmas.Option.{get_or_from_slice_get, slice_get_read, slice_get_within}
 use Rattle.tomex_image.specs.Image.{Loaded}
 use Rattle.tomex_rvexec.specs.Machine.{State, Outcome, Goes, Ends, Faults, step_of, coming_of}
 use Rattle.tomex_rvexec.specs.Run.{start_of, EndsWithin}
@@ -18,7 +20,8 @@ use Rattle.tomex_timing.specs.Search.{history, times_in, total_of}
 use Rattle.tomex_timing.proofs.Histories.{history_bound, total_of-history}
 use Rattle.tomex_cycle.specs.Run.{run_of, total}
 use Rattle.tomex_study.specs.Program.{Workload, IsProgram}
-use Rattle.tomex_runs.specs.Cycles.{cycles_on, plain_on, weighed}
+use Rattle.tomex_runs.specs.Cycles.{cycles_on, plain_on, totals_on, weighed}
+use Rattle.tomex_runs.specs.Looks.{LastLookSeesMost, last_look}
 use Rattle.std.specs.Prelude.{Option, None}
 
 length_onto : (x : Option Step) (xs : List Step) → length (onto x xs) ≤ suc (length xs)
@@ -111,17 +114,6 @@ pub cycles_within : (programs : List Workload) (place : ℕ) (config : Configura
 unfolding cycles_on
 cycles_within programs place config = sum_by-take-le (λ p. p.weight * total config p.image) programs place
 
--- no fewer cycles by the weights than are made
-pub plain_least : (programs : List Workload) (config : Configuration) → All IsProgram programs
-    → plain_on programs config ≤ cycles_on programs config
-unfolding plain_on cycles_on
-plain_least [] config are = omega arith
-plain_least (p ∷ ps) config are =
-    let one : total config p.image ≤ p.weight * total config p.image =
-    weighs_some p.weight (total config p.image) (All-head IsProgram p ps are).some_weight in
-    let rest : plain_on ps config ≤ cycles_on ps config = plain_least ps config (All-tail IsProgram p ps are) in
-    rw (sum_by-cons, sum_by-cons) (omega arith)
-
 pub no_plain : (programs : List Workload) (config : Configuration) → plain_on (take 0 programs) config ≡ 0
 unfolding plain_on
 no_plain programs config = refl
@@ -157,36 +149,97 @@ weighed_within (p ∷ ps) config n =
     weighed_within ps config (n - total config p.image) in
     rw sum_by-cons (omega arith)
 
--- and in the middle of a program that of the programs before it, and of its own cycles so far
-pub weighed_at : (programs : List Workload) (place : ℕ) (p : Workload) (config : Configuration) (n : ℕ)
-    → slice_get programs place ≡ Some p → plain_on (take place programs) config ≤ n
-    → n ≤ plain_on (take place programs) config + total config p.image
-    → weighed programs config n ≡ cycles_on (take place programs) config
-    + p.weight * (n - plain_on (take place programs) config)
+-- at the end of the runs it is all of them
+pub weighed_all : (programs : List Workload) (config : Configuration)
+    → weighed programs config (plain_on programs config) ≡ cycles_on programs config
 unfolding weighed plain_on cycles_on
-weighed_at [] place p config n at low high = absurd (let f : None ≡ Some p = at in cc)
-weighed_at (q ∷ ps) zero p config n at low high =
-    let same : q ≡ p = (let f : Some q ≡ Some p = at in cc) in
-    let none : weighed ps config 0 ≡ 0 = weighed_none ps config in
-    let few : n - total config p.image ≡ 0 = omega (arith, high) in
-    let least : min n (total config p.image) ≡ n = omega (arith, high) in
-    let before : plain_on (take 0 (q ∷ ps)) config ≡ 0 = no_plain (q ∷ ps) config in
-    let counts : cycles_on (take 0 (q ∷ ps)) config ≡ 0 = no_cycles (q ∷ ps) config in
-    let left : n - plain_on (take 0 (q ∷ ps)) config ≡ n = omega (arith, before) in
-    rw (left, counts, same, least, few, none) (omega arith)
-weighed_at (q ∷ ps) (suc place) p config n at low high =
-    let first : plain_on (take (suc place) (q ∷ ps)) config ≡ total config q.image + plain_on (take place ps) config =
-    sum_by-cons _ q (take place ps) in
-    let counts : cycles_on (take (suc place) (q ∷ ps)) config ≡ q.weight * total config q.image
-    + cycles_on (take place ps) config = sum_by-cons _ q (take place ps) in
-    let least : min n (total config q.image) ≡ total config q.image = omega (arith, low, first) in
-    let rest : weighed ps config (n - total config q.image) ≡ cycles_on (take place ps) config
-    + p.weight * (n - total config q.image - plain_on (take place ps) config) =
-    weighed_at ps place p config (n - total config q.image) at (omega (arith, low, first))
-    (omega (arith, high, first)) in
-    let left : n - total config q.image - plain_on (take place ps) config ≡ n - plain_on (take (suc place) (q ∷ ps))
-    config = omega (arith, first) in
-    rw (least, rest, counts, left) (omega arith)
+weighed_all [] config = refl
+weighed_all (p ∷ ps) config =
+    let all : plain_on (p ∷ ps) config ≡ total config p.image + plain_on ps config =
+    sum_by-cons (λ p. total config p.image) p ps in
+    let weights : cycles_on (p ∷ ps) config ≡ p.weight * total config p.image + cycles_on ps config =
+    sum_by-cons (λ p. p.weight * total config p.image) p ps in
+    let least : min (plain_on (p ∷ ps) config) (total config p.image) ≡ total config p.image = omega (arith, all) in
+    let left : plain_on (p ∷ ps) config - total config p.image ≡ plain_on ps config = omega (arith, all) in
+    rw (least, left, weighed_all ps config) (sym weights)
+
+-- and it grows with the cycles that are made
+weighed_grows : (programs : List Workload) (config : Configuration) (m n : ℕ) → m ≤ n
+    → weighed programs config m ≤ weighed programs config n
+unfolding weighed
+weighed_grows [] config m n less = omega arith
+weighed_grows (p ∷ ps) config m n less =
+    let one : p.weight * min m (total config p.image) ≤ p.weight * min n (total config p.image) =
+    mul-le-mul_left p.weight (let l : min m (total config p.image) ≤ min n (total config p.image) = omega arith in l) in
+    let rest : weighed ps config (m - total config p.image) ≤ weighed ps config (n - total config p.image) =
+    weighed_grows ps config (m - total config p.image) (n - total config p.image) (omega arith) in
+    omega arith
+
+-- no look before the end of a run is later than the last one
+look_within : (look n : ℕ) → 1024 * look < n → 1024 * look ≤ last_look n
+look_within look n before = omega arith
+
+pub last_look_sees_most : LastLookSeesMost
+last_look_sees_most programs config look before = (
+  weighed_grows programs config (1024 * look) (last_look (plain_on programs config))
+      (look_within look (plain_on programs config) before),
+  weighed_within programs config (last_look (plain_on programs config)),
+)
+
+-- one program's part of it
+pub weighed_step : (programs : List Workload) (i : ℕ) (p : Workload) (config : Configuration) (n : ℕ)
+    → i < length programs → p ≡ get_or programs i p
+    → weighed (drop i programs) config n
+    ≡ p.weight * min n (total config p.image) + weighed (drop (i + 1) programs) config (n - total config p.image)
+unfolding weighed
+weighed_step programs i p config n low is =
+    let e : drop i programs ≡ p ∷ drop (i + 1) programs =
+    drop-cons programs i p low ∙ (ap (λ (q : Workload). q ∷ drop (suc i) programs) (sym is)
+    ∙ ap (λ (k : ℕ). p ∷ drop k programs) (let s : suc i ≡ i + 1 = omega arith in s)) in
+    ap (λ (ps : List Workload). weighed ps config n) e
+
+pub weighed_past : (programs : List Workload) (i : ℕ) (config : Configuration) (n : ℕ) → length programs ≤ i
+    → weighed (drop i programs) config n ≡ 0
+unfolding weighed
+weighed_past programs i config n past = ap (λ (ps : List Workload). weighed ps config n) (drop_all i programs past)
+
+-- the sum of the totals
+pub plain_sum : (programs : List Workload) (config : Configuration) (totals : List ℕ)
+    → totals ≡ totals_on programs config → sum totals ≡ plain_on programs config
+unfolding totals_on plain_on
+plain_sum programs config totals is = ap sum is ∙ sum-map (λ p. total config p.image) programs
+
+-- the total at a program's place
+pub total_at : (programs : List Workload) (config : Configuration) (totals : List ℕ) (i : ℕ) (p : Workload)
+    → totals ≡ totals_on programs config → i < length programs → p ≡ get_or programs i p
+    → get_or totals i 0 ≡ total config p.image
+unfolding totals_on
+total_at programs config totals i p is low at =
+    ap (λ (ts : List ℕ). get_or ts i 0) is
+    ∙ (get_or-map (λ p. total config p.image) programs i p 0 low
+    ∙ ap (λ (q : Workload). total config q.image) (sym at))
+
+pub as_many_totals : (programs : List Workload) (config : Configuration) (totals : List ℕ)
+    → totals ≡ totals_on programs config → length totals ≡ length programs
+unfolding totals_on
+as_many_totals programs config totals is = ap length is ∙ length-map _ _
+
+-- one program's cycles more, which are small
+pub next_cycles : (programs : List Workload) (i : ℕ) (p : Workload) (config : Configuration) (n cycles : ℕ)
+    → IsWithinLimits config → All IsProgram programs → length programs ≤ 8 → i < length programs
+    → p ≡ get_or programs i p → n ≡ total config p.image → cycles ≡ cycles_on (take i programs) config
+    → (cycles + p.weight * n ≡ cycles_on (take (i + 1) programs) config) × (p.weight * n ≤ 140509184000)
+    × (cycles + p.weight * n ≤ 140509184000)
+next_cycles programs i p config n cycles lawful ends few low at is so_far =
+    let there : slice_get programs i ≡ Some p = slice_get_read programs (length programs) i p refl low at in
+    let part : p.weight * n ≡ p.weight * total config p.image = ap (λ (k : ℕ). p.weight * k) is in
+    let more = cycles_more programs i p config there in
+    let within = cycles_within programs (i + 1) config in
+    let most = cycles_bound programs config lawful ends few in (
+      omega (arith, part, more, so_far),
+      omega (arith, part, more, within, most),
+      omega (arith, part, more, so_far, within, most),
+    )
 
 pub all_cycles : (programs : List Workload) (place : ℕ) (config : Configuration) → length programs ≤ place
     → cycles_on (take place programs) config ≡ cycles_on programs config

@@ -5,6 +5,10 @@ use Rattle.tomex_cycle.specs.Run.{total}
 use Rattle.tomex_study.specs.Program.{Workload}
 use Rattle.tomex_study.specs.Study.{DesignSpace}
 
+-- the totals of the programs' runs on a configuration, in the programs' order
+unfoldable pub totals_on : List Workload → Configuration → List ℕ
+totals_on programs config = map (λ p. total config p.image) programs
+
 -- the cycles of a configuration: the sum of the totals of the programs' runs on it, each as often as its weight says
 unfoldable pub cycles_on : List Workload → Configuration → ℕ
 cycles_on programs config = sum_by (λ p. p.weight * total config p.image) programs

@@ -1,6 +1,5 @@
--- What contracts cite: the cycles that configurations take, where a run stops, and what a worker knows of programs.
+-- What contracts cite: the cycles that configurations take, looks at them, and what a worker knows of programs.
 pub mod Cycles
 pub mod StudyFront
-pub mod Stops
-pub mod ProgramRun
+pub mod Looks
 pub mod Knowledge

@@ -1,75 +1,83 @@
-//! The runs of configurations, one after another, by one machine.
+//! The runs of programs on configurations, one after another, by one machine.
 
 ghost use Rattle.std.specs.Prelude.{◌≡◌, ◌≤◌, length, IfOk, All, None};
-ghost use Rattle.tomex_runs.specs.Knowledge.{AreTotals};
+ghost use Rattle.tomex_cycle.specs.Run.{total};
+ghost use Rattle.tomex_cycle.specs.Seen.{before_first_cycle, seen};
 ghost use Rattle.tomex_study.specs.Program.{IsProgram};
 ghost use Rattle.tomex_runs.specs.Cycles.{cycles_on};
 
-use crate::row_run::RowRun;
-use crate::stop::Stop;
 use std::alloc::{AllocError, Allocator};
 use tomex_config::Config;
+use tomex_cycle::Machine;
+use tomex_image::Image;
 use tomex_study::Program;
 
-/// No total is known.
-const NONE: [Option<u64>; 8] = [None; 8];
+/// No program takes more cycles: 67 for each of 262,144 steps.
+pub const MOST_CYCLES: u64 = 17_563_648;
 
-/// What a worker keeps from one configuration to the next: the run of the last one, in whose memory the next one
-/// is run.
+/// What is kept from one run to the next: the machine, in whose memory the next one is made.
 #[derive(Drop)]
 pub struct Runs<'s, A: Allocator> {
     alloc: A,
-    last: Option<RowRun<'s, A>>,
+    machine: Option<Machine<'s, A>>,
 }
 
 impl<'s, A: Allocator + Clone> Runs<'s, A> {
-    /// Before the first configuration. Takes no memory.
+    /// Before the first run. Takes no memory.
     pub fn new(alloc: A) -> Runs<'s, A>
         ensures alloc { result.alloc ≡ alloc }
-        ensures none { result.last ≡ None }
+        ensures none { result.machine ≡ None }
     {
-        Runs { alloc, last: None }
-    }
-
-    /// The run of a configuration, before its first cycle, given what totals are known.
-    pub fn begin(
-        &mut self,
-        programs: &'s [Program<A>],
-        config: &'s Config,
-        totals: [Option<u64>; 8],
-    ) -> Result<&mut RowRun<'s, A>, AllocError>
-        requires some { 1 ≤ length programs.now }
-        requires few { length programs.now ≤ 8 }
-        requires ends { All IsProgram programs.now }
-        requires totals { AreTotals programs.now config.now totals }
-        ensures { IfOk result
-            (λ r. r.now ≡ record { programs = programs.now; config = config.now; reached = 0 }) }
-    {
-        match &mut self.last {
-            Some(run) => {
-                run.restart(programs, config, totals)?;
-                Ok(run)
-            }
-            last => Ok(last.insert(RowRun::new(self.alloc.clone()?, programs, config, totals)?)),
+        Runs {
+            alloc,
+            machine: None,
         }
     }
 
-    /// The cycles of a configuration, on which each program is run to its end.
-    pub fn cycles(
-        &mut self,
-        programs: &'s [Program<A>],
-        config: &'s Config,
-    ) -> Result<u64, AllocError>
-        requires some { 1 ≤ length programs.now }
+    /// The cycles of a configuration: each program is run to its end.
+    pub fn cycles(&mut self, programs: &'s [Program<A>], config: &Config) -> Result<u64, AllocError>
         requires few { length programs.now ≤ 8 }
         requires ends { All IsProgram programs.now }
         ensures { IfOk result (λ n. n ≡ cycles_on programs.now config.now) }
     {
-        let run = self.begin(programs, config, NONE)?;
-        loop {
-            match run.go_on()? {
-                Stop::Over(cycles) => return Ok(cycles),
-                Stop::Look(_) => {}
+        config.keeps_limits();
+        let mut cycles = 0;
+        for program in programs {
+            cycles += u64::from(program.weight()) * self.total(program, config)?;
+        }
+        Ok(cycles)
+    }
+
+    /// The cycles of one program.
+    fn total(&mut self, program: &'s Program<A>, config: &Config) -> Result<u64, AllocError>
+        ensures { IfOk result (λ n. n ≡ total config.now program.now.image) }
+    {
+        config.keeps_limits();
+        program.keeps_limits();
+        let mut machine = self.machine_of(program.image(), config)?;
+        machine.advance(MOST_CYCLES);
+        let total = machine.cycle();
+        self.machine = Some(machine);
+        Ok(total)
+    }
+
+    /// A machine before its first cycle, in the memory of the last one, if that is enough. If more is refused, the last
+    /// one is kept.
+    fn machine_of(
+        &mut self,
+        image: &'s Image<A>,
+        config: &Config,
+    ) -> Result<Machine<'s, A>, AllocError>
+        ensures { IfOk result (λ m. seen m ≡ before_first_cycle image.now config.now) }
+    {
+        let Some(machine) = self.machine.take() else {
+            return Ok(Machine::new(self.alloc.clone()?, image, config)?);
+        };
+        match machine.restart(image, config) {
+            Ok(machine) => Ok(machine),
+            Err(machine) => {
+                self.machine = Some(machine);
+                Err(AllocError)
             }
         }
     }

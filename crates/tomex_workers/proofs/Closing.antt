@@ -1,6 +1,8 @@
 -- What a worker does with a row that it has in hand.
-use Rattle.std.proofs.Common.{◌≡◌, ℕ, ◌+◌, ◌-◌, ◌<◌, ◌≤◌, List, [], ◌∷◌, Option, Some, slice_get, length, get_or}
-use Rattle.std.proofs.Common.{ap, cond}
+use Rattle.std.proofs.Common.{◌≡◌, ℕ, ◌+◌, ◌<◌, ◌≤◌, List, [], ◌∷◌, Option, Some, None, slice_get, length, get_or}
+use Rattle.std.proofs.Common.{ap, cond, Bool, true, false}
+use Rattle.std.specs.Prelude.{IfSome, nat_lt}
+use Rattle.std.proofs.lemmas.Bool.{ltb-true}
 use Rattle.std.proofs.Common.{refl, sym, ◌∙◌, subst, inl, All, take, arith, eq-eqb}
 use Rattle.std.proofs.lemmas.List.Elements.{All-more, All-weaker}
 use Rattle.std.proofs.lemmas.Option.{slice_get_read}
@@ -10,15 +12,13 @@ use Rattle.tomex_board.specs.Views.{Has, KnowsNotOpen, Grows, without}
 use Rattle.tomex_board.proofs.Closes.{grows_on}
 use Rattle.tomex_config.specs.Configuration.{Configuration}
 use Rattle.tomex_study.specs.Study.{DesignSpace, IsStudy}
-use Rattle.tomex_runs.specs.Cycles.{cycles_on, cycles_of}
-use Rattle.tomex_runs.specs.Knowledge.{AreTotals, AreTotalsOn}
+use Rattle.tomex_runs.specs.Cycles.{cycles_of, plain_on, totals_on, weighed}
+use Rattle.tomex_runs.specs.Knowledge.{AreTotalsOn}
+use Rattle.tomex_runs.specs.Looks.{IsKnownRow, LastLookSeesMost, last_look}
+use Rattle.tomex_runs.specs.declared.known_row.KnownRow.{KnownRow}
 use Rattle.tomex_study.specs.Program.{Workload}
 use Rattle.tomex_workers.specs.Plans.{IsPlanOf}
 use Rattle.tomex_workers.specs.Seats.{Continues}
-use Rattle.tomex_runs.specs.Stops.{Going, IsNearer, stop_at}
-use Rattle.tomex_runs.specs.declared.stop.Stop.{Stop}
-use Rattle.tomex_runs.specs.declared.stop.Stop.TheVariants.{Look, Over}
-use Rattle.tomex_runs.proofs.Telling.{look_near, over_is}
 use Rattle.tomex_workers.proofs.Rows.{as_many_rows, cycles_at}
 
 -- nothing has happened to a seat
@@ -35,31 +35,6 @@ continues_on first now new before after = record {
   share = after.share ∙ before.share;
   grown = grows_on first.view now.view new.view before.grown after.grown;
 }
-
--- the run is that of the row, and the seat has the row in hand and no other
-pub record IsRunning (s : DesignSpace) (row : ℕ) (first now : Known) (run : Going) : Type 0 where
-  pub seat : Continues first now
-  pub hand : now.view.hand ≡ row ∷ []
-  pub programs : run.programs ≡ s.programs
-  pub its_row : slice_get s.rows row ≡ Some run.config
-
--- a look brings the run nearer to the row's cycles, of which no more have come
-pub look_on : (s : DesignSpace) (row : ℕ) (first now : Known) (run new : Going) (p : Stop) (seen : ℕ)
-    → IsRunning s row first now run → p ≡ Look seen → IsNearer run new p
-    → (get_or (cycles_of s) row 0 - new.reached < get_or (cycles_of s) row 0 - run.reached)
-    × (seen ≤ get_or (cycles_of s) row 0)
-look_on s row first now run new p seen is looks up =
-    let e : get_or (cycles_of s) row 0 ≡ cycles_on s.programs run.config = cycles_at s row run.config is.its_row in
-    let near = look_near run new s.programs run.config p seen is.programs refl looks up in
-    subst (λ n. (n - new.reached < n - run.reached) × (seen ≤ n)) (sym e) near
-
--- a run that is over has the row's cycles
-pub over_on : (s : DesignSpace) (row : ℕ) (first now : Known) (run : Going) (p : Stop) (y : ℕ)
-    → IsRunning s row first now run → p ≡ stop_at run.programs run.config (run.reached + 1024) → p ≡ Over y
-    → y ≡ get_or (cycles_of s) row 0
-over_on s row first now run p y is stop over =
-    over_is run.programs s.programs run.config run.config p run.reached y is.programs refl stop over
-    ∙ sym (cycles_at s row run.config is.its_row)
 
 pub has_it : (hand : List ℕ) (row : ℕ) → hand ≡ row ∷ [] → Has hand row
 has_it hand row is = subst (λ l. Has l row) (sym is) (inl refl)
@@ -86,34 +61,34 @@ row_read rows all row item same low read =
     read
 
 -- totals on the row's configuration are totals on the row
-pub totals_on : (s : DesignSpace) (row : ℕ) (item : Configuration) (programs : List Workload) (totals : List (Option ℕ))
-    → programs ≡ s.programs → slice_get s.rows row ≡ Some item → AreTotals programs item totals
-    → AreTotalsOn s row totals
-totals_on s row item programs totals same at are = λ config here.
+pub totals_there : (s : DesignSpace) (row : ℕ) (item : Configuration) (programs : List Workload) (totals : List ℕ)
+    → programs ≡ s.programs → slice_get s.rows row ≡ Some item
+    → take (length programs) totals ≡ totals_on programs item → AreTotalsOn s row totals
+totals_there s row item programs totals same at are = λ config here.
     let both : Some item ≡ Some config = sym at ∙ here in
     let e : item ≡ config = (cc) in
-    subst (λ (r : Configuration). AreTotals s.programs r totals) e
-    (subst (λ (ps : List Workload). AreTotals ps item totals) same are)
+    subst (λ (r : Configuration). take (length s.programs) totals ≡ totals_on s.programs r) e
+    (subst (λ (ps : List Workload). take (length ps) totals ≡ totals_on ps item) same are)
 
-pub first_running : (s : DesignSpace) (row : ℕ) (seat : Known) (run : Going) (item : Configuration)
-    → seat.view.hand ≡ row ∷ [] → run.programs ≡ s.programs → run.config ≡ item → slice_get s.rows row ≡ Some item
-    → IsRunning s row seat seat run
-first_running s row seat run item hand programs same at = record {
-  seat = continues_itself seat;
-  hand = hand;
-  programs = programs;
-  its_row = at ∙ ap (λ (r : Configuration). Some r) (sym same);
-}
+-- a row whose totals are known has its cycles, and has made no more of them at its last look
+pub known_cycles : (s : DesignSpace) (row : ℕ) (item : Configuration) (known : KnownRow)
+    → slice_get s.rows row ≡ Some item → IsKnownRow s.programs item known → known.cycles ≡ get_or (cycles_of s) row 0
+known_cycles s row item known at is = is.cycles ∙ sym (cycles_at s row item at)
 
-pub next_running : (s : DesignSpace) (row : ℕ) (first now new : Known) (run next : Going)
-    → IsRunning s row first now run → Continues now new → new.view.hand ≡ now.view.hand
-    → next.programs ≡ run.programs → next.config ≡ run.config → IsRunning s row first new next
-next_running s row first now new run next is seat hand programs same = record {
-  seat = continues_on first now new is.seat seat;
-  hand = hand ∙ is.hand;
-  programs = programs ∙ is.programs;
-  its_row = is.its_row ∙ ap (λ (r : Configuration). Some r) (sym same);
-}
+pub known_made : (s : DesignSpace) (row : ℕ) (item : Configuration) (known : KnownRow)
+    → LastLookSeesMost → slice_get s.rows row ≡ Some item → IsKnownRow s.programs item known
+    → IfSome known.at_last_look (λ n. n ≤ get_or (cycles_of s) row 0)
+known_made s row item known law at is =
+    subst (λ (o : Option ℕ). IfSome o (λ n. n ≤ get_or (cycles_of s) row 0)) (sym is.at_last_look)
+    (if_looked (nat_lt 1024 (plain_on s.programs item)) refl)
+  where
+    if_looked : (b : Bool) → nat_lt 1024 (plain_on s.programs item) ≡ b
+        → IfSome (cond b (Some (weighed s.programs item (last_look (plain_on s.programs item)))) None)
+        (λ n. n ≤ get_or (cycles_of s) row 0)
+    if_looked true looks =
+        let more : 1024 < plain_on s.programs item = ltb-true 1024 (plain_on s.programs item) looks in
+        rw (cycles_at s row item at) (law s.programs item 1 (omega arith)).1
+    if_looked false looks = tt
 
 -- one row more is noted
 pub one_noted : (v w : View) (rows items : List ℕ) (i : ℕ) → items ≡ rows → i < length items

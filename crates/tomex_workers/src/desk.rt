@@ -1,8 +1,12 @@
-//! What a worker does with a row: it claims it, runs it, and closes it.
+//! What a worker does with a row: it claims it, finds out its cycles, and closes it.
 
-ghost use Rattle.std.specs.Prelude.{◌≡◌, ◌<◌, ◌∷◌, [], length, count_by, take, is_some, not, IfOk, OnOk, All};
+ghost use Rattle.std.specs.Prelude.{◌≡◌, ◌<◌, ◌≤◌, ◌∷◌, [], length, count_by, take, is_some, not, IfSome, OnOk, All};
+ghost use Rattle.std.specs.Prelude.{slice_get, slice_index, Some};
 ghost use Rattle.tomex_board.specs.Views.{KnowsNotOpen};
+ghost use Rattle.tomex_config.specs.Configuration.{Configuration};
+ghost use Rattle.tomex_runs.specs.Cycles.{cycles_of};
 ghost use Rattle.tomex_runs.specs.Knowledge.{AreTotalsOn};
+ghost use Rattle.tomex_runs.specs.Looks.{IsKnownRow};
 ghost use Rattle.tomex_workers.specs.Plans.{IsPlanOf};
 ghost use Rattle.tomex_workers.specs.Seats.{Continues};
 
@@ -10,11 +14,11 @@ use crate::gate::Gate;
 use std::alloc::{AllocError, Allocator};
 use tomex_board::{Board, Plan, Seat};
 use tomex_lanes::Lane;
-use tomex_runs::{Knowledge, Runs, Stop};
+use tomex_runs::{Knowledge, KnownRow, the_last_look_sees_most};
 use tomex_study::Study;
 
-/// What a worker works with: the study, the board that it shares with the others, whom it reports its runs
-/// to, and its number.
+/// What a worker works with: the study, the board that it shares with the others, the gate to which it reports its
+/// rows, and its number.
 #[derive(Drop)]
 pub(crate) struct Desk<'s, J: Plan, A: Allocator, G: Gate> {
     pub study: &'s Study<A>,
@@ -35,50 +39,51 @@ fn count_unknown(programs: usize, totals: &[Option<u64>; 8]) -> usize
 }
 
 impl<'s, J: Plan, A: Allocator + Clone, G: Gate> Desk<'s, J, A, G> {
-    /// Runs a row that the seat has in hand, until it is over or a look finds a finished row that costs no
-    /// more and takes fewer cycles than this one has made, and closes it on the board. The programs whose
-    /// totals are known aren't run.
-    fn close_row(
-        &self,
-        runs: &mut Runs<'s, A>,
-        seat: &mut Seat<J>,
-        row: usize,
-        totals: [Option<u64>; 8],
-    ) -> Result<(), AllocError>
+    /// Closes a row that the seat has in hand, given the programs' totals on it. It is given up if a finished row costs
+    /// no more and took fewer cycles than this one has made at its last look, else it is finished.
+    fn close_row(&self, seat: &mut Seat<J>, row: usize, totals: &[u64; 8])
         requires plan { IsPlanOf self.now.study.now J.costs J.cycles }
         requires board { seat.old.board ≡ self.now.board.now }
         requires row { row < length J.costs }
         requires hand { seat.old.view.hand ≡ row ∷ [] }
-        requires totals { AreTotalsOn self.now.study.now row totals }
+        requires totals { AreTotalsOn self.now.study.now row totals.now }
         ensures seat { Continues seat.old seat.new }
-        ensures hand { OnOk result (seat.new.view.hand ≡ []) }
+        ensures hand { seat.new.view.hand ≡ [] }
     {
-        let study = self.study;
-        study.keeps_limits();
-        let run = runs.begin(study.programs(), &study.rows()[row], totals)?;
-        loop {
-            match run.go_on()? {
-                Stop::Over(cycles) => {
-                    self.board.finish(seat, row, cycles);
-                    return Ok(());
-                }
-                Stop::Look(weighed) => {
-                    if let Some(bound) = self.board.look(seat, row) {
-                        if bound.cycles < weighed {
-                            self.board.give_up(seat, row, bound, weighed);
-                            return Ok(());
-                        }
-                    }
+        self.study.keeps_limits();
+        let known = self.known_row(row, totals);
+        if let Some(made) = known.at_last_look {
+            if let Some(bound) = self.board.look(seat, row) {
+                if bound.cycles < made {
+                    self.board.give_up(seat, row, bound, made);
+                    return;
                 }
             }
         }
+        self.board.finish(seat, row, known.cycles);
     }
 
-    /// Runs a row that the seat has in hand, and closes it. The programs' totals on it are looked up first, or learnt.
-    /// If memory is refused, the row may stay in hand.
+    /// A row's cycles, and those that it has made at its last look.
+    fn known_row(&self, row: usize, totals: &[u64; 8]) -> KnownRow
+        requires row { row < length self.now.study.now.rows }
+        requires totals { AreTotalsOn self.now.study.now row totals.now }
+        ensures known { (config : Configuration) → slice_get self.now.study.now.rows row ≡ Some config
+            → IsKnownRow self.now.study.now.programs config result }
+        ensures cycles { result.cycles ≡ slice_index (cycles_of self.now.study.now) row }
+        ensures made { IfSome result.at_last_look (λ n. n ≤ slice_index (cycles_of self.now.study.now) row) }
+    {
+        self.study.keeps_limits();
+        the_last_look_sees_most();
+        let config = &self.study.rows()[row];
+        config.keeps_limits();
+        let programs = self.study.programs();
+        KnownRow::of(programs, &totals[..programs.len()])
+    }
+
+    /// Closes a row that the seat has in hand. The programs' totals on it are looked up first, or learnt. If memory is
+    /// refused, the row may stay in hand.
     fn run_row(
         &self,
-        runs: &mut Runs<'s, A>,
         knowledge: &mut Knowledge<'s, A>,
         seat: &mut Seat<J>,
         row: usize,
@@ -88,17 +93,18 @@ impl<'s, J: Plan, A: Allocator + Clone, G: Gate> Desk<'s, J, A, G> {
         requires board { seat.old.board ≡ self.now.board.now }
         requires row { row < length J.costs }
         requires hand { seat.old.view.hand ≡ row ∷ [] }
-        ensures programs { knowledge.new ≡ knowledge.old }
+        ensures programs { knowledge.new.programs ≡ knowledge.old.programs }
         ensures seat { Continues seat.old seat.new }
         ensures hand { OnOk result (seat.new.view.hand ≡ []) }
     {
         self.study.keeps_limits();
         let config = &self.study.rows()[row];
-        let known = knowledge.totals(config);
+        let known = knowledge.known(config);
         let unknown = count_unknown(self.study.programs().len(), &known);
         self.gate.runs(self.worker, row, unknown);
         let totals = knowledge.learn(config, known)?;
-        self.close_row(runs, seat, row, totals)
+        self.close_row(seat, row, &totals);
+        Ok(())
     }
 
     /// Tries a row: claims it, and if that succeeds runs and closes it. On Ok the seat has nothing in hand, and knows
@@ -106,7 +112,6 @@ impl<'s, J: Plan, A: Allocator + Clone, G: Gate> Desk<'s, J, A, G> {
     /// whatever it is, is the board's rule. If memory is refused, the row may stay in hand.
     fn try_row(
         &self,
-        runs: &mut Runs<'s, A>,
         knowledge: &mut Knowledge<'s, A>,
         seat: &mut Seat<J>,
         row: usize,
@@ -116,7 +121,7 @@ impl<'s, J: Plan, A: Allocator + Clone, G: Gate> Desk<'s, J, A, G> {
         requires board { seat.old.board ≡ self.now.board.now }
         requires row { row < length J.costs }
         requires hand { seat.old.view.hand ≡ [] }
-        ensures programs { knowledge.new ≡ knowledge.old }
+        ensures programs { knowledge.new.programs ≡ knowledge.old.programs }
         ensures seat { Continues seat.old seat.new }
         ensures hand { OnOk result (seat.new.view.hand ≡ []) }
         ensures not_open { OnOk result (KnowsNotOpen seat.new.view row) }
@@ -125,7 +130,7 @@ impl<'s, J: Plan, A: Allocator + Clone, G: Gate> Desk<'s, J, A, G> {
             return Ok(());
         }
         self.gate.before(self.worker, row);
-        self.run_row(runs, knowledge, seat, row)
+        self.run_row(knowledge, seat, row)
     }
 
     /// Tries rows until none is left to take, then each of the lane's list once more. None of that list is open then.
@@ -145,16 +150,14 @@ impl<'s, J: Plan, A: Allocator + Clone, G: Gate> Desk<'s, J, A, G> {
         ensures not_open { OnOk result (All (KnowsNotOpen seat.new.view) lane.new.rows) }
     {
         self.study.keeps_limits();
-        let mut knowledge = Knowledge::new(alloc.clone()?, self.study.programs())?;
-        let mut runs = Runs::new(alloc);
-        self.try_taken(&mut runs, &mut knowledge, seat, lane)?;
-        self.try_listed(&mut runs, &mut knowledge, seat, lane)
+        let mut knowledge = Knowledge::new(alloc, self.study.programs())?;
+        self.try_taken(&mut knowledge, seat, lane)?;
+        self.try_listed(&mut knowledge, seat, lane)
     }
 
     /// Takes rows as long as there are any, but at most as many as the study has, and tries each.
     fn try_taken(
         &self,
-        runs: &mut Runs<'s, A>,
         knowledge: &mut Knowledge<'s, A>,
         seat: &mut Seat<J>,
         lane: &mut Lane<A>,
@@ -164,7 +167,7 @@ impl<'s, J: Plan, A: Allocator + Clone, G: Gate> Desk<'s, J, A, G> {
         requires board { seat.old.board ≡ self.now.board.now }
         requires rows { lane.old.count ≡ length J.costs }
         requires hand { seat.old.view.hand ≡ [] }
-        ensures programs { knowledge.new ≡ knowledge.old }
+        ensures programs { knowledge.new.programs ≡ knowledge.old.programs }
         ensures lane { lane.new ≡ lane.old }
         ensures seat { Continues seat.old seat.new }
         ensures hand { OnOk result (seat.new.view.hand ≡ []) }
@@ -173,7 +176,7 @@ impl<'s, J: Plan, A: Allocator + Clone, G: Gate> Desk<'s, J, A, G> {
             let Some(row) = lane.take() else {
                 return Ok(());
             };
-            self.try_row(runs, knowledge, seat, row)?;
+            self.try_row(knowledge, seat, row)?;
         }
         Ok(())
     }
@@ -181,7 +184,6 @@ impl<'s, J: Plan, A: Allocator + Clone, G: Gate> Desk<'s, J, A, G> {
     /// Tries each row of the lane's list once, rising. None of them is open then.
     fn try_listed(
         &self,
-        runs: &mut Runs<'s, A>,
         knowledge: &mut Knowledge<'s, A>,
         seat: &mut Seat<J>,
         lane: &Lane<A>,
@@ -191,13 +193,13 @@ impl<'s, J: Plan, A: Allocator + Clone, G: Gate> Desk<'s, J, A, G> {
         requires board { seat.old.board ≡ self.now.board.now }
         requires rows { lane.now.count ≡ length J.costs }
         requires hand { seat.old.view.hand ≡ [] }
-        ensures programs { knowledge.new ≡ knowledge.old }
+        ensures programs { knowledge.new.programs ≡ knowledge.old.programs }
         ensures seat { Continues seat.old seat.new }
         ensures hand { OnOk result (seat.new.view.hand ≡ []) }
         ensures not_open { OnOk result (All (KnowsNotOpen seat.new.view) lane.now.rows) }
     {
         for row in lane.rows() {
-            self.try_row(runs, knowledge, seat, *row)?;
+            self.try_row(knowledge, seat, *row)?;
         }
         Ok(())
     }

@@ -1,10 +1,6 @@
--- It stays knowledge of the same programs, and what is told so far is known.
-use Rattle.std.proofs.Common.{◌≡◌}
-use Rattle.tomex_runs.specs.Knowledge.{AreTotals}
+-- The totals so far are the programs', and what wasn't known of these is learnt.
+use Rattle.tomex_runs.proofs.Knowing.{IsLearning}
 use Rattle.tomex_runs.proofs.knowledge.Knowledge.learn.Given as goal
 
 abbrev pub invariant-loop-place : goal.invariant-loop-place
-invariant-loop-place g l = record {
-  same : l.self ≡ l.fn.self;
-  totals : AreTotals l.fn.self.programs l.config l.totals;
-}
+invariant-loop-place g l = IsLearning l.fn.self.programs l.config l.known l.fn.self l.self l.place l.totals

@@ -1,15 +1,30 @@
--- No total is known; a run that is over tells the configuration's cycles, and each look comes nearer to them.
-use Rattle.tomex_runs.proofs.Knowing.{none_known}
-use Rattle.tomex_runs.proofs.Telling.{look_near, over_is}
+-- One program's cycles more.
+use Rattle.std.proofs.Common.{◌∙◌, ◌≡◌, ◌≤◌, ap, arith, length, refl, sym}
+use Rattle.std.proofs.lemmas.Option.{slice_get_read}
+use Rattle.tomex_runs.specs.Cycles.{cycles_on}
+use Rattle.tomex_runs.proofs.Totals.{all_cycles, next_cycles, no_cycles}
 use Rattle.tomex_runs.proofs.runs.Runs.cycles.Goals as goal
 
-pub begin-requires-clause-totals : goal.begin-requires-clause-totals
-begin-requires-clause-totals g c = none_known c.args.programs.now c.args.config.now
+pub loop-program-init : goal.loop-program-init
+loop-program-init g c = sym (no_cycles c.args.programs.now c.args.config.now)
 
-pub returns-in-Over : goal.returns-in-Over
-returns-in-Over g c = over_is _ _ _ _ _ c.loop-cycles.run.reached _ c.loop-cycles.invariant.programs
-    c.loop-cycles.invariant.config c.in_ok-cycles.ensures.stop c.in-Over.is
+pub overflow_mul-cycles : goal.overflow_mul-cycles
+overflow_mul-cycles g c =
+    let w = next_cycles c.args.programs.now c.loop-program.program-index c.program-item.result c.args.config.now
+    c.in_ok-cycles.field-0 c.loop-program.cycles c.keeps_limits.ensures c.requires.ends c.requires.few
+    c.loop-program-test.true c.program-item.is c.in_ok-cycles.ensures c.loop-program.invariant in
+    rw (c.from.ensures, c.weight.ensures.value) (omega (arith, w.1))
 
-pub loop-cycles-smaller : goal.loop-cycles-smaller
-loop-cycles-smaller g c = (look_near c.loop-cycles.run c.go_on.new.self _ _ _ _ c.loop-cycles.invariant.programs
-    c.loop-cycles.invariant.config c.in-Look.is c.in_ok-cycles.ensures.look).0
+pub overflow_add-cycles : goal.overflow_add-cycles
+overflow_add-cycles g c =
+    let w = next_cycles c.args.programs.now c.loop-program.program-index c.program-item.result c.args.config.now
+    c.in_ok-cycles.field-0 c.loop-program.cycles c.keeps_limits.ensures c.requires.ends c.requires.few
+    c.loop-program-test.true c.program-item.is c.in_ok-cycles.ensures c.loop-program.invariant in
+    rw (c.from.ensures, c.weight.ensures.value) (omega (arith, w.2))
+
+pub loop-program-preserved : goal.loop-program-preserved
+loop-program-preserved g c =
+    let w = next_cycles c.args.programs.now c.loop-program.program-index c.program-item.result c.args.config.now
+    c.in_ok-cycles.field-0 c.loop-program.cycles c.keeps_limits.ensures c.requires.ends c.requires.few
+    c.loop-program-test.true c.program-item.is c.in_ok-cycles.ensures c.loop-program.invariant in
+    rw (c.from.ensures, c.weight.ensures.value) w.0

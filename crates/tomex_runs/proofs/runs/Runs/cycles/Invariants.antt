@@ -1,13 +1,7 @@
--- The run stays that of the configuration; each look comes nearer to its cycles.
-use Rattle.std.proofs.Common.{◌≡◌, ◌-◌}
+-- The cycles of the programs so far.
+use Rattle.std.proofs.Common.{◌≡◌, take}
 use Rattle.tomex_runs.specs.Cycles.{cycles_on}
 use Rattle.tomex_runs.proofs.runs.Runs.cycles.Given as goal
 
-abbrev pub invariant-loop-cycles : goal.invariant-loop-cycles
-invariant-loop-cycles g l = record {
-  programs : l.run.programs ≡ l.programs;
-  config : l.run.config ≡ l.config;
-}
-
-abbrev pub decreases-loop-cycles : goal.decreases-loop-cycles
-decreases-loop-cycles g l = cycles_on l.programs l.config - l.run.reached
+abbrev pub invariant-loop-program : goal.invariant-loop-program
+invariant-loop-program g l = l.cycles ≡ cycles_on (take l.program-index l.programs) l.config

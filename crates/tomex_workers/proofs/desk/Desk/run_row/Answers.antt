@@ -1,8 +1,9 @@
 -- The totals that are known or learnt are those of the row's configuration.
-use Rattle.std.proofs.Common.{◌<◌, ap, ◌∙◌, sym, subst, List, length, rules}
+use Rattle.std.proofs.Common.{◌≡◌, ◌<◌, ◌∙◌, ap, sym, subst, take, List, length}
 use Rattle.tomex_config.specs.Configuration.{Configuration}
-use Rattle.tomex_runs.specs.Knowledge.{KnowledgeOf}
-use Rattle.tomex_workers.proofs.Closing.{continues_itself, row_read, row_there, totals_on}
+use Rattle.tomex_study.specs.Program.{Workload}
+use Rattle.tomex_runs.specs.Cycles.{totals_on}
+use Rattle.tomex_workers.proofs.Closing.{continues_itself, row_read, row_there, totals_there}
 use Rattle.tomex_workers.proofs.desk.Desk.run_row.Goals as goal
 
 pub bounds-rows-row : goal.bounds-rows-row
@@ -15,12 +16,8 @@ returns-in_err-totals-clause-seat g c = continues_itself _
 
 pub close_row-requires-clause-totals : goal.close_row-requires-clause-totals
 close_row-requires-clause-totals g c =
-    totals_on c.args.self.now.study.now c.args.row c.index-rows-row.result c.learn.new.self.programs
-    c.in_ok-totals.totals
-    (ap (λ (k : KnowledgeOf). k.programs) c.in_ok-totals.ensures.programs ∙ c.requires.programs)
+    totals_there c.args.self.now.study.now c.args.row c.index-rows-row.result c.args.knowledge.now.programs
+    c.in_ok-totals.totals c.requires.programs
     (row_read _ _ c.args.row c.index-rows-row.result c.rows.ensures.value
     (row_there c.args.self.now.study.now _ _ c.args.row c.keeps_limits.ensures c.requires.plan c.requires.row)
     c.index-rows-row.is) c.in_ok-totals.ensures.totals
-
-pub returns-clause-hand : goal.returns-clause-hand
-returns-clause-hand g c = search rules fits 100

@@ -1,6 +1,5 @@
 -- What the first pass leaves is what the second one begins with.
 use Rattle.std.proofs.Common.{ap, ◌∙◌}
-use Rattle.tomex_runs.specs.Knowledge.{KnowledgeOf}
 use Rattle.tomex_workers.proofs.Closing.{continues_itself, continues_on}
 use Rattle.tomex_workers.proofs.desk.Desk.try_all.Goals as goal
 
@@ -17,15 +16,15 @@ pub returns-in_err-knowledge-clause-seat : goal.returns-in_err-knowledge-clause-
 returns-in_err-knowledge-clause-seat g c = continues_itself _
 
 pub try_taken-requires-clause-programs : goal.try_taken-requires-clause-programs
-try_taken-requires-clause-programs g c = c.in_ok-knowledge.ensures ∙ c.programs.ensures.value
+try_taken-requires-clause-programs g c = c.in_ok-knowledge.ensures.programs ∙ c.programs.ensures.value
 
 pub returns-in_err-try_taken-clause-seat : goal.returns-in_err-try_taken-clause-seat
 returns-in_err-try_taken-clause-seat g c = c.try_taken.ensures.seat
 
 pub try_listed-requires-clause-programs : goal.try_listed-requires-clause-programs
 try_listed-requires-clause-programs g c =
-    ap (λ (k : KnowledgeOf). k.programs) c.try_taken.ensures.programs
-    ∙ (c.in_ok-knowledge.ensures ∙ c.programs.ensures.value)
+    c.try_taken.ensures.programs
+    ∙ (c.in_ok-knowledge.ensures.programs ∙ c.programs.ensures.value)
 
 pub try_listed-requires-clause-board : goal.try_listed-requires-clause-board
 try_listed-requires-clause-board g c = c.try_taken.ensures.seat.board ∙ c.requires.board

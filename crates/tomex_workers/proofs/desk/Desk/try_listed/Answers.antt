@@ -2,7 +2,6 @@
 use Rattle.std.proofs.Common.{◌∙◌, ◌≤◌, ℕ, List, length, subst, All, ap, arith, refl}
 use Rattle.std.proofs.lemmas.List.{take_all}
 use Rattle.tomex_board.specs.Views.{KnowsNotOpen}
-use Rattle.tomex_runs.specs.Knowledge.{KnowledgeOf}
 use Rattle.tomex_workers.proofs.Closing.{continues_itself, continues_on, one_noted}
 use Rattle.tomex_workers.proofs.desk.Desk.try_listed.Goals as goal
 
@@ -34,7 +33,7 @@ loop-row-init g c = record {
 
 pub try_row-requires-clause-programs : goal.try_row-requires-clause-programs
 try_row-requires-clause-programs g c =
-    ap (λ (k : KnowledgeOf). k.programs) c.loop-row.invariant.programs ∙ c.requires.programs
+    c.loop-row.invariant.programs ∙ c.requires.programs
 
 pub try_row-requires-clause-board : goal.try_row-requires-clause-board
 try_row-requires-clause-board g c = c.loop-row.invariant.seat.board ∙ c.requires.board

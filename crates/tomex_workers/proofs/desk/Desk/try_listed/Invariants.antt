@@ -9,5 +9,5 @@ invariant-loop-row g l = record {
   seat : Continues l.initial.seat l.seat;
   hand : l.seat.view.hand ≡ [];
   noted : All (KnowsNotOpen l.seat.view) (take l.row-index l.lane.rows);
-  programs : l.knowledge ≡ l.initial.knowledge;
+  programs : l.knowledge.programs ≡ l.initial.knowledge.programs;
 }

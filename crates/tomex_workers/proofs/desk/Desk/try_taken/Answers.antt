@@ -1,6 +1,5 @@
 -- What one row more leaves.
 use Rattle.std.proofs.Common.{◌∙◌, ap, refl}
-use Rattle.tomex_runs.specs.Knowledge.{KnowledgeOf}
 use Rattle.tomex_workers.proofs.Closing.{continues_itself, continues_on}
 use Rattle.tomex_workers.proofs.desk.Desk.try_taken.Goals as goal
 
@@ -9,7 +8,7 @@ loop-init g c = record { programs = refl; lane = refl; seat = continues_itself _
 
 pub try_row-requires-clause-programs : goal.try_row-requires-clause-programs
 try_row-requires-clause-programs g c =
-    ap (λ (k : KnowledgeOf). k.programs) c.loop.invariant.programs ∙ c.requires.programs
+    c.loop.invariant.programs ∙ c.requires.programs
 
 pub try_row-requires-clause-board : goal.try_row-requires-clause-board
 try_row-requires-clause-board g c = c.loop.invariant.seat.board ∙ c.requires.board
