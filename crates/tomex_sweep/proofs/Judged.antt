@@ -14,7 +14,7 @@ use Rattle.tomex_pareto.specs.Pareto.{Dominates}
 use Rattle.tomex_pareto.proofs.Finished.{IsAt, at_row, finished_apart, finished_of, of_finished, row_at, rows_apart}
 use Rattle.tomex_pareto.proofs.Finished.{same_row}
 use Rattle.tomex_pareto.proofs.Pareto.{Has, front_is, only_front}
-use Rattle.tomex_workers.specs.Marks.{AreJudged}
+use Rattle.tomex_sweep.specs.Marks.{AreJudged}
 
 -- a finished row is a row
 finished_row : (costs cycles : List ℕ) (marks : List Mark) → AreLawful costs cycles marks → length costs ≡ length cycles

@@ -9,7 +9,7 @@ use Rattle.tomex_runs.specs.Cycles.{cycles_on, cycles_of}
 use Rattle.tomex_pareto.specs.Finished.{finished_from}
 use Rattle.tomex_pareto.specs.Front.{front_of}
 use Rattle.tomex_runs.specs.StudyFront.{front_of_study}
-use Rattle.tomex_workers.specs.Marks.{AreJudged}
+use Rattle.tomex_sweep.specs.Marks.{AreJudged}
 use Rattle.tomex_lanes.specs.Parts.{is_closed}
 use Rattle.tomex_pareto.specs.declared.front_row.FrontRow.{FrontRow}
 use Rattle.tomex_board.specs.declared.mark.Mark.{Mark}

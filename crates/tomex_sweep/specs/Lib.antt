@@ -1,5 +1,6 @@
--- What contracts cite: workers and what they owe.
+-- What contracts cite: workers and what they owe, and marks of rows.
 pub mod Crews
+pub mod Marks
 pub use Rattle.tomex_image.specs.Image
 pub use Rattle.tomex_rvexec.specs.Run
 pub use Rattle.tomex_config.specs.Configuration

@@ -3,10 +3,11 @@
 ghost use Rattle.std.specs.Prelude.{◌≡◌, ◌≤◌, IfOk};
 ghost use Rattle.tomex_runs.specs.Cycles.{cycles_of};
 ghost use Rattle.tomex_runs.specs.StudyFront.{front_of_study};
-ghost use Rattle.tomex_workers.specs.Marks.{AreJudged};
+ghost use Rattle.tomex_sweep.specs.Marks.{AreJudged};
 ghost use Rattle.tomex_workers.specs.Plans.{IsPlanOf};
 
 use crate::crew::run_workers;
+use crate::leftovers::close_rest;
 use crate::outcome::{Outcome, SweepError};
 use crate::stacks::{Stacks, UsualStacks};
 use std::alloc::Allocator;
@@ -17,7 +18,7 @@ use tomex_board::{Board, Mark, Plan};
 use tomex_lanes::{deal, seated, settle};
 use tomex_pareto::front;
 use tomex_study::Study;
-use tomex_workers::{Gate, gather};
+use tomex_workers::Gate;
 
 /// The marks of a study's rows when all workers are done, on a board that is made for the study's costs and cycles.
 fn marks_of_workers<
@@ -81,7 +82,7 @@ pub fn explore_on<
         gate,
         stacks,
     )?;
-    let gathered = gather(alloc.clone()?, study, &mut marks)?;
+    let gathered = close_rest(alloc.clone()?, study, &mut marks)?;
     let front = front(alloc, costs, marks.as_slice())?;
     Ok(Outcome {
         marks,

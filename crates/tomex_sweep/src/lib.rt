@@ -5,6 +5,7 @@
 mod crew;
 mod exhaustive;
 mod exploring;
+mod leftovers;
 mod outcome;
 mod stacks;
 

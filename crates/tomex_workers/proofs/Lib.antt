@@ -1,4 +1,3 @@
 -- Lemmas of this crate.
 pub mod Rows
 pub mod Closing
-pub mod Gathered

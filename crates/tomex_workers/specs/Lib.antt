@@ -1,4 +1,3 @@
--- What contracts cite: the plan of a study's board, a worker's seat as it goes on, and marks of rows.
+-- What contracts cite: the plan of a study's board, and a worker's seat as it goes on.
 pub mod Plans
 pub mod Seats
-pub mod Marks

@@ -10,9 +10,6 @@ returns g c =
     (rw (take_all c.loop-config.config-index c.rows-config-items.result.now c.loop-config-test.false) at
     c.loop-config.invariant)
 
-pub cycles-requires-clause-some : goal.cycles-requires-clause-some
-cycles-requires-clause-some g c = rw c.programs.ensures.value c.keeps_limits.ensures.some_programs
-
 pub cycles-requires-clause-few : goal.cycles-requires-clause-few
 cycles-requires-clause-few g c = rw c.programs.ensures.value c.keeps_limits.ensures.few_programs
 

@@ -1,14 +1,14 @@
 -- The marks are all judged: nothing is left to gather, and their front is the study's.
 use Rattle.std.proofs.Common.{◌∙◌}
-use Rattle.tomex_workers.proofs.Gathered.{none_left}
+use Rattle.tomex_sweep.proofs.Gathered.{none_left}
 use Rattle.tomex_sweep.proofs.Verdicts.{judged_front}
 use Rattle.tomex_sweep.proofs.exploring.explore_on.Goals as goal
 
-pub gather-requires-clause-count : goal.gather-requires-clause-count
-gather-requires-clause-count g c = c.in_ok-marks.ensures.count
+pub close_rest-requires-clause-count : goal.close_rest-requires-clause-count
+close_rest-requires-clause-count g c = c.in_ok-marks.ensures.count
 
-pub gather-requires-clause-lawful : goal.gather-requires-clause-lawful
-gather-requires-clause-lawful g c = c.in_ok-marks.ensures.lawful
+pub close_rest-requires-clause-lawful : goal.close_rest-requires-clause-lawful
+close_rest-requires-clause-lawful g c = c.in_ok-marks.ensures.lawful
 
 pub returns-clause-front : goal.returns-clause-front
 returns-clause-front g c =

@@ -3,9 +3,6 @@ use Rattle.std.proofs.Common.{ap, ◌∙◌}
 use Rattle.tomex_workers.proofs.Closing.{continues_itself, continues_on}
 use Rattle.tomex_workers.proofs.desk.Desk.try_all.Goals as goal
 
-pub returns-in_err-clone-clause-seat : goal.returns-in_err-clone-clause-seat
-returns-in_err-clone-clause-seat g c = continues_itself _
-
 pub new-requires-clause-few : goal.new-requires-clause-few
 new-requires-clause-few g c = rw c.programs.ensures.value c.keeps_limits.ensures.few_programs
 

@@ -1,5 +1,5 @@
--- Marks of rows: when all are judged, and how many are left to run.
-use Rattle.std.specs.Prelude.{◌≡◌, ℕ, true, List, length, All, sum_by, if◌then◌else◌}
+-- Marks of rows: when all are judged, how many are left to run, and that these are all that change.
+use Rattle.std.specs.Prelude.{◌≡◌, ℕ, true, List, Some, length, slice_get, All, sum_by, if◌then◌else◌}
 use Rattle.tomex_board.specs.Marks.{AreLawful}
 use Rattle.tomex_board.specs.declared.mark.Mark.{Mark}
 use Rattle.tomex_lanes.specs.Parts.{is_closed}
@@ -17,3 +17,8 @@ left_of_mark m = if is_closed m then 0 else 1
 -- how many rows nobody closed
 abbrev pub rows_left : List Mark → ℕ
 rows_left marks = sum_by left_of_mark marks
+
+-- what is closed stays as it is
+abbrev pub StayClosed : List Mark → List Mark → Type 0
+StayClosed old new = (row : ℕ) (m : Mark) → slice_get old row ≡ Some m → is_closed m ≡ true
+    → slice_get new row ≡ Some m

@@ -2,9 +2,9 @@
 use Rattle.std.proofs.Common.{◌≡◌, ◌<◌, ◌≤◌, ◌∙◌, length, List, sym, subst, ap, rules, arith}
 use Rattle.tomex_config.specs.Configuration.{Configuration}
 use Rattle.tomex_lanes.specs.Parts.{is_closed}
-use Rattle.tomex_workers.proofs.Gathered.{all_gathered, none_gathered, one_closed, one_run, read_mark, run_cycles}
+use Rattle.tomex_sweep.proofs.Gathered.{all_gathered, none_gathered, one_closed, one_run, read_mark, run_cycles}
 use Rattle.tomex_workers.proofs.Rows.{as_many_rows}
-use Rattle.tomex_workers.proofs.leftovers.gather.Goals as goal
+use Rattle.tomex_sweep.proofs.leftovers.gather.Goals as goal
 
 pub loop-row-init : goal.loop-row-init
 loop-row-init g c = none_gathered _ _ c.requires.lawful
@@ -41,9 +41,6 @@ returns-clause-judged g c =
     let past : length c.loop-row.marks.items ≤ c.loop-row.row = omega arith in
     (all_gathered _ _ _ _ _ c.loop-row.invariant c.requires.count past).0
 
-pub cycles-requires-clause-some : goal.cycles-requires-clause-some
-cycles-requires-clause-some g c = rw c.programs.ensures.value c.keeps_limits.ensures.some_programs
-
 pub cycles-requires-clause-few : goal.cycles-requires-clause-few
 cycles-requires-clause-few g c = rw c.programs.ensures.value c.keeps_limits.ensures.few_programs
 
@@ -65,3 +62,11 @@ returns-clause-counted g c =
     let test : c.len-row-end.result ≤ c.loop-row.row = c.loop-row-test.false in
     let past : length c.loop-row.marks.items ≤ c.loop-row.row = omega arith in
     (all_gathered _ _ _ _ _ c.loop-row.invariant c.requires.count past).1
+
+pub returns-clause-closed : goal.returns-clause-closed
+returns-clause-closed g c =
+    let long : c.len-row-end.result ≡ length c.args.marks.now.items = let e = c.len-row-end.ensures in search rules in
+    let count : length c.loop-row.marks.items ≡ length c.args.marks.now.items = c.loop-row.invariant.count in
+    let test : c.len-row-end.result ≤ c.loop-row.row = c.loop-row-test.false in
+    let past : length c.loop-row.marks.items ≤ c.loop-row.row = omega arith in
+    (all_gathered _ _ _ _ _ c.loop-row.invariant c.requires.count past).2

@@ -18,7 +18,7 @@ use Rattle.tomex_study.specs.Program.{Workload}
 use Rattle.tomex_study.specs.Study.{DesignSpace, IsStudy}
 use Rattle.tomex_runs.specs.Cycles.{cycles_of, cycles_on}
 use Rattle.tomex_workers.proofs.Rows.{as_many_rows, cycles_at}
-use Rattle.tomex_workers.specs.Marks.{AreJudged, left_of_mark, rows_left}
+use Rattle.tomex_sweep.specs.Marks.{AreJudged, StayClosed, left_of_mark, rows_left}
 
 get_set_same : (ms : List Mark) (i : ℕ) (x : Mark) → i < length ms → slice_get (set ms i x) i ≡ Some x
 get_set_same [] i x low = absurd (omega arith)
@@ -67,6 +67,7 @@ pub record IsGathering (s : DesignSpace) (old now : List Mark) (row gathered : �
   pub rest : (k : ℕ) → row ≤ k → slice_get now k ≡ slice_get old k
   pub counted : gathered ≡ sum_by left_of_mark (take row old)
   pub few : gathered ≤ row
+  pub same : StayClosed old now
 
 pub none_gathered : (s : DesignSpace) (ms : List Mark) → AreLawful s.costs (cycles_of s) ms → IsGathering s ms ms 0 0
 none_gathered s ms is = record {
@@ -76,6 +77,7 @@ none_gathered s ms is = record {
   rest = λ k h. refl;
   counted = refl;
   few = omega arith;
+  same = λ k m at closed. at;
 }
 
 closed_counts_none : (m : Mark) → is_closed m ≡ true → left_of_mark m ≡ 0
@@ -114,6 +116,7 @@ one_closed s old now row gathered is low closed =
       rest = λ k h. is.rest k (omega arith);
       counted = omega arith;
       few = omega arith;
+      same = is.same;
     }
 
 -- the row was left, and is run
@@ -137,10 +140,18 @@ one_run s old now row gathered y is low left its =
       rest = λ k h. get_set_other now row k (Finished y) (λ e. absurd (omega arith)) ∙ is.rest k (omega arith);
       counted = omega arith;
       few = omega arith;
+      same = λ k m at closed. dite (ℕ_discrete k row)
+          (λ here.
+          let there : slice_get old row ≡ Some m = ap (slice_get old) (sym here) ∙ at in
+          let now_there : slice_get now row ≡ Some m = is.rest row (omega arith) ∙ there in
+          let open_there : get_or now row Open ≡ m = get_or_from_slice_get now row m Open now_there in
+          absurd (true≢false (sym closed ∙ (ap is_closed (sym open_there) ∙ left))))
+          (λ ne. get_set_other now row k (Finished y) ne ∙ is.same k m at closed);
     }
 
 pub all_gathered : (s : DesignSpace) (old now : List Mark) (row gathered : ℕ) → IsGathering s old now row gathered
     → length old ≡ length s.costs → length now ≤ row → AreJudged s.costs (cycles_of s) now × (gathered ≡ rows_left old)
+    × StayClosed old now
 all_gathered s old now row gathered is long past = (
   record {
     count = is.count ∙ long;
@@ -148,6 +159,7 @@ all_gathered s old now row gathered is long past = (
     lawful = is.lawful;
   },
   is.counted ∙ ap (sum_by left_of_mark) (take_all row old (let same = is.count in omega arith)),
+  is.same,
 )
 
 -- where all are closed, none is left
@@ -173,3 +185,8 @@ run_cycles s programs rows item row y is same_programs same_rows low at ran =
     let here : slice_get s.rows row ≡ Some item = ap (λ (rs : List Configuration). slice_get rs row) (sym same_rows)
     ∙ read in
     ran ∙ (ap (λ (ps : List Workload). cycles_on ps item) same_programs ∙ sym (cycles_at s row item here))
+
+-- where all are closed, there is nothing to do
+pub nothing_to_gather : (costs cycles : List ℕ) (ms : List Mark) → length ms ≡ length costs → AreLawful costs cycles ms
+    → All (λ m. is_closed m ≡ true) ms → AreJudged costs cycles ms
+nothing_to_gather costs cycles ms count lawful all = record { count = count; closed = all; lawful = lawful }

@@ -1,6 +1,6 @@
 -- The rows so far are closed.
-use Rattle.tomex_workers.proofs.Gathered.{IsGathering}
-use Rattle.tomex_workers.proofs.leftovers.gather.Given as goal
+use Rattle.tomex_sweep.proofs.Gathered.{IsGathering}
+use Rattle.tomex_sweep.proofs.leftovers.gather.Given as goal
 
 abbrev pub invariant-loop-row : goal.invariant-loop-row
 invariant-loop-row g l = IsGathering l.study l.initial.marks.items l.marks.items l.row l.gathered
