@@ -1,6 +1,9 @@
-//! Tests of memory that is used again: machines that are started anew in it, and workers that take it once.
+//! Tests of memory that is used again: machines that are started again in it, workers that take it once, and more
+//! plateaus than are kept.
 #![tactic(auto)]
 
+#[cfg(test)]
+mod many;
 #[cfg(test)]
 mod once;
 #[cfg(test)]

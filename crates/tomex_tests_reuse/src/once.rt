@@ -1,4 +1,4 @@
-//! A worker's machine takes its memory once: how many blocks a study takes doesn't depend on its rows.
+//! Memory is taken once: the number of blocks that a study takes doesn't depend on its rows.
 
 use std::alloc::{AllocError, Global};
 use std::sync::Wait;
@@ -206,6 +206,17 @@ fn as_many_blocks_for_more_rows(rt: HostRuntime) -> Result<(), Fail> {
         let many = blocks_of(&rt, rt.alloc(), *sizes, 12)?;
         assert!(rt; few[0] == Some(*blocks) && few[1].is_some());
         assert!(rt; few == many);
+    }
+    Ok(())
+}
+
+/// A worker makes no machine, so an exploration takes as many blocks whatever the programs' windows.
+#[test]
+fn an_exploration_takes_no_window(rt: HostRuntime) -> Result<(), Fail> {
+    let alike = blocks_of(&rt, rt.alloc(), [4096, 4096], 9)?[1];
+    assert!(rt; alike.is_some());
+    for (sizes, _) in &BLOCKS {
+        assert!(rt; blocks_of(&rt, rt.alloc(), *sizes, 9)?[1] == alike);
     }
     Ok(())
 }

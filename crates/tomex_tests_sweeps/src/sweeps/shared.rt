@@ -255,7 +255,7 @@ fn fronts_are_those_of_all_rows(rt: HostRuntime) -> Result<(), Fail> {
     Ok(())
 }
 
-/// Counts the rows, and the programs that are run on them.
+/// Counts the rows, and the programs that are new on them.
 #[derive(Drop)]
 struct Counting {
     rows: AtomicU64,
@@ -272,7 +272,7 @@ impl Gate for Counting {
     }
 }
 
-/// How many rows are taken, and how many programs are run, by one worker.
+/// The number of rows that one worker takes, and of the programs that are new to it on them.
 fn counted<R: AllocGlobal + Threads + Wait + Sync>(
     rt: &R,
     study: &Study,
@@ -311,18 +311,19 @@ fn dividers(alloc: Global, counts: u8) -> Result<Vec<Config>, Fail> {
     Ok(rows)
 }
 
-/// The study of that loop on those rows.
+/// The study of that loop, and of the plain one, on those rows.
 fn divided_study(alloc: Global, counts: u8) -> Result<Study, Fail> {
     let rows = dividers(alloc, counts)?;
-    let program = program_of(alloc, "products", PRODUCTS.as_slice(), 1)?;
-    study_on(alloc, vec![in alloc; program]?, rows)
+    let products = program_of(alloc, "products", PRODUCTS.as_slice(), 1)?;
+    let plain = program_of(alloc, "loop", LOOP.as_slice(), 1)?;
+    study_on(alloc, vec![in alloc; products, plain]?, rows)
 }
 
-/// The machine runs once where only a part differs that the program never uses, and each row has its turn, however
+/// Each of two programs is evaluated once if only a part differs that neither uses, and each row has its turn, however
 /// few they are.
 #[test]
 fn rows_that_cannot_differ_share_a_run(rt: HostRuntime) -> Result<(), Fail> {
-    assert!(rt; counted(&rt, &divided_study(rt.alloc(), 16)?)? == [64, 1]);
-    assert!(rt; counted(&rt, &divided_study(rt.alloc(), 1)?)? == [4, 1]);
+    assert!(rt; counted(&rt, &divided_study(rt.alloc(), 16)?)? == [64, 2]);
+    assert!(rt; counted(&rt, &divided_study(rt.alloc(), 1)?)? == [4, 2]);
     Ok(())
 }
