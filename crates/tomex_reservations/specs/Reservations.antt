@@ -19,9 +19,9 @@ pub record Reserved : Type 0 where
 abbrev pub bus_line : ℕ
 bus_line = 5
 
--- a cycle in which nothing is taken
+-- a cycle in which nothing is taken; there is room for two lines more
 abbrev pub free_slot : List ℕ
-free_slot = replicate 6 0
+free_slot = replicate 8 0
 
 -- how many are taken of a line in a cycle; past the table's end none are
 abbrev pub taken_at : Reserved → ℕ → ℕ → ℕ

@@ -20,8 +20,9 @@ const PAST: u64 = 1024;
 pub struct ReservationTable<A: Allocator> {
     /// The first cycle that it has.
     base: u64,
-    /// Of each cycle from there on. Past its end nothing is taken.
-    slots: Vec<[u8; 6], A>,
+    /// Of each cycle from there on. Past its end nothing is taken. Two of the eight lines are used by nothing: so a
+    /// cycle's place is found by a shift.
+    slots: Vec<[u8; 8], A>,
 }
 
 impl<A: Allocator> Model for ReservationTable<A> {
@@ -123,7 +124,7 @@ impl<A: Allocator> ReservationTable<A> {
         ensures same { (l t : ℕ) → taken_at self.new l t ≡ taken_at self.old l t }
     {
         if self.slots.len() <= place {
-            self.slots.resize(place.saturating_add(STRIDE), [0; 6])?;
+            self.slots.resize(place.saturating_add(STRIDE), [0; 8])?;
         }
         Ok(())
     }

@@ -1,7 +1,7 @@
 -- One step more: what is counted of its demands is what its needs say of them.
 use Rattle.std.proofs.Common.{ℕ, ◌+◌, ◌∙◌, ◌≡◌, [], ap, arith, refl, sym, Bool, true, false, List, Option, Some, None}
 use Rattle.std.proofs.Common.{map, take, zero, suc}
-use Rattle.std.specs.Prelude.{◌==◌, nat_lt, not, ◌||◌, slice_index_or}
+use Rattle.std.specs.Prelude.{◌==◌, max, nat_lt, not, ◌||◌, slice_index_or}
 use Rattle.std.proofs.Math.ListN.{get_or-map}
 use Rattle.std.proofs.Math.ListN.{set}
 use Rattle.std.proofs.lemmas.Bool.{lt-ltb, ne_eqb}
@@ -82,7 +82,8 @@ units_more None taken waited needs = refl
 units_more (Some unit) taken waited needs = part_asked needs (place_of_unit unit) taken waited
 
 pub demands_more : (f : Facts) (waits : Waits) (taken : Taken) (at : Times) (needs : Needs)
-    → demands_of (needs_after f waits taken at needs) ≡ demands_after f waits taken at (demands_of needs)
+    → demands_of (needs_after f waits taken at needs)
+    ≡ demands_after f waits taken (max at.end needs.total) (demands_of needs)
 demands_more f waits taken at needs =
     rw (
       stations_more f.pool taken.station waits.station needs.stations,
@@ -94,20 +95,28 @@ demands_more f waits taken at needs =
 pub demands_none : (config : Configuration) → AreDemands config [] nothing_asked
 demands_none config = record { needs = nothing_needed; are = needs_none config; same = refl }
 
--- the demands of a run's steps so far, after one more
+-- the demands of a run's steps so far are those that are noted, with the greatest end so far as the total
+abbrev pub with_total : ℕ → Demands → Demands
+with_total total demands = record demands { total = total }
+
+-- and after one more
 pub held_demands : (config : Configuration) (steps : List Step) (i : ℕ) (x : Step) (f : Facts) (latest : Latest)
     (table : Reserved) (taken : List ℕ) (accesses : List Access) (next : Next) (demands : Demands) (waits : Waits)
     (takes : Taken) → IsStep config steps i x f → IsShown (history config (take i steps)) latest table taken accesses
     → IsNextBy config latest table taken accesses f next
     → waits ≡ waits_by latest next.marks next.at → takes ≡ taken_from latest next
-    → AreDemands config (history config (take i steps)) demands
-    → AreDemands config (history config (take (i + 1) steps)) (demands_after f waits takes next.at demands)
+    → AreDemands config (history config (take i steps)) (with_total latest.end demands)
+    → AreDemands config (history config (take (i + 1) steps))
+    (with_total (max next.at.end latest.end) (demands_after f waits takes demands.total demands))
 held_demands config steps i x f latest table taken accesses next demands waits takes step shown by told took before =
+    let total : latest.end ≡ before.needs.total = ap (λ (d : Demands). d.total) before.same in
     record {
       needs = needs_after f waits takes next.at before.needs;
       are = held_needs config steps i x f latest table taken accesses next before.needs waits takes step shown by told
           took before.are;
-      same = rw before.same (sym (demands_more f waits takes next.at before.needs));
+      same = ap (λ (d : Demands). demands_after f waits takes (max next.at.end latest.end) d) before.same
+          ∙ (ap (λ (n : ℕ). demands_after f waits takes (max next.at.end n) (demands_of before.needs)) total
+          ∙ sym (demands_more f waits takes next.at before.needs));
     }
 
 -- the demand for a part is its peak, and whether it has stalls

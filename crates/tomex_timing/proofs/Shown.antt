@@ -46,7 +46,7 @@ pub record IsShown (h : List Done) (latest : Latest) (table : Reserved) (taken :
   pub finishes : AllByRecursion (λ a. a.finish ≤ greatest_end h) accesses
 
 nothing_at : (line t : ℕ) → line < 6 → taken_at (record { base = 0; slots = [] }) line t ≡ 0
-nothing_at line t l = get_or-replicate 6 line 0 0 l
+nothing_at line t l = get_or-replicate 8 line 0 0 (omega arith)
 
 place_low : (pool : PoolId) (n : ℕ) → n < 16 → station_place pool n < 96
 place_low pool n l = omega (arith, pool_in pool)

@@ -14,7 +14,6 @@ use Rattle.tomex_timing.specs.declared.part.Part.{Part}
 use Rattle.tomex_timing.specs.declared.part.Part.TheVariants.{Stations, Units, Buses, Width}
 use Rattle.tomex_timing.specs.declared.part.Waits.{Waits}
 use Rattle.tomex_timing.specs.declared.times.Done.{Done}
-use Rattle.tomex_timing.specs.declared.times.Times.{Times}
 use Rattle.tomex_timing.specs.declared.waiting.Taken.{Taken}
 use Rattle.tomex_timing.specs.declared.window.Facts.{Facts}
 use Rattle.tomex_timing.specs.Needs.{AreNeeds}
@@ -75,12 +74,12 @@ units_asked (Some unit) taken waited demands =
     slice_set demands (place_of_unit unit)
     (demand_after (slice_index_or demands (place_of_unit unit) no_demand) taken waited)
 
--- after one more step
-abbrev pub demands_after : Facts → Waits → Taken → Times → Demands → Demands
-demands_after f waits taken at demands = record {
+-- after one more step, with this total
+abbrev pub demands_after : Facts → Waits → Taken → ℕ → Demands → Demands
+demands_after f waits taken total demands = record {
   stations = stations_asked f.pool taken.station waits.station demands.stations;
   units = units_asked f.unit taken.unit waits.unit demands.units;
   buses = demand_after demands.buses taken.bus waits.bus;
   width = demand_after demands.width taken.width waits.width;
-  total = max at.end demands.total;
+  total = total;
 }

@@ -5,7 +5,6 @@ ghost use Rattle.tomex_timing.specs.Demands.{demand_after, demand_of, demands_af
 ghost use Rattle.tomex_timing.specs.Demands.{stations_asked, units_asked};
 
 use crate::part::{Part, Waits};
-use crate::times::Times;
 use crate::waiting::Taken;
 use crate::window::Facts;
 use tomex_rvdec::{PoolId, UnitId};
@@ -30,14 +29,17 @@ pub struct Demands {
 }
 
 impl Demand {
-    /// After one more step, which takes that much of the part at once and waits for it for that many cycles.
+    /// Notes a step that takes that much of the part at once and waits for it for that many cycles.
+    // Both are rare, so that a step costs two comparisons.
     #[inline(always)]
-    fn after(self, taken: u64, waited: u64) -> Demand
-        ensures { result ≡ demand_after self taken waited }
+    fn note(&mut self, taken: u64, waited: u64)
+        ensures { self.new ≡ demand_after self.old taken waited }
     {
-        Demand {
-            peak: taken.max(self.peak),
-            waits: self.waits || 0 < waited,
+        if self.peak < taken {
+            self.peak = taken;
+        }
+        if 0 < waited {
+            self.waits = true;
         }
     }
 }
@@ -48,8 +50,7 @@ fn note_station(demands: &mut [Demand; 6], pool: Option<PoolId>, taken: u64, wai
     ensures { demands.new ≡ stations_asked pool taken waited demands.old }
 {
     if let Some(pool) = pool {
-        let place = pool.place();
-        demands[place] = demands[place].after(taken, waited);
+        demands[pool.place()].note(taken, waited);
     }
 }
 
@@ -59,8 +60,7 @@ fn note_unit(demands: &mut [Demand; 5], unit: Option<UnitId>, taken: u64, waited
     ensures { demands.new ≡ units_asked unit taken waited demands.old }
 {
     if let Some(unit) = unit {
-        let place = unit.place();
-        demands[place] = demands[place].after(taken, waited);
+        demands[unit.place()].note(taken, waited);
     }
 }
 
@@ -94,14 +94,13 @@ impl Demands {
         }
     }
 
-    /// Notes a step with its waits and with what it takes.
+    /// Notes a step with its waits and with what it takes, but not in the total.
     #[inline(always)]
-    pub(crate) fn note(&mut self, facts: &Facts, waits: &Waits, taken: &Taken, at: &Times)
-        ensures { self.new ≡ demands_after facts.now waits.now taken.now at.now self.old }
+    pub(crate) fn note(&mut self, facts: &Facts, waits: &Waits, taken: &Taken)
+        ensures { self.new ≡ demands_after facts.now waits.now taken.now self.old.total self.old }
     {
-        self.buses = self.buses.after(taken.bus, waits.bus);
-        self.width = self.width.after(taken.width, waits.width);
-        self.total = at.end.max(self.total);
+        self.buses.note(taken.bus, waits.bus);
+        self.width.note(taken.width, waits.width);
         note_station(&mut self.stations, facts.pool, taken.station, waits.station);
         note_unit(&mut self.units, facts.unit, taken.unit, waits.unit);
     }

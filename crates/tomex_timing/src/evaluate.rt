@@ -129,9 +129,10 @@ pub(crate) fn demands_of<A: Allocator>(
         let next = next_step(config, &window, step);
         let waits = waits_of(&window.latest, &next);
         let taken = taken_by(&window.latest, &next);
-        demands.note(step, &waits, &taken, &next.at);
+        demands.note(step, &waits, &taken);
         window.keep(step, &next.at)?;
     }
+    demands.total = window.latest.end;
     Ok(demands)
 }
 

@@ -15,7 +15,7 @@ loop-step-init g c = λ steps are. record {
     c.new-window.ensures.stations,
     c.new-window.ensures.accesses,
   ) (start_shown c.args.config.now);
-  demands = rw c.none-demands.ensures (demands_none c.args.config.now);
+  demands = rw (c.none-demands.ensures, c.new-window.ensures.latest) (demands_none c.args.config.now);
 }
 
 pub next_step-next-requires-clause-registers : goal.next_step-next-requires-clause-registers
@@ -75,7 +75,7 @@ loop-step-preserved g c = λ steps are.
     before.shown c.next_step-next.ensures c.in_ok-keep.ensures.table in
     record {
       shown = rw (c.in_ok-keep.ensures.latest, c.in_ok-keep.ensures.stations, c.in_ok-keep.ensures.accesses) turn.0;
-      demands = rw c.note.ensures (held_demands c.args.config.now steps c.loop-step.step-index at.0 _ _ _ _ _
+      demands = rw (c.note.ensures, c.in_ok-keep.ensures.latest) (held_demands c.args.config.now steps c.loop-step.step-index at.0 _ _ _ _ _
           c.next_step-next.result c.loop-step.demands c.waits_of-waits.result c.taken_by-taken.result at.1 before.shown
           c.next_step-next.ensures c.waits_of-waits.ensures c.taken_by-taken.ensures before.demands);
     }

@@ -4,6 +4,7 @@ use Rattle.tomex_steps.specs.declared.step.Step.{Step}
 use Rattle.tomex_timing.specs.Demands.{AreDemands}
 use Rattle.tomex_timing.specs.Search.{history}
 use Rattle.tomex_timing.specs.Window.{AreFacts}
+use Rattle.tomex_timing.proofs.Demanded.{with_total}
 use Rattle.tomex_timing.proofs.Shown.{IsShown}
 use Rattle.tomex_timing.proofs.evaluate.demands_of.Given as goal
 
@@ -11,5 +12,5 @@ abbrev pub invariant-loop-step : goal.invariant-loop-step
 invariant-loop-step g l = (steps : List Step) → AreFacts steps l.facts → record {
   shown : IsShown (history l.config (take l.step-index steps)) l.window.latest l.window.table l.window.stations.ends
       l.window.accesses.items;
-  demands : AreDemands l.config (history l.config (take l.step-index steps)) l.demands;
+  demands : AreDemands l.config (history l.config (take l.step-index steps)) (with_total l.window.latest.end l.demands);
 }
