@@ -1,5 +1,5 @@
 -- What a row has made at a look, counted program by program.
-use Rattle.std.proofs.Common.{◌≡◌, ℕ, ◌+◌, ◌-◌, ◌*◌, ◌<◌, ◌≤◌, ◌^◌, arith, ap, sym, ◌∙◌, List, length, drop, get_or, All}
+use Rattle.std.proofs.Common.{◌≡◌, ℕ, ◌+◌, ◌-◌, ◌*◌, ◌<◌, ◌≤◌, arith, ap, sym, ◌∙◌, List, length, drop, get_or, All}
 use Rattle.std.proofs.Common.{min, subst, zero-add}
 use Rattle.std.proofs.Common.{Some, None, refl}
 use Rattle.std.specs.Prelude.{sum, ◌/◌}

@@ -4,7 +4,6 @@ use Rattle.std.proofs.Common.{get_or, Some, slice_get, refl, All, min, ◌<◌, 
 use Rattle.std.specs.Prelude.{sum}
 use Rattle.std.proofs.Math.Seq.{drop-cons}
 use Rattle.std.proofs.Math.Nat.{mul-le-mul, mul-le-mul_left, mul-le-mul_right}
-use Rattle.std.proofs.lemmas.List.Elements.{All-head, All-tail}
 use Rattle.std.proofs.lemmas.List.Sums.{sum-map, sum_by_more, sum_by-cons, sum_by-take-le, sum_by-le}
 use Rattle.std.proofs.lemmas.List.{drop_all, get_or-map, length-map, take_all}
 use Rattle.std.proofs.lemmas.Option.{get_or_from_slice_get, slice_get_read, slice_get_within}

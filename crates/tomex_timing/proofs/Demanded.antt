@@ -13,7 +13,6 @@ use Rattle.tomex_steps.specs.declared.step.Step.{Step}
 use Rattle.tomex_config.specs.Configuration.{Configuration}
 use Rattle.tomex_reservations.specs.Reservations.{Reserved}
 use Rattle.tomex_timing.specs.declared.accesses.Access.{Access}
-use Rattle.tomex_timing.specs.declared.demands.Demand.{Demand}
 use Rattle.tomex_timing.specs.declared.demands.Demands.{Demands}
 use Rattle.tomex_timing.specs.declared.needs.Needs.{Needs}
 use Rattle.tomex_timing.specs.declared.next.Next.{Next}
@@ -30,7 +29,7 @@ use Rattle.tomex_timing.specs.Ahead.{IsNextBy}
 use Rattle.tomex_timing.specs.Demands.{AreDemands, demand_after, demand_from, demand_of, demands_after, demands_of}
 use Rattle.tomex_timing.specs.Demands.{no_demand}
 use Rattle.tomex_timing.specs.Demands.{nothing_asked, stations_asked, units_asked}
-use Rattle.tomex_timing.specs.Needs.{AreNeeds, no_need, peak, stalls}
+use Rattle.tomex_timing.specs.Needs.{no_need, peak, stalls}
 use Rattle.tomex_timing.specs.History.{greatest_end}
 use Rattle.tomex_timing.specs.Search.{history}
 use Rattle.tomex_timing.specs.Waiting.{need_after, needs_after, nothing_needed, stations_after, units_after}

@@ -1,5 +1,5 @@
 -- A program's part is small, and counted; at the end all are.
-use Rattle.std.proofs.Common.{◌≡◌, ◌<◌, ◌≤◌, ◌∙◌, ap, arith, get_or, length, refl, sym}
+use Rattle.std.proofs.Common.{◌≡◌, ◌<◌, arith, length, refl}
 use Rattle.tomex_runs.proofs.Looking.{all_counted, none_counted, one_counted, part_small}
 use Rattle.tomex_runs.proofs.Totals.{as_many_totals}
 use Rattle.tomex_runs.proofs.known_row.weighed.Goals as goal

@@ -1,5 +1,5 @@
 -- One total more is found out, and learnt if it wasn't known; at the end all are.
-use Rattle.std.proofs.Common.{◌≡◌, ◌<◌, ◌≤◌, length, subst}
+use Rattle.std.proofs.Common.{◌<◌, ◌≤◌, length, subst}
 use Rattle.tomex_runs.specs.Knowledge.{IsKnowledge, KnowledgeOf}
 use Rattle.tomex_runs.proofs.Knowing.{all_learnt, as_many, one_more_learnt}
 use Rattle.tomex_runs.proofs.knowledge.Knowledge.learn.Goals as goal

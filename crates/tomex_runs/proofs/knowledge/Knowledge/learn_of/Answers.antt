@@ -1,7 +1,6 @@
 -- The list stays that of its program, and no other one is written.
 use Rattle.std.proofs.Common.{◌≡◌, ◌<◌, arith, length, refl}
 use Rattle.std.proofs.lemmas.Option.{slice_get_read}
-use Rattle.tomex_runs.specs.Knowledge.{IsKnowledge}
 use Rattle.tomex_runs.proofs.Knowing.{as_many, learnt_ok, learnt_one, learnt_total, only_there}
 use Rattle.tomex_runs.proofs.knowledge.Knowledge.learn_of.Goals as goal
 

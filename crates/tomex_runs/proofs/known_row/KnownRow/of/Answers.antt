@@ -1,9 +1,7 @@
 -- All the cycles that are made are the row's; the last look is before the end.
-use Rattle.std.proofs.Common.{◌≡◌, ◌≤◌, ◌∙◌, ap, arith, cond, Bool, refl, sym, Some, None}
-use Rattle.std.specs.Prelude.{sum, nat_lt}
-use Rattle.std.proofs.lemmas.Bool.{le-ltb, lt-ltb}
-use Rattle.tomex_runs.specs.Cycles.{plain_on, weighed}
-use Rattle.tomex_runs.specs.Looks.{last_look, made_at_last_look}
+use Rattle.std.proofs.Common.{◌≡◌, ◌≤◌, ◌∙◌, arith}
+use Rattle.std.specs.Prelude.{sum}
+use Rattle.tomex_runs.specs.Cycles.{plain_on}
 use Rattle.tomex_runs.proofs.Looking.{over_early, row_is, seen_late, sum_small}
 use Rattle.tomex_runs.proofs.Totals.{plain_sum}
 use Rattle.tomex_runs.proofs.known_row.KnownRow.of.Goals as goal

@@ -1,8 +1,6 @@
 -- One program's cycles more.
-use Rattle.std.proofs.Common.{◌∙◌, ◌≡◌, ◌≤◌, ap, arith, length, refl, sym}
-use Rattle.std.proofs.lemmas.Option.{slice_get_read}
-use Rattle.tomex_runs.specs.Cycles.{cycles_on}
-use Rattle.tomex_runs.proofs.Totals.{all_cycles, next_cycles, no_cycles}
+use Rattle.std.proofs.Common.{arith, sym}
+use Rattle.tomex_runs.proofs.Totals.{next_cycles, no_cycles}
 use Rattle.tomex_runs.proofs.runs.Runs.cycles.Goals as goal
 
 pub loop-program-init : goal.loop-program-init
