@@ -1,7 +1,9 @@
 -- What a command line that asks for no command comes to.
-use Rattle.std.specs.Prelude.{ℕ, ◌≢◌, ◌≡◌, ◌⊎◌, ◌++◌, ◌∷◌, List, [], codes}
+use Rattle.std.specs.Prelude.{String, ℕ, ◌≢◌, ◌≡◌, ◌⊎◌, ◌++◌, ◌∷◌, List, [], codes}
+use Rattle.std.specs.Global.{Global}
 use Rattle.clap.specs.Values.{kind_of}
 use Rattle.clap.specs.declared.error.Error.{Error}
+use Rattle.clap.specs.declared.error.kind.ErrorKind.{ErrorKind}
 use Rattle.clap.specs.declared.error.kind.ErrorKind.TheVariants.{DisplayHelp, DisplayVersion, OutOfMemory}
 use Rattle.tomex_arguments.specs.declared.fault.LineFault.{LineFault}
 use Rattle.tomex_arguments.specs.declared.fault.LineFault.TheVariants.{Help, Usage, Memory}
@@ -12,19 +14,30 @@ status_of (Help text) = 0
 status_of (Usage text) = 2
 status_of Memory = 3
 
--- the fault tells the parser's error: help and the version as help, want of memory as no refused line;
--- memory may also be wanting for the text itself
+-- what an error of a kind comes to, by its text
+abbrev pub explained_by : ErrorKind → String Global → LineFault
+explained_by OutOfMemory said = Memory
+explained_by DisplayHelp said = Help said
+explained_by DisplayVersion said = Help said
+explained_by _ said = Usage said
+
+-- the fault says what the parser's error does: help and the version as help, out of memory as no refused line;
+-- there may be no memory for the text itself
 abbrev pub StandsFor : Error → LineFault → Type 0
 StandsFor error (Help text) = (kind_of error ≡ DisplayHelp) ⊎ (kind_of error ≡ DisplayVersion)
 StandsFor error (Usage text) =
     (kind_of error ≢ DisplayHelp) × (kind_of error ≢ DisplayVersion) × (kind_of error ≢ OutOfMemory)
 StandsFor error Memory = Unit {0}
 
--- a line is refused, or memory: it did not ask for help
+-- a line is refused only if this is so; or memory was: it did not ask for help
+abbrev pub IsRefusedIf : Type 0 → LineFault → Type 0
+IsRefusedIf why (Help text) = ⊥
+IsRefusedIf why (Usage text) = why
+IsRefusedIf why Memory = Unit {0}
+
+-- a line is refused, or memory
 abbrev pub IsRefusal : LineFault → Type 0
-IsRefusal (Help text) = ⊥
-IsRefusal (Usage text) = Unit {0}
-IsRefusal Memory = Unit {0}
+IsRefusal fault = IsRefusedIf (Unit {0}) fault
 
 -- what is said of a line whose words are not all text
 abbrev pub not_text : List ℕ

@@ -1,5 +1,5 @@
 -- The values of a line, by the rows of what `clap` is specified to find in its words.
-use Rattle.std.specs.Prelude.{◌≡◌, ℕ, Bool, true, false, List, codes, Some, None, Ok}
+use Rattle.std.specs.Prelude.{◌≡◌, ◌≤◌, ℕ, Bool, true, false, List, codes, Some, None, Ok}
 use Rattle.std.specs.Str.Parse.{ParsesUnsigned}
 use Rattle.std.specs.declared.num.ParseIntError.{ParseIntError}
 use Rattle.clap.specs.Words.{Row, Text, first_of, one_of}
@@ -8,12 +8,13 @@ use Rattle.clap.specs.Words.{Row, Text, first_of, one_of}
 abbrev pub IsWord : List Row → Text → List ℕ → Type 0
 IsWord rows name word = first_of name rows ≡ Some word
 
--- the number that was found for an argument, or its default, in decimal
-abbrev pub IsNumber : List Row → Text → ℕ → Type 0
-IsNumber rows name number =
+-- the number that was found for an argument, or its default: in decimal, and within these bounds
+abbrev pub IsNumber : List Row → Text → ℕ → ℕ → ℕ → Type 0
+IsNumber rows name least greatest number =
     (text : Text) × (one_of name rows ≡ Some text) × ParsesUnsigned {E = ParseIntError} 32 10 text (Ok number)
+    × (least ≤ number) × (number ≤ greatest)
 
--- whether a flag was found: `clap` keeps its value as a text, which is `false` where it wasn't given
+-- whether a flag was found: `clap` keeps its value as a text, which is `false` if it wasn't given
 pub record IsFlag (rows : List Row) (name : Text) (given : Bool) : Type 0 where
   pub yes : one_of name rows ≡ Some (codes "true") → given ≡ true
   pub no : one_of name rows ≡ Some (codes "false") → given ≡ false

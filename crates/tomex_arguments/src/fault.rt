@@ -1,7 +1,7 @@
 //! A command line that asks for no command, and why.
-ghost use Rattle.std.specs.Prelude.{◌≡◌};
-ghost use Rattle.tomex_arguments.specs.Faults.{IsRefusal, StandsFor, status_of};
-ghost use Rattle.tomex_arguments.specs.declared.fault.LineFault.TheVariants.{Memory};
+ghost use Rattle.std.specs.Prelude.{◌≡◌, IfOk, OnErr};
+ghost use Rattle.tomex_arguments.specs.Faults.{IsRefusal, StandsFor, explained_by, status_of};
+ghost use Rattle.tomex_arguments.specs.declared.fault.LineFault.TheVariants.{Memory, Usage};
 
 use clap::error::ErrorKind;
 use std::alloc::{AllocError, Global};
@@ -18,7 +18,7 @@ pub enum LineFault {
 }
 
 impl LineFault {
-    /// The exit status: 0 for help, 2 for a refused line, 3 for want of memory.
+    /// The exit status: 0 for help, 2 for a refused line, 3 if it ran out of memory.
     pub fn status(&self) -> u8
         ensures { result ≡ status_of self.now }
     {
@@ -38,26 +38,43 @@ impl From<AllocError> for LineFault {
     }
 }
 
-/// A line is refused for this part of it.
-pub fn refused(alloc: Global, name: &str) -> LineFault
-    ensures { IsRefusal result }
+/// A refused line, by what is said of it. Out of memory only if there was none for that text.
+pub(crate) fn mistake(text: Result<String, AllocError>) -> LineFault
+    ensures said { IfOk text (λ said. result ≡ Usage said) }
+    ensures unsaid { OnErr text (result ≡ Memory) }
 {
-    match format!(in alloc; "error: {name} missing or out of range\n") {
-        Ok(text) => LineFault::Usage(text),
+    match text {
+        Ok(said) => LineFault::Usage(said),
         Err(_) => LineFault::Memory,
     }
 }
 
-/// What an error of the parser says. Want of memory, also for the text itself, is no refused line.
+/// A line is refused for this part of it.
+pub fn refused(alloc: Global, name: &str) -> LineFault
+    ensures { IsRefusal result }
+{
+    mistake(format!(in alloc; "error: {name} missing or out of range\n"))
+}
+
+/// What an error of this kind comes to, by its text. Out of memory only if that is its kind, or if there was no
+/// memory for the text.
+fn explained(kind: ErrorKind, text: Result<String, AllocError>) -> LineFault
+    ensures said { IfOk text (λ said. result ≡ explained_by kind said) }
+    ensures unsaid { OnErr text (result ≡ Memory) }
+{
+    let Ok(said) = text else {
+        return LineFault::Memory;
+    };
+    match kind {
+        ErrorKind::OutOfMemory => LineFault::Memory,
+        ErrorKind::DisplayHelp | ErrorKind::DisplayVersion => LineFault::Help(said),
+        _ => LineFault::Usage(said),
+    }
+}
+
+/// What an error of the parser comes to: help or the version, a refused line, or out of memory.
 pub fn fault_of(alloc: Global, error: &clap::Error) -> LineFault
     ensures { StandsFor error.now result }
 {
-    if error.kind() == ErrorKind::OutOfMemory {
-        return LineFault::Memory;
-    }
-    match format!(in alloc; "{error}") {
-        Ok(text) if error.use_stderr() => LineFault::Usage(text),
-        Ok(text) => LineFault::Help(text),
-        Err(_) => LineFault::Memory,
-    }
+    explained(error.kind(), format!(in alloc; "{error}"))
 }

@@ -3,7 +3,7 @@ ghost use Rattle.std.specs.Prelude.{◌≡◌, true, false, string_bytes, IfOk, 
 ghost use Rattle.tomex_arguments.specs.Faults.{not_text};
 ghost use Rattle.tomex_arguments.specs.declared.fault.LineFault.TheVariants as fault;
 
-use crate::fault::LineFault;
+use crate::fault::{LineFault, mistake};
 use std::alloc::{AllocError, Global};
 
 /// What is said of a line with a word that is no UTF-8 text.
@@ -13,15 +13,16 @@ pub fn not_text(alloc: Global) -> Result<String, AllocError>
     String::from_str(alloc, "error: the command line is not UTF-8\n")
 }
 
-/// Why the words weren't got: for want of memory, or else since one of them is no text, which is a
-/// mistake in the line; what is said of that may have found no memory itself.
+/// Why the words weren't got: out of memory, or else since one of them is no text, which is a mistake in
+/// the line; there may have been no memory for what is said of that.
 pub fn unread(wants_memory: bool, said: Result<String, AllocError>) -> LineFault
     ensures memory { wants_memory ≡ true → result ≡ fault.Memory }
     ensures said { wants_memory ≡ false → IfOk said (λ text. result ≡ fault.Usage text) }
     ensures unsaid { IfErr said (λ e. result ≡ fault.Memory) }
 {
-    match said {
-        Ok(text) if !wants_memory => LineFault::Usage(text),
-        _ => LineFault::Memory,
+    if wants_memory {
+        LineFault::Memory
+    } else {
+        mistake(said)
     }
 }

@@ -1,6 +1,6 @@
 //! The values of a line, as `clap` read them.
-ghost use Rattle.std.specs.Prelude.{◌≡◌, ◌≤◌, IfOk, IfErr};
-ghost use Rattle.tomex_arguments.specs.Faults.{IsRefusal};
+ghost use Rattle.std.specs.Prelude.{ℕ, List, IfOk, IfErr};
+ghost use Rattle.tomex_arguments.specs.Faults.{IsRefusedIf};
 ghost use Rattle.clap.specs.Words.{found_of};
 ghost use Rattle.clap.specs.Walk.{rows_of};
 ghost use Rattle.tomex_arguments.specs.Values.{IsFlag, IsNumber, IsWord};
@@ -25,9 +25,9 @@ pub fn number_of(
     bounds: Bounds,
 ) -> Result<u32, LineFault>
     ensures number { IfOk result
-        (λ number. IsNumber (rows_of (found_of matches.now)) name.now number) }
-    ensures within { IfOk result (λ number. (bounds.least ≤ number) × (number ≤ bounds.greatest)) }
-    ensures refused { IfErr result IsRefusal }
+        (λ number. IsNumber (rows_of (found_of matches.now)) name.now bounds.least bounds.greatest number) }
+    ensures refused { IfErr result (IsRefusedIf ((number : ℕ)
+        → IsNumber (rows_of (found_of matches.now)) name.now bounds.least bounds.greatest number → ⊥)) }
 {
     match matches.get_one::<u32>(name) {
         Some(number) if bounds.least <= number && number <= bounds.greatest => Ok(number),
@@ -42,7 +42,8 @@ pub fn word_of<'a>(
     name: &str,
 ) -> Result<&'a str, LineFault>
     ensures word { IfOk result (λ word. IsWord (rows_of (found_of matches.now)) name.now word.now) }
-    ensures refused { IfErr result IsRefusal }
+    ensures refused { IfErr result (IsRefusedIf ((word : List ℕ)
+        → IsWord (rows_of (found_of matches.now)) name.now word → ⊥)) }
 {
     match matches.get_str(name) {
         Some(text) => Ok(text),

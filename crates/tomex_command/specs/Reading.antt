@@ -1,6 +1,10 @@
 -- Files that are read one after another.
-use Rattle.std.specs.Prelude.{◌≡◌, ℕ, List, [], ◌∷◌, take, slice_get, Some, string_bytes}
+use Rattle.std.specs.Prelude.{◌≡◌, ℕ, List, [], ◌∷◌, take, slice_get, Some, String, string_bytes}
+use Rattle.std.specs.Global.{Global}
 use Rattle.tomex_streams.specs.Files.{Told, IsRead, IsMissing}
+use Rattle.tomex_streams.specs.declared.files.ReadFault.{ReadFault}
+use Rattle.tomex_streams.specs.declared.files.ReadFault.TheVariants.{NoFile}
+use Rattle.tomex_streams.specs.declared.files.ReadFault.TheVariants as faults
 use Rattle.tomex_command.specs.declared.failure.Failure.{Failure}
 use Rattle.tomex_command.specs.declared.failure.Failure.TheVariants.{CannotRead, Memory}
 
@@ -15,6 +19,11 @@ abbrev pub IsUnread : (List ℕ → Told) → List ℕ → Failure → Type 0
 IsUnread file name (CannotRead missing) = (string_bytes missing ≡ name) × IsMissing (file name)
 IsUnread file name Memory = Unit {0}
 IsUnread file name _ = ⊥
+
+-- what is reported of a file that was not read, by its name
+abbrev pub unread_as : ReadFault → String Global → Failure
+unread_as NoFile name = CannotRead name
+unread_as faults.Memory name = Memory
 
 -- a file is the first of these names that can't be read
 pub record IsFirstMissing (file : List ℕ → Told) (names : List (List ℕ)) (missing : List ℕ) : Type 0 where

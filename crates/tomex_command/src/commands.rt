@@ -18,7 +18,7 @@ pub mod times;
 
 use crate::failure::Failure;
 use crate::heaps::Heaps;
-use crate::telling::{tell, tell_line_fault};
+use crate::telling::{report_failure, report_line_fault};
 use all::text_of_all;
 use explore::text_of_front;
 use pipeline::text_of_pipeline;
@@ -127,8 +127,8 @@ pub fn command<
     match read_line(texts, words) {
         Ok(line) => match carry_out(rt, images, texts, line, files, meter, out) {
             Ok(()) => 0,
-            Err(failure) => tell(texts, &failure, err),
+            Err(failure) => report_failure(texts, &failure, err),
         },
-        Err(fault) => tell_line_fault(&fault, out, err),
+        Err(fault) => report_line_fault(&fault, out, err),
     }
 }

@@ -1,4 +1,4 @@
-//! What the program does: each command's text, what is told of failures, and a whole run of the program
+//! What the program does: each command's text, what is reported of failures, and a whole run of the program
 //! over any files and sinks.
 #![tactic(auto)]
 
@@ -6,11 +6,13 @@ mod commands;
 mod failure;
 mod heaps;
 mod metered;
+mod process;
 mod run;
 mod telling;
 
 pub use commands::command;
 pub use failure::Failure;
 pub use heaps::Heaps;
+pub use process::{run_of, run_words};
 pub use run::{RunRefusal, run_text};
-pub use telling::tell_line_fault;
+pub use telling::{report_failure, report_line_fault};

@@ -1,6 +1,7 @@
 //! What is said on the streams where there is no result.
-ghost use Rattle.std.specs.Prelude.{◌≡◌, codes, IfOk, string_bytes};
+ghost use Rattle.std.specs.Prelude.{◌≡◌, codes, IfOk, OnErr, string_bytes};
 ghost use Rattle.tomex_streams.specs.Sinks.{IsWritten};
+ghost use Rattle.tomex_command.specs.Statuses.{status_of_failure};
 ghost use Rattle.tomex_command.specs.Telling.{IsTextOf, IsLineOf, IsFailureTold, IsSaid, IsTold, line_of};
 
 use crate::failure::Failure;
@@ -9,41 +10,41 @@ use tomex_line::LineFault;
 use tomex_streams::{Sink, shown, write_all_of};
 
 /// Writes a text as far as the sink takes it.
-fn say<W: Sink>(sink: &mut W, text: &[u8])
+fn write_text<W: Sink>(sink: &mut W, text: &[u8])
     ensures { IsWritten text.now (W.seen sink.old) (W.seen sink.new) }
 {
     let _ = write_all_of(sink, text);
 }
 
-/// Says `out of memory`.
-fn say_out_of_memory<E: Sink>(err: &mut E)
+/// Writes that memory was refused.
+fn write_out_of_memory<E: Sink>(err: &mut E)
     ensures { IsWritten (line_of (codes "out of memory")) (E.seen err.old) (E.seen err.new) }
 {
-    say(err, "tomex: out of memory\n".as_bytes());
+    write_text(err, "tomex: out of memory\n".as_bytes());
 }
 
-/// Says that the standard output failed.
-fn say_cannot_write<E: Sink>(err: &mut E)
+/// Writes that the standard output failed.
+fn write_cannot_write<E: Sink>(err: &mut E)
     ensures { IsWritten (line_of (codes "cannot write")) (E.seen err.old) (E.seen err.new) }
 {
-    say(err, "tomex: cannot write\n".as_bytes());
+    write_text(err, "tomex: cannot write\n".as_bytes());
 }
 
-/// Tells why a line asks for no command, and answers the exit status: help on the output, all else on
+/// Reports why a line asks for no command, and answers the exit status: help on the output, all else on
 /// the error stream. A failed write to the error stream changes no status.
-pub fn tell_line_fault<O: Sink, E: Sink>(fault: &LineFault, out: &mut O, err: &mut E) -> u8
+pub fn report_line_fault<O: Sink, E: Sink>(fault: &LineFault, out: &mut O, err: &mut E) -> u8
     ensures told { IsTold fault.now result (O.seen out.old) (O.seen out.new) }
     ensures said { IsSaid fault.now result (E.seen err.old) (E.seen err.new) }
 {
     match fault {
         LineFault::Help(text) => {
             if write_all_of(out, text.as_bytes()).is_err() {
-                say_cannot_write(err);
+                write_cannot_write(err);
                 return 3;
             }
         }
-        LineFault::Usage(text) => say(err, text.as_bytes()),
-        LineFault::Memory => say_out_of_memory(err),
+        LineFault::Usage(text) => write_text(err, text.as_bytes()),
+        LineFault::Memory => write_out_of_memory(err),
     }
     fault.status()
 }
@@ -79,19 +80,29 @@ fn line_of(heap: Global, failure: &Failure) -> Result<String, AllocError>
     format!(in heap; "tomex: {text}\n")
 }
 
-/// Tells a failure on the standard error, and gives its status. A line that can't be written
-/// changes no status; one that there is no memory for becomes `out of memory`.
-pub fn tell<E: Sink>(heap: Global, failure: &Failure, err: &mut E) -> u8
-    ensures { IsFailureTold failure.now result (E.seen err.old) (E.seen err.new) }
+/// Writes a failure's line, and answers its status. If there was no memory for the line, it says that in its place.
+fn report_line<E: Sink>(line: Result<String, AllocError>, failure: &Failure, err: &mut E) -> u8
+    ensures line { IfOk line (λ line. (result ≡ status_of_failure failure.now)
+        × IsWritten (string_bytes line) (E.seen err.old) (E.seen err.new)) }
+    ensures no_line { OnErr line ((result ≡ 3)
+        × IsWritten (line_of (codes "out of memory")) (E.seen err.old) (E.seen err.new)) }
 {
-    match line_of(heap, failure) {
+    match line {
         Ok(line) => {
-            say(err, line.as_bytes());
+            write_text(err, line.as_bytes());
             failure.status()
         }
         Err(_) => {
-            say_out_of_memory(err);
+            write_out_of_memory(err);
             3
         }
     }
+}
+
+/// Reports a failure on the standard error, and answers its status. A line that can't be written changes no status;
+/// one that there is no memory for becomes `out of memory`.
+pub fn report_failure<E: Sink>(heap: Global, failure: &Failure, err: &mut E) -> u8
+    ensures { IsFailureTold failure.now result (E.seen err.old) (E.seen err.new) }
+{
+    report_line(line_of(heap, failure), failure, err)
 }

@@ -1,6 +1,6 @@
 //! The log of some steps of a run on one configuration.
 
-ghost use Rattle.std.specs.Prelude.{◌≡◌, ◌+◌, ◌-◌, ◌<◌, ◌^◌, ◌++◌, All, length, IfErr, IfOk, OnOk, string_bytes};
+ghost use Rattle.std.specs.Prelude.{◌≡◌, ◌+◌, ◌-◌, ◌<◌, ◌^◌, ◌++◌, All, length, IfErr, IfOk, IsErrOf, OnOk, string_bytes};
 ghost use Rattle.tomex_rvexec.specs.Run.{start_of};
 ghost use Rattle.tomex_rvexec.specs.Trace.{steps_from};
 ghost use Rattle.tomex_timing.specs.Search.{total_of};
@@ -164,6 +164,8 @@ pub fn konata_text<A: Allocator + Clone>(
         (steps_from program.now.limit (start_of program.now.image)) number count text.items) }
     ensures refused { IfErr result (λ error. IsUnlogged
         (steps_from program.now.limit (start_of program.now.image)) number error) }
+    ensures no_step { length (steps_from program.now.limit (start_of program.now.image)) < number
+        → IsErrOf result LogError.NoSuchStep }
 {
     let steps = program.steps();
     if steps.len() < number as usize {

@@ -1,6 +1,7 @@
 -- What a command line asks for, by the values that `clap` is specified to find in its words.
-use Rattle.std.specs.Prelude.{◌≡◌, ◌⊎◌, List, codes, Option, Some}
+use Rattle.std.specs.Prelude.{◌≡◌, ◌≢◌, ◌⊎◌, List, codes, Option, Some}
 use Rattle.clap.specs.Words.{IsAmong, Row, Text, fault_of, subcommand_of}
+use Rattle.clap.specs.declared.error.kind.ErrorKind.{ErrorKind}
 use Rattle.clap.specs.declared.error.kind.ErrorKind.TheVariants.{DisplayHelp, DisplayVersion}
 use Rattle.tomex_line.specs.declared.line.Line.{Line}
 use Rattle.tomex_line.specs.declared.line.Line.TheVariants.{Run, Times, Stalls, Pipeline, Tables}
@@ -44,8 +45,17 @@ IsAsked words line = IsCommand (subcommand_of tomex_app words) line
 abbrev pub IsHelpAsked : List Text → Type 0
 IsHelpAsked words = IsAmong DisplayHelp (fault_of tomex_app words) ⊎ IsAmong DisplayVersion (fault_of tomex_app words)
 
--- where a line is no command: help comes only where it is asked for
+-- the parser's rules refuse the words: for another kind of error than help and the version
+abbrev pub AreRefused : List Text → Type 0
+AreRefused words = (kind : ErrorKind) × IsAmong kind (fault_of tomex_app words)
+    × (kind ≢ DisplayHelp) × (kind ≢ DisplayVersion)
+
+-- the words ask for no line
+abbrev pub IsNoLineAsked : Option (Text × List Row) → Type 0
+IsNoLineAsked found = (line : Line) → IsCommand found line → ⊥
+
+-- why a line is no command: help is asked for, the parser's rules refuse it, or it asks for nothing within bounds
 abbrev pub IsNoCommand : List Text → LineFault → Type 0
 IsNoCommand words (Help text) = IsHelpAsked words
-IsNoCommand words (Usage text) = Unit {0}
+IsNoCommand words (Usage text) = AreRefused words ⊎ IsNoLineAsked (subcommand_of tomex_app words)
 IsNoCommand words Memory = Unit {0}

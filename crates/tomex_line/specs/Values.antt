@@ -1,4 +1,5 @@
--- The values that each command asks for, by the rows of what `clap` is specified to find in a line's words.
+-- The values that each command asks for, by the rows of what `clap` is specified to find in a line's words; and that
+-- the rows ask for none.
 use Rattle.std.specs.Prelude.{ℕ, Bool, List, codes}
 use Rattle.clap.specs.Words.{Row}
 use Rattle.tomex_arguments.specs.Values.{IsFlag, IsNumber, IsWord}
@@ -6,46 +7,70 @@ use Rattle.tomex_arguments.specs.Values.{IsFlag, IsNumber, IsWord}
 -- the values of `run`
 pub record IsRunAsked (rows : List Row) (image : List ℕ) (base size limit : ℕ) : Type 0 where
   pub is_image : IsWord rows (codes "IMAGE") image
-  pub is_base : IsNumber rows (codes "base") base
-  pub is_size : IsNumber rows (codes "size") size
-  pub is_limit : IsNumber rows (codes "limit") limit
+  pub is_base : IsNumber rows (codes "base") 0 4294967292 base
+  pub is_size : IsNumber rows (codes "size") 4 1048576 size
+  pub is_limit : IsNumber rows (codes "limit") 1 262144 limit
+
+abbrev pub IsNoRun : List Row → Type 0
+IsNoRun rows = (image : List ℕ) (base size limit : ℕ) → IsRunAsked rows image base size limit → ⊥
 
 -- the values of `times`
 pub record IsTimesAsked (rows : List Row) (study : List ℕ) (config : ℕ) (program : List ℕ) : Type 0 where
   pub is_study : IsWord rows (codes "STUDY") study
-  pub is_config : IsNumber rows (codes "CONFIG") config
+  pub is_config : IsNumber rows (codes "CONFIG") 0 16383 config
   pub is_program : IsWord rows (codes "PROGRAM") program
+
+abbrev pub IsNoTimes : List Row → Type 0
+IsNoTimes rows = (study : List ℕ) (config : ℕ) (program : List ℕ) → IsTimesAsked rows study config program → ⊥
 
 -- the values of `stalls`
 pub record IsStallsAsked (rows : List Row) (study : List ℕ) (config : ℕ) (program : List ℕ)
     (by_pc : Bool) : Type 0 where
   pub is_study : IsWord rows (codes "STUDY") study
-  pub is_config : IsNumber rows (codes "CONFIG") config
+  pub is_config : IsNumber rows (codes "CONFIG") 0 16383 config
   pub is_program : IsWord rows (codes "PROGRAM") program
   pub is_by_pc : IsFlag rows (codes "by-pc") by_pc
+
+abbrev pub IsNoStalls : List Row → Type 0
+IsNoStalls rows = (study : List ℕ) (config : ℕ) (program : List ℕ) (by_pc : Bool)
+    → IsStallsAsked rows study config program by_pc → ⊥
 
 -- the values of `pipeline`
 pub record IsPipelineAsked (rows : List Row) (study : List ℕ) (config : ℕ) (program : List ℕ) (from steps : ℕ)
     (konata : Bool) : Type 0 where
   pub is_study : IsWord rows (codes "STUDY") study
-  pub is_config : IsNumber rows (codes "CONFIG") config
+  pub is_config : IsNumber rows (codes "CONFIG") 0 16383 config
   pub is_program : IsWord rows (codes "PROGRAM") program
-  pub is_from : IsNumber rows (codes "from") from
-  pub is_steps : IsNumber rows (codes "steps") steps
+  pub is_from : IsNumber rows (codes "from") 1 262144 from
+  pub is_steps : IsNumber rows (codes "steps") 1 262144 steps
   pub is_konata : IsFlag rows (codes "konata") konata
+
+abbrev pub IsNoPipeline : List Row → Type 0
+IsNoPipeline rows = (study : List ℕ) (config : ℕ) (program : List ℕ) (from steps : ℕ) (konata : Bool)
+    → IsPipelineAsked rows study config program from steps konata → ⊥
 
 -- the values of `tables`
 pub record IsTablesAsked (rows : List Row) (study : List ℕ) (config : ℕ) (program : List ℕ) (cycle : ℕ) : Type 0 where
   pub is_study : IsWord rows (codes "STUDY") study
-  pub is_config : IsNumber rows (codes "CONFIG") config
+  pub is_config : IsNumber rows (codes "CONFIG") 0 16383 config
   pub is_program : IsWord rows (codes "PROGRAM") program
-  pub is_cycle : IsNumber rows (codes "CYCLE") cycle
+  pub is_cycle : IsNumber rows (codes "CYCLE") 0 17563648 cycle
+
+abbrev pub IsNoTables : List Row → Type 0
+IsNoTables rows = (study : List ℕ) (config : ℕ) (program : List ℕ) (cycle : ℕ)
+    → IsTablesAsked rows study config program cycle → ⊥
 
 -- the value of `all`
 abbrev pub IsAllAsked : List Row → List ℕ → Type 0
 IsAllAsked rows study = IsWord rows (codes "STUDY") study
 
+abbrev pub IsNoAll : List Row → Type 0
+IsNoAll rows = (study : List ℕ) → IsAllAsked rows study → ⊥
+
 -- the values of `explore`
 pub record IsExploreAsked (rows : List Row) (study : List ℕ) (workers : ℕ) : Type 0 where
   pub is_study : IsWord rows (codes "STUDY") study
-  pub is_workers : IsNumber rows (codes "workers") workers
+  pub is_workers : IsNumber rows (codes "workers") 1 32 workers
+
+abbrev pub IsNoExplore : List Row → Type 0
+IsNoExplore rows = (study : List ℕ) (workers : ℕ) → IsExploreAsked rows study workers → ⊥

@@ -3,11 +3,11 @@
 //! Each command has a file here with two functions: `grammar`, what `clap` is to read and to say in
 //! its help, and `line_of`, what was read. A further command is a further file, a variant of `Line`
 //! and a line in each of `grammar` and `line_of` below.
-ghost use Rattle.std.specs.Prelude.{◌≡◌, IfOk, IfErr, map, string_bytes};
-ghost use Rattle.tomex_arguments.specs.Faults.{IsRefusal};
+ghost use Rattle.std.specs.Prelude.{◌≡◌, [], IfOk, IfErr, map, string_bytes};
+ghost use Rattle.tomex_arguments.specs.Faults.{IsRefusedIf};
 ghost use Rattle.tomex_line.specs.Grammar.{bare_app, tomex_app};
-ghost use Rattle.clap.specs.Words.{app_of, subcommand_rows_of};
-ghost use Rattle.tomex_line.specs.Asked.{IsCommand, IsAsked, IsNoCommand};
+ghost use Rattle.clap.specs.Words.{app_of, fault_of as faults_of, subcommand_rows_of};
+ghost use Rattle.tomex_line.specs.Asked.{IsCommand, IsAsked, IsNoCommand, IsNoLineAsked};
 
 pub mod all;
 mod described;
@@ -106,28 +106,18 @@ fn grammar<'a>(alloc: Global) -> Result<Command<'a>, AllocError>
 /// What the command asks for that the parser found.
 fn line_of<'a>(alloc: Global, matches: &ArgMatches<'a>) -> Result<Line<'a>, LineFault>
     ensures command { IfOk result (λ line. IsCommand (subcommand_rows_of matches.now) line) }
-    ensures refused { IfErr result IsRefusal }
+    ensures refused { IfErr result (IsRefusedIf (IsNoLineAsked (subcommand_rows_of matches.now))) }
 {
     match matches.subcommand() {
-        Some(("run", inner)) => run::line_of(alloc, inner).map(Line::Run),
-        Some(("times", inner)) => times::line_of(alloc, inner).map(Line::Times),
-        Some(("stalls", inner)) => stalls::line_of(alloc, inner).map(Line::Stalls),
-        Some(("pipeline", inner)) => pipeline::line_of(alloc, inner).map(Line::Pipeline),
-        Some(("tables", inner)) => tables::line_of(alloc, inner).map(Line::Tables),
-        _ => study_line_of(alloc, matches),
-    }
-}
-
-/// What a command asks for that explores a study.
-fn study_line_of<'a>(alloc: Global, matches: &ArgMatches<'a>) -> Result<Line<'a>, LineFault>
-    ensures command { IfOk result (λ line. IsCommand (subcommand_rows_of matches.now) line) }
-    ensures refused { IfErr result IsRefusal }
-{
-    match matches.subcommand() {
-        Some(("all", inner)) => all::line_of(alloc, inner).map(Line::All),
-        Some(("explore", inner)) => explore::line_of(alloc, inner).map(Line::Explore),
-        Some(("front", inner)) => explore::line_of(alloc, inner).map(Line::Front),
-        Some(("plot", inner)) => explore::line_of(alloc, inner).map(Line::Plot),
+        Some(("run", inner)) => Ok(Line::Run(run::line_of(alloc, inner)?)),
+        Some(("times", inner)) => Ok(Line::Times(times::line_of(alloc, inner)?)),
+        Some(("stalls", inner)) => Ok(Line::Stalls(stalls::line_of(alloc, inner)?)),
+        Some(("pipeline", inner)) => Ok(Line::Pipeline(pipeline::line_of(alloc, inner)?)),
+        Some(("tables", inner)) => Ok(Line::Tables(tables::line_of(alloc, inner)?)),
+        Some(("all", inner)) => Ok(Line::All(all::line_of(alloc, inner)?)),
+        Some(("explore", inner)) => Ok(Line::Explore(explore::line_of(alloc, inner)?)),
+        Some(("front", inner)) => Ok(Line::Front(explore::line_of(alloc, inner)?)),
+        Some(("plot", inner)) => Ok(Line::Plot(explore::line_of(alloc, inner)?)),
         _ => Err(refused(alloc, "command")),
     }
 }
@@ -135,6 +125,7 @@ fn study_line_of<'a>(alloc: Global, matches: &ArgMatches<'a>) -> Result<Line<'a>
 /// Reads a command line, the program's own name first.
 pub fn read_line<'a>(alloc: Global, words: &'a [String]) -> Result<Line<'a>, LineFault>
     ensures asked { IfOk result (λ line. IsAsked (map string_bytes words.now) line) }
+    ensures accepted { IfOk result (λ _. faults_of tomex_app (map string_bytes words.now) ≡ []) }
     ensures no_command { IfErr result (λ fault. IsNoCommand (map string_bytes words.now) fault) }
 {
     match grammar(alloc)?.try_get_matches_from(words) {

@@ -1,23 +1,27 @@
 -- Files that are not what their entries ask for, and programs one after another.
 use Rattle.std.proofs.Common.{⊎_elim, ◌≡◌, ◌≢◌, ◌⊎◌, Ok, Err, inl, inr, ℕ, zero, suc, List, [], ◌∷◌, ◌++◌, take, Some}
-use Rattle.std.proofs.Common.{None, ◌+◌, ◌<◌, ◌≤◌, ◌∙◌, ap, sym, refl, arith, add-one, length, get_or, map}
-use Rattle.std.specs.Prelude.{slice_get, Bool, true, false, MatchBool, Result, IfOk, IfErr}
+use Rattle.std.proofs.Common.{None, ◌+◌, ◌<◌, ◌≤◌, ◌∙◌, ap, sym, subst, refl, arith, add-one, length, get_or, map}
+use Rattle.std.specs.Prelude.{slice_get, Bool, true, false, MatchBool, Result, IfOk, IfErr, OnErr, String, string_bytes}
+use Rattle.std.specs.Global.{Global}
+use Rattle.std.specs.declared.alloc.AllocError.{AllocError}
 use Rattle.std.proofs.lemmas.List.{length-map, take_all}
 use Rattle.std.proofs.lemmas.Option.{slice_get_read, slice_get-map}
 use Rattle.tomex_image.specs.Image.{Loaded}
 use Rattle.tomex_image.specs.Window.{Span}
 use Rattle.tomex_image.specs.Loading.{elf_placed, flat_placed, is_elf, placed}
 use Rattle.tomex_config.specs.Grid.{grid_of}
-use Rattle.tomex_study.specs.Program.{Workload}
+use Rattle.tomex_study.specs.Program.{Workload, refusal_of}
+use Rattle.tomex_study.specs.declared.program.ProgramError.{ProgramError}
+use Rattle.tomex_study.specs.declared.program.ProgramError.TheVariants as programs
 use Rattle.tomex_study.specs.Study.{DesignSpace, costs_of}
 use Rattle.tomex_document.specs.Program.{ProgramEntry}
-use Rattle.tomex_reading.specs.Study.{AreProgramsOf, IsFileRefusal, IsFirstRefusal, IsProgramOf, IsStudyRefusal}
+use Rattle.tomex_reading.specs.Study.{AreProgramsOf, FailsToEnd, IsFileRefusal, IsFirstRefusal, IsProgramOf, IsStudyRefusal}
 use Rattle.tomex_reading.specs.Study.{IsRefusalOfFiles, IsStudyOf}
 use Rattle.tomex_reading.specs.declared.error.StudyError.{StudyError}
 use Rattle.tomex_reading.specs.declared.error.StudyError.TheVariants.{Memory}
 use Rattle.tomex_values.specs.declared.error.DocumentError.{DocumentError}
 use Rattle.tomex_values.specs.declared.error.DocumentError.TheVariants as documents
-use Rattle.tomex_reading.specs.Refusals.{IsDocumentRefusal, told_as}
+use Rattle.tomex_reading.specs.Refusals.{IsDocumentRefusal, told_as, unfit_as}
 use Rattle.tomex_document.specs.Document.{Document, document_of}
 
 -- an image of a file has the window that was asked for
@@ -75,6 +79,18 @@ pub pushed : (place : ℕ) (entries : List ProgramEntry) (files : List (List ℕ
     → AreProgramsOf (take (place + 1) entries) (take (place + 1) files) after
 pushed place entries files programs after entry file program entry_is file_is older is grown =
     rw (add-one, grown) (one_more place entries files programs entry file program entry_is file_is older is)
+
+-- a program whose run is refused is told so by its name, if there was memory for that
+pub unfit_refused : (entry : ProgramEntry) (file : List ℕ) (name : Result (String Global) AllocError)
+    (error : ProgramError) (refusal : StudyError) → IfOk name (λ n. string_bytes n ≡ entry.name)
+    → IfOk name (λ n. refusal ≡ unfit_as n error) → OnErr name (refusal ≡ Memory)
+    → FailsToEnd entry file (refusal_of error) → (refusal ≡ Memory) ⊎ IsFileRefusal entry file refusal
+unfit_refused entry file (Err _) error refusal named told untold fails = inl untold
+unfit_refused entry file (Ok name) programs.Memory refusal named told untold fails = inl told
+unfit_refused entry file (Ok name) (programs.Fault fault) refusal named told untold fails =
+    inr (subst (λ (r : StudyError). IsFileRefusal entry file r) (sym told) (named, fails))
+unfit_refused entry file (Ok name) programs.TooLong refusal named told untold fails =
+    inr (subst (λ (r : StudyError). IsFileRefusal entry file r) (sym told) (named, fails))
 
 -- no program is left
 pub all_programs : {X : Type 0} (seen : X → List ℕ) (place : ℕ) (entries : List ProgramEntry) (files : List X)

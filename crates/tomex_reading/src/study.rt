@@ -1,19 +1,34 @@
 //! Whole studies: the document, and the programs that its files hold.
 
-ghost use Rattle.std.specs.Prelude.{◌≡◌, ◌≢◌, ◌≤◌, ◌⊎◌, length, map, IfOk, IfErr, None, Ok, string_bytes};
+ghost use Rattle.std.specs.Prelude.{◌≡◌, ◌≢◌, ◌≤◌, ◌⊎◌, length, map, IfOk, IfErr, IsErrOf, OnErr, None, Ok};
 ghost use Rattle.tomex_image.specs.Loading.{placed, refused};
 ghost use Rattle.tomex_config.specs.Grid.{grid_of};
-ghost use Rattle.tomex_study.specs.Program.{refusal_of};
 ghost use Rattle.tomex_study.specs.Study.{costs_of};
-ghost use Rattle.tomex_reading.specs.Study.{AreProgramsOf, FailsToEnd, IsFileRefusal, IsFirstRefusal};
+ghost use Rattle.tomex_reading.specs.Refusals.{unfit_as, unloaded_as};
+ghost use Rattle.tomex_reading.specs.Study.{AreProgramsOf, IsFileRefusal, IsFirstRefusal};
 ghost use Rattle.tomex_reading.specs.Study.{IsProgramOf, IsRefusalOfFiles, IsStudyOf, IsStudyRefusal};
 
 use crate::error::StudyError;
-use std::alloc::{Allocator, Global};
+use std::alloc::{AllocError, Allocator, Global};
 use tomex_config::grid;
 use tomex_document::{Entry, Outline, document_of};
 use tomex_image::{Image, ImageError, load};
 use tomex_study::{Program, ProgramError, Study};
+
+/// The refusal of a file that is no image, by the program's name. Out of memory only if loading ran out of it, or if
+/// there was none for the name.
+fn unloaded(name: Result<String, AllocError>, error: ImageError) -> StudyError
+    ensures told { IfOk name (λ name. result ≡ unloaded_as name error) }
+    ensures untold { OnErr name (result ≡ StudyError.Memory) }
+{
+    let Ok(name) = name else {
+        return StudyError::Memory;
+    };
+    match error {
+        ImageError::Memory => StudyError::Memory,
+        error => StudyError::Image(name, error),
+    }
+}
 
 /// The image that the file is in the entry's window. The name that a refusal tells is made in `heap`.
 fn image_of<A: Allocator + Clone>(
@@ -29,18 +44,17 @@ fn image_of<A: Allocator + Clone>(
 {
     match load(alloc, file, entry.window()) {
         Ok(image) => Ok(image),
-        Err(ImageError::Memory) => Err(StudyError::Memory),
-        Err(error) => Err(StudyError::Image(String::from_str(heap, entry.name())?, error)),
+        Err(error) => Err(unloaded(String::from_str(heap, entry.name()), error)),
     }
 }
 
-/// The refusal of the entry's file, whose run faults or doesn't end within its limit, or that memory was refused.
-/// The name that it tells is made in `heap`.
-fn unfit<A: Allocator + Clone>(heap: Global, entry: &Entry<A>, error: ProgramError) -> StudyError
-    ensures { (file : _) → FailsToEnd entry.now file (refusal_of error)
-        → (result ≡ StudyError.Memory) ⊎ IsFileRefusal entry.now file result }
+/// The refusal of a program whose run faults or doesn't end within its limit, by its name. Out of memory only if the
+/// run ran out of it, or if there was none for the name.
+fn unfit(name: Result<String, AllocError>, error: ProgramError) -> StudyError
+    ensures told { IfOk name (λ name. result ≡ unfit_as name error) }
+    ensures untold { OnErr name (result ≡ StudyError.Memory) }
 {
-    let Ok(name) = String::from_str(heap, entry.name()) else {
+    let Ok(name) = name else {
         return StudyError::Memory;
     };
     match error {
@@ -69,7 +83,7 @@ fn program_of<A: Allocator + Clone>(
     watch.extend_from_slice(entry.watch())?;
     match Program::new(alloc, name, image, entry.limit(), watch, entry.weight()) {
         Ok(program) => Ok(program),
-        Err(error) => Err(unfit(heap, entry, error)),
+        Err(error) => Err(unfit(String::from_str(heap, entry.name()), error)),
     }
 }
 
@@ -113,6 +127,7 @@ fn study_from<A: Allocator + Clone>(
     ensures err { IfErr result
         (λ error. (error ≡ StudyError.Memory)
         ⊎ IsRefusalOfFiles outline.now (map (λ f. f.items) files.now) error) }
+    ensures count { length files.now ≢ length outline.now.programs → IsErrOf result StudyError.Files }
 {
     if files.len() != outline.programs.len() {
         return Err(StudyError::Files);

@@ -28,3 +28,8 @@ IsShown view bytes files text = (s : DesignSpace) × IsStudyOf bytes files s × 
 abbrev pub IsAnswerRefusal : List ℕ → List (List ℕ) → AnswerError → Type 0
 IsAnswerRefusal bytes files (Study error) = IsStudyRefusal bytes files error
 IsAnswerRefusal bytes files (Sweep error) = (s : DesignSpace) × IsStudyOf bytes files s
+
+-- after the study was read: no refusal of it
+abbrev pub IsOfSweep : AnswerError → Type 0
+IsOfSweep (Study error) = ⊥
+IsOfSweep (Sweep error) = Unit {0}

@@ -1,5 +1,10 @@
 //! Why there is no report.
 
+ghost use Rattle.std.specs.Prelude.{◌≡◌};
+ghost use Rattle.tomex_report.specs.declared.answer_error.AnswerError.TheVariants.{Sweep};
+ghost use Rattle.tomex_sweep.specs.declared.outcome.SweepError.TheVariants.{Memory};
+
+use std::alloc::AllocError;
 use thiserror::Error;
 use tomex_reading::StudyError;
 use tomex_sweep::SweepError;
@@ -13,4 +18,21 @@ pub enum AnswerError {
     /// They are a study, and memory or the start of a thread was refused.
     #[error(transparent)]
     Sweep(SweepError),
+}
+
+impl From<SweepError> for AnswerError {
+    ghost from_gives = { λ error e. e ≡ Sweep error };
+
+    fn from(error: SweepError) -> Self {
+        AnswerError::Sweep(error)
+    }
+}
+
+/// Of what comes after the study was read.
+impl From<AllocError> for AnswerError {
+    ghost from_gives = { λ _ e. e ≡ Sweep Memory };
+
+    fn from(_error: AllocError) -> Self {
+        AnswerError::Sweep(SweepError::Memory)
+    }
 }

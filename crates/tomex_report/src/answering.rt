@@ -4,7 +4,7 @@ ghost use Rattle.std.specs.Prelude.{◌≡◌, ◌≢◌, ◌≤◌, map, IfOk, 
 ghost use Rattle.tomex_runs.specs.StudyFront.{front_of_study};
 ghost use Rattle.tomex_sweep.specs.declared.outcome.SweepError.TheVariants.{Memory, Worker};
 ghost use Rattle.tomex_report.specs.declared.answer_error.AnswerError.TheVariants.{Sweep};
-ghost use Rattle.tomex_report.specs.Answer.{IsAnswer, IsAnswerRefusal, IsShown, shown_as};
+ghost use Rattle.tomex_report.specs.Answer.{IsAnswer, IsAnswerRefusal, IsOfSweep, IsShown, shown_as};
 ghost use Rattle.tomex_reading.specs.Study.{IsStudyOf};
 ghost use Rattle.tomex_report.specs.declared.front_view.FrontView.TheVariants.{Table, Picture};
 ghost use Rattle.tomex_texts.specs.FrontReport.{report_of};
@@ -19,7 +19,7 @@ use std::thread::Threads;
 use tomex_fronts::{front_picture, front_table};
 use tomex_reading::{StudyError, read_study};
 use tomex_study::Study;
-use tomex_sweep::{FrontRow, Gate, OpenGate, SweepError, explore, run_all_under};
+use tomex_sweep::{FrontRow, Gate, OpenGate, explore, run_all_under};
 
 /// The front of a study, shown.
 fn shown<R: Threads + Sync, A: Allocator + Clone + Send + Sync + Drop>(
@@ -60,10 +60,11 @@ fn explored<R: Threads + Wait + Sync, A: Allocator + Clone + Send + Sync + Drop,
     study: &Study<A>,
     crew: Crew<G>,
     view: FrontView,
-) -> Result<Vec<u8, A>, SweepError>
+) -> Result<Vec<u8, A>, AnswerError>
     requires some_workers { 1 ≤ crew.workers }
     requires few_workers { crew.workers ≤ 32 }
-    ensures { IfOk result (λ text. text.items ≡ shown_as view study.now) }
+    ensures ok { IfOk result (λ text. text.items ≡ shown_as view study.now) }
+    ensures err { IfErr result IsOfSweep }
 {
     let outcome = explore(rt, alloc.clone()?, study, crew.workers, crew.gate)?;
     Ok(shown(rt, alloc, heap, study, outcome.front.as_slice(), view)?)
@@ -106,10 +107,7 @@ fn answer_as<R: Threads + Wait + Sync, A: Allocator + Clone + Send + Sync + Drop
     ensures err { IfErr result (λ e. IsAnswerRefusal study.now (map (λ f. f.items) files.now) e) }
 {
     let read = studied(&alloc, heap, study, files)?;
-    match explored(rt, alloc, heap, &read, crew, view) {
-        Ok(text) => Ok(text),
-        Err(error) => Err(AnswerError::Sweep(error)),
-    }
+    explored(rt, alloc, heap, &read, crew, view)
 }
 
 /// For every study whose programs end within the stated number of instructions, every list of
@@ -195,9 +193,9 @@ fn explored_whole<R: Threads + Sync, A: Allocator + Clone + Send + Sync + Drop, 
     heap: Global,
     study: &Study<A>,
     gate: &G,
-) -> Result<Vec<u8, A>, SweepError>
+) -> Result<Vec<u8, A>, AnswerError>
     ensures ok { IfOk result (λ text. text.items ≡ report_of study.now) }
-    ensures err { IfErr result (λ e. e ≡ Memory) }
+    ensures err { IfErr result (λ e. e ≡ Sweep Memory) }
 {
     let outcome = run_all_under(alloc.clone()?, study, gate)?;
     Ok(shown(
@@ -225,10 +223,7 @@ pub fn answer_all_under<R: Threads + Sync, A: Allocator + Clone + Send + Sync + 
     ensures no_worker { IfErr result (λ e. e ≢ Sweep Worker) }
 {
     let read = studied(&alloc, heap, study, files)?;
-    match explored_whole(rt, alloc, heap, &read, gate) {
-        Ok(text) => Ok(text),
-        Err(error) => Err(AnswerError::Sweep(error)),
-    }
+    explored_whole(rt, alloc, heap, &read, gate)
 }
 
 /// The same report, of rows that are all run to their ends on the calling thread.

@@ -2,6 +2,10 @@
 use Rattle.std.specs.Prelude.{◌≡◌, ℕ, List, Option, Some, None}
 use Rattle.std.specs.Borrow.{Bor}
 
+-- the most bytes of a file of the system that is read: 256 MiB
+abbrev pub most_bytes : ℕ
+most_bytes = 268435456
+
 -- nothing; or that no file of the name can be read; or the bytes of the file
 pub data Told : Type 0 where
   Nothing : Told

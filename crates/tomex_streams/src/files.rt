@@ -1,6 +1,6 @@
 //! Where images and studies are read from.
 ghost use Rattle.std.specs.Prelude.{◌≡◌, ℕ, ◌≤◌, List, length, IfOk, IfSome, IsErrOf};
-ghost use Rattle.tomex_streams.specs.Files.{Told, Nothing, IsRead, IsMissing};
+ghost use Rattle.tomex_streams.specs.Files.{Told, Nothing, IsRead, IsMissing, most_bytes};
 
 use std::alloc::Allocator;
 use std::fs::File;
@@ -29,8 +29,8 @@ pub trait Files {
 /// The most bytes of a file that is read: 256 MiB, far above any image or study.
 const MOST_BYTES: u32 = 268_435_456;
 
-/// All bytes of a reader, where they are at most so many. Of a longer one, a device without an end
-/// for one, only one byte more than these is read.
+/// All bytes of a reader, if they are at most `most`. Of a longer one, such as a device without an end,
+/// only one byte more is read.
 pub fn bytes_within<R: Read + Drop, A: Allocator>(
     alloc: A,
     reader: R,
@@ -45,6 +45,14 @@ pub fn bytes_within<R: Read + Drop, A: Allocator>(
         Err(error) if error.kind() == ErrorKind::OutOfMemory => Err(ReadFault::Memory),
         _ => Err(ReadFault::NoFile),
     }
+}
+
+/// All bytes of a file of the system, if they are at most 256 MiB.
+fn host_bytes<R: Read + Drop, A: Allocator>(alloc: A, file: R) -> Result<Vec<u8, A>, ReadFault>
+    ensures few { IfOk result (λ bytes. length bytes.items ≤ most_bytes) }
+    ensures all { IfOk result (λ bytes. IfSome (R.remaining file) (λ held. bytes.items ≡ held)) }
+{
+    bytes_within(alloc, file, MOST_BYTES)
 }
 
 /// The files of the system, below the current folder where a name is relative. What they hold is not known.
@@ -65,9 +73,13 @@ impl<'a, R> HostFiles<'a, R> {
 impl<'a, R: std::rt::Files> Files for HostFiles<'a, R> {
     ghost file = { λ _ _. Nothing };
 
-    fn read<A: Allocator>(&self, alloc: A, name: &str) -> Result<Vec<u8, A>, ReadFault> {
+    fn read<A: Allocator>(&self, alloc: A, name: &str) -> Result<Vec<u8, A>, ReadFault>
+        ensures bytes { IfOk result (λ bytes. IsRead Nothing bytes.items) }
+        ensures no_file { IsErrOf result ReadFault.NoFile → IsMissing Nothing }
+        ensures few { IfOk result (λ bytes. length bytes.items ≤ most_bytes) }
+    {
         match File::open(self.rt, name) {
-            Ok(file) => bytes_within(alloc, file, MOST_BYTES),
+            Ok(file) => host_bytes(alloc, file),
             Err(error) if error.kind() == ErrorKind::OutOfMemory => Err(ReadFault::Memory),
             Err(_) => Err(ReadFault::NoFile),
         }

@@ -1,8 +1,8 @@
-//! How a line that asks for no command is told.
+//! How a line that asks for no command is reported, and failures that no test of a whole run comes to.
 
 use std::alloc::{AllocError, Global};
 use std::test::Fail;
-use tomex_command::tell_line_fault;
+use tomex_command::{Failure, report_failure, report_line_fault};
 use tomex_line::{LineFault, not_text, unread};
 use tomex_samples::in_memory::Narrow;
 
@@ -17,7 +17,7 @@ fn is_told(
 ) -> bool {
     let mut out = Narrow::new(alloc, room, 3);
     let mut err = Narrow::new(alloc, 100, 3);
-    tell_line_fault(&fault, &mut out, &mut err) == status
+    report_line_fault(&fault, &mut out, &mut err) == status
         && out.bytes.as_slice() == output.as_bytes()
         && err.bytes.as_slice() == error.as_bytes()
 }
@@ -42,5 +42,13 @@ fn faults_of_a_line_are_told(rt: HostRuntime) -> Result<(), Fail> {
     assert!(rt; is_told(alloc, unread(false, not_text(alloc)), 100, 2, "", told));
     assert!(rt; is_told(alloc, unread(false, Err(AllocError)), 100, 3, "", NO_MEMORY));
     assert!(rt; is_told(alloc, unread(true, not_text(alloc)), 100, 3, "", NO_MEMORY));
+    Ok(())
+}
+
+#[test]
+fn a_refused_thread_is_reported(rt: HostRuntime) -> Result<(), Fail> {
+    let mut err = Narrow::new(rt.alloc(), 100, 3);
+    assert!(rt; report_failure(rt.alloc(), &Failure::Worker, &mut err) == 3);
+    assert!(rt; err.bytes.as_slice() == b"tomex: thread refused\n".as_slice());
     Ok(())
 }

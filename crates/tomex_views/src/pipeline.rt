@@ -1,6 +1,6 @@
 //! The picture of some steps of a run on one configuration.
 
-ghost use Rattle.std.specs.Prelude.{◌≡◌, ◌+◌, ◌<◌, ◌≤◌, ◌^◌, drop, length, nat_lt, take, IfErr, IfOk};
+ghost use Rattle.std.specs.Prelude.{◌≡◌, ◌+◌, ◌<◌, ◌≤◌, ◌^◌, drop, length, nat_lt, take, IfErr, IfOk, IsErrOf};
 ghost use Rattle.tomex_rvexec.specs.Run.{start_of};
 ghost use Rattle.tomex_rvexec.specs.Trace.{steps_from};
 ghost use Rattle.tomex_timing.specs.Search.{total_of};
@@ -107,6 +107,8 @@ pub fn pipeline_text<A: Allocator + Clone>(
         (steps_from program.now.limit (start_of program.now.image)) number count text.items) }
     ensures refused { IfErr result (λ error. IsUnpictured config.now
         (steps_from program.now.limit (start_of program.now.image)) number count error) }
+    ensures no_step { length (steps_from program.now.limit (start_of program.now.image)) < number
+        → IsErrOf result PictureError.NoSuchStep }
 {
     let steps = program.steps();
     if steps.len() < number as usize {

@@ -1,11 +1,25 @@
 //! Files, read whole.
-ghost use Rattle.std.specs.Prelude.{map, string_bytes, IfOk, IfErr};
-ghost use Rattle.tomex_command.specs.Reading.{IsUnread, AreRead, AreUnread};
+ghost use Rattle.std.specs.Prelude.{◌≡◌, map, string_bytes, IfOk, IfErr, OnErr};
+ghost use Rattle.tomex_command.specs.Reading.{IsUnread, AreRead, AreUnread, unread_as};
 ghost use Rattle.tomex_streams.specs.Files.{IsRead};
 
 use crate::failure::Failure;
-use std::alloc::{Allocator, Global};
+use std::alloc::{AllocError, Allocator, Global};
 use tomex_streams::{Files, ReadFault};
+
+/// Why a file was not read. Out of memory only if there was none for its bytes, or for its name.
+fn unread(fault: ReadFault, name: Result<String, AllocError>) -> Failure
+    ensures named { IfOk name (λ name. result ≡ unread_as fault name) }
+    ensures unnamed { OnErr name (result ≡ Failure.Memory) }
+{
+    let Ok(name) = name else {
+        return Failure::Memory;
+    };
+    match fault {
+        ReadFault::Memory => Failure::Memory,
+        ReadFault::NoFile => Failure::CannotRead(name),
+    }
+}
 
 /// All bytes of a file.
 pub fn read<F: Files, A: Allocator>(
@@ -19,8 +33,7 @@ pub fn read<F: Files, A: Allocator>(
 {
     match files.read(alloc, name) {
         Ok(bytes) => Ok(bytes),
-        Err(ReadFault::Memory) => Err(Failure::Memory),
-        Err(ReadFault::NoFile) => Err(Failure::CannotRead(String::from_str(heap, name)?)),
+        Err(fault) => Err(unread(fault, String::from_str(heap, name))),
     }
 }
 

@@ -1,5 +1,6 @@
 //! What `run` prints.
-ghost use Rattle.std.specs.Prelude.{IfOk, IfErr};
+ghost use Rattle.std.specs.Prelude.{IfOk, IfErr, IsErrOf};
+ghost use Rattle.tomex_image.specs.Window.{IsWindow};
 ghost use Rattle.tomex_command.specs.RunLines.{IsRunOf, IsRunFailure};
 
 use super::reading::read;
@@ -19,6 +20,8 @@ pub fn text_of_run<F: Files, A: Allocator + Clone>(
 ) -> Result<Vec<u8, A>, Failure>
     ensures text { IfOk result (λ text. IsRunOf (F.file files.now) line.entry text.items) }
     ensures failure { IfErr result (λ failure. IsRunFailure (F.file files.now) line.entry failure) }
+    ensures window { (IsWindow line.entry.base line.entry.size → ⊥)
+        → IsErrOf result Failure.BadWindow }
 {
     let window = Window::new(line.base, line.size).ok_or(Failure::BadWindow)?;
     let image = read(alloc.clone()?, heap, files, line.image)?;

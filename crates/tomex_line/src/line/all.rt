@@ -1,11 +1,11 @@
 //! `all STUDY`
 ghost use Rattle.std.specs.Prelude.{◌≡◌, IfOk, IfErr};
-ghost use Rattle.tomex_arguments.specs.Faults.{IsRefusal};
+ghost use Rattle.tomex_arguments.specs.Faults.{IsRefusedIf};
 ghost use Rattle.tomex_line.specs.Grammar.{all_shape};
 ghost use Rattle.clap.specs.Simple.{shape_of};
 ghost use Rattle.clap.specs.Words.{found_of};
 ghost use Rattle.clap.specs.Walk.{rows_of};
-ghost use Rattle.tomex_line.specs.Values.{IsAllAsked};
+ghost use Rattle.tomex_line.specs.Values.{IsAllAsked, IsNoAll};
 
 use super::described::Texts;
 use super::studied::on_study;
@@ -63,7 +63,7 @@ pub(super) fn grammar<'a>(alloc: Global) -> Result<Command<'a>, AllocError>
 pub(super) fn line_of<'a>(alloc: Global, matches: &ArgMatches<'a>) -> Result<AllLine<'a>, LineFault>
     ensures line { IfOk result
         (λ line. IsAllAsked (rows_of (found_of matches.now)) line.study.now) }
-    ensures refused { IfErr result IsRefusal }
+    ensures refused { IfErr result (IsRefusedIf (IsNoAll (rows_of (found_of matches.now)))) }
 {
     Ok(AllLine {
         study: word_of(alloc, matches, "STUDY")?,

@@ -1,11 +1,11 @@
 //! `explore STUDY [--workers N]`, and what other commands that explore a study take.
 ghost use Rattle.std.specs.Prelude.{◌≡◌, ◌≤◌, IfOk, IfErr};
-ghost use Rattle.tomex_arguments.specs.Faults.{IsRefusal};
+ghost use Rattle.tomex_arguments.specs.Faults.{IsRefusedIf};
 ghost use Rattle.tomex_line.specs.Grammar.{explore_shape, exploring_shape};
 ghost use Rattle.clap.specs.Simple.{shape_of};
 ghost use Rattle.clap.specs.Words.{found_of};
 ghost use Rattle.clap.specs.Walk.{rows_of};
-ghost use Rattle.tomex_line.specs.Values.{IsExploreAsked};
+ghost use Rattle.tomex_line.specs.Values.{IsExploreAsked, IsNoExplore};
 
 use super::described::{Texts, taking};
 use super::studied::on_study;
@@ -101,7 +101,7 @@ pub(super) fn line_of<'a>(
 ) -> Result<ExploreLine<'a>, LineFault>
     ensures line { IfOk result
         (λ line. IsExploreAsked (rows_of (found_of matches.now)) line.study.now line.workers) }
-    ensures refused { IfErr result IsRefusal }
+    ensures refused { IfErr result (IsRefusedIf (IsNoExplore (rows_of (found_of matches.now)))) }
 {
     Ok(ExploreLine {
         study: word_of(alloc, matches, "STUDY")?,

@@ -1,11 +1,11 @@
 //! `pipeline STUDY CONFIG PROGRAM [--from N] [--steps N] [--konata]`
 ghost use Rattle.std.specs.Prelude.{◌≡◌, ◌≤◌, IfOk, IfErr};
-ghost use Rattle.tomex_arguments.specs.Faults.{IsRefusal};
+ghost use Rattle.tomex_arguments.specs.Faults.{IsRefusedIf};
 ghost use Rattle.tomex_line.specs.Grammar.{pipeline_shape};
 ghost use Rattle.clap.specs.Simple.{shape_of};
 ghost use Rattle.clap.specs.Words.{found_of};
 ghost use Rattle.clap.specs.Walk.{rows_of};
-ghost use Rattle.tomex_line.specs.Values.{IsPipelineAsked};
+ghost use Rattle.tomex_line.specs.Values.{IsPipelineAsked, IsNoPipeline};
 
 use super::described::{Texts, taking};
 use super::studied::{OneRun, on_one_run, one_run_of};
@@ -128,7 +128,7 @@ pub(super) fn line_of<'a>(
 ) -> Result<PipelineLine<'a>, LineFault>
     ensures line { IfOk result (λ line. IsPipelineAsked (rows_of (found_of matches.now))
         line.study.now line.config line.program.now line.from line.steps line.konata) }
-    ensures refused { IfErr result IsRefusal }
+    ensures refused { IfErr result (IsRefusedIf (IsNoPipeline (rows_of (found_of matches.now)))) }
 {
     let OneRun {
         study,

@@ -1,11 +1,11 @@
 //! `run IMAGE [--base N] [--size N] [--limit N]`
 ghost use Rattle.std.specs.Prelude.{◌≡◌, ◌≤◌, IfOk, IfErr};
-ghost use Rattle.tomex_arguments.specs.Faults.{IsRefusal};
+ghost use Rattle.tomex_arguments.specs.Faults.{IsRefusedIf};
 ghost use Rattle.tomex_line.specs.Grammar.{run_shape};
 ghost use Rattle.clap.specs.Simple.{shape_of};
 ghost use Rattle.clap.specs.Words.{found_of};
 ghost use Rattle.clap.specs.Walk.{rows_of};
-ghost use Rattle.tomex_line.specs.Values.{IsRunAsked};
+ghost use Rattle.tomex_line.specs.Values.{IsRunAsked, IsNoRun};
 
 use super::described::{Texts, described, taking};
 use super::values::{number, word};
@@ -104,7 +104,7 @@ pub(super) fn grammar<'a>(alloc: Global) -> Result<Command<'a>, AllocError>
 pub(super) fn line_of<'a>(alloc: Global, matches: &ArgMatches<'a>) -> Result<RunLine<'a>, LineFault>
     ensures line { IfOk result
         (λ line. IsRunAsked (rows_of (found_of matches.now)) line.image.now line.base line.size line.limit) }
-    ensures refused { IfErr result IsRefusal }
+    ensures refused { IfErr result (IsRefusedIf (IsNoRun (rows_of (found_of matches.now)))) }
 {
     Ok(RunLine {
         image: word_of(alloc, matches, "IMAGE")?,

@@ -1,11 +1,11 @@
 //! `stalls STUDY CONFIG PROGRAM [--by-pc]`
 ghost use Rattle.std.specs.Prelude.{◌≡◌, ◌≤◌, IfOk, IfErr};
-ghost use Rattle.tomex_arguments.specs.Faults.{IsRefusal};
+ghost use Rattle.tomex_arguments.specs.Faults.{IsRefusedIf};
 ghost use Rattle.tomex_line.specs.Grammar.{stalls_shape};
 ghost use Rattle.clap.specs.Simple.{shape_of};
 ghost use Rattle.clap.specs.Words.{found_of};
 ghost use Rattle.clap.specs.Walk.{rows_of};
-ghost use Rattle.tomex_line.specs.Values.{IsStallsAsked};
+ghost use Rattle.tomex_line.specs.Values.{IsStallsAsked, IsNoStalls};
 
 use super::described::{Texts, taking};
 use super::studied::{OneRun, on_one_run, one_run_of};
@@ -95,7 +95,7 @@ pub(super) fn line_of<'a>(
 ) -> Result<StallsLine<'a>, LineFault>
     ensures line { IfOk result (λ line.
         IsStallsAsked (rows_of (found_of matches.now)) line.study.now line.config line.program.now line.by_pc) }
-    ensures refused { IfErr result IsRefusal }
+    ensures refused { IfErr result (IsRefusedIf (IsNoStalls (rows_of (found_of matches.now)))) }
 {
     let OneRun {
         study,

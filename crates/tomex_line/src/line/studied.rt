@@ -3,9 +3,9 @@ ghost use Rattle.std.specs.Prelude.{◌≡◌, ◌≤◌, IfOk, IfErr};
 ghost use Rattle.clap.specs.Simple.{app_of};
 ghost use Rattle.clap.specs.Words.{found_of};
 ghost use Rattle.clap.specs.Walk.{rows_of};
-ghost use Rattle.tomex_arguments.specs.Faults.{IsRefusal};
+ghost use Rattle.tomex_arguments.specs.Faults.{IsRefusedIf};
 ghost use Rattle.tomex_line.specs.Grammar.{study_app, one_run_app};
-ghost use Rattle.tomex_line.specs.Values.{IsTimesAsked};
+ghost use Rattle.tomex_line.specs.Values.{IsTimesAsked, IsNoTimes};
 
 use super::described::{Texts, described, taking};
 use super::values::{numeral, word};
@@ -59,7 +59,7 @@ pub fn on_one_run<'a>(alloc: Global, name: &'a str, texts: Texts) -> Result<Comm
 pub fn one_run_of<'a>(alloc: Global, matches: &ArgMatches<'a>) -> Result<OneRun<'a>, LineFault>
     ensures run { IfOk result
         (λ run. IsTimesAsked (rows_of (found_of matches.now)) run.study.now run.config run.program.now) }
-    ensures refused { IfErr result IsRefusal }
+    ensures refused { IfErr result (IsRefusedIf (IsNoTimes (rows_of (found_of matches.now)))) }
 {
     Ok(OneRun {
         study: word_of(alloc, matches, "STUDY")?,

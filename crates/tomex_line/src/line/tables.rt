@@ -1,11 +1,11 @@
 //! `tables STUDY CONFIG PROGRAM CYCLE`
 ghost use Rattle.std.specs.Prelude.{◌≡◌, ◌≤◌, IfOk, IfErr};
-ghost use Rattle.tomex_arguments.specs.Faults.{IsRefusal};
+ghost use Rattle.tomex_arguments.specs.Faults.{IsRefusedIf};
 ghost use Rattle.tomex_line.specs.Grammar.{tables_shape};
 ghost use Rattle.clap.specs.Simple.{shape_of};
 ghost use Rattle.clap.specs.Words.{found_of};
 ghost use Rattle.clap.specs.Walk.{rows_of};
-ghost use Rattle.tomex_line.specs.Values.{IsTablesAsked};
+ghost use Rattle.tomex_line.specs.Values.{IsTablesAsked, IsNoTables};
 
 use super::described::{Texts, taking};
 use super::studied::{OneRun, on_one_run, one_run_of};
@@ -100,7 +100,7 @@ pub(super) fn line_of<'a>(
     ensures line { IfOk result
         (λ line. IsTablesAsked (rows_of (found_of matches.now))
         line.study.now line.config line.program.now line.cycle) }
-    ensures refused { IfErr result IsRefusal }
+    ensures refused { IfErr result (IsRefusedIf (IsNoTables (rows_of (found_of matches.now)))) }
 {
     let OneRun {
         study,

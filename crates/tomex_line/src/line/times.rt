@@ -1,11 +1,11 @@
 //! `times STUDY CONFIG PROGRAM`
 ghost use Rattle.std.specs.Prelude.{◌≡◌, ◌≤◌, IfOk, IfErr};
-ghost use Rattle.tomex_arguments.specs.Faults.{IsRefusal};
+ghost use Rattle.tomex_arguments.specs.Faults.{IsRefusedIf};
 ghost use Rattle.tomex_line.specs.Grammar.{times_shape};
 ghost use Rattle.clap.specs.Simple.{shape_of};
 ghost use Rattle.clap.specs.Words.{found_of};
 ghost use Rattle.clap.specs.Walk.{rows_of};
-ghost use Rattle.tomex_line.specs.Values.{IsTimesAsked};
+ghost use Rattle.tomex_line.specs.Values.{IsTimesAsked, IsNoTimes};
 
 use super::described::Texts;
 use super::studied::{OneRun, on_one_run, one_run_of};
@@ -77,7 +77,7 @@ pub(super) fn line_of<'a>(
 ) -> Result<TimesLine<'a>, LineFault>
     ensures line { IfOk result
         (λ line. IsTimesAsked (rows_of (found_of matches.now)) line.study.now line.config line.program.now) }
-    ensures refused { IfErr result IsRefusal }
+    ensures refused { IfErr result (IsRefusedIf (IsNoTimes (rows_of (found_of matches.now)))) }
 {
     let OneRun {
         study,

@@ -1,4 +1,5 @@
 -- The steps shown end within the run's total, are few, and are those that were asked for.
+use Rattle.std.proofs.Common.{rules}
 use Rattle.tomex_views.proofs.Pictures.{numbers_few, part_ends, part_there, parts_paired}
 use Rattle.tomex_konata.proofs.Bounds.{logged}
 use Rattle.tomex_konata.proofs.writing.konata_text.Goals as goal
@@ -29,4 +30,5 @@ returns g c = record {
       c.steps-steps.ensures.steps c.in_ok-times.ensures.exact c.as_slice.ensures.value c.part_of-shown_steps.ensures
       c.part_of-shown_times.ensures c.if-steps-number.false c.from.ensures c.in_ok-log_of.ensures;
   refused = tt;
+  no_step = (search rules);
 }

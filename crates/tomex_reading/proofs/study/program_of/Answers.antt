@@ -1,11 +1,12 @@
 -- The parts of a program are its entry's and its image, and its run is of that image.
-use Rattle.std.proofs.Common.{◌≡◌, ◌∙◌}
-use Rattle.tomex_reading.proofs.Studies.{in_window}
+use Rattle.std.proofs.Common.{◌≡◌, ◌∙◌, rules}
+use Rattle.tomex_reading.proofs.Studies.{in_window, unfit_refused}
 use Rattle.tomex_reading.proofs.study.program_of.Goals as goal
 
 pub returns-in-Err-clause-err : goal.returns-in-Err-clause-err
 returns-in-Err-clause-err g c =
-    c.unfit.ensures c.args.file.now (
+    unfit_refused c.args.entry.now c.args.file.now c.from_str-in-Err.result c.in-Err.error c.unfit.result
+    (search rules) c.unfit.ensures.told c.unfit.ensures.untold (
       _,
       c.in_ok-image.ensures.ok.0,
       c.in_ok-image.ensures.ok.1,

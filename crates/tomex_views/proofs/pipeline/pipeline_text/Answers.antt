@@ -1,5 +1,5 @@
 -- The steps shown end within the run's total, are few, and are those that were asked for.
-use Rattle.std.proofs.Common.{◌∙◌, sym}
+use Rattle.std.proofs.Common.{◌∙◌, rules, sym}
 use Rattle.tomex_views.proofs.Pictures.{numbers_few, part_ends, part_few, part_there, parts_paired, pictured}
 use Rattle.tomex_views.proofs.pipeline.pipeline_text.Goals as goal
 
@@ -40,4 +40,5 @@ returns g c = record {
       c.part_of-shown_times.ensures c.if-steps-number.false (sym c.is_too_large.ensures ∙ c.if-is_too_large.false)
       c.from.ensures c.in_ok-picture_of.ensures;
   refused = tt;
+  no_step = (search rules);
 }

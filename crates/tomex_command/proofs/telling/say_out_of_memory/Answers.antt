@@ -1,5 +1,0 @@
--- The text that is written is the line's.
-use Rattle.tomex_command.proofs.telling.say_out_of_memory.Goals as goal
-
-pub returns : goal.returns
-returns g c = rw (c.as_bytes.ensures.value) at c.say.ensures

@@ -1,0 +1,9 @@
+//! The program `tomex`, run on a command line that it refuses, for the status that its process ends with.
+#![tactic(auto)]
+
+use std::process::ExitCode;
+use tomex_command::run_of;
+
+fn main(rt: HostRuntime) -> ExitCode {
+    run_of(&rt, rt.stdout(), rt.stderr())
+}
