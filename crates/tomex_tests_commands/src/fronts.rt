@@ -13,10 +13,12 @@ const WEIGHED_TABLE: &str =
     "row  cost  cycles  rate  alu\n  1    10      30     -    1\n  0    20      24  0.60    2\n";
 
 /// One row, so that nothing differs, and two programs.
-const TABLE_OF_TWO: &str = "row  cost  cycles  rate  mul  loop\n  0     0    2008     -    8  2000\n";
+const TABLE_OF_TWO: &str =
+    "row  cost  cycles  rate  mul  loop\n  0     0    2008     -    8  2000\n";
 
 /// Rows that aren't on the front count where columns are chosen.
-pub const DROPPED_TABLE: &str = "row  cost  cycles  rate  alu_latency\n  0     5    2000     -            1\n";
+pub const DROPPED_TABLE: &str =
+    "row  cost  cycles  rate  alu_latency\n  0     5    2000     -            1\n";
 
 const PRICED_PICTURE: &str = "\
     <svg xmlns=\"http://www.w3.org/2000/svg\" width=\"720\" height=\"440\" viewBox=\"0 0 720 440\"\x20\
