@@ -1,3 +1,5 @@
 mod Tables
 pub mod Loops
 pub mod Zips
+mod Ticks
+mod Rows

@@ -1,8 +1,8 @@
 -- How wide columns are, and how long.
-use Rattle.std.proofs.Common.{◌≡◌, ◌<◌, ◌≤◌, ap, arith, cond, refl, sym, ℕ, max, List, [], ◌∷◌, ◌++◌, length, map}
+use Rattle.std.proofs.Common.{◌≡◌, ◌∙◌, ◌<◌, ◌≤◌, ap, arith, cond, refl, sym, ℕ, suc, max, List, [], ◌∷◌, ◌++◌}
+use Rattle.std.proofs.Common.{length, map, Option, Some, None}
 use Rattle.std.specs.Prelude.{All, Bool, true, false, if◌then◌else◌, nat_lt}
 use Rattle.std.specs.List.{flat_map}
-use Rattle.std.specs.Fmt.{decimal}
 use Rattle.std.proofs.lemmas.Bool.{le-ltb, lt-ltb}
 use Rattle.std.proofs.lemmas.List.{length-map}
 use Rattle.std.proofs.lemmas.List.Elements.{All-append, All-cons, All-nil}
@@ -10,44 +10,54 @@ use Rattle.tomex_study.specs.Program.{Workload}
 use Rattle.tomex_study.specs.Study.{DesignSpace}
 use Rattle.tomex_pareto.specs.declared.front_row.FrontRow.{FrontRow}
 use Rattle.tomex_fronts.specs.FrontTable.{all_settings, cycles_on, differs, heading_column, own_columns, program_column}
-use Rattle.tomex_fronts.specs.FrontTable.{program_columns, setting_columns}
+use Rattle.tomex_fronts.specs.FrontTable.{program_columns, rate_column, rates_after, setting_columns}
+use Rattle.tomex_fronts.specs.declared.table.entry.Entry.{Entry}
 use Rattle.tomex_fronts.specs.declared.table.heading.Heading.{Heading}
 use Rattle.tomex_fronts.specs.declared.table.heading.Heading.TheVariants.{Setting as OfSetting, Row, Cost, Cycles}
 use Rattle.tomex_fronts.specs.declared.table.heading.Setting.{Setting}
-use Rattle.tomex_fronts.specs.Table.{NamedNumbers, longest, width_of}
+use Rattle.tomex_fronts.specs.Table.{TableColumn, longest, text_of, width_of}
 
 -- without numbers a column is as wide as its name
-pub width_alone : (name numbers : List ℕ) (width : ℕ) → numbers ≡ [] → width ≡ length name
-    → width ≡ width_of (record { name = name; numbers = numbers })
+pub width_alone : (name : List ℕ) (entries : List Entry) (width : ℕ) → entries ≡ [] → width ≡ length name
+    → width ≡ width_of (record { name = name; entries = entries })
 unfolding width_of
-width_alone name numbers width none is = rw none (omega (arith, is))
+width_alone name entries width none is = rw none (omega (arith, is))
 
-longest_more : (ns : List ℕ) (n : ℕ) → longest (map decimal (ns ++ n ∷ [])) ≡ max (longest (map decimal ns))
-    (length (decimal n))
-longest_more [] n = omega arith
-longest_more (m ∷ ns) n = omega (arith, longest_more ns n)
+longest_more : (es : List Entry) (e : Entry) → longest (map text_of (es ++ e ∷ [])) ≡ max (longest (map text_of es))
+    (length (text_of e))
+longest_more [] e = omega arith
+longest_more (f ∷ es) e = omega (arith, longest_more es e)
 
--- with one number more
-pub width_more : (name numbers after : List ℕ) (n width digits new : ℕ) → after ≡ numbers ++ n ∷ []
-    → width ≡ width_of (record { name = name; numbers = numbers }) → digits ≡ length (decimal n)
-    → new ≡ max width digits
-    → new ≡ width_of (record { name = name; numbers = after })
+-- with one entry more
+pub width_more : (name : List ℕ) (entries after : List Entry) (e : Entry) (width long new : ℕ)
+    → after ≡ entries ++ e ∷ []
+    → width ≡ width_of (record { name = name; entries = entries }) → long ≡ length (text_of e)
+    → new ≡ max width long
+    → new ≡ width_of (record { name = name; entries = after })
 unfolding width_of
-width_more name numbers after n width digits new more old are is =
-    rw more (omega (arith, longest_more numbers n, old, are, is))
+width_more name entries after e width long new more old are is =
+    rw more (omega (arith, longest_more entries e, old, are, is))
 
--- a number for each of the rows
-abbrev pub HasNumbers : List FrontRow → NamedNumbers → Type 0
-HasNumbers front c = length c.numbers ≡ length front
+-- an entry for each of the rows
+abbrev pub HasEntries : List FrontRow → TableColumn → Type 0
+HasEntries front c = length c.entries ≡ length front
 
 heading_long : (s : DesignSpace) (front : List FrontRow) (heading : Heading)
-    → HasNumbers front (heading_column s front heading)
+    → HasEntries front (heading_column s front heading)
 unfolding heading_column
 heading_long s front heading = length-map front _
 
-program_long : (s : DesignSpace) (front : List FrontRow) (p : Workload) → HasNumbers front (program_column s front p)
+rates_long : (before : Option FrontRow) (rows : List FrontRow) → length (rates_after before rows) ≡ length rows
+rates_long before [] = refl
+rates_long before (r ∷ rows) = ap suc (rates_long (Some r) rows)
+
+rate_long : (front : List FrontRow) → HasEntries front (rate_column front)
+unfolding rate_column
+rate_long front = rates_long None front
+
+program_long : (s : DesignSpace) (front : List FrontRow) (p : Workload) → HasEntries front (program_column s front p)
 unfolding cycles_on
-program_long s front p = length-map front _
+program_long s front p = length-map (cycles_on s front p) _ ∙ length-map front _
 
 all_map : {X Y : Type 0} (P : Y → Type 0) (f : X → Y) (xs : List X) → ((x : X) → P (f x)) → All P (map f xs)
 all_map P f [] each = All-nil P
@@ -63,29 +73,29 @@ all_if P ys true each = each
 all_if P ys false each = All-nil P
 
 setting_long : (s : DesignSpace) (front : List FrontRow) (setting : Setting)
-    → All (HasNumbers front) (setting_columns s front setting)
+    → All (HasEntries front) (setting_columns s front setting)
 unfolding setting_columns
 setting_long s front setting =
-    let one = All-cons (HasNumbers front) _ [] (heading_long s front (OfSetting setting)) (All-nil (HasNumbers front))
+    let one = All-cons (HasEntries front) _ [] (heading_long s front (OfSetting setting)) (All-nil (HasEntries front))
     in
-    all_if (HasNumbers front) _ (differs s.rows setting) one
+    all_if (HasEntries front) _ (differs s.rows setting) one
 
 -- all columns of the front's table
 pub columns_long : (s : DesignSpace) (front : List FrontRow)
-    → All (λ c. length c.numbers ≡ length front) (own_columns s front ++ program_columns s front)
+    → All (λ c. length c.entries ≡ length front) (own_columns s front ++ program_columns s front)
 columns_long s front =
-    let P = HasNumbers front in
+    let P = HasEntries front in
     let first = all_map P (heading_column s front) (Row ∷ Cost ∷ Cycles ∷ []) (heading_long s front) in
     let headings = map (heading_column s front) (Row ∷ Cost ∷ Cycles ∷ []) in
     let settings = flat_map (setting_columns s front) all_settings in
-    let own = All-append P headings settings first
-    (all_flat_map P (setting_columns s front) all_settings (setting_long s front)) in
+    let own = All-append P headings (rate_column front ∷ settings) first (All-cons P _ settings (rate_long front)
+    (all_flat_map P (setting_columns s front) all_settings (setting_long s front))) in
     let programs = all_if P (map (program_column s front) s.programs) (nat_lt 1 (length s.programs))
     (all_map P (program_column s front) s.programs (program_long s front)) in
     All-append P (own_columns s front) (program_columns s front) own programs
 
 -- they are pushed one after the other
-pub all_columns : (s : DesignSpace) (front : List FrontRow) (none own all : List NamedNumbers) → none ≡ []
+pub all_columns : (s : DesignSpace) (front : List FrontRow) (none own all : List TableColumn) → none ≡ []
     → own ≡ none ++ own_columns s front → all ≡ own ++ program_columns s front → all ≡ own_columns s front
     ++ program_columns s front
 all_columns s front none own all empty first last = rw (last, first, empty) refl
@@ -96,7 +106,7 @@ pub several_columns : (s : DesignSpace) (front : List FrontRow) → 1 < length s
 several_columns s front several =
     ap (λ (t : Bool). cond t (map (program_column s front) s.programs) []) (sym (lt-ltb 1 (length s.programs) several))
 
--- and one alone has none
+-- and a single one has none
 pub no_column : (s : DesignSpace) (front : List FrontRow) → length s.programs ≤ 1 → [] ≡ program_columns s front
 no_column s front one =
     ap (λ (t : Bool). cond t (map (program_column s front) s.programs) []) (sym (le-ltb 1 (length s.programs) one))

@@ -3,12 +3,12 @@
 -- Source: Scalable Vector Graphics 1.1, sections 9.3 (paths), 9.2 and 9.4 (basic shapes), 10.5 (text).
 use Rattle.std.specs.Prelude.{ℕ, ◌+◌, ◌-◌, ◌*◌, ◌==◌, nat_le, Bool, true, ◌||◌, if◌then◌else◌}
 use Rattle.std.specs.Prelude.{List, [], ◌∷◌, ◌++◌, codes, length, Option, Some, None}
-use Rattle.std.specs.List.{flat_map, range_with_len}
+use Rattle.std.specs.List.{flat_map}
 use Rattle.std.specs.Fmt.{decimal}
 use Rattle.tomex_runs.specs.StudyFront.{front_of_study}
 use Rattle.tomex_study.specs.Study.{DesignSpace}
 use Rattle.tomex_pareto.specs.declared.front_row.FrontRow.{FrontRow}
-use Rattle.tomex_fronts.specs.Axes.{axes_of, new_quarter, point_of, x_of, y_of}
+use Rattle.tomex_fronts.specs.Axes.{axes_of, point_of, ticks_of, x_of, y_of}
 use Rattle.tomex_fronts.specs.declared.plot.axes.Axes.{Axes}
 use Rattle.tomex_fronts.specs.declared.plot.axes.Point.{Point}
 use Rattle.tomex_fronts.specs.declared.plot.axes.Span.{Span}
@@ -55,18 +55,9 @@ mark_at axes CyclesNumber value =
     codes "<text x=\"104\" y=\""
     ++ (decimal (y_of axes value + 4) ++ (codes "\">" ++ (decimal value ++ codes "</text>\n")))
 
--- the same where there is a value
-abbrev pub mark_if : Axes → Mark → Option ℕ → List ℕ
-mark_if axes mark (Some value) = mark_at axes mark value
-mark_if axes mark None = []
-
--- at k quarters of the span, unless that is where the last one was
-unfoldable pub mark_of : Axes → Mark → ℕ → List ℕ
-mark_of axes mark k = mark_if axes mark (new_quarter (span_of axes mark) k)
-
--- at each quarter
-abbrev pub marks_of : Axes → Mark → List ℕ
-marks_of axes mark = flat_map (mark_of axes mark) (range_with_len 0 5)
+-- at each tick
+unfoldable pub marks_of : Axes → Mark → List ℕ
+marks_of axes mark = flat_map (mark_at axes mark) (ticks_of (span_of axes mark))
 
 -- how large points are: smaller ones where there are many
 abbrev pub radius_of : ℕ → ℕ
@@ -136,7 +127,7 @@ sheet title =
 unfoldable pub shade : List ℕ → List ℕ
 shade stairs = codes "<path d=\"" ++ (stairs ++ codes "V56Z\" fill=\"#edf3fa\"/>\n")
 
--- light lines at the marks, and a frame
+-- light lines at the ticks, and a frame
 abbrev pub light_lines : List ℕ
 light_lines = codes "<g stroke=\"#dddddd\">\n"
 
@@ -147,7 +138,7 @@ unfoldable pub lines_text : Axes → List ℕ
 lines_text axes =
     light_lines ++ (marks_of axes CostLine ++ (marks_of axes CyclesLine ++ (codes "</g>\n" ++ frame)))
 
--- the numbers at the marks, and what they are of
+-- the numbers at the ticks, and what they are of
 abbrev pub centred : List ℕ
 centred = codes "<g text-anchor=\"middle\">\n"
 
@@ -172,7 +163,7 @@ rows_text axes stairs rows =
     ++ (codes "<g fill=\"#1f5fa8\">\n" ++ (flat_map (circle axes (radius_of (length rows))) rows
     ++ (codes "</g>\n<g font-size=\"11\">\n" ++ (numbers_of axes None rows ++ codes "</g>\n</svg>\n"))))))
 
--- the picture of these rows of so many
+-- the picture of these rows of that many
 unfoldable pub picture_of_rows : ℕ → List FrontRow → List ℕ
 picture_of_rows all rows =
     let axes = axes_of rows in

@@ -1,54 +1,62 @@
--- Tables of numbers: a line of names, and under them lines of numbers, all aligned at their right.
-use Rattle.std.specs.Prelude.{ℕ, ◌<◌, max, List, [], ◌∷◌, ◌++◌, codes, length, map, slice_index}
+-- Tables: a line of names, and under them lines of numbers, all aligned at their right.
+use Rattle.std.specs.Prelude.{ℕ, ◌<◌, max, List, [], ◌∷◌, ◌++◌, codes, length, map, slice_index_or}
 use Rattle.std.specs.List.{flat_map, range_with_len}
 use Rattle.std.specs.Fmt.{decimal}
 use Rattle.tomex_records.specs.Aligned.{right_aligned}
+use Rattle.tomex_records.specs.Hundredths.{hundredths}
 use Rattle.tomex_fronts.specs.declared.table.Line.{Line}
-use Rattle.tomex_fronts.specs.declared.table.Line.TheVariants.{Names, Numbers}
+use Rattle.tomex_fronts.specs.declared.table.Line.TheVariants.{Names, Entries}
+use Rattle.tomex_fronts.specs.declared.table.entry.Entry.{Entry}
+use Rattle.tomex_fronts.specs.declared.table.entry.Entry.TheVariants.{Number, Hundredths, Nothing}
 
--- a column: its name, and its number in each line
-pub record NamedNumbers : Type 0 where
+-- a column: its name, and its entry in each line
+pub record TableColumn : Type 0 where
   pub name : List ℕ
-  pub numbers : List ℕ
+  pub entries : List Entry
+
+abbrev pub text_of : Entry → List ℕ
+text_of (Number n) = decimal n
+text_of (Hundredths n) = hundredths n
+text_of Nothing = codes "-"
 
 abbrev pub longest : List (List ℕ) → ℕ
 longest [] = 0
 longest (text ∷ texts) = max (length text) (longest texts)
 
 -- a column is as wide as its widest entry, its name included
-unfoldable pub width_of : NamedNumbers → ℕ
-width_of c = max (length c.name) (longest (map decimal c.numbers))
+unfoldable pub width_of : TableColumn → ℕ
+width_of c = max (length c.name) (longest (map text_of c.entries))
 
 -- what a column has in a line
-abbrev pub entry_in : Line → NamedNumbers → List ℕ
+abbrev pub entry_in : Line → TableColumn → List ℕ
 entry_in Names c = c.name
-entry_in (Numbers k) c = decimal (slice_index c.numbers k)
+entry_in (Entries k) c = text_of (slice_index_or c.entries k Nothing)
 
-unfoldable pub aligned_in : Line → NamedNumbers → List ℕ
+unfoldable pub aligned_in : Line → TableColumn → List ℕ
 aligned_in line c = right_aligned (width_of c) (entry_in line c)
 
--- an entry behind two spaces
-unfoldable pub spaced_in : Line → NamedNumbers → List ℕ
+-- an entry after two spaces
+unfoldable pub spaced_in : Line → TableColumn → List ℕ
 spaced_in line c = codes "  " ++ aligned_in line c
 
 -- a line: two spaces stand between columns, none at its end
-unfoldable pub table_line : List NamedNumbers → Line → List ℕ
+unfoldable pub table_line : List TableColumn → Line → List ℕ
 table_line [] line = codes "\n"
 table_line (c ∷ columns) line = aligned_in line c ++ (flat_map (spaced_in line) columns ++ codes "\n")
 
--- the line of the k-th numbers
-abbrev pub numbers_line : List NamedNumbers → ℕ → List ℕ
-numbers_line columns k = table_line columns (Numbers k)
+-- the line of the k-th entries
+abbrev pub entries_line : List TableColumn → ℕ → List ℕ
+entries_line columns k = table_line columns (Entries k)
 
--- the names, and then so many lines of numbers
-unfoldable pub table_of : ℕ → List NamedNumbers → List ℕ
-table_of count columns = table_line columns Names ++ flat_map (numbers_line columns) (range_with_len 0 count)
+-- the names, and then this number of lines of entries
+unfoldable pub table_of : ℕ → List TableColumn → List ℕ
+table_of count columns = table_line columns Names ++ flat_map (entries_line columns) (range_with_len 0 count)
 
--- one number more
-abbrev pub with_number : NamedNumbers → ℕ → NamedNumbers
-with_number c n = record { name = c.name; numbers = c.numbers ++ (n ∷ []) }
+-- one entry more
+abbrev pub with_entry : TableColumn → Entry → TableColumn
+with_entry c e = record { name = c.name; entries = c.entries ++ (e ∷ []) }
 
 -- the column has something in that line
-abbrev pub has_line : Line → NamedNumbers → Type 0
+abbrev pub has_line : Line → TableColumn → Type 0
 has_line Names c = Unit {0}
-has_line (Numbers k) c = k < length c.numbers
+has_line (Entries k) c = k < length c.entries

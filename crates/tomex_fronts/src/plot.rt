@@ -9,6 +9,7 @@ pub mod axes;
 pub mod marks;
 pub mod points;
 pub mod stairs;
+pub mod ticks;
 
 use axes::{Axes, axes_of};
 use marks::{Mark, push_marks};
@@ -67,7 +68,7 @@ fn push_shade<A: Allocator>(text: &mut String<A>, stairs: &str) -> Result<(), Al
     write!(text, "<path d=\"{stairs}V56Z\" fill=\"#edf3fa\"/>\n")
 }
 
-/// Adds light lines at the marks, and a frame.
+/// Adds light lines at the ticks, and a frame.
 fn push_lines<A: Allocator>(text: &mut String<A>, axes: &Axes) -> Result<(), AllocError>
     ensures { OnOk result (string_bytes text.new ≡ string_bytes text.old ++ lines_text axes.now) }
 {
@@ -82,7 +83,7 @@ fn push_lines<A: Allocator>(text: &mut String<A>, axes: &Axes) -> Result<(), All
     Ok(())
 }
 
-/// Adds the numbers at the marks, and what they are of.
+/// Adds the numbers at the ticks, and what they are of.
 fn push_scales<A: Allocator>(text: &mut String<A>, axes: &Axes) -> Result<(), AllocError>
     ensures { OnOk result (string_bytes text.new ≡ string_bytes text.old ++ scales_text axes.now) }
 {
@@ -132,7 +133,7 @@ fn title_of(heap: Global, rows: usize, all: usize) -> Result<String, AllocError>
     format!(in heap; "front: {rows} of {all} rows")
 }
 
-/// The picture of these rows of so many.
+/// The picture of these rows of `all`.
 #[tactic(auto, unfolding(crate::specs::Plot::picture_of_rows))]
 fn picture_of_rows<A: Allocator>(
     alloc: A,

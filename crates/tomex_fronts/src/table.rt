@@ -1,23 +1,25 @@
-//! Tables of numbers: a line of names, and under them lines of numbers, all aligned at their right.
+//! Tables: a line of names, and under them lines of numbers, all aligned at their right.
 
 ghost use Rattle.std.specs.Prelude.{◌≡◌, ◌≤◌, ◌<◌, ◌++◌, ◌∷◌, [], length, All, IfOk, OnOk, string_bytes};
 ghost use Rattle.std.specs.List.{flat_map};
 ghost use Rattle.tomex_fronts.specs.Table.{aligned_in, has_line, spaced_in, table_line};
-ghost use Rattle.tomex_fronts.specs.Table.{table_of, width_of, with_number};
+ghost use Rattle.tomex_fronts.specs.Table.{table_of, width_of, with_entry};
 
+pub mod entry;
 pub mod front;
 pub mod heading;
+pub mod rate;
 
+use entry::Entry;
 use std::alloc::{AllocError, Allocator, Global};
-use std::fmt::Write;
 use std::marker::Model;
-use tomex_records::{push_aligned, push_aligned_number};
+use tomex_records::push_aligned;
 
-/// A column: a name, and a number for each line.
+/// A column: a name, and an entry for each line.
 #[derive(Drop)]
 pub struct Column {
     name: String,
-    numbers: Vec<u64>,
+    entries: Vec<Entry>,
     /// How long the longest of these texts is.
     width: usize,
 }
@@ -26,42 +28,42 @@ pub struct Column {
 #[derive(Clone, Copy)]
 pub enum Line {
     Names,
-    /// The numbers at this place of the columns.
-    Numbers(usize),
+    /// The entries at this place of the columns.
+    Entries(usize),
 }
 
 impl Model for Column {
     ghost use Rattle.std.specs.Prelude.{◌≡◌, string_bytes};
-    ghost use Rattle.tomex_fronts.specs.Table.{NamedNumbers, width_of};
+    ghost use Rattle.tomex_fronts.specs.Table.{TableColumn, width_of};
 
-    ghost Value = { NamedNumbers };
+    ghost Value = { TableColumn };
 
-    ghost view = { λ c. record { name = string_bytes c.name; numbers = c.numbers.items } };
+    ghost view = { λ c. record { name = string_bytes c.name; entries = c.entries.items } };
 
     ghost invariant = { λ c. c.width
-        ≡ width_of (record { name = string_bytes c.name; numbers = c.numbers.items }) };
+        ≡ width_of (record { name = string_bytes c.name; entries = c.entries.items }) };
 }
 
 impl Column {
-    /// A column of that name, without numbers.
+    /// A column of that name, without entries.
     pub fn new(heap: Global, name: String) -> Self
-        ensures { result ≡ record { name = string_bytes name; numbers = [] } }
+        ensures { result ≡ record { name = string_bytes name; entries = [] } }
     {
         let width = name.as_bytes().len();
         Self {
             name,
-            numbers: Vec::new(heap),
+            entries: Vec::new(heap),
             width,
         }
     }
 
-    /// Adds a number.
-    pub fn push(&mut self, scratch: &mut String, number: u64) -> Result<(), AllocError>
-        ensures { OnOk result (self.new ≡ with_number self.old number) }
+    /// Adds an entry.
+    pub fn push(&mut self, scratch: &mut String, entry: Entry) -> Result<(), AllocError>
+        ensures { OnOk result (self.new ≡ with_entry self.old entry) }
     {
         scratch.clear();
-        write!(scratch, "{number}")?;
-        self.numbers.push(number)?;
+        entry.push_to(scratch)?;
+        self.entries.push(entry)?;
         self.width = self.width.max(scratch.as_bytes().len());
         Ok(())
     }
@@ -80,17 +82,16 @@ impl Column {
     {
         match line {
             Line::Names => push_aligned(text, self.width, self.name.as_str()),
-            Line::Numbers(place) => push_aligned_number(
-                text,
-                scratch,
-                self.width,
-                self.numbers[place],
-            ),
+            Line::Entries(place) => {
+                scratch.clear();
+                self.entries[place].push_to(scratch)?;
+                push_aligned(text, self.width, scratch.as_str())
+            }
         }
     }
 }
 
-/// Adds what these columns have in a line, each behind two spaces.
+/// Adds what these columns have in a line, each after two spaces.
 #[tactic(auto, unfolding(crate::specs::Table::spaced_in))]
 fn push_spaced<A: Allocator>(
     text: &mut String<A>,
@@ -128,7 +129,7 @@ fn push_line<A: Allocator>(
     text.push_str("\n")
 }
 
-/// The table of columns with so many numbers each.
+/// The table of columns with `count` entries each.
 #[tactic(auto, unfolding(crate::specs::Table::table_of))]
 pub fn table_of<A: Allocator>(
     alloc: A,
@@ -136,14 +137,14 @@ pub fn table_of<A: Allocator>(
     count: usize,
     columns: &[Column],
 ) -> Result<Vec<u8, A>, AllocError>
-    requires { All (λ c. length c.numbers ≡ count) columns.now }
+    requires { All (λ c. length c.entries ≡ count) columns.now }
     ensures { IfOk result (λ text. text.items ≡ table_of count columns.now) }
 {
     let mut text = String::new(alloc);
     let mut scratch = String::new(heap);
     push_line(&mut text, &mut scratch, columns, Line::Names)?;
     for place in 0..count {
-        push_line(&mut text, &mut scratch, columns, Line::Numbers(place))?;
+        push_line(&mut text, &mut scratch, columns, Line::Entries(place))?;
     }
     Ok(text.into_bytes())
 }

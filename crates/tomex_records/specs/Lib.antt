@@ -1,2 +1,3 @@
 pub mod Csv
 pub mod Aligned
+pub mod Hundredths

@@ -1,9 +1,9 @@
-//! Texts that are aligned at their right.
+//! Texts that are aligned, at their right or at their left.
 
 ghost use Rattle.std.specs.Prelude.{◌≡◌, ◌++◌, codes, OnOk, string_bytes};
 ghost use Rattle.std.specs.Fmt.{decimal};
 ghost use Rattle.std.specs.List.{repeat};
-ghost use Rattle.tomex_records.specs.Aligned.{right_aligned};
+ghost use Rattle.tomex_records.specs.Aligned.{left_aligned, right_aligned};
 
 use std::alloc::{AllocError, Allocator};
 use std::fmt::Write;
@@ -32,6 +32,19 @@ pub fn push_aligned<A: Allocator>(
 {
     push_spaces(text, width.saturating_sub(word.as_bytes().len()))?;
     text.push_str(word)
+}
+
+/// Adds a word, left-aligned.
+pub fn push_left_aligned<A: Allocator>(
+    text: &mut String<A>,
+    width: usize,
+    word: &str,
+) -> Result<(), AllocError>
+    ensures { OnOk result (string_bytes text.new
+        ≡ string_bytes text.old ++ left_aligned width word.now) }
+{
+    text.push_str(word)?;
+    push_spaces(text, width.saturating_sub(word.as_bytes().len()))
 }
 
 /// Adds a number, right-aligned.

@@ -1,11 +1,13 @@
-//! What reports are written of: records of CSV, by the crate `csv` with its defaults, and texts that are aligned at
-//! their right.
+//! What reports are written of: records of CSV, by the crate `csv` with its defaults, texts that are aligned, and
+//! numbers of hundredths.
 #![tactic(auto)]
 
 mod aligned;
 mod fields;
+mod hundredths;
 mod writing;
 
-pub use aligned::{push_aligned, push_aligned_number};
+pub use aligned::{push_aligned, push_aligned_number, push_left_aligned};
 pub use fields::{push_decimal, push_instruction, push_names};
+pub use hundredths::push_hundredths;
 pub use writing::{into_text, put_record};

@@ -4,19 +4,21 @@ use crate::explorations::{PRICED, TWO, WEIGHED, explores_to};
 use std::test::Fail;
 use tomex_samples::studies::DROPPED;
 
-/// Two rows, which differ in their alu stations alone.
+/// Two rows, which differ only in their alu stations: 2 cycles fewer for 10 more.
 const PRICED_TABLE: &str =
-    "row  cost  cycles  alu\n  1    10      10    1\n  0    20       8    2\n";
+    "row  cost  cycles  rate  alu\n  1    10      10     -    1\n  0    20       8  0.20    2\n";
 
 /// Cycles are those of the weighed run; one program has no column of its own.
 const WEIGHED_TABLE: &str =
-    "row  cost  cycles  alu\n  1    10      30    1\n  0    20      24    2\n";
+    "row  cost  cycles  rate  alu\n  1    10      30     -    1\n  0    20      24  0.60    2\n";
 
 /// One row, so that nothing differs, and two programs.
-const TABLE_OF_TWO: &str = "row  cost  cycles  mul  loop\n  0     0    2008    8  2000\n";
+const TABLE_OF_TWO: &str =
+    "row  cost  cycles  rate  mul  loop\n  0     0    2008     -    8  2000\n";
 
 /// Rows that aren't on the front count where columns are chosen.
-pub const DROPPED_TABLE: &str = "row  cost  cycles  alu_latency\n  0     5    2000            1\n";
+pub const DROPPED_TABLE: &str =
+    "row  cost  cycles  rate  alu_latency\n  0     5    2000     -            1\n";
 
 const PRICED_PICTURE: &str = "\
     <svg xmlns=\"http://www.w3.org/2000/svg\" width=\"720\" height=\"440\" viewBox=\"0 0 720 440\"\x20\
@@ -28,8 +30,9 @@ const PRICED_PICTURE: &str = "\
     <g stroke=\"#dddddd\">\n\
     <path d=\"M136 56V384\"/>\n\
     <path d=\"M238 56V384\"/>\n\
-    <path d=\"M392 56V384\"/>\n\
-    <path d=\"M494 56V384\"/>\n\
+    <path d=\"M340 56V384\"/>\n\
+    <path d=\"M443 56V384\"/>\n\
+    <path d=\"M545 56V384\"/>\n\
     <path d=\"M648 56V384\"/>\n\
     <path d=\"M112 360H696\"/>\n\
     <path d=\"M112 220H696\"/>\n\
@@ -39,8 +42,9 @@ const PRICED_PICTURE: &str = "\
     <g text-anchor=\"middle\">\n\
     <text x=\"136\" y=\"402\">10</text>\n\
     <text x=\"238\" y=\"402\">12</text>\n\
-    <text x=\"392\" y=\"402\">15</text>\n\
-    <text x=\"494\" y=\"402\">17</text>\n\
+    <text x=\"340\" y=\"402\">14</text>\n\
+    <text x=\"443\" y=\"402\">16</text>\n\
+    <text x=\"545\" y=\"402\">18</text>\n\
     <text x=\"648\" y=\"402\">20</text>\n\
     <text x=\"404\" y=\"426\" font-size=\"14\">cost</text>\n\
     </g>\n\

@@ -7,25 +7,25 @@ use tomex_samples::studies::PRODUCT_STUDY;
 
 /// The product on the first row, of two alu stations.
 const ON_TWO_STATIONS: &str = "cycles 1 to 8\n\
-    1 IEW      00000000 addi x1,x0,5\n\
-    2  IEW     00000004 addi x2,x0,7\n\
-    3   I=EEEW 00000008 mul x3,x1,x2\n\
-    4    I     0000000c ebreak\n";
+    1 00000000 addi x1,x0,5 IEW\n\
+    2 00000004 addi x2,x0,7  IEW\n\
+    3 00000008 mul x3,x1,x2   I=EEEW\n\
+    4 0000000c ebreak          I\n";
 
 /// Its second and third instructions there.
 const TWO_OF_THEM: &str = "cycles 2 to 8\n\
-    2 IEW     00000004 addi x2,x0,7\n\
-    3  I=EEEW 00000008 mul x3,x1,x2\n";
+    2 00000004 addi x2,x0,7 IEW\n\
+    3 00000008 mul x3,x1,x2  I=EEEW\n";
 
 /// Its last.
-const THE_LAST: &str = "cycles 4 to 4\n4 I 0000000c ebreak\n";
+const THE_LAST: &str = "cycles 4 to 4\n4 0000000c ebreak I\n";
 
 /// And all of them on the second row, where the second sum waits for the first one's station.
 pub const ON_ONE_STATION: &str = "cycles 1 to 10\n\
-    1 IEW        00000000 addi x1,x0,5\n\
-    2    IEW     00000004 addi x2,x0,7\n\
-    3     I=EEEW 00000008 mul x3,x1,x2\n\
-    4      I     0000000c ebreak\n";
+    1 00000000 addi x1,x0,5 IEW\n\
+    2 00000004 addi x2,x0,7    IEW\n\
+    3 00000008 mul x3,x1,x2     I=EEEW\n\
+    4 0000000c ebreak            I\n";
 
 const NO_STEP: (u8, &str, &str) = (1, "", "tomex: no such step\n");
 

@@ -15,17 +15,17 @@ use Rattle.tomex_views.specs.Chart.{picture_of, shown, sign_in, signs_of}
 use Rattle.tomex_views.specs.declared.lines.Frame.{Frame}
 
 -- the sign of the next cycle
-next_sign : (at : Times) (t until : ℕ) → t < until → chart at t until ≡ sign_in at t ++ chart at (t + 1) until
-next_sign at t until within =
-    let e : until - t ≡ suc (until - (t + 1)) = omega arith in
+next_sign : (at : Times) (t : ℕ) → t ≤ at.end → chart at t ≡ sign_in at t ++ chart at (t + 1)
+next_sign at t within =
+    let e : at.end + 1 - t ≡ suc (at.end + 1 - (t + 1)) = omega arith in
     ap (λ (n : ℕ). flat_map (sign_in at) (range_with_len t n)) e
 
-pub sign_more : (at : Times) (t until : ℕ) (before after whole : List ℕ) → t < until → after ≡ before ++ sign_in at t
-    → before ++ chart at t until ≡ whole → after ++ chart at (t + 1) until ≡ whole
-sign_more at t until before after whole within grown so_far =
-    ap (λ (z : List ℕ). z ++ chart at (t + 1) until) grown
-    ∙ (append_assoc before (sign_in at t) (chart at (t + 1) until)
-    ∙ (ap (λ (z : List ℕ). before ++ z) (sym (next_sign at t until within)) ∙ so_far))
+pub sign_more : (at : Times) (t : ℕ) (before after whole : List ℕ) → t ≤ at.end → after ≡ before ++ sign_in at t
+    → before ++ chart at t ≡ whole → after ++ chart at (t + 1) ≡ whole
+sign_more at t before after whole within grown so_far =
+    ap (λ (z : List ℕ). z ++ chart at (t + 1)) grown
+    ∙ (append_assoc before (sign_in at t) (chart at (t + 1))
+    ∙ (ap (λ (z : List ℕ). before ++ z) (sym (next_sign at t within)) ∙ so_far))
 
 -- the line of the next step
 next_line : (frame : Frame) (number index : ℕ) (steps : List Step) (times : List Times) (step first : Step)
@@ -58,7 +58,7 @@ line_more frame number index steps times step first at none before after whole w
     ∙ (append_assoc before line rest
     ∙ (ap (λ (z : List ℕ). before ++ z) (sym at_index) ∙ so_far)))
 
--- behind the last step
+-- after the last step
 pub no_line : (frame : Frame) (number index : ℕ) (steps : List Step) (times : List Times) (text whole : List ℕ)
     → length steps ≤ index → text ++ lines_of frame number (drop index steps) (drop index times) ≡ whole
     → text ≡ whole
@@ -114,26 +114,26 @@ pub numbers_few : {X : Type 0} (n k number from : ℕ) (xs part : List X) → fr
     → part ≡ take n (drop k xs) → length xs ≤ 262144 → from + length part < 9223372036854775808
 numbers_few n k number from xs part same low is few = omega (arith, part_length n k xs part is, same, low, few)
 
--- what comes behind five pieces
-line_behind : (a b c d e rest : List ℕ) → (a ++ (b ++ (c ++ (d ++ e)))) ++ rest ≡ a ++ (b ++ (c ++ (d ++ (e ++ rest))))
-line_behind a b c d e rest =
+-- what comes after five pieces
+line_after : (a b c d e rest : List ℕ) → (a ++ (b ++ (c ++ (d ++ e)))) ++ rest ≡ a ++ (b ++ (c ++ (d ++ (e ++ rest))))
+line_after a b c d e rest =
     append_assoc a (b ++ (c ++ (d ++ e))) rest
     ∙ ap (λ (z : List ℕ). a ++ z) (append_assoc b (c ++ (d ++ e)) rest
     ∙ ap (λ (z : List ℕ). b ++ z) (append_assoc c (d ++ e) rest
     ∙ ap (λ (z : List ℕ). c ++ z) (append_assoc d e rest)))
 
--- the line with the cycles, and those of the steps behind it
+-- the line with the cycles, and those of the steps after it
 pub drawn_is : (number first last : ℕ) (steps : List Step) (times : List Times) (frame : Frame)
     (none head text bytes : List ℕ) → none ≡ []
     → head ≡ none ++ (codes "cycles " ++ (decimal first ++ (codes " to " ++ (decimal last ++ codes "\n"))))
     → text ≡ head ++ lines_of frame number steps times → bytes ≡ text → first ≡ first_issue times
-    → last ≡ total_of times → frame ≡ frame_of number times → bytes ≡ picture_of number steps times
+    → last ≡ total_of times → frame ≡ frame_of number steps times → bytes ≡ picture_of number steps times
 drawn_is number first last steps times frame none head text bytes empty begun more made first_is last_is frame_is =
     let line = codes "cycles " ++ (decimal first ++ (codes " to " ++ (decimal last ++ codes "\n"))) in
     made ∙ (more ∙ (ap (λ (z : List ℕ). z ++ lines_of frame number steps times)
     (begun ∙ ap (λ (z : List ℕ). z ++ line) empty) ∙ rw (first_is, last_is, frame_is)
-    (line_behind (codes "cycles ") (decimal (first_issue times)) (codes " to ") (decimal (total_of times)) (codes "\n")
-    (lines_of (frame_of number times) number steps times))))
+    (line_after (codes "cycles ") (decimal (first_issue times)) (codes " to ") (decimal (total_of times)) (codes "\n")
+    (lines_of (frame_of number steps times) number steps times))))
 
 -- the text is the picture that was asked for
 pub pictured : (config : Configuration) (run made steps : List Step) (kept slice times : List Times)

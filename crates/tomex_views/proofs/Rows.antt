@@ -16,27 +16,27 @@ picture number count config steps =
 
 product_picture : picture 1 32 (with_latency units.Mul two_alu_stations 3) product
     ≡ codes "cycles 1 to 8\n"
-    ++ codes "1 IEW      00000000 addi x1,x0,5\n"
-    ++ codes "2  IEW     00000004 addi x2,x0,7\n"
-    ++ codes "3   I=EEEW 00000008 mul x3,x1,x2\n"
-    ++ codes "4    I     0000000c ebreak\n"
+    ++ codes "1 00000000 addi x1,x0,5 IEW\n"
+    ++ codes "2 00000004 addi x2,x0,7  IEW\n"
+    ++ codes "3 00000008 mul x3,x1,x2   I=EEEW\n"
+    ++ codes "4 0000000c ebreak          I\n"
 unfolding line_of sign_in times_of digits padded_integral char_count
 product_picture = refl
 
--- a part of it
-two_of_product : picture 2 2 (with_latency units.Mul two_alu_stations 3) product
-    ≡ codes "cycles 2 to 8\n2 IEW     00000004 addi x2,x0,7\n3  I=EEEW 00000008 mul x3,x1,x2\n"
+-- a part of it, with the width of its own instructions
+two_of_product : picture 3 2 (with_latency units.Mul two_alu_stations 3) product
+    ≡ codes "cycles 3 to 8\n3 00000008 mul x3,x1,x2 I=EEEW\n4 0000000c ebreak        I\n"
 unfolding line_of sign_in times_of digits padded_integral char_count
 two_of_product = refl
 
 -- both results are ready for cycle 4: the younger one waits for the bus
 results_picture : picture 1 32 (with_latency units.Mul plain 2) two_results
-    ≡ codes "cycles 1 to 5\n1 IEEW  00000000 mul x3,x0,x0\n2  IE-W 00000004 addi x4,x0,1\n3   I   00000008 ebreak\n"
+    ≡ codes "cycles 1 to 5\n1 00000000 mul x3,x0,x0 IEEW\n2 00000004 addi x4,x0,1  IE-W\n3 00000008 ebreak         I\n"
 unfolding line_of sign_in times_of digits padded_integral char_count
 results_picture = refl
 
 -- addresses, and a store, which ends in its unit
 accesses_picture : picture 3 2 (with_latency units.Mem two_alu_stations 2) (stored_and_loaded 1)
-    ≡ codes "cycles 3 to 9\n3 IAEE    00000008 sw x1,0(x8)\n4  IA=EEW 0000000c lb x2,1(x8)\n"
+    ≡ codes "cycles 3 to 9\n3 00000008 sw x1,0(x8) IAEE\n4 0000000c lb x2,1(x8)  IA=EEW\n"
 unfolding line_of sign_in times_of digits padded_integral char_count
 accesses_picture = refl

@@ -1,6 +1,6 @@
--- The picture of some steps of a run: a line a step, with a column for each cycle.
+-- The picture of some steps of a run: a line a step, with a column for each cycle after its instruction.
 use Rattle.std.specs.Prelude.{◌≡◌, ℕ, ◌+◌, ◌-◌, ◌*◌, ◌<◌, ◌≤◌, ◌==◌, nat_le, nat_lt, ◌&&◌, if◌then◌else◌}
-use Rattle.std.specs.Prelude.{List, [], ◌∷◌, ◌++◌, codes, drop, length, take, Option, Some, None}
+use Rattle.std.specs.Prelude.{max, List, [], ◌∷◌, ◌++◌, codes, drop, length, take, Option, Some, None}
 use Rattle.std.specs.List.{flat_map, range_with_len}
 use Rattle.std.specs.Fmt.{decimal}
 use Rattle.tomex_rvdec.specs.Text.{instr_text}
@@ -10,7 +10,7 @@ use Rattle.tomex_steps.specs.declared.step.Step.{Step}
 use Rattle.tomex_config.specs.Configuration.{Configuration}
 use Rattle.tomex_timing.specs.Search.{times_in, total_of}
 use Rattle.tomex_timing.specs.declared.times.Times.{Times}
-use Rattle.tomex_records.specs.Aligned.{right_aligned}
+use Rattle.tomex_records.specs.Aligned.{left_aligned, right_aligned}
 use Rattle.tomex_views.specs.declared.lines.Frame.{Frame}
 use Rattle.tomex_views.specs.declared.picture_error.PictureError.{PictureError}
 use Rattle.tomex_views.specs.declared.picture_error.PictureError.TheVariants.{NoSuchStep, TooLarge, Memory}
@@ -46,15 +46,16 @@ sign_at (Some stage) = sign_of stage
 unfoldable pub sign_in : Times → ℕ → List ℕ
 sign_in at t = sign_at (stage_in at t)
 
--- a step's chart: its signs from a cycle on, before another
-abbrev pub chart : Times → ℕ → ℕ → List ℕ
-chart at from until = flat_map (sign_in at) (range_with_len from (until - from))
+-- a step's chart: its signs from a cycle on, up to its end
+abbrev pub chart : Times → ℕ → List ℕ
+chart at from = flat_map (sign_in at) (range_with_len from (at.end + 1 - from))
 
--- a step's line: its number, its chart, its address and its instruction
+-- a step's line: its number, its address, its instruction and its chart
 unfoldable pub line_of : Frame → ℕ → Step → Times → List ℕ
 line_of frame number step at =
-    right_aligned frame.digits (decimal number) ++ (codes " " ++ (chart at frame.first frame.until
-    ++ (codes " " ++ (hex8 step.pc ++ (codes " " ++ (instr_text step.instr ++ codes "\n"))))))
+    right_aligned frame.digits (decimal number) ++ (codes " " ++ (hex8 step.pc
+    ++ (codes " " ++ (left_aligned frame.letters (instr_text step.instr)
+    ++ (codes " " ++ (chart at frame.first ++ codes "\n"))))))
 
 -- the lines of the steps from a number on
 abbrev pub lines_of : Frame → ℕ → List Step → List Times → List ℕ
@@ -67,20 +68,25 @@ abbrev pub first_issue : List Times → ℕ
 first_issue [] = 0
 first_issue (at ∷ times) = at.issue
 
--- the columns of steps with these times from a number on: as wide as the greatest number, from the first issue to the
--- greatest end
-abbrev pub frame_of : ℕ → List Times → Frame
-frame_of number times = record {
-  digits = length (decimal (number + length times - 1));
+-- how long the longest of their instructions is
+abbrev pub longest_instruction : List Step → ℕ
+longest_instruction [] = 0
+longest_instruction (step ∷ steps) = max (length (instr_text step.instr)) (longest_instruction steps)
+
+-- the columns of steps with these times from a number on: as wide as the greatest number and the longest instruction,
+-- and from the first issue on
+abbrev pub frame_of : ℕ → List Step → List Times → Frame
+frame_of number steps times = record {
+  digits = length (decimal (number + length steps - 1));
+  letters = longest_instruction steps;
   first = first_issue times;
-  until = total_of times + 1;
 }
 
 -- the picture of steps with these times from a number on
 abbrev pub picture_of : ℕ → List Step → List Times → List ℕ
 picture_of number steps times =
     codes "cycles " ++ (decimal (first_issue times) ++ (codes " to " ++ (decimal (total_of times)
-    ++ (codes "\n" ++ lines_of (frame_of number times) number steps times))))
+    ++ (codes "\n" ++ lines_of (frame_of number steps times) number steps times))))
 
 -- how many signs it has
 abbrev pub signs_of : List Times → ℕ
@@ -90,7 +96,7 @@ signs_of times = length times * (total_of times + 1 - first_issue times)
 abbrev pub most_signs : ℕ
 most_signs = 16777216
 
--- what is shown of a list: so many at most, from a number on; the first is number 1
+-- what is shown of a list: `count` at most, from a number on; the first is number 1
 abbrev pub shown : {X : Type 0} → ℕ → ℕ → List X → List X
 shown number count xs = take count (drop (number - 1) xs)
 

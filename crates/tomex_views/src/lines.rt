@@ -3,12 +3,13 @@
 ghost use Rattle.std.specs.Prelude.{◌≡◌, ◌+◌, ◌<◌, ◌^◌, ◌++◌, codes, length, OnOk, string_bytes};
 ghost use Rattle.tomex_rvdec.specs.Text.{instr_text};
 ghost use Rattle.tomex_rvexec.specs.Texts.{hex8};
+ghost use Rattle.tomex_records.specs.Aligned.{left_aligned};
 ghost use Rattle.tomex_views.specs.Chart.{chart, line_of, lines_of};
 
 use crate::stage::sign_in;
 use std::alloc::{AllocError, Allocator, Global};
 use std::fmt::Write;
-use tomex_records::push_aligned_number;
+use tomex_records::{push_aligned_number, push_left_aligned};
 use tomex_rvexec::Step;
 use tomex_timing::Times;
 
@@ -17,36 +18,37 @@ use tomex_timing::Times;
 pub struct Frame {
     /// How wide the numbers are.
     pub digits: usize,
-    /// The cycle of the first column.
+    /// How wide the instructions are.
+    pub letters: usize,
+    /// The cycle of the first column of signs.
     pub first: u64,
-    /// The cycle behind the last column.
-    pub until: u64,
 }
 
-/// Adds a step's chart: its signs from a cycle on, before another.
-fn push_chart<A: Allocator>(
-    text: &mut String<A>,
-    at: &Times,
-    from: u64,
-    until: u64,
-) -> Result<(), AllocError>
-    ensures { OnOk result (string_bytes text.new
-        ≡ string_bytes text.old ++ chart at.now from until) }
+/// Adds a step's chart: its signs from a cycle on, up to its end.
+fn push_chart<A: Allocator>(text: &mut String<A>, at: &Times, from: u64) -> Result<(), AllocError>
+    ensures { OnOk result (string_bytes text.new ≡ string_bytes text.old ++ chart at.now from) }
 {
-    for cycle in from..until {
+    for cycle in from..=at.end {
         text.push_str(sign_in(at, cycle))?;
     }
     Ok(())
 }
 
-/// Adds what stands behind a step's chart: its address and its instruction.
-fn push_what<A: Allocator>(text: &mut String<A>, step: &Step) -> Result<(), AllocError>
+/// Adds what a step is: its address and its instruction, which is as wide as the widest.
+fn push_what<A: Allocator>(
+    text: &mut String<A>,
+    scratch: &mut String,
+    letters: usize,
+    step: &Step,
+) -> Result<(), AllocError>
     ensures { OnOk result (string_bytes text.new ≡ string_bytes text.old
-        ++ (codes " " ++ (hex8 step.now.pc ++ (codes " " ++ (instr_text step.now.instr ++ codes "\n"))))) }
+        ++ (hex8 step.now.pc ++ (codes " " ++ left_aligned letters (instr_text step.now.instr)))) }
 {
     let (pc, instr) = (step.pc, step.instr);
-    write!(text, " {pc:08x} {instr}\n")?;
-    Ok(())
+    write!(text, "{pc:08x} ")?;
+    scratch.clear();
+    write!(scratch, "{instr}")?;
+    push_left_aligned(text, letters, scratch.as_str())
 }
 
 /// Adds a step's line.
@@ -64,8 +66,10 @@ fn push_line<A: Allocator>(
 {
     push_aligned_number(text, scratch, frame.digits, number)?;
     text.push_str(" ")?;
-    push_chart(text, at, frame.first, frame.until)?;
-    push_what(text, step)
+    push_what(text, scratch, frame.letters, step)?;
+    text.push_str(" ")?;
+    push_chart(text, at, frame.first)?;
+    text.push_str("\n")
 }
 
 /// Adds the lines of the steps from a number on.

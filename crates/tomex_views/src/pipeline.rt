@@ -5,7 +5,7 @@ ghost use Rattle.tomex_rvexec.specs.Run.{start_of};
 ghost use Rattle.tomex_rvexec.specs.Trace.{steps_from};
 ghost use Rattle.tomex_timing.specs.Search.{total_of};
 ghost use Rattle.tomex_views.specs.Chart.{IsPictureOf, IsUnpictured, first_issue, frame_of};
-ghost use Rattle.tomex_views.specs.Chart.{most_signs, picture_of, signs_of};
+ghost use Rattle.tomex_views.specs.Chart.{longest_instruction, most_signs, picture_of, signs_of};
 
 use crate::lines::{Frame, push_lines};
 use crate::picture_error::PictureError;
@@ -20,7 +20,7 @@ use tomex_timing::evaluate::{times, total};
 /// The most signs of one picture.
 const MOST_SIGNS: u64 = 16_777_216;
 
-/// So many of these at most, behind the first ones.
+/// `count` of these at most, after the first ones.
 pub fn part_of<T>(items: &[T], behind: usize, count: usize) -> &[T]
     requires { behind ≤ length items.now }
     ensures { result.now ≡ take count (drop behind items.now) }
@@ -51,19 +51,33 @@ fn is_too_large(times: &[Times]) -> bool
     MOST_SIGNS < signs
 }
 
-/// The columns of steps with these times, from a number on.
-fn frame_of(heap: Global, number: u64, times: &[Times]) -> Result<Frame, AllocError>
-    requires number { 0 < number }
-    requires few { number + length times.now < 2 ^ 63 }
-    requires bound { total_of times.now < 2 ^ 32 }
-    ensures { IfOk result (λ frame. frame ≡ frame_of number times.now) }
+/// How long the longest instruction of some steps is.
+fn longest_instruction(heap: Global, steps: &[Step]) -> Result<usize, AllocError>
+    ensures { IfOk result (λ letters. letters ≡ longest_instruction steps.now) }
 {
-    let greatest = number + times.len() as u64 - 1;
+    let mut text = String::new(heap);
+    let mut letters = 0;
+    for step in steps {
+        let instr = step.instr;
+        text.clear();
+        write!(&mut text, "{instr}")?;
+        letters = letters.max(text.as_bytes().len());
+    }
+    Ok(letters)
+}
+
+/// The columns of steps with these times, from a number on.
+fn frame_of(heap: Global, number: u64, steps: &[Step], times: &[Times]) -> Result<Frame, AllocError>
+    requires number { 0 < number }
+    requires few { number + length steps.now < 2 ^ 63 }
+    ensures { IfOk result (λ frame. frame ≡ frame_of number steps.now times.now) }
+{
+    let greatest = number + steps.len() as u64 - 1;
     let text = format!(in heap; "{greatest}")?;
     Ok(Frame {
         digits: text.as_bytes().len(),
+        letters: longest_instruction(heap, steps)?,
         first: first_issue(times),
-        until: total(times) + 1,
     })
 }
 
@@ -81,7 +95,7 @@ fn picture_of<A: Allocator>(
     requires bound { total_of times.now < 2 ^ 32 }
     ensures { IfOk result (λ text. text.items ≡ picture_of number steps.now times.now) }
 {
-    let frame = frame_of(heap, number, times)?;
+    let frame = frame_of(heap, number, steps, times)?;
     let (first, last) = (first_issue(times), total(times));
     let mut text = String::new(alloc);
     write!(&mut text, "cycles {first} to {last}\n")?;
@@ -91,7 +105,7 @@ fn picture_of<A: Allocator>(
 
 /// The picture of some steps of a program's run on a configuration, `count` of them at most from step `number` on;
 /// the first step is number 1. A line with the cycles, from the first step's issue to the greatest end, and then a
-/// line a step: its number, a sign for each cycle, its address and its instruction.
+/// line a step: its number, its address, its instruction, and a sign for each cycle up to its end.
 ///
 /// A picture of more than 2^24 signs isn't made. What is small is taken of `heap`.
 pub fn pipeline_text<A: Allocator + Clone>(

@@ -2,8 +2,7 @@
 
 ghost use Rattle.std.specs.Prelude.{◌≡◌, ◌≤◌};
 ghost use Rattle.std.specs.List.{fold};
-ghost use Rattle.tomex_fronts.specs.Axes.{along, axes_of, new_quarter, only, point_of};
-ghost use Rattle.tomex_fronts.specs.Axes.{quarter, widened, with_row, x_of, y_of};
+ghost use Rattle.tomex_fronts.specs.Axes.{along, axes_of, only, point_of, widened, with_row, x_of, y_of};
 
 use tomex_pareto::FrontRow;
 
@@ -62,29 +61,6 @@ impl Span {
         let here = value.min(self.greatest).saturating_sub(self.least);
         let scaled = u128::from(here) * u128::from(far) / u128::from(self.greatest - self.least);
         scaled as u64
-    }
-
-    /// The value at k quarters.
-    #[tactic(auto, unfolding(crate::specs::Axes::quarter))]
-    fn quarter(self, k: u64) -> u64
-        requires { k ≤ 4 }
-        ensures { result ≡ quarter self k }
-    {
-        let far = self.greatest.saturating_sub(self.least);
-        self.least + (u128::from(far) * u128::from(k) / 4) as u64
-    }
-
-    /// The value at k quarters, unless it is the one a quarter before.
-    pub fn new_quarter(self, k: u64) -> Option<u64>
-        requires { k ≤ 4 }
-        ensures { result ≡ new_quarter self k }
-    {
-        let here = self.quarter(k);
-        if k > 0 && here == self.quarter(k - 1) {
-            None
-        } else {
-            Some(here)
-        }
     }
 }
 

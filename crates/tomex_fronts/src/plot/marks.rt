@@ -1,9 +1,10 @@
 //! The lines and numbers of the axes.
 
-ghost use Rattle.std.specs.Prelude.{◌≡◌, ◌≤◌, ◌++◌, OnOk, string_bytes};
-ghost use Rattle.tomex_fronts.specs.Plot.{mark_at, mark_of, marks_of, span_of};
+ghost use Rattle.std.specs.Prelude.{◌≡◌, ◌++◌, OnOk, string_bytes};
+ghost use Rattle.tomex_fronts.specs.Plot.{mark_at, marks_of, span_of};
 
 use crate::plot::axes::{Axes, Span};
+use crate::plot::ticks::step_of;
 use std::alloc::{AllocError, Allocator};
 use std::fmt::Write;
 
@@ -49,25 +50,8 @@ fn push_mark_at<A: Allocator>(
     }
 }
 
-/// Adds what stands at k quarters, unless it is where the last one was.
-#[tactic(auto, unfolding(crate::specs::Plot::mark_of))]
-fn push_mark<A: Allocator>(
-    text: &mut String<A>,
-    axes: &Axes,
-    mark: Mark,
-    k: u64,
-) -> Result<(), AllocError>
-    requires { k ≤ 4 }
-    ensures { OnOk result (string_bytes text.new
-        ≡ string_bytes text.old ++ mark_of axes.now mark k) }
-{
-    match span_of(axes, mark).new_quarter(k) {
-        Some(value) => push_mark_at(text, axes, mark, value),
-        None => Ok(()),
-    }
-}
-
-/// Adds what stands at each quarter.
+/// Adds what stands at each tick.
+#[tactic(auto, unfolding(crate::specs::Plot::marks_of))]
 pub fn push_marks<A: Allocator>(
     text: &mut String<A>,
     axes: &Axes,
@@ -76,8 +60,10 @@ pub fn push_marks<A: Allocator>(
     ensures { OnOk result (string_bytes text.new
         ≡ string_bytes text.old ++ marks_of axes.now mark) }
 {
-    for k in 0..5 {
-        push_mark(text, axes, mark, k)?;
+    let span = span_of(axes, mark);
+    let step = step_of(span.greatest.saturating_sub(span.least));
+    for k in span.least.div_ceil(step)..=span.greatest / step {
+        push_mark_at(text, axes, mark, k * step)?;
     }
     Ok(())
 }

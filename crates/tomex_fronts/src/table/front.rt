@@ -1,13 +1,16 @@
 //! The front of a study as a table.
 
 ghost use Rattle.std.specs.Prelude.{◌≡◌, ◌<◌, ◌++◌, length, map, All, IfOk, OnOk};
+ghost use Rattle.tomex_fronts.specs.declared.table.entry.Entry.TheVariants.{Number};
 ghost use Rattle.std.specs.List.{AllZip, flat_map};
 ghost use Rattle.tomex_runs.specs.StudyFront.{front_of_study};
 ghost use Rattle.tomex_fronts.specs.FrontTable.{all_settings, cycles_on, front_table_of, heading_column};
 ghost use Rattle.tomex_fronts.specs.FrontTable.{number_under, own_columns, program_column, program_columns};
 ghost use Rattle.tomex_fronts.specs.FrontTable.{setting_columns};
 
+use super::entry::Entry;
 use super::heading::{Heading, Setting};
+use super::rate::rate_column;
 use super::{Column, table_of};
 use std::alloc::{AllocError, Allocator, Global};
 use tomex_pareto::FrontRow;
@@ -41,7 +44,8 @@ fn heading_column<A: Allocator>(
     let mut column = Column::new(heap, heading.name(heap)?);
     let mut scratch = String::new(heap);
     for row in front {
-        column.push(&mut scratch, number_under(study, heading, *row))?;
+        let number = number_under(study, heading, *row);
+        column.push(&mut scratch, Entry::Number(number))?;
     }
     Ok(column)
 }
@@ -60,6 +64,7 @@ fn push_own<A: Allocator>(
     columns.push(heading_column(heap, study, front, Heading::Row)?)?;
     columns.push(heading_column(heap, study, front, Heading::Cost)?)?;
     columns.push(heading_column(heap, study, front, Heading::Cycles)?)?;
+    columns.push(rate_column(heap, front)?)?;
     push_settings(columns, heap, study, front)
 }
 
@@ -101,12 +106,12 @@ fn push_settings<A: Allocator>(
 
 /// The column of a program.
 fn column_of(heap: Global, name: &str, cycles: &[u64]) -> Result<Column, AllocError>
-    ensures { IfOk result (λ c. c ≡ record { name = name.now; numbers = cycles.now }) }
+    ensures { IfOk result (λ c. c ≡ record { name = name.now; entries = map Number cycles.now }) }
 {
     let mut column = Column::new(heap, format!(in heap; "{name}")?);
     let mut scratch = String::new(heap);
     for total in cycles {
-        column.push(&mut scratch, *total)?;
+        column.push(&mut scratch, Entry::Number(*total))?;
     }
     Ok(column)
 }
@@ -151,7 +156,8 @@ fn push_each_program<A: Allocator>(
 }
 
 /// The front of a study as a table: a line of names, and then a line a row of the front, with its number, cost and
-/// cycles, what rows of the study differ in, and, of several programs, the cycles of each.
+/// cycles, the cycles that it saves over the row before for 1 of cost, what rows of the study differ in, and, of
+/// several programs, the cycles of each.
 ///
 /// `cycles` are those of each program on each row of the front. What is small is taken of `heap`.
 pub fn front_table<A: Allocator>(

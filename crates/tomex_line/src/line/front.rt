@@ -13,8 +13,9 @@ const ABOUT: &str = "Explores the configurations of a study and prints the front
 const LONG_ABOUT: &str =
     "Explores a study as `explore` does, and prints the front as a table for people:
 a line of names, and then a line for each configuration on the front, by cost
-and then number, with its number, cost and cycles. Of the parts, those alone
-have a column in which two configurations of the study differ. A study of
+and then number, with its number, cost and cycles. `rate` is how many cycles it
+takes fewer than the line above, for 1 of what it costs more. Of the parts, only
+those have a column in which two configurations of the study differ. A study of
 several programs has a column for each program's own cycles, which aren't
 multiplied by its weight.
 
@@ -35,11 +36,11 @@ Examples, in the folder `examples`:
   tomex front study.toml
 
 prints
-  row  cost  cycles  alu  mul_latency  buses
-    2    50      13    1            6      1
-    6    60      11    2            6      1
-    0    75      10    1            3      1
-    4    85       8    2            3      1";
+  row  cost  cycles  rate  alu  mul_latency  buses
+    2    50      13     -    1            6      1
+    6    60      11  0.20    2            6      1
+    0    75      10  0.06    1            3      1
+    4    85       8  0.20    2            3      1";
 
 const TEXTS: Texts = Texts {
     about: ABOUT,

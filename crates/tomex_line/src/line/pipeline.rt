@@ -58,7 +58,7 @@ CONFIG and the options are decimal, like all numbers on the command line; in
 the study's TOML they may be hexadecimal too, as in 0x10000.
 
 The first line has the cycles of the columns. Each other line has the number
-of an instruction, its signs, its address and itself. The signs:
+of an instruction, its address, itself, and its signs up to its end. The signs:
   I  it issues
   A  it computes its address, a load or store
   E  it is in its unit
@@ -84,17 +84,17 @@ Examples, in the folder `examples`:
 
 prints
   cycles 1 to 8
-  1 IEW      00000000 addi x1,x0,5
-  2  IEW     00000004 addi x2,x0,7
-  3   I=EEEW 00000008 mul x3,x1,x2
-  4    I     0000000c ebreak
+  1 00000000 addi x1,x0,5 IEW
+  2 00000004 addi x2,x0,7  IEW
+  3 00000008 mul x3,x1,x2   I=EEEW
+  4 0000000c ebreak          I
 and
   tomex pipeline study.toml 4 mul --from 2 --steps 2
 
 prints
   cycles 2 to 8
-  2 IEW     00000004 addi x2,x0,7
-  3  I=EEEW 00000008 mul x3,x1,x2
+  2 00000004 addi x2,x0,7 IEW
+  3 00000008 mul x3,x1,x2  I=EEEW
 and
   tomex pipeline study.toml 4 mul --konata
 

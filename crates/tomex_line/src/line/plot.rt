@@ -11,10 +11,11 @@ use std::alloc::{AllocError, Global};
 const ABOUT: &str = "Explores the configurations of a study and draws the front";
 
 const LONG_ABOUT: &str =
-    "Explores a study as `explore` does, and prints the front as a picture in SVG, 720
-by 440 points: cost from left to right, cycles from bottom to top, a circle for
-each configuration on the front, and a staircase through them. All other
-configurations lie on or above the staircase, in the part that is shaded.
+    "Explores a study as `explore` does, and prints the front as a picture in SVG,
+720 by 440 points: cost from left to right, cycles from bottom to top, a circle
+for each configuration on the front, and a staircase through them. All other
+configurations lie on or above the staircase, in the part that is shaded. Both
+axes have round numbers, and need not begin at 0.
 
 Numbers beside the circles are those of the configurations; where circles stand
 close together only some have theirs. In a browser each circle says its

@@ -1,9 +1,9 @@
 -- The line of one turn more.
-use Rattle.tomex_fronts.specs.Table.{numbers_line}
+use Rattle.tomex_fronts.specs.Table.{entries_line}
 use Rattle.tomex_fronts.proofs.Loops.{number_more}
 use Rattle.tomex_fronts.proofs.table.table_of.Goals as goal
 
 pub loop-place-preserved : goal.loop-place-preserved
 loop-place-preserved g c =
-    number_more (numbers_line c.args.columns.now) c.loop-place.place c.args.count _ _ _ c.loop-place-test.true
+    number_more (entries_line c.args.columns.now) c.loop-place.place c.args.count _ _ _ c.loop-place-test.true
     c.in_ok-push_line-2.ensures c.loop-place.invariant

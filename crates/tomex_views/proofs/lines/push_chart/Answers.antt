@@ -6,7 +6,7 @@ use Rattle.tomex_views.proofs.lines.push_chart.Goals as goal
 
 pub loop-cycle-preserved : goal.loop-cycle-preserved
 loop-cycle-preserved g c =
-    sign_more c.args.at.now c.loop-cycle.cycle c.args.until (string_bytes c.loop-cycle.text)
+    sign_more c.args.at.now c.loop-cycle.cycle (string_bytes c.loop-cycle.text)
     (string_bytes c.push_str.new.self) _ c.loop-cycle-test.true
     (c.in_ok-push_str.ensures.bytes ∙ ap (λ (z : List ℕ). string_bytes c.loop-cycle.text ++ z) c.sign_in.ensures)
     c.loop-cycle.invariant

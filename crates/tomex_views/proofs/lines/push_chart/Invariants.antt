@@ -5,5 +5,4 @@ use Rattle.tomex_views.specs.Chart.{chart}
 use Rattle.tomex_views.proofs.lines.push_chart.Given as goal
 
 abbrev pub invariant-loop-cycle : goal.invariant-loop-cycle
-invariant-loop-cycle g l =
-    string_bytes l.text ++ chart l.at l.cycle l.until ≡ string_bytes l.fn.text ++ chart l.at l.from l.until
+invariant-loop-cycle g l = string_bytes l.text ++ chart l.at l.cycle ≡ string_bytes l.fn.text ++ chart l.at l.from

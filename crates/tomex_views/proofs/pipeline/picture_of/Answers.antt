@@ -1,4 +1,4 @@
--- The line with the cycles, and those of the steps behind it.
+-- The line with the cycles, and those of the steps after it.
 use Rattle.std.proofs.Common.{ap}
 use Rattle.tomex_views.proofs.Pictures.{drawn_is}
 use Rattle.tomex_views.proofs.pipeline.picture_of.Goals as goal

@@ -1,4 +1,4 @@
--- The front's rows are rows of the study, each column has a number for each of them, and the columns are those of the
+-- The front's rows are rows of the study, each column has an entry for each of them, and the columns are those of the
 -- table.
 use Rattle.std.proofs.Common.{◌∙◌, sym, subst, ◌<◌, length}
 use Rattle.std.proofs.lemmas.List.Elements.{All-get_or}
@@ -7,7 +7,7 @@ use Rattle.std.specs.Prelude.{All}
 use Rattle.tomex_pareto.specs.declared.front_row.FrontRow.{FrontRow}
 use Rattle.tomex_runs.proofs.StudyFronts.{study_rows}
 use Rattle.tomex_fronts.specs.FrontTable.{front_table_of}
-use Rattle.tomex_fronts.proofs.Tables.{HasNumbers, all_columns, columns_long}
+use Rattle.tomex_fronts.proofs.Tables.{HasEntries, all_columns, columns_long}
 use Rattle.tomex_fronts.proofs.table.front.front_table.Goals as goal
 
 pub push_own-requires : goal.push_own-requires
@@ -21,8 +21,8 @@ table_of-requires g c =
     let made = c.as_slice.ensures.value
     ∙ all_columns c.args.study.now c.args.front.now _ _ _ c.new-columns.ensures.items
     c.in_ok-push_own.ensures c.in_ok-push_programs.ensures in
-    λ k d within. All-get_or (HasNumbers c.args.front.now) _ k d within
-    (subst (All (HasNumbers c.args.front.now)) (sym made) (columns_long c.args.study.now c.args.front.now))
+    λ k d within. All-get_or (HasEntries c.args.front.now) _ k d within
+    (subst (All (HasEntries c.args.front.now)) (sym made) (columns_long c.args.study.now c.args.front.now))
 
 pub returns : goal.returns
 unfolding front_table_of

@@ -1,0 +1,56 @@
+-- The ticks of some spans, the rates of some rows and their texts, computed by the definitions themselves.
+use Rattle.std.proofs.Common.{◌≡◌, refl, ℕ, [], ◌∷◌, None}
+use Rattle.std.specs.Prelude.{codes}
+use Rattle.std.specs.Fmt.{digits}
+use Rattle.tomex_pareto.specs.declared.front_row.FrontRow.{FrontRow}
+use Rattle.tomex_records.specs.Hundredths.{hundredths}
+use Rattle.tomex_fronts.specs.Axes.{step_of, ticks_of}
+use Rattle.tomex_fronts.specs.FrontTable.{rates_after}
+use Rattle.tomex_fronts.specs.Table.{text_of}
+use Rattle.tomex_fronts.specs.declared.plot.axes.Span.{Span}
+use Rattle.tomex_fronts.specs.declared.table.entry.Entry.TheVariants.{Hundredths, Nothing}
+
+abbrev span : ℕ → ℕ → Span
+span least greatest = record { least = least; greatest = greatest }
+
+-- a sixth of 99 is 16.5
+costs : ticks_of (span 101 200) ≡ 120 ∷ 140 ∷ 160 ∷ 180 ∷ 200 ∷ []
+unfolding ticks_of step_of
+costs = refl
+
+cycles : ticks_of (span 29676 54153) ≡ 30000 ∷ 35000 ∷ 40000 ∷ 45000 ∷ 50000 ∷ []
+unfolding ticks_of step_of
+cycles = refl
+
+-- six steps of 1 are enough for 6, but not for 7
+six : ticks_of (span 8 14) ≡ 8 ∷ 9 ∷ 10 ∷ 11 ∷ 12 ∷ 13 ∷ 14 ∷ []
+unfolding ticks_of step_of
+six = refl
+
+seven : ticks_of (span 7 14) ≡ 8 ∷ 10 ∷ 12 ∷ 14 ∷ []
+unfolding ticks_of step_of
+seven = refl
+
+one_value : ticks_of (span 75 75) ≡ 75 ∷ []
+unfolding ticks_of step_of
+one_value = refl
+
+greatest_step : step_of 18446744073709551615 ≡ 5000000000000000000
+unfolding step_of
+greatest_step = refl
+
+abbrev row : ℕ → ℕ → ℕ → FrontRow
+row n cost cycles = record { row = n; cost = cost; cycles = cycles }
+
+-- the first row has no rate, nor has one that is the equal of the row before
+some_rates : rates_after None (row 4 101 54153 ∷ row 132 107 44727 ∷ row 7 107 44727 ∷ row 196 115 37515 ∷ [])
+    ≡ Nothing ∷ Hundredths 157100 ∷ Nothing ∷ Hundredths 90150 ∷ []
+some_rates = refl
+
+-- rounded down
+rounded : rates_after None (row 0 125 36039 ∷ row 1 136 35639 ∷ []) ≡ Nothing ∷ Hundredths 3636 ∷ []
+rounded = refl
+
+rate_text : text_of (Hundredths 157100) ≡ codes "1571.00"
+unfolding hundredths digits
+rate_text = refl

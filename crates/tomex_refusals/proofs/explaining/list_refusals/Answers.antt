@@ -1,0 +1,15 @@
+-- The line of one more.
+use Rattle.std.proofs.Common.{ap, List, ℕ, ◌++◌, refl}
+use Rattle.std.specs.List.{flat_map}
+use Rattle.tomex_refusals.specs.Refusals.{all_refusals, line_of, refusal_lines}
+use Rattle.tomex_refusals.proofs.Found.{line_more}
+use Rattle.tomex_refusals.proofs.explaining.list_refusals.Goals as goal
+
+pub loop-refusal-init : goal.loop-refusal-init
+unfolding refusal_lines
+loop-refusal-init g c = ap (λ (text : List ℕ). text ++ flat_map line_of all_refusals) c.new-text.ensures.bytes
+
+pub loop-refusal-preserved : goal.loop-refusal-preserved
+loop-refusal-preserved g c =
+    line_more line_of all_refusals c.loop-refusal.refusal-index _ _ _ _ _ c.loop-refusal-test.true refl
+    c.in_ok-push_line.ensures c.loop-refusal.invariant

@@ -1,0 +1,5 @@
+pub mod Commands
+pub mod Images
+pub mod Faults
+pub mod Studies
+pub mod Refusals

@@ -1,0 +1,151 @@
+//! What commands refuse themselves.
+
+ghost use Rattle.std.specs.Prelude.{◌≡◌};
+ghost use Rattle.tomex_refusals.specs.Commands.{advice_of, form_of, words_of};
+
+/// What commands refuse themselves.
+#[derive(Clone, Copy)]
+pub enum CommandRefusal {
+    /// A file can't be read.
+    CannotRead,
+    /// Base and size are no window.
+    BadWindow,
+    /// A run has more instructions than it may have.
+    TooLong,
+    /// The study has no configuration of that number.
+    NoSuchRow,
+    /// The study has no program of that name.
+    NoSuchProgram,
+    /// The run has fewer instructions.
+    NoSuchStep,
+    /// The picture would have too many signs.
+    PictureTooLarge,
+    /// The run ends before that cycle.
+    CyclePastEnd,
+    /// The output took no more.
+    CannotWrite,
+    /// The system starts no further thread.
+    ThreadRefused,
+    /// The system gives no more memory.
+    OutOfMemory,
+    /// The words are those of no refusal.
+    NoSuchRefusal,
+}
+
+const CANNOT_READ: &str =
+    "The file NAME can't be read: there is none, it is a folder, it may not be read,
+or it has more than 256 MiB. Names, those in a study too, are taken from the
+folder in which tomex is started, and not from the study's: `cd` to the folder
+of the study, or write the names as they are seen from where you are.
+";
+
+const BAD_WINDOW: &str = "The address of memory, `--base`, or its number of bytes, `--size`, is no
+multiple of 4, or memory would end after address 2^32.
+";
+
+const TOO_LONG: &str =
+    "The program didn't end within its limit of instructions: `--limit`, or `limit`
+in a study, 262144 if nothing else is said, and no more than that. It has to end
+by ECALL or EBREAK. Give it less to do; if it waits for something, it waits for
+ever.
+";
+
+const NO_SUCH_ROW: &str =
+    "CONFIG is no configuration of the study. They are numbered from 0, and are the
+product of all lists; docs/STUDIES.md says in which order. The first column of
+`tomex front STUDY` has the numbers of those on the front.
+";
+
+const NO_SUCH_PROGRAM: &str =
+    "PROGRAM is the `name` of one of the study's programs, as written there, and not
+the name of its file.
+";
+
+const NO_SUCH_STEP: &str =
+    "The program ends before the instruction that `--from` names. `tomex times STUDY
+CONFIG PROGRAM` numbers them, from 1.
+";
+
+const PICTURE_TOO_LARGE: &str =
+    "The instructions shown, times the cycles from the first one's issue to the last
+one's end, are more than 16777216. Take fewer, by `--from` and `--steps`, or use
+`--konata`, which has no limit.
+";
+
+const CYCLE_PAST_END: &str =
+    "CYCLE is greater than the run's total, which is in the last line of `tomex times
+STUDY CONFIG PROGRAM`.
+";
+
+const CANNOT_WRITE: &str =
+    "The standard output didn't take the whole text: it is closed, its device is
+full, or the program that reads it ended, as `head` does.
+";
+
+const THREAD_REFUSED: &str =
+    "The system didn't start a thread. Use fewer: `--workers N`. `ulimit -u` and
+`ulimit -v` say what is allowed.
+";
+
+const OUT_OF_MEMORY: &str =
+    "The system gave no more memory. `ulimit -v` says what is allowed. A study takes
+less with fewer configurations or programs, or with fewer `--workers`.
+";
+
+const NO_SUCH_REFUSAL: &str =
+    "What `tomex explain` was given has the words of no refusal. Without words it
+lists them all. A command line that is refused (status 2) says itself why.
+";
+
+impl CommandRefusal {
+    /// The words that all such refusals have.
+    pub fn words(self) -> &'static str
+        ensures { result.now ≡ words_of self }
+    {
+        match self {
+            CommandRefusal::CannotRead => "cannot read",
+            CommandRefusal::BadWindow => "bad window",
+            CommandRefusal::TooLong => "too long",
+            CommandRefusal::NoSuchRow => "no such row",
+            CommandRefusal::NoSuchProgram => "no such program",
+            CommandRefusal::NoSuchStep => "no such step",
+            CommandRefusal::PictureTooLarge => "picture too large",
+            CommandRefusal::CyclePastEnd => "cycle past the end",
+            CommandRefusal::CannotWrite => "cannot write",
+            CommandRefusal::ThreadRefused => "thread refused",
+            CommandRefusal::OutOfMemory => "out of memory",
+            CommandRefusal::NoSuchRefusal => "no such refusal",
+        }
+    }
+
+    /// How it looks, with names in place of what differs.
+    pub fn form(self) -> &'static str
+        ensures { result.now ≡ form_of self }
+    {
+        match self {
+            CommandRefusal::CannotRead => "cannot read NAME",
+            other => other.words(),
+        }
+    }
+
+    /// What it means, the usual causes, and what to do.
+    #[tactic(auto, unfolding(crate::specs::Commands::cannot_read, crate::specs::Commands::bad_window, crate::specs::Commands::too_long, crate::specs::Commands::no_such_row, crate::specs::Commands::no_such_program, crate::specs::Commands::no_such_step, crate::specs::Commands::picture_too_large, crate::specs::Commands::cycle_past_end, crate::specs::Commands::cannot_write, crate::specs::Commands::thread_refused, crate::specs::Commands::out_of_memory, crate::specs::Commands::no_such_refusal))]
+    pub fn advice(self) -> &'static str
+        ensures { result.now ≡ advice_of self }
+    {
+        match self {
+            CommandRefusal::CannotRead => CANNOT_READ,
+            CommandRefusal::BadWindow => BAD_WINDOW,
+            CommandRefusal::TooLong => TOO_LONG,
+            CommandRefusal::NoSuchRow => NO_SUCH_ROW,
+            CommandRefusal::NoSuchProgram => NO_SUCH_PROGRAM,
+            CommandRefusal::NoSuchStep => NO_SUCH_STEP,
+            CommandRefusal::PictureTooLarge => PICTURE_TOO_LARGE,
+            CommandRefusal::CyclePastEnd => CYCLE_PAST_END,
+            CommandRefusal::CannotWrite => CANNOT_WRITE,
+            CommandRefusal::ThreadRefused => THREAD_REFUSED,
+            CommandRefusal::OutOfMemory => OUT_OF_MEMORY,
+            CommandRefusal::NoSuchRefusal => NO_SUCH_REFUSAL,
+        }
+    }
+}

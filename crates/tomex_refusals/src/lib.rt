@@ -1,0 +1,16 @@
+//! The program's refusals: what each means, the usual causes, and what to do.
+#![tactic(auto)]
+
+mod commands;
+mod explaining;
+mod faults;
+mod images;
+mod refusal;
+mod studies;
+
+pub use commands::CommandRefusal;
+pub use explaining::{ExplainError, explain, list_refusals};
+pub use faults::FaultRefusal;
+pub use images::ImageRefusal;
+pub use refusal::{Refusal, refusal_in};
+pub use studies::StudyRefusal;

@@ -1,0 +1,106 @@
+//! All refusals, and which of them a text is.
+
+ghost use Rattle.std.specs.Prelude.{◌≡◌};
+ghost use Rattle.tomex_refusals.specs.Refusals.{IsFirstIn, advice_of, all_refusals, form_of, words_of};
+
+use crate::commands::CommandRefusal;
+use crate::faults::FaultRefusal;
+use crate::images::ImageRefusal;
+use crate::studies::StudyRefusal;
+
+/// A refusal that some command can report.
+#[derive(Clone, Copy)]
+pub enum Refusal {
+    Command(CommandRefusal),
+    Image(ImageRefusal),
+    Fault(FaultRefusal),
+    Study(StudyRefusal),
+}
+
+impl Refusal {
+    /// All of them, in the order in which they are looked for: what has a name in it first.
+    pub const ALL: [Refusal; 34] = [
+        Refusal::Command(CommandRefusal::CannotRead),
+        Refusal::Command(CommandRefusal::BadWindow),
+        Refusal::Command(CommandRefusal::TooLong),
+        Refusal::Command(CommandRefusal::NoSuchRow),
+        Refusal::Command(CommandRefusal::NoSuchProgram),
+        Refusal::Command(CommandRefusal::NoSuchStep),
+        Refusal::Command(CommandRefusal::PictureTooLarge),
+        Refusal::Command(CommandRefusal::CyclePastEnd),
+        Refusal::Command(CommandRefusal::CannotWrite),
+        Refusal::Command(CommandRefusal::ThreadRefused),
+        Refusal::Command(CommandRefusal::OutOfMemory),
+        Refusal::Command(CommandRefusal::NoSuchRefusal),
+        Refusal::Image(ImageRefusal::Empty),
+        Refusal::Image(ImageRefusal::TooLarge),
+        Refusal::Image(ImageRefusal::Truncated),
+        Refusal::Image(ImageRefusal::NotRiscv),
+        Refusal::Image(ImageRefusal::NotExecutable),
+        Refusal::Image(ImageRefusal::HeaderSize),
+        Refusal::Image(ImageRefusal::Dynamic),
+        Refusal::Image(ImageRefusal::TooManySegments),
+        Refusal::Image(ImageRefusal::Segment),
+        Refusal::Image(ImageRefusal::Overlap),
+        Refusal::Image(ImageRefusal::Entry),
+        Refusal::Fault(FaultRefusal::Fetch),
+        Refusal::Fault(FaultRefusal::Illegal),
+        Refusal::Fault(FaultRefusal::MisalignedTarget),
+        Refusal::Fault(FaultRefusal::Access),
+        Refusal::Study(StudyRefusal::NotToml),
+        Refusal::Study(StudyRefusal::UnknownKey),
+        Refusal::Study(StudyRefusal::Missing),
+        Refusal::Study(StudyRefusal::WrongKind),
+        Refusal::Study(StudyRefusal::OutOfRange),
+        Refusal::Study(StudyRefusal::TooMany),
+        Refusal::Study(StudyRefusal::NumberOfFiles),
+    ];
+
+    /// The words by which it is known.
+    pub fn words(self) -> &'static str
+        ensures { result.now ≡ words_of self }
+    {
+        match self {
+            Refusal::Command(refusal) => refusal.words(),
+            Refusal::Image(refusal) => refusal.words(),
+            Refusal::Fault(refusal) => refusal.words(),
+            Refusal::Study(refusal) => refusal.words(),
+        }
+    }
+
+    /// How it looks, with names in place of what differs.
+    pub fn form(self) -> &'static str
+        ensures { result.now ≡ form_of self }
+    {
+        match self {
+            Refusal::Command(refusal) => refusal.form(),
+            Refusal::Image(refusal) => refusal.words(),
+            Refusal::Fault(refusal) => refusal.form(),
+            Refusal::Study(refusal) => refusal.form(),
+        }
+    }
+
+    /// What it means, the usual causes, and what to do.
+    pub fn advice(self) -> &'static str
+        ensures { result.now ≡ advice_of self }
+    {
+        match self {
+            Refusal::Command(refusal) => refusal.advice(),
+            Refusal::Image(refusal) => refusal.advice(),
+            Refusal::Fault(refusal) => refusal.advice(),
+            Refusal::Study(refusal) => refusal.advice(),
+        }
+    }
+}
+
+/// The refusal that a text is: the first whose words it has, if any.
+pub fn refusal_in(text: &str) -> Option<Refusal>
+    ensures { IsFirstIn text.now all_refusals result }
+{
+    for refusal in Refusal::ALL {
+        if text.contains(refusal.words()) {
+            return Some(refusal);
+        }
+    }
+    None
+}

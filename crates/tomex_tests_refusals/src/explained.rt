@@ -1,0 +1,146 @@
+//! Each refusal is explained by its own entry: its text is written as the program writes it, and the first line of
+//! the explanation has its form.
+
+use std::process::Abort;
+use std::test::Fail;
+use tomex_image::ImageError;
+use tomex_reading::StudyError;
+use tomex_refusals::{ExplainError, explain};
+use tomex_rvexec::{Fault, FaultKind};
+use tomex_values::{Key, Place};
+
+/// The first line of the explanation of a text is this one, and there are at most twelve lines.
+fn is_explained<R: Abort + AllocGlobal>(rt: &R, text: &str, form: &str) -> Result<(), Fail> {
+    let wanted = format!(in rt.alloc(); "{form}\n")?;
+    match explain(rt.alloc(), text) {
+        Ok(explained) => {
+            let lines = explained.iter().filter(|byte| **byte == b'\n').count();
+            assert!(rt; explained.starts_with(wanted.as_bytes()), "{text}");
+            assert!(rt; 2 <= lines && lines <= 12, "{text}");
+        }
+        Err(_) => assert!(rt; false, "{text}"),
+    }
+    Ok(())
+}
+
+static IMAGES: [(ImageError, &str); 11] = [
+    (ImageError::Empty, "image: empty"),
+    (ImageError::TooLarge, "image: too large"),
+    (ImageError::Truncated, "image: truncated"),
+    (ImageError::NotRiscv, "image: not RISC-V"),
+    (ImageError::NotExec, "image: not executable"),
+    (ImageError::HeaderSize, "image: header size"),
+    (ImageError::Dynamic, "image: dynamic"),
+    (ImageError::Segment, "image: segment"),
+    (ImageError::Overlap, "image: overlap"),
+    (ImageError::TooManySegments, "image: too many segments"),
+    (ImageError::Entry, "image: entry"),
+];
+
+#[test]
+fn images(rt: HostRuntime) -> Result<(), Fail> {
+    for (error, form) in &IMAGES {
+        let alone = format!(in rt.alloc(); "image: {error}")?;
+        is_explained(&rt, alone.as_str(), *form)?;
+        let in_study = format!(in rt.alloc(); "tomex: program a: image: {error}")?;
+        is_explained(&rt, in_study.as_str(), *form)?;
+    }
+    Ok(())
+}
+
+static FAULTS: [(FaultKind, &str); 4] = [
+    (FaultKind::Fetch, "fault: fetch at PC"),
+    (FaultKind::Illegal, "fault: illegal at PC"),
+    (
+        FaultKind::MisalignedTarget,
+        "fault: misaligned target at PC",
+    ),
+    (FaultKind::Access, "fault: access at PC"),
+];
+
+#[test]
+fn faults(rt: HostRuntime) -> Result<(), Fail> {
+    for (kind, form) in &FAULTS {
+        let fault = Fault {
+            kind: *kind,
+            pc: 12,
+        };
+        let text = format!(in rt.alloc(); "tomex: fault: {fault}")?;
+        is_explained(&rt, text.as_str(), *form)?;
+    }
+    Ok(())
+}
+
+const STUDIES: [(StudyError, &str); 7] = [
+    (StudyError::Syntax, "study: not TOML"),
+    (
+        StudyError::UnknownKey(Place::Top),
+        "study: PLACE: unknown key",
+    ),
+    (
+        StudyError::MissingKey(Place::Program(1), Key::File),
+        "study: PLACE: KEY missing",
+    ),
+    (
+        StudyError::Kind(Place::Axes, Key::Alu),
+        "study: PLACE: KEY of wrong kind",
+    ),
+    (
+        StudyError::Range(Place::Unit, Key::Mul),
+        "study: PLACE: KEY out of range",
+    ),
+    (StudyError::TooMany, "study: too many configurations"),
+    (StudyError::Files, "study: wrong number of files"),
+];
+
+#[test]
+fn studies(rt: HostRuntime) -> Result<(), Fail> {
+    let studies = STUDIES;
+    for (error, form) in &studies {
+        let text = format!(in rt.alloc(); "tomex: {error}")?;
+        is_explained(&rt, text.as_str(), *form)?;
+    }
+    Ok(())
+}
+
+/// What commands refuse themselves, as the definition of what is reported has it.
+static COMMANDS: [(&str, &str); 15] = [
+    ("tomex: bad window", "bad window"),
+    ("too long", "too long"),
+    ("tomex: program a: too long", "too long"),
+    ("tomex: no such row", "no such row"),
+    ("tomex: no such program", "no such program"),
+    ("tomex: no such step", "no such step"),
+    ("tomex: picture too large", "picture too large"),
+    ("tomex: cycle past the end", "cycle past the end"),
+    ("tomex: cannot read mul.bin", "cannot read NAME"),
+    ("cannot read", "cannot read NAME"),
+    // A name may have the words of another refusal.
+    ("tomex: cannot read image: segment", "cannot read NAME"),
+    ("tomex: cannot write", "cannot write"),
+    ("tomex: thread refused", "thread refused"),
+    ("tomex: out of memory", "out of memory"),
+    ("tomex: no such refusal", "no such refusal"),
+];
+
+#[test]
+fn commands(rt: HostRuntime) -> Result<(), Fail> {
+    for (text, form) in &COMMANDS {
+        is_explained(&rt, *text, *form)?;
+    }
+    Ok(())
+}
+
+static NONE: [&str; 5] = ["", "tomex", "image", "Image: Segment", "image:segment"];
+
+#[test]
+fn what_is_no_refusal(rt: HostRuntime) -> Result<(), Fail> {
+    for text in &NONE {
+        let refused = explain(rt.alloc(), *text);
+        assert!(rt;
+            matches!(&refused, Err(ExplainError::NoSuchRefusal)),
+            "{text}"
+        );
+    }
+    Ok(())
+}
