@@ -1,5 +1,5 @@
--- The axes of a picture of the front: where costs stand from left to right, and cycles from bottom to top, and the round
--- numbers beside them.
+-- The axes of a picture of the front: where costs stand from left to right, and cycles from bottom to top, and the
+-- round numbers beside them.
 -- All numbers are whole, quotients are rounded down; a picture's y grows downwards.
 use Rattle.std.specs.Prelude.{ℕ, ◌+◌, ◌-◌, ◌*◌, ◌/◌, ◌^◌, min, max, nat_le, if◌then◌else◌, List, [], ◌∷◌, map}
 use Rattle.std.specs.Int.{div_ceil}

@@ -23,68 +23,68 @@ abbrev pub form_of : CommandRefusal → List ℕ
 form_of those.CannotRead = codes "cannot read NAME"
 form_of other = words_of other
 
-unfoldable pub cannot_read : List ℕ
+abbrev pub cannot_read : List ℕ
 cannot_read =
     codes "The file NAME can't be read: there is none, it is a folder, it may not be read,\n"
     ++ (codes "or it has more than 256 MiB. Names, those in a study too, are taken from the\n"
     ++ (codes "folder in which tomex is started, and not from the study's: `cd` to the folder\n"
     ++ codes "of the study, or write the names as they are seen from where you are.\n"))
 
-unfoldable pub bad_window : List ℕ
+abbrev pub bad_window : List ℕ
 bad_window =
     codes "The address of memory, `--base`, or its number of bytes, `--size`, is no\n"
     ++ codes "multiple of 4, or memory would end after address 2^32.\n"
 
-unfoldable pub too_long : List ℕ
+abbrev pub too_long : List ℕ
 too_long =
     codes "The program didn't end within its limit of instructions: `--limit`, or `limit`\n"
     ++ (codes "in a study, 262144 if nothing else is said, and no more than that. It has to end\n"
     ++ (codes "by ECALL or EBREAK. Give it less to do; if it waits for something, it waits for\n"
     ++ codes "ever.\n"))
 
-unfoldable pub no_such_row : List ℕ
+abbrev pub no_such_row : List ℕ
 no_such_row =
     codes "CONFIG is no configuration of the study. They are numbered from 0, and are the\n"
     ++ (codes "product of all lists; docs/STUDIES.md says in which order. The first column of\n"
     ++ codes "`tomex front STUDY` has the numbers of those on the front.\n")
 
-unfoldable pub no_such_program : List ℕ
+abbrev pub no_such_program : List ℕ
 no_such_program =
     codes "PROGRAM is the `name` of one of the study's programs, as written there, and not\n"
     ++ codes "the name of its file.\n"
 
-unfoldable pub no_such_step : List ℕ
+abbrev pub no_such_step : List ℕ
 no_such_step =
     codes "The program ends before the instruction that `--from` names. `tomex times STUDY\n"
     ++ codes "CONFIG PROGRAM` numbers them, from 1.\n"
 
-unfoldable pub picture_too_large : List ℕ
+abbrev pub picture_too_large : List ℕ
 picture_too_large =
     codes "The instructions shown, times the cycles from the first one's issue to the last\n"
     ++ (codes "one's end, are more than 16777216. Take fewer, by `--from` and `--steps`, or use\n"
     ++ codes "`--konata`, which has no limit.\n")
 
-unfoldable pub cycle_past_end : List ℕ
+abbrev pub cycle_past_end : List ℕ
 cycle_past_end =
     codes "CYCLE is greater than the run's total, which is in the last line of `tomex times\n"
     ++ codes "STUDY CONFIG PROGRAM`.\n"
 
-unfoldable pub cannot_write : List ℕ
+abbrev pub cannot_write : List ℕ
 cannot_write =
     codes "The standard output didn't take the whole text: it is closed, its device is\n"
     ++ codes "full, or the program that reads it ended, as `head` does.\n"
 
-unfoldable pub thread_refused : List ℕ
+abbrev pub thread_refused : List ℕ
 thread_refused =
     codes "The system didn't start a thread. Use fewer: `--workers N`. `ulimit -u` and\n"
     ++ codes "`ulimit -v` say what is allowed.\n"
 
-unfoldable pub out_of_memory : List ℕ
+abbrev pub out_of_memory : List ℕ
 out_of_memory =
     codes "The system gave no more memory. `ulimit -v` says what is allowed. A study takes\n"
     ++ codes "less with fewer configurations or programs, or with fewer `--workers`.\n"
 
-unfoldable pub no_such_refusal : List ℕ
+abbrev pub no_such_refusal : List ℕ
 no_such_refusal =
     codes "What `tomex explain` was given has the words of no refusal. Without words it\n"
     ++ codes "lists them all. A command line that is refused (status 2) says itself why.\n"

@@ -17,13 +17,13 @@ form_of those.Illegal = codes "fault: illegal at PC"
 form_of those.MisalignedTarget = codes "fault: misaligned target at PC"
 form_of those.Access = codes "fault: access at PC"
 
-unfoldable pub fetch : List ℕ
+abbrev pub fetch : List ℕ
 fetch =
     codes "The program ran to PC, which is outside memory. The usual causes: `_start`\n"
     ++ (codes "returned (at the start the return address is 0, and there is nobody to return\n"
     ++ codes "to: end by EBREAK, or link examples/start.s), or a jump through a bad pointer.\n")
 
-unfoldable pub illegal : List ℕ
+abbrev pub illegal : List ℕ
 illegal =
     codes "The word at PC is no instruction of RV32IM. The usual causes: code for more\n"
     ++ (codes "than that, as compressed code, floating point or CSRs (compile with\n"
@@ -31,12 +31,12 @@ illegal =
     ++ (codes "data that is run. At the first address it is mostly a file that is no program:\n"
     ++ codes "a text, a C source or a study is taken as a flat image.\n")))
 
-unfoldable pub misaligned_target : List ℕ
+abbrev pub misaligned_target : List ℕ
 misaligned_target =
     codes "A jump goes to an address that is no multiple of 4: mostly it is compressed\n"
     ++ codes "code (compile with `-march=rv32im`), or a jump through a bad pointer.\n"
 
-unfoldable pub access : List ℕ
+abbrev pub access : List ℕ
 access =
     codes "The instruction at PC loads or stores outside memory. The usual causes: a bad\n"
     ++ (codes "pointer; a stack that grew out of memory (more `--size`, or less recursion); or\n"

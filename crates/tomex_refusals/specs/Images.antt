@@ -17,48 +17,48 @@ words_of those.Segment = codes "image: segment"
 words_of those.Overlap = codes "image: overlap"
 words_of those.Entry = codes "image: entry"
 
-unfoldable pub empty : List ℕ
+abbrev pub empty : List ℕ
 empty =
     codes "The file is empty, or it is an ELF file with nothing to load.\n"
     ++ codes "Give the linked program, not an object file or an empty one.\n"
 
-unfoldable pub too_large : List ℕ
+abbrev pub too_large : List ℕ
 too_large =
     codes "A flat file has more bytes than memory.\n"
     ++ codes "Give memory more bytes: `--size N`, or `size = N` in a study, 1048576 at most.\n"
 
-unfoldable pub truncated : List ℕ
+abbrev pub truncated : List ℕ
 truncated =
     codes "The ELF file says that it is longer than it is: it was cut, or is still being\n"
     ++ codes "written. Build it again.\n"
 
-unfoldable pub not_riscv : List ℕ
+abbrev pub not_riscv : List ℕ
 not_riscv =
     codes "The ELF file is for another machine, or for 64-bit RISC-V.\n"
     ++ (codes "Compile with `-march=rv32im -mabi=ilp32`; clang also needs `--target=riscv32`.\n"
     ++ codes "`readelf -h FILE` must say `ELF32` and `RISC-V`.\n")
 
-unfoldable pub not_executable : List ℕ
+abbrev pub not_executable : List ℕ
 not_executable =
     codes "The file is an object file (.o), a shared one (.so), or an executable that is\n"
     ++ (codes "independent of its position (PIE). `readelf -h FILE` says its type, which must\n"
     ++ codes "be EXEC. Link it with `-static -no-pie`.\n")
 
-unfoldable pub header_size : List ℕ
+abbrev pub header_size : List ℕ
 header_size =
     codes "The ELF file says that its headers have another size than the format gives\n"
     ++ codes "them: it is damaged. Build it again.\n"
 
-unfoldable pub dynamic : List ℕ
+abbrev pub dynamic : List ℕ
 dynamic =
     codes "The program asks for a dynamic linker, and there is none. Link with `-static`.\n"
 
-unfoldable pub too_many_segments : List ℕ
+abbrev pub too_many_segments : List ℕ
 too_many_segments =
     codes "The ELF file has more than 16 segments to load. `readelf -l FILE` lists them\n"
     ++ codes "(LOAD). Mend the linker script, so that sections share segments.\n"
 
-unfoldable pub segment : List ℕ
+abbrev pub segment : List ℕ
 segment =
     codes "A part of the file lies outside memory, which is one window: `--size` bytes\n"
     ++ (codes "from `--base` on, 65536 from 0 if nothing else is said. Linkers place programs\n"
@@ -70,12 +70,12 @@ segment =
     ++ (codes "A study says it in the program's table: base = 65536, size = 262144. Or link the\n"
     ++ codes "program to begin at 0: -Wl,-Ttext-segment=0 (GNU ld), -Wl,--image-base=0 (lld).\n")))))))
 
-unfoldable pub overlap : List ℕ
+abbrev pub overlap : List ℕ
 overlap =
     codes "Two segments share a byte. `readelf -l FILE` lists them (LOAD). Mend the linker\n"
     ++ codes "script.\n"
 
-unfoldable pub entry : List ℕ
+abbrev pub entry : List ℕ
 entry =
     codes "The address where the program begins is no multiple of 4, or lies outside\n"
     ++ (codes "memory. `readelf -h FILE` says it (Entry point address). The usual causes:\n"

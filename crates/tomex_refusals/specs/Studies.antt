@@ -21,7 +21,7 @@ form_of those.WrongKind = codes "study: PLACE: KEY of wrong kind"
 form_of those.OutOfRange = codes "study: PLACE: KEY out of range"
 form_of other = words_of other
 
-unfoldable pub not_toml : List ℕ
+abbrev pub not_toml : List ℕ
 not_toml =
     codes "The file can't be read as TOML: a comma, a quote or a bracket is missing, a key\n"
     ++ (codes "or a table is there twice, or it isn't UTF-8 (a letter with an accent as Latin-1\n"
@@ -30,7 +30,7 @@ not_toml =
     ++ (codes "Python refuses a little more: an inline table, `{ .. }`, that goes over several\n"
     ++ codes "lines, and a comma after its last key.\n"))))
 
-unfoldable pub unknown_key : List ℕ
+abbrev pub unknown_key : List ℕ
 unknown_key =
     codes "PLACE has a key that isn't known there. Those that are:\n"
     ++ (codes "  top: program, prices, axes, unit\n"
@@ -41,12 +41,12 @@ unknown_key =
     ++ (codes "  unit KIND N, a table [[unit.KIND]]: units, latency, price\n"
     ++ codes "Prices have `bus`, and axes `buses`. Loads and stores share the units `mem`.\n"))))))
 
-unfoldable pub missing : List ℕ
+abbrev pub missing : List ℕ
 missing =
     codes "PLACE needs KEY. A study needs one table [[program]] at least, and each of them\n"
     ++ codes "a `name` and a `file`; all other keys may be left out.\n"
 
-unfoldable pub wrong_kind : List ℕ
+abbrev pub wrong_kind : List ℕ
 wrong_kind =
     codes "The value of KEY isn't of the kind that is wanted. The usual causes:\n"
     ++ (codes "  [program] or [unit.mul] for [[program]] or [[unit.mul]], which are lists\n"
@@ -55,7 +55,7 @@ wrong_kind =
     ++ (codes "  a number in quotes, or with a point: 65536, or 0x10000\n"
     ++ codes "  watch: a list of pairs: [[4096, 8]]\n"))))
 
-unfoldable pub out_of_range : List ℕ
+abbrev pub out_of_range : List ℕ
 out_of_range =
     codes "The value of KEY is outside its range:\n"
     ++ (codes "  program: 1 to 8 tables; name: 1 to 32 of a-z 0-9 _ -, unlike the earlier names\n"
@@ -66,13 +66,13 @@ out_of_range =
     ++ (codes "  axes, lists that aren't empty: stations 1 to 16, buses 1 to 8, width 1 to 4\n"
     ++ codes "  unit: one table or more; units: 1 to 8, of bru 1; latency: 1 to 64\n"))))))
 
-unfoldable pub too_many : List ℕ
+abbrev pub too_many : List ℕ
 too_many =
     codes "The product of the lists has more than 16384 configurations. It is the numbers\n"
     ++ (codes "of values of all axes, times the numbers of tables of each kind of unit. Take\n"
     ++ codes "values out of lists, or make several studies.\n")
 
-unfoldable pub number_of_files : List ℕ
+abbrev pub number_of_files : List ℕ
 number_of_files =
     codes "There aren't as many files as the study has programs. No command of this\n"
     ++ codes "program says it: it names each program's file itself.\n"

@@ -129,7 +129,6 @@ impl CommandRefusal {
     }
 
     /// What it means, the usual causes, and what to do.
-    #[tactic(auto, unfolding(crate::specs::Commands::cannot_read, crate::specs::Commands::bad_window, crate::specs::Commands::too_long, crate::specs::Commands::no_such_row, crate::specs::Commands::no_such_program, crate::specs::Commands::no_such_step, crate::specs::Commands::picture_too_large, crate::specs::Commands::cycle_past_end, crate::specs::Commands::cannot_write, crate::specs::Commands::thread_refused, crate::specs::Commands::out_of_memory, crate::specs::Commands::no_such_refusal))]
     pub fn advice(self) -> &'static str
         ensures { result.now ≡ advice_of self }
     {

@@ -65,7 +65,6 @@ impl FaultRefusal {
     }
 
     /// What it means, the usual causes, and what to do.
-    #[tactic(auto, unfolding(crate::specs::Faults::fetch, crate::specs::Faults::illegal, crate::specs::Faults::misaligned_target, crate::specs::Faults::access))]
     pub fn advice(self) -> &'static str
         ensures { result.now ≡ advice_of self }
     {

@@ -111,7 +111,6 @@ impl ImageRefusal {
     }
 
     /// What it means, the usual causes, and what to do.
-    #[tactic(auto, unfolding(crate::specs::Images::empty, crate::specs::Images::too_large, crate::specs::Images::truncated, crate::specs::Images::not_riscv, crate::specs::Images::not_executable, crate::specs::Images::header_size, crate::specs::Images::dynamic, crate::specs::Images::too_many_segments, crate::specs::Images::segment, crate::specs::Images::overlap, crate::specs::Images::entry))]
     pub fn advice(self) -> &'static str
         ensures { result.now ≡ advice_of self }
     {

@@ -105,7 +105,6 @@ impl StudyRefusal {
     }
 
     /// What it means, the usual causes, and what to do.
-    #[tactic(auto, unfolding(crate::specs::Studies::not_toml, crate::specs::Studies::unknown_key, crate::specs::Studies::missing, crate::specs::Studies::wrong_kind, crate::specs::Studies::out_of_range, crate::specs::Studies::too_many, crate::specs::Studies::number_of_files))]
     pub fn advice(self) -> &'static str
         ensures { result.now ≡ advice_of self }
     {

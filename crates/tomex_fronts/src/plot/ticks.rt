@@ -3,7 +3,7 @@
 ghost use Rattle.std.specs.Prelude.{◌≡◌, ◌<◌, ◌*◌, nat_le};
 ghost use Rattle.tomex_fronts.specs.Axes.{step_of};
 
-/// Whether six steps are at least as long as a distance.
+/// True if six steps are at least as long as a distance.
 fn is_enough(far: u64, step: u64) -> bool
     ensures { result ≡ nat_le far (6 * step) }
 {

@@ -7,5 +7,6 @@ use Rattle.tomex_fronts.proofs.plot.marks.push_marks.Given as goal
 
 abbrev pub invariant-loop-k : goal.invariant-loop-k
 invariant-loop-k g l =
-    string_bytes l.text ++ flat_map (mark_at l.axes l.mark) (map (λ k. k * l.step) (range_with_len l.k (l.k-end + 1 - l.k)))
+    string_bytes l.text
+    ++ flat_map (mark_at l.axes l.mark) (map (λ k. k * l.step) (range_with_len l.k (l.k-end + 1 - l.k)))
     ≡ string_bytes l.fn.text ++ marks_of l.axes l.mark
