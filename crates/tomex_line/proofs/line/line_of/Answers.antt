@@ -3,7 +3,8 @@ use Rattle.std.proofs.Common.{◌≡◌, ◌∙◌, ap, sym, codes, Some, option
 use Rattle.std.proofs.lemmas.Result.{err_from_is_err_and}
 use Rattle.clap.specs.Words.{found_of, subcommand_rows_of}
 use Rattle.clap.specs.Walk.{rows_of}
-use Rattle.tomex_line.proofs.OneName.{no_run, no_times, no_stalls, no_pipeline, no_tables, no_explore, no_front, no_plot}
+use Rattle.tomex_line.proofs.OneName.{no_run, no_times, no_stalls, no_pipeline}
+use Rattle.tomex_line.proofs.OneName.{no_tables, no_explore, no_front, no_plot}
 use Rattle.tomex_line.proofs.OneName.{found_is, no_other}
 use Rattle.tomex_arguments.proofs.WhyRefused.{refused_if}
 use Rattle.tomex_line.proofs.StillRefused.{still_refused}
@@ -106,7 +107,8 @@ returns-in_default-clause-refused c = elim c.in_default.branch [
       (no_other (subcommand_rows_of c.args.matches.now) name rows
       (found_is c.args.matches.now name rows
       (sym (ap (option_map (λ p. p.0.now)) w.in_default.is) ∙ c.subcommand.ensures.name)
-      (sym (ap (option_map (λ p. rows_of (found_of p.1.now))) w.in_default.is) ∙ c.subcommand.ensures.rows)) (search rules) (search rules) (search rules)
+      (sym (ap (option_map (λ p. rows_of (found_of p.1.now))) w.in_default.is) ∙ c.subcommand.ensures.rows))
+      (search rules) (search rules) (search rules)
       (search rules) (search rules) (search rules) (search rules) (search rules) (search rules))
   | in_default-via-in_default w ↦ search rules
 ]
