@@ -1,5 +1,6 @@
 -- No line is asked for if the command of the name that was found has no values: each line's command has its own name.
-use Rattle.std.proofs.Common.{◌≡◌, ◌∙◌, ap, ap₂, arith, length, slice_index_or, sym, subst, [], List, codes, Option, Some, None}
+use Rattle.std.proofs.Common.{◌≡◌, ◌∙◌, ap, ap₂, arith, length, slice_index_or, sym, subst, [], List, codes}
+use Rattle.std.proofs.Common.{Option, Some, None}
 use Rattle.std.specs.Box.{box_value}
 use Rattle.std.specs.Option.{option_map, option_map_or}
 use Rattle.clap.specs.Matches.{found_of, subcommand_name_of}
@@ -47,200 +48,200 @@ no_run found rows is none (Run l) (more, also, asked) =
     none _ _ _ _ (subst (λ (r : List Row). IsRunAsked r l.image.now l.base l.size l.limit)
     (same_rows found _ _ rows more is also) asked)
 no_run found rows is none (Times l) (more, also, asked) =
-    let bad : 3 ≡ 5 = ap length (same_name found (codes "run") (codes "times") rows more is also) in omega (arith, bad)
+    let bad : 3 ≡ 5 = ap length (same_name found _ _ rows more is also) in omega (arith, bad)
 no_run found rows is none (Stalls l) (more, also, asked) =
-    let bad : 3 ≡ 6 = ap length (same_name found (codes "run") (codes "stalls") rows more is also) in omega (arith, bad)
+    let bad : 3 ≡ 6 = ap length (same_name found _ _ rows more is also) in omega (arith, bad)
 no_run found rows is none (Pipeline l) (more, also, asked) =
-    let bad : 3 ≡ 8 = ap length (same_name found (codes "run") (codes "pipeline") rows more is also) in omega (arith, bad)
+    let bad : 3 ≡ 8 = ap length (same_name found _ _ rows more is also) in omega (arith, bad)
 no_run found rows is none (Tables l) (more, also, asked) =
-    let bad : 3 ≡ 6 = ap length (same_name found (codes "run") (codes "tables") rows more is also) in omega (arith, bad)
+    let bad : 3 ≡ 6 = ap length (same_name found _ _ rows more is also) in omega (arith, bad)
 no_run found rows is none (All l) (more, also, asked) =
     let bad : 114 ≡ 97 = ap (λ t. slice_index_or t 0 0)
-    (same_name found (codes "run") (codes "all") rows more is also) in omega (arith, bad)
+    (same_name found _ _ rows more is also) in omega (arith, bad)
 no_run found rows is none (Explore l) (more, also, asked) =
-    let bad : 3 ≡ 7 = ap length (same_name found (codes "run") (codes "explore") rows more is also) in omega (arith, bad)
+    let bad : 3 ≡ 7 = ap length (same_name found _ _ rows more is also) in omega (arith, bad)
 no_run found rows is none (Front l) (more, also, asked) =
-    let bad : 3 ≡ 5 = ap length (same_name found (codes "run") (codes "front") rows more is also) in omega (arith, bad)
+    let bad : 3 ≡ 5 = ap length (same_name found _ _ rows more is also) in omega (arith, bad)
 no_run found rows is none (Plot l) (more, also, asked) =
-    let bad : 3 ≡ 4 = ap length (same_name found (codes "run") (codes "plot") rows more is also) in omega (arith, bad)
+    let bad : 3 ≡ 4 = ap length (same_name found _ _ rows more is also) in omega (arith, bad)
 
 pub no_times : (found : Option (Text × List Row)) (rows : List Row) → found ≡ Some (codes "times", rows) → IsNoTimes rows
     → IsNoLineAsked found
 no_times found rows is none (Run l) (more, also, asked) =
-    let bad : 5 ≡ 3 = ap length (same_name found (codes "times") (codes "run") rows more is also) in omega (arith, bad)
+    let bad : 5 ≡ 3 = ap length (same_name found _ _ rows more is also) in omega (arith, bad)
 no_times found rows is none (Times l) (more, also, asked) =
     none _ _ _ (subst (λ (r : List Row). IsTimesAsked r l.study.now l.config l.program.now)
     (same_rows found _ _ rows more is also) asked)
 no_times found rows is none (Stalls l) (more, also, asked) =
-    let bad : 5 ≡ 6 = ap length (same_name found (codes "times") (codes "stalls") rows more is also) in omega (arith, bad)
+    let bad : 5 ≡ 6 = ap length (same_name found _ _ rows more is also) in omega (arith, bad)
 no_times found rows is none (Pipeline l) (more, also, asked) =
-    let bad : 5 ≡ 8 = ap length (same_name found (codes "times") (codes "pipeline") rows more is also) in omega (arith, bad)
+    let bad : 5 ≡ 8 = ap length (same_name found _ _ rows more is also) in omega (arith, bad)
 no_times found rows is none (Tables l) (more, also, asked) =
-    let bad : 5 ≡ 6 = ap length (same_name found (codes "times") (codes "tables") rows more is also) in omega (arith, bad)
+    let bad : 5 ≡ 6 = ap length (same_name found _ _ rows more is also) in omega (arith, bad)
 no_times found rows is none (All l) (more, also, asked) =
-    let bad : 5 ≡ 3 = ap length (same_name found (codes "times") (codes "all") rows more is also) in omega (arith, bad)
+    let bad : 5 ≡ 3 = ap length (same_name found _ _ rows more is also) in omega (arith, bad)
 no_times found rows is none (Explore l) (more, also, asked) =
-    let bad : 5 ≡ 7 = ap length (same_name found (codes "times") (codes "explore") rows more is also) in omega (arith, bad)
+    let bad : 5 ≡ 7 = ap length (same_name found _ _ rows more is also) in omega (arith, bad)
 no_times found rows is none (Front l) (more, also, asked) =
     let bad : 116 ≡ 102 = ap (λ t. slice_index_or t 0 0)
-    (same_name found (codes "times") (codes "front") rows more is also) in omega (arith, bad)
+    (same_name found _ _ rows more is also) in omega (arith, bad)
 no_times found rows is none (Plot l) (more, also, asked) =
-    let bad : 5 ≡ 4 = ap length (same_name found (codes "times") (codes "plot") rows more is also) in omega (arith, bad)
+    let bad : 5 ≡ 4 = ap length (same_name found _ _ rows more is also) in omega (arith, bad)
 
 pub no_stalls : (found : Option (Text × List Row)) (rows : List Row) → found ≡ Some (codes "stalls", rows) → IsNoStalls rows
     → IsNoLineAsked found
 no_stalls found rows is none (Run l) (more, also, asked) =
-    let bad : 6 ≡ 3 = ap length (same_name found (codes "stalls") (codes "run") rows more is also) in omega (arith, bad)
+    let bad : 6 ≡ 3 = ap length (same_name found _ _ rows more is also) in omega (arith, bad)
 no_stalls found rows is none (Times l) (more, also, asked) =
-    let bad : 6 ≡ 5 = ap length (same_name found (codes "stalls") (codes "times") rows more is also) in omega (arith, bad)
+    let bad : 6 ≡ 5 = ap length (same_name found _ _ rows more is also) in omega (arith, bad)
 no_stalls found rows is none (Stalls l) (more, also, asked) =
     none _ _ _ _ (subst (λ (r : List Row). IsStallsAsked r l.study.now l.config l.program.now l.by_pc)
     (same_rows found _ _ rows more is also) asked)
 no_stalls found rows is none (Pipeline l) (more, also, asked) =
-    let bad : 6 ≡ 8 = ap length (same_name found (codes "stalls") (codes "pipeline") rows more is also) in omega (arith, bad)
+    let bad : 6 ≡ 8 = ap length (same_name found _ _ rows more is also) in omega (arith, bad)
 no_stalls found rows is none (Tables l) (more, also, asked) =
     let bad : 115 ≡ 116 = ap (λ t. slice_index_or t 0 0)
-    (same_name found (codes "stalls") (codes "tables") rows more is also) in omega (arith, bad)
+    (same_name found _ _ rows more is also) in omega (arith, bad)
 no_stalls found rows is none (All l) (more, also, asked) =
-    let bad : 6 ≡ 3 = ap length (same_name found (codes "stalls") (codes "all") rows more is also) in omega (arith, bad)
+    let bad : 6 ≡ 3 = ap length (same_name found _ _ rows more is also) in omega (arith, bad)
 no_stalls found rows is none (Explore l) (more, also, asked) =
-    let bad : 6 ≡ 7 = ap length (same_name found (codes "stalls") (codes "explore") rows more is also) in omega (arith, bad)
+    let bad : 6 ≡ 7 = ap length (same_name found _ _ rows more is also) in omega (arith, bad)
 no_stalls found rows is none (Front l) (more, also, asked) =
-    let bad : 6 ≡ 5 = ap length (same_name found (codes "stalls") (codes "front") rows more is also) in omega (arith, bad)
+    let bad : 6 ≡ 5 = ap length (same_name found _ _ rows more is also) in omega (arith, bad)
 no_stalls found rows is none (Plot l) (more, also, asked) =
-    let bad : 6 ≡ 4 = ap length (same_name found (codes "stalls") (codes "plot") rows more is also) in omega (arith, bad)
+    let bad : 6 ≡ 4 = ap length (same_name found _ _ rows more is also) in omega (arith, bad)
 
 pub no_pipeline : (found : Option (Text × List Row)) (rows : List Row) → found ≡ Some (codes "pipeline", rows) → IsNoPipeline rows
     → IsNoLineAsked found
 no_pipeline found rows is none (Run l) (more, also, asked) =
-    let bad : 8 ≡ 3 = ap length (same_name found (codes "pipeline") (codes "run") rows more is also) in omega (arith, bad)
+    let bad : 8 ≡ 3 = ap length (same_name found _ _ rows more is also) in omega (arith, bad)
 no_pipeline found rows is none (Times l) (more, also, asked) =
-    let bad : 8 ≡ 5 = ap length (same_name found (codes "pipeline") (codes "times") rows more is also) in omega (arith, bad)
+    let bad : 8 ≡ 5 = ap length (same_name found _ _ rows more is also) in omega (arith, bad)
 no_pipeline found rows is none (Stalls l) (more, also, asked) =
-    let bad : 8 ≡ 6 = ap length (same_name found (codes "pipeline") (codes "stalls") rows more is also) in omega (arith, bad)
+    let bad : 8 ≡ 6 = ap length (same_name found _ _ rows more is also) in omega (arith, bad)
 no_pipeline found rows is none (Pipeline l) (more, also, asked) =
     none _ _ _ _ _ _ (subst (λ (r : List Row). IsPipelineAsked r l.study.now l.config l.program.now l.from l.steps l.konata)
     (same_rows found _ _ rows more is also) asked)
 no_pipeline found rows is none (Tables l) (more, also, asked) =
-    let bad : 8 ≡ 6 = ap length (same_name found (codes "pipeline") (codes "tables") rows more is also) in omega (arith, bad)
+    let bad : 8 ≡ 6 = ap length (same_name found _ _ rows more is also) in omega (arith, bad)
 no_pipeline found rows is none (All l) (more, also, asked) =
-    let bad : 8 ≡ 3 = ap length (same_name found (codes "pipeline") (codes "all") rows more is also) in omega (arith, bad)
+    let bad : 8 ≡ 3 = ap length (same_name found _ _ rows more is also) in omega (arith, bad)
 no_pipeline found rows is none (Explore l) (more, also, asked) =
-    let bad : 8 ≡ 7 = ap length (same_name found (codes "pipeline") (codes "explore") rows more is also) in omega (arith, bad)
+    let bad : 8 ≡ 7 = ap length (same_name found _ _ rows more is also) in omega (arith, bad)
 no_pipeline found rows is none (Front l) (more, also, asked) =
-    let bad : 8 ≡ 5 = ap length (same_name found (codes "pipeline") (codes "front") rows more is also) in omega (arith, bad)
+    let bad : 8 ≡ 5 = ap length (same_name found _ _ rows more is also) in omega (arith, bad)
 no_pipeline found rows is none (Plot l) (more, also, asked) =
-    let bad : 8 ≡ 4 = ap length (same_name found (codes "pipeline") (codes "plot") rows more is also) in omega (arith, bad)
+    let bad : 8 ≡ 4 = ap length (same_name found _ _ rows more is also) in omega (arith, bad)
 
 pub no_tables : (found : Option (Text × List Row)) (rows : List Row) → found ≡ Some (codes "tables", rows) → IsNoTables rows
     → IsNoLineAsked found
 no_tables found rows is none (Run l) (more, also, asked) =
-    let bad : 6 ≡ 3 = ap length (same_name found (codes "tables") (codes "run") rows more is also) in omega (arith, bad)
+    let bad : 6 ≡ 3 = ap length (same_name found _ _ rows more is also) in omega (arith, bad)
 no_tables found rows is none (Times l) (more, also, asked) =
-    let bad : 6 ≡ 5 = ap length (same_name found (codes "tables") (codes "times") rows more is also) in omega (arith, bad)
+    let bad : 6 ≡ 5 = ap length (same_name found _ _ rows more is also) in omega (arith, bad)
 no_tables found rows is none (Stalls l) (more, also, asked) =
     let bad : 116 ≡ 115 = ap (λ t. slice_index_or t 0 0)
-    (same_name found (codes "tables") (codes "stalls") rows more is also) in omega (arith, bad)
+    (same_name found _ _ rows more is also) in omega (arith, bad)
 no_tables found rows is none (Pipeline l) (more, also, asked) =
-    let bad : 6 ≡ 8 = ap length (same_name found (codes "tables") (codes "pipeline") rows more is also) in omega (arith, bad)
+    let bad : 6 ≡ 8 = ap length (same_name found _ _ rows more is also) in omega (arith, bad)
 no_tables found rows is none (Tables l) (more, also, asked) =
     none _ _ _ _ (subst (λ (r : List Row). IsTablesAsked r l.study.now l.config l.program.now l.cycle)
     (same_rows found _ _ rows more is also) asked)
 no_tables found rows is none (All l) (more, also, asked) =
-    let bad : 6 ≡ 3 = ap length (same_name found (codes "tables") (codes "all") rows more is also) in omega (arith, bad)
+    let bad : 6 ≡ 3 = ap length (same_name found _ _ rows more is also) in omega (arith, bad)
 no_tables found rows is none (Explore l) (more, also, asked) =
-    let bad : 6 ≡ 7 = ap length (same_name found (codes "tables") (codes "explore") rows more is also) in omega (arith, bad)
+    let bad : 6 ≡ 7 = ap length (same_name found _ _ rows more is also) in omega (arith, bad)
 no_tables found rows is none (Front l) (more, also, asked) =
-    let bad : 6 ≡ 5 = ap length (same_name found (codes "tables") (codes "front") rows more is also) in omega (arith, bad)
+    let bad : 6 ≡ 5 = ap length (same_name found _ _ rows more is also) in omega (arith, bad)
 no_tables found rows is none (Plot l) (more, also, asked) =
-    let bad : 6 ≡ 4 = ap length (same_name found (codes "tables") (codes "plot") rows more is also) in omega (arith, bad)
+    let bad : 6 ≡ 4 = ap length (same_name found _ _ rows more is also) in omega (arith, bad)
 
 pub no_all : (found : Option (Text × List Row)) (rows : List Row) → found ≡ Some (codes "all", rows) → IsNoAll rows
     → IsNoLineAsked found
 no_all found rows is none (Run l) (more, also, asked) =
     let bad : 97 ≡ 114 = ap (λ t. slice_index_or t 0 0)
-    (same_name found (codes "all") (codes "run") rows more is also) in omega (arith, bad)
+    (same_name found _ _ rows more is also) in omega (arith, bad)
 no_all found rows is none (Times l) (more, also, asked) =
-    let bad : 3 ≡ 5 = ap length (same_name found (codes "all") (codes "times") rows more is also) in omega (arith, bad)
+    let bad : 3 ≡ 5 = ap length (same_name found _ _ rows more is also) in omega (arith, bad)
 no_all found rows is none (Stalls l) (more, also, asked) =
-    let bad : 3 ≡ 6 = ap length (same_name found (codes "all") (codes "stalls") rows more is also) in omega (arith, bad)
+    let bad : 3 ≡ 6 = ap length (same_name found _ _ rows more is also) in omega (arith, bad)
 no_all found rows is none (Pipeline l) (more, also, asked) =
-    let bad : 3 ≡ 8 = ap length (same_name found (codes "all") (codes "pipeline") rows more is also) in omega (arith, bad)
+    let bad : 3 ≡ 8 = ap length (same_name found _ _ rows more is also) in omega (arith, bad)
 no_all found rows is none (Tables l) (more, also, asked) =
-    let bad : 3 ≡ 6 = ap length (same_name found (codes "all") (codes "tables") rows more is also) in omega (arith, bad)
+    let bad : 3 ≡ 6 = ap length (same_name found _ _ rows more is also) in omega (arith, bad)
 no_all found rows is none (All l) (more, also, asked) =
     none _ (subst (λ (r : List Row). IsAllAsked r l.study.now)
     (same_rows found _ _ rows more is also) asked)
 no_all found rows is none (Explore l) (more, also, asked) =
-    let bad : 3 ≡ 7 = ap length (same_name found (codes "all") (codes "explore") rows more is also) in omega (arith, bad)
+    let bad : 3 ≡ 7 = ap length (same_name found _ _ rows more is also) in omega (arith, bad)
 no_all found rows is none (Front l) (more, also, asked) =
-    let bad : 3 ≡ 5 = ap length (same_name found (codes "all") (codes "front") rows more is also) in omega (arith, bad)
+    let bad : 3 ≡ 5 = ap length (same_name found _ _ rows more is also) in omega (arith, bad)
 no_all found rows is none (Plot l) (more, also, asked) =
-    let bad : 3 ≡ 4 = ap length (same_name found (codes "all") (codes "plot") rows more is also) in omega (arith, bad)
+    let bad : 3 ≡ 4 = ap length (same_name found _ _ rows more is also) in omega (arith, bad)
 
 pub no_explore : (found : Option (Text × List Row)) (rows : List Row) → found ≡ Some (codes "explore", rows) → IsNoExplore rows
     → IsNoLineAsked found
 no_explore found rows is none (Run l) (more, also, asked) =
-    let bad : 7 ≡ 3 = ap length (same_name found (codes "explore") (codes "run") rows more is also) in omega (arith, bad)
+    let bad : 7 ≡ 3 = ap length (same_name found _ _ rows more is also) in omega (arith, bad)
 no_explore found rows is none (Times l) (more, also, asked) =
-    let bad : 7 ≡ 5 = ap length (same_name found (codes "explore") (codes "times") rows more is also) in omega (arith, bad)
+    let bad : 7 ≡ 5 = ap length (same_name found _ _ rows more is also) in omega (arith, bad)
 no_explore found rows is none (Stalls l) (more, also, asked) =
-    let bad : 7 ≡ 6 = ap length (same_name found (codes "explore") (codes "stalls") rows more is also) in omega (arith, bad)
+    let bad : 7 ≡ 6 = ap length (same_name found _ _ rows more is also) in omega (arith, bad)
 no_explore found rows is none (Pipeline l) (more, also, asked) =
-    let bad : 7 ≡ 8 = ap length (same_name found (codes "explore") (codes "pipeline") rows more is also) in omega (arith, bad)
+    let bad : 7 ≡ 8 = ap length (same_name found _ _ rows more is also) in omega (arith, bad)
 no_explore found rows is none (Tables l) (more, also, asked) =
-    let bad : 7 ≡ 6 = ap length (same_name found (codes "explore") (codes "tables") rows more is also) in omega (arith, bad)
+    let bad : 7 ≡ 6 = ap length (same_name found _ _ rows more is also) in omega (arith, bad)
 no_explore found rows is none (All l) (more, also, asked) =
-    let bad : 7 ≡ 3 = ap length (same_name found (codes "explore") (codes "all") rows more is also) in omega (arith, bad)
+    let bad : 7 ≡ 3 = ap length (same_name found _ _ rows more is also) in omega (arith, bad)
 no_explore found rows is none (Explore l) (more, also, asked) =
     none _ _ (subst (λ (r : List Row). IsExploreAsked r l.study.now l.workers)
     (same_rows found _ _ rows more is also) asked)
 no_explore found rows is none (Front l) (more, also, asked) =
-    let bad : 7 ≡ 5 = ap length (same_name found (codes "explore") (codes "front") rows more is also) in omega (arith, bad)
+    let bad : 7 ≡ 5 = ap length (same_name found _ _ rows more is also) in omega (arith, bad)
 no_explore found rows is none (Plot l) (more, also, asked) =
-    let bad : 7 ≡ 4 = ap length (same_name found (codes "explore") (codes "plot") rows more is also) in omega (arith, bad)
+    let bad : 7 ≡ 4 = ap length (same_name found _ _ rows more is also) in omega (arith, bad)
 
 pub no_front : (found : Option (Text × List Row)) (rows : List Row) → found ≡ Some (codes "front", rows) → IsNoExplore rows
     → IsNoLineAsked found
 no_front found rows is none (Run l) (more, also, asked) =
-    let bad : 5 ≡ 3 = ap length (same_name found (codes "front") (codes "run") rows more is also) in omega (arith, bad)
+    let bad : 5 ≡ 3 = ap length (same_name found _ _ rows more is also) in omega (arith, bad)
 no_front found rows is none (Times l) (more, also, asked) =
     let bad : 102 ≡ 116 = ap (λ t. slice_index_or t 0 0)
-    (same_name found (codes "front") (codes "times") rows more is also) in omega (arith, bad)
+    (same_name found _ _ rows more is also) in omega (arith, bad)
 no_front found rows is none (Stalls l) (more, also, asked) =
-    let bad : 5 ≡ 6 = ap length (same_name found (codes "front") (codes "stalls") rows more is also) in omega (arith, bad)
+    let bad : 5 ≡ 6 = ap length (same_name found _ _ rows more is also) in omega (arith, bad)
 no_front found rows is none (Pipeline l) (more, also, asked) =
-    let bad : 5 ≡ 8 = ap length (same_name found (codes "front") (codes "pipeline") rows more is also) in omega (arith, bad)
+    let bad : 5 ≡ 8 = ap length (same_name found _ _ rows more is also) in omega (arith, bad)
 no_front found rows is none (Tables l) (more, also, asked) =
-    let bad : 5 ≡ 6 = ap length (same_name found (codes "front") (codes "tables") rows more is also) in omega (arith, bad)
+    let bad : 5 ≡ 6 = ap length (same_name found _ _ rows more is also) in omega (arith, bad)
 no_front found rows is none (All l) (more, also, asked) =
-    let bad : 5 ≡ 3 = ap length (same_name found (codes "front") (codes "all") rows more is also) in omega (arith, bad)
+    let bad : 5 ≡ 3 = ap length (same_name found _ _ rows more is also) in omega (arith, bad)
 no_front found rows is none (Explore l) (more, also, asked) =
-    let bad : 5 ≡ 7 = ap length (same_name found (codes "front") (codes "explore") rows more is also) in omega (arith, bad)
+    let bad : 5 ≡ 7 = ap length (same_name found _ _ rows more is also) in omega (arith, bad)
 no_front found rows is none (Front l) (more, also, asked) =
     none _ _ (subst (λ (r : List Row). IsExploreAsked r l.study.now l.workers)
     (same_rows found _ _ rows more is also) asked)
 no_front found rows is none (Plot l) (more, also, asked) =
-    let bad : 5 ≡ 4 = ap length (same_name found (codes "front") (codes "plot") rows more is also) in omega (arith, bad)
+    let bad : 5 ≡ 4 = ap length (same_name found _ _ rows more is also) in omega (arith, bad)
 
 pub no_plot : (found : Option (Text × List Row)) (rows : List Row) → found ≡ Some (codes "plot", rows) → IsNoExplore rows
     → IsNoLineAsked found
 no_plot found rows is none (Run l) (more, also, asked) =
-    let bad : 4 ≡ 3 = ap length (same_name found (codes "plot") (codes "run") rows more is also) in omega (arith, bad)
+    let bad : 4 ≡ 3 = ap length (same_name found _ _ rows more is also) in omega (arith, bad)
 no_plot found rows is none (Times l) (more, also, asked) =
-    let bad : 4 ≡ 5 = ap length (same_name found (codes "plot") (codes "times") rows more is also) in omega (arith, bad)
+    let bad : 4 ≡ 5 = ap length (same_name found _ _ rows more is also) in omega (arith, bad)
 no_plot found rows is none (Stalls l) (more, also, asked) =
-    let bad : 4 ≡ 6 = ap length (same_name found (codes "plot") (codes "stalls") rows more is also) in omega (arith, bad)
+    let bad : 4 ≡ 6 = ap length (same_name found _ _ rows more is also) in omega (arith, bad)
 no_plot found rows is none (Pipeline l) (more, also, asked) =
-    let bad : 4 ≡ 8 = ap length (same_name found (codes "plot") (codes "pipeline") rows more is also) in omega (arith, bad)
+    let bad : 4 ≡ 8 = ap length (same_name found _ _ rows more is also) in omega (arith, bad)
 no_plot found rows is none (Tables l) (more, also, asked) =
-    let bad : 4 ≡ 6 = ap length (same_name found (codes "plot") (codes "tables") rows more is also) in omega (arith, bad)
+    let bad : 4 ≡ 6 = ap length (same_name found _ _ rows more is also) in omega (arith, bad)
 no_plot found rows is none (All l) (more, also, asked) =
-    let bad : 4 ≡ 3 = ap length (same_name found (codes "plot") (codes "all") rows more is also) in omega (arith, bad)
+    let bad : 4 ≡ 3 = ap length (same_name found _ _ rows more is also) in omega (arith, bad)
 no_plot found rows is none (Explore l) (more, also, asked) =
-    let bad : 4 ≡ 7 = ap length (same_name found (codes "plot") (codes "explore") rows more is also) in omega (arith, bad)
+    let bad : 4 ≡ 7 = ap length (same_name found _ _ rows more is also) in omega (arith, bad)
 no_plot found rows is none (Front l) (more, also, asked) =
-    let bad : 4 ≡ 5 = ap length (same_name found (codes "plot") (codes "front") rows more is also) in omega (arith, bad)
+    let bad : 4 ≡ 5 = ap length (same_name found _ _ rows more is also) in omega (arith, bad)
 no_plot found rows is none (Plot l) (more, also, asked) =
     none _ _ (subst (λ (r : List Row). IsExploreAsked r l.study.now l.workers)
     (same_rows found _ _ rows more is also) asked)

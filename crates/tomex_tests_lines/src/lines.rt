@@ -156,6 +156,23 @@ fn lines_are_read(rt: HostRuntime) -> Result<(), Fail> {
     Ok(())
 }
 
+/// Lines that ask for help, and how it ends.
+static HELP_ENDS: [(&str, &str); 4] = [
+    ("--help", "hexadecimal too, as in 0x10000.\n"),
+    ("run --help", "\n  ebreak at 0000000c after 4\n"),
+    ("tables --help", "\n  x3 Qi=mul0\n"),
+    ("run -h", "Print help (see more with '--help')\n"),
+];
+
+#[test]
+fn help_is_whole(rt: HostRuntime) -> Result<(), Fail> {
+    for (line, end) in &HELP_ENDS {
+        let text = told(rt.alloc(), line)?;
+        assert!(rt; text.starts_with("help ") && text.ends_with(end), "{line}: {text}");
+    }
+    Ok(())
+}
+
 /// Lines that are refused.
 static REFUSED: [&str; 30] = [
     "run a --base 4294967293",

@@ -44,6 +44,13 @@ fn long_files_are_read(rt: HostRuntime) -> Result<(), Fail> {
     Ok(())
 }
 
+#[test]
+fn endless_files_are_refused(rt: HostRuntime) -> Result<(), Fail> {
+    let read = HostFiles::new(&rt).read(rt.alloc(), "/dev/zero");
+    assert!(rt; read.err() == Some(ReadFault::NoFile));
+    Ok(())
+}
+
 /// A clock that goes on by a second at each look.
 #[derive(Drop)]
 struct Leaping {

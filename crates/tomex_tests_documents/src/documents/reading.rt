@@ -1,6 +1,7 @@
 //! Whole studies, with their programs' files: what they come to, and damaged ones.
 
 use super::studies::{STUDY_L, STUDY_M};
+use std::alloc::Global;
 use std::test::Fail;
 use tomex_config::Config;
 use tomex_reading::{StudyError, file_names, read_study};
@@ -127,6 +128,63 @@ fn the_first_program_that_fails_is_named(rt: HostRuntime) -> Result<(), Fail> {
         let told = refusal(&rt, LIMITED, &[*first, *second])?;
         assert!(rt; told.as_str() == *wanted);
     }
+    Ok(())
+}
+
+/// The product as an ELF file of 100 bytes, to be loaded at 65536: a header, a program header from 52 on, and from 84
+/// on the code.
+const ELF: &[u8; 100] = b"\x7fELF\x01\x01\x01\x00\x00\x00\x00\x00\x00\x00\x00\x00\
+    \x02\x00\xf3\x00\x01\x00\x00\x00\x00\x00\x01\x00\x34\x00\x00\x00\
+    \x00\x00\x00\x00\x00\x00\x00\x00\x34\x00\x20\x00\x01\x00\x00\x00\x00\x00\x00\x00\
+    \x01\x00\x00\x00\x54\x00\x00\x00\x00\x00\x01\x00\x00\x00\x01\x00\
+    \x10\x00\x00\x00\x20\x00\x00\x00\x05\x00\x00\x00\x04\x00\x00\x00\
+    \x93\x00\x50\x00\x13\x01\x70\x00\xb3\x81\x20\x02\x73\x00\x10\x00";
+
+/// The file with this byte at this place, and so many more program headers after the first one, each of them `apart`
+/// bytes of memory after the one before.
+fn elf_with(alloc: Global, place: usize, byte: u8, more: u8, apart: u8) -> Result<Vec<u8>, Fail> {
+    let elf = ELF.as_slice();
+    let mut file = elf[..84].to_vec(alloc)?;
+    for number in 1..=more {
+        file.extend_from_slice(&elf[52..84])?;
+        let address = 52 + 32 * usize::from(number) + 8;
+        let [low, high] = (u16::from(apart) * u16::from(number)).to_le_bytes();
+        *file.get_mut(address).ok_or("no header")? = low;
+        *file.get_mut(address + 1).ok_or("no header")? = high;
+    }
+    file.extend_from_slice(&elf[84..])?;
+    *file.get_mut(44).ok_or("no count")? = more.wrapping_add(1);
+    *file.get_mut(place).ok_or("no such place")? = byte;
+    Ok(file)
+}
+
+/// A place in the file and the byte there, how many more segments there are, how far apart, and the text of the
+/// refusal, an empty one where it is read.
+static IMAGES: [(usize, u8, u8, u8, &str); 9] = [
+    (0, 0x7f, 0, 0, ""),
+    (18, 0x3e, 0, 0, "program a: image: not RISC-V"),
+    (16, 3, 0, 0, "program a: image: not executable"),
+    (42, 31, 0, 0, "program a: image: header size"),
+    (52, 3, 0, 0, "program a: image: dynamic"),
+    (72, 15, 0, 0, "program a: image: segment"),
+    (24, 2, 0, 0, "program a: image: entry"),
+    (0, 0x7f, 1, 0, "program a: image: overlap"),
+    (0, 0x7f, 16, 32, "program a: image: too many segments"),
+];
+
+/// One program at the ELF file's address.
+const ONE_IMAGE: &str = "[[program]]\nname = \"a\"\nfile = \"a\"\nbase = 65536\nsize = 4096\n";
+
+#[test]
+fn each_refusal_of_an_image_is_named(rt: HostRuntime) -> Result<(), Fail> {
+    for (place, byte, more, apart, wanted) in &IMAGES {
+        let file = elf_with(rt.alloc(), *place, *byte, *more, *apart)?;
+        let told = refusal(&rt, ONE_IMAGE, &[file.as_slice()])?;
+        assert!(rt; told.as_str() == *wanted, "{told}");
+    }
+    let long = vec![in rt.alloc(); 0u8; 4100]?;
+    let told = refusal(&rt, ONE_IMAGE, &[long.as_slice()])?;
+    assert!(rt; told.as_str() == "program a: image: too large");
     Ok(())
 }
 

@@ -3,7 +3,8 @@ use Rattle.std.proofs.Common.{◌≡◌, ◌∙◌, ap, sym, codes, Some, option
 use Rattle.std.proofs.lemmas.Result.{err_from_is_err_and}
 use Rattle.clap.specs.Words.{found_of, subcommand_rows_of}
 use Rattle.clap.specs.Walk.{rows_of}
-use Rattle.tomex_line.proofs.OneName.{no_run, no_times, no_stalls, no_pipeline, no_tables, no_explore, no_front, no_plot}
+use Rattle.tomex_line.proofs.OneName.{no_run, no_times, no_stalls, no_pipeline}
+use Rattle.tomex_line.proofs.OneName.{no_tables, no_explore, no_front, no_plot}
 use Rattle.tomex_line.proofs.OneName.{found_is, no_other}
 use Rattle.tomex_arguments.proofs.WhyRefused.{refused_if}
 use Rattle.tomex_line.proofs.StillRefused.{still_refused}
@@ -13,7 +14,8 @@ use Rattle.tomex_line.proofs.line.line_of.Goals as goal
 pub returns-in_err-line_of-in-Some-run-default-clause-refused :
     goal.returns-in_err-line_of-in-Some-run-default-clause-refused
 returns-in_err-line_of-in-Some-run-default-clause-refused c =
-    let found : subcommand_rows_of c.args.matches.now ≡ Some (codes "run", rows_of (found_of c.in-Some-run-default.inner.now)) =
+    let found : subcommand_rows_of c.args.matches.now
+    ≡ Some (codes "run", rows_of (found_of c.in-Some-run-default.inner.now)) =
     search rules in
     let p = err_from_is_err_and c.from_residual.result c.from_residual.ensures.1 in
     rw (p.1) (still_refused _ _ _ p.0 c.in_err-line_of-in-Some-run-default.ensures.refused p.2
@@ -22,63 +24,77 @@ returns-in_err-line_of-in-Some-run-default-clause-refused c =
 pub returns-in_err-line_of-in-Some-times-default-clause-refused :
     goal.returns-in_err-line_of-in-Some-times-default-clause-refused
 returns-in_err-line_of-in-Some-times-default-clause-refused c =
-    let found : subcommand_rows_of c.args.matches.now ≡ Some (codes "times", rows_of (found_of c.in-Some-times-default.inner.now)) =
+    let found : subcommand_rows_of c.args.matches.now
+    ≡ Some (codes "times", rows_of (found_of c.in-Some-times-default.inner.now)) =
     search rules in
-    let p = err_from_is_err_and c.from_residual-in_err-line_of-in-Some-times-default.result c.from_residual-in_err-line_of-in-Some-times-default.ensures.1 in
+    let p = err_from_is_err_and c.from_residual-in_err-line_of-in-Some-times-default.result
+    c.from_residual-in_err-line_of-in-Some-times-default.ensures.1 in
     rw (p.1) (still_refused _ _ _ p.0 c.in_err-line_of-in-Some-times-default.ensures.refused p.2
     (no_times (subcommand_rows_of c.args.matches.now) (rows_of (found_of c.in-Some-times-default.inner.now)) found))
 
 pub returns-in_err-line_of-in-Some-stalls-default-clause-refused :
     goal.returns-in_err-line_of-in-Some-stalls-default-clause-refused
 returns-in_err-line_of-in-Some-stalls-default-clause-refused c =
-    let found : subcommand_rows_of c.args.matches.now ≡ Some (codes "stalls", rows_of (found_of c.in-Some-stalls-default.inner.now)) =
+    let found : subcommand_rows_of c.args.matches.now
+    ≡ Some (codes "stalls", rows_of (found_of c.in-Some-stalls-default.inner.now)) =
     search rules in
-    let p = err_from_is_err_and c.from_residual-in_err-line_of-in-Some-stalls-default.result c.from_residual-in_err-line_of-in-Some-stalls-default.ensures.1 in
+    let p = err_from_is_err_and c.from_residual-in_err-line_of-in-Some-stalls-default.result
+    c.from_residual-in_err-line_of-in-Some-stalls-default.ensures.1 in
     rw (p.1) (still_refused _ _ _ p.0 c.in_err-line_of-in-Some-stalls-default.ensures.refused p.2
     (no_stalls (subcommand_rows_of c.args.matches.now) (rows_of (found_of c.in-Some-stalls-default.inner.now)) found))
 
 pub returns-in_err-line_of-in-Some-pipeline-default-clause-refused :
     goal.returns-in_err-line_of-in-Some-pipeline-default-clause-refused
 returns-in_err-line_of-in-Some-pipeline-default-clause-refused c =
-    let found : subcommand_rows_of c.args.matches.now ≡ Some (codes "pipeline", rows_of (found_of c.in-Some-pipeline-default.inner.now)) =
+    let found : subcommand_rows_of c.args.matches.now
+    ≡ Some (codes "pipeline", rows_of (found_of c.in-Some-pipeline-default.inner.now)) =
     search rules in
-    let p = err_from_is_err_and c.from_residual-in_err-line_of-in-Some-pipeline-default.result c.from_residual-in_err-line_of-in-Some-pipeline-default.ensures.1 in
+    let p = err_from_is_err_and c.from_residual-in_err-line_of-in-Some-pipeline-default.result
+    c.from_residual-in_err-line_of-in-Some-pipeline-default.ensures.1 in
     rw (p.1) (still_refused _ _ _ p.0 c.in_err-line_of-in-Some-pipeline-default.ensures.refused p.2
     (no_pipeline (subcommand_rows_of c.args.matches.now) (rows_of (found_of c.in-Some-pipeline-default.inner.now)) found))
 
 pub returns-in_err-line_of-in-Some-tables-default-clause-refused :
     goal.returns-in_err-line_of-in-Some-tables-default-clause-refused
 returns-in_err-line_of-in-Some-tables-default-clause-refused c =
-    let found : subcommand_rows_of c.args.matches.now ≡ Some (codes "tables", rows_of (found_of c.in-Some-tables-default.inner.now)) =
+    let found : subcommand_rows_of c.args.matches.now
+    ≡ Some (codes "tables", rows_of (found_of c.in-Some-tables-default.inner.now)) =
     search rules in
-    let p = err_from_is_err_and c.from_residual-in_err-line_of-in-Some-tables-default.result c.from_residual-in_err-line_of-in-Some-tables-default.ensures.1 in
+    let p = err_from_is_err_and c.from_residual-in_err-line_of-in-Some-tables-default.result
+    c.from_residual-in_err-line_of-in-Some-tables-default.ensures.1 in
     rw (p.1) (still_refused _ _ _ p.0 c.in_err-line_of-in-Some-tables-default.ensures.refused p.2
     (no_tables (subcommand_rows_of c.args.matches.now) (rows_of (found_of c.in-Some-tables-default.inner.now)) found))
 
 pub returns-in_err-line_of-in-Some-explore-default-clause-refused :
     goal.returns-in_err-line_of-in-Some-explore-default-clause-refused
 returns-in_err-line_of-in-Some-explore-default-clause-refused c =
-    let found : subcommand_rows_of c.args.matches.now ≡ Some (codes "explore", rows_of (found_of c.in-Some-explore-default.inner.now)) =
+    let found : subcommand_rows_of c.args.matches.now
+    ≡ Some (codes "explore", rows_of (found_of c.in-Some-explore-default.inner.now)) =
     search rules in
-    let p = err_from_is_err_and c.from_residual-in_err-line_of-in-Some-explore-default.result c.from_residual-in_err-line_of-in-Some-explore-default.ensures.1 in
+    let p = err_from_is_err_and c.from_residual-in_err-line_of-in-Some-explore-default.result
+    c.from_residual-in_err-line_of-in-Some-explore-default.ensures.1 in
     rw (p.1) (still_refused _ _ _ p.0 c.in_err-line_of-in-Some-explore-default.ensures.refused p.2
     (no_explore (subcommand_rows_of c.args.matches.now) (rows_of (found_of c.in-Some-explore-default.inner.now)) found))
 
 pub returns-in_err-line_of-in-Some-front-default-clause-refused :
     goal.returns-in_err-line_of-in-Some-front-default-clause-refused
 returns-in_err-line_of-in-Some-front-default-clause-refused c =
-    let found : subcommand_rows_of c.args.matches.now ≡ Some (codes "front", rows_of (found_of c.in-Some-front-default.inner.now)) =
+    let found : subcommand_rows_of c.args.matches.now
+    ≡ Some (codes "front", rows_of (found_of c.in-Some-front-default.inner.now)) =
     search rules in
-    let p = err_from_is_err_and c.from_residual-in_err-line_of-in-Some-front-default.result c.from_residual-in_err-line_of-in-Some-front-default.ensures.1 in
+    let p = err_from_is_err_and c.from_residual-in_err-line_of-in-Some-front-default.result
+    c.from_residual-in_err-line_of-in-Some-front-default.ensures.1 in
     rw (p.1) (still_refused _ _ _ p.0 c.in_err-line_of-in-Some-front-default.ensures.refused p.2
     (no_front (subcommand_rows_of c.args.matches.now) (rows_of (found_of c.in-Some-front-default.inner.now)) found))
 
 pub returns-in_err-line_of-in-Some-plot-default-clause-refused :
     goal.returns-in_err-line_of-in-Some-plot-default-clause-refused
 returns-in_err-line_of-in-Some-plot-default-clause-refused c =
-    let found : subcommand_rows_of c.args.matches.now ≡ Some (codes "plot", rows_of (found_of c.in-Some-plot-default.inner.now)) =
+    let found : subcommand_rows_of c.args.matches.now
+    ≡ Some (codes "plot", rows_of (found_of c.in-Some-plot-default.inner.now)) =
     search rules in
-    let p = err_from_is_err_and c.from_residual-in_err-line_of-in-Some-plot-default.result c.from_residual-in_err-line_of-in-Some-plot-default.ensures.1 in
+    let p = err_from_is_err_and c.from_residual-in_err-line_of-in-Some-plot-default.result
+    c.from_residual-in_err-line_of-in-Some-plot-default.ensures.1 in
     rw (p.1) (still_refused _ _ _ p.0 c.in_err-line_of-in-Some-plot-default.ensures.refused p.2
     (no_plot (subcommand_rows_of c.args.matches.now) (rows_of (found_of c.in-Some-plot-default.inner.now)) found))
 
@@ -91,7 +107,8 @@ returns-in_default-clause-refused c = elim c.in_default.branch [
       (no_other (subcommand_rows_of c.args.matches.now) name rows
       (found_is c.args.matches.now name rows
       (sym (ap (option_map (λ p. p.0.now)) w.in_default.is) ∙ c.subcommand.ensures.name)
-      (sym (ap (option_map (λ p. rows_of (found_of p.1.now))) w.in_default.is) ∙ c.subcommand.ensures.rows)) (search rules) (search rules) (search rules)
+      (sym (ap (option_map (λ p. rows_of (found_of p.1.now))) w.in_default.is) ∙ c.subcommand.ensures.rows))
+      (search rules) (search rules) (search rules)
       (search rules) (search rules) (search rules) (search rules) (search rules) (search rules))
   | in_default-via-in_default w ↦ search rules
 ]

@@ -10,4 +10,5 @@ invariant_of-result c = search rules fits 100
 pub returns-in_err-number_of-clause-refused : goal.returns-in_err-number_of-clause-refused
 returns-in_err-number_of-clause-refused c =
     let p = err_from_is_err_and c.from_residual-in_err-number_of.result c.from_residual-in_err-number_of.ensures.1 in
-    rw (p.1) (still_refused _ _ _ p.0 c.in_err-number_of.ensures.refused p.2 (λ none study workers asked. none workers asked.is_workers))
+    rw (p.1) (still_refused _ _ _ p.0 c.in_err-number_of.ensures.refused p.2
+    (λ none study workers asked. none workers asked.is_workers))

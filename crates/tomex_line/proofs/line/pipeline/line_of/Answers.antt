@@ -10,7 +10,8 @@ invariant_of-result c = search rules fits 100
 pub returns-in_err-study-clause-refused : goal.returns-in_err-study-clause-refused
 returns-in_err-study-clause-refused c =
     let p = err_from_is_err_and c.from_residual.result c.from_residual.ensures.1 in
-    rw (p.1) (still_refused _ _ _ p.0 c.in_err-study.ensures.refused p.2 (λ none study config program from steps konata asked. none study config program record {
+    rw (p.1) (still_refused _ _ _ p.0 c.in_err-study.ensures.refused p.2
+    (λ none study config program from steps konata asked. none study config program record {
       is_study = asked.is_study;
       is_config = asked.is_config;
       is_program = asked.is_program;
@@ -19,9 +20,12 @@ returns-in_err-study-clause-refused c =
 pub returns-in_err-number_of-clause-refused : goal.returns-in_err-number_of-clause-refused
 returns-in_err-number_of-clause-refused c =
     let p = err_from_is_err_and c.from_residual-in_err-number_of.result c.from_residual-in_err-number_of.ensures.1 in
-    rw (p.1) (still_refused _ _ _ p.0 c.in_err-number_of.ensures.refused p.2 (λ none study config program from steps konata asked. none from asked.is_from))
+    rw (p.1) (still_refused _ _ _ p.0 c.in_err-number_of.ensures.refused p.2
+    (λ none study config program from steps konata asked. none from asked.is_from))
 
 pub returns-in_err-number_of-2-clause-refused : goal.returns-in_err-number_of-2-clause-refused
 returns-in_err-number_of-2-clause-refused c =
-    let p = err_from_is_err_and c.from_residual-in_err-number_of-2.result c.from_residual-in_err-number_of-2.ensures.1 in
-    rw (p.1) (still_refused _ _ _ p.0 c.in_err-number_of-2.ensures.refused p.2 (λ none study config program from steps konata asked. none steps asked.is_steps))
+    let p = err_from_is_err_and c.from_residual-in_err-number_of-2.result
+    c.from_residual-in_err-number_of-2.ensures.1 in
+    rw (p.1) (still_refused _ _ _ p.0 c.in_err-number_of-2.ensures.refused p.2
+    (λ none study config program from steps konata asked. none steps asked.is_steps))
