@@ -12,6 +12,8 @@ mod explorations;
 #[cfg(test)]
 mod fronts;
 #[cfg(test)]
+mod greatest;
+#[cfg(test)]
 mod konata;
 #[cfg(test)]
 mod line_faults;
@@ -27,3 +29,5 @@ mod tables;
 mod times;
 #[cfg(test)]
 mod wide;
+#[cfg(test)]
+mod workers;

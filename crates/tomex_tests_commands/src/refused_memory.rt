@@ -141,3 +141,24 @@ fn of_what_a_study_comes_to(rt: HostRuntime) -> Result<(), Fail> {
     let files = [("study", DROPPED.as_bytes()), ("loop.bin", LOOP.as_slice())];
     each_is_granted(&rt, files.as_slice(), OF_DROPPED.as_slice())
 }
+
+/// How many blocks a line is granted that makes the report of the study.
+fn granted_to<R: AllocGlobal + Threads + Wait + Sync>(
+    rt: &R,
+    line: &str,
+) -> Result<Option<u64>, AllocError> {
+    let files = [("study", DROPPED.as_bytes()), ("loop.bin", LOOP.as_slice())];
+    let words = words_of(rt.alloc(), line)?;
+    granted(rt, words.as_slice(), files.as_slice(), DROPPED_REPORT)
+}
+
+#[test]
+fn each_worker_takes_memory(rt: HostRuntime) -> Result<(), Fail> {
+    // A board and lanes, which runs without workers don't have; and a lane for each worker.
+    let all = granted_to(&rt, "tomex all study")?;
+    let one = granted_to(&rt, "tomex explore study")?;
+    let eight = granted_to(&rt, "tomex explore study --workers 8")?;
+    assert!(rt; all < one, "{all:?} {one:?}");
+    assert!(rt; one < eight, "{one:?} {eight:?}");
+    Ok(())
+}

@@ -5,7 +5,8 @@ use std::sync::Wait;
 use std::test::Fail;
 use std::thread::Threads;
 use tomex_report::{AnswerError, StudyError, answer, answer_all, front_report, read_study, replay};
-use tomex_samples::programs::LOOP;
+use tomex_samples::front_report_of;
+use tomex_samples::programs::{LOOP, PRODUCT};
 use tomex_samples::studies::{DROPPED, DROPPED_REPORT};
 use tomex_samples::{Attempt, Heap, Try, ample, refusals, refusals_of};
 use tomex_sweep::{Mark, OpenGate, Outcome, Study, SweepError, explore, run_all};
@@ -84,10 +85,41 @@ fn report_in<R: Threads + Wait + Sync>(
     }
 }
 
-/// How an answer came out.
-fn answered(text: Result<Vec<u8, Heap>, AnswerError>) -> Try {
+/// A study of one program, the bytes of its file, and its report.
+#[derive(Clone, Copy)]
+struct Sample {
+    study: &'static str,
+    file: &'static [u8],
+    report: &'static str,
+}
+
+/// One row on the front; and two, by their prices.
+static SAMPLES: [Sample; 2] = [
+    Sample {
+        study: DROPPED,
+        file: LOOP,
+        report: DROPPED_REPORT,
+    },
+    Sample {
+        study: PRICED,
+        file: PRODUCT,
+        report: PRICED_REPORT,
+    },
+];
+
+/// Two rows, of two alu stations and of one.
+const PRICED: &str = "[[program]]\nname = \"mul\"\nfile = \"mul.bin\"\n[prices]\nalu = 10\n\
+    [axes]\nalu = [2, 1]\n[[unit.mul]]\nlatency = 3\n";
+
+const PRICED_REPORT: &str = front_report_of!(
+    "1,10,10,1,1,1,1,1,1,1,1,1,3,1,1,1,1,1,1,1,mul,4,10,ebreak,x1=00000005 x2=00000007 x3=00000023,-\n\
+     0,20,8,2,1,1,1,1,1,1,1,1,3,1,1,1,1,1,1,1,mul,4,8,ebreak,x1=00000005 x2=00000007 x3=00000023,-\n"
+);
+
+/// How an answer came out that is to be this report.
+fn answered(text: Result<Vec<u8, Heap>, AnswerError>, report: &str) -> Try {
     match text {
-        Ok(text) => Try::right_if(text.as_slice() == DROPPED_REPORT.as_bytes()),
+        Ok(text) => Try::right_if(text.as_slice() == report.as_bytes()),
         Err(AnswerError::Study(StudyError::Memory)) => Try::Refused,
         Err(AnswerError::Sweep(SweepError::Memory)) => Try::Refused,
         Err(_) => Try::Wrong,
@@ -142,10 +174,11 @@ fn answer_in<R: Threads + Wait + Sync>(
     rt: &R,
     heap: Heap,
     other: Global,
+    sample: Sample,
     workers: Option<usize>,
 ) -> Result<Try, AllocError> {
-    let files = files_in(other)?;
-    let study = DROPPED.as_bytes();
+    let files = vec![in other; sample.file.to_vec(ample(other)?)?]?;
+    let study = sample.study.as_bytes();
     let text = match workers {
         Some(workers) => {
             let workers = workers.max(1).min(32);
@@ -153,22 +186,25 @@ fn answer_in<R: Threads + Wait + Sync>(
         }
         None => answer_all(rt, heap, other, study, files.as_slice()),
     };
-    Ok(answered(text))
+    Ok(answered(text, sample.report))
 }
 
 /// How many blocks such a report takes.
 fn blocks_of_answer<R: Threads + Wait + Sync>(
     rt: &R,
     other: Global,
+    sample: Sample,
     workers: Option<usize>,
 ) -> Result<Option<u64>, AllocError> {
-    Ok(refusals_of!(other, heap => answer_in(rt, heap, other, workers)?))
+    Ok(refusals_of!(other, heap => answer_in(rt, heap, other, sample, workers)?))
 }
 
 #[test]
 fn of_answers(rt: HostRuntime) -> Result<(), Fail> {
-    for workers in [None, Some(1), Some(2)] {
-        assert!(rt; blocks_of_answer(&rt, rt.alloc(), workers)? > Some(12));
+    for sample in &SAMPLES {
+        for workers in [None, Some(1), Some(2)] {
+            assert!(rt; blocks_of_answer(&rt, rt.alloc(), *sample, workers)? > Some(12));
+        }
     }
     Ok(())
 }

@@ -1,0 +1,129 @@
+//! Each command once on what is long or large and soon done: eight programs that watch eight ranges each, runs of
+//! 262,144 steps, and a front of more than 64 configurations. None of it is refused.
+
+use crate::commands::{Outcome, outcome_of, words_of};
+use std::alloc::{AllocError, Global};
+use std::sync::Wait;
+use std::test::Fail;
+use std::thread::Threads;
+use tomex_samples::programs::LOOP;
+use tomex_streams::NoMeter;
+
+/// `lui x1,32; addi x1,x1,-2; nop; addi x1,x1,-1; bne x1,x0,-4; ebreak`: its loop is run 131,070 times, so the run
+/// has 262,144 steps.
+const LONG: &[u8; 24] =
+    b"\xb7\x00\x02\x00\x93\x80\xe0\xff\x13\x00\x00\x00\x93\x80\xf0\xff\xe3\x9e\x00\xfe\x73\x00\x10\x00";
+
+/// A study of that program.
+const ONE: &str = "[[program]]\nname = \"long\"\nfile = \"long.bin\"\n";
+
+/// A study of eight programs, each with eight ranges that it watches.
+fn eight_programs(alloc: Global) -> Result<String, AllocError> {
+    let mut study = String::new(alloc);
+    for number in 0..8u32 {
+        let program = format!(in alloc;
+            "[[program]]\nname = \"p{number}\"\nfile = \"loop.bin\"\nwatch = [[0, 4], [4, 4], [8, 4], [12, 4], \
+            [16, 4], [20, 4], [24, 4], [28, 4]]\n"
+        )?;
+        study.push_str(program.as_str())?;
+    }
+    Ok(study)
+}
+
+/// 80 configurations that cost nothing and differ in stations that the program doesn't use: all are on the front.
+const ALIKE: &str = "[[program]]\nname = \"loop\"\nfile = \"loop.bin\"\n[axes]\n\
+    div = [1, 2, 3, 4, 5, 6, 7, 8, 9, 10, 11, 12, 13, 14, 15, 16]\nstore = [1, 2, 3, 4, 5]\n";
+
+/// What a line over these studies and programs comes to.
+fn outcome_on<R: AllocGlobal + Threads + Wait + Sync>(
+    rt: &R,
+    line: &str,
+) -> Result<Outcome, AllocError> {
+    let study = eight_programs(rt.alloc())?;
+    let files = [
+        ("one", ONE.as_bytes()),
+        ("eight", study.as_bytes()),
+        ("alike", ALIKE.as_bytes()),
+        ("long.bin", LONG.as_slice()),
+        ("loop.bin", LOOP.as_slice()),
+    ];
+    let words = words_of(rt.alloc(), line)?;
+    outcome_of(
+        rt,
+        rt.alloc(),
+        &files,
+        words.as_slice(),
+        &NoMeter,
+        100_000_000,
+    )
+}
+
+/// How many lines a text has.
+fn lines_of(text: &[u8]) -> usize {
+    text.iter().filter(|byte| **byte == b'\n').count()
+}
+
+/// Whether a line is done, and its text begins and ends so.
+fn is_done<R: AllocGlobal + Threads + Wait + Sync>(
+    rt: &R,
+    line: &str,
+    start: &str,
+    end: &str,
+) -> Result<bool, AllocError> {
+    let outcome = outcome_on(rt, line)?;
+    let text = outcome.out.as_slice();
+    let is_whole = text.starts_with(start.as_bytes()) && text.ends_with(end.as_bytes());
+    Ok(outcome.status == 0 && outcome.err.is_empty() && is_whole)
+}
+
+/// Lines, and how what they print begins and ends.
+static ON_A_LONG_RUN: [(&str, &str, &str); 8] = [
+    (
+        "tomex run long.bin",
+        "x0=00000000\n",
+        "ebreak at 00000014 after 262144\n",
+    ),
+    ("tomex times one 0 long", "step,", "\n"),
+    ("tomex stalls one 0 long", "part,", "\n"),
+    ("tomex stalls one 0 long --by-pc", "pc,", "\n"),
+    (
+        "tomex pipeline one 0 long --from 262144 --steps 1",
+        "cycles ",
+        "\n",
+    ),
+    (
+        "tomex pipeline one 0 long --from 262144 --steps 1 --konata",
+        "Kanata\t0004\n",
+        "\n",
+    ),
+    ("tomex tables one 0 long 262144", "cycle 262144\n", "\n"),
+    ("tomex all one", "row,cost,", ",ebreak,x2=00010000,-\n"),
+];
+
+#[test]
+fn long_runs_are_not_refused(rt: HostRuntime) -> Result<(), Fail> {
+    for (line, start, end) in &ON_A_LONG_RUN {
+        assert!(rt; is_done(&rt, line, start, end)?, "{line}");
+    }
+    Ok(())
+}
+
+/// Lines that print the front of eight programs, or of 80 configurations, and how many lines they print.
+static ON_A_LONG_FRONT: [(&str, usize); 5] = [
+    ("tomex all eight", 9),
+    ("tomex explore eight --workers 2", 9),
+    ("tomex all alike", 81),
+    ("tomex explore alike --workers 2", 81),
+    ("tomex front alike", 81),
+];
+
+#[test]
+fn long_fronts_are_not_refused(rt: HostRuntime) -> Result<(), Fail> {
+    for (line, count) in &ON_A_LONG_FRONT {
+        let outcome = outcome_on(&rt, line)?;
+        assert!(rt; outcome.status == 0 && outcome.err.is_empty(), "{line}");
+        assert_eq!(rt; lines_of(outcome.out.as_slice()), *count, "{line}");
+    }
+    assert!(rt; is_done(&rt, "tomex plot alike", "<svg ", "</svg>\n")?);
+    Ok(())
+}

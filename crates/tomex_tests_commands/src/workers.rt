@@ -1,0 +1,75 @@
+//! That the commands which explore a study share its configurations among threads.
+
+use crate::commands::{outcome_of, words_of};
+use crate::explorations::PRICED;
+use std::sync::Wait;
+use std::sync::atomic::{AtomicU64, Ordering};
+use std::test::Fail;
+use std::thread;
+use std::thread::Threads;
+use tomex_samples::programs::PRODUCT;
+use tomex_streams::Meter;
+
+/// Turns that a thread is held, at most.
+const TURNS: u32 = 10_000_000;
+
+/// Holds the thread of the first call until another thread calls.
+#[derive(Drop)]
+struct FirstWaits {
+    calls: AtomicU64,
+    met: AtomicU64,
+}
+
+impl FirstWaits {
+    /// Waits until there was a second call, and says whether there was.
+    fn is_second_seen(&self) -> bool {
+        for _ in 0..TURNS {
+            if self.calls.load(Ordering::SeqCst) > 1 {
+                return true;
+            }
+            thread::yield_now();
+        }
+        false
+    }
+}
+
+impl Meter for FirstWaits {
+    fn show(&self, _done: u64, _of: u64) {
+        let is_first = self.calls.fetch_add(1, Ordering::SeqCst) == 0;
+        if is_first && self.is_second_seen() {
+            self.met.fetch_add(1, Ordering::SeqCst);
+        }
+    }
+
+    fn clear(&self) {}
+}
+
+/// Whether a second thread took a configuration of the study of two while the first one was held at the other.
+fn is_shared<R: AllocGlobal + Threads + Wait + Sync>(rt: &R, line: &str) -> Result<bool, Fail> {
+    let files = [
+        ("study", PRICED.as_bytes()),
+        ("mul.bin", PRODUCT.as_slice()),
+    ];
+    let meter = FirstWaits {
+        calls: AtomicU64::new(0),
+        met: AtomicU64::new(0),
+    };
+    let words = words_of(rt.alloc(), line)?;
+    let outcome = outcome_of(rt, rt.alloc(), &files, words.as_slice(), &meter, 10_000)?;
+    Ok(outcome.status == 0 && meter.met.load(Ordering::SeqCst) == 1)
+}
+
+/// The commands that explore a study, by two workers.
+static LINES: [&str; 3] = [
+    "tomex explore study --workers 2",
+    "tomex front study --workers 2",
+    "tomex plot study --workers 2",
+];
+
+#[test]
+fn two_workers_work_at_a_time(rt: HostRuntime) -> Result<(), Fail> {
+    for line in &LINES {
+        assert!(rt; is_shared(&rt, line)?, "{line}");
+    }
+    Ok(())
+}
