@@ -154,11 +154,9 @@ fn granted_to<R: AllocGlobal + Threads + Wait + Sync>(
 
 #[test]
 fn each_worker_takes_memory(rt: HostRuntime) -> Result<(), Fail> {
-    // A board and lanes, which runs without workers don't have; and a lane for each worker.
-    let all = granted_to(&rt, "tomex all study")?;
+    // A lane for each worker.
     let one = granted_to(&rt, "tomex explore study")?;
     let eight = granted_to(&rt, "tomex explore study --workers 8")?;
-    assert!(rt; all < one, "{all:?} {one:?}");
     assert!(rt; one < eight, "{one:?} {eight:?}");
     Ok(())
 }
