@@ -1,12 +1,21 @@
 -- The values of a line, by the rows of what `clap` is specified to find in its words.
-use Rattle.std.specs.Prelude.{◌≡◌, ◌≤◌, ℕ, Bool, true, false, List, codes, Some, None, Ok}
+use Rattle.std.specs.Prelude.{◌≡◌, ◌≤◌, ℕ, Bool, true, false, List, codes, Option, Some, None, Ok, option_map}
+use Rattle.std.specs.List.{join_by}
 use Rattle.std.specs.Str.Parse.{ParsesUnsigned}
 use Rattle.std.specs.declared.num.ParseIntError.{ParseIntError}
-use Rattle.clap.specs.Words.{Row, Text, first_of, one_of}
+use Rattle.clap.specs.Words.{Row, Text, all_of, first_of, one_of}
 
 -- the word that was found for an argument
 abbrev pub IsWord : List Row → Text → List ℕ → Type 0
 IsWord rows name word = first_of name rows ≡ Some word
+
+-- words, with a space between each two
+abbrev pub spaced : List Text → Text
+spaced = join_by (λ (word : Text). word) (codes " ")
+
+-- all words that were found for an argument
+abbrev pub AreWords : List Row → Text → Option Text → Type 0
+AreWords rows name words = words ≡ option_map spaced (all_of name rows)
 
 -- the number that was found for an argument, or its default: in decimal, and within these bounds
 abbrev pub IsNumber : List Row → Text → ℕ → ℕ → ℕ → Type 0

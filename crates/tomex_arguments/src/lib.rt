@@ -7,4 +7,4 @@ mod values;
 
 pub use fault::{LineFault, fault_of, refused};
 pub use system::{not_text, unread};
-pub use values::{Bounds, flag_of, number_of, word_of};
+pub use values::{Bounds, flag_of, number_of, word_of, words_of};

@@ -1,13 +1,13 @@
 //! The values of a line, as `clap` read them.
-ghost use Rattle.std.specs.Prelude.{ℕ, List, IfOk, IfErr};
+ghost use Rattle.std.specs.Prelude.{ℕ, List, IfOk, IfErr, option_map, string_bytes};
 ghost use Rattle.tomex_arguments.specs.Faults.{IsRefusedIf};
 ghost use Rattle.clap.specs.Words.{found_of};
 ghost use Rattle.clap.specs.Walk.{rows_of};
-ghost use Rattle.tomex_arguments.specs.Values.{IsFlag, IsNumber, IsWord};
+ghost use Rattle.tomex_arguments.specs.Values.{AreWords, IsFlag, IsNumber, IsWord};
 
 use crate::fault::{LineFault, refused};
 use clap::ArgMatches;
-use std::alloc::Global;
+use std::alloc::{AllocError, Global};
 
 /// The least and the greatest value of a number.
 #[derive(Clone, Copy)]
@@ -48,6 +48,21 @@ pub fn word_of<'a>(
     match matches.get_str(name) {
         Some(text) => Ok(text),
         None => Err(refused(alloc, name)),
+    }
+}
+
+/// All words that were given, with a space between each two; `None` if there are none.
+pub fn words_of(
+    alloc: Global,
+    matches: &ArgMatches<'_>,
+    name: &str,
+) -> Result<Option<String>, AllocError>
+    ensures { IfOk result (λ words.
+        AreWords (rows_of (found_of matches.now)) name.now (option_map string_bytes words)) }
+{
+    match matches.get_strs(name) {
+        Some(words) => Ok(Some(words.join(alloc, " ")?)),
+        None => Ok(None),
     }
 }
 

@@ -1,14 +1,15 @@
 -- What a run of the program comes to. A further command is a further case of `IsDone` and of `IsFailure`.
-use Rattle.std.specs.Prelude.{◌≡◌, ◌⊎◌, ℕ, List}
+use Rattle.std.specs.Prelude.{◌≡◌, ◌⊎◌, ℕ, List, option_map, string_bytes}
 use Rattle.tomex_command.specs.declared.failure.Failure.{Failure}
 use Rattle.tomex_command.specs.declared.failure.Failure.TheVariants.{CannotWrite}
 use Rattle.tomex_line.specs.declared.line.Line.{Line}
 use Rattle.tomex_line.specs.declared.line.Line.TheVariants.{Run, Times, Stalls, Pipeline, Tables}
-use Rattle.tomex_line.specs.declared.line.Line.TheVariants.{All, Explore, Front, Plot}
+use Rattle.tomex_line.specs.declared.line.Line.TheVariants.{All, Explore, Front, Plot, Explain}
 use Rattle.tomex_arguments.specs.declared.fault.LineFault.{LineFault}
 use Rattle.tomex_line.specs.Asked.{IsAsked, IsNoCommand}
 use Rattle.tomex_report.specs.declared.front_view.FrontView.TheVariants.{Report, Table, Picture}
 use Rattle.tomex_streams.specs.Files.{Told}
+use Rattle.tomex_command.specs.ExplainLines.{IsExplanation, IsExplainFailure}
 use Rattle.tomex_command.specs.FrontLines.{IsFrontOf, IsAllFailure, IsExploreFailure}
 use Rattle.tomex_streams.specs.Sinks.{Seen, IsWhole, IsCut}
 use Rattle.tomex_command.specs.PipelineLines.{IsPipelineOf, IsPipelineFailure}
@@ -29,6 +30,7 @@ IsDone file (All line) text = IsFrontOf Report file line.study.now text
 IsDone file (Explore line) text = IsFrontOf Report file line.study.now text
 IsDone file (Front line) text = IsFrontOf Table file line.study.now text
 IsDone file (Plot line) text = IsFrontOf Picture file line.study.now text
+IsDone file (Explain line) text = IsExplanation (option_map string_bytes line.refusal) text
 
 -- the line has no text, for this reason
 abbrev pub IsFailure : (List ℕ → Told) → Line → Failure → Type 0
@@ -41,6 +43,7 @@ IsFailure file (All line) failure = IsAllFailure file line.study.now failure
 IsFailure file (Explore line) failure = IsExploreFailure file line.study.now failure
 IsFailure file (Front line) failure = IsExploreFailure file line.study.now failure
 IsFailure file (Plot line) failure = IsExploreFailure file line.study.now failure
+IsFailure file (Explain line) failure = IsExplainFailure (option_map string_bytes line.refusal) failure
 
 -- a line was carried out: its text is on the output
 pub record IsCarriedOut (file : List ℕ → Told) (line : Line) (old new : Seen) : Type 0 where

@@ -1,5 +1,6 @@
 pub mod Chosen
 pub mod Commands
+pub mod ExplainLines
 pub mod FrontLines
 pub mod PipelineLines
 pub mod Reading

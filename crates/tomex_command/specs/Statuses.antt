@@ -3,6 +3,8 @@ use Rattle.std.specs.Prelude.{ℕ}
 use Rattle.tomex_sweep.specs.declared.outcome.SweepError.TheVariants as sweeps
 use Rattle.tomex_report.specs.declared.answer_error.AnswerError.{AnswerError}
 use Rattle.tomex_report.specs.declared.answer_error.AnswerError.TheVariants as answers
+use Rattle.tomex_refusals.specs.declared.explaining.ExplainError.{ExplainError}
+use Rattle.tomex_refusals.specs.declared.explaining.ExplainError.TheVariants as explanations
 use Rattle.tomex_konata.specs.declared.log_error.LogError.{LogError}
 use Rattle.tomex_konata.specs.declared.log_error.LogError.TheVariants as logs
 use Rattle.tomex_views.specs.declared.picture_error.PictureError.{PictureError}
@@ -13,7 +15,7 @@ use Rattle.tomex_command.specs.declared.failure.Failure.{Failure}
 use Rattle.tomex_command.specs.declared.failure.Failure.TheVariants.{BadWindow, Run, Study, NoSuchRow}
 use Rattle.tomex_command.specs.declared.failure.Failure.TheVariants.{NoSuchProgram, CyclePastEnd, NoSuchStep}
 use Rattle.tomex_command.specs.declared.failure.Failure.TheVariants.{PictureTooLarge, CannotRead, CannotWrite}
-use Rattle.tomex_command.specs.declared.failure.Failure.TheVariants.{Memory, Worker}
+use Rattle.tomex_command.specs.declared.failure.Failure.TheVariants.{NoSuchRefusal, Memory, Worker}
 
 -- 1 for input that is refused, 3 for want of memory, a thread, a file or a device
 abbrev pub status_of_failure : Failure → ℕ
@@ -27,6 +29,7 @@ status_of_failure NoSuchProgram = 1
 status_of_failure CyclePastEnd = 1
 status_of_failure NoSuchStep = 1
 status_of_failure PictureTooLarge = 1
+status_of_failure NoSuchRefusal = 1
 status_of_failure (CannotRead name) = 3
 status_of_failure CannotWrite = 3
 status_of_failure Memory = 3
@@ -48,3 +51,8 @@ failure_of_picture pictures.Memory = Memory
 abbrev pub failure_of_log : LogError → Failure
 failure_of_log logs.NoSuchStep = NoSuchStep
 failure_of_log logs.Memory = Memory
+
+-- and a refused explanation
+abbrev pub failure_of_explanation : ExplainError → Failure
+failure_of_explanation explanations.NoSuchRefusal = NoSuchRefusal
+failure_of_explanation explanations.Memory = Memory

@@ -7,6 +7,7 @@ ghost use Rattle.tomex_command.specs.Commands.{IsDone, IsFailure, IsCarriedOut, 
 
 pub mod all;
 pub mod chosen;
+pub mod explain;
 pub mod explore;
 pub mod pipeline;
 pub mod reading;
@@ -20,6 +21,7 @@ use crate::failure::Failure;
 use crate::heaps::Heaps;
 use crate::telling::{report_failure, report_line_fault};
 use all::text_of_all;
+use explain::text_of_explain;
 use explore::text_of_front;
 use pipeline::text_of_pipeline;
 use run::text_of_run;
@@ -68,6 +70,7 @@ fn text_of<
         ),
         Line::Front(line) => text_of_front(rt, alloc, heap, line, files, meter, FrontView::Table),
         Line::Plot(line) => text_of_front(rt, alloc, heap, line, files, meter, FrontView::Picture),
+        Line::Explain(line) => text_of_explain(alloc, &line),
     }
 }
 

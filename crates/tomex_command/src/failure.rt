@@ -1,17 +1,19 @@
 //! Why a command was not done.
 ghost use Rattle.std.specs.Prelude.{◌≡◌};
 ghost use Rattle.tomex_command.specs.declared.failure.Failure.TheVariants as failures;
-ghost use Rattle.tomex_command.specs.Statuses.{failure_of_answer, failure_of_log, failure_of_picture};
+ghost use Rattle.tomex_command.specs.Statuses.{failure_of_answer, failure_of_explanation};
+ghost use Rattle.tomex_command.specs.Statuses.{failure_of_log, failure_of_picture};
 ghost use Rattle.tomex_command.specs.Statuses.{status_of_failure};
 
 use crate::run::RunRefusal;
 use std::alloc::{AllocError, AllocFailed};
 use tomex_konata::LogError;
+use tomex_refusals::ExplainError;
 use tomex_report::{AnswerError, StudyError};
 use tomex_sweep::SweepError;
 use tomex_views::PictureError;
 
-/// Why a command was not done. Told behind `tomex: ` on the standard error.
+/// Why a command was not done. Reported after `tomex: ` on the standard error.
 #[derive(Debug, Drop)]
 pub enum Failure {
     /// Base and size are no window.
@@ -30,6 +32,8 @@ pub enum Failure {
     NoSuchStep,
     /// The picture would have too many characters.
     PictureTooLarge,
+    /// The words to be explained are those of no refusal.
+    NoSuchRefusal,
     /// A file was not read. Carries its name as written.
     CannotRead(String),
     /// The standard output did not take the whole text.
@@ -52,7 +56,7 @@ impl Failure {
             Failure::Study(StudyError::Memory) => 3,
             Failure::Study(_) => 1,
             Failure::NoSuchRow | Failure::NoSuchProgram | Failure::CyclePastEnd => 1,
-            Failure::NoSuchStep | Failure::PictureTooLarge => 1,
+            Failure::NoSuchStep | Failure::PictureTooLarge | Failure::NoSuchRefusal => 1,
             Failure::CannotRead(_) | Failure::CannotWrite | Failure::Memory | Failure::Worker => 3,
         }
     }
@@ -121,6 +125,17 @@ impl From<LogError> for Failure {
         match error {
             LogError::NoSuchStep => Failure::NoSuchStep,
             LogError::Memory => Failure::Memory,
+        }
+    }
+}
+
+impl From<ExplainError> for Failure {
+    ghost from_gives = { λ error failure. failure ≡ failure_of_explanation error };
+
+    fn from(error: ExplainError) -> Failure {
+        match error {
+            ExplainError::NoSuchRefusal => Failure::NoSuchRefusal,
+            ExplainError::Memory => Failure::Memory,
         }
     }
 }

@@ -1,16 +1,18 @@
 -- What a command line asks for, by the values that `clap` is specified to find in its words.
-use Rattle.std.specs.Prelude.{◌≡◌, ◌≢◌, ◌⊎◌, List, codes, Option, Some}
-use Rattle.clap.specs.Words.{IsAmong, Row, Text, fault_of, subcommand_of}
+use Rattle.std.specs.Prelude.{◌≡◌, ◌≢◌, ◌⊎◌, List, codes, option_map, Option, Some, None, string_bytes}
+use Rattle.std.specs.List.{All as Each}
+use Rattle.clap.specs.Words.{IsAmong, Row, Shape, Text, fault_of, subcommand_of}
 use Rattle.clap.specs.declared.error.kind.ErrorKind.{ErrorKind}
 use Rattle.clap.specs.declared.error.kind.ErrorKind.TheVariants.{DisplayHelp, DisplayVersion}
 use Rattle.tomex_line.specs.declared.line.Line.{Line}
 use Rattle.tomex_line.specs.declared.line.Line.TheVariants.{Run, Times, Stalls, Pipeline, Tables}
-use Rattle.tomex_line.specs.declared.line.Line.TheVariants.{All, Explore, Front, Plot}
+use Rattle.tomex_line.specs.declared.line.Line.TheVariants.{All, Explore, Front, Plot, Explain}
 use Rattle.tomex_arguments.specs.declared.fault.LineFault.{LineFault}
 use Rattle.tomex_arguments.specs.declared.fault.LineFault.TheVariants.{Help, Usage, Memory}
 use Rattle.tomex_line.specs.Grammar.{tomex_app}
 use Rattle.tomex_line.specs.Values.{IsRunAsked, IsTimesAsked, IsStallsAsked, IsPipelineAsked}
-use Rattle.tomex_line.specs.Values.{IsTablesAsked, IsAllAsked, IsExploreAsked}
+use Rattle.tomex_line.specs.Values.{IsTablesAsked, IsAllAsked, IsExploreAsked, IsExplainAsked}
+use Rattle.tomex_line.specs.Values.{IsNoRun, IsNoTimes, IsNoStalls, IsNoPipeline, IsNoTables, IsNoAll, IsNoExplore}
 
 -- the command of that name with these values
 abbrev pub IsCommand : Option (Text × List Row) → Line → Type 0
@@ -36,6 +38,9 @@ IsCommand found (Front line) =
     (rows : List Row) × (found ≡ Some (codes "front", rows)) × IsExploreAsked rows line.study.now line.workers
 IsCommand found (Plot line) =
     (rows : List Row) × (found ≡ Some (codes "plot", rows)) × IsExploreAsked rows line.study.now line.workers
+IsCommand found (Explain line) =
+    (rows : List Row) × (found ≡ Some (codes "explain", rows))
+    × IsExplainAsked rows (option_map string_bytes line.refusal)
 
 -- the words ask for this
 abbrev pub IsAsked : List Text → Line → Type 0
@@ -50,9 +55,20 @@ abbrev pub AreRefused : List Text → Type 0
 AreRefused words = (kind : ErrorKind) × IsAmong kind (fault_of tomex_app words)
     × (kind ≢ DisplayHelp) × (kind ≢ DisplayVersion)
 
--- the words ask for no line
-abbrev pub IsNoLineAsked : Option (Text × List Row) → Type 0
-IsNoLineAsked found = (line : Line) → IsCommand found line → ⊥
+-- what was found is no line: a command's values aren't there or are out of bounds, or it is no command
+pub data IsNoLineAsked (found : Option (Text × List Row)) : Type 0 where
+  no_run : (rows : List Row) → found ≡ Some (codes "run", rows) → IsNoRun rows → IsNoLineAsked found
+  no_times : (rows : List Row) → found ≡ Some (codes "times", rows) → IsNoTimes rows → IsNoLineAsked found
+  no_stalls : (rows : List Row) → found ≡ Some (codes "stalls", rows) → IsNoStalls rows → IsNoLineAsked found
+  no_pipeline : (rows : List Row) → found ≡ Some (codes "pipeline", rows) → IsNoPipeline rows → IsNoLineAsked found
+  no_tables : (rows : List Row) → found ≡ Some (codes "tables", rows) → IsNoTables rows → IsNoLineAsked found
+  no_all : (rows : List Row) → found ≡ Some (codes "all", rows) → IsNoAll rows → IsNoLineAsked found
+  no_explore : (rows : List Row) → found ≡ Some (codes "explore", rows) → IsNoExplore rows → IsNoLineAsked found
+  no_front : (rows : List Row) → found ≡ Some (codes "front", rows) → IsNoExplore rows → IsNoLineAsked found
+  no_plot : (rows : List Row) → found ≡ Some (codes "plot", rows) → IsNoExplore rows → IsNoLineAsked found
+  nothing : found ≡ None → IsNoLineAsked found
+  no_command : (name : Text) (rows : List Row) → found ≡ Some (name, rows)
+      → Each (λ (command : Shape). name ≢ command.name) tomex_app.subs → IsNoLineAsked found
 
 -- why a line is no command: help is asked for, the parser's rules refuse it, or it asks for nothing within bounds
 abbrev pub IsNoCommand : List Text → LineFault → Type 0

@@ -2,12 +2,16 @@
 use Rattle.std.specs.Prelude.{ℕ, [], ◌∷◌, codes, true, false, pos, Some}
 use Rattle.clap.specs.Words.{App, Rule, Shape, Text, new_app, new_rule, with_rule}
 use Rattle.clap.specs.Simple.{new_shape, on_top}
-use Rattle.clap.specs.declared.builder.action.ArgAction.TheVariants.{SetTrue}
+use Rattle.clap.specs.declared.builder.action.ArgAction.TheVariants.{Append, SetTrue}
 use Rattle.clap.specs.declared.builder.value_parser.ValueParser.TheVariants as parsers
 
 -- a word that a command needs, in its place
 abbrev pub word_rule : Text → Rule
 word_rule name = record (new_rule name) { required = true }
+
+-- words that a command may be given, in their places
+abbrev pub words_rule : Text → Rule
+words_rule name = record (new_rule name) { action = Some Append }
 
 -- a number that a command needs, in its place
 abbrev pub numeral_rule : Text → ℕ → ℕ → Rule
@@ -93,6 +97,10 @@ front_shape = exploring_shape (codes "front")
 abbrev pub plot_shape : Shape
 plot_shape = exploring_shape (codes "plot")
 
+-- `explain [REFUSAL]..`
+abbrev pub explain_shape : Shape
+explain_shape = record (new_shape (codes "explain")) { rules = words_rule (codes "REFUSAL") ∷ [] }
+
 -- the program before it has commands
 abbrev pub bare_app : App
 bare_app = on_top (λ s. record s { has_version = true; subcommand_required = true }) (new_app (codes "tomex"))
@@ -102,5 +110,5 @@ abbrev pub tomex_app : App
 tomex_app = record {
   top = record (new_shape (codes "tomex")) { has_version = true; is_leaf = false; subcommand_required = true };
   subs = run_shape ∷ times_shape ∷ stalls_shape ∷ pipeline_shape ∷ tables_shape ∷ all_shape ∷ explore_shape
-      ∷ front_shape ∷ plot_shape ∷ [];
+      ∷ front_shape ∷ plot_shape ∷ explain_shape ∷ [];
 }

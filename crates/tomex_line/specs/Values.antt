@@ -1,8 +1,8 @@
 -- The values that each command asks for, by the rows of what `clap` is specified to find in a line's words; and that
 -- the rows ask for none.
-use Rattle.std.specs.Prelude.{ℕ, Bool, List, codes}
+use Rattle.std.specs.Prelude.{ℕ, Bool, List, codes, Option}
 use Rattle.clap.specs.Words.{Row}
-use Rattle.tomex_arguments.specs.Values.{IsFlag, IsNumber, IsWord}
+use Rattle.tomex_arguments.specs.Values.{AreWords, IsFlag, IsNumber, IsWord}
 
 -- the values of `run`
 pub record IsRunAsked (rows : List Row) (image : List ℕ) (base size limit : ℕ) : Type 0 where
@@ -74,3 +74,7 @@ pub record IsExploreAsked (rows : List Row) (study : List ℕ) (workers : ℕ) :
 
 abbrev pub IsNoExplore : List Row → Type 0
 IsNoExplore rows = (study : List ℕ) (workers : ℕ) → IsExploreAsked rows study workers → ⊥
+
+-- the value of `explain`
+abbrev pub IsExplainAsked : List Row → Option (List ℕ) → Type 0
+IsExplainAsked rows refusal = AreWords rows (codes "REFUSAL") refusal

@@ -11,6 +11,7 @@ ghost use Rattle.tomex_line.specs.Asked.{IsCommand, IsAsked, IsNoCommand, IsNoLi
 
 pub mod all;
 mod described;
+pub mod explain;
 pub mod explore;
 mod front;
 pub mod pipeline;
@@ -25,6 +26,7 @@ mod values;
 use all::AllLine;
 use clap::{ArgMatches, Command};
 use described::offering;
+use explain::ExplainLine;
 use explore::ExploreLine;
 use pipeline::PipelineLine;
 use run::RunLine;
@@ -35,7 +37,7 @@ use times::TimesLine;
 use tomex_arguments::{LineFault, fault_of, refused};
 
 /// What a command line asks for.
-#[derive(Clone, Copy)]
+#[derive(Drop)]
 pub enum Line<'a> {
     Run(RunLine<'a>),
     Times(TimesLine<'a>),
@@ -46,6 +48,7 @@ pub enum Line<'a> {
     Explore(ExploreLine<'a>),
     Front(ExploreLine<'a>),
     Plot(ExploreLine<'a>),
+    Explain(ExplainLine),
 }
 
 const ABOUT: &str = "Runs RV32IM programs, and explores Tomasulo processors that run them";
@@ -72,6 +75,7 @@ Examples, in the folder `examples`:
   tomex explore explore.toml --workers 4
   tomex front explore.toml --workers 4
   tomex plot explore.toml --workers 4
+  tomex explain image: segment
 
 Numbers on the command line are decimal; in a study's TOML they may be
 hexadecimal too, as in 0x10000.";
@@ -100,7 +104,8 @@ fn grammar<'a>(alloc: Global) -> Result<Command<'a>, AllocError>
     let program = offering(program, all::grammar(alloc));
     let program = offering(program, explore::grammar(alloc));
     let program = offering(program, front::grammar(alloc));
-    offering(program, plot::grammar(alloc))
+    let program = offering(program, plot::grammar(alloc));
+    offering(program, explain::grammar(alloc))
 }
 
 /// What the command asks for that the parser found.
@@ -118,6 +123,7 @@ fn line_of<'a>(alloc: Global, matches: &ArgMatches<'a>) -> Result<Line<'a>, Line
         Some(("explore", inner)) => Ok(Line::Explore(explore::line_of(alloc, inner)?)),
         Some(("front", inner)) => Ok(Line::Front(explore::line_of(alloc, inner)?)),
         Some(("plot", inner)) => Ok(Line::Plot(explore::line_of(alloc, inner)?)),
+        Some(("explain", inner)) => Ok(Line::Explain(explain::line_of(alloc, inner)?)),
         _ => Err(refused(alloc, "command")),
     }
 }

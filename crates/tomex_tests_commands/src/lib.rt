@@ -8,6 +8,8 @@ mod compiled;
 #[cfg(test)]
 mod elf_images;
 #[cfg(test)]
+mod explain;
+#[cfg(test)]
 mod explorations;
 #[cfg(test)]
 mod fronts;

@@ -2,6 +2,7 @@
 
 use super::fronts::{DROPPED_PICTURE, DROPPED_TABLE};
 use crate::commands::{PRODUCT_END, outcome_of, text_of, words_of};
+use crate::explain::{ALL, OVERLAP};
 use crate::konata::PRODUCT_LOG;
 use crate::pipeline::ON_ONE_STATION;
 use std::alloc::AllocError;
@@ -121,6 +122,13 @@ fn of_what_a_program_does(rt: HostRuntime) -> Result<(), Fail> {
         ("mul.bin", PRODUCT.as_slice()),
     ];
     each_is_granted(&rt, files.as_slice(), OF_PRODUCT.as_slice())
+}
+
+#[test]
+fn of_explanations(rt: HostRuntime) -> Result<(), Fail> {
+    // A text grows several times.
+    let asked = [("tomex explain image: overlap", OVERLAP, 1), ("tomex explain", ALL, 1)];
+    each_is_granted(&rt, &[], asked.as_slice())
 }
 
 /// What is asked of a whole study, what it prints, and how many blocks it needs at least.

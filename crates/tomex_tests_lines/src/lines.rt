@@ -57,6 +57,10 @@ fn told_of_a_program(alloc: Global, line: &Line) -> Result<String, AllocError> {
                 tables.program, tables.cycle
             )
         }
+        Line::Explain(explain) => match &explain.refusal {
+            Some(words) => format!(in alloc; "explain [{words}]"),
+            None => String::from_str(alloc, "explain all"),
+        },
         _ => String::from_str(alloc, "another line"),
     }
 }
@@ -82,7 +86,7 @@ fn told(alloc: Global, line: &str) -> Result<String, AllocError> {
 }
 
 /// Lines, and how what they come to begins.
-static READ: [(&str, &str); 35] = [
+static READ: [(&str, &str); 41] = [
     ("run mul.bin", "run mul.bin 0 65536 262144"),
     (
         "run a --base 4294967292 --size 4 --limit 1",
@@ -132,6 +136,15 @@ static READ: [(&str, &str); 35] = [
     ("front a --workers 2", "front a 2"),
     ("plot a", "plot a 1"),
     ("plot --workers=32 a", "plot a 32"),
+    ("explain", "explain all"),
+    ("explain image: segment", "explain [image: segment]"),
+    (
+        "explain tomex: fault: illegal at 00000098",
+        "explain [tomex: fault: illegal at 00000098]",
+    ),
+    ("explain a -- --b", "explain [a --b]"),
+    ("explain --help", "help Prints what a refusal means"),
+    ("explain -h", "help Explains a refusal"),
     ("--help", "help Runs RV32IM programs"),
     ("-h", "help Runs RV32IM programs"),
     ("run --help", "help Runs an image"),
@@ -174,7 +187,7 @@ fn help_is_whole(rt: HostRuntime) -> Result<(), Fail> {
 }
 
 /// Lines that are refused.
-static REFUSED: [&str; 30] = [
+static REFUSED: [&str; 31] = [
     "run a --base 4294967293",
     "run a --base -4",
     "run a --base 0x10",
@@ -205,6 +218,7 @@ static REFUSED: [&str; 30] = [
     "tables study 0 a -1",
     "tables study 0 a 0x1",
     "tables study 0 a",
+    "explain --b",
 ];
 
 /// Whether the program's name alone is a mistake.

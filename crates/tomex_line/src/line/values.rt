@@ -1,6 +1,6 @@
 //! The values that a command takes, as `clap` is to read them.
 ghost use Rattle.std.specs.Prelude.{◌≡◌, false, pos};
-ghost use Rattle.tomex_line.specs.Grammar.{word_rule, numeral_rule, option_rule, flag_rule};
+ghost use Rattle.tomex_line.specs.Grammar.{word_rule, words_rule, numeral_rule, option_rule, flag_rule};
 ghost use Rattle.clap.specs.Words.{rule_of};
 ghost use Rattle.clap.specs.declared.builder.value_parser.ValueParser.TheVariants.{Signed};
 
@@ -64,4 +64,12 @@ pub fn word<'a>(alloc: Global, name: &'a str, help: &'a str) -> Arg<'a>
     ensures global { result.global ≡ false }
 {
     Arg::new(alloc, name).required(true).help(help)
+}
+
+/// Words that a command may be given.
+pub fn words<'a>(alloc: Global, name: &'a str, help: &'a str) -> Arg<'a>
+    ensures rule { rule_of result ≡ words_rule name.entry.now }
+    ensures global { result.global ≡ false }
+{
+    Arg::new(alloc, name).action(ArgAction::Append).help(help)
 }

@@ -3,7 +3,7 @@ use Rattle.std.proofs.Common.{◌≡◌, ◌∙◌, ap₂, IfOk, IsOkAnd, Result
 use Rattle.clap.specs.Simple.{App, Shape, app_of, shape_of, with_subcommand}
 use Rattle.clap.specs.declared.builder.command.Command.{Command}
 use Rattle.tomex_line.specs.Grammar.{bare_app, run_shape, times_shape, stalls_shape, pipeline_shape, tables_shape}
-use Rattle.tomex_line.specs.Grammar.{all_shape, explore_shape, front_shape, plot_shape}
+use Rattle.tomex_line.specs.Grammar.{all_shape, explore_shape, front_shape, plot_shape, explain_shape}
 use Rattle.tomex_line.proofs.line.grammar.Goals as goal
 
 offered : {E : Type 0} (made program command : Result Command E) (a : App) (s : Shape)
@@ -33,4 +33,6 @@ returns c =
     c.grammar-7.ensures in
     let eight = offered c.offering-program-8.result _ _ _ front_shape c.offering-program-8.ensures seven
     c.grammar-8.ensures in
-    offered c.offering.result _ _ _ plot_shape c.offering.ensures eight c.grammar-9.ensures
+    let nine = offered c.offering-program-9.result _ _ _ plot_shape c.offering-program-9.ensures eight
+    c.grammar-9.ensures in
+    offered c.offering.result _ _ _ explain_shape c.offering.ensures nine c.grammar-10.ensures
