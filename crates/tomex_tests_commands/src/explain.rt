@@ -1,6 +1,6 @@
 //! What `explain` prints, by whole runs of the program.
 
-use crate::commands::{comes_to, comes_to_within};
+use crate::commands::{comes_to, comes_to_within, words_of};
 use std::test::Fail;
 
 /// The explanation of a refusal.
@@ -51,22 +51,35 @@ const NONE: &str = "tomex: no such refusal\n";
 #[test]
 fn a_refusal_is_explained(rt: HostRuntime) -> Result<(), Fail> {
     let done = (0, OVERLAP, "");
-    comes_to(&rt, &[], ["tomex", "explain", "image:", "overlap"].as_slice(), done)?;
-    let reported = ["tomex", "explain", "tomex:", "program", "a:", "image:", "overlap"];
-    comes_to(&rt, &[], reported.as_slice(), done)?;
+    comes_to(
+        &rt,
+        [].as_slice(),
+        ["tomex", "explain", "image:", "overlap"].as_slice(),
+        done,
+    )?;
+    let reported = [
+        "tomex", "explain", "tomex:", "program", "a:", "image:", "overlap",
+    ];
+    comes_to(&rt, [].as_slice(), reported.as_slice(), done)?;
     let one_word = ["tomex", "explain", "tomex: program a: image: overlap"];
-    comes_to(&rt, &[], one_word.as_slice(), done)
+    comes_to(&rt, [].as_slice(), one_word.as_slice(), done)
 }
 
 #[test]
 fn all_refusals_are_listed(rt: HostRuntime) -> Result<(), Fail> {
-    comes_to(&rt, &[], ["tomex", "explain"].as_slice(), (0, ALL, ""))
+    comes_to(
+        &rt,
+        [].as_slice(),
+        ["tomex", "explain"].as_slice(),
+        (0, ALL, ""),
+    )
 }
 
 #[test]
 fn what_is_no_refusal_is_refused(rt: HostRuntime) -> Result<(), Fail> {
-    for words in [["tomex", "explain", "overlap"], ["tomex", "explain", ""]] {
-        comes_to(&rt, &[], words.as_slice(), (1, "", NONE))?;
+    for line in ["tomex explain overlap", "tomex explain "] {
+        let words = words_of(rt.alloc(), line)?;
+        comes_to(&rt, [].as_slice(), words.as_slice(), (1, "", NONE))?;
     }
     Ok(())
 }
@@ -74,5 +87,11 @@ fn what_is_no_refusal_is_refused(rt: HostRuntime) -> Result<(), Fail> {
 #[test]
 fn a_full_output_cuts_it(rt: HostRuntime) -> Result<(), Fail> {
     let cut = (3, "image: ov", "tomex: cannot write\n");
-    comes_to_within(&rt, &[], ["tomex", "explain", "image: overlap"].as_slice(), 9, cut)
+    comes_to_within(
+        &rt,
+        [].as_slice(),
+        ["tomex", "explain", "image: overlap"].as_slice(),
+        9,
+        cut,
+    )
 }

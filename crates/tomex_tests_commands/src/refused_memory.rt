@@ -127,8 +127,11 @@ fn of_what_a_program_does(rt: HostRuntime) -> Result<(), Fail> {
 #[test]
 fn of_explanations(rt: HostRuntime) -> Result<(), Fail> {
     // A text grows several times.
-    let asked = [("tomex explain image: overlap", OVERLAP, 1), ("tomex explain", ALL, 1)];
-    each_is_granted(&rt, &[], asked.as_slice())
+    let asked = [
+        ("tomex explain image: overlap", OVERLAP, 1),
+        ("tomex explain", ALL, 1),
+    ];
+    each_is_granted(&rt, [].as_slice(), asked.as_slice())
 }
 
 /// What is asked of a whole study, what it prints, and how many blocks it needs at least.
@@ -136,10 +139,10 @@ static OF_DROPPED: [(&str, &str, u64); 5] = [
     // The study's bytes and its file's, names, the program, rows, costs and the text; marks, machines, the
     // front and its ends.
     ("tomex all study", DROPPED_REPORT, 16),
-    ("tomex explore study", DROPPED_REPORT, 16),
-    ("tomex explore study --workers 2", DROPPED_REPORT, 16),
+    ("tomex explore study", DROPPED_REPORT, 14),
+    ("tomex explore study --workers 2", DROPPED_REPORT, 14),
     // All that, with columns of numbers and their names in place of the records.
-    ("tomex front study", DROPPED_TABLE, 16),
+    ("tomex front study", DROPPED_TABLE, 14),
     // The front is enough.
     ("tomex plot study", DROPPED_PICTURE, 14),
 ];

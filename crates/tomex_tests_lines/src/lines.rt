@@ -181,7 +181,10 @@ static HELP_ENDS: [(&str, &str); 4] = [
 fn help_is_whole(rt: HostRuntime) -> Result<(), Fail> {
     for (line, end) in &HELP_ENDS {
         let text = told(rt.alloc(), line)?;
-        assert!(rt; text.starts_with("help ") && text.ends_with(end), "{line}: {text}");
+        assert!(rt;
+            text.starts_with("help ") && text.ends_with(end),
+            "{line}: {text}"
+        );
     }
     Ok(())
 }
