@@ -9,19 +9,25 @@
 # for any part of it. A command with no lines behind it has to succeed, and may print anything. `console
 # slow` is run only with --slow, and in the repository itself: it proves and builds. A `toml` block is a
 # study, of which `tomex all` makes a report. No other block is run. The examples in the help texts are
-# run too, in the folder examples. What needs a program that isn't installed is skipped, and reported.
+# run too, in the folder examples. What needs a program that isn't installed is skipped, and reported;
+# so are the slow blocks without --slow.
 #
-# TOMEX names the program, by default crates/tomex/out/tomex, which `rt run` leaves there.
+# TOMEX names the program, a path or a name on PATH, by default crates/tomex/out/tomex, which `rt run`
+# leaves there.
 set -eu
 cd "$(dirname "$0")/.."
 top=$PWD
 TOMEX=${TOMEX:-$top/crates/tomex/out/tomex}
-[ -x "$TOMEX" ] || { echo "no program at $TOMEX: build it by (cd crates/tomex && rt run)"; exit 1; }
+TOMEX=$(command -v "$TOMEX") || { echo "no program to try: build it by (cd crates/tomex && rt run)"; exit 1; }
 work=$(mktemp -d)
 trap 'rm -rf "$work"' EXIT
 mkdir "$work/bin" "$work/top"
 ln -s "$(realpath "$TOMEX")" "$work/bin/tomex"
-git ls-files -co --exclude-standard | tar -c -T - | tar -x -C "$work/top"
+if git rev-parse --git-dir >/dev/null 2>&1; then
+  git ls-files -co --exclude-standard
+else
+  find . -name out -prune -o -type f -print
+fi | tar -c -T - | tar -x -C "$work/top"
 PATH="$work/bin:$PATH" TOP=$top python3 - "$work/top" "$@" <<'PYTHON'
 import glob, os, re, shutil, subprocess, sys
 
@@ -48,7 +54,9 @@ def blocks(page):
         if kind is None:
             kind, start = bare[3:].strip(), number
             continue
-        if kind in ("console", "toml") or kind == "console slow" and slow:
+        if kind == "console slow" and not slow:
+            report("skipped", f"{page}:{start}", ": slow")
+        elif kind in ("console", "toml", "console slow"):
             margin = len(line) - len(bare)
             yield start, kind, [inner[margin:] for inner in lines[start : number - 1]]
         kind = None
