@@ -1,6 +1,6 @@
 //! Runs that rows share: which programs run on a row, and that no mark depends on it.
 
-use super::{explored, gives_front, gives_marks, program_of, study_on, unit};
+use super::{LOOP, explored, gives_front, gives_marks, program_of, study_on, unit};
 use std::alloc::Global;
 use std::sync::Wait;
 use std::sync::atomic::{AtomicU64, Ordering};
