@@ -10,8 +10,13 @@ abbrev pub IsExplanation : Option (List ℕ) → List ℕ → Type 0
 IsExplanation None text = text ≡ refusal_lines
 IsExplanation (Some words) text = IsExplained words text
 
--- when each failure comes: the words are those of no refusal, or memory was refused for the text
+-- there are words, and they are those of no refusal
+abbrev pub IsNoRefusal : Option (List ℕ) → Type 0
+IsNoRefusal None = ⊥
+IsNoRefusal (Some words) = IsUnexplained words errors.NoSuchRefusal
+
+-- when each failure comes; memory may be refused for any text
 abbrev pub IsExplainFailure : Option (List ℕ) → Failure → Type 0
-IsExplainFailure (Some words) NoSuchRefusal = IsUnexplained words errors.NoSuchRefusal
+IsExplainFailure refusal NoSuchRefusal = IsNoRefusal refusal
 IsExplainFailure refusal Memory = Unit {0}
-IsExplainFailure refusal failure = ⊥
+IsExplainFailure refusal _ = ⊥

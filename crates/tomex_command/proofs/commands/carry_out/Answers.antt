@@ -1,9 +1,13 @@
 -- Short searches, so that a wrong body is soon refused.
 use Rattle.std.proofs.Common.{rules}
+use Rattle.std.proofs.lemmas.Result.{err_from_is_err_and}
+use Rattle.tomex_command.proofs.Left.{nothing_left}
 use Rattle.tomex_command.proofs.commands.carry_out.Goals as goal
 
 pub returns-in_err-text-clause-left : goal.returns-in_err-text-clause-left
-returns-in_err-text-clause-left g c = search rules fits 200
+returns-in_err-text-clause-left g c =
+    let p = err_from_is_err_and c.from_residual.result c.from_residual.ensures.1 in
+    rw (p.1) (nothing_left _ c.args.line _ p.0 _ c.in_err-text.ensures.failure p.2)
 
 pub returns-in-Ok-clause-done : goal.returns-in-Ok-clause-done
 returns-in-Ok-clause-done g c = search rules fits 100

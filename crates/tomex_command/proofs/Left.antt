@@ -1,0 +1,43 @@
+-- A text that isn't made leaves the output as it was: none of its failures is that the output failed.
+use Rattle.std.proofs.Common.{◌≡◌, List, ℕ, refl, sym, subst}
+use Rattle.tomex_line.specs.declared.line.Line.{Line}
+use Rattle.tomex_line.specs.declared.line.Line.TheVariants.{Run, Times, Stalls, Pipeline, Tables}
+use Rattle.tomex_line.specs.declared.line.Line.TheVariants.{All, Explore, Front, Plot, Explain}
+use Rattle.tomex_streams.specs.Files.{Told}
+use Rattle.tomex_streams.specs.Sinks.{Seen}
+use Rattle.tomex_command.specs.Commands.{IsFailure, IsLeft}
+use Rattle.tomex_command.specs.declared.failure.Failure.{Failure}
+use Rattle.tomex_command.specs.declared.failure.Failure.TheVariants as failures
+
+not_written : (file : List ℕ → Told) (line : Line) → IsFailure file line failures.CannotWrite → ⊥
+not_written file (Run line) is = is
+not_written file (Times line) is = is
+not_written file (Stalls line) is = is
+not_written file (Pipeline line) is = is
+not_written file (Tables line) is = is
+not_written file (All line) is = is
+not_written file (Explore line) is = is
+not_written file (Front line) is = is
+not_written file (Plot line) is = is
+not_written file (Explain line) is = is
+
+left : (file : List ℕ → Told) (line : Line) (failure : Failure) (seen : Seen) → IsFailure file line failure
+    → IsLeft file line failure seen seen
+left file line failures.BadWindow seen is = (is, refl)
+left file line (failures.Run refusal) seen is = (is, refl)
+left file line (failures.Study error) seen is = (is, refl)
+left file line failures.NoSuchRow seen is = (is, refl)
+left file line failures.NoSuchProgram seen is = (is, refl)
+left file line failures.CyclePastEnd seen is = (is, refl)
+left file line failures.NoSuchStep seen is = (is, refl)
+left file line failures.PictureTooLarge seen is = (is, refl)
+left file line failures.NoSuchRefusal seen is = (is, refl)
+left file line (failures.CannotRead name) seen is = (is, refl)
+left file line failures.CannotWrite seen is = absurd (not_written file line is)
+left file line failures.Memory seen is = (is, refl)
+left file line failures.Worker seen is = (is, refl)
+
+pub nothing_left : (file : List ℕ → Told) (line : Line) (failure same : Failure) (seen : Seen)
+    → IsFailure file line failure → same ≡ failure → IsLeft file line same seen seen
+nothing_left file line failure same seen is e =
+    left file line same seen (subst (λ (f : Failure). IsFailure file line f) (sym e) is)
