@@ -37,10 +37,11 @@ const LONG_ABOUT: &str =
 configurations that no other one dominates. One configuration dominates another
 if it costs no more, takes no more cycles, and is better in one of the two.
 
-Every 1,024 cycles of a run tomex looks whether a finished configuration that
-costs no more has taken fewer cycles; if so, it gives this one up. The report
-is, to the byte, that of `all`, which runs every configuration to its end. The
-number of workers doesn't change it.
+A program isn't evaluated again if its cycles follow from those on an earlier
+configuration. Every 1,024 cycles of a run tomex looks whether a finished
+configuration that costs no more has taken fewer cycles; if so, it gives this
+one up. The report is, to the byte, that of `all`, which runs every
+configuration to its end. The number of workers doesn't change it.
 
 STUDY is a TOML document that names programs, prices, axes and unit options;
 its files are read from the current folder. docs/STUDIES.md lists the keys of a
@@ -72,7 +73,7 @@ const TEXTS: Texts = Texts {
     after_long_help: AFTER_LONG_HELP,
 };
 
-const WORKERS_HELP: &str = "How many workers share the configurations, from 1 to 32";
+const WORKERS_HELP: &str = "Workers that share the configurations, 1 to 32";
 
 pub(super) fn grammar<'a>(alloc: Global) -> Result<Command<'a>, AllocError>
     ensures { IfOk result (λ c. shape_of c ≡ explore_shape) }

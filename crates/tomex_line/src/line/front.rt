@@ -8,7 +8,7 @@ use super::explore::exploring;
 use clap::Command;
 use std::alloc::{AllocError, Global};
 
-const ABOUT: &str = "Explores the configurations of a study and prints the front as a table";
+const ABOUT: &str = "Explores a study and prints the front as a table";
 
 const LONG_ABOUT: &str =
     "Explores a study as `explore` does, and prints the front as a table for people:

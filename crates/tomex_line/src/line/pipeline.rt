@@ -49,7 +49,8 @@ for each cycle.
 
 STUDY is a TOML document that names programs, prices, axes and unit options;
 its files are read from the current folder. CONFIG is the number of a
-configuration, from 0: the product of the axes, the last axis fastest. PROGRAM
+configuration, from 0: `tomex front` prints those of the front, and
+docs/STUDIES.md says how a number follows from the study's lists. PROGRAM
 is the name of a program of the study; a name that begins with `-` must follow
 `--`. docs/STUDIES.md lists the keys of a study, and docs/MACHINE.md says when
 an instruction does what.

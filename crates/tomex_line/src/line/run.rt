@@ -85,11 +85,11 @@ const TEXTS: Texts = Texts {
 
 const IMAGE_HELP: &str = "The file of the image";
 
-const BASE_HELP: &str = "The address of memory's first byte, a multiple of 4 up to 4294967292";
+const BASE_HELP: &str = "First address, a multiple of 4 to 4294967292";
 
-const SIZE_HELP: &str = "The size of memory in bytes, a multiple of 4 from 4 to 1048576";
+const SIZE_HELP: &str = "Memory in bytes, a multiple of 4 to 1048576";
 
-const LIMIT_HELP: &str = "The greatest number of instructions to run, from 1 to 262144";
+const LIMIT_HELP: &str = "The most instructions to run, 1 to 262144";
 
 pub(super) fn grammar<'a>(alloc: Global) -> Result<Command<'a>, AllocError>
     ensures { IfOk result (λ c. shape_of c ≡ run_shape) }

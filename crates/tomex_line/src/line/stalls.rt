@@ -37,7 +37,8 @@ peak, or any number more, take the same cycles.
 
 STUDY is a TOML document that names programs, prices, axes and unit options;
 its files are read from the current folder. CONFIG is the number of a
-configuration, from 0: the product of the axes, the last axis fastest. PROGRAM
+configuration, from 0: `tomex front` prints those of the front, and
+docs/STUDIES.md says how a number follows from the study's lists. PROGRAM
 is the name of a program of the study; a name that begins with `-` must follow
 `--`. docs/STUDIES.md lists the keys of a study, and docs/MACHINE.md says how
 to read the report.
@@ -80,7 +81,7 @@ const TEXTS: Texts = Texts {
     after_long_help: AFTER_LONG_HELP,
 };
 
-const BY_PC_HELP: &str = "Tell the waits by place in the program";
+const BY_PC_HELP: &str = "List the waits by place in the program";
 
 pub(super) fn grammar<'a>(alloc: Global) -> Result<Command<'a>, AllocError>
     ensures { IfOk result (λ c. shape_of c ≡ stalls_shape) }

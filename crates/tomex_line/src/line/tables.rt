@@ -35,8 +35,7 @@ pub struct TablesLine<'a> {
     pub ghost cycle_to: { cycle ≤ 17563648 },
 }
 
-const ABOUT: &str =
-    "Prints the stations and registers of one configuration after a cycle of a program";
+const ABOUT: &str = "Prints the stations and registers after a cycle of a program";
 
 const LONG_ABOUT: &str = "Prints the tables of Tomasulo's algorithm, as Hennessy and Patterson draw
 them, after a cycle of a program's run on one of the study's configurations:
@@ -45,7 +44,8 @@ for, and the registers that wait for a station.
 
 STUDY is a TOML document that names programs, prices, axes and unit options;
 its files are read from the current folder. CONFIG is the number of a
-configuration, from 0: the product of the axes, the last axis fastest. PROGRAM
+configuration, from 0: `tomex front` prints those of the front, and
+docs/STUDIES.md says how a number follows from the study's lists. PROGRAM
 is the name of a program of the study; a name that begins with `-` must follow
 `--`. CYCLE goes from 0, before the first instruction issues, to the run's
 total, which `tomex times` prints last. docs/STUDIES.md lists the keys of a

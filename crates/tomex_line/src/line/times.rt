@@ -25,7 +25,7 @@ pub struct TimesLine<'a> {
     pub ghost config_to: { config ≤ 16383 },
 }
 
-const ABOUT: &str = "Prints when each instruction of a program passes through one configuration";
+const ABOUT: &str = "Prints the cycles of each instruction on one configuration";
 
 const LONG_ABOUT: &str = "Prints, for each instruction that a program of a study runs, the cycles in
 which it issues, gets its address, starts, finishes and ends on one of the
@@ -33,7 +33,8 @@ study's configurations, and its reservation station.
 
 STUDY is a TOML document that names programs, prices, axes and unit options;
 its files are read from the current folder. CONFIG is the number of a
-configuration, from 0: the product of the axes, the last axis fastest. PROGRAM
+configuration, from 0: `tomex front` prints those of the front, and
+docs/STUDIES.md says how a number follows from the study's lists. PROGRAM
 is the name of a program of the study; a name that begins with `-` must follow
 `--`. docs/STUDIES.md lists the keys of a study, and docs/MACHINE.md says what
 the cycles mean.
