@@ -3,7 +3,7 @@ use Rattle.std.proofs.Common.{◌≡◌, ◌<◌, ℕ, List, arith, ap, ap₂, s
 use Rattle.tomex_image.specs.Image.{Loaded}
 use Rattle.tomex_rvexec.specs.Run.{EndsWithin}
 use Rattle.tomex_config.specs.Configuration.{Configuration}
-use Rattle.tomex_reservations.specs.Shown.{Tables}
+use Rattle.tomex_timing.specs.Tables.{Tables}
 use Rattle.tomex_timing.specs.Tables.{tables_of}
 use Rattle.tomex_cycle.specs.declared.progress.Progress.TheVariants.{Running}
 use Rattle.tomex_cycle.specs.Run.{run_of, total}

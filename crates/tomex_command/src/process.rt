@@ -14,7 +14,7 @@ use std::process::ExitCode;
 use std::sync::Wait;
 use std::thread::Threads;
 use std::time::Clock;
-use tomex_line::{LineFault, not_text, unread};
+use tomex_arguments::{LineFault, not_text, unread};
 use tomex_streams::{Files, HostFiles, Meter, Sink, Stream, TerminalMeter};
 
 /// The exit code of a status.

@@ -6,7 +6,7 @@ ghost use Rattle.tomex_command.specs.Telling.{IsTextOf, IsLineOf, IsFailureTold,
 
 use crate::failure::Failure;
 use std::alloc::{AllocError, Global};
-use tomex_line::LineFault;
+use tomex_arguments::LineFault;
 use tomex_streams::{Sink, shown, write_all_of};
 
 /// Writes a text as far as the sink takes it.

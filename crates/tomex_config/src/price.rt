@@ -3,7 +3,7 @@
 ghost use Rattle.std.specs.Prelude.{◌≡◌, ◌≤◌, ◌*◌, true};
 ghost use Rattle.std.specs.List.{list_all};
 ghost use Rattle.tomex_config.specs.Configuration.{stations_of, option_of};
-ghost use Rattle.tomex_config.specs.Cost.{is_price, price_of, stations_cost, options_cost, cost_of};
+ghost use Rattle.tomex_config.specs.Cost.{IsPriceList, is_price, price_of, stations_cost, options_cost, cost_of};
 
 use crate::config::Config;
 use std::marker::Model;
@@ -44,6 +44,13 @@ impl Prices {
             bus,
             width,
         }
+    }
+
+    /// A law: there is a price for each pool, and no price is above 1,000,000.
+    pub fn keeps_limits(&self)
+        ensures { IsPriceList self.now }
+    {
+        let _bus = self.bus;
     }
 
     /// The price of a station of a pool.

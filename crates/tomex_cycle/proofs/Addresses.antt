@@ -25,8 +25,8 @@ use Rattle.tomex_tags.specs.Contents.{lacks_address, with_address}
 use Rattle.tomex_tags.specs.Places.{place_at, place_of_tag}
 use Rattle.tomex_tags.specs.Pools.{Pools, AreBusy}
 use Rattle.tomex_tags.specs.declared.station.Station.{Station}
-use Rattle.tomex_reservations.specs.declared.tables.Field.{Field}
-use Rattle.tomex_reservations.specs.declared.tables.Field.TheVariants.{Value, Waits, Unread}
+use Rattle.tomex_timing.specs.declared.tables.Field.{Field}
+use Rattle.tomex_timing.specs.declared.tables.Field.TheVariants.{Value, Waits, Unread}
 use Rattle.tomex_bus.specs.Picks.{IsInIssueOrder}
 use Rattle.tomex_cycle.proofs.Orders.{order_is}
 use Rattle.tomex_cycle.proofs.AddressChosen.{or_else, waits_for_address, chosen, address_rises, none_waits}

@@ -52,7 +52,7 @@ use Rattle.tomex_sets.specs.Sets.{has}
 use Rattle.tomex_cycle.specs.Starts.{AreLow}
 use Rattle.tomex_cycle.proofs.StartsDone.{low_of, or_cases}
 use Rattle.tomex_rvdec.specs.Operands.{dest_of}
-use Rattle.tomex_reservations.specs.declared.tables.Tag.{Tag}
+use Rattle.tomex_timing.specs.declared.tables.Tag.{Tag}
 
 -- Branches have the last places.
 

@@ -6,9 +6,9 @@ use Rattle.std.proofs.lemmas.Bool.{cases_Bool, lt-ltb, le-ltb, eqb-true, eqb-fal
 use Rattle.std.proofs.lemmas.Bool.{both_ways, ltb-true, ltb-false}
 use Rattle.std.proofs.lemmas.List.{get_or-set_same, get_or-set_other, length-set, get_or_past}
 use Rattle.tomex_timing.specs.Tables.{field_from}
-use Rattle.tomex_reservations.specs.declared.tables.Field.{Field}
-use Rattle.tomex_reservations.specs.declared.tables.Field.TheVariants.{Value, Waits, Unread}
-use Rattle.tomex_reservations.specs.declared.tables.Tag.{Tag}
+use Rattle.tomex_timing.specs.declared.tables.Field.{Field}
+use Rattle.tomex_timing.specs.declared.tables.Field.TheVariants.{Value, Waits, Unread}
+use Rattle.tomex_timing.specs.declared.tables.Tag.{Tag}
 use Rattle.tomex_steps.specs.Steps.{is_number}
 use Rattle.tomex_cycle.specs.Ends.{EndsIn, Hears, after_ends, sends_of, sent_below, AreEnded, AreNamed, HaveReceived}
 use Rattle.tomex_tags.specs.Contents.{hears}

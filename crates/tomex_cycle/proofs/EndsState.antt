@@ -15,9 +15,9 @@ use Rattle.tomex_steps.specs.declared.step.Step.{Step}
 use Rattle.tomex_steps.specs.Results.{result_of}
 use Rattle.tomex_rvexec.specs.History.{Follows, byte_after, register_after}
 use Rattle.tomex_steps.specs.Steps.{is_number, j_of, k_of, operand, step_dest, step_pool}
-use Rattle.tomex_reservations.specs.declared.tables.Field.{Field}
-use Rattle.tomex_reservations.specs.declared.tables.Field.TheVariants.{Value, Waits, Unread}
-use Rattle.tomex_reservations.specs.declared.tables.Tag.{Tag}
+use Rattle.tomex_timing.specs.declared.tables.Field.{Field}
+use Rattle.tomex_timing.specs.declared.tables.Field.TheVariants.{Value, Waits, Unread}
+use Rattle.tomex_timing.specs.declared.tables.Tag.{Tag}
 use Rattle.tomex_timing.specs.declared.times.Done.{Done}
 use Rattle.tomex_timing.specs.Recurrence.{AreTimed}
 use Rattle.tomex_timing.specs.Tables.{field_from, field_of, producer}

@@ -17,8 +17,8 @@ use Rattle.tomex_steps.specs.declared.step.Operand.{Operand}
 use Rattle.tomex_steps.specs.Results.{result_of}
 use Rattle.tomex_rvexec.specs.History.{byte_after, register_after}
 use Rattle.tomex_steps.specs.Steps.{is_number, step_dest, step_pool}
-use Rattle.tomex_reservations.specs.declared.tables.Field.TheVariants.{Value, Waits}
-use Rattle.tomex_reservations.specs.declared.tables.Tag.{Tag}
+use Rattle.tomex_timing.specs.declared.tables.Field.TheVariants.{Value, Waits}
+use Rattle.tomex_timing.specs.declared.tables.Tag.{Tag}
 use Rattle.tomex_timing.specs.declared.times.Done.{Done}
 use Rattle.tomex_timing.specs.Tables.{field_of, field_from, producer, tag_of, unsent_tag}
 use Rattle.tomex_cycle.specs.Run.{AreIssuedBy, steps_in}

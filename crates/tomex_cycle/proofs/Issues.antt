@@ -20,9 +20,9 @@ use Rattle.tomex_steps.specs.Results.{result_of}
 use Rattle.tomex_rvexec.specs.History.{Follows, byte_after, register_after}
 use Rattle.tomex_steps.specs.Steps.{address_of, is_branch, is_in, is_number, j_of, k_of, operand, step_dest, step_pool}
 use Rattle.tomex_steps.proofs.Fields.{dest_needs_pool}
-use Rattle.tomex_reservations.specs.declared.tables.Field.{Field}
-use Rattle.tomex_reservations.specs.declared.tables.Field.TheVariants.{Value}
-use Rattle.tomex_reservations.specs.declared.tables.Tag.{Tag}
+use Rattle.tomex_timing.specs.declared.tables.Field.{Field}
+use Rattle.tomex_timing.specs.declared.tables.Field.TheVariants.{Value}
+use Rattle.tomex_timing.specs.declared.tables.Tag.{Tag}
 use Rattle.tomex_timing.specs.declared.times.Done.{Done}
 use Rattle.tomex_timing.specs.History.{cycle_of, is_memory}
 use Rattle.tomex_timing.specs.Recurrence.{AreTimed, IsTimed, IsLeast, can_issue, can_start}

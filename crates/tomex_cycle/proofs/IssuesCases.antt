@@ -21,7 +21,7 @@ use Rattle.tomex_rvexec.specs.Machine.{State}
 use Rattle.tomex_rvexec.specs.Run.{RunEnds}
 use Rattle.tomex_steps.specs.Steps.{is_branch, j_of, k_of, step_pool}
 use Rattle.tomex_timing.specs.Tables.{field_of}
-use Rattle.tomex_reservations.specs.declared.tables.Field.{Field}
+use Rattle.tomex_timing.specs.declared.tables.Field.{Field}
 use Rattle.tomex_timing.specs.declared.times.Done.{Done}
 use Rattle.tomex_timing.specs.Recurrence.{AreTimed, IsLeast, can_issue, can_issue_another}
 use Rattle.tomex_timing.specs.Search.{least, times_of}

@@ -16,8 +16,8 @@ use Rattle.tomex_sets.proofs.Bits.{none_in}
 use Rattle.tomex_tags.specs.Contents.{with_address}
 use Rattle.tomex_tags.specs.Pools.{is_open}
 use Rattle.tomex_tags.specs.declared.station.Station.{Station}
-use Rattle.tomex_reservations.specs.declared.tables.Field.{Field}
-use Rattle.tomex_reservations.specs.declared.tables.Field.TheVariants.{Value, Waits, Unread}
+use Rattle.tomex_timing.specs.declared.tables.Field.{Field}
+use Rattle.tomex_timing.specs.declared.tables.Field.TheVariants.{Value, Waits, Unread}
 use Rattle.tomex_cycle.specs.Ends.{can_send, finishes}
 use Rattle.tomex_membuf.specs.Order.{is_finished_before}
 use Rattle.tomex_cycle.specs.Finishes.{IsTimetableOf, has_stayed}

@@ -14,11 +14,11 @@ use Rattle.tomex_rvexec.specs.Machine.{State}
 use Rattle.tomex_steps.specs.Memory.{Bytes}
 use Rattle.tomex_rvexec.specs.Run.{RunEnds, EndsWithin, start_of}
 use Rattle.tomex_steps.specs.Steps.{is_number, step_dest, is_store}
-use Rattle.tomex_reservations.specs.declared.tables.Busy.{Busy}
-use Rattle.tomex_reservations.specs.declared.tables.Tag.{Tag}
+use Rattle.tomex_timing.specs.declared.tables.Busy.{Busy}
+use Rattle.tomex_timing.specs.declared.tables.Tag.{Tag}
 use Rattle.tomex_timing.specs.declared.times.Done.{Done}
 use Rattle.tomex_timing.specs.History.{greatest_end}
-use Rattle.tomex_reservations.specs.Shown.{Tables}
+use Rattle.tomex_timing.specs.Tables.{Tables}
 use Rattle.tomex_timing.specs.Tables.{tables_of, shown, qi_of, all_tags, producer}
 use Rattle.tomex_cycle.specs.declared.fetch.Fetch.{Fetch}
 use Rattle.tomex_cycle.specs.declared.fetch.Fetch.TheVariants.{At, Stopped}

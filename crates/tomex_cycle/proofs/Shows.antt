@@ -9,11 +9,11 @@ use Rattle.std.proofs.lemmas.Bool.{cases_Bool, cases_order, ltb-true, ltb-false,
 use Rattle.tomex_image.specs.Image.{Loaded}
 use Rattle.tomex_config.specs.Configuration.{Configuration}
 use Rattle.tomex_steps.specs.Steps.{is_in, is_number, step_pool, step_dest, address_of}
-use Rattle.tomex_reservations.specs.declared.tables.Busy.{Busy}
-use Rattle.tomex_reservations.specs.declared.tables.Tag.{Tag}
+use Rattle.tomex_timing.specs.declared.tables.Busy.{Busy}
+use Rattle.tomex_timing.specs.declared.tables.Tag.{Tag}
 use Rattle.tomex_timing.specs.declared.times.Done.{Done}
 use Rattle.tomex_timing.specs.History.{cycle_of, is_memory}
-use Rattle.tomex_reservations.specs.Shown.{Tables}
+use Rattle.tomex_timing.specs.Tables.{Tables}
 use Rattle.tomex_timing.specs.Tables.{tables_of, shown, qi_of, producer, busy_of, a_of, is_under_way, all_tags}
 use Rattle.tomex_rvdec.specs.Parts.{place_of_pool}
 use Rattle.tomex_cycle.specs.Run.{AreIssuedBy, IsHistory}

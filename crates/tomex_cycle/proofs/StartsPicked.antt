@@ -12,7 +12,7 @@ use Rattle.tomex_rvdec.specs.declared.pool.UnitId.TheVariants as units
 use Rattle.tomex_rvdec.specs.Parts.{place_of_unit}
 use Rattle.tomex_steps.specs.Steps.{bytes_of, is_number, j_of, k_of, step_pool, step_unit}
 use Rattle.tomex_steps.proofs.Fields.{unit_with_pool}
-use Rattle.tomex_reservations.specs.declared.tables.Tag.{Tag}
+use Rattle.tomex_timing.specs.declared.tables.Tag.{Tag}
 use Rattle.tomex_timing.specs.declared.times.Done.{Done}
 use Rattle.tomex_timing.specs.History.{cycle_of, is_memory, is_of, last_address, source_end}
 use Rattle.tomex_timing.specs.Recurrence.{AreTimed, IsTimed, IsLeast, are_conflicts_finished, can_start, has_unit}

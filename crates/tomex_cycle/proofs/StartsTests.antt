@@ -9,7 +9,7 @@ use Rattle.tomex_config.specs.Configuration.{Configuration, IsWithinLimits}
 use Rattle.tomex_steps.specs.declared.step.Step.{Step}
 use Rattle.tomex_steps.specs.Steps.{address_of, bytes_of, is_store, j_of, k_of, step_pool}
 use Rattle.tomex_steps.proofs.Fields.{bytes_of_memory}
-use Rattle.tomex_reservations.specs.declared.tables.Tag.{Tag}
+use Rattle.tomex_timing.specs.declared.tables.Tag.{Tag}
 use Rattle.tomex_timing.specs.declared.times.Done.{Done}
 use Rattle.tomex_timing.specs.History.{cycle_of, is_memory, last_address, source_end}
 use Rattle.tomex_timing.specs.Recurrence.{AreTimed, IsTimed, IsLeast, are_conflicts_finished, can_address, conflicts}

@@ -20,7 +20,7 @@ use crate::progress::CycleOutcome;
 use std::alloc::{AllocError, Allocator, Global};
 use tomex_config::Config;
 use tomex_image::Image;
-use tomex_reservations::Tables;
+use tomex_timing::Tables;
 use tomex_rvexec::{End, Fetcher, Memory, initial_sp};
 use tomex_tags::{Pools, RegStatus};
 

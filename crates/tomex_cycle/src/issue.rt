@@ -8,7 +8,8 @@ use crate::fetch::Fetch;
 use std::alloc::Allocator;
 use tomex_config::Config;
 use tomex_rvexec::{Fault, Fetcher};
-use tomex_tags::{Pools, RegStatus, Tag, issue};
+use tomex_tags::{Pools, RegStatus, issue};
+use tomex_timing::Tag;
 
 /// Issues the next instruction, unless it waits for a branch or for a station. Answers whether it did.
 ///

@@ -20,4 +20,4 @@ mod starts;
 
 pub use machine::Machine;
 pub use progress::Progress;
-pub use tomex_reservations::{Busy, Field, Tables, Tag};
+pub use tomex_timing::Tables;

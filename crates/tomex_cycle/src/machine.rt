@@ -16,7 +16,7 @@ use std::alloc::{AllocError, Allocator, Global};
 use std::marker::Model;
 use tomex_config::Config;
 use tomex_image::Image;
-use tomex_reservations::Tables;
+use tomex_timing::Tables;
 use tomex_rvexec::{End, Fetcher};
 
 /// The cycle of a machine that has made none.

@@ -5,4 +5,3 @@
 mod document;
 
 pub use document::{Entry, Outline, document_of, documents_have_a_grid};
-pub use tomex_values::{DocumentError, Key, Place};

@@ -13,4 +13,3 @@ pub use line::stalls::StallsLine;
 pub use line::tables::TablesLine;
 pub use line::times::TimesLine;
 pub use line::{Line, read_line};
-pub use tomex_arguments::{LineFault, not_text, unread};

@@ -6,7 +6,8 @@ ghost use Rattle.tomex_membuf.specs.Addresses.{has_base, IsNextAddress};
 ghost use Rattle.tomex_tags.specs.Contents.{slot};
 
 use tomex_bus::oldest;
-use tomex_tags::{Field, Pools, Station};
+use tomex_tags::{Pools, Station};
+use tomex_timing::Field;
 
 /// Whether the base of a place's station is there.
 fn has_base(station: Option<Station>) -> bool

@@ -14,9 +14,10 @@ pub use answering::{answer, answer_all, answer_all_under, answer_picture, answer
 pub use front_text::front_report;
 pub use front_view::FrontView;
 pub use replaying::replay;
-pub use tomex_document::{Key, Place, documents_have_a_grid};
+pub use tomex_document::documents_have_a_grid;
 pub use tomex_fronts::{front_picture, front_table};
 pub use tomex_konata::{LogError, konata_text};
 pub use tomex_reading::{StudyError, file_names, read_study};
 pub use tomex_texts::{ProgramEnd, RowEnds, limit_changes_no_end, tables_text, times_report};
 pub use tomex_views::{PictureError, pipeline_text, stalls_by_pc, stalls_report};
+pub use tomex_values::{Key, Place};

@@ -1,2 +1,1 @@
 pub mod Reservations
-pub mod Shown

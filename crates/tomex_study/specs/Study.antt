@@ -3,7 +3,7 @@ use Rattle.std.specs.Prelude.{◌≡◌, ℕ, ◌≤◌, Bool, List, length, map
 use Rattle.std.specs.List.{find}
 use Rattle.std.specs.Str.{bytes_eq}
 use Rattle.tomex_config.specs.Configuration.{Configuration, IsWithinLimits}
-use Rattle.tomex_config.specs.Cost.{PriceList, cost_of}
+use Rattle.tomex_config.specs.Cost.{IsPriceList, PriceList, cost_of}
 use Rattle.tomex_study.specs.Program.{Workload, IsProgram}
 
 pub record DesignSpace : Type 0 where
@@ -23,7 +23,8 @@ design_space programs rows costs prices wide =
 abbrev pub costs_of : PriceList → List Configuration → List ℕ
 costs_of prices rows = map (λ config. cost_of config prices) rows
 
--- 1 to 8 programs, which end, and 1 to 16,384 configurations within the limits, and what each of these costs
+-- 1 to 8 programs, which end, 1 to 16,384 configurations and the prices within the limits, and what each configuration
+-- costs
 pub record IsStudy (s : DesignSpace) : Type 0 where
   pub some_programs : 1 ≤ length s.programs
   pub few_programs : length s.programs ≤ 8
@@ -31,6 +32,7 @@ pub record IsStudy (s : DesignSpace) : Type 0 where
   pub some_rows : 1 ≤ length s.rows
   pub few_rows : length s.rows ≤ 16384
   pub limits : All IsWithinLimits s.rows
+  pub prices : IsPriceList s.prices
   pub costs : s.costs ≡ costs_of s.prices s.rows
 
 -- the first program of that name

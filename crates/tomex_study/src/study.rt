@@ -76,6 +76,7 @@ impl<A: Allocator> Study<A> {
         ensures study { IfOk result (λ s. IsStudy s) }
     {
         each_ends(&programs);
+        prices.keeps_limits();
         let costs = costs_of(alloc, &rows, &prices)?;
         Ok(Study {
             programs,
@@ -86,8 +87,8 @@ impl<A: Allocator> Study<A> {
         })
     }
 
-    /// A law: there are 1 to 8 programs, each of which ends, and 1 to 16,384 configurations, each within
-    /// the limits, with their costs.
+    /// A law: there are 1 to 8 programs, each of which ends, 1 to 16,384 configurations, each within the limits, with
+    /// their costs, and a price list.
     pub fn keeps_limits(&self)
         ensures { IsStudy self.now }
     {

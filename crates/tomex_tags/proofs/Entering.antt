@@ -8,8 +8,8 @@ use Rattle.tomex_sets.specs.Sets.{has, IsWith, IsWithout}
 use Rattle.tomex_sets.proofs.Bits.{none_in}
 use Rattle.tomex_tags.specs.declared.wait_sets.WaitSets.{WaitSets}
 use Rattle.tomex_tags.specs.declared.station.Station.{Station}
-use Rattle.tomex_reservations.specs.declared.tables.Field.{Field}
-use Rattle.tomex_reservations.specs.declared.tables.Field.TheVariants.{Value, Waits, Unread}
+use Rattle.tomex_timing.specs.declared.tables.Field.{Field}
+use Rattle.tomex_timing.specs.declared.tables.Field.TheVariants.{Value, Waits, Unread}
 use Rattle.tomex_tags.specs.Contents.{hears, is_memory_op, is_ready, lacks_address, started, with_address}
 use Rattle.tomex_tags.specs.Operands.{heard, is_there}
 use Rattle.tomex_tags.specs.Pools.{AreBusy}

@@ -7,9 +7,9 @@ use Rattle.std.proofs.lemmas.Bool.{both_ways, cases_Bool, eqb-true, eqb-false}
 use Rattle.std.proofs.lemmas.List.{get_or-set_same, get_or-set_other, length-set}
 use Rattle.tomex_rvdec.specs.Operands.{pool_of, unit_at, unit_of, unit_of_pool}
 use Rattle.tomex_sets.specs.Sets.{has, IsWith}
-use Rattle.tomex_reservations.specs.declared.tables.Field.{Field}
-use Rattle.tomex_reservations.specs.declared.tables.Field.TheVariants.{Value, Waits, Unread}
-use Rattle.tomex_reservations.specs.declared.tables.Tag.{Tag}
+use Rattle.tomex_timing.specs.declared.tables.Field.{Field}
+use Rattle.tomex_timing.specs.declared.tables.Field.TheVariants.{Value, Waits, Unread}
+use Rattle.tomex_timing.specs.declared.tables.Tag.{Tag}
 use Rattle.tomex_tags.specs.declared.station.Station.{Station}
 use Rattle.tomex_tags.specs.Contents.{hears, with_address}
 use Rattle.tomex_tags.specs.Listeners.{AreListening, IsListening, awaits}

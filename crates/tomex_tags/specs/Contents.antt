@@ -9,10 +9,10 @@ use Rattle.tomex_steps.specs.declared.step.ByteRange.{ByteRange}
 use Rattle.tomex_steps.specs.declared.step.Step.{Step}
 use Rattle.tomex_steps.specs.Steps.{bytes_at, is_in}
 use Rattle.tomex_steps.specs.Words.{sum}
-use Rattle.tomex_reservations.specs.declared.tables.Busy.{Busy}
-use Rattle.tomex_reservations.specs.declared.tables.Field.{Field}
-use Rattle.tomex_reservations.specs.declared.tables.Field.TheVariants.{Value, Waits, Unread}
-use Rattle.tomex_reservations.specs.declared.tables.Tag.{Tag}
+use Rattle.tomex_timing.specs.declared.tables.Busy.{Busy}
+use Rattle.tomex_timing.specs.declared.tables.Field.{Field}
+use Rattle.tomex_timing.specs.declared.tables.Field.TheVariants.{Value, Waits, Unread}
+use Rattle.tomex_timing.specs.declared.tables.Tag.{Tag}
 use Rattle.tomex_tags.specs.declared.station.Station.{Station}
 use Rattle.tomex_tags.specs.Operands.{heard, is_there, value_in}
 use Rattle.tomex_tags.specs.Places.{tag_at_place}

@@ -7,7 +7,7 @@ use Rattle.tomex_rvdec.specs.declared.pool.PoolId.TheVariants as pools
 use Rattle.tomex_rvdec.specs.declared.pool.UnitId.{UnitId}
 use Rattle.tomex_steps.specs.Steps.{is_in}
 use Rattle.tomex_timing.specs.History.{is_of}
-use Rattle.tomex_reservations.specs.declared.tables.Tag.{Tag}
+use Rattle.tomex_timing.specs.declared.tables.Tag.{Tag}
 
 abbrev pub place_of_tag : Tag → ℕ
 place_of_tag tag = 16 * place_of_pool tag.pool + tag.number

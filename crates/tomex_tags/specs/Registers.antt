@@ -4,9 +4,9 @@ use Rattle.tomex_rvdec.specs.Operands.{sources_of}
 use Rattle.tomex_rvdec.specs.declared.instr.Instr.{Instr}
 use Rattle.tomex_steps.specs.Steps.{is_number}
 use Rattle.tomex_timing.specs.Tables.{field_from}
-use Rattle.tomex_reservations.specs.declared.tables.Field.{Field}
-use Rattle.tomex_reservations.specs.declared.tables.Field.TheVariants.{Unread}
-use Rattle.tomex_reservations.specs.declared.tables.Tag.{Tag}
+use Rattle.tomex_timing.specs.declared.tables.Field.{Field}
+use Rattle.tomex_timing.specs.declared.tables.Field.TheVariants.{Unread}
+use Rattle.tomex_timing.specs.declared.tables.Tag.{Tag}
 use Rattle.tomex_tags.specs.declared.register_status.RegStatus.{RegStatus}
 use Rattle.tomex_tags.specs.declared.station.Station.{Station}
 use Rattle.tomex_tags.specs.Contents.{issued}

@@ -26,4 +26,4 @@ pub use pools::Pools;
 pub use register_status::RegStatus;
 pub use station::Station;
 pub use stations::Stations;
-pub use tomex_timing::{Busy, Field, Tag};
+pub use tomex_timing::Tag;

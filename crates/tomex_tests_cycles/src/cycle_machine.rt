@@ -3,7 +3,8 @@
 use std::alloc::{AllocError, Allocator, Global};
 use std::test::Fail;
 use tomex_config::{Config, UnitOption};
-use tomex_cycle::{Machine, Progress, Tables};
+use tomex_cycle::{Machine, Progress};
+use tomex_timing::Tables;
 use tomex_image::Image;
 use tomex_rvexec::End;
 use tomex_samples::image_of;

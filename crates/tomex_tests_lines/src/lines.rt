@@ -3,7 +3,8 @@
 use std::alloc::{AllocError, Global};
 use std::process::Abort;
 use std::test::Fail;
-use tomex_line::{Line, LineFault, read_line};
+use tomex_arguments::LineFault;
+use tomex_line::{Line, read_line};
 
 /// The words of a line, apart at each space.
 fn words(alloc: Global, line: &str) -> Result<Vec<String>, AllocError> {

@@ -2,7 +2,8 @@
 
 use std::test::Fail;
 use tomex_config::{Config, UnitOption};
-use tomex_cycle::{Busy, Field, Machine, Tables, Tag};
+use tomex_cycle::Machine;
+use tomex_timing::{Busy, Field, Tables, Tag};
 use tomex_image::{Window, load};
 use tomex_report::tables_text;
 use tomex_rvdec::{PoolId, decode};

@@ -5,11 +5,11 @@ use Rattle.std.specs.Fmt.{decimal}
 use Rattle.tomex_rvdec.specs.Parts.{name_of_pool}
 use Rattle.tomex_rvdec.specs.Text.{name_of}
 use Rattle.tomex_rvexec.specs.Texts.{hex8}
-use Rattle.tomex_reservations.specs.Shown.{Tables}
-use Rattle.tomex_reservations.specs.declared.tables.Busy.{Busy}
-use Rattle.tomex_reservations.specs.declared.tables.Field.{Field}
-use Rattle.tomex_reservations.specs.declared.tables.Field.TheVariants.{Value, Waits, Unread}
-use Rattle.tomex_reservations.specs.declared.tables.Tag.{Tag}
+use Rattle.tomex_timing.specs.Tables.{Tables}
+use Rattle.tomex_timing.specs.declared.tables.Busy.{Busy}
+use Rattle.tomex_timing.specs.declared.tables.Field.{Field}
+use Rattle.tomex_timing.specs.declared.tables.Field.TheVariants.{Value, Waits, Unread}
+use Rattle.tomex_timing.specs.declared.tables.Tag.{Tag}
 
 -- a station by its pool and number, as `alu0`
 abbrev pub tag_text : Tag → List ℕ

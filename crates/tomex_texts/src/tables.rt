@@ -6,7 +6,7 @@ ghost use Rattle.tomex_texts.specs.TablesText.{register_line, register_lines, st
 
 use std::alloc::{AllocError, Allocator};
 use std::fmt::{self, Write};
-use tomex_cycle::{Busy, Field, Tables, Tag};
+use tomex_timing::{Busy, Field, Tables, Tag};
 
 /// A station's name.
 #[derive(Clone, Copy)]

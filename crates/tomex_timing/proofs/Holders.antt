@@ -9,7 +9,7 @@ use Rattle.tomex_rvdec.specs.declared.pool.PoolId.{PoolId}
 use Rattle.tomex_rvdec.specs.declared.pool.UnitId.{UnitId}
 use Rattle.tomex_steps.specs.Steps.{is_in, is_number, step_dest, step_pool}
 use Rattle.tomex_config.specs.Configuration.{stations_of}
-use Rattle.tomex_reservations.specs.declared.tables.Tag.{Tag}
+use Rattle.tomex_timing.specs.declared.tables.Tag.{Tag}
 use Rattle.tomex_timing.specs.declared.times.Done.{Done}
 use Rattle.tomex_timing.specs.Laws.{NumbersAreLow, StationsAreApart, StationsAreThere}
 use Rattle.tomex_timing.specs.Recurrence.{IsLeast, can_end}

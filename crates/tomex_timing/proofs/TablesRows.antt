@@ -8,9 +8,9 @@ use Rattle.tomex_rvdec.specs.declared.pool.UnitId.TheVariants as units
 use Rattle.tomex_config.specs.Configuration.{plain, with_width}
 use Rattle.tomex_timing.specs.declared.times.Done.{Done}
 use Rattle.tomex_timing.specs.Search.{history, times_of}
-use Rattle.tomex_reservations.specs.declared.tables.Busy.{Busy}
-use Rattle.tomex_reservations.specs.declared.tables.Field.TheVariants.{Value, Waits, Unread}
-use Rattle.tomex_reservations.specs.declared.tables.Tag.{Tag}
+use Rattle.tomex_timing.specs.declared.tables.Busy.{Busy}
+use Rattle.tomex_timing.specs.declared.tables.Field.TheVariants.{Value, Waits, Unread}
+use Rattle.tomex_timing.specs.declared.tables.Tag.{Tag}
 use Rattle.tomex_timing.specs.Tables.{tables_of}
 use Rattle.tomex_timing.proofs.Programs.{instr, product, overwritten, stored_and_loaded, jump_to_product}
 use Rattle.tomex_timing.proofs.Programs.{two_alu_stations, with_latency}

@@ -7,13 +7,18 @@ use Rattle.tomex_rvdec.specs.declared.pool.PoolId.{PoolId}
 use Rattle.tomex_rvdec.specs.declared.pool.PoolId.TheVariants.{Alu, Mul, Div, Load, Store, Bru}
 use Rattle.tomex_steps.specs.Steps.{step_pool, step_dest, j_of, k_of, address_of, is_in, is_number}
 use Rattle.tomex_steps.specs.declared.step.Operand.{Operand}
-use Rattle.tomex_reservations.specs.declared.tables.Busy.{Busy}
-use Rattle.tomex_reservations.specs.declared.tables.Field.{Field}
-use Rattle.tomex_reservations.specs.declared.tables.Field.TheVariants.{Value, Waits, Unread}
-use Rattle.tomex_reservations.specs.declared.tables.Tag.{Tag}
-use Rattle.tomex_reservations.specs.Shown.{Tables}
+use Rattle.tomex_timing.specs.declared.tables.Busy.{Busy}
+use Rattle.tomex_timing.specs.declared.tables.Field.{Field}
+use Rattle.tomex_timing.specs.declared.tables.Field.TheVariants.{Value, Waits, Unread}
+use Rattle.tomex_timing.specs.declared.tables.Tag.{Tag}
 use Rattle.tomex_timing.specs.declared.times.Done.{Done}
 use Rattle.tomex_timing.specs.History.{is_memory, cycle_of}
+
+-- what tables show of a machine after a cycle: the busy stations, and Qi of each register
+pub record Tables : Type 0 where
+  pub cycle : ℕ
+  pub busy : List Busy
+  pub registers : List (Option Tag)
 
 abbrev pub tag_at : Option PoolId → Option ℕ → Option Tag
 tag_at (Some pool) (Some n) = Some (record { pool = pool; number = n })

@@ -15,6 +15,7 @@ mod needs;
 mod next;
 mod part;
 mod run;
+mod tables;
 mod times;
 mod waiting;
 mod window;
@@ -30,5 +31,5 @@ pub use laws::{
 pub use needs::Needs;
 pub use part::{Need, Part, Waits};
 pub use run::Run;
+pub use tables::{Busy, Field, Tables, Tag};
 pub use times::{Done, Times};
-pub use tomex_reservations::{Busy, Field, Tag};

@@ -6,7 +6,8 @@ use super::{cycle_of, end_of, has_ended, holds, image_at_0, machine_of, tables_o
 use std::alloc::{Allocator, Global};
 use std::test::Fail;
 use tomex_config::Config;
-use tomex_cycle::{Busy, Field, Machine, Progress, Tables, Tag};
+use tomex_cycle::{Machine, Progress};
+use tomex_timing::{Busy, Field, Tables, Tag};
 use tomex_image::Image;
 use tomex_rvexec::{End, Operand, run, trace};
 use tomex_timing::Done;

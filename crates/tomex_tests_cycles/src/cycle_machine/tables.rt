@@ -8,7 +8,8 @@ use Field::{Unread, Value, Waits};
 use std::alloc::Allocator;
 use std::test::Fail;
 use tomex_config::Config;
-use tomex_cycle::{Busy, Field, Machine, Progress, Tables, Tag};
+use tomex_cycle::{Machine, Progress};
+use tomex_timing::{Busy, Field, Tables, Tag};
 use tomex_rvdec::{PoolId, decode};
 
 /// What a station shows: its tag, the word of its instruction, both operands, and an address.

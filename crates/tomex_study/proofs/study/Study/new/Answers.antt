@@ -13,6 +13,7 @@ invariant_of-result g c = record {
   some_rows = c.requires.some_rows;
   few_rows = c.requires.few_rows;
   limits = subst (All IsWithinLimits) c.deref-2.ensures.value c.in_ok-costs.ensures.limits;
+  prices = c.keeps_limits.ensures;
   costs = c.in_ok-costs.ensures.costs ∙ ap (costs_of c.args.prices) c.deref-2.ensures.value;
 }
 
@@ -24,5 +25,6 @@ returns-clause-study g c = record {
   some_rows = c.requires.some_rows;
   few_rows = c.requires.few_rows;
   limits = subst (All IsWithinLimits) c.deref-2.ensures.value c.in_ok-costs.ensures.limits;
+  prices = c.keeps_limits.ensures;
   costs = c.in_ok-costs.ensures.costs ∙ ap (costs_of c.args.prices) c.deref-2.ensures.value;
 }

@@ -40,7 +40,7 @@ pub struct Tables {
 
 impl Model for Tables {
     ghost use Rattle.std.specs.List.{filter_map};
-    ghost use Rattle.tomex_reservations.specs.Shown.{Tables};
+    ghost use Rattle.tomex_timing.specs.Tables.{Tables};
 
     ghost Value = { Tables };
 
