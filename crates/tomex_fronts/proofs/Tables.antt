@@ -1,4 +1,4 @@
--- How wide columns are, and how long.
+-- How long columns are.
 use Rattle.std.proofs.Common.{◌≡◌, ◌∙◌, ◌<◌, ◌≤◌, ap, arith, cond, refl, sym, ℕ, suc, max, List, [], ◌∷◌, ◌++◌}
 use Rattle.std.proofs.Common.{length, map, Option, Some, None}
 use Rattle.std.specs.Prelude.{All, Bool, true, false, if◌then◌else◌, nat_lt}
@@ -11,32 +11,10 @@ use Rattle.tomex_study.specs.Study.{DesignSpace}
 use Rattle.tomex_pareto.specs.declared.front_row.FrontRow.{FrontRow}
 use Rattle.tomex_fronts.specs.FrontTable.{all_settings, cycles_on, differs, heading_column, own_columns, program_column}
 use Rattle.tomex_fronts.specs.FrontTable.{program_columns, rate_column, rates_after, setting_columns}
-use Rattle.tomex_fronts.specs.declared.table.entry.Entry.{Entry}
 use Rattle.tomex_fronts.specs.declared.table.heading.Heading.{Heading}
 use Rattle.tomex_fronts.specs.declared.table.heading.Heading.TheVariants.{Setting as OfSetting, Row, Cost, Cycles}
 use Rattle.tomex_fronts.specs.declared.table.heading.Setting.{Setting}
-use Rattle.tomex_fronts.specs.Table.{TableColumn, longest, text_of, width_of}
-
--- without numbers a column is as wide as its name
-pub width_alone : (name : List ℕ) (entries : List Entry) (width : ℕ) → entries ≡ [] → width ≡ length name
-    → width ≡ width_of (record { name = name; entries = entries })
-unfolding width_of
-width_alone name entries width none is = rw none (omega (arith, is))
-
-longest_more : (es : List Entry) (e : Entry) → longest (map text_of (es ++ e ∷ [])) ≡ max (longest (map text_of es))
-    (length (text_of e))
-longest_more [] e = omega arith
-longest_more (f ∷ es) e = omega (arith, longest_more es e)
-
--- with one entry more
-pub width_more : (name : List ℕ) (entries after : List Entry) (e : Entry) (width long new : ℕ)
-    → after ≡ entries ++ e ∷ []
-    → width ≡ width_of (record { name = name; entries = entries }) → long ≡ length (text_of e)
-    → new ≡ max width long
-    → new ≡ width_of (record { name = name; entries = after })
-unfolding width_of
-width_more name entries after e width long new more old are is =
-    rw more (omega (arith, longest_more entries e, old, are, is))
+use Rattle.tomex_tables.specs.Table.{TableColumn}
 
 -- an entry for each of the rows
 abbrev pub HasEntries : List FrontRow → TableColumn → Type 0

@@ -1,6 +1,7 @@
 -- The front as a table: of a row's parts only those in which rows of the study differ.
 use Rattle.std.specs.Prelude.{ℕ, ◌-◌, ◌*◌, ◌/◌, ◌==◌, nat_le, nat_lt, Bool, false, not, if◌then◌else◌, List}
 use Rattle.std.specs.Prelude.{[], ◌∷◌, ◌++◌, codes, length, map, slice_index_or, Option, Some, None}
+use Rattle.std.specs.Fmt.{decimal}
 use Rattle.std.specs.List.{flat_map, list_any}
 use Rattle.tomex_rvdec.specs.Parts.{name_of_pool, name_of_unit}
 use Rattle.tomex_rvdec.specs.declared.pool.PoolId.TheVariants as pools
@@ -13,9 +14,8 @@ use Rattle.tomex_study.specs.Study.{DesignSpace}
 use Rattle.tomex_pareto.specs.declared.front_row.FrontRow.{FrontRow}
 use Rattle.tomex_timing.specs.Needs.{count_of}
 use Rattle.tomex_timing.specs.declared.part.Part.TheVariants.{Stations, Units, Buses, Width}
-use Rattle.tomex_fronts.specs.Table.{TableColumn, table_of}
-use Rattle.tomex_fronts.specs.declared.table.entry.Entry.{Entry}
-use Rattle.tomex_fronts.specs.declared.table.entry.Entry.TheVariants.{Number, Hundredths, Nothing}
+use Rattle.tomex_records.specs.Hundredths.{hundredths}
+use Rattle.tomex_tables.specs.Table.{TableColumn, table_of}
 use Rattle.tomex_fronts.specs.declared.table.heading.Heading.{Heading}
 use Rattle.tomex_fronts.specs.declared.table.heading.Heading.TheVariants.{Row as OfRow, Cost, Cycles}
 use Rattle.tomex_fronts.specs.declared.table.heading.Heading.TheVariants.{Setting as OfSetting}
@@ -65,17 +65,17 @@ number_under s (OfSetting setting) r = setting_of (config_of s r) setting
 
 unfoldable pub heading_column : DesignSpace → List FrontRow → Heading → TableColumn
 heading_column s front heading =
-    record { name = name_of_heading heading; entries = map (λ r. Number (number_under s heading r)) front }
+    record { name = name_of_heading heading; entries = map (λ r. decimal (number_under s heading r)) front }
 
 -- how many cycles a row takes fewer than the row before, for 1 of what it costs more
-abbrev pub rate_after : Option FrontRow → FrontRow → Entry
-rate_after None r = Nothing
+abbrev pub rate_after : Option FrontRow → FrontRow → List ℕ
+rate_after None r = codes "-"
 rate_after (Some before) r =
-    if nat_le r.cost before.cost then Nothing
-    else Hundredths ((before.cycles - r.cycles) * 100 / (r.cost - before.cost))
+    if nat_le r.cost before.cost then codes "-"
+    else hundredths ((before.cycles - r.cycles) * 100 / (r.cost - before.cost))
 
 -- the rate of each row
-abbrev pub rates_after : Option FrontRow → List FrontRow → List Entry
+abbrev pub rates_after : Option FrontRow → List FrontRow → List (List ℕ)
 rates_after before [] = []
 rates_after before (r ∷ rows) = rate_after before r ∷ rates_after (Some r) rows
 
@@ -98,7 +98,7 @@ unfoldable pub cycles_on : DesignSpace → List FrontRow → Workload → List �
 cycles_on s front p = map (λ r. total (config_of s r) p.image) front
 
 abbrev pub program_column : DesignSpace → List FrontRow → Workload → TableColumn
-program_column s front p = record { name = p.name; entries = map Number (cycles_on s front p) }
+program_column s front p = record { name = p.name; entries = map decimal (cycles_on s front p) }
 
 -- a column for each program where there are several
 abbrev pub program_columns : DesignSpace → List FrontRow → List TableColumn

@@ -1,4 +1,3 @@
 pub mod Axes
 pub mod Plot
-pub mod Table
 pub mod FrontTable

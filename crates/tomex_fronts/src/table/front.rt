@@ -1,20 +1,19 @@
 //! The front of a study as a table.
 
 ghost use Rattle.std.specs.Prelude.{◌≡◌, ◌<◌, ◌++◌, length, map, All, IfOk, OnOk};
-ghost use Rattle.tomex_fronts.specs.declared.table.entry.Entry.TheVariants.{Number};
+ghost use Rattle.std.specs.Fmt.{decimal};
 ghost use Rattle.std.specs.List.{AllZip, flat_map};
 ghost use Rattle.tomex_runs.specs.StudyFront.{front_of_study};
 ghost use Rattle.tomex_fronts.specs.FrontTable.{all_settings, cycles_on, front_table_of, heading_column};
 ghost use Rattle.tomex_fronts.specs.FrontTable.{number_under, own_columns, program_column, program_columns};
 ghost use Rattle.tomex_fronts.specs.FrontTable.{setting_columns};
 
-use super::entry::Entry;
 use super::heading::{Heading, Setting};
 use super::rate::rate_column;
-use super::{Column, table_of};
 use std::alloc::{AllocError, Allocator, Global};
 use tomex_pareto::FrontRow;
 use tomex_study::Study;
+use tomex_tables::{Column, table_of};
 
 /// What a front row has under a heading.
 #[tactic(auto, unfolding(crate::specs::FrontTable::number_under))]
@@ -42,10 +41,9 @@ fn heading_column<A: Allocator>(
     ensures { IfOk result (λ c. c ≡ heading_column study.now front.now heading) }
 {
     let mut column = Column::new(heap, heading.name(heap)?);
-    let mut scratch = String::new(heap);
     for row in front {
         let number = number_under(study, heading, *row);
-        column.push(&mut scratch, Entry::Number(number))?;
+        column.push(format!(in heap; "{number}")?)?;
     }
     Ok(column)
 }
@@ -106,12 +104,11 @@ fn push_settings<A: Allocator>(
 
 /// The column of a program.
 fn column_of(heap: Global, name: &str, cycles: &[u64]) -> Result<Column, AllocError>
-    ensures { IfOk result (λ c. c ≡ record { name = name.now; entries = map Number cycles.now }) }
+    ensures { IfOk result (λ c. c ≡ record { name = name.now; entries = map decimal cycles.now }) }
 {
     let mut column = Column::new(heap, format!(in heap; "{name}")?);
-    let mut scratch = String::new(heap);
     for total in cycles {
-        column.push(&mut scratch, Entry::Number(*total))?;
+        column.push(format!(in heap; "{total}")?)?;
     }
     Ok(column)
 }
@@ -176,5 +173,5 @@ pub fn front_table<A: Allocator>(
     let mut columns = Vec::new(heap);
     push_own(&mut columns, heap, study, front)?;
     push_programs(&mut columns, heap, study, front, cycles)?;
-    table_of(alloc, heap, front.len(), columns.as_slice())
+    table_of(alloc, front.len(), columns.as_slice())
 }

@@ -1,12 +1,12 @@
 -- The entries so far, and those to come.
 use Rattle.std.proofs.Common.{◌≡◌, ◌++◌, drop, map}
 use Rattle.tomex_fronts.specs.FrontTable.{name_of_heading, number_under}
-use Rattle.tomex_fronts.specs.declared.table.entry.Entry.TheVariants.{Number}
+use Rattle.std.specs.Fmt.{decimal}
 use Rattle.tomex_fronts.proofs.table.front.heading_column.Given as goal
 
 abbrev pub invariant-loop-row : goal.invariant-loop-row
 invariant-loop-row g l = record {
   name : l.column.name ≡ name_of_heading l.heading;
-  entries : l.column.entries ++ map (λ r. Number (number_under l.study l.heading r)) (drop l.row-index l.front)
-      ≡ map (λ r. Number (number_under l.study l.heading r)) l.front;
+  entries : l.column.entries ++ map (λ r. decimal (number_under l.study l.heading r)) (drop l.row-index l.front)
+      ≡ map (λ r. decimal (number_under l.study l.heading r)) l.front;
 }

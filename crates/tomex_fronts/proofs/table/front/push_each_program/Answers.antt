@@ -2,8 +2,8 @@
 use Rattle.std.proofs.Common.{◌∙◌, ap₂, arith, ℕ, List, map}
 use Rattle.std.proofs.lemmas.Slice.Zip.{AllZip-long}
 use Rattle.tomex_fronts.specs.FrontTable.{program_column}
-use Rattle.tomex_fronts.specs.Table.{TableColumn}
-use Rattle.tomex_fronts.specs.declared.table.entry.Entry.TheVariants.{Number}
+use Rattle.tomex_tables.specs.Table.{TableColumn}
+use Rattle.std.specs.Fmt.{decimal}
 use Rattle.tomex_fronts.proofs.Loops.{item_more}
 use Rattle.tomex_fronts.proofs.Zips.{at_both}
 use Rattle.tomex_fronts.proofs.table.front.push_each_program.Goals as goal
@@ -27,7 +27,7 @@ loop-place-preserved g c =
     let item = rw c.programs-program-items.ensures.value at c.program-item.is in
     let same = at_both _ study.programs c.args.cycles.now c.loop-place.place c.program-item.result
     c.index-cycles-place.result c.requires within item c.index-cycles-place.is in
-    let column_of : List ℕ → List ℕ → TableColumn = λ n ns. record { name = n; entries = map Number ns } in
+    let column_of : List ℕ → List ℕ → TableColumn = λ n ns. record { name = n; entries = map decimal ns } in
     let column = c.in_ok-column_of.ensures ∙ ap₂ column_of c.name.ensures.value (c.as_slice-own.ensures.value ∙ same) in
     item_more (program_column study c.args.front.now) study.programs c.loop-place.place c.program-item.result _ _ _ _
     within item c.in_ok-push.ensures.items column c.loop-place.invariant

@@ -1,23 +1,14 @@
--- Tables: a line of names, and under them lines of numbers, all aligned at their right.
+-- Tables: a line of names, and after it lines of texts, all aligned at their right.
 use Rattle.std.specs.Prelude.{ℕ, ◌<◌, max, List, [], ◌∷◌, ◌++◌, codes, length, map, slice_index_or}
 use Rattle.std.specs.List.{flat_map, range_with_len}
-use Rattle.std.specs.Fmt.{decimal}
 use Rattle.tomex_records.specs.Aligned.{right_aligned}
-use Rattle.tomex_records.specs.Hundredths.{hundredths}
-use Rattle.tomex_fronts.specs.declared.table.Line.{Line}
-use Rattle.tomex_fronts.specs.declared.table.Line.TheVariants.{Names, Entries}
-use Rattle.tomex_fronts.specs.declared.table.entry.Entry.{Entry}
-use Rattle.tomex_fronts.specs.declared.table.entry.Entry.TheVariants.{Number, Hundredths, Nothing}
+use Rattle.tomex_tables.specs.declared.column.Line.{Line}
+use Rattle.tomex_tables.specs.declared.column.Line.TheVariants.{Names, Entries}
 
 -- a column: its name, and its entry in each line
 pub record TableColumn : Type 0 where
   pub name : List ℕ
-  pub entries : List Entry
-
-abbrev pub text_of : Entry → List ℕ
-text_of (Number n) = decimal n
-text_of (Hundredths n) = hundredths n
-text_of Nothing = codes "-"
+  pub entries : List (List ℕ)
 
 abbrev pub longest : List (List ℕ) → ℕ
 longest [] = 0
@@ -25,12 +16,12 @@ longest (text ∷ texts) = max (length text) (longest texts)
 
 -- a column is as wide as its widest entry, its name included
 unfoldable pub width_of : TableColumn → ℕ
-width_of c = max (length c.name) (longest (map text_of c.entries))
+width_of c = max (length c.name) (longest c.entries)
 
 -- what a column has in a line
 abbrev pub entry_in : Line → TableColumn → List ℕ
 entry_in Names c = c.name
-entry_in (Entries k) c = text_of (slice_index_or c.entries k Nothing)
+entry_in (Entries k) c = slice_index_or c.entries k []
 
 unfoldable pub aligned_in : Line → TableColumn → List ℕ
 aligned_in line c = right_aligned (width_of c) (entry_in line c)
@@ -53,8 +44,8 @@ unfoldable pub table_of : ℕ → List TableColumn → List ℕ
 table_of count columns = table_line columns Names ++ flat_map (entries_line columns) (range_with_len 0 count)
 
 -- one entry more
-abbrev pub with_entry : TableColumn → Entry → TableColumn
-with_entry c e = record { name = c.name; entries = c.entries ++ (e ∷ []) }
+abbrev pub with_entry : TableColumn → List ℕ → TableColumn
+with_entry c text = record { name = c.name; entries = c.entries ++ (text ∷ []) }
 
 -- the column has something in that line
 abbrev pub has_line : Line → TableColumn → Type 0

@@ -1,7 +1,7 @@
 -- The line of one turn more.
-use Rattle.tomex_fronts.specs.Table.{entries_line}
-use Rattle.tomex_fronts.proofs.Loops.{number_more}
-use Rattle.tomex_fronts.proofs.table.table_of.Goals as goal
+use Rattle.tomex_tables.specs.Table.{entries_line}
+use Rattle.tomex_tables.proofs.Loops.{number_more}
+use Rattle.tomex_tables.proofs.table.table_of.Goals as goal
 
 pub loop-place-preserved : goal.loop-place-preserved
 loop-place-preserved g c =

@@ -2,8 +2,8 @@
 use Rattle.std.proofs.Common.{◌≡◌, ◌++◌, drop}
 use Rattle.std.specs.Prelude.{string_bytes}
 use Rattle.std.specs.List.{flat_map}
-use Rattle.tomex_fronts.specs.Table.{spaced_in}
-use Rattle.tomex_fronts.proofs.table.push_spaced.Given as goal
+use Rattle.tomex_tables.specs.Table.{spaced_in}
+use Rattle.tomex_tables.proofs.table.push_spaced.Given as goal
 
 abbrev pub invariant-loop-column : goal.invariant-loop-column
 invariant-loop-column g l =

@@ -2,8 +2,8 @@
 use Rattle.std.proofs.Common.{◌≡◌, ◌-◌, ◌++◌}
 use Rattle.std.specs.Prelude.{string_bytes}
 use Rattle.std.specs.List.{flat_map, range_with_len}
-use Rattle.tomex_fronts.specs.Table.{entries_line}
-use Rattle.tomex_fronts.proofs.table.table_of.Given as goal
+use Rattle.tomex_tables.specs.Table.{entries_line}
+use Rattle.tomex_tables.proofs.table.table_of.Given as goal
 
 abbrev pub invariant-loop-place : goal.invariant-loop-place
 invariant-loop-place g l =

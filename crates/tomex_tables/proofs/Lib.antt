@@ -1,0 +1,3 @@
+-- Lemmas of this crate.
+mod Widths
+pub mod Loops

@@ -1,0 +1,8 @@
+//! Tables for people: a line of names, and after it lines of texts, all aligned at their right.
+#![tactic(auto)]
+
+mod column;
+mod table;
+
+pub use column::Column;
+pub use table::table_of;
