@@ -1,5 +1,5 @@
 -- What the proofs of the crate share.
 mod Found
 mod Plain
-mod StillRefused
+mod PassedOn
 mod Taken

@@ -40,6 +40,10 @@ abbrev pub one_run_app : Text → App
 one_run_app name =
     with_rule (with_rule (study_app name) (numeral_rule (codes "CONFIG") 0 16383)) (word_rule (codes "PROGRAM"))
 
+-- a command that explores a study: `NAME STUDY [--workers N]`
+abbrev pub exploring_app : Text → App
+exploring_app name = with_rule (study_app name) (option_rule (codes "workers") 1 32 (codes "1"))
+
 -- `run IMAGE [--base N] [--size N] [--limit N]`
 abbrev pub run_shape : Shape
 run_shape = record (new_shape (codes "run")) {
@@ -82,7 +86,7 @@ tables_shape = record (new_shape (codes "tables")) {
 abbrev pub all_shape : Shape
 all_shape = record (new_shape (codes "all")) { rules = word_rule (codes "STUDY") ∷ [] }
 
--- a command that explores a study: `NAME STUDY [--workers N]`
+-- the same as a shape
 abbrev pub exploring_shape : Text → Shape
 exploring_shape name = record (new_shape name) {
   rules = word_rule (codes "STUDY") ∷ option_rule (codes "workers") 1 32 (codes "1") ∷ [];
@@ -94,8 +98,24 @@ explore_shape = exploring_shape (codes "explore")
 abbrev pub front_shape : Shape
 front_shape = exploring_shape (codes "front")
 
+-- `plot STUDY [--workers N] [--rows]`
 abbrev pub plot_shape : Shape
-plot_shape = exploring_shape (codes "plot")
+plot_shape = record (new_shape (codes "plot")) {
+  rules = word_rule (codes "STUDY") ∷ option_rule (codes "workers") 1 32 (codes "1") ∷ flag_rule (codes "rows") ∷ [];
+}
+
+abbrev pub rows_shape : Shape
+rows_shape = exploring_shape (codes "rows")
+
+-- `worth STUDY CONFIG [--workers N]`
+abbrev pub worth_shape : Shape
+worth_shape = record (new_shape (codes "worth")) {
+  rules = word_rule (codes "STUDY") ∷ option_rule (codes "workers") 1 32 (codes "1")
+      ∷ numeral_rule (codes "CONFIG") 0 16383 ∷ [];
+}
+
+abbrev pub prices_shape : Shape
+prices_shape = exploring_shape (codes "prices")
 
 -- `explain [REFUSAL]..`
 abbrev pub explain_shape : Shape
@@ -110,5 +130,5 @@ abbrev pub tomex_app : App
 tomex_app = record {
   top = record (new_shape (codes "tomex")) { has_version = true; is_leaf = false; subcommand_required = true };
   subs = run_shape ∷ times_shape ∷ stalls_shape ∷ pipeline_shape ∷ tables_shape ∷ all_shape ∷ explore_shape
-      ∷ front_shape ∷ plot_shape ∷ explain_shape ∷ [];
+      ∷ front_shape ∷ plot_shape ∷ rows_shape ∷ worth_shape ∷ prices_shape ∷ explain_shape ∷ [];
 }

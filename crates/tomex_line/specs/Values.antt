@@ -14,21 +14,19 @@ pub record IsRunAsked (rows : List Row) (image : List ℕ) (base size limit : �
 abbrev pub IsNoRun : List Row → Type 0
 IsNoRun rows = (image : List ℕ) (base size limit : ℕ) → IsRunAsked rows image base size limit → ⊥
 
--- the values of `times`
-pub record IsTimesAsked (rows : List Row) (study : List ℕ) (config : ℕ) (program : List ℕ) : Type 0 where
+-- the values of a command on one run of a study
+pub record IsOneRunAsked (rows : List Row) (study : List ℕ) (config : ℕ) (program : List ℕ) : Type 0 where
   pub is_study : IsWord rows (codes "STUDY") study
   pub is_config : IsNumber rows (codes "CONFIG") 0 16383 config
   pub is_program : IsWord rows (codes "PROGRAM") program
 
-abbrev pub IsNoTimes : List Row → Type 0
-IsNoTimes rows = (study : List ℕ) (config : ℕ) (program : List ℕ) → IsTimesAsked rows study config program → ⊥
+abbrev pub IsNoOneRun : List Row → Type 0
+IsNoOneRun rows = (study : List ℕ) (config : ℕ) (program : List ℕ) → IsOneRunAsked rows study config program → ⊥
 
 -- the values of `stalls`
 pub record IsStallsAsked (rows : List Row) (study : List ℕ) (config : ℕ) (program : List ℕ)
     (by_pc : Bool) : Type 0 where
-  pub is_study : IsWord rows (codes "STUDY") study
-  pub is_config : IsNumber rows (codes "CONFIG") 0 16383 config
-  pub is_program : IsWord rows (codes "PROGRAM") program
+  pub of_run : IsOneRunAsked rows study config program
   pub is_by_pc : IsFlag rows (codes "by-pc") by_pc
 
 abbrev pub IsNoStalls : List Row → Type 0
@@ -38,9 +36,7 @@ IsNoStalls rows = (study : List ℕ) (config : ℕ) (program : List ℕ) (by_pc 
 -- the values of `pipeline`
 pub record IsPipelineAsked (rows : List Row) (study : List ℕ) (config : ℕ) (program : List ℕ) (from steps : ℕ)
     (konata : Bool) : Type 0 where
-  pub is_study : IsWord rows (codes "STUDY") study
-  pub is_config : IsNumber rows (codes "CONFIG") 0 16383 config
-  pub is_program : IsWord rows (codes "PROGRAM") program
+  pub of_run : IsOneRunAsked rows study config program
   pub is_from : IsNumber rows (codes "from") 1 262144 from
   pub is_steps : IsNumber rows (codes "steps") 1 262144 steps
   pub is_konata : IsFlag rows (codes "konata") konata
@@ -51,9 +47,7 @@ IsNoPipeline rows = (study : List ℕ) (config : ℕ) (program : List ℕ) (from
 
 -- the values of `tables`
 pub record IsTablesAsked (rows : List Row) (study : List ℕ) (config : ℕ) (program : List ℕ) (cycle : ℕ) : Type 0 where
-  pub is_study : IsWord rows (codes "STUDY") study
-  pub is_config : IsNumber rows (codes "CONFIG") 0 16383 config
-  pub is_program : IsWord rows (codes "PROGRAM") program
+  pub of_run : IsOneRunAsked rows study config program
   pub is_cycle : IsNumber rows (codes "CYCLE") 0 17563648 cycle
 
 abbrev pub IsNoTables : List Row → Type 0
@@ -67,13 +61,29 @@ IsAllAsked rows study = IsWord rows (codes "STUDY") study
 abbrev pub IsNoAll : List Row → Type 0
 IsNoAll rows = (study : List ℕ) → IsAllAsked rows study → ⊥
 
--- the values of `explore`
+-- the values of `explore`, and of other commands on all rows of a study
 pub record IsExploreAsked (rows : List Row) (study : List ℕ) (workers : ℕ) : Type 0 where
   pub is_study : IsWord rows (codes "STUDY") study
   pub is_workers : IsNumber rows (codes "workers") 1 32 workers
 
 abbrev pub IsNoExplore : List Row → Type 0
 IsNoExplore rows = (study : List ℕ) (workers : ℕ) → IsExploreAsked rows study workers → ⊥
+
+-- the values of `plot`
+pub record IsPlotAsked (rows : List Row) (study : List ℕ) (workers : ℕ) (all : Bool) : Type 0 where
+  pub of_study : IsExploreAsked rows study workers
+  pub is_all : IsFlag rows (codes "rows") all
+
+abbrev pub IsNoPlot : List Row → Type 0
+IsNoPlot rows = (study : List ℕ) (workers : ℕ) (all : Bool) → IsPlotAsked rows study workers all → ⊥
+
+-- the values of `worth`
+pub record IsWorthAsked (rows : List Row) (study : List ℕ) (config workers : ℕ) : Type 0 where
+  pub of_study : IsExploreAsked rows study workers
+  pub is_config : IsNumber rows (codes "CONFIG") 0 16383 config
+
+abbrev pub IsNoWorth : List Row → Type 0
+IsNoWorth rows = (study : List ℕ) (config workers : ℕ) → IsWorthAsked rows study config workers → ⊥
 
 -- the value of `explain`
 abbrev pub IsExplainAsked : List Row → Option (List ℕ) → Type 0

@@ -15,13 +15,16 @@ pub mod explain;
 pub mod explore;
 mod front;
 pub mod pipeline;
-mod plot;
+pub mod plot;
+mod prices;
+mod rows;
 pub mod run;
 pub mod stalls;
-mod studied;
+pub mod studied;
 pub mod tables;
-pub mod times;
+mod times;
 mod values;
+pub mod worth;
 
 use all::AllLine;
 use clap::{ArgMatches, Command};
@@ -29,25 +32,30 @@ use described::offering;
 use explain::ExplainLine;
 use explore::ExploreLine;
 use pipeline::PipelineLine;
+use plot::PlotLine;
 use run::RunLine;
 use stalls::StallsLine;
 use std::alloc::{AllocError, Global};
+use studied::{OneRun, one_run_of};
 use tables::TablesLine;
-use times::TimesLine;
 use tomex_arguments::{LineFault, fault_of, refused};
+use worth::WorthLine;
 
 /// What a command line asks for.
 #[derive(Drop)]
 pub enum Line<'a> {
     Run(RunLine<'a>),
-    Times(TimesLine<'a>),
+    Times(OneRun<'a>),
     Stalls(StallsLine<'a>),
     Pipeline(PipelineLine<'a>),
     Tables(TablesLine<'a>),
     All(AllLine<'a>),
     Explore(ExploreLine<'a>),
     Front(ExploreLine<'a>),
-    Plot(ExploreLine<'a>),
+    Plot(PlotLine<'a>),
+    Rows(ExploreLine<'a>),
+    Worth(WorthLine<'a>),
+    Prices(ExploreLine<'a>),
     Explain(ExplainLine),
 }
 
@@ -75,6 +83,9 @@ Examples, in the folder `examples`:
   tomex explore explore.toml --workers 4
   tomex front explore.toml --workers 4
   tomex plot explore.toml --workers 4
+  tomex rows explore.toml --workers 4
+  tomex worth explore.toml 132
+  tomex prices explore.toml
   tomex explain image: segment
 
 Numbers on the command line are decimal; in a study's TOML they may be
@@ -105,6 +116,9 @@ fn grammar<'a>(alloc: Global) -> Result<Command<'a>, AllocError>
     let program = offering(program, explore::grammar(alloc));
     let program = offering(program, front::grammar(alloc));
     let program = offering(program, plot::grammar(alloc));
+    let program = offering(program, rows::grammar(alloc));
+    let program = offering(program, worth::grammar(alloc));
+    let program = offering(program, prices::grammar(alloc));
     offering(program, explain::grammar(alloc))
 }
 
@@ -115,14 +129,17 @@ fn line_of<'a>(alloc: Global, matches: &ArgMatches<'a>) -> Result<Line<'a>, Line
 {
     match matches.subcommand() {
         Some(("run", inner)) => Ok(Line::Run(run::line_of(alloc, inner)?)),
-        Some(("times", inner)) => Ok(Line::Times(times::line_of(alloc, inner)?)),
+        Some(("times", inner)) => Ok(Line::Times(one_run_of(alloc, inner)?)),
         Some(("stalls", inner)) => Ok(Line::Stalls(stalls::line_of(alloc, inner)?)),
         Some(("pipeline", inner)) => Ok(Line::Pipeline(pipeline::line_of(alloc, inner)?)),
         Some(("tables", inner)) => Ok(Line::Tables(tables::line_of(alloc, inner)?)),
         Some(("all", inner)) => Ok(Line::All(all::line_of(alloc, inner)?)),
         Some(("explore", inner)) => Ok(Line::Explore(explore::line_of(alloc, inner)?)),
         Some(("front", inner)) => Ok(Line::Front(explore::line_of(alloc, inner)?)),
-        Some(("plot", inner)) => Ok(Line::Plot(explore::line_of(alloc, inner)?)),
+        Some(("plot", inner)) => Ok(Line::Plot(plot::line_of(alloc, inner)?)),
+        Some(("rows", inner)) => Ok(Line::Rows(explore::line_of(alloc, inner)?)),
+        Some(("worth", inner)) => Ok(Line::Worth(worth::line_of(alloc, inner)?)),
+        Some(("prices", inner)) => Ok(Line::Prices(explore::line_of(alloc, inner)?)),
         Some(("explain", inner)) => Ok(Line::Explain(explain::line_of(alloc, inner)?)),
         _ => Err(refused(alloc, "command")),
     }

@@ -1,8 +1,8 @@
 //! `explore STUDY [--workers N]`, and what other commands that explore a study take.
 ghost use Rattle.std.specs.Prelude.{◌≡◌, ◌≤◌, IfOk, IfErr};
 ghost use Rattle.tomex_arguments.specs.Faults.{IsRefusedIf};
-ghost use Rattle.tomex_line.specs.Grammar.{explore_shape, exploring_shape};
-ghost use Rattle.clap.specs.Simple.{shape_of};
+ghost use Rattle.tomex_line.specs.Grammar.{explore_shape, exploring_app, exploring_shape};
+ghost use Rattle.clap.specs.Simple.{app_of, shape_of};
 ghost use Rattle.clap.specs.Words.{found_of};
 ghost use Rattle.clap.specs.Walk.{rows_of};
 ghost use Rattle.tomex_line.specs.Values.{IsExploreAsked, IsNoExplore};
@@ -19,7 +19,7 @@ const WORKERS: Bounds = Bounds {
     greatest: 32,
 };
 
-/// A front that was asked for, of rows that are given up where they can't be in it.
+/// What was asked for of all rows of a study: the front, or what else is printed of them.
 #[derive(Clone, Copy)]
 pub struct ExploreLine<'a> {
     /// The name of the study's file, as written.
@@ -81,7 +81,22 @@ pub(super) fn grammar<'a>(alloc: Global) -> Result<Command<'a>, AllocError>
     exploring(alloc, "explore", TEXTS)
 }
 
-/// The command of that name, which explores a study.
+/// The command of that name, which takes a study and a number of workers, and may take more.
+pub(super) fn on_rows<'a>(
+    alloc: Global,
+    name: &'a str,
+    texts: Texts,
+) -> Result<Command<'a>, AllocError>
+    ensures { IfOk result (λ c. app_of c ≡ exploring_app name.entry.now) }
+{
+    let command = on_study(alloc, name, texts);
+    taking(
+        command,
+        number(alloc, "workers", WORKERS, "1", WORKERS_HELP),
+    )
+}
+
+/// The command of that name, which takes no more than these.
 pub(super) fn exploring<'a>(
     alloc: Global,
     name: &'a str,
@@ -89,11 +104,7 @@ pub(super) fn exploring<'a>(
 ) -> Result<Command<'a>, AllocError>
     ensures { IfOk result (λ c. shape_of c ≡ exploring_shape name.entry.now) }
 {
-    let command = on_study(alloc, name, texts);
-    taking(
-        command,
-        number(alloc, "workers", WORKERS, "1", WORKERS_HELP),
-    )
+    on_rows(alloc, name, texts)
 }
 
 pub(super) fn line_of<'a>(

@@ -23,19 +23,13 @@ const STEP: Bounds = Bounds {
 /// A picture of instructions that was asked for.
 #[derive(Clone, Copy)]
 pub struct PipelineLine<'a> {
-    /// The name of the study's file, as written.
-    pub study: &'a str,
-    /// The number of the configuration.
-    pub config: u32,
-    /// The name by which the study calls the program.
-    pub program: &'a str,
+    pub run: OneRun<'a>,
     /// The number of the first instruction that is shown, in the order in which they ran, from 1.
     pub from: u32,
     /// How many are shown at most.
     pub steps: u32,
     /// Whether a log for the viewer Konata is asked for, and no picture.
     pub konata: bool,
-    pub ghost config_to: { config ≤ 16383 },
     pub ghost from_least: { 1 ≤ from },
     pub ghost from_to: { from ≤ 262144 },
     pub ghost steps_to: { steps ≤ 262144 },
@@ -128,18 +122,11 @@ pub(super) fn line_of<'a>(
     matches: &ArgMatches<'a>,
 ) -> Result<PipelineLine<'a>, LineFault>
     ensures line { IfOk result (λ line. IsPipelineAsked (rows_of (found_of matches.now))
-        line.study.now line.config line.program.now line.from line.steps line.konata) }
+        line.run.study.now line.run.config line.run.program.now line.from line.steps line.konata) }
     ensures refused { IfErr result (IsRefusedIf (IsNoPipeline (rows_of (found_of matches.now)))) }
 {
-    let OneRun {
-        study,
-        config,
-        program,
-    } = one_run_of(alloc, matches)?;
     Ok(PipelineLine {
-        study,
-        config,
-        program,
+        run: one_run_of(alloc, matches)?,
         from: number_of(alloc, matches, "from", STEP)?,
         steps: number_of(alloc, matches, "steps", STEP)?,
         konata: flag_of(matches, "konata"),

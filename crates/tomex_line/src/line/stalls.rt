@@ -17,15 +17,9 @@ use tomex_arguments::{LineFault, flag_of};
 /// A stalls report that was asked for.
 #[derive(Clone, Copy)]
 pub struct StallsLine<'a> {
-    /// The name of the study's file, as written.
-    pub study: &'a str,
-    /// The number of the configuration.
-    pub config: u32,
-    /// The name by which the study calls the program.
-    pub program: &'a str,
+    pub run: OneRun<'a>,
     /// Whether the waits are told by place in the program, and not by part.
     pub by_pc: bool,
-    pub ghost config_to: { config ≤ 16383 },
 }
 
 const ABOUT: &str = "Prints which parts of one configuration hold a program back";
@@ -95,18 +89,11 @@ pub(super) fn line_of<'a>(
     matches: &ArgMatches<'a>,
 ) -> Result<StallsLine<'a>, LineFault>
     ensures line { IfOk result (λ line.
-        IsStallsAsked (rows_of (found_of matches.now)) line.study.now line.config line.program.now line.by_pc) }
+        IsStallsAsked (rows_of (found_of matches.now)) line.run.study.now line.run.config line.run.program.now line.by_pc) }
     ensures refused { IfErr result (IsRefusedIf (IsNoStalls (rows_of (found_of matches.now)))) }
 {
-    let OneRun {
-        study,
-        config,
-        program,
-    } = one_run_of(alloc, matches)?;
     Ok(StallsLine {
-        study,
-        config,
-        program,
+        run: one_run_of(alloc, matches)?,
         by_pc: flag_of(matches, "by-pc"),
     })
 }

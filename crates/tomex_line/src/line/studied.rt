@@ -5,7 +5,7 @@ ghost use Rattle.clap.specs.Words.{found_of};
 ghost use Rattle.clap.specs.Walk.{rows_of};
 ghost use Rattle.tomex_arguments.specs.Faults.{IsRefusedIf};
 ghost use Rattle.tomex_line.specs.Grammar.{study_app, one_run_app};
-ghost use Rattle.tomex_line.specs.Values.{IsTimesAsked, IsNoTimes};
+ghost use Rattle.tomex_line.specs.Values.{IsOneRunAsked, IsNoOneRun};
 
 use super::described::{Texts, described, taking};
 use super::values::{numeral, word};
@@ -14,12 +14,13 @@ use std::alloc::{AllocError, Global};
 use tomex_arguments::{Bounds, LineFault, number_of, word_of};
 
 /// The numbers of a study's configurations.
-const CONFIG: Bounds = Bounds {
+pub const CONFIG: Bounds = Bounds {
     least: 0,
     greatest: 16_383,
 };
 
 /// The run that a command is asked about: a program on a configuration.
+#[derive(Clone, Copy)]
 pub struct OneRun<'a> {
     /// The name of the study's file, as written.
     pub study: &'a str,
@@ -32,7 +33,7 @@ pub struct OneRun<'a> {
 
 const STUDY_HELP: &str = "The file of the study";
 
-const CONFIG_HELP: &str = "The number of the configuration, from 0";
+pub const CONFIG_HELP: &str = "The number of the configuration, from 0";
 
 const PROGRAM_HELP: &str = "The name of the program in the study";
 
@@ -58,8 +59,8 @@ pub fn on_one_run<'a>(alloc: Global, name: &'a str, texts: Texts) -> Result<Comm
 /// The run that a line of such a command names.
 pub fn one_run_of<'a>(alloc: Global, matches: &ArgMatches<'a>) -> Result<OneRun<'a>, LineFault>
     ensures run { IfOk result
-        (λ run. IsTimesAsked (rows_of (found_of matches.now)) run.study.now run.config run.program.now) }
-    ensures refused { IfErr result (IsRefusedIf (IsNoTimes (rows_of (found_of matches.now)))) }
+        (λ run. IsOneRunAsked (rows_of (found_of matches.now)) run.study.now run.config run.program.now) }
+    ensures refused { IfErr result (IsRefusedIf (IsNoOneRun (rows_of (found_of matches.now)))) }
 {
     Ok(OneRun {
         study: word_of(alloc, matches, "STUDY")?,

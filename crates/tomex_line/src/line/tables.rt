@@ -23,15 +23,9 @@ const CYCLE: Bounds = Bounds {
 /// The tables that were asked for.
 #[derive(Clone, Copy)]
 pub struct TablesLine<'a> {
-    /// The name of the study's file, as written.
-    pub study: &'a str,
-    /// The number of the configuration.
-    pub config: u32,
-    /// The name by which the study calls the program.
-    pub program: &'a str,
+    pub run: OneRun<'a>,
     /// The cycle after which the tables are shown.
     pub cycle: u32,
-    pub ghost config_to: { config ≤ 16383 },
     pub ghost cycle_to: { cycle ≤ 17563648 },
 }
 
@@ -99,18 +93,11 @@ pub(super) fn line_of<'a>(
 ) -> Result<TablesLine<'a>, LineFault>
     ensures line { IfOk result
         (λ line. IsTablesAsked (rows_of (found_of matches.now))
-        line.study.now line.config line.program.now line.cycle) }
+        line.run.study.now line.run.config line.run.program.now line.cycle) }
     ensures refused { IfErr result (IsRefusedIf (IsNoTables (rows_of (found_of matches.now)))) }
 {
-    let OneRun {
-        study,
-        config,
-        program,
-    } = one_run_of(alloc, matches)?;
     Ok(TablesLine {
-        study,
-        config,
-        program,
+        run: one_run_of(alloc, matches)?,
         cycle: number_of(alloc, matches, "CYCLE", CYCLE)?,
     })
 }

@@ -1,29 +1,12 @@
 //! `times STUDY CONFIG PROGRAM`
-ghost use Rattle.std.specs.Prelude.{◌≡◌, ◌≤◌, IfOk, IfErr};
-ghost use Rattle.tomex_arguments.specs.Faults.{IsRefusedIf};
+ghost use Rattle.std.specs.Prelude.{◌≡◌, IfOk};
 ghost use Rattle.tomex_line.specs.Grammar.{times_shape};
 ghost use Rattle.clap.specs.Simple.{shape_of};
-ghost use Rattle.clap.specs.Words.{found_of};
-ghost use Rattle.clap.specs.Walk.{rows_of};
-ghost use Rattle.tomex_line.specs.Values.{IsTimesAsked, IsNoTimes};
 
 use super::described::Texts;
-use super::studied::{OneRun, on_one_run, one_run_of};
-use clap::{ArgMatches, Command};
+use super::studied::on_one_run;
+use clap::Command;
 use std::alloc::{AllocError, Global};
-use tomex_arguments::LineFault;
-
-/// A times report that was asked for.
-#[derive(Clone, Copy)]
-pub struct TimesLine<'a> {
-    /// The name of the study's file, as written.
-    pub study: &'a str,
-    /// The number of the configuration.
-    pub config: u32,
-    /// The name by which the study calls the program.
-    pub program: &'a str,
-    pub ghost config_to: { config ≤ 16383 },
-}
 
 const ABOUT: &str = "Prints the cycles of each instruction on one configuration";
 
@@ -70,24 +53,4 @@ pub(super) fn grammar<'a>(alloc: Global) -> Result<Command<'a>, AllocError>
     ensures { IfOk result (λ c. shape_of c ≡ times_shape) }
 {
     on_one_run(alloc, "times", TEXTS)
-}
-
-pub(super) fn line_of<'a>(
-    alloc: Global,
-    matches: &ArgMatches<'a>,
-) -> Result<TimesLine<'a>, LineFault>
-    ensures line { IfOk result
-        (λ line. IsTimesAsked (rows_of (found_of matches.now)) line.study.now line.config line.program.now) }
-    ensures refused { IfErr result (IsRefusedIf (IsNoTimes (rows_of (found_of matches.now)))) }
-{
-    let OneRun {
-        study,
-        config,
-        program,
-    } = one_run_of(alloc, matches)?;
-    Ok(TimesLine {
-        study,
-        config,
-        program,
-    })
 }

@@ -3,7 +3,8 @@ use Rattle.std.proofs.Common.{◌≡◌, ◌∙◌, ap₂, IfOk, IsOkAnd, Result
 use Rattle.clap.specs.Simple.{App, Shape, app_of, shape_of, with_subcommand}
 use Rattle.clap.specs.declared.builder.command.Command.{Command}
 use Rattle.tomex_line.specs.Grammar.{bare_app, run_shape, times_shape, stalls_shape, pipeline_shape, tables_shape}
-use Rattle.tomex_line.specs.Grammar.{all_shape, explore_shape, front_shape, plot_shape, explain_shape}
+use Rattle.tomex_line.specs.Grammar.{all_shape, explore_shape, front_shape, plot_shape, rows_shape}
+use Rattle.tomex_line.specs.Grammar.{worth_shape, prices_shape, explain_shape}
 use Rattle.tomex_line.proofs.line.grammar.Goals as goal
 
 offered : {E : Type 0} (made program command : Result Command E) (a : App) (s : Shape)
@@ -35,4 +36,10 @@ returns c =
     c.grammar-8.ensures in
     let nine = offered c.offering-program-9.result _ _ _ plot_shape c.offering-program-9.ensures eight
     c.grammar-9.ensures in
-    offered c.offering.result _ _ _ explain_shape c.offering.ensures nine c.grammar-10.ensures
+    let ten = offered c.offering-program-10.result _ _ _ rows_shape c.offering-program-10.ensures nine
+    c.grammar-10.ensures in
+    let eleven = offered c.offering-program-11.result _ _ _ worth_shape c.offering-program-11.ensures ten
+    c.grammar-11.ensures in
+    let twelve = offered c.offering-program-12.result _ _ _ prices_shape c.offering-program-12.ensures eleven
+    c.grammar-12.ensures in
+    offered c.offering.result _ _ _ explain_shape c.offering.ensures twelve c.grammar-13.ensures

@@ -1,11 +1,8 @@
--- A command with its last argument.
+-- Its shape is the top of what it is as a program.
 use Rattle.std.proofs.Common.{ap}
 use Rattle.std.proofs.lemmas.Result.{IfOk-weaker}
 use Rattle.clap.specs.Words.{App}
-use Rattle.tomex_line.proofs.Taken.{taken}
 use Rattle.tomex_line.proofs.line.explore.exploring.Goals as goal
 
 pub returns : goal.returns
-returns c =
-    let last = taken _ _ _ _ _ c.taking.ensures c.on_study-command.ensures c.number.ensures.rule in
-    IfOk-weaker c.taking.result _ _ (λ made is. ap (λ (a : App). a.top) is) last
+returns c = IfOk-weaker c.on_rows.result _ _ (λ made is. ap (λ (a : App). a.top) is) c.on_rows.ensures

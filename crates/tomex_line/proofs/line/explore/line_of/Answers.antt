@@ -1,7 +1,6 @@
 -- A value that isn't there, or is out of bounds, is one that no line has.
 use Rattle.std.proofs.Common.{rules}
-use Rattle.std.proofs.lemmas.Result.{err_from_is_err_and}
-use Rattle.tomex_line.proofs.StillRefused.{still_refused}
+use Rattle.tomex_line.proofs.PassedOn.{passed_on}
 use Rattle.tomex_line.proofs.line.explore.line_of.Goals as goal
 
 pub invariant_of-result : goal.invariant_of-result
@@ -9,6 +8,5 @@ invariant_of-result c = search rules fits 100
 
 pub returns-in_err-number_of-clause-refused : goal.returns-in_err-number_of-clause-refused
 returns-in_err-number_of-clause-refused c =
-    let p = err_from_is_err_and c.from_residual-in_err-number_of.result c.from_residual-in_err-number_of.ensures.1 in
-    rw (p.1) (still_refused _ _ _ p.0 c.in_err-number_of.ensures.refused p.2
-    (λ none study workers asked. none workers asked.is_workers))
+    passed_on _ _ _ c.from_residual-in_err-number_of.result c.from_residual-in_err-number_of.ensures.1 c.in_err-number_of.ensures.refused
+    (λ none study workers asked. none workers asked.is_workers)

@@ -1,31 +1,22 @@
 -- A value that isn't there, or is out of bounds, is one that no line has.
 use Rattle.std.proofs.Common.{rules}
-use Rattle.std.proofs.lemmas.Result.{err_from_is_err_and}
-use Rattle.tomex_line.proofs.StillRefused.{still_refused}
+use Rattle.tomex_line.proofs.PassedOn.{passed_on}
 use Rattle.tomex_line.proofs.line.pipeline.line_of.Goals as goal
 
 pub invariant_of-result : goal.invariant_of-result
 invariant_of-result c = search rules fits 100
 
-pub returns-in_err-study-clause-refused : goal.returns-in_err-study-clause-refused
-returns-in_err-study-clause-refused c =
-    let p = err_from_is_err_and c.from_residual.result c.from_residual.ensures.1 in
-    rw (p.1) (still_refused _ _ _ p.0 c.in_err-study.ensures.refused p.2
-    (λ none study config program from steps konata asked. none study config program record {
-      is_study = asked.is_study;
-      is_config = asked.is_config;
-      is_program = asked.is_program;
-    }))
+pub returns-in_err-one_run_of-clause-refused : goal.returns-in_err-one_run_of-clause-refused
+returns-in_err-one_run_of-clause-refused c =
+    passed_on _ _ _ c.from_residual.result c.from_residual.ensures.1 c.in_err-one_run_of.ensures.refused
+    (λ none study config program from steps konata asked. none study config program asked.of_run)
 
 pub returns-in_err-number_of-clause-refused : goal.returns-in_err-number_of-clause-refused
 returns-in_err-number_of-clause-refused c =
-    let p = err_from_is_err_and c.from_residual-in_err-number_of.result c.from_residual-in_err-number_of.ensures.1 in
-    rw (p.1) (still_refused _ _ _ p.0 c.in_err-number_of.ensures.refused p.2
-    (λ none study config program from steps konata asked. none from asked.is_from))
+    passed_on _ _ _ c.from_residual-in_err-number_of.result c.from_residual-in_err-number_of.ensures.1 c.in_err-number_of.ensures.refused
+    (λ none study config program from steps konata asked. none from asked.is_from)
 
 pub returns-in_err-number_of-2-clause-refused : goal.returns-in_err-number_of-2-clause-refused
 returns-in_err-number_of-2-clause-refused c =
-    let p = err_from_is_err_and c.from_residual-in_err-number_of-2.result
-    c.from_residual-in_err-number_of-2.ensures.1 in
-    rw (p.1) (still_refused _ _ _ p.0 c.in_err-number_of-2.ensures.refused p.2
-    (λ none study config program from steps konata asked. none steps asked.is_steps))
+    passed_on _ _ _ c.from_residual-in_err-number_of-2.result c.from_residual-in_err-number_of-2.ensures.1 c.in_err-number_of-2.ensures.refused
+    (λ none study config program from steps konata asked. none steps asked.is_steps)

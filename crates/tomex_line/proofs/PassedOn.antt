@@ -1,5 +1,6 @@
 -- A line that is refused for a value of it is refused as a whole.
-use Rattle.std.proofs.Common.{◌≡◌, sym, subst}
+use Rattle.std.proofs.Common.{◌≡◌, sym, subst, IfErr, Result, Ok, Err}
+use Rattle.std.specs.Prelude.{IsErrAnd}
 use Rattle.tomex_arguments.specs.Faults.{IsRefusedIf}
 use Rattle.tomex_arguments.specs.declared.fault.LineFault.{LineFault}
 use Rattle.tomex_arguments.specs.declared.fault.LineFault.TheVariants.{Help, Usage, Memory}
@@ -9,7 +10,10 @@ wider why other (Help text) refused so = refused
 wider why other (Usage text) refused so = so refused
 wider why other Memory refused so = tt
 
-pub still_refused : (why other : Type 0) (fault same : LineFault) → IsRefusedIf why fault → same ≡ fault
-    → (why → other) → IsRefusedIf other same
-still_refused why other fault same refused is so =
+-- the fault of a value is passed on
+pub passed_on : {T : Type 0} (why other : Type 0) (fault : LineFault) (passed : Result T LineFault)
+    → IsErrAnd passed (λ same. same ≡ fault) → IsRefusedIf why fault → (why → other)
+    → IfErr passed (IsRefusedIf other)
+passed_on why other fault (Ok _) is refused so = absurd is
+passed_on why other fault (Err same) is refused so =
     subst (λ (f : LineFault). IsRefusedIf other f) (sym is) (wider why other fault refused so)

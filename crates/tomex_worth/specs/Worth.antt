@@ -1,0 +1,117 @@
+-- What one part more or less is worth on a machine, as a table.
+use Rattle.std.specs.Prelude.{ℕ, suc, ◌*◌, ◌/◌, ◌==◌, nat_lt, if◌then◌else◌, List, [], ◌∷◌, ◌++◌, codes, length, map, slice_index_or}
+use Rattle.std.specs.List.{list_any}
+use Rattle.std.specs.Fmt.{decimal}
+use Rattle.tomex_rvdec.specs.Parts.{name_of_pool, name_of_unit}
+use Rattle.tomex_config.specs.Configuration.{Configuration, option_of}
+use Rattle.tomex_cycle.specs.Run.{total}
+use Rattle.tomex_pareto.specs.Front.{dominates}
+use Rattle.tomex_pareto.specs.declared.front_row.FrontRow.{FrontRow}
+use Rattle.tomex_records.specs.Hundredths.{hundredths}
+use Rattle.tomex_runs.specs.Cycles.{cycles_on}
+use Rattle.tomex_runs.specs.StudyFront.{front_of_study}
+use Rattle.tomex_study.specs.Program.{Workload}
+use Rattle.tomex_study.specs.Study.{DesignSpace}
+use Rattle.tomex_tables.specs.Table.{TableColumn, table_of}
+use Rattle.tomex_timing.specs.Needs.{count_of}
+use Rattle.tomex_timing.specs.declared.part.Part.{Part}
+use Rattle.tomex_timing.specs.declared.part.Part.TheVariants.{Stations, Units, Buses, Width}
+use Rattle.tomex_worth.specs.Changes.{changes_of, config_at}
+use Rattle.tomex_worth.specs.Differences.{distance, percent, signed}
+use Rattle.tomex_worth.specs.declared.changes.Change.{Change}
+use Rattle.tomex_worth.specs.declared.heading.Heading.{Heading}
+use Rattle.tomex_worth.specs.declared.heading.Heading.TheVariants as headings
+
+-- a list's name, as a study has it
+abbrev pub name_of_list : Part → List ℕ
+name_of_list (Stations pool) = name_of_pool pool
+name_of_list (Units unit) = codes "unit." ++ name_of_unit unit
+name_of_list Buses = codes "buses"
+name_of_list Width = codes "width"
+
+-- a configuration's entry in a part's list: a number, or units and latency, as in `1@8`
+abbrev pub entry_text : Configuration → Part → List ℕ
+entry_text config (Units unit) =
+    decimal (option_of config unit).units ++ (codes "@" ++ decimal (option_of config unit).latency)
+entry_text config part = decimal (count_of config part)
+
+-- cycles for 1 of cost between two rows, if one of them is dearer and takes fewer cycles; else why there is none
+unfoldable pub rate_text : FrontRow → FrontRow → List ℕ
+rate_text own other =
+    if dominates other own then codes "better"
+    else if dominates own other then codes "worse"
+    else if other.cost == own.cost then codes "same"
+    else hundredths (distance own.cycles other.cycles * 100 / distance own.cost other.cost)
+
+-- whether a row is on the front
+abbrev pub front_text : DesignSpace → FrontRow → List ℕ
+front_text s r = if list_any (λ f. f.row == r.row) (front_of_study s) then codes "yes" else codes "-"
+
+abbrev pub name_under : Heading → List ℕ
+name_under headings.Part = codes "part"
+name_under headings.From = codes "from"
+name_under headings.To = codes "to"
+name_under headings.Row = codes "row"
+name_under headings.Cost = codes "cost"
+name_under headings.Cycles = codes "cycles"
+name_under headings.Percent = codes "%"
+name_under headings.Rate = codes "rate"
+name_under headings.Front = codes "front"
+
+-- what the machine's own line has
+abbrev pub own_under : DesignSpace → FrontRow → Heading → List ℕ
+own_under s own headings.Row = decimal own.row
+own_under s own headings.Cost = decimal own.cost
+own_under s own headings.Cycles = decimal own.cycles
+own_under s own headings.Front = front_text s own
+own_under s own heading = codes "-"
+
+-- and the line of a change
+unfoldable pub text_under : DesignSpace → FrontRow → Heading → Change → List ℕ
+text_under s own headings.Part c = name_of_list c.part
+text_under s own headings.From c = entry_text (config_at s own.row) c.part
+text_under s own headings.To c = entry_text (config_at s c.row.row) c.part
+text_under s own headings.Row c = decimal c.row.row
+text_under s own headings.Cost c = signed own.cost c.row.cost
+text_under s own headings.Cycles c = signed own.cycles c.row.cycles
+text_under s own headings.Percent c = percent own.cycles c.row.cycles
+text_under s own headings.Rate c = rate_text own c.row
+text_under s own headings.Front c = front_text s c.row
+
+unfoldable pub heading_column : DesignSpace → FrontRow → Heading → TableColumn
+heading_column s own heading = record {
+  name = name_under heading;
+  entries = own_under s own heading ∷ map (text_under s own heading) (changes_of s own);
+}
+
+abbrev pub all_headings : List Heading
+all_headings =
+    headings.Part ∷ headings.From ∷ headings.To ∷ headings.Row ∷ headings.Cost ∷ headings.Cycles ∷ headings.Percent
+    ∷ headings.Rate ∷ headings.Front ∷ []
+
+-- a program's own cycles on a row
+abbrev pub total_at : DesignSpace → Workload → FrontRow → ℕ
+total_at s p r = total (config_at s r.row) p.image
+
+unfoldable pub program_column : DesignSpace → FrontRow → Workload → TableColumn
+program_column s own p = record {
+  name = p.name;
+  entries = decimal (total_at s p own) ∷ map (λ c. signed (total_at s p own) (total_at s p c.row)) (changes_of s own);
+}
+
+-- a column for each program if there are several
+abbrev pub program_columns : DesignSpace → FrontRow → List TableColumn
+program_columns s own = if nat_lt 1 (length s.programs) then map (program_column s own) s.programs else []
+
+abbrev pub columns_of : DesignSpace → FrontRow → List TableColumn
+columns_of s own = map (heading_column s own) all_headings ++ program_columns s own
+
+-- a row of the study, with its cost and cycles
+abbrev pub row_at : DesignSpace → ℕ → FrontRow
+row_at s n =
+    record { row = n; cost = slice_index_or s.costs n 0; cycles = cycles_on s.programs (config_at s n) }
+
+-- the table of the machine of that number
+unfoldable pub worth_table_of : DesignSpace → ℕ → List ℕ
+worth_table_of s n =
+    table_of (suc (length (changes_of s (row_at s n)))) (columns_of s (row_at s n))

@@ -1,0 +1,93 @@
+//! The rows of a study that differ from a machine in one list only.
+
+ghost use Rattle.std.specs.Prelude.{◌≡◌, ◌<◌, ◌++◌, length, All, IfOk, OnOk};
+ghost use Rattle.tomex_worth.specs.Changes.{all_rows, changes_at, changes_of, differ_at, part_at, same_entry};
+ghost use Rattle.tomex_worth.specs.Changes.{same_option};
+
+use std::alloc::{AllocError, Allocator, Global};
+use tomex_config::{Config, UnitOption};
+use tomex_pareto::FrontRow;
+use tomex_study::Study;
+use tomex_timing::Part;
+
+/// A row that differs from a machine in one list only.
+#[derive(Clone, Copy, Debug, PartialEq, Eq)]
+pub struct Change {
+    /// The part that the list is of.
+    pub part: Part,
+    pub row: FrontRow,
+}
+
+/// True if two options have the same units, latency and price.
+fn same_option(a: UnitOption, b: UnitOption) -> bool
+    ensures { result ≡ same_option a b }
+{
+    a.units == b.units && a.latency == b.latency && a.price == b.price
+}
+
+/// True if two configurations have the same entry in a part's list.
+fn same_entry(a: &Config, b: &Config, part: Part) -> bool
+    ensures { result ≡ same_entry a.now b.now part }
+{
+    match part {
+        Part::Units(unit) => same_option(a.option(unit), b.option(unit)),
+        part => part.count(a) == part.count(b),
+    }
+}
+
+/// True if they differ in the list at this place, and in no other.
+#[tactic(auto, unfolding(crate::specs::Changes::differ_at))]
+fn differ_at(place: usize, a: &Config, b: &Config) -> bool
+    ensures { result ≡ differ_at place a.now b.now }
+{
+    for (k, part) in Part::ALL.iter().enumerate() {
+        if same_entry(a, b, *part) == (k == place) {
+            return false;
+        }
+    }
+    true
+}
+
+/// Adds the rows that differ from a machine in the list at this place only.
+#[tactic(auto, unfolding(crate::specs::Changes::changes_at))]
+fn push_changes_at<A: Allocator>(
+    changes: &mut Vec<Change>,
+    study: &Study<A>,
+    rows: &[FrontRow],
+    own: FrontRow,
+    place: usize,
+) -> Result<(), AllocError>
+    requires place { place < 13 }
+    requires own { own.row < length study.now.rows }
+    requires within { All (λ r. r.row < length study.now.rows) rows.now }
+    requires rows { rows.now ≡ all_rows study.now }
+    ensures { OnOk result (changes.new.items ≡ changes.old.items ++ changes_at study.now own place) }
+{
+    let (configs, part) = (study.rows(), Part::ALL[place]);
+    for row in rows {
+        if differ_at(place, &configs[own.row], &configs[row.row]) {
+            changes.push(Change { part, row: *row })?;
+        }
+    }
+    Ok(())
+}
+
+/// The rows that differ from a machine in one list only: list by list, in the order of `Part::ALL`, then by number.
+#[tactic(auto, unfolding(crate::specs::Changes::changes_of))]
+pub fn changes_of<A: Allocator>(
+    heap: Global,
+    study: &Study<A>,
+    rows: &[FrontRow],
+    own: FrontRow,
+) -> Result<Vec<Change>, AllocError>
+    requires own { own.row < length study.now.rows }
+    requires within { All (λ r. r.row < length study.now.rows) rows.now }
+    requires rows { rows.now ≡ all_rows study.now }
+    ensures { IfOk result (λ v. v.items ≡ changes_of study.now own) }
+{
+    let mut changes = Vec::new(heap);
+    for place in 0..Part::ALL.len() {
+        push_changes_at(&mut changes, study, rows, own, place)?;
+    }
+    Ok(changes)
+}

@@ -1,0 +1,85 @@
+//! What the columns of the table are of.
+
+ghost use Rattle.std.specs.Prelude.{◌≡◌, IfOk, string_bytes};
+ghost use Rattle.tomex_worth.specs.Worth.{entry_text, name_of_list, name_under};
+
+use std::alloc::{AllocError, Global};
+use tomex_config::Config;
+use tomex_timing::Part;
+
+/// What a column has of a change.
+#[derive(Clone, Copy)]
+pub enum Heading {
+    /// The list in which the rows differ.
+    Part,
+    /// The machine's entry in it, and the other row's.
+    From,
+    To,
+    Row,
+    Cost,
+    Cycles,
+    Percent,
+    Rate,
+    Front,
+}
+
+impl Heading {
+    /// All of them, in the table's order.
+    pub const ALL: [Heading; 9] = [
+        Heading::Part,
+        Heading::From,
+        Heading::To,
+        Heading::Row,
+        Heading::Cost,
+        Heading::Cycles,
+        Heading::Percent,
+        Heading::Rate,
+        Heading::Front,
+    ];
+
+    /// Its name.
+    pub fn name(self) -> &'static str
+        ensures { result.now ≡ name_under self }
+    {
+        match self {
+            Heading::Part => "part",
+            Heading::From => "from",
+            Heading::To => "to",
+            Heading::Row => "row",
+            Heading::Cost => "cost",
+            Heading::Cycles => "cycles",
+            Heading::Percent => "%",
+            Heading::Rate => "rate",
+            Heading::Front => "front",
+        }
+    }
+}
+
+/// A list's name, as a study has it.
+pub fn name_of_list(heap: Global, part: Part) -> Result<String, AllocError>
+    ensures { IfOk result (λ name. string_bytes name ≡ name_of_list part) }
+{
+    match part {
+        Part::Stations(pool) => format!(in heap; "{pool}"),
+        Part::Units(unit) => format!(in heap; "unit.{unit}"),
+        Part::Buses => format!(in heap; "buses"),
+        Part::Width => format!(in heap; "width"),
+    }
+}
+
+/// A configuration's entry in a part's list.
+pub fn entry_text(heap: Global, config: &Config, part: Part) -> Result<String, AllocError>
+    ensures { IfOk result (λ text. string_bytes text ≡ entry_text config.now part) }
+{
+    match part {
+        Part::Units(unit) => {
+            let option = config.option(unit);
+            let (units, latency) = (option.units, option.latency);
+            format!(in heap; "{units}@{latency}")
+        }
+        part => {
+            let count = part.count(config);
+            format!(in heap; "{count}")
+        }
+    }
+}
