@@ -1,5 +1,5 @@
 -- How wide columns are.
-use Rattle.std.proofs.Common.{◌≡◌, ap, arith, ℕ, max, List, [], ◌∷◌, ◌++◌, length}
+use Rattle.std.proofs.Common.{◌≡◌, arith, ℕ, max, List, [], ◌∷◌, ◌++◌, length}
 use Rattle.tomex_tables.specs.Table.{longest, width_of}
 
 -- without entries a column is as wide as its name

@@ -1,6 +1,6 @@
 //! A column of a table.
 
-ghost use Rattle.std.specs.Prelude.{◌≡◌, ◌++◌, [], OnOk, string_bytes};
+ghost use Rattle.std.specs.Prelude.{◌≡◌, ◌++◌, [], OnErr, OnOk, string_bytes};
 ghost use Rattle.tomex_tables.specs.Table.{aligned_in, has_line, with_entry};
 
 use std::alloc::{AllocError, Allocator, Global};
@@ -51,8 +51,8 @@ impl Column {
 
     /// Adds an entry.
     pub fn push(&mut self, entry: String) -> Result<(), AllocError>
-        ensures { OnOk result (self.new ≡ with_entry self.old (string_bytes entry)) }
-        ensures { OnErr result (self.new ≡ self.old) }
+        ensures one { OnOk result (self.new ≡ with_entry self.old (string_bytes entry)) }
+        ensures refused { OnErr result (self.new ≡ self.old) }
     {
         let width = entry.as_bytes().len();
         self.entries.push(entry)?;
