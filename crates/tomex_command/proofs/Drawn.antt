@@ -19,25 +19,25 @@ use Rattle.tomex_command.specs.declared.failure.Failure.{Failure}
 
 pub undrawn : (file : List ℕ → Told) (line : PipelineLine) (config : Configuration) (program : Workload)
     (error : PictureError) (failure : Failure)
-    → IsChosenIn file line.study.now line.config line.program.now config program
+    → IsChosenIn file line.run.study.now line.run.config line.run.program.now config program
     → IsUnpictured config (steps_from program.limit (start_of program.image)) line.from line.steps error
     → line.konata ≡ false → failure ≡ failure_of_picture error → IsPipelineFailure file line failure
 undrawn file line config program NoSuchStep failure chosen why drawn is =
     subst (λ (f : Failure). IsPipelineFailure file line f) (sym is)
-    (record { config = config; program = program; chosen = chosen; undrawn = why })
+    (record { config = config; program = program; chosen = chosen; holds = why })
 undrawn file line config program TooLarge failure chosen why drawn is =
     subst (λ (f : Failure). IsPipelineFailure file line f) (sym is)
-    (drawn, record { config = config; program = program; chosen = chosen; undrawn = why })
+    (drawn, record { config = config; program = program; chosen = chosen; holds = why })
 undrawn file line config program Memory failure chosen why drawn is =
     subst (λ (f : Failure). IsPipelineFailure file line f) (sym is) tt
 
 pub unlogged : (file : List ℕ → Told) (line : PipelineLine) (config : Configuration) (program : Workload)
     (error : LogError) (failure : Failure)
-    → IsChosenIn file line.study.now line.config line.program.now config program
+    → IsChosenIn file line.run.study.now line.run.config line.run.program.now config program
     → IsUnlogged (steps_from program.limit (start_of program.image)) line.from error
     → failure ≡ failure_of_log error → IsPipelineFailure file line failure
 unlogged file line config program logs.NoSuchStep failure chosen why is =
     subst (λ (f : Failure). IsPipelineFailure file line f) (sym is)
-    (record { config = config; program = program; chosen = chosen; undrawn = why })
+    (record { config = config; program = program; chosen = chosen; holds = why })
 unlogged file line config program logs.Memory failure chosen why is =
     subst (λ (f : Failure). IsPipelineFailure file line f) (sym is) tt

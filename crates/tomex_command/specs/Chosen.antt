@@ -5,6 +5,7 @@ use Rattle.tomex_study.specs.Program.{Workload}
 use Rattle.tomex_study.specs.Study.{DesignSpace, program_named}
 use Rattle.tomex_command.specs.declared.failure.Failure.{Failure}
 use Rattle.tomex_command.specs.declared.failure.Failure.TheVariants.{NoSuchRow, NoSuchProgram}
+use Rattle.tomex_line.specs.declared.line.studied.OneRun.{OneRun}
 use Rattle.tomex_streams.specs.Files.{Told}
 use Rattle.tomex_command.specs.StudyFiles.{IsStudyIn, IsStudyFailure}
 
@@ -43,3 +44,14 @@ abbrev pub IsChoiceFailure : (List ℕ → Told) → List ℕ → ℕ → List �
 IsChoiceFailure file study number name NoSuchRow = IsUnchosenIn file study number name NoSuchRow
 IsChoiceFailure file study number name NoSuchProgram = IsUnchosenIn file study number name NoSuchProgram
 IsChoiceFailure file study number name failure = IsStudyFailure file study failure
+
+-- the study of the run's file has its configuration and its program, and this holds of them
+pub record IsOfRun (file : List ℕ → Told) (run : OneRun) (Holds : Configuration → Workload → Type 0) : Type 0 where
+  pub config : Configuration
+  pub program : Workload
+  pub chosen : IsChosenIn file run.study.now run.config run.program.now config program
+  pub holds : Holds config program
+
+-- when each failure comes before anything is asked of the run
+abbrev pub IsRunFailure : (List ℕ → Told) → OneRun → Failure → Type 0
+IsRunFailure file run failure = IsChoiceFailure file run.study.now run.config run.program.now failure

@@ -4,16 +4,18 @@ use Rattle.tomex_command.specs.declared.failure.Failure.{Failure}
 use Rattle.tomex_command.specs.declared.failure.Failure.TheVariants.{CannotWrite}
 use Rattle.tomex_line.specs.declared.line.Line.{Line}
 use Rattle.tomex_line.specs.declared.line.Line.TheVariants.{Run, Times, Stalls, Pipeline, Tables}
-use Rattle.tomex_line.specs.declared.line.Line.TheVariants.{All, Explore, Front, Plot, Explain}
+use Rattle.tomex_line.specs.declared.line.Line.TheVariants.{All, Explore, Front, Plot, Rows, Worth, Prices, Explain}
 use Rattle.tomex_arguments.specs.declared.fault.LineFault.{LineFault}
 use Rattle.tomex_line.specs.Asked.{IsAsked, IsNoCommand}
-use Rattle.tomex_report.specs.declared.front_view.FrontView.TheVariants.{Report, Table, Picture}
+use Rattle.tomex_report.specs.declared.front_view.FrontView.TheVariants.{Report, Table}
+use Rattle.tomex_report.specs.declared.surveying.SurveyView.TheVariants as views
 use Rattle.tomex_streams.specs.Files.{Told}
 use Rattle.tomex_command.specs.ExplainLines.{IsExplanation, IsExplainFailure}
 use Rattle.tomex_command.specs.FrontLines.{IsFrontOf, IsAllFailure, IsExploreFailure}
 use Rattle.tomex_streams.specs.Sinks.{Seen, IsWhole, IsCut}
 use Rattle.tomex_command.specs.PipelineLines.{IsPipelineOf, IsPipelineFailure}
 use Rattle.tomex_command.specs.RunLines.{IsRunOf, IsRunFailure}
+use Rattle.tomex_command.specs.SurveyLines.{IsPlotFailure, IsPlotOf, IsSurveyFailure, IsSurveyOf}
 use Rattle.tomex_command.specs.StallsLines.{IsStallsOf, IsStallsFailure}
 use Rattle.tomex_command.specs.TablesLines.{IsTablesOf, IsTablesFailure}
 use Rattle.tomex_command.specs.Telling.{IsFailureTold, IsSaid, IsTold}
@@ -29,7 +31,10 @@ IsDone file (Tables line) text = IsTablesOf file line text
 IsDone file (All line) text = IsFrontOf Report file line.study.now text
 IsDone file (Explore line) text = IsFrontOf Report file line.study.now text
 IsDone file (Front line) text = IsFrontOf Table file line.study.now text
-IsDone file (Plot line) text = IsFrontOf Picture file line.study.now text
+IsDone file (Plot line) text = IsPlotOf line.all file line.explore.study.now text
+IsDone file (Rows line) text = IsSurveyOf views.Rows file line.study.now text
+IsDone file (Worth line) text = IsSurveyOf (views.Worth line.config) file line.explore.study.now text
+IsDone file (Prices line) text = IsSurveyOf views.Prices file line.study.now text
 IsDone file (Explain line) text = IsExplanation (option_map string_bytes line.refusal) text
 
 -- the line has no text, for this reason
@@ -42,7 +47,10 @@ IsFailure file (Tables line) failure = IsTablesFailure file line failure
 IsFailure file (All line) failure = IsAllFailure file line.study.now failure
 IsFailure file (Explore line) failure = IsExploreFailure file line.study.now failure
 IsFailure file (Front line) failure = IsExploreFailure file line.study.now failure
-IsFailure file (Plot line) failure = IsExploreFailure file line.study.now failure
+IsFailure file (Plot line) failure = IsPlotFailure line.all file line.explore.study.now failure
+IsFailure file (Rows line) failure = IsSurveyFailure views.Rows file line.study.now failure
+IsFailure file (Worth line) failure = IsSurveyFailure (views.Worth line.config) file line.explore.study.now failure
+IsFailure file (Prices line) failure = IsSurveyFailure views.Prices file line.study.now failure
 IsFailure file (Explain line) failure = IsExplainFailure (option_map string_bytes line.refusal) failure
 
 -- a line was carried out: its text is on the output

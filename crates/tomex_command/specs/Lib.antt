@@ -8,6 +8,7 @@ pub mod RunLines
 pub mod RunText
 pub mod Statuses
 pub mod StudyFiles
+pub mod SurveyLines
 pub mod StallsLines
 pub mod TablesLines
 pub mod Telling

@@ -4,12 +4,11 @@ use Rattle.tomex_rvexec.specs.Run.{start_of}
 use Rattle.tomex_rvexec.specs.Trace.{steps_from}
 use Rattle.tomex_steps.specs.declared.step.Step.{Step}
 use Rattle.tomex_config.specs.Configuration.{Configuration}
-use Rattle.tomex_study.specs.Program.{Workload}
 use Rattle.tomex_views.specs.ByPlace.{IsReportByPlace}
 use Rattle.tomex_views.specs.StallsReport.{IsStallsReport}
 use Rattle.tomex_command.specs.declared.failure.Failure.{Failure}
 use Rattle.tomex_line.specs.declared.line.stalls.StallsLine.{StallsLine}
-use Rattle.tomex_command.specs.Chosen.{IsChosenIn, IsChoiceFailure}
+use Rattle.tomex_command.specs.Chosen.{IsOfRun, IsRunFailure}
 use Rattle.tomex_streams.specs.Files.{Told}
 
 -- the report that is asked for: by place in the program, or by part
@@ -18,12 +17,11 @@ IsReportAsked true config steps text = IsReportByPlace config steps text
 IsReportAsked false config steps text = IsStallsReport config steps text
 
 -- the study of the line's files has the configuration and the program, and the text is their report
-pub record IsStallsOf (file : List ℕ → Told) (line : StallsLine) (text : List ℕ) : Type 0 where
-  pub config : Configuration
-  pub program : Workload
-  pub chosen : IsChosenIn file line.study.now line.config line.program.now config program
-  pub report : IsReportAsked line.by_pc config (steps_from program.limit (start_of program.image)) text
+abbrev pub IsStallsOf : (List ℕ → Told) → StallsLine → List ℕ → Type 0
+IsStallsOf file line text =
+    IsOfRun file line.run (λ config program.
+        IsReportAsked line.by_pc config (steps_from program.limit (start_of program.image)) text)
 
 -- when each failure comes: those of the study, then of the configuration, then of the program
 abbrev pub IsStallsFailure : (List ℕ → Told) → StallsLine → Failure → Type 0
-IsStallsFailure file line failure = IsChoiceFailure file line.study.now line.config line.program.now failure
+IsStallsFailure file line failure = IsRunFailure file line.run failure

@@ -3,6 +3,8 @@ use Rattle.std.specs.Prelude.{ℕ}
 use Rattle.tomex_sweep.specs.declared.outcome.SweepError.TheVariants as sweeps
 use Rattle.tomex_report.specs.declared.answer_error.AnswerError.{AnswerError}
 use Rattle.tomex_report.specs.declared.answer_error.AnswerError.TheVariants as answers
+use Rattle.tomex_report.specs.declared.survey_error.SurveyError.{SurveyError}
+use Rattle.tomex_report.specs.declared.survey_error.SurveyError.TheVariants as surveys
 use Rattle.tomex_refusals.specs.declared.explaining.ExplainError.{ExplainError}
 use Rattle.tomex_refusals.specs.declared.explaining.ExplainError.TheVariants as explanations
 use Rattle.tomex_konata.specs.declared.log_error.LogError.{LogError}
@@ -14,10 +16,10 @@ use Rattle.tomex_command.specs.declared.run.RunRefusal.TheVariants as refusals
 use Rattle.tomex_command.specs.declared.failure.Failure.{Failure}
 use Rattle.tomex_command.specs.declared.failure.Failure.TheVariants.{BadWindow, Run, Study, NoSuchRow}
 use Rattle.tomex_command.specs.declared.failure.Failure.TheVariants.{NoSuchProgram, CyclePastEnd, NoSuchStep}
-use Rattle.tomex_command.specs.declared.failure.Failure.TheVariants.{PictureTooLarge, CannotRead, CannotWrite}
+use Rattle.tomex_command.specs.declared.failure.Failure.TheVariants.{PictureTooLarge, TableTooLarge, CannotRead, CannotWrite}
 use Rattle.tomex_command.specs.declared.failure.Failure.TheVariants.{NoSuchRefusal, Memory, Worker}
 
--- 1 for input that is refused, 3 for want of memory, a thread, a file or a device
+-- 1 for input that is refused, 3 if memory, a thread, a file or a device is refused
 abbrev pub status_of_failure : Failure → ℕ
 status_of_failure BadWindow = 1
 status_of_failure (Run refusals.Memory) = 3
@@ -29,6 +31,7 @@ status_of_failure NoSuchProgram = 1
 status_of_failure CyclePastEnd = 1
 status_of_failure NoSuchStep = 1
 status_of_failure PictureTooLarge = 1
+status_of_failure TableTooLarge = 1
 status_of_failure NoSuchRefusal = 1
 status_of_failure (CannotRead name) = 3
 status_of_failure CannotWrite = 3
@@ -40,6 +43,13 @@ abbrev pub failure_of_answer : AnswerError → Failure
 failure_of_answer (answers.Study error) = Study error
 failure_of_answer (answers.Sweep sweeps.Memory) = Memory
 failure_of_answer (answers.Sweep sweeps.Worker) = Worker
+
+-- the failure that a refused survey becomes
+abbrev pub failure_of_survey : SurveyError → Failure
+failure_of_survey (surveys.Study error) = Study error
+failure_of_survey surveys.NoSuchRow = NoSuchRow
+failure_of_survey surveys.TooLarge = TableTooLarge
+failure_of_survey surveys.Memory = Memory
 
 -- the failure that a refused picture becomes
 abbrev pub failure_of_picture : PictureError → Failure

@@ -3,7 +3,7 @@ use Rattle.std.specs.Prelude.{◌≡◌, ◌⊎◌, ℕ, List, ◌++◌, codes, 
 use Rattle.tomex_command.specs.declared.failure.Failure.{Failure}
 use Rattle.tomex_command.specs.declared.failure.Failure.TheVariants.{BadWindow, Run, Study, NoSuchRow}
 use Rattle.tomex_command.specs.declared.failure.Failure.TheVariants.{NoSuchProgram, CyclePastEnd, NoSuchStep}
-use Rattle.tomex_command.specs.declared.failure.Failure.TheVariants.{PictureTooLarge, CannotRead, CannotWrite}
+use Rattle.tomex_command.specs.declared.failure.Failure.TheVariants.{PictureTooLarge, TableTooLarge, CannotRead, CannotWrite}
 use Rattle.tomex_command.specs.declared.failure.Failure.TheVariants.{NoSuchRefusal, Memory, Worker}
 use Rattle.tomex_arguments.specs.declared.fault.LineFault.{LineFault}
 use Rattle.tomex_arguments.specs.declared.fault.LineFault.TheVariants.{Help, Usage}
@@ -22,6 +22,7 @@ IsTextOf NoSuchProgram text = text ≡ codes "no such program"
 IsTextOf CyclePastEnd text = text ≡ codes "cycle past the end"
 IsTextOf NoSuchStep text = text ≡ codes "no such step"
 IsTextOf PictureTooLarge text = text ≡ codes "picture too large"
+IsTextOf TableTooLarge text = text ≡ codes "table too large"
 IsTextOf NoSuchRefusal text = text ≡ codes "no such refusal"
 IsTextOf (CannotRead name) text = text ≡ codes "cannot read " ++ shown_name (string_bytes name)
 IsTextOf CannotWrite text = text ≡ codes "cannot write"

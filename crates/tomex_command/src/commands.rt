@@ -10,10 +10,12 @@ pub mod chosen;
 pub mod explain;
 pub mod explore;
 pub mod pipeline;
+pub mod plot;
 pub mod reading;
 pub mod run;
 pub mod stalls;
 pub mod study;
+pub mod survey;
 pub mod tables;
 pub mod times;
 
@@ -24,15 +26,17 @@ use all::text_of_all;
 use explain::text_of_explain;
 use explore::text_of_front;
 use pipeline::text_of_pipeline;
+use plot::text_of_plot;
 use run::text_of_run;
 use stalls::text_of_stalls;
 use std::alloc::{Allocator, Global};
 use std::sync::Wait;
 use std::thread::Threads;
+use survey::text_of_survey;
 use tables::text_of_tables;
 use times::text_of_times;
 use tomex_line::{Line, read_line};
-use tomex_report::FrontView;
+use tomex_report::{FrontView, SurveyView};
 use tomex_streams::{Files, Meter, Sink, write_all_of};
 
 /// The text that a line asks for.
@@ -69,7 +73,13 @@ fn text_of<
             FrontView::Report,
         ),
         Line::Front(line) => text_of_front(rt, alloc, heap, line, files, meter, FrontView::Table),
-        Line::Plot(line) => text_of_front(rt, alloc, heap, line, files, meter, FrontView::Picture),
+        Line::Plot(line) => text_of_plot(rt, alloc, heap, line, files, meter),
+        Line::Rows(line) => text_of_survey(rt, alloc, heap, line, files, meter, SurveyView::Rows),
+        Line::Worth(line) => {
+            let view = SurveyView::Worth(line.config as usize);
+            text_of_survey(rt, alloc, heap, line.explore, files, meter, view)
+        }
+        Line::Prices(line) => text_of_survey(rt, alloc, heap, line, files, meter, SurveyView::Prices),
         Line::Explain(line) => text_of_explain(alloc, &line),
     }
 }
@@ -105,7 +115,7 @@ fn carry_out<
 /// Runs the program on a command line, the program's own name first, and gives its exit status:
 /// 0 done, 1 refused input, 2 a refused command line, 3 memory, a thread, a file or a device.
 ///
-/// While a study is explored, `meter` is told how far that is.
+/// While a study's rows are gone through, `meter` hears how far that is.
 /// Results and help go to `out`. What is wrong goes to `err`: one line `tomex: ..` with 1 and 3,
 /// the parser's text with 2.
 pub fn command<

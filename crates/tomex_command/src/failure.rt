@@ -2,14 +2,14 @@
 ghost use Rattle.std.specs.Prelude.{◌≡◌};
 ghost use Rattle.tomex_command.specs.declared.failure.Failure.TheVariants as failures;
 ghost use Rattle.tomex_command.specs.Statuses.{failure_of_answer, failure_of_explanation};
-ghost use Rattle.tomex_command.specs.Statuses.{failure_of_log, failure_of_picture};
+ghost use Rattle.tomex_command.specs.Statuses.{failure_of_log, failure_of_picture, failure_of_survey};
 ghost use Rattle.tomex_command.specs.Statuses.{status_of_failure};
 
 use crate::run::RunRefusal;
 use std::alloc::{AllocError, AllocFailed};
 use tomex_konata::LogError;
 use tomex_refusals::ExplainError;
-use tomex_report::{AnswerError, StudyError};
+use tomex_report::{AnswerError, StudyError, SurveyError};
 use tomex_sweep::SweepError;
 use tomex_views::PictureError;
 
@@ -32,6 +32,8 @@ pub enum Failure {
     NoSuchStep,
     /// The picture would have too many characters.
     PictureTooLarge,
+    /// The table would have too many intervals.
+    TableTooLarge,
     /// The words to be explained are those of no refusal.
     NoSuchRefusal,
     /// A file was not read. Carries its name as written.
@@ -45,7 +47,7 @@ pub enum Failure {
 }
 
 impl Failure {
-    /// The exit status: 1 for refused input, 3 for want of memory, a thread, a file or a device.
+    /// The exit status: 1 for refused input, 3 if memory, a thread, a file or a device was refused.
     pub fn status(&self) -> u8
         ensures { result ≡ status_of_failure self.now }
     {
@@ -56,7 +58,8 @@ impl Failure {
             Failure::Study(StudyError::Memory) => 3,
             Failure::Study(_) => 1,
             Failure::NoSuchRow | Failure::NoSuchProgram | Failure::CyclePastEnd => 1,
-            Failure::NoSuchStep | Failure::PictureTooLarge | Failure::NoSuchRefusal => 1,
+            Failure::NoSuchStep | Failure::PictureTooLarge | Failure::TableTooLarge => 1,
+            Failure::NoSuchRefusal => 1,
             Failure::CannotRead(_) | Failure::CannotWrite | Failure::Memory | Failure::Worker => 3,
         }
     }
@@ -102,6 +105,19 @@ impl From<AnswerError> for Failure {
             AnswerError::Study(error) => Failure::Study(error),
             AnswerError::Sweep(SweepError::Memory) => Failure::Memory,
             AnswerError::Sweep(SweepError::Worker) => Failure::Worker,
+        }
+    }
+}
+
+impl From<SurveyError> for Failure {
+    ghost from_gives = { λ error failure. failure ≡ failure_of_survey error };
+
+    fn from(error: SurveyError) -> Failure {
+        match error {
+            SurveyError::Study(error) => Failure::Study(error),
+            SurveyError::NoSuchRow => Failure::NoSuchRow,
+            SurveyError::TooLarge => Failure::TableTooLarge,
+            SurveyError::Memory => Failure::Memory,
         }
     }
 }

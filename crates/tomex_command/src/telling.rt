@@ -62,6 +62,7 @@ fn text_of(heap: Global, failure: &Failure) -> Result<String, AllocError>
         Failure::CyclePastEnd => String::from_str(heap, "cycle past the end"),
         Failure::NoSuchStep => String::from_str(heap, "no such step"),
         Failure::PictureTooLarge => String::from_str(heap, "picture too large"),
+        Failure::TableTooLarge => String::from_str(heap, "table too large"),
         Failure::NoSuchRefusal => String::from_str(heap, "no such refusal"),
         Failure::CannotRead(name) => {
             let name = shown(heap, name.as_str())?;

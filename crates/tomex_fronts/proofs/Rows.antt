@@ -6,9 +6,7 @@ use Rattle.tomex_pareto.specs.declared.front_row.FrontRow.{FrontRow}
 use Rattle.tomex_records.specs.Hundredths.{hundredths}
 use Rattle.tomex_fronts.specs.Axes.{step_of, ticks_of}
 use Rattle.tomex_fronts.specs.FrontTable.{rates_after}
-use Rattle.tomex_fronts.specs.Table.{text_of}
 use Rattle.tomex_fronts.specs.declared.plot.axes.Span.{Span}
-use Rattle.tomex_fronts.specs.declared.table.entry.Entry.TheVariants.{Hundredths, Nothing}
 
 abbrev span : ℕ → ℕ → Span
 span least greatest = record { least = least; greatest = greatest }
@@ -44,13 +42,13 @@ row n cost cycles = record { row = n; cost = cost; cycles = cycles }
 
 -- the first row has no rate, nor has one that is the equal of the row before
 some_rates : rates_after None (row 4 101 54153 ∷ row 132 107 44727 ∷ row 7 107 44727 ∷ row 196 115 37515 ∷ [])
-    ≡ Nothing ∷ Hundredths 157100 ∷ Nothing ∷ Hundredths 90150 ∷ []
+    ≡ codes "-" ∷ hundredths 157100 ∷ codes "-" ∷ hundredths 90150 ∷ []
 some_rates = refl
 
 -- rounded down
-rounded : rates_after None (row 0 125 36039 ∷ row 1 136 35639 ∷ []) ≡ Nothing ∷ Hundredths 3636 ∷ []
+rounded : rates_after None (row 0 125 36039 ∷ row 1 136 35639 ∷ []) ≡ codes "-" ∷ hundredths 3636 ∷ []
 rounded = refl
 
-rate_text : text_of (Hundredths 157100) ≡ codes "1571.00"
+rate_text : hundredths 157100 ≡ codes "1571.00"
 unfolding hundredths digits
 rate_text = refl

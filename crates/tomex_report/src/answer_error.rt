@@ -1,7 +1,7 @@
 //! Why there is no report.
 
 ghost use Rattle.std.specs.Prelude.{◌≡◌};
-ghost use Rattle.tomex_report.specs.declared.answer_error.AnswerError.TheVariants.{Sweep};
+ghost use Rattle.tomex_report.specs.declared.answer_error.AnswerError.TheVariants.{Study, Sweep};
 ghost use Rattle.tomex_sweep.specs.declared.outcome.SweepError.TheVariants.{Memory};
 
 use std::alloc::AllocError;
@@ -18,6 +18,14 @@ pub enum AnswerError {
     /// They are a study, and memory or the start of a thread was refused.
     #[error(transparent)]
     Sweep(SweepError),
+}
+
+impl From<StudyError> for AnswerError {
+    ghost from_gives = { λ error e. e ≡ Study error };
+
+    fn from(error: StudyError) -> Self {
+        AnswerError::Study(error)
+    }
 }
 
 impl From<SweepError> for AnswerError {

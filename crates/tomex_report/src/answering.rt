@@ -5,19 +5,18 @@ ghost use Rattle.tomex_runs.specs.StudyFront.{front_of_study};
 ghost use Rattle.tomex_sweep.specs.declared.outcome.SweepError.TheVariants.{Memory, Worker};
 ghost use Rattle.tomex_report.specs.declared.answer_error.AnswerError.TheVariants.{Sweep};
 ghost use Rattle.tomex_report.specs.Answer.{IsAnswer, IsAnswerRefusal, IsOfSweep, IsShown, shown_as};
-ghost use Rattle.tomex_reading.specs.Study.{IsStudyOf};
-ghost use Rattle.tomex_report.specs.declared.front_view.FrontView.TheVariants.{Table, Picture};
 ghost use Rattle.tomex_texts.specs.FrontReport.{report_of};
 
 use crate::answer_error::AnswerError;
+use crate::crew::Crew;
 use crate::front_text::front_report;
 use crate::front_view::{FrontView, cycles_by_program};
 use crate::replaying::replay;
+use crate::studied::studied;
 use std::alloc::{AllocError, Allocator, Global};
 use std::sync::Wait;
 use std::thread::Threads;
 use tomex_fronts::{front_picture, front_table};
-use tomex_reading::{StudyError, read_study};
 use tomex_study::Study;
 use tomex_sweep::{FrontRow, Gate, OpenGate, explore, run_all_under};
 
@@ -45,20 +44,13 @@ fn shown<R: Threads + Sync, A: Allocator + Clone + Send + Sync + Drop>(
     front_table(alloc, heap, study, front, cycles.as_slice())
 }
 
-/// So many workers, and what they tell of their rows.
-#[derive(Drop)]
-struct Crew<'g, G> {
-    workers: usize,
-    gate: &'g G,
-}
-
 /// The front of a study, which workers explore, shown.
 fn explored<R: Threads + Wait + Sync, A: Allocator + Clone + Send + Sync + Drop, G: Gate + Sync>(
     rt: &R,
     alloc: A,
     heap: Global,
     study: &Study<A>,
-    crew: Crew<G>,
+    crew: Crew<'_, G>,
     view: FrontView,
 ) -> Result<Vec<u8, A>, AnswerError>
     requires some_workers { 1 ≤ crew.workers }
@@ -70,34 +62,14 @@ fn explored<R: Threads + Wait + Sync, A: Allocator + Clone + Send + Sync + Drop,
     Ok(shown(rt, alloc, heap, study, outcome.front.as_slice(), view)?)
 }
 
-/// The study that the bytes and the files stand for.
-fn studied<A: Allocator + Clone>(
-    alloc: &A,
-    heap: Global,
-    study: &[u8],
-    files: &[Vec<u8, A>],
-) -> Result<Study<A>, AnswerError>
-    ensures ok { IfOk result (λ read. IsStudyOf study.now (map (λ f. f.items) files.now) read) }
-    ensures err { IfErr result (λ e. IsAnswerRefusal study.now (map (λ f. f.items) files.now) e) }
-    ensures no_worker { IfErr result (λ e. e ≢ Sweep Worker) }
-{
-    let Ok(own) = alloc.clone() else {
-        return Err(AnswerError::Study(StudyError::Memory));
-    };
-    match read_study(own, heap, study, files) {
-        Ok(read) => Ok(read),
-        Err(error) => Err(AnswerError::Study(error)),
-    }
-}
-
-/// The front of the study that the bytes and the files stand for, shown.
-fn answer_as<R: Threads + Wait + Sync, A: Allocator + Clone + Send + Sync + Drop, G: Gate + Sync>(
+/// The front of the study that the bytes and the files stand for, shown. Refusals are those of `answer`.
+pub fn answer_shown<R: Threads + Wait + Sync, A: Allocator + Clone + Send + Sync + Drop, G: Gate + Sync>(
     rt: &R,
     alloc: A,
     heap: Global,
     study: &[u8],
     files: &[Vec<u8, A>],
-    crew: Crew<G>,
+    crew: Crew<'_, G>,
     view: FrontView,
 ) -> Result<Vec<u8, A>, AnswerError>
     requires some_workers { 1 ≤ crew.workers }
@@ -135,55 +107,7 @@ pub fn answer<R: Threads + Wait + Sync, A: Allocator + Clone + Send + Sync + Dro
     ensures err { IfErr result (λ e. IsAnswerRefusal study.now (map (λ f. f.items) files.now) e) }
 {
     let crew = Crew { workers, gate };
-    answer_as(rt, alloc, heap, study, files, crew, FrontView::Report)
-}
-
-/// The front of a study as a table. Refusals are those of `answer`.
-pub fn answer_table<
-    R: Threads + Wait + Sync,
-    A: Allocator + Clone + Send + Sync + Drop,
-    G: Gate + Sync,
->(
-    rt: &R,
-    alloc: A,
-    heap: Global,
-    study: &[u8],
-    files: &[Vec<u8, A>],
-    workers: usize,
-    gate: &G,
-) -> Result<Vec<u8, A>, AnswerError>
-    requires some_workers { 1 ≤ workers }
-    requires few_workers { workers ≤ 32 }
-    ensures ok { IfOk result
-        (λ text. IsShown Table study.now (map (λ f. f.items) files.now) text.items) }
-    ensures err { IfErr result (λ e. IsAnswerRefusal study.now (map (λ f. f.items) files.now) e) }
-{
-    let crew = Crew { workers, gate };
-    answer_as(rt, alloc, heap, study, files, crew, FrontView::Table)
-}
-
-/// The front of a study as a picture in SVG. Refusals are those of `answer`.
-pub fn answer_picture<
-    R: Threads + Wait + Sync,
-    A: Allocator + Clone + Send + Sync + Drop,
-    G: Gate + Sync,
->(
-    rt: &R,
-    alloc: A,
-    heap: Global,
-    study: &[u8],
-    files: &[Vec<u8, A>],
-    workers: usize,
-    gate: &G,
-) -> Result<Vec<u8, A>, AnswerError>
-    requires some_workers { 1 ≤ workers }
-    requires few_workers { workers ≤ 32 }
-    ensures ok { IfOk result
-        (λ text. IsShown Picture study.now (map (λ f. f.items) files.now) text.items) }
-    ensures err { IfErr result (λ e. IsAnswerRefusal study.now (map (λ f. f.items) files.now) e) }
-{
-    let crew = Crew { workers, gate };
-    answer_as(rt, alloc, heap, study, files, crew, FrontView::Picture)
+    answer_shown(rt, alloc, heap, study, files, crew, FrontView::Report)
 }
 
 /// The report of a study, whose rows are all run to their ends on the calling thread.
@@ -208,7 +132,7 @@ fn explored_whole<R: Threads + Sync, A: Allocator + Clone + Send + Sync + Drop, 
     )?)
 }
 
-/// `answer_all` with a gate, which is told of worker 0 alone.
+/// `answer_all` with a gate, which hears of worker 0 only.
 pub fn answer_all_under<R: Threads + Sync, A: Allocator + Clone + Send + Sync + Drop, G: Gate>(
     rt: &R,
     alloc: A,

@@ -5,15 +5,22 @@
 
 mod answer_error;
 mod answering;
+mod crew;
 mod front_text;
 mod front_view;
 mod replaying;
+mod studied;
+mod survey_error;
+mod surveying;
 
 pub use answer_error::AnswerError;
-pub use answering::{answer, answer_all, answer_all_under, answer_picture, answer_table};
+pub use answering::{answer, answer_all, answer_all_under, answer_shown};
+pub use crew::Crew;
 pub use front_text::front_report;
 pub use front_view::FrontView;
 pub use replaying::replay;
+pub use survey_error::SurveyError;
+pub use surveying::{SurveyView, answer_survey};
 pub use tomex_document::documents_have_a_grid;
 pub use tomex_fronts::{front_picture, front_table};
 pub use tomex_konata::{LogError, konata_text};

@@ -1,6 +1,7 @@
 //! Differences as texts.
 
 ghost use Rattle.std.specs.Prelude.{◌≡◌, ◌<◌, ◌^◌, IfOk, string_bytes};
+ghost use Rattle.tomex_pareto.specs.Front.{dominates};
 ghost use Rattle.tomex_worth.specs.Differences.{distance, percent, sign_of, signed, tenths};
 ghost use Rattle.tomex_worth.specs.Worth.{rate_text};
 

@@ -7,4 +7,3 @@ mod heading;
 mod table;
 
 pub use changes::Change;
-pub use table::{Machine, worth_table};

@@ -1,12 +1,12 @@
 //! The table of a machine.
 
-ghost use Rattle.std.specs.Prelude.{◌≡◌, ◌<◌, ◌≤◌, ◌∷◌, ◌++◌, ◌==◌, length, map, take, All, IfOk, OnOk, string_bytes};
+ghost use Rattle.std.specs.Prelude.{◌≡◌, ◌<◌, ◌≤◌, ◌++◌, ◌==◌, if◌then◌else◌};
+ghost use Rattle.std.specs.Prelude.{codes, length, map, All, IfOk, OnOk, string_bytes};
 ghost use Rattle.std.specs.List.{AllZip, list_any};
 ghost use Rattle.tomex_runs.specs.Cycles.{totals_on};
 ghost use Rattle.tomex_runs.specs.StudyFront.{front_of_study};
 ghost use Rattle.tomex_worth.specs.Changes.{all_rows, changes_of, config_at};
-ghost use Rattle.tomex_worth.specs.Worth.{columns_of, front_text, heading_column, own_under, program_column};
-ghost use Rattle.tomex_worth.specs.Worth.{program_columns, row_at, text_under, total_at, worth_table_of};
+ghost use Rattle.tomex_worth.specs.Worth.{all_headings, heading_column, own_under, text_under};
 
 use crate::changes::{Change, changes_of};
 use crate::differences::{percent, rate_text, signed};
@@ -23,6 +23,18 @@ fn is_on(front: &[FrontRow], row: usize) -> bool
     ensures { result ≡ list_any (λ f. f.row == row) front.now }
 {
     front.iter().any(|f| f.row == row)
+}
+
+/// What the column `front` has of a row.
+fn front_text(heap: Global, front: &[FrontRow], row: usize) -> Result<String, AllocError>
+    ensures { IfOk result (λ text. string_bytes text
+        ≡ (if list_any (λ f. f.row == row) front.now then codes "yes" else codes "-")) }
+{
+    if is_on(front, row) {
+        format!(in heap; "yes")
+    } else {
+        format!(in heap; "-")
+    }
 }
 
 /// What the machine's own line has under a heading.
@@ -121,33 +133,4 @@ fn push_headings<A: Allocator>(
         columns.push(heading_column(heap, study, front, own, changes, heading)?)?;
     }
     Ok(())
-}
-
-/// The column of the program at a place.
-#[tactic(auto, unfolding(crate::specs::Worth::program_column))]
-fn program_column<A: Allocator>(
-    heap: Global,
-    study: &Study<A>,
-    totals: &[[u64; 8]],
-    own: FrontRow,
-    changes: &[Change],
-    place: usize,
-    program: &Program<A>,
-) -> Result<Column, AllocError>
-    requires place { place < length study.now.programs }
-    requires program { slice_get study.now.programs place ≡ Some program.now }
-    requires totals { AllZip (λ config t. AreTotalsAt study.now.programs config t) study.now.rows totals.now }
-    requires own { own.row < length study.now.rows }
-    requires changes { changes.now ≡ changes_of study.now own }
-    requires within { All (λ c. c.row.row < length study.now.rows) changes.now }
-    ensures { IfOk result (λ c. c ≡ program_column study.now own program.now) }
-{
-    let name = program.name();
-    let mut column = Column::new(heap, format!(in heap; "{name}")?);
-    let total = totals[own.row][place];
-    column.push(format!(in heap; "{total}")?)?;
-    for change in changes {
-        column.push(signed(heap, total, totals[change.row.row][place])?)?;
-    }
-    Ok(column)
 }

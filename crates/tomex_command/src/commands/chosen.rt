@@ -5,6 +5,7 @@ ghost use Rattle.tomex_command.specs.Chosen.{IsChosen, IsUnchosen};
 use crate::failure::Failure;
 use std::alloc::Allocator;
 use tomex_config::Config;
+use tomex_line::OneRun;
 use tomex_study::{Program, Study};
 
 /// A configuration of a study, and a program that runs on it.
@@ -14,17 +15,16 @@ pub struct Chosen<'s, A: Allocator> {
     pub program: &'s Program<A>,
 }
 
-/// The configuration of a number and the program of a name. The configuration is looked for first.
+/// The configuration and the program of a run. The configuration is looked for first.
 pub fn chosen_in<'s, A: Allocator>(
     study: &'s Study<A>,
-    number: u32,
-    program: &str,
+    run: OneRun<'_>,
 ) -> Result<Chosen<'s, A>, Failure>
     ensures chosen { IfOk result
-        (λ chosen. IsChosen study.now number program.now chosen.config.now chosen.program.now) }
-    ensures unchosen { IfErr result (λ failure. IsUnchosen study.now number program.now failure) }
+        (λ chosen. IsChosen study.now run.config run.program.now chosen.config.now chosen.program.now) }
+    ensures unchosen { IfErr result (λ failure. IsUnchosen study.now run.config run.program.now failure) }
 {
-    let config = study.config(number as usize).ok_or(Failure::NoSuchRow)?;
-    let program = study.program(program).ok_or(Failure::NoSuchProgram)?;
+    let config = study.config(run.config as usize).ok_or(Failure::NoSuchRow)?;
+    let program = study.program(run.program).ok_or(Failure::NoSuchProgram)?;
     Ok(Chosen { config, program })
 }

@@ -10,7 +10,7 @@ use std::alloc::{Allocator, Global};
 use std::sync::Wait;
 use std::thread::Threads;
 use tomex_line::ExploreLine;
-use tomex_report::{AnswerError, FrontView, answer, answer_picture, answer_table};
+use tomex_report::{AnswerError, Crew, FrontView, answer, answer_shown};
 use tomex_streams::{Files, Meter};
 use tomex_sweep::Gate;
 
@@ -34,8 +34,7 @@ fn shown<R: Threads + Wait + Sync, A: Allocator + Clone + Send + Sync + Drop, G:
     let (study, files) = (sources.study.as_slice(), sources.files.as_slice());
     match view {
         FrontView::Report => answer(rt, alloc, heap, study, files, workers, gate),
-        FrontView::Table => answer_table(rt, alloc, heap, study, files, workers, gate),
-        FrontView::Picture => answer_picture(rt, alloc, heap, study, files, workers, gate),
+        view => answer_shown(rt, alloc, heap, study, files, Crew { workers, gate }, view),
     }
 }
 

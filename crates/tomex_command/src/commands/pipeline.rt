@@ -23,8 +23,8 @@ pub fn text_of_pipeline<F: Files, A: Allocator + Clone>(
     ensures failure { IfErr result
         (λ failure. IsPipelineFailure (F.file files.now) line.entry failure) }
 {
-    let study = study_in(alloc.clone()?, heap, files, line.study)?;
-    let chosen = chosen_in(&study, line.config, line.program)?;
+    let study = study_in(alloc.clone()?, heap, files, line.run.study)?;
+    let chosen = chosen_in(&study, line.run)?;
     let (from, steps) = (line.from, line.steps);
     if line.konata {
         Ok(konata_text(alloc, heap, chosen.program, chosen.config, from, steps)?)

@@ -21,8 +21,8 @@ pub fn text_of_stalls<F: Files, A: Allocator + Clone>(
     ensures failure { IfErr result
         (λ failure. IsStallsFailure (F.file files.now) line.entry failure) }
 {
-    let study = study_in(alloc.clone()?, heap, files, line.study)?;
-    let chosen = chosen_in(&study, line.config, line.program)?;
+    let study = study_in(alloc.clone()?, heap, files, line.run.study)?;
+    let chosen = chosen_in(&study, line.run)?;
     if line.by_pc {
         Ok(stalls_by_pc(alloc, heap, chosen.program, chosen.config)?)
     } else {

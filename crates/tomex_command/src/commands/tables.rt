@@ -45,7 +45,7 @@ pub fn text_of_tables<F: Files, A: Allocator + Clone>(
     ensures failure { IfErr result
         (λ failure. IsTablesFailure (F.file files.now) line.entry failure) }
 {
-    let study = study_in(alloc.clone()?, heap, files, line.study)?;
-    let chosen = chosen_in(&study, line.config, line.program)?;
+    let study = study_in(alloc.clone()?, heap, files, line.run.study)?;
+    let chosen = chosen_in(&study, line.run)?;
     text_after(alloc, &chosen, line.cycle)
 }

@@ -6,7 +6,7 @@ use super::chosen::chosen_in;
 use super::study::study_in;
 use crate::failure::Failure;
 use std::alloc::{Allocator, Global};
-use tomex_line::TimesLine;
+use tomex_line::OneRun;
 use tomex_report::times_report;
 use tomex_streams::Files;
 
@@ -14,14 +14,14 @@ use tomex_streams::Files;
 pub fn text_of_times<F: Files, A: Allocator + Clone>(
     alloc: A,
     heap: Global,
-    line: TimesLine<'_>,
+    run: OneRun<'_>,
     files: &F,
 ) -> Result<Vec<u8, A>, Failure>
-    ensures text { IfOk result (λ text. IsTimesOf (F.file files.now) line.entry text.items) }
+    ensures text { IfOk result (λ text. IsTimesOf (F.file files.now) run.entry text.items) }
     ensures failure { IfErr result
-        (λ failure. IsTimesFailure (F.file files.now) line.entry failure) }
+        (λ failure. IsTimesFailure (F.file files.now) run.entry failure) }
 {
-    let study = study_in(alloc.clone()?, heap, files, line.study)?;
-    let chosen = chosen_in(&study, line.config, line.program)?;
+    let study = study_in(alloc.clone()?, heap, files, run.study)?;
+    let chosen = chosen_in(&study, run)?;
     Ok(times_report(alloc, heap, chosen.program, chosen.config)?)
 }

@@ -12,5 +12,5 @@ returns-clause-text g c =
         of_files = c.in_ok-study.ensures.study;
         chosen = c.in_ok-chosen.ensures.chosen;
       };
-      shown = shown;
+      holds = shown;
     }) c.text_after.ensures.text

@@ -1,0 +1,43 @@
+-- What a line that asks for all rows of a study comes to: `rows`, `worth`, `prices`, and `plot` with all rows.
+use Rattle.std.specs.Prelude.{ℕ, Bool, true, false, List}
+use Rattle.tomex_report.specs.Surveyed.{IsSurveyed, IsUnsurveyed}
+use Rattle.tomex_report.specs.declared.front_view.FrontView.TheVariants as fronts
+use Rattle.tomex_report.specs.declared.survey_error.SurveyError.{SurveyError}
+use Rattle.tomex_report.specs.declared.survey_error.SurveyError.TheVariants as errors
+use Rattle.tomex_report.specs.declared.surveying.SurveyView.{SurveyView}
+use Rattle.tomex_report.specs.declared.surveying.SurveyView.TheVariants as views
+use Rattle.tomex_command.specs.FrontLines.{IsExploreFailure, IsFrontOf}
+use Rattle.tomex_command.specs.declared.failure.Failure.{Failure}
+use Rattle.tomex_command.specs.declared.failure.Failure.TheVariants.{NoSuchRow, TableTooLarge}
+use Rattle.tomex_streams.specs.Files.{Told}
+use Rattle.tomex_command.specs.StudyFiles.{AreSources, IsStudyFailure}
+
+-- the text is what is printed of all rows of the study of that name
+pub record IsSurveyOf (view : SurveyView) (file : List ℕ → Told) (name : List ℕ) (text : List ℕ) : Type 0 where
+  pub bytes : List ℕ
+  pub contents : List (List ℕ)
+  pub sources : AreSources file name bytes contents
+  pub surveyed : IsSurveyed view bytes contents text
+
+-- the study of that name has no such text for this reason
+pub record IsWithoutSurvey (view : SurveyView) (file : List ℕ → Told) (name : List ℕ)
+    (error : SurveyError) : Type 0 where
+  pub bytes : List ℕ
+  pub contents : List (List ℕ)
+  pub sources : AreSources file name bytes contents
+  pub unsurveyed : IsUnsurveyed view bytes contents error
+
+-- when each failure comes: those of the study, then that it has no such row, then that its table is too large
+abbrev pub IsSurveyFailure : SurveyView → (List ℕ → Told) → List ℕ → Failure → Type 0
+IsSurveyFailure view file name NoSuchRow = IsWithoutSurvey view file name errors.NoSuchRow
+IsSurveyFailure view file name TableTooLarge = IsWithoutSurvey view file name errors.TooLarge
+IsSurveyFailure view file name failure = IsStudyFailure file name failure
+
+-- the text of `plot`, with all rows or without them
+abbrev pub IsPlotOf : Bool → (List ℕ → Told) → List ℕ → List ℕ → Type 0
+IsPlotOf true file name text = IsSurveyOf views.Picture file name text
+IsPlotOf false file name text = IsFrontOf fronts.Picture file name text
+
+abbrev pub IsPlotFailure : Bool → (List ℕ → Told) → List ℕ → Failure → Type 0
+IsPlotFailure true file name failure = IsSurveyFailure views.Picture file name failure
+IsPlotFailure false file name failure = IsExploreFailure file name failure

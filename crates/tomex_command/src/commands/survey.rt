@@ -1,0 +1,44 @@
+//! What the commands on all rows of a study print.
+ghost use Rattle.std.specs.Prelude.{IfOk, IfErr};
+ghost use Rattle.tomex_command.specs.SurveyLines.{IsSurveyFailure, IsSurveyOf};
+
+use super::study::sources_in;
+use crate::failure::Failure;
+use crate::metered::Metered;
+use std::alloc::{Allocator, Global};
+use std::thread::Threads;
+use tomex_line::ExploreLine;
+use tomex_report::{Crew, SurveyView, answer_survey};
+use tomex_streams::{Files, Meter};
+
+/// What is printed of all rows of a study: by `rows`, `worth` and `prices`, and by `plot` with all rows.
+pub fn text_of_survey<
+    R: Threads + Sync,
+    F: Files,
+    A: Allocator + Clone + Send + Sync + Drop,
+    M: Meter + Sync,
+>(
+    rt: &R,
+    alloc: A,
+    heap: Global,
+    line: ExploreLine<'_>,
+    files: &F,
+    meter: &M,
+    view: SurveyView,
+) -> Result<Vec<u8, A>, Failure>
+    ensures text { IfOk result
+        (λ text. IsSurveyOf view (F.file files.now) line.entry.study.now text.items) }
+    ensures failure { IfErr result
+        (λ failure. IsSurveyFailure view (F.file files.now) line.entry.study.now failure) }
+{
+    let sources = sources_in(alloc.clone()?, heap, files, line.study)?;
+    let (study, contents) = (sources.study.as_slice(), sources.files.as_slice());
+    let gate = Metered::new(meter, u64::from(line.workers));
+    let crew = Crew {
+        workers: line.workers as usize,
+        gate: &gate,
+    };
+    let text = answer_survey(rt, alloc, heap, study, contents, crew, view);
+    meter.clear();
+    Ok(text?)
+}

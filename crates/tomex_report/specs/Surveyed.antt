@@ -1,0 +1,61 @@
+-- From bytes to what is printed of all rows of a study.
+use Rattle.std.specs.Prelude.{◌≡◌, ℕ, nat_le, Bool, true, false, List, length}
+use Rattle.tomex_study.specs.Study.{DesignSpace}
+use Rattle.tomex_fronts.specs.RowsPlot.{rows_picture_of}
+use Rattle.tomex_prices.specs.PricesTable.{is_too_large, prices_table_of}
+use Rattle.tomex_prices.specs.declared.prices_error.PricesError.{PricesError}
+use Rattle.tomex_prices.specs.declared.prices_error.PricesError.TheVariants as prices
+use Rattle.tomex_reading.specs.Study.{IsStudyOf, IsStudyRefusal}
+use Rattle.tomex_rows.specs.RowsReport.{rows_text_of}
+use Rattle.tomex_worth.specs.Worth.{worth_table_of}
+use Rattle.tomex_report.specs.declared.survey_error.SurveyError.{SurveyError}
+use Rattle.tomex_report.specs.declared.survey_error.SurveyError.TheVariants.{Study, NoSuchRow, TooLarge, Memory}
+use Rattle.tomex_report.specs.declared.surveying.SurveyView.{SurveyView}
+use Rattle.tomex_report.specs.declared.surveying.SurveyView.TheVariants.{Rows, Picture, Worth, Prices}
+
+-- what is printed of all rows of a study
+abbrev pub surveyed_as : SurveyView → DesignSpace → List ℕ
+surveyed_as Rows s = rows_text_of s
+surveyed_as Picture s = rows_picture_of s
+surveyed_as (Worth row) s = worth_table_of s row
+surveyed_as Prices s = prices_table_of s
+
+-- it is of a configuration that the study doesn't have
+abbrev pub lacks_row : SurveyView → DesignSpace → Bool
+lacks_row (Worth row) s = nat_le (length s.rows) row
+lacks_row view s = false
+
+-- the study has that text: it has a configuration of that number, and its table of prices isn't too large
+abbrev pub HasText : SurveyView → DesignSpace → Type 0
+HasText (Worth row) s = lacks_row (Worth row) s ≡ false
+HasText Prices s = is_too_large s ≡ false
+HasText view s = Unit {0}
+
+-- the text is what is printed of a study's rows
+pub record IsTextOf (view : SurveyView) (s : DesignSpace) (text : List ℕ) : Type 0 where
+  pub has_text : HasText view s
+  pub text_is : text ≡ surveyed_as view s
+
+-- why a study has no such text; or memory was refused
+abbrev pub IsWithoutText : SurveyView → DesignSpace → SurveyError → Type 0
+IsWithoutText (Worth row) s NoSuchRow = lacks_row (Worth row) s ≡ true
+IsWithoutText Prices s TooLarge = is_too_large s ≡ true
+IsWithoutText view s Memory = Unit {0}
+IsWithoutText view s error = ⊥
+
+-- the bytes and the files stand for a study, and the text is what is printed of its rows
+abbrev pub IsSurveyed : SurveyView → List ℕ → List (List ℕ) → List ℕ → Type 0
+IsSurveyed view bytes files text = (s : DesignSpace) × IsStudyOf bytes files s × IsTextOf view s text
+
+-- they stand for a study that has no such text for this reason, or memory was refused
+abbrev pub IsUnsurveyed : SurveyView → List ℕ → List (List ℕ) → SurveyError → Type 0
+IsUnsurveyed view bytes files error = (s : DesignSpace) × IsStudyOf bytes files s × IsWithoutText view s error
+
+-- the study's own refusal; or it is a study, and has no such text
+abbrev pub IsSurveyRefusal : SurveyView → List ℕ → List (List ℕ) → SurveyError → Type 0
+IsSurveyRefusal view bytes files (Study error) = IsStudyRefusal bytes files error
+IsSurveyRefusal view bytes files error = IsUnsurveyed view bytes files error
+
+abbrev pub error_of_prices : PricesError → SurveyError
+error_of_prices prices.TooLarge = TooLarge
+error_of_prices prices.Memory = Memory

@@ -1,0 +1,96 @@
+//! From the bytes of a study to what is printed of all its rows.
+
+ghost use Rattle.std.specs.Prelude.{◌≡◌, ◌≤◌, false, map, IfErr, IfOk};
+ghost use Rattle.tomex_report.specs.Surveyed.{IsSurveyRefusal, IsSurveyed, IsTextOf, IsWithoutText};
+ghost use Rattle.tomex_report.specs.Surveyed.{lacks_row};
+ghost use Rattle.tomex_runs.specs.StudyFront.{all_rows, front_of_study};
+ghost use Rattle.tomex_survey.specs.Totals.{totals_of};
+
+use crate::crew::Crew;
+use crate::studied::studied;
+use crate::survey_error::SurveyError;
+use std::alloc::{Allocator, Global};
+use std::thread::Threads;
+use tomex_fronts::rows_picture;
+use tomex_prices::prices_table;
+use tomex_rows::rows_report;
+use tomex_study::Study;
+use tomex_survey::{Survey, survey};
+use tomex_sweep::Gate;
+use tomex_worth::worth_table;
+
+/// What is printed of all rows of a study.
+#[derive(Clone, Copy, Debug, PartialEq, Eq)]
+pub enum SurveyView {
+    /// Each row, in CSV.
+    Rows,
+    /// The front with all rows, as a picture in SVG.
+    Picture,
+    /// What each change of one list brings on the configuration of this number, as a table.
+    Worth(usize),
+    /// For which prices each row of the front stays on it, as a table.
+    Prices,
+}
+
+/// The text of a survey.
+fn text_of<A: Allocator + Clone>(
+    alloc: A,
+    heap: Global,
+    study: &Study<A>,
+    survey: &Survey<A>,
+    view: SurveyView,
+) -> Result<Vec<u8, A>, SurveyError>
+    requires totals { survey.now.totals ≡ totals_of study.now }
+    requires rows { survey.now.rows ≡ all_rows study.now }
+    requires front { survey.now.front ≡ front_of_study study.now }
+    requires row { lacks_row view study.now ≡ false }
+    ensures text { IfOk result (λ text. IsTextOf view study.now text.items) }
+    ensures refused { IfErr result (IsWithoutText view study.now) }
+{
+    let (rows, front) = (survey.rows(), survey.front());
+    match view {
+        SurveyView::Rows => Ok(rows_report(alloc, heap, study, survey)?),
+        SurveyView::Picture => Ok(rows_picture(alloc, heap, study, rows, front)?),
+        SurveyView::Worth(row) => Ok(worth_table(alloc, heap, study, survey, row)?),
+        SurveyView::Prices => Ok(prices_table(alloc, heap, study, rows, front)?),
+    }
+}
+
+/// True if the view is of a configuration that the study doesn't have.
+fn lacks_row<A: Allocator>(study: &Study<A>, view: SurveyView) -> bool
+    ensures { result ≡ lacks_row view study.now }
+{
+    match view {
+        SurveyView::Worth(row) => study.rows().len() <= row,
+        _ => false,
+    }
+}
+
+/// What is printed of all rows of the study that the bytes and the files stand for. The number of workers doesn't change
+/// it.
+///
+/// A study is refused as `read_study` refuses it; that it has no such row is found before any of its rows is evaluated.
+/// What `toml` and `csv` need, and what is small, they take of `heap`.
+pub fn answer_survey<R: Threads + Sync, A: Allocator + Clone + Send + Sync + Drop, G: Gate + Sync>(
+    rt: &R,
+    alloc: A,
+    heap: Global,
+    study: &[u8],
+    files: &[Vec<u8, A>],
+    crew: Crew<'_, G>,
+    view: SurveyView,
+) -> Result<Vec<u8, A>, SurveyError>
+    requires some_workers { 1 ≤ crew.workers }
+    requires few_workers { crew.workers ≤ 32 }
+    ensures text { IfOk result
+        (λ text. IsSurveyed view study.now (map (λ f. f.items) files.now) text.items) }
+    ensures refused { IfErr result
+        (λ e. IsSurveyRefusal view study.now (map (λ f. f.items) files.now) e) }
+{
+    let study = studied(&alloc, heap, study, files)?;
+    if lacks_row(&study, view) {
+        return Err(SurveyError::NoSuchRow);
+    }
+    let survey = survey(rt, alloc.clone()?, &study, crew.workers, crew.gate)?;
+    text_of(alloc, heap, &study, &survey, view)
+}
