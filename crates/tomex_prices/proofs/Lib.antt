@@ -1,0 +1,10 @@
+-- Lemmas of this crate.
+pub mod Rivals
+pub mod AllRivals
+pub mod SoFar
+pub mod OnFront
+pub mod Splitting
+pub mod Repricing
+pub mod SameCycles
+pub mod RepricedStudy
+pub mod FirstOptions
