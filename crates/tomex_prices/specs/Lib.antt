@@ -7,3 +7,4 @@ pub mod Repriced
 pub mod Studies
 pub mod Prices
 pub mod Percent
+pub mod PricesTable

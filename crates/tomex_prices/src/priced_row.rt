@@ -47,12 +47,12 @@ pub(crate) fn with_price_apart(
 }
 
 /// All rows of a study with a price apart. `rows` are all of them.
-pub fn rows_with<A: Allocator>(
-    alloc: A,
+pub fn rows_with<A: Allocator, B: Allocator>(
+    alloc: B,
     study: &Study<A>,
     rows: &[FrontRow],
     price: Price,
-) -> Result<Vec<PricedRow, A>, AllocError>
+) -> Result<Vec<PricedRow, B>, AllocError>
     requires { rows.now ≡ all_rows study.now }
     ensures rows { IfOk result (λ v. v.items ≡ rows_with study.now price) }
     ensures small { IfOk result (λ v. All IsSmall v.items) }

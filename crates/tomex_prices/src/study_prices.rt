@@ -15,7 +15,7 @@ use tomex_rvdec::{PoolId, UnitId};
 use tomex_study::Study;
 
 /// True if one of these configurations has that option for a kind of unit.
-fn has_option(rows: &[Config], unit: UnitId, option: UnitOption) -> bool
+pub(crate) fn has_option(rows: &[Config], unit: UnitId, option: UnitOption) -> bool
     ensures { result ≡ list_any (λ config. same_option (option_of config unit) option) rows.now }
 {
     rows.iter()
@@ -65,7 +65,10 @@ fn push_options<A: Allocator>(
 
 /// All prices of a study: those of the pools' stations, of the options that some row has, of a bus, and of the width.
 #[tactic(auto, unfolding(crate::specs::Prices::prices_of))]
-pub fn prices<A: Allocator>(alloc: A, study: &Study<A>) -> Result<Vec<Price, A>, AllocError>
+pub fn prices<A: Allocator, B: Allocator>(
+    alloc: B,
+    study: &Study<A>,
+) -> Result<Vec<Price, B>, AllocError>
     ensures { IfOk result (λ v. v.items ≡ prices_of study.now) }
 {
     let mut prices = Vec::new(alloc);
@@ -90,7 +93,7 @@ fn is_other(price: Price, usual: u64, rows: &[Config]) -> bool
 
 /// True if two of the configurations pay a price differently often.
 #[tactic(auto, unfolding(crate::specs::Prices::is_relevant))]
-fn is_relevant(rows: &[Config], price: Price) -> bool
+pub(crate) fn is_relevant(rows: &[Config], price: Price) -> bool
     ensures { result ≡ is_relevant rows.now price }
 {
     let [first, rest @ ..] = rows else {
@@ -101,10 +104,10 @@ fn is_relevant(rows: &[Config], price: Price) -> bool
 
 /// The prices that some rows of a study pay more often than others. No other price has a say in its front.
 #[tactic(auto, unfolding(crate::specs::Prices::relevant_prices_of))]
-pub fn relevant_prices<A: Allocator + Clone>(
-    alloc: A,
+pub fn relevant_prices<A: Allocator, B: Allocator + Clone>(
+    alloc: B,
     study: &Study<A>,
-) -> Result<Vec<Price, A>, AllocError>
+) -> Result<Vec<Price, B>, AllocError>
     ensures { IfOk result (λ v. v.items ≡ relevant_prices_of study.now) }
 {
     let all = prices(alloc.clone()?, study)?;
