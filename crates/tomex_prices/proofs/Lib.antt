@@ -6,5 +6,9 @@ pub mod OnFront
 pub mod Splitting
 pub mod Repricing
 pub mod SameCycles
+pub mod AllRows
 pub mod RepricedStudy
 pub mod FirstOptions
+pub mod Counting
+pub mod LeastPercent
+pub mod Columns

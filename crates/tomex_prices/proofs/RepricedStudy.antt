@@ -4,23 +4,24 @@ use Rattle.std.proofs.Common.{◌≡◌, ◌∙◌, ◌+◌, ◌<◌, ℕ, zero,
 use Rattle.std.proofs.Common.{add-one, add-zero, get_or, length}
 use Rattle.std.specs.Prelude.{◌≤◌}
 use Rattle.std.specs.List.{Contains}
-use Rattle.std.proofs.lemmas.List.{length-map}
+use Rattle.std.proofs.lemmas.List.{get_or_default}
 use Rattle.tomex_config.specs.Configuration.{Configuration, plain}
 use Rattle.tomex_config.specs.Cost.{PriceList}
 use Rattle.tomex_pareto.specs.Front.{front_of, rows_from}
 use Rattle.tomex_pareto.specs.declared.front_row.FrontRow.{FrontRow}
-use Rattle.tomex_pareto.proofs.Finished.{IsAt, row_at, rows_apart}
-use Rattle.tomex_pareto.proofs.Pareto.{Has, contains_has, front_is}
+use Rattle.tomex_pareto.proofs.Pareto.{contains_has}
 use Rattle.tomex_study.specs.Study.{DesignSpace, IsStudy, costs_of}
 use Rattle.tomex_runs.specs.Cycles.{cycles_of}
 use Rattle.tomex_runs.specs.StudyFront.{front_of_study}
+use Rattle.tomex_prices.specs.declared.intervals.PriceRange.{PriceRange}
 use Rattle.tomex_prices.specs.declared.price.Price.{Price}
 use Rattle.tomex_prices.specs.declared.price.TheConstants.{GREATEST_PRICE}
 use Rattle.tomex_prices.specs.declared.priced_row.PricedRow.{PricedRow}
 use Rattle.tomex_prices.specs.Interval.{interval, is_within}
 use Rattle.tomex_prices.specs.Price.{stated}
 use Rattle.tomex_prices.specs.Repriced.{costs_with, is_on, priced_from, with_price_apart}
-use Rattle.tomex_prices.specs.Studies.{IsOnStudyExactlyWithin, all_rows, config_of, repriced, row_with, rows_with}
+use Rattle.tomex_prices.specs.Studies.{IsOnStudyExactlyWithin, interval_of, repriced, row_with, rows_with}
+use Rattle.tomex_prices.proofs.AllRows.{as_many_costs, as_many_cycles, front_row_at}
 use Rattle.tomex_prices.proofs.OnFront.{has_number}
 use Rattle.tomex_prices.proofs.Repricing.{on_repriced_within}
 use Rattle.tomex_prices.proofs.SameCycles.{all_cycles_same}
@@ -68,23 +69,8 @@ priced_at price prices n (suc k) (c ∷ cs) (y ∷ ys) d low less =
     priced_at price prices (suc n) k cs ys d (omega arith) (omega arith)
     ∙ ap (λ (m : ℕ). with_price_apart price prices m (get_or cs k plain) (get_or ys k 0)) e
 
--- a row of the front is one of the study's rows
-pub front_row_at : (s : DesignSpace) (r : FrontRow) → Contains (front_of_study s) r → IsAt 0 s.costs (cycles_of s) r
-unfolding front_of_study
-front_row_at s r one =
-    let rows = all_rows s in
-    let there = contains_has (front_of rows) one.0 r one.1 one.2 in
-    row_at 0 s.costs (cycles_of s) r ((front_is rows (rows_apart 0 s.costs (cycles_of s))).only r there).0
-
-pub as_many_costs : (s : DesignSpace) → IsStudy s → length s.costs ≡ length s.rows
-as_many_costs s is = ap length is.costs ∙ length-map _ _
-
-as_many_cycles : (s : DesignSpace) → length (cycles_of s) ≡ length s.rows
-unfolding cycles_of
-as_many_cycles s = length-map _ _
-
 -- with a price apart, it is one of the rows with that price apart
-row_apart : (s : DesignSpace) (price : Price) (r : FrontRow) → IsStudy s → Contains (front_of_study s) r
+pub row_apart : (s : DesignSpace) (price : Price) (r : FrontRow) → IsStudy s → Contains (front_of_study s) r
     → Contains (rows_with s price) (row_with s price r)
 row_apart s price r is one =
     let at = front_row_at s r one in
@@ -110,3 +96,22 @@ is_there front r one = has_number front r (contains_has front one.0 r one.1 one.
 pub on_study_within : IsOnStudyExactlyWithin
 on_study_within s price q r is few one =
     on_study s price q (row_with s price r) is few (row_apart s price r is one) (is_there (front_of_study s) r one)
+
+-- an interval that is made of these is that of the row
+pub interval_is : (s : DesignSpace) (price : Price) (r : FrontRow) (range : PriceRange) (now : ℕ) (prices : PriceList)
+    (config : Configuration) (configs : List Configuration) (row : PricedRow) (rows : List PricedRow)
+    → r.row < length s.rows → range ≡ interval now row rows → now ≡ stated price prices → prices ≡ s.prices
+    → row ≡ with_price_apart price prices r.row config r.cycles → config ≡ get_or configs r.row config
+    → configs ≡ s.rows → rows ≡ rows_with s price → range ≡ interval_of s price r
+interval_is s price r range now prices config configs row rows low range_is now_is list row_is config_is all rows_are =
+    let found : config ≡ get_or s.rows r.row plain =
+    config_is ∙ (ap (λ (cs : List Configuration). get_or cs r.row config) all
+    ∙ get_or_default s.rows r.row config plain low) in
+    let apart : row ≡ row_with s price r =
+    row_is
+    ∙ (ap (λ (p : PriceList). with_price_apart price p r.row config r.cycles) list
+    ∙ ap (λ (c : Configuration). with_price_apart price s.prices r.row c r.cycles) found) in
+    range_is
+    ∙ (ap (λ (n : ℕ). interval n row rows) (now_is ∙ ap (stated price) list)
+    ∙ (ap (λ (x : PricedRow). interval (stated price s.prices) x rows) apart
+    ∙ ap (λ (xs : List PricedRow). interval (stated price s.prices) (row_with s price r) xs) rows_are))

@@ -139,6 +139,7 @@ pub fn interval_of<A: Allocator>(
     ensures exact { (q : ℕ) → q ≤ GREATEST_PRICE
         → is_on (front_of_study (repriced study.now price q)) row.row ≡ is_within result q }
 {
+    study.keeps_limits();
     let prices = study.prices();
     let apart = with_price_apart(price, &prices, row.row, &study.rows()[row.row], row.cycles);
     interval(price.stated(&prices), apart, rows)

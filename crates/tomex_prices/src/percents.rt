@@ -66,6 +66,7 @@ pub fn percent<A: Allocator>(
     ensures percent { result ≡ percent_of study.now row }
     ensures range { result ≤ 100 }
 {
+    study.keeps_limits();
     let mut least = 100;
     for rival in rows {
         least = least.min(percent_for(study, all, row, *rival));

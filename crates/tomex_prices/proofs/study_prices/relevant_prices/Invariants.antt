@@ -6,4 +6,4 @@ use Rattle.tomex_prices.proofs.study_prices.relevant_prices.Given as goal
 
 abbrev pub invariant-loop-price : goal.invariant-loop-price
 invariant-loop-price g l =
-    l.relevant.items ≡ filter (is_relevant l.study.rows) (take l.price-index l.all.items)
+    l.relevant.items ≡ filter (is_relevant l.study.rows) (take l.price-index l.price-items)
