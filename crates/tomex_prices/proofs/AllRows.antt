@@ -3,7 +3,7 @@ use Rattle.std.proofs.Common.{◌≡◌, ◌∙◌, ◌+◌, ◌<◌, ℕ, zero,
 use Rattle.std.proofs.Common.{drop, drop-cons, get_or, length}
 use Rattle.std.specs.List.{Contains}
 use Rattle.std.proofs.lemmas.List.{get_or_default, length-map}
-use Rattle.std.proofs.lemmas.List.Elements.{All-get_or}
+use Rattle.std.proofs.lemmas.List.Elements.{All-append, All-cons, All-nil}
 use Rattle.tomex_config.specs.Configuration.{Configuration, plain}
 use Rattle.tomex_config.specs.Cost.{PriceList}
 use Rattle.tomex_pareto.specs.Front.{front_of, rows_from}
@@ -16,6 +16,7 @@ use Rattle.tomex_runs.specs.StudyFront.{front_of_study}
 use Rattle.tomex_runs.proofs.StudyFronts.{study_rows}
 use Rattle.tomex_prices.specs.declared.price.Price.{Price}
 use Rattle.tomex_prices.specs.declared.priced_row.PricedRow.{PricedRow}
+use Rattle.tomex_prices.specs.Interval.{IsSmall}
 use Rattle.tomex_prices.specs.Repriced.{priced_from, with_price_apart}
 use Rattle.tomex_prices.specs.Studies.{all_rows}
 
@@ -102,3 +103,20 @@ next_priced price prices k cs ys c before after whole r low less is made grown s
     let here : before ++ (r ∷ rest) ≡ whole =
     rw made (rw (configs, cycles) at so_far) in
     rw (add-one, grown) (append_assoc before (r ∷ []) rest ∙ here)
+
+-- a row that is made of a row of the study
+pub made_apart : (s : DesignSpace) (price : Price) (k : ℕ) (config : Configuration) (prices : PriceList)
+    (rows : List FrontRow) (d : FrontRow) (r : PricedRow) → IsStudy s → rows ≡ all_rows s → k < length s.rows
+    → prices ≡ s.prices → r ≡ with_price_apart price prices k config (get_or rows k d).cycles
+    → r ≡ with_price_apart price s.prices k config (get_or (cycles_of s) k 0)
+made_apart s price k config prices rows d r is all low list made =
+    made
+    ∙ (ap (λ (p : PriceList). with_price_apart price p k config (get_or rows k d).cycles) list
+    ∙ ap (λ (y : ℕ). with_price_apart price s.prices k config y) (cycles_there s rows k d is all low))
+
+-- one small row more
+pub small_more : (before after : List PricedRow) (r : PricedRow) → after ≡ before ++ r ∷ [] → IsSmall r
+    → All IsSmall before → All IsSmall after
+small_more before after r grown small all =
+    subst (All IsSmall) (sym grown) (All-append IsSmall before (r ∷ []) all (All-cons IsSmall r [] small
+    (All-nil IsSmall)))
