@@ -51,8 +51,8 @@ stays_keeps q rows r e = none_keeps q r rows (not_false _ e)
 pub keeps_stays : (q : ℕ) (rows : List PricedRow) (r : PricedRow) → KeepsAll q r rows → stays q rows r ≡ true
 keeps_stays q rows r k = ap not (keeps_none q r rows k)
 
-most_so : (now q : ℕ) (r : PricedRow) (rows : List PricedRow) → q ≤ GREATEST_PRICE → KeepsAll now r rows → KeepsAll q r rows
-    → q ≤ most now r rows
+most_so : (now q : ℕ) (r : PricedRow) (rows : List PricedRow) → q ≤ GREATEST_PRICE → KeepsAll now r rows
+    → KeepsAll q r rows → q ≤ most now r rows
 most_so now q r [] few old new = few
 most_so now q r (j ∷ js) few old new =
     let one = rise_so now q r j few old.0 new.0 in

@@ -1,10 +1,11 @@
 -- All rows of a study, and those of its front.
-use Rattle.std.proofs.Common.{◌≡◌, ◌∙◌, ◌+◌, ◌<◌, ℕ, zero, suc, add-one, ap, append_assoc, arith, refl, sym, subst, All, List, [], ◌∷◌, ◌++◌}
+use Rattle.std.proofs.Common.{◌≡◌, ◌∙◌, ◌+◌, ◌<◌, ℕ, zero, suc, add-one, ap, append_assoc, arith, refl, sym, subst}
+use Rattle.std.proofs.Common.{All, List, [], ◌∷◌, ◌++◌}
 use Rattle.std.proofs.Common.{drop, drop-cons, get_or, length}
 use Rattle.std.specs.List.{Contains}
-use Rattle.std.proofs.lemmas.List.{get_or_default, length-map}
+use Rattle.std.proofs.lemmas.List.{length-map}
 use Rattle.std.proofs.lemmas.List.Elements.{All-append, All-cons, All-nil}
-use Rattle.tomex_config.specs.Configuration.{Configuration, plain}
+use Rattle.tomex_config.specs.Configuration.{Configuration}
 use Rattle.tomex_config.specs.Cost.{PriceList}
 use Rattle.tomex_pareto.specs.Front.{front_of, rows_from}
 use Rattle.tomex_pareto.specs.declared.front_row.FrontRow.{FrontRow}
@@ -13,7 +14,6 @@ use Rattle.tomex_pareto.proofs.Pareto.{contains_has, front_is, has_at}
 use Rattle.tomex_study.specs.Study.{DesignSpace, IsStudy}
 use Rattle.tomex_runs.specs.Cycles.{cycles_of}
 use Rattle.tomex_runs.specs.StudyFront.{front_of_study}
-use Rattle.tomex_runs.proofs.StudyFronts.{study_rows}
 use Rattle.tomex_prices.specs.declared.price.Price.{Price}
 use Rattle.tomex_prices.specs.declared.priced_row.PricedRow.{PricedRow}
 use Rattle.tomex_prices.specs.Interval.{IsSmall}

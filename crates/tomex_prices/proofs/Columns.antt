@@ -1,5 +1,5 @@
 -- How long columns are.
-use Rattle.std.proofs.Common.{◌≡◌, ap, refl, suc, List, [], ◌∷◌, ◌++◌, length, map}
+use Rattle.std.proofs.Common.{◌≡◌, ap, suc, List, [], ◌∷◌, length, map}
 use Rattle.std.specs.Prelude.{All}
 use Rattle.std.proofs.lemmas.List.{length-map}
 use Rattle.std.proofs.lemmas.List.Elements.{All-append, All-cons, All-nil}

@@ -1,5 +1,5 @@
 -- The least percentage of all rivals.
-use Rattle.std.proofs.Common.{◌≡◌, ◌≤◌, arith, List, [], ◌∷◌}
+use Rattle.std.proofs.Common.{◌≤◌, arith, List, [], ◌∷◌}
 use Rattle.std.specs.Prelude.{min}
 use Rattle.tomex_pareto.specs.declared.front_row.FrontRow.{FrontRow}
 use Rattle.tomex_study.specs.Study.{DesignSpace}

@@ -12,3 +12,4 @@ pub mod FirstOptions
 pub mod Counting
 pub mod LeastPercent
 pub mod Columns
+mod Worked

@@ -1,4 +1,4 @@
--- A row is on the front where no row dominates it, so at exactly the prices of its interval.
+-- A row is on the front if no row dominates it, so at exactly the prices of its interval.
 use Rattle.std.proofs.Common.{◌≡◌, ◌≢◌, ◌∙◌, ℕ, zero, suc, ◌<◌, inl, inr, arith, ap, sym, refl, subst, Bool, true}
 use Rattle.std.proofs.Common.{false, ◌||◌, ◌==◌, List, [], ◌∷◌, length, get_or}
 use Rattle.std.specs.Prelude.{map}
@@ -7,7 +7,8 @@ use Rattle.std.proofs.lemmas.Bool.{cases_Bool, eqb-true, eq-eqb, false≢true}
 use Rattle.tomex_pareto.specs.Front.{front_of}
 use Rattle.tomex_pareto.specs.declared.front_row.FrontRow.{FrontRow}
 use Rattle.tomex_pareto.specs.Pareto.{Dominates}
-use Rattle.tomex_pareto.proofs.Pareto.{AllOf, AreApart, Has, all_has, apart, free_undominated, front_is, undominated_free}
+use Rattle.tomex_pareto.proofs.Pareto.{AllOf, AreApart, Has, all_has, apart, free_undominated, front_is}
+use Rattle.tomex_pareto.proofs.Pareto.{undominated_free}
 use Rattle.tomex_prices.specs.declared.priced_row.PricedRow.{PricedRow}
 use Rattle.tomex_prices.specs.Laws.{IsOnFrontExactlyWithin}
 use Rattle.tomex_prices.specs.Interval.{at_price, on_front, stays}
@@ -65,7 +66,7 @@ has_number (z ∷ zs) x (inl i) =
 has_number (z ∷ zs) x (inr t) =
     or_right (z.row == x.row) (list_any (λ y. y.row == x.row) zs) (has_number zs x t)
 
--- a row of the study is on the front where none dominates it
+-- a row of the study is on the front if none dominates it
 
 on_front_stays : (q : ℕ) (rows : List PricedRow) (r : PricedRow) → AreApart (map (at_price q) rows)
     → Has (map (at_price q) rows) (at_price q r) → on_front q rows r.row ≡ stays q rows r
@@ -77,7 +78,8 @@ on_front_stays q rows r far one =
     let w = number_has (front_of all) r.row e in
     let o = it.only w.0 w.1 in
     let i : w.0 ≡ at_price q r = same_row all w.0 (at_price q r) far o.0 one w.2 in
-    free_undominated all (at_price q r) (subst (λ (x : FrontRow). (p : FrontRow) → Has all p → Dominates p x → ⊥) i o.1))
+    free_undominated all (at_price q r)
+    (subst (λ (x : FrontRow). (p : FrontRow) → Has all p → Dominates p x → ⊥) i o.1))
     (λ e. has_number (front_of all) (at_price q r)
     (it.all (at_price q r) one (undominated_free all (at_price q r) e)))
 

@@ -1,7 +1,7 @@
 -- A study with one price replaced has the same cycles, so a row stays on its front at exactly the prices of its
 -- interval.
-use Rattle.std.proofs.Common.{◌≡◌, ◌∙◌, ◌+◌, ◌<◌, ℕ, zero, suc, ap, arith, refl, sym, subst, true, List, [], ◌∷◌}
-use Rattle.std.proofs.Common.{add-one, add-zero, get_or, length}
+use Rattle.std.proofs.Common.{◌≡◌, ◌∙◌, ◌+◌, ◌<◌, ℕ, zero, suc, ap, arith, sym, true, List, [], ◌∷◌}
+use Rattle.std.proofs.Common.{get_or, length}
 use Rattle.std.specs.Prelude.{◌≤◌}
 use Rattle.std.specs.List.{Contains}
 use Rattle.std.proofs.lemmas.List.{get_or_default}
@@ -79,8 +79,7 @@ row_apart s price r is one =
     let is_k : at.k ≡ r.row = (let n = at.number in omega arith) in
     let low : at.k < length s.rows = (let w = at.within in omega arith) in
     let less : at.k < length (cycles_of s) = omega arith in
-    let row : ℕ → PricedRow = λ k. with_price_apart price s.prices k (get_or s.rows k plain) r.cycles in
-    (
+    let row : ℕ → PricedRow = λ k. with_price_apart price s.prices k (get_or s.rows k plain) r.cycles in (
       at.k,
       priced_long price s.prices 0 at.k s.rows (cycles_of s) low less,
       priced_at price s.prices 0 at.k s.rows (cycles_of s) (row_with s price r) low less

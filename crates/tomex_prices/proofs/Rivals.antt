@@ -1,8 +1,8 @@
 -- One rival: the prices at which it lets a row stay.
-use Rattle.std.proofs.Common.{◌≡◌, ◌∙◌, ℕ, ◌+◌, ◌-◌, ◌*◌, ◌/◌, ◌<◌, ◌≤◌, ◌⊎◌, inl, inr, arith, ap, sym, refl, true, false}
-use Rattle.std.proofs.Common.{nat_le, nat_lt, ◌&&◌}
-use Rattle.std.proofs.lemmas.Bool.{and_from, and_parts, cases_Bool, cases_lt, true≢false, leb-true, le-leb, lt-ltb, le-ltb, cases_order}
-use Rattle.std.proofs.lemmas.Bool.{ltb-true}
+use Rattle.std.proofs.Common.{◌≡◌, ◌∙◌, ℕ, ◌+◌, ◌-◌, ◌*◌, ◌/◌, ◌<◌, ◌≤◌, ◌⊎◌, inl, inr, arith, ap, sym}
+use Rattle.std.proofs.Common.{refl, true, false, nat_le, nat_lt, ◌&&◌}
+use Rattle.std.proofs.lemmas.Bool.{and_from, and_parts, cases_Bool, cases_lt, true≢false, leb-true, le-leb}
+use Rattle.std.proofs.lemmas.Bool.{lt-ltb, le-ltb, cases_order, ltb-true}
 use Rattle.std.proofs.lemmas.Nat.{le-div}
 use Rattle.std.proofs.Math.Nat.{add-mul, div-mul-le_self, mul-add, mul-le-mul_right}
 use Rattle.tomex_pareto.specs.Front.{dominates}
@@ -51,8 +51,9 @@ free_keeps q r j e low = elim (cases_lt j.cycles r.cycles) [
   | inr g ↦
       let none = premium_none r j g in
       elim (cases_lt (cost_at q j) (cost_at q r)) [
-        | inl cheaper ↦ absurd (never q r j e
-            (record { cost = (let m : cost_at q j ≤ cost_at q r = omega arith in m); cycles = low; less = inl cheaper }))
+        | inl cheaper ↦
+            let m : cost_at q j ≤ cost_at q r = omega arith in
+            absurd (never q r j e (record { cost = m; cycles = low; less = inl cheaper }))
         | inr dear ↦ omega arith
       ]
 ]
@@ -117,7 +118,7 @@ down_back now q a b d old low = elim (cases_lt q now) [
 
 -- the same of two rows
 
--- the rival's bounds where they are not the widest
+-- the rival's bounds, if they are not the widest
 rise_is : (now : ℕ) (r j : PricedRow) → j.cycles ≤ r.cycles → j.times < r.times
     → rise now r j ≡ now + slack now r j / (r.times - j.times)
 rise_is now r j low less =
@@ -134,7 +135,7 @@ fall_is now r j low less =
     (lt-ltb r.times j.times less) in
     rw test refl
 
--- the slack, where the row pays the price more often, and where the rival does
+-- the slack, if the row pays the price more often, and if the rival does
 slack_more : (now : ℕ) (r j : PricedRow) → j.times ≤ r.times
     → slack now r j ≡ j.rest - (r.rest + premium r j + now * (r.times - j.times))
 slack_more now r j low = let e = split now j.times r.times low in omega arith
@@ -155,8 +156,8 @@ rise_so now q r j few old new =
           let f = split q j.times r.times (omega arith) in
           let k : cost_at now r + premium r j ≤ cost_at now j = old low in
           let l : cost_at q r + premium r j ≤ cost_at q j = new low in
-          let m = up_so now q (r.rest + premium r j) j.rest (r.times - j.times) (omega arith) (omega arith) (omega arith)
-          in
+          let m = up_so now q (r.rest + premium r j) j.rest (r.times - j.times) (omega arith) (omega arith)
+          (omega arith) in
           rw (rise_is now r j low less, s) m
       | inr test ↦ rw test few
     ]

@@ -59,7 +59,8 @@ option_is unit u q config kinds = elim (cases_eq (place_of_unit u) (place_of_uni
       (ap (λ (x : UnitOption). x.units) e, ap (λ (x : UnitOption). x.latency) e)
 ]
 
-priced_option : (o : UnitOption) (q : ℕ) → q ≤ GREATEST_PRICE → is_option 8 o ≡ true → is_option 8 (record o { price = q }) ≡ true
+priced_option : (o : UnitOption) (q : ℕ) → q ≤ GREATEST_PRICE → is_option 8 o ≡ true
+    → is_option 8 (record o { price = q }) ≡ true
 priced_option o q few is =
     let p = and_parts (is_between 1 8 o.units && is_between 1 64 o.latency) (nat_le o.price 1000000) is in
     and_from (is_between 1 8 o.units && is_between 1 64 o.latency) (nat_le q 1000000) p.0 (le-leb q 1000000 few)
@@ -94,16 +95,16 @@ other_serves unit q config h good = record {
   latencies = λ u. inl (option_is unit u q config good.kinds).1;
 }
 
-other_total : (unit : UnitId) (q : ℕ) (config : Configuration) (image : Loaded) → q ≤ GREATEST_PRICE → IsWithinLimits config
-    → total (other_price unit q config) image ≡ total config image
+other_total : (unit : UnitId) (q : ℕ) (config : Configuration) (image : Loaded) → q ≤ GREATEST_PRICE
+    → IsWithinLimits config → total (other_price unit q config) image ≡ total config image
 unfolding run_of
 other_total unit q config image few good =
     let steps = steps_from 262144 (start_of image) in
     ap greatest_end (serves_history config (other_price unit q config) steps good (other_within unit q config few good)
     (other_serves unit q config (history config steps) good))
 
-total_same : (price : Price) (q : ℕ) (config : Configuration) (image : Loaded) → q ≤ GREATEST_PRICE → IsWithinLimits config
-    → total (config_with price q config) image ≡ total config image
+total_same : (price : Price) (q : ℕ) (config : Configuration) (image : Loaded) → q ≤ GREATEST_PRICE
+    → IsWithinLimits config → total (config_with price q config) image ≡ total config image
 total_same (Station pool) q config image few good = refl
 total_same (Choice unit o) q config image few good = elim (cases_Bool (same_option (option_of config unit) o)) [
   | inl holds ↦
@@ -128,11 +129,11 @@ pub cycles_same : (price : Price) (q : ℕ) (programs : List Workload) (config :
     → IsWithinLimits config → cycles_on programs (config_with price q config) ≡ cycles_on programs config
 unfolding cycles_on
 cycles_same price q programs config few good =
-    sums_same (λ p. p.weight * total (config_with price q config) p.image) (λ p. p.weight * total config p.image) programs
-    (λ p. ap (λ (n : ℕ). p.weight * n) (total_same price q config p.image few good))
+    sums_same (λ p. p.weight * total (config_with price q config) p.image) (λ p. p.weight * total config p.image)
+    programs (λ p. ap (λ (n : ℕ). p.weight * n) (total_same price q config p.image few good))
 
-pub all_cycles_same : (price : Price) (q : ℕ) (programs : List Workload) (configs : List Configuration) → q ≤ GREATEST_PRICE
-    → All IsWithinLimits configs
+pub all_cycles_same : (price : Price) (q : ℕ) (programs : List Workload) (configs : List Configuration)
+    → q ≤ GREATEST_PRICE → All IsWithinLimits configs
     → map (cycles_on programs) (map (config_with price q) configs) ≡ map (cycles_on programs) configs
 all_cycles_same price q programs [] few good = refl
 all_cycles_same price q programs (c ∷ cs) few good =

@@ -21,7 +21,8 @@ most_few now r (j ∷ js) =
 pub ends_at_first : (now : ℕ) (r : PricedRow) (rows : List PricedRow) → AreEndsOf now r rows rows 0 GREATEST_PRICE
 ends_at_first now r rows =
     let few = most_few now r rows in
-    record { least = omega arith; few = (let z : GREATEST_PRICE ≤ GREATEST_PRICE = omega arith in z); most = omega arith }
+    let high : GREATEST_PRICE ≤ GREATEST_PRICE = omega arith in
+    record { least = omega arith; few = high; most = omega arith }
 
 -- at the end none are to come
 pub ends_at_last : (now : ℕ) (r : PricedRow) (rows : List PricedRow) (low high : ℕ)

@@ -1,6 +1,6 @@
 -- One price varies, all others stay as stated: what rows cost then, and for which values of it a row stays undominated.
-use Rattle.std.specs.Prelude.{ℕ, ◌+◌, ◌-◌, ◌*◌, ◌/◌, ◌<◌, ◌^◌, ◌&&◌, ◌==◌, if◌then◌else◌, max, min, nat_le, nat_lt, Bool, List}
-use Rattle.std.specs.Prelude.{[], ◌∷◌, ◌++◌, codes, map}
+use Rattle.std.specs.Prelude.{ℕ, ◌+◌, ◌-◌, ◌*◌, ◌/◌, ◌<◌, ◌^◌, ◌&&◌, ◌==◌, if◌then◌else◌, max, min, nat_le}
+use Rattle.std.specs.Prelude.{nat_lt, Bool, List, [], ◌∷◌, ◌++◌, codes, map}
 use Rattle.std.specs.Fmt.{decimal}
 use Rattle.std.specs.List.{list_any}
 use Rattle.tomex_pareto.specs.Front.{front_of, is_undominated}

@@ -72,6 +72,9 @@ pub(crate) fn count_relevant<A: Allocator>(study: &Study<A>) -> usize
 {
     study.keeps_limits();
     let rows = study.rows();
-    let (bus, width) = (count_price(rows, Price::Bus), count_price(rows, Price::Width));
+    let (bus, width) = (
+        count_price(rows, Price::Bus),
+        count_price(rows, Price::Width),
+    );
     count_stations(rows) + count_options(rows) + bus + width
 }

@@ -10,8 +10,8 @@ use tomex_rvdec::{PoolId, UnitId};
 /// The greatest price that a study may state.
 pub const GREATEST_PRICE: u64 = 1_000_000;
 
-/// A price of a study: that of a station of a pool, of an option for a kind of unit, of a bus, or of the width, for each
-/// instruction that may issue in a cycle.
+/// A price of a study: that of a station of a pool, of an option for a kind of unit, of a bus, or of the width, for
+/// each instruction that may issue in a cycle.
 #[derive(Clone, Copy, Debug, PartialEq, Eq)]
 pub enum Price {
     Station(PoolId),

@@ -50,10 +50,7 @@ fn push_choices<A: Allocator>(
 }
 
 /// Adds the prices of the options for all kinds of units.
-fn push_options<A: Allocator>(
-    prices: &mut Vec<Price, A>,
-    rows: &[Config],
-) -> Result<(), AllocError>
+fn push_options<A: Allocator>(prices: &mut Vec<Price, A>, rows: &[Config]) -> Result<(), AllocError>
     ensures { OnOk result (prices.new.items
         ≡ prices.old.items ++ flat_map (choices_of rows.now) all_units) }
 {

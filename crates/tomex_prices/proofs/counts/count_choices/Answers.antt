@@ -1,6 +1,5 @@
 -- A price is counted if no row before has its option, and it is relevant.
 use Rattle.std.proofs.Common.{◌≡◌, ◌∙◌, arith, sym, take}
-use Rattle.tomex_prices.specs.declared.price.Price.TheVariants.{Choice}
 use Rattle.tomex_prices.specs.Prices.{is_relevant}
 use Rattle.tomex_prices.proofs.Counting.{counted_at_first, counted_at_last, counted_left, counted_new, counted_seen}
 use Rattle.tomex_prices.proofs.FirstOptions.{has}
@@ -24,26 +23,26 @@ loop-place-preserved c =
     let found : c.has_option.result ≡ has (take k rows) unit c.option-option.result = c.has_option.ensures in
     elim c.if-not-has_option.branch [
       | then-not-has_option+then-is_relevant w ↦ record {
-          count = rw w.count-is (counted_new p unit rows k c.index-rows-place.result c.option-option.result
-              c.has_option.result _ _ c.loop-place-test.true c.index-rows-place.is c.option-option.ensures.chosen found
-              c.loop-place.invariant.count w.if-not-has_option.true
-              (sym w.is_relevant.ensures ∙ w.if-is_relevant.true));
-          few = omega (arith, w.count-is, c.loop-place.invariant.few);
-        }
+        count = rw w.count-is (counted_new p unit rows k c.index-rows-place.result c.option-option.result
+            c.has_option.result _ _ c.loop-place-test.true c.index-rows-place.is c.option-option.ensures.chosen found
+            c.loop-place.invariant.count w.if-not-has_option.true
+            (sym w.is_relevant.ensures ∙ w.if-is_relevant.true));
+        few = omega (arith, w.count-is, c.loop-place.invariant.few);
+      }
       | else-not-has_option w ↦ record {
-          count = rw w.count-is (elim w.else-not-has_option.branch [
-            | else-not-has_option-via-then-not-has_option+else-is_relevant v ↦
-                counted_left p unit rows k c.index-rows-place.result c.option-option.result c.has_option.result _ _
-                c.loop-place-test.true c.index-rows-place.is c.option-option.ensures.chosen found
-                c.loop-place.invariant.count v.if-not-has_option.true
-                (sym v.is_relevant.ensures ∙ v.if-is_relevant.false)
-            | else-not-has_option-via-else-not-has_option v ↦
-                counted_seen p unit rows k c.index-rows-place.result c.option-option.result c.has_option.result _ _
-                c.loop-place-test.true c.index-rows-place.is c.option-option.ensures.chosen found
-                c.loop-place.invariant.count v.if-not-has_option.false
-          ]);
-          few = omega (arith, w.count-is, c.loop-place.invariant.few);
-        }
+        count = rw w.count-is (elim w.else-not-has_option.branch [
+          | else-not-has_option-via-then-not-has_option+else-is_relevant v ↦
+              counted_left p unit rows k c.index-rows-place.result c.option-option.result c.has_option.result _ _
+              c.loop-place-test.true c.index-rows-place.is c.option-option.ensures.chosen found
+              c.loop-place.invariant.count v.if-not-has_option.true
+              (sym v.is_relevant.ensures ∙ v.if-is_relevant.false)
+          | else-not-has_option-via-else-not-has_option v ↦
+              counted_seen p unit rows k c.index-rows-place.result c.option-option.result c.has_option.result _ _
+              c.loop-place-test.true c.index-rows-place.is c.option-option.ensures.chosen found
+              c.loop-place.invariant.count v.if-not-has_option.false
+        ]);
+        few = omega (arith, w.count-is, c.loop-place.invariant.few);
+      }
     ]
 
 pub returns-clause-count : goal.returns-clause-count

@@ -1,6 +1,5 @@
 -- At first no percentage is above 100; rivals are rows of the study.
 use Rattle.std.proofs.Common.{arith, ◌≤◌}
-use Rattle.std.proofs.lemmas.List.Elements.{All-get_or}
 use Rattle.tomex_prices.proofs.AllRows.{rows_within}
 use Rattle.tomex_prices.proofs.LeastPercent.{percent_few}
 use Rattle.tomex_prices.proofs.percents.percent.Goals as goal

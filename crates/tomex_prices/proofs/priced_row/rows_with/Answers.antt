@@ -1,5 +1,5 @@
 -- There is a row for each configuration; one row more.
-use Rattle.std.proofs.Common.{◌≡◌, ◌<◌, arith, length}
+use Rattle.std.proofs.Common.{◌<◌, arith, length}
 use Rattle.tomex_pareto.specs.declared.front_row.FrontRow.{FrontRow}
 use Rattle.tomex_runs.specs.Cycles.{cycles_of}
 use Rattle.tomex_prices.proofs.AllRows.{as_many_cycles, made_apart, next_priced, row_there, small_more}

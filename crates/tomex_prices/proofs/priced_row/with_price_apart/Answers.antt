@@ -3,7 +3,6 @@ use Rattle.std.proofs.Common.{◌≡◌, ◌∙◌, ◌+◌, ◌-◌, ◌*◌, �
 use Rattle.tomex_config.specs.Configuration.{Configuration, IsWithinLimits}
 use Rattle.tomex_config.specs.Cost.{IsPriceList, PriceList, cost_of}
 use Rattle.tomex_prices.specs.declared.price.Price.{Price}
-use Rattle.tomex_prices.specs.declared.priced_row.PricedRow.{PricedRow}
 use Rattle.tomex_prices.specs.Price.{paid, stated}
 use Rattle.tomex_prices.specs.Repriced.{cost_with}
 use Rattle.tomex_prices.proofs.Splitting.{costs_split, stated_costs_stay}

@@ -12,14 +12,16 @@ loop-place-preserved g c =
     let unit = c.args.unit in
     let rows = c.args.rows.now in
     let k = c.loop-place.place in
+    let config = c.index-rows-place.result in
+    let option = c.option-option.result in
     let found : c.has_option.result ≡ has (take k rows) unit c.option-option.result = c.has_option.ensures in
     elim c.if-not-has_option.branch [
       | then-not-has_option+in_ok-push w ↦
-          rw w.prices-is (choices_new unit rows k c.index-rows-place.result c.option-option.result c.has_option.result _ _
+          rw w.prices-is (choices_new unit rows k config option c.has_option.result _ _
           c.loop-place-test.true c.index-rows-place.is c.option-option.ensures.chosen found c.loop-place.invariant
           w.if-not-has_option.true _ w.in_ok-push.ensures.items)
       | else-not-has_option w ↦
-          rw w.prices-is (choices_seen unit rows k c.index-rows-place.result c.option-option.result c.has_option.result _ _
+          rw w.prices-is (choices_seen unit rows k config option c.has_option.result _ _
           c.loop-place-test.true c.index-rows-place.is c.option-option.ensures.chosen found c.loop-place.invariant
           w.if-not-has_option.false)
     ]
