@@ -1,0 +1,15 @@
+-- Lemmas of this crate.
+pub mod Rivals
+pub mod AllRivals
+pub mod SoFar
+pub mod OnFront
+pub mod Splitting
+pub mod Repricing
+pub mod SameCycles
+pub mod AllRows
+pub mod RepricedStudy
+pub mod FirstOptions
+pub mod Counting
+pub mod LeastPercent
+pub mod Columns
+mod Worked

@@ -1,0 +1,5 @@
+use Rattle.tomex_prices.proofs.AllRivals.{exactly_within}
+use Rattle.tomex_prices.proofs.laws.stays_exactly_within.Goals as goal
+
+pub returns : goal.returns
+returns c = exactly_within

@@ -1,0 +1,11 @@
+-- The least of the rivals so far, and of those to come.
+use Rattle.std.proofs.Common.{◌≡◌, ◌≤◌, drop}
+use Rattle.std.specs.Prelude.{min}
+use Rattle.tomex_prices.specs.Percent.{least_percent}
+use Rattle.tomex_prices.proofs.percents.percent.Given as goal
+
+abbrev pub invariant-loop-rival : goal.invariant-loop-rival
+invariant-loop-rival g l = record {
+  least : min l.least (least_percent l.study l.row (drop l.rival-index l.rows)) ≡ least_percent l.study l.row l.rows;
+  few : l.least ≤ 100;
+}

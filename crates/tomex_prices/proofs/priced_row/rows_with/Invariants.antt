@@ -1,0 +1,16 @@
+-- The rows so far, and those to come.
+use Rattle.std.proofs.Common.{◌≡◌, ◌++◌, drop}
+use Rattle.std.specs.Prelude.{All}
+use Rattle.tomex_runs.specs.Cycles.{cycles_of}
+use Rattle.tomex_prices.specs.Interval.{IsSmall}
+use Rattle.tomex_prices.specs.Repriced.{priced_from}
+use Rattle.tomex_prices.specs.Studies.{rows_with}
+use Rattle.tomex_prices.proofs.priced_row.rows_with.Given as goal
+
+abbrev pub invariant-loop-row : goal.invariant-loop-row
+invariant-loop-row g l = record {
+  rows : l.apart.items
+      ++ priced_from l.price l.study.prices l.row (drop l.row l.study.rows) (drop l.row (cycles_of l.study))
+      ≡ rows_with l.study l.price;
+  small : All IsSmall l.apart.items;
+}

@@ -1,0 +1,12 @@
+-- The entries so far, and those to come.
+use Rattle.std.proofs.Common.{◌≡◌, ◌∷◌, ◌++◌, drop, map}
+use Rattle.std.specs.Prelude.{codes}
+use Rattle.tomex_prices.specs.Percent.{percent_of, percent_text}
+use Rattle.tomex_prices.proofs.table.percent_column.Given as goal
+
+abbrev pub invariant-loop-row : goal.invariant-loop-row
+invariant-loop-row g l = record {
+  name : l.column.name ≡ codes "all";
+  entries : l.column.entries ++ map (λ r. percent_text (percent_of l.study r)) (drop l.row-index l.front)
+      ≡ codes "-" ∷ map (λ r. percent_text (percent_of l.study r)) l.front;
+}

@@ -1,0 +1,29 @@
+-- The columns are those of the table, and each has an entry for each row of the front and one more.
+use Rattle.std.proofs.Common.{◌≡◌, ◌∙◌, ap, add-one, length, subst, sym, List, ◌++◌}
+use Rattle.std.specs.Prelude.{All}
+use Rattle.tomex_tables.specs.Table.{TableColumn}
+use Rattle.tomex_prices.specs.PricesTable.{columns_of, prices_table_of}
+use Rattle.tomex_prices.proofs.Columns.{HasEntries, columns_long}
+use Rattle.tomex_prices.proofs.table.prices_table.Goals as goal
+
+pub table_of-requires : goal.table_of-requires
+table_of-requires g c =
+    let s = c.args.study.now in
+    let front = c.args.front.now in
+    let made : c.as_slice.result.now ≡ columns_of s front =
+    c.as_slice.ensures.value
+    ∙ (c.in_ok-push_columns.ensures
+    ∙ ap (λ (cs : List TableColumn). cs ++ columns_of s front) c.new-columns.ensures.items) in
+    let long = subst (All (HasEntries front)) (sym made) (columns_long s front) in
+    λ k d within. long k d within ∙ sym (add-one (length front))
+
+pub returns-clause-text : goal.returns-clause-text
+unfolding prices_table_of
+returns-clause-text g c =
+    let s = c.args.study.now in
+    let front = c.args.front.now in
+    let made : c.as_slice.result.now ≡ columns_of s front =
+    c.as_slice.ensures.value
+    ∙ (c.in_ok-push_columns.ensures
+    ∙ ap (λ (cs : List TableColumn). cs ++ columns_of s front) c.new-columns.ensures.items) in
+    rw (made, add-one, c.requires.front) at c.in_ok-table_of.ensures

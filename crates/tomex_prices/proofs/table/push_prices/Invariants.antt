@@ -1,0 +1,9 @@
+-- The columns so far, and those to come.
+use Rattle.std.proofs.Common.{◌≡◌, ◌++◌, drop, map}
+use Rattle.tomex_prices.specs.PricesTable.{price_column}
+use Rattle.tomex_prices.proofs.table.push_prices.Given as goal
+
+abbrev pub invariant-loop-price : goal.invariant-loop-price
+invariant-loop-price g l =
+    l.columns.items ++ map (price_column l.study l.front) (drop l.price-index l.relevant)
+    ≡ l.fn.columns.items ++ map (price_column l.study l.front) l.relevant

@@ -1,0 +1,35 @@
+-- A price: what it is stated as, how often a configuration pays it, and its name.
+use Rattle.std.specs.Prelude.{ℕ, ◌&&◌, ◌==◌, ◌++◌, codes, if◌then◌else◌, Bool, List}
+use Rattle.std.specs.Fmt.{decimal}
+use Rattle.tomex_rvdec.specs.Parts.{name_of_pool, name_of_unit}
+use Rattle.tomex_config.specs.declared.config.UnitOption.{UnitOption}
+use Rattle.tomex_config.specs.Configuration.{Configuration, option_of, stations_of}
+use Rattle.tomex_config.specs.Cost.{PriceList, price_of}
+use Rattle.tomex_prices.specs.declared.price.Price.{Price}
+use Rattle.tomex_prices.specs.declared.price.Price.TheVariants.{Station, Choice, Bus, Width}
+
+-- units, latency and price are equal
+abbrev pub same_option : UnitOption → UnitOption → Bool
+same_option a b = a.units == b.units && a.latency == b.latency && a.price == b.price
+
+-- how often a configuration pays a price: once for each of its stations of the pool, once or never for an option, once
+-- for each of its buses, once for each instruction that may issue in a cycle
+abbrev pub paid : Price → Configuration → ℕ
+paid (Station pool) config = stations_of config pool
+paid (Choice unit o) config = if same_option (option_of config unit) o then 1 else 0
+paid Bus config = config.buses
+paid Width config = config.width
+
+-- a price as it is stated
+abbrev pub stated : Price → PriceList → ℕ
+stated (Station pool) prices = price_of prices pool
+stated (Choice unit o) prices = o.price
+stated Bus prices = prices.bus
+stated Width prices = prices.width
+
+-- its name: of an option the kind of unit, the units, and the latency
+abbrev pub name_of_price : Price → List ℕ
+name_of_price (Station pool) = name_of_pool pool
+name_of_price (Choice unit o) = name_of_unit unit ++ codes ":" ++ decimal o.units ++ codes "@" ++ decimal o.latency
+name_of_price Bus = codes "bus"
+name_of_price Width = codes "width"

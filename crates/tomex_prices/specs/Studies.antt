@@ -1,0 +1,48 @@
+-- A study with one price replaced, and for which values of it a row of the front stays on the front.
+use Rattle.std.specs.Prelude.{◌≡◌, ℕ, ◌≤◌, List, map, slice_index_or}
+use Rattle.std.specs.List.{Contains}
+use Rattle.tomex_config.specs.Configuration.{Configuration, plain}
+use Rattle.tomex_pareto.specs.Front.{rows_from}
+use Rattle.tomex_pareto.specs.declared.front_row.FrontRow.{FrontRow}
+use Rattle.tomex_study.specs.Study.{DesignSpace, IsStudy}
+use Rattle.tomex_runs.specs.Cycles.{cycles_of}
+use Rattle.tomex_runs.specs.StudyFront.{front_of_study}
+use Rattle.tomex_prices.specs.declared.intervals.PriceRange.{PriceRange}
+use Rattle.tomex_prices.specs.declared.price.Price.{Price}
+use Rattle.tomex_prices.specs.declared.price.TheConstants.{GREATEST_PRICE}
+use Rattle.tomex_prices.specs.declared.priced_row.PricedRow.{PricedRow}
+use Rattle.tomex_prices.specs.Interval.{interval, is_within}
+use Rattle.tomex_prices.specs.Price.{stated}
+use Rattle.tomex_prices.specs.Repriced.{config_with, costs_with, is_on, list_with, priced_from, with_price_apart}
+
+-- the same rows and programs, with that one price replaced by q, and so with other costs
+abbrev pub repriced : DesignSpace → Price → ℕ → DesignSpace
+repriced s price q = record s {
+  rows = map (config_with price q) s.rows;
+  costs = costs_with price q s.prices s.rows;
+  prices = list_with price q s.prices;
+}
+
+-- all rows of a study, and a row's configuration
+abbrev pub all_rows : DesignSpace → List FrontRow
+all_rows s = rows_from 0 s.costs (cycles_of s)
+
+abbrev pub config_of : DesignSpace → FrontRow → Configuration
+config_of s r = slice_index_or s.rows r.row plain
+
+-- a row with a price apart, and all rows
+abbrev pub row_with : DesignSpace → Price → FrontRow → PricedRow
+row_with s price r = with_price_apart price s.prices r.row (config_of s r) r.cycles
+
+abbrev pub rows_with : DesignSpace → Price → List PricedRow
+rows_with s price = priced_from price s.prices 0 s.rows (cycles_of s)
+
+-- for which values of a price, all others as stated, a row of the front is on the front
+abbrev pub interval_of : DesignSpace → Price → FrontRow → PriceRange
+interval_of s price r = interval (stated price s.prices) (row_with s price r) (rows_with s price)
+
+-- it is on the front of the study with this price replaced by q exactly if q is within
+abbrev pub IsOnStudyExactlyWithin : Type 0
+IsOnStudyExactlyWithin = (s : DesignSpace) (price : Price) (q : ℕ) (r : FrontRow) → IsStudy s → q ≤ GREATEST_PRICE
+    → Contains (front_of_study s) r
+    → is_on (front_of_study (repriced s price q)) r.row ≡ is_within (interval_of s price r) q

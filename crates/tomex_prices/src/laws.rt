@@ -1,0 +1,33 @@
+//! Laws of the prices at which a row stays. These functions do nothing: their contracts are the laws.
+
+ghost use Rattle.tomex_prices.specs.Laws.{IsOnFrontExactlyWithin, StaysExactlyWithin};
+ghost use Rattle.tomex_prices.specs.Repriced.{CostsSplit, IsOnRepricedExactlyWithin, StatedCostsStay};
+ghost use Rattle.tomex_prices.specs.Studies.{IsOnStudyExactlyWithin};
+
+/// A row that no other dominates at the price as it is stated stays so at exactly the prices of its interval.
+pub fn stays_exactly_within()
+    ensures { StaysExactlyWithin }
+{}
+
+/// A row of the front is on the front at exactly the prices of its interval.
+pub fn on_front_exactly_within()
+    ensures { IsOnFrontExactlyWithin }
+{}
+
+/// A configuration's cost is its cost with one price replaced by 0, and that price as often as it is paid. A price
+/// replaced by what it is stated as changes no cost.
+pub fn costs_split()
+    ensures split { CostsSplit }
+    ensures stated { StatedCostsStay }
+{}
+
+/// With one price replaced, a row of the front stays on it at exactly the prices of its interval.
+pub fn on_repriced_front_exactly_within()
+    ensures { IsOnRepricedExactlyWithin }
+{}
+
+/// A row of a study's front is on the front of the study with one price replaced exactly if the new price lies in the
+/// row's interval.
+pub fn on_front_of_study_exactly_within()
+    ensures { IsOnStudyExactlyWithin }
+{}

@@ -1,0 +1,25 @@
+//! Prices: for which values of one price, all others as stated, a row of the front stays on it, and by how many percent
+//! all may be wrong at once; and the table of both.
+#![tactic(auto)]
+
+mod counts;
+mod intervals;
+mod laws;
+mod percents;
+mod price;
+mod priced_row;
+mod prices_error;
+mod study_prices;
+mod table;
+
+pub use intervals::{PriceRange, interval, interval_of};
+pub use laws::{
+    costs_split, on_front_exactly_within, on_front_of_study_exactly_within,
+    on_repriced_front_exactly_within, stays_exactly_within,
+};
+pub use percents::percent;
+pub use price::{GREATEST_PRICE, Price};
+pub use priced_row::{PricedRow, rows_with};
+pub use prices_error::PricesError;
+pub use study_prices::{prices, relevant_prices};
+pub use table::prices_table;

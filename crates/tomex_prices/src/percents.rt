@@ -1,0 +1,75 @@
+//! By how many percent all prices may be wrong at once.
+
+ghost use Rattle.std.specs.Prelude.{◌≡◌, ◌<◌, ◌≤◌, length};
+ghost use Rattle.tomex_prices.specs.Percent.{difference, percent_for, percent_of};
+ghost use Rattle.tomex_prices.specs.Prices.{prices_of};
+ghost use Rattle.tomex_prices.specs.Studies.{all_rows};
+
+use crate::price::Price;
+use std::alloc::Allocator;
+use tomex_config::{Config, Prices};
+use tomex_pareto::FrontRow;
+use tomex_study::Study;
+
+/// What two configurations don't have in common, at these prices.
+#[tactic(auto, unfolding(crate::specs::Percent::difference))]
+fn difference(prices: &Prices, all: &[Price], a: &Config, b: &Config) -> u128
+    ensures { result ≡ difference prices.now all.now a.now b.now }
+{
+    let mut sum = 0;
+    for price in all {
+        let times = price.paid(a).abs_diff(price.paid(b));
+        sum += u128::from(price.stated(prices) * times);
+    }
+    sum
+}
+
+/// By how many percent the prices may be wrong if only one rival counts. `all` are the study's prices.
+fn percent_for<A: Allocator>(
+    study: &Study<A>,
+    all: &[Price],
+    row: FrontRow,
+    rival: FrontRow,
+) -> u128
+    requires all { all.now ≡ prices_of study.now }
+    requires row { row.row < length study.now.rows }
+    requires rival { rival.row < length study.now.rows }
+    ensures { result ≡ percent_for study.now row rival }
+{
+    if rival.cycles > row.cycles {
+        return 100;
+    }
+    let (own, other) = (&study.rows()[row.row], &study.rows()[rival.row]);
+    let apart = difference(&study.prices(), all, own, other);
+    if apart == 0 {
+        return 100;
+    }
+    let premium = if rival.cycles < row.cycles { 1 } else { 0 };
+    let dearer = 100 * u128::from(rival.cost.saturating_sub(row.cost));
+    dearer.saturating_sub(premium) / apart
+}
+
+/// The greatest whole percentage by which all prices of a study may be wrong at once, each one in its own direction,
+/// and a row of its front stays on the front: 0 to 99, or 100 if it stays whatever the prices. A price of 0 stays 0.
+///
+/// `all` are the study's prices, `rows` all its rows.
+#[tactic(auto, unfolding(crate::specs::Percent::percent_of))]
+pub fn percent<A: Allocator>(
+    study: &Study<A>,
+    all: &[Price],
+    rows: &[FrontRow],
+    row: FrontRow,
+) -> u64
+    requires all { all.now ≡ prices_of study.now }
+    requires rows { rows.now ≡ all_rows study.now }
+    requires row { row.row < length study.now.rows }
+    ensures percent { result ≡ percent_of study.now row }
+    ensures range { result ≤ 100 }
+{
+    study.keeps_limits();
+    let mut least = 100;
+    for rival in rows {
+        least = least.min(percent_for(study, all, row, *rival));
+    }
+    least as u64
+}

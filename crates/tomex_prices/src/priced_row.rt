@@ -1,0 +1,68 @@
+//! Rows with one price apart.
+
+ghost use Rattle.std.specs.Prelude.{◌≡◌, All, IfOk};
+ghost use Rattle.tomex_prices.specs.Interval.{IsSmall};
+ghost use Rattle.tomex_prices.specs.Repriced.{with_price_apart};
+ghost use Rattle.tomex_prices.specs.Studies.{all_rows, rows_with};
+
+use crate::price::Price;
+use std::alloc::{AllocError, Allocator};
+use tomex_config::{Config, Prices, cost};
+use tomex_pareto::FrontRow;
+use tomex_study::Study;
+
+/// A row, with what it costs except for one price.
+#[derive(Clone, Copy, Debug, PartialEq, Eq)]
+pub struct PricedRow {
+    /// Its number, from 0.
+    pub row: usize,
+    /// Its cost without that price.
+    pub rest: u64,
+    pub cycles: u64,
+    /// How often it pays the price.
+    pub times: u64,
+}
+
+/// A configuration of these cycles with a price apart.
+pub(crate) fn with_price_apart(
+    price: Price,
+    prices: &Prices,
+    row: usize,
+    config: &Config,
+    cycles: u64,
+) -> PricedRow
+    ensures parts { result ≡ with_price_apart price prices.now row config.now cycles }
+    ensures small { IsSmall result }
+{
+    prices.keeps_limits();
+    config.keeps_limits();
+    let times = price.paid(config);
+    let rest = cost(config, prices) - price.stated(prices) * times;
+    PricedRow {
+        row,
+        rest,
+        cycles,
+        times,
+    }
+}
+
+/// All rows of a study with a price apart. `rows` are all of them.
+pub fn rows_with<A: Allocator, B: Allocator>(
+    alloc: B,
+    study: &Study<A>,
+    rows: &[FrontRow],
+    price: Price,
+) -> Result<Vec<PricedRow, B>, AllocError>
+    requires { rows.now ≡ all_rows study.now }
+    ensures rows { IfOk result (λ v. v.items ≡ rows_with study.now price) }
+    ensures small { IfOk result (λ v. All IsSmall v.items) }
+{
+    study.keeps_limits();
+    let prices = study.prices();
+    let mut apart = Vec::with_capacity(alloc, rows.len())?;
+    for (row, config) in study.rows().iter().enumerate() {
+        let cycles = rows[row].cycles;
+        apart.push(with_price_apart(price, &prices, row, config, cycles))?;
+    }
+    Ok(apart)
+}
