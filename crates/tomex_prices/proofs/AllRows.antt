@@ -18,7 +18,7 @@ use Rattle.tomex_prices.specs.declared.price.Price.{Price}
 use Rattle.tomex_prices.specs.declared.priced_row.PricedRow.{PricedRow}
 use Rattle.tomex_prices.specs.Interval.{IsSmall}
 use Rattle.tomex_prices.specs.Repriced.{priced_from, with_price_apart}
-use Rattle.tomex_prices.specs.Studies.{all_rows}
+use Rattle.tomex_runs.specs.StudyFront.{all_rows}
 
 pub as_many_costs : (s : DesignSpace) → IsStudy s → length s.costs ≡ length s.rows
 as_many_costs s is = ap length is.costs ∙ length-map _ _

@@ -2,7 +2,6 @@
 use Rattle.std.specs.Prelude.{◌≡◌, ℕ, ◌≤◌, List, map, slice_index_or}
 use Rattle.std.specs.List.{Contains}
 use Rattle.tomex_config.specs.Configuration.{Configuration, plain}
-use Rattle.tomex_pareto.specs.Front.{rows_from}
 use Rattle.tomex_pareto.specs.declared.front_row.FrontRow.{FrontRow}
 use Rattle.tomex_study.specs.Study.{DesignSpace, IsStudy}
 use Rattle.tomex_runs.specs.Cycles.{cycles_of}
@@ -23,10 +22,7 @@ repriced s price q = record s {
   prices = list_with price q s.prices;
 }
 
--- all rows of a study, and a row's configuration
-abbrev pub all_rows : DesignSpace → List FrontRow
-all_rows s = rows_from 0 s.costs (cycles_of s)
-
+-- a row's configuration
 abbrev pub config_of : DesignSpace → FrontRow → Configuration
 config_of s r = slice_index_or s.rows r.row plain
 

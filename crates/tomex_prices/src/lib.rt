@@ -18,7 +18,7 @@ pub use laws::{
     on_repriced_front_exactly_within, stays_exactly_within,
 };
 pub use percents::percent;
-pub use price::{GREATEST_PRICE, Price};
+pub use price::{GREATEST_PRICE, Price, same_option};
 pub use priced_row::{PricedRow, rows_with};
 pub use prices_error::PricesError;
 pub use study_prices::{prices, relevant_prices};

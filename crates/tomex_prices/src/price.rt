@@ -21,7 +21,7 @@ pub enum Price {
 }
 
 /// True if two options are one.
-pub(crate) fn same_option(a: UnitOption, b: UnitOption) -> bool
+pub fn same_option(a: UnitOption, b: UnitOption) -> bool
     ensures { result ≡ same_option a b }
 {
     a.units == b.units && a.latency == b.latency && a.price == b.price

@@ -12,6 +12,7 @@ words_of those.NoSuchRow = codes "no such row"
 words_of those.NoSuchProgram = codes "no such program"
 words_of those.NoSuchStep = codes "no such step"
 words_of those.PictureTooLarge = codes "picture too large"
+words_of those.TableTooLarge = codes "table too large"
 words_of those.CyclePastEnd = codes "cycle past the end"
 words_of those.CannotWrite = codes "cannot write"
 words_of those.ThreadRefused = codes "thread refused"
@@ -64,6 +65,12 @@ picture_too_large =
     ++ (codes "one's end, are more than 16777216. Take fewer, by `--from` and `--steps`, or use\n"
     ++ codes "`--konata`, which has no limit.\n")
 
+abbrev pub table_too_large : List ℕ
+table_too_large =
+    codes "The rows of the front times the prices that have a column in `tomex prices` are\n"
+    ++ (codes "more than 262144. Take a study with fewer configurations, or with fewer options\n"
+    ++ codes "of a kind of unit.\n")
+
 abbrev pub cycle_past_end : List ℕ
 cycle_past_end =
     codes "CYCLE is greater than the run's total, which is in the last line of `tomex times\n"
@@ -98,6 +105,7 @@ advice_of those.NoSuchRow = no_such_row
 advice_of those.NoSuchProgram = no_such_program
 advice_of those.NoSuchStep = no_such_step
 advice_of those.PictureTooLarge = picture_too_large
+advice_of those.TableTooLarge = table_too_large
 advice_of those.CyclePastEnd = cycle_past_end
 advice_of those.CannotWrite = cannot_write
 advice_of those.ThreadRefused = thread_refused

@@ -20,6 +20,8 @@ pub enum CommandRefusal {
     NoSuchStep,
     /// The picture would have too many signs.
     PictureTooLarge,
+    /// The table would have too many intervals.
+    TableTooLarge,
     /// The run ends before that cycle.
     CyclePastEnd,
     /// The output took no more.
@@ -72,6 +74,12 @@ one's end, are more than 16777216. Take fewer, by `--from` and `--steps`, or use
 `--konata`, which has no limit.
 ";
 
+const TABLE_TOO_LARGE: &str =
+    "The rows of the front times the prices that have a column in `tomex prices` are
+more than 262144. Take a study with fewer configurations, or with fewer options
+of a kind of unit.
+";
+
 const CYCLE_PAST_END: &str =
     "CYCLE is greater than the run's total, which is in the last line of `tomex times
 STUDY CONFIG PROGRAM`.
@@ -110,6 +118,7 @@ impl CommandRefusal {
             CommandRefusal::NoSuchProgram => "no such program",
             CommandRefusal::NoSuchStep => "no such step",
             CommandRefusal::PictureTooLarge => "picture too large",
+            CommandRefusal::TableTooLarge => "table too large",
             CommandRefusal::CyclePastEnd => "cycle past the end",
             CommandRefusal::CannotWrite => "cannot write",
             CommandRefusal::ThreadRefused => "thread refused",
@@ -140,6 +149,7 @@ impl CommandRefusal {
             CommandRefusal::NoSuchProgram => NO_SUCH_PROGRAM,
             CommandRefusal::NoSuchStep => NO_SUCH_STEP,
             CommandRefusal::PictureTooLarge => PICTURE_TOO_LARGE,
+            CommandRefusal::TableTooLarge => TABLE_TOO_LARGE,
             CommandRefusal::CyclePastEnd => CYCLE_PAST_END,
             CommandRefusal::CannotWrite => CANNOT_WRITE,
             CommandRefusal::ThreadRefused => THREAD_REFUSED,

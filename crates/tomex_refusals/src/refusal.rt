@@ -19,7 +19,7 @@ pub enum Refusal {
 
 impl Refusal {
     /// All of them, in the order in which they are looked for: what has a name in it first.
-    pub const ALL: [Refusal; 34] = [
+    pub const ALL: [Refusal; 35] = [
         Refusal::Command(CommandRefusal::CannotRead),
         Refusal::Command(CommandRefusal::BadWindow),
         Refusal::Command(CommandRefusal::TooLong),
@@ -27,6 +27,7 @@ impl Refusal {
         Refusal::Command(CommandRefusal::NoSuchProgram),
         Refusal::Command(CommandRefusal::NoSuchStep),
         Refusal::Command(CommandRefusal::PictureTooLarge),
+        Refusal::Command(CommandRefusal::TableTooLarge),
         Refusal::Command(CommandRefusal::CyclePastEnd),
         Refusal::Command(CommandRefusal::CannotWrite),
         Refusal::Command(CommandRefusal::ThreadRefused),

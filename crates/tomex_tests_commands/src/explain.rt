@@ -17,6 +17,7 @@ no such row
 no such program
 no such step
 picture too large
+table too large
 cycle past the end
 cannot write
 thread refused

@@ -26,6 +26,8 @@ mod refused_memory;
 #[cfg(test)]
 mod stalls;
 #[cfg(test)]
+mod surveys;
+#[cfg(test)]
 mod tables;
 #[cfg(test)]
 mod times;

@@ -5,6 +5,7 @@ use crate::commands::{PRODUCT_END, outcome_of, text_of, words_of};
 use crate::explain::{ALL, OVERLAP};
 use crate::konata::PRODUCT_LOG;
 use crate::pipeline::ON_ONE_STATION;
+use crate::surveys::{TWELVE, TWELVE_PICTURE, TWELVE_PRICES, TWELVE_ROWS, WORTH_FOUR};
 use std::alloc::AllocError;
 use std::sync::Wait;
 use std::test::Fail;
@@ -151,6 +152,24 @@ static OF_DROPPED: [(&str, &str, u64); 5] = [
 fn of_what_a_study_comes_to(rt: HostRuntime) -> Result<(), Fail> {
     let files = [("study", DROPPED.as_bytes()), ("loop.bin", LOOP.as_slice())];
     each_is_granted(&rt, files.as_slice(), OF_DROPPED.as_slice())
+}
+
+/// What is asked of all rows of a study, what it prints, and how many blocks it needs at least.
+static OF_TWELVE: [(&str, &str, u64); 5] = [
+    // The study's bytes and its file's, names, the program, rows, costs and the text; stretches, totals, the plateaus,
+    // all rows, marks and the front.
+    ("tomex rows study", TWELVE_ROWS, 14),
+    ("tomex rows study --workers 3", TWELVE_ROWS, 14),
+    // What is small isn't of this memory.
+    ("tomex worth study 4", WORTH_FOUR, 14),
+    ("tomex prices study", TWELVE_PRICES, 14),
+    ("tomex plot study --rows", TWELVE_PICTURE, 14),
+];
+
+#[test]
+fn of_all_rows_of_a_study(rt: HostRuntime) -> Result<(), Fail> {
+    let files = [("study", TWELVE.as_bytes()), ("mul.bin", PRODUCT.as_slice())];
+    each_is_granted(&rt, files.as_slice(), OF_TWELVE.as_slice())
 }
 
 /// How many blocks a line is granted that makes the report of the study.

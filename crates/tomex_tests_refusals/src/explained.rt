@@ -112,6 +112,7 @@ static COMMANDS: [(&str, &str); 15] = [
     ("tomex: no such program", "no such program"),
     ("tomex: no such step", "no such step"),
     ("tomex: picture too large", "picture too large"),
+    ("tomex: table too large", "table too large"),
     ("tomex: cycle past the end", "cycle past the end"),
     ("tomex: cannot read mul.bin", "cannot read NAME"),
     ("cannot read", "cannot read NAME"),

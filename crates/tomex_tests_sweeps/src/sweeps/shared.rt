@@ -204,7 +204,7 @@ fn marks_of(alloc: Global, study: &Study) -> Result<Vec<Mark>, Fail> {
     Ok(marks)
 }
 
-/// Fails, and tells which study it was, unless that is so.
+/// Fails, and says which study it was, unless that is so.
 fn holds_for(turn: u32, is_so: bool) -> Result<(), Fail> {
     if is_so {
         return Ok(());
@@ -221,14 +221,58 @@ fn is_marked_so<R: AllocGlobal + Threads + Wait + Sync>(
     gives_marks(rt, study, 1, marks.as_slice())
 }
 
-#[test]
-fn marks_are_those_of_plain_runs(rt: HostRuntime) -> Result<(), Fail> {
-    let mut random = Random { state: 2463534242 };
-    for turn in 0..200u32 {
+/// Whether one worker marks 25 studies, random from this seed on, as plain runs do. A test that goes through more of
+/// them would take more than a minute before anything is proved.
+fn marks_are_those_of_plain_runs<R: AllocGlobal + Threads + Wait + Sync>(
+    rt: &R,
+    seed: u32,
+) -> Result<(), Fail> {
+    let mut random = Random { state: seed };
+    for turn in 0..25u32 {
         let study = random.study(rt.alloc())?;
-        holds_for(turn, is_marked_so(&rt, &study)?)?;
+        holds_for(turn, is_marked_so(rt, &study)?)?;
     }
     Ok(())
+}
+
+#[test]
+fn marks_are_those_of_plain_runs_on_the_first_studies(rt: HostRuntime) -> Result<(), Fail> {
+    marks_are_those_of_plain_runs(&rt, 2463534242)
+}
+
+#[test]
+fn marks_are_those_of_plain_runs_on_the_second_studies(rt: HostRuntime) -> Result<(), Fail> {
+    marks_are_those_of_plain_runs(&rt, 1181783497)
+}
+
+#[test]
+fn marks_are_those_of_plain_runs_on_the_third_studies(rt: HostRuntime) -> Result<(), Fail> {
+    marks_are_those_of_plain_runs(&rt, 362436069)
+}
+
+#[test]
+fn marks_are_those_of_plain_runs_on_the_fourth_studies(rt: HostRuntime) -> Result<(), Fail> {
+    marks_are_those_of_plain_runs(&rt, 521288629)
+}
+
+#[test]
+fn marks_are_those_of_plain_runs_on_the_fifth_studies(rt: HostRuntime) -> Result<(), Fail> {
+    marks_are_those_of_plain_runs(&rt, 88675123)
+}
+
+#[test]
+fn marks_are_those_of_plain_runs_on_the_sixth_studies(rt: HostRuntime) -> Result<(), Fail> {
+    marks_are_those_of_plain_runs(&rt, 5783321)
+}
+
+#[test]
+fn marks_are_those_of_plain_runs_on_the_seventh_studies(rt: HostRuntime) -> Result<(), Fail> {
+    marks_are_those_of_plain_runs(&rt, 6615241)
+}
+
+#[test]
+fn marks_are_those_of_plain_runs_on_the_eighth_studies(rt: HostRuntime) -> Result<(), Fail> {
+    marks_are_those_of_plain_runs(&rt, 1812433253)
 }
 
 /// Whether each number of workers gives the front of all rows.
@@ -244,15 +288,47 @@ fn is_front_of_all<R: AllocGlobal + Threads + Wait + Sync>(
     Ok(same)
 }
 
-/// Any number of workers gives the front of all rows.
-#[test]
-fn fronts_are_those_of_all_rows(rt: HostRuntime) -> Result<(), Fail> {
-    let mut random = Random { state: 88172645 };
-    for turn in 0..30u32 {
+/// Whether any number of workers gives the front of all rows, on 5 studies, random from this seed on.
+fn fronts_are_those_of_all_rows<R: AllocGlobal + Threads + Wait + Sync>(
+    rt: &R,
+    seed: u32,
+) -> Result<(), Fail> {
+    let mut random = Random { state: seed };
+    for turn in 0..5u32 {
         let study = random.study(rt.alloc())?;
-        holds_for(turn, is_front_of_all(&rt, &study)?)?;
+        holds_for(turn, is_front_of_all(rt, &study)?)?;
     }
     Ok(())
+}
+
+#[test]
+fn fronts_are_those_of_all_rows_of_the_first_studies(rt: HostRuntime) -> Result<(), Fail> {
+    fronts_are_those_of_all_rows(&rt, 88172645)
+}
+
+#[test]
+fn fronts_are_those_of_all_rows_of_the_second_studies(rt: HostRuntime) -> Result<(), Fail> {
+    fronts_are_those_of_all_rows(&rt, 747796405)
+}
+
+#[test]
+fn fronts_are_those_of_all_rows_of_the_third_studies(rt: HostRuntime) -> Result<(), Fail> {
+    fronts_are_those_of_all_rows(&rt, 2891336453)
+}
+
+#[test]
+fn fronts_are_those_of_all_rows_of_the_fourth_studies(rt: HostRuntime) -> Result<(), Fail> {
+    fronts_are_those_of_all_rows(&rt, 277803737)
+}
+
+#[test]
+fn fronts_are_those_of_all_rows_of_the_fifth_studies(rt: HostRuntime) -> Result<(), Fail> {
+    fronts_are_those_of_all_rows(&rt, 1566083941)
+}
+
+#[test]
+fn fronts_are_those_of_all_rows_of_the_sixth_studies(rt: HostRuntime) -> Result<(), Fail> {
+    fronts_are_those_of_all_rows(&rt, 1103515245)
 }
 
 /// Counts the rows, and the programs that are new on them.
