@@ -75,8 +75,8 @@ fn push_if_wide(
     Ok(())
 }
 
-/// Adds a front row's number, cost and cycles, and its parts.
-fn push_row(
+/// Adds a row's number, cost and cycles, and its parts.
+pub fn push_row(
     fields: &mut ByteRecord,
     scratch: &mut String,
     wide: bool,

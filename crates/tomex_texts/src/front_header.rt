@@ -21,11 +21,12 @@ fn push_if_wide(fields: &mut ByteRecord, wide: bool, name: &str) -> Result<(), A
     Ok(())
 }
 
-/// The names of the columns.
-pub fn columns(heap: Global, wide: bool) -> Result<ByteRecord, AllocError>
-    ensures { IfOk result (λ made. fields_of made ≡ row_columns wide ++ program_columns wide) }
+/// Adds the names of the columns of a row.
+pub fn push_row_columns(fields: &mut ByteRecord, wide: bool) -> Result<(), AllocError>
+    requires { partial_of fields.old ≡ [] }
+    ensures fields { OnOk result (fields_of fields.new ≡ fields_of fields.old ++ row_columns wide) }
+    ensures whole { OnOk result (partial_of fields.new ≡ []) }
 {
-    let mut record = ByteRecord::new(heap);
     let row = [
         "row",
         "cost",
@@ -48,8 +49,16 @@ pub fn columns(heap: Global, wide: bool) -> Result<ByteRecord, AllocError>
         "bru_latency",
         "buses",
     ];
-    push_names(&mut record, row.as_slice())?;
-    push_if_wide(&mut record, wide, "width")?;
+    push_names(fields, row.as_slice())?;
+    push_if_wide(fields, wide, "width")
+}
+
+/// The names of the columns.
+pub fn columns(heap: Global, wide: bool) -> Result<ByteRecord, AllocError>
+    ensures { IfOk result (λ made. fields_of made ≡ row_columns wide ++ program_columns wide) }
+{
+    let mut record = ByteRecord::new(heap);
+    push_row_columns(&mut record, wide)?;
     push_names(&mut record, ["program"].as_slice())?;
     push_if_wide(&mut record, wide, "weight")?;
     let end = ["steps", "program_cycles", "end", "regs", "watch"];

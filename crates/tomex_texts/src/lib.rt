@@ -13,8 +13,8 @@ mod tables;
 mod times;
 
 pub use ends::ProgramEnd;
-pub use front_fields::fill_record;
-pub use front_header::columns;
+pub use front_fields::{fill_record, push_row};
+pub use front_header::{columns, push_row_columns};
 pub use laws::limit_changes_no_end;
 pub use program_ends::each_end;
 pub use row_ends::RowEnds;

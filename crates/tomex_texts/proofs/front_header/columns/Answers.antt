@@ -1,20 +1,18 @@
--- The names stand in their order, those of widths and weights among them where they are shown.
+-- The names stand in their order, that of weights among them where these are shown.
 use Rattle.std.proofs.Common.{◌≡◌, ℕ, Bool, true, false, List, [], ◌∷◌, ◌++◌, refl}
 use Rattle.std.specs.Prelude.{codes}
-use Rattle.tomex_texts.specs.FrontReport.{if_wide, program_columns, row_columns, station_columns, unit_columns}
+use Rattle.tomex_texts.specs.FrontReport.{if_wide, program_columns, row_columns}
 use Rattle.tomex_texts.proofs.front_header.columns.Goals as goal
 
-columns_are : (wide : Bool) (f0 f1 f2 f3 f4 f5 : List (List ℕ)) → f0 ≡ [] → f1 ≡ f0
-    ++ (station_columns ++ (unit_columns ++ (codes "buses" ∷ []))) → f2 ≡ f1 ++ if_wide wide (codes "width") → f3 ≡ f2
-    ++ (codes "program" ∷ []) → f4 ≡ f3 ++ if_wide wide (codes "weight")
+columns_are : (wide : Bool) (f0 f2 f3 f4 f5 : List (List ℕ)) → f0 ≡ [] → f2 ≡ f0 ++ row_columns wide
+    → f3 ≡ f2 ++ (codes "program" ∷ []) → f4 ≡ f3 ++ if_wide wide (codes "weight")
     → f5 ≡ f4 ++ (codes "steps" ∷ codes "program_cycles" ∷ codes "end" ∷ codes "regs" ∷ codes "watch" ∷ [])
     → f5 ≡ row_columns wide ++ program_columns wide
-columns_are true f0 f1 f2 f3 f4 f5 none row width name weight rest = rw (rest, weight, name, width, row, none) refl
-columns_are false f0 f1 f2 f3 f4 f5 none row width name weight rest = rw (rest, weight, name, width, row, none) refl
+columns_are true f0 f2 f3 f4 f5 none row name weight rest = rw (rest, weight, name, row, none) refl
+columns_are false f0 f2 f3 f4 f5 none row name weight rest = rw (rest, weight, name, row, none) refl
 
 pub returns : goal.returns
 returns c =
-    columns_are c.args.wide _ _ _ _ _ _ c.new-record.ensures.fields
-    (rw c.as_slice.ensures at c.in_ok-push_names.ensures.fields) c.in_ok-push_if_wide.ensures.fields
-    (rw c.as_slice-2.ensures at c.in_ok-push_names-2.ensures.fields) c.in_ok-push_if_wide-2.ensures.fields
-    (rw c.as_slice-3.ensures at c.in_ok-push_names-3.ensures.fields)
+    columns_are c.args.wide _ _ _ _ _ c.new-record.ensures.fields
+    c.in_ok-push_row_columns.ensures.fields (rw c.as_slice.ensures at c.in_ok-push_names.ensures.fields)
+    c.in_ok-push_if_wide.ensures.fields (rw c.as_slice-2.ensures at c.in_ok-push_names-2.ensures.fields)

@@ -1,0 +1,12 @@
+-- The totals on all stretches are those on all rows.
+use Rattle.std.proofs.Common.{ap, length}
+use Rattle.std.proofs.lemmas.Result.{IfOk-weaker}
+use Rattle.tomex_survey.proofs.Weighing.{all_totals_are}
+use Rattle.tomex_survey.proofs.totals.all_totals.Goals as goal
+
+pub returns : goal.returns
+returns g c =
+    IfOk-weaker c.joined.result _ _
+    (λ v is. all_totals_are c.args.study.now c.args.workers _ _ _ _ v.items c.requires.some_workers
+    (ap length c.rows.ensures.value) c.in_ok-stretches.ensures.are c.as_slice.ensures.value c.in_ok-parts.ensures is)
+    c.joined.ensures

@@ -1,0 +1,20 @@
+-- What the threads give, in the stretches' order.
+use Rattle.std.proofs.Common.{◌∙◌, ap, sym, subst}
+use Rattle.std.specs.List.{AllZip}
+use Rattle.rayon.proofs.ToStd.{slice-AllZip}
+use Rattle.tomex_survey.specs.Stretches.{AreTotalsIn}
+use Rattle.tomex_survey.proofs.Oks.{if_ok, AllZip-oks}
+use Rattle.tomex_survey.proofs.totals.parts.Goals as goal
+
+pub returns : goal.returns
+returns g c =
+    let h = c.in_ok-outer.ensures in
+    let m = c.map.ensures in
+    let slice = ap (λ it. it.base.slice.now) m.base
+    ∙ (ap (λ it. it.slice.now) c.with_min_len.ensures.base ∙ c.par_iter.ensures) in
+    let chain = rw m.f at h.1 in
+    if_ok c.in_ok-outer.field-0 _ _ _ h.2 (λ v p.
+    let each = subst (AllZip _ chain.0) p.1 chain.2 in
+    let oks = AllZip-oks _ (λ z t. AreTotalsIn c.args.study.now z.now t.items) (λ z t q. q) chain.0 p.0 each in
+    slice-AllZip chain.0 c.args.stretches.now (chain.1 ∙ slice) (λ s t. AreTotalsIn c.args.study.now s t.items) v.items
+    (subst (AllZip _ chain.0) (sym p.2) oks))

@@ -1,0 +1,12 @@
+//! A survey: each program's cycles on each row of a study. Most are known from other rows; the others are evaluated,
+//! by workers that each go through a stretch of neighbouring rows.
+#![tactic(auto)]
+
+mod rows;
+mod stretches;
+mod surveyed;
+mod surveying;
+mod totals;
+
+pub use surveyed::Survey;
+pub use surveying::survey;

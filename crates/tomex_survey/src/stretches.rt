@@ -1,0 +1,39 @@
+//! The rows of a study, cut into stretches.
+
+ghost use Rattle.std.specs.Prelude.{◌≡◌, ◌≤◌, All, IfOk};
+ghost use Rattle.tomex_survey.specs.Stretches.{IsWithin, stretches_of};
+
+use std::alloc::{AllocError, Allocator};
+
+/// Neighbouring rows, through which one worker goes.
+#[derive(Clone, Copy, Debug, Drop)]
+pub(crate) struct Stretch {
+    /// The worker's number, from 0.
+    pub worker: usize,
+    /// The first of its rows.
+    pub first: usize,
+    /// The row after the last of them.
+    pub end: usize,
+}
+
+/// So many rows, cut into a stretch for each worker. Two of them differ by at most one row in their length.
+pub(crate) fn stretches<A: Allocator>(
+    alloc: A,
+    rows: usize,
+    workers: usize,
+) -> Result<Vec<Stretch, A>, AllocError>
+    requires few_rows { rows ≤ 16384 }
+    requires few_workers { workers ≤ 32 }
+    ensures are { IfOk result (λ v. v.items ≡ stretches_of rows workers) }
+    ensures within { IfOk result (λ v. All (IsWithin rows) v.items) }
+{
+    let mut stretches = Vec::with_capacity(alloc, workers)?;
+    for worker in 0..workers {
+        stretches.push(Stretch {
+            worker,
+            first: worker * rows / workers,
+            end: (worker + 1) * rows / workers,
+        })?;
+    }
+    Ok(stretches)
+}
