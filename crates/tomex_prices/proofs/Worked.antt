@@ -62,7 +62,8 @@ relevant = refl
 
 -- for which values of a price a row stays
 abbrev range_of : Price → ℕ → Configuration → ℕ → PriceRange
-range_of price n c y = interval (stated price list) (with_price_apart price list n c y) (priced_from price list 0 rows cycles)
+range_of price n c y =
+    interval (stated price list) (with_price_apart price list n c y) (priced_from price list 0 rows cycles)
 
 abbrev texts : ℕ → Configuration → ℕ → List (List ℕ)
 texts n c y =

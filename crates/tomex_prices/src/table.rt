@@ -190,8 +190,8 @@ fn is_too_large<A: Allocator>(study: &Study<A>, front: &[FrontRow]) -> bool
 }
 
 /// The table of a study's prices: a line of names, a line of the prices as they are stated, and then a line a row of
-/// the front, with its number, cost and cycles, by how many percent all prices may be wrong at once, and, for each price
-/// that rows pay differently often, for which values of it the row stays.
+/// the front, with its number, cost and cycles, by how many percent all prices may be wrong at once, and, for each
+/// price that rows pay differently often, for which values of it the row stays.
 ///
 /// `rows` are all rows of the study, `front` those of its front. Everything except the text is taken of `heap`.
 pub fn prices_table<A: Allocator>(

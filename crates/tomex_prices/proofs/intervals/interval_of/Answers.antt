@@ -23,8 +23,8 @@ returns-clause-ends g c =
     let low = front_row_within c.args.study.now c.args.row c.keeps_limits.ensures c.requires.front in
     interval_is c.args.study.now c.args.price c.args.row c.interval.result c.stated.result c.prices-prices.result
     c.index-rows-row.result c.rows.result.now c.with_price_apart-apart.result c.args.rows.now low
-    c.interval.ensures.ends c.stated.ensures.price c.prices-prices.ensures.value c.with_price_apart-apart.ensures.parts c.index-rows-row.is
-    c.rows.ensures.value c.requires.rows
+    c.interval.ensures.ends c.stated.ensures.price c.prices-prices.ensures.value
+    c.with_price_apart-apart.ensures.parts c.index-rows-row.is c.rows.ensures.value c.requires.rows
 
 pub returns-clause-exact : goal.returns-clause-exact
 returns-clause-exact g c =
