@@ -8,6 +8,7 @@ pub mod Repricing
 pub mod SameCycles
 pub mod AllRows
 pub mod RepricedStudy
+pub mod StatedAndEqual
 pub mod FirstOptions
 pub mod Counting
 pub mod LeastPercent

@@ -26,7 +26,7 @@ use Rattle.tomex_prices.proofs.OnFront.{has_number}
 use Rattle.tomex_prices.proofs.Repricing.{on_repriced_within}
 use Rattle.tomex_prices.proofs.SameCycles.{all_cycles_same}
 
-study_cycles : (s : DesignSpace) (price : Price) (q : ℕ) → q ≤ GREATEST_PRICE → IsStudy s
+pub study_cycles : (s : DesignSpace) (price : Price) (q : ℕ) → q ≤ GREATEST_PRICE → IsStudy s
     → cycles_of (repriced s price q) ≡ cycles_of s
 unfolding cycles_of
 study_cycles s price q few is = all_cycles_same price q s.programs s.rows few is.limits
@@ -89,7 +89,7 @@ row_apart s price r is one =
           ∙ ap row is_k)),
     )
 
-is_there : (front : List FrontRow) (r : FrontRow) → Contains front r → is_on front r.row ≡ true
+pub is_there : (front : List FrontRow) (r : FrontRow) → Contains front r → is_on front r.row ≡ true
 is_there front r one = has_number front r (contains_has front one.0 r one.1 one.2)
 
 pub on_study_within : IsOnStudyExactlyWithin

@@ -30,7 +30,7 @@ rows_at price prices q n (c ∷ cs) (y ∷ ys) list good =
     ∷ map (at_price q) (priced_from price prices (suc n) cs ys)) e
     ∙ ap (λ (rows : List FrontRow). record { row = n; cost = cost_with price q prices c; cycles = y } ∷ rows) ih
 
-stated_costs : (price : Price) (prices : PriceList) (cs : List Configuration) → IsPriceList prices
+pub stated_costs : (price : Price) (prices : PriceList) (cs : List Configuration) → IsPriceList prices
     → All IsWithinLimits cs → costs_with price (stated price prices) prices cs ≡ costs_of prices cs
 stated_costs price prices [] list good = refl
 stated_costs price prices (c ∷ cs) list good =

@@ -6,5 +6,6 @@ pub mod Laws
 pub mod Repriced
 pub mod Studies
 pub mod Prices
+pub mod PriceLaws
 pub mod Percent
 pub mod PricesTable

@@ -18,23 +18,23 @@ use Rattle.tomex_runs.specs.StudyFront.{all_rows}
 unfoldable pub difference : PriceList → List Price → Configuration → Configuration → ℕ
 difference prices all a b = sum_by (λ price. stated price prices * abs_diff (paid price a) (paid price b)) all
 
--- how many percent of that are by how much the rival is dearer, rounded down, if it takes as many cycles; if it takes
--- fewer it must stay dearer by 1. A rival that takes more cycles, or has nothing else, sets no bound: 100
+-- by how many percent of this difference a rival is dearer, rounded down. A rival that takes fewer cycles must stay
+-- dearer by 1; one that takes more cycles, or differs in nothing that is paid, sets no bound: 100
 abbrev pub percent_for : DesignSpace → FrontRow → FrontRow → ℕ
 percent_for s r j =
     let apart = difference s.prices (prices_of s) (config_of s r) (config_of s j) in
     let premium = if nat_lt j.cycles r.cycles then 1 else 0 in
     if nat_le j.cycles r.cycles && nat_lt 0 apart then (100 * (j.cost - r.cost) - premium) / apart else 100
 
--- the least of all rivals, at most 100
+-- the least of all rivals
 abbrev pub least_percent : DesignSpace → FrontRow → List FrontRow → ℕ
 least_percent s r [] = 100
 least_percent s r (j ∷ js) = min (percent_for s r j) (least_percent s r js)
 
--- of a row of the front
+-- by how many percent all prices may be wrong if a row of the front stays
 unfoldable pub percent_of : DesignSpace → FrontRow → ℕ
 percent_of s r = least_percent s r (all_rows s)
 
--- 100 stands for any: no price may be less than nothing
+-- 100 is shown as any: no price is below 0
 abbrev pub percent_text : ℕ → List ℕ
 percent_text percent = if nat_lt percent 100 then decimal percent ++ codes "%" else codes "any"

@@ -1,6 +1,7 @@
 //! Laws of the prices at which a row stays. These functions do nothing: their contracts are the laws.
 
 ghost use Rattle.tomex_prices.specs.Laws.{IsOnFrontExactlyWithin, StaysExactlyWithin};
+ghost use Rattle.tomex_prices.specs.PriceLaws.{HoldsAllIfIrrelevant, HoldsStated};
 ghost use Rattle.tomex_prices.specs.Repriced.{CostsSplit, IsOnRepricedExactlyWithin, StatedCostsStay};
 ghost use Rattle.tomex_prices.specs.Studies.{IsOnStudyExactlyWithin};
 
@@ -30,4 +31,14 @@ pub fn on_repriced_front_exactly_within()
 /// row's interval.
 pub fn on_front_of_study_exactly_within()
     ensures { IsOnStudyExactlyWithin }
+{}
+
+/// The interval of a row of the front holds the price as it is stated.
+pub fn stated_prices_are_within()
+    ensures { HoldsStated }
+{}
+
+/// The interval of a price that isn't relevant holds all prices.
+pub fn irrelevant_prices_are_any()
+    ensures { HoldsAllIfIrrelevant }
 {}
