@@ -1,4 +1,4 @@
 -- Lemmas of this crate.
-mod Neighbours
+pub mod Neighbours
 pub mod Weighing
 mod Oks

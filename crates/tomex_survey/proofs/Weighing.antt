@@ -131,7 +131,7 @@ finished_front s marks rows costs front is rows_are marks_are costs_are front_is
     ∙ rw (costs_are, marks_are, rows_are) (ap front_of (finished_rows 0 s.costs (cycles_of s) same))
 
 -- and there are as many marks as costs
-long_rows : (n : ℕ) (costs cycles : List ℕ) → length costs ≡ length cycles
+pub long_rows : (n : ℕ) (costs cycles : List ℕ) → length costs ≡ length cycles
     → length (rows_from n costs cycles) ≡ length costs
 long_rows n [] cycles same = refl
 long_rows n (c ∷ cs) [] same = absurd (omega arith)

@@ -1,0 +1,3 @@
+-- Lemmas of this crate.
+mod Flagged
+mod Lines

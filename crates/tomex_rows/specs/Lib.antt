@@ -1,0 +1,2 @@
+-- What contracts cite: the text of all rows of a study.
+pub mod RowsReport

@@ -1,0 +1,43 @@
+-- All rows of a study as CSV: a record for each row, in the order of their numbers.
+use Rattle.std.specs.Prelude.{ℕ, ◌==◌, Bool, if◌then◌else◌, List, [], ◌∷◌, ◌++◌, codes, map, slice_index_or}
+use Rattle.std.specs.List.{flat_map, list_any}
+use Rattle.std.specs.Fmt.{decimal}
+use Rattle.tomex_config.specs.Configuration.{Configuration, plain}
+use Rattle.tomex_pareto.specs.declared.front_row.FrontRow.{FrontRow}
+use Rattle.tomex_records.specs.Csv.{record_text}
+use Rattle.tomex_runs.specs.Cycles.{totals_on}
+use Rattle.tomex_runs.specs.StudyFront.{front_of_study}
+use Rattle.tomex_study.specs.Program.{Workload}
+use Rattle.tomex_study.specs.Study.{DesignSpace}
+use Rattle.tomex_survey.specs.Totals.{all_rows}
+use Rattle.tomex_texts.specs.FrontReport.{row_columns, row_fields}
+
+-- the column of a program's own cycles, without its weight
+abbrev pub cycles_column : Workload → List ℕ
+cycles_column p = p.name ++ codes "_cycles"
+
+-- the front report's columns of a configuration, one for each program, and whether the row is on the front
+unfoldable pub columns_of : DesignSpace → List (List ℕ)
+columns_of s = row_columns s.wide ++ (map cycles_column s.programs ++ codes "front" ∷ [])
+
+-- a row of that number is on the front
+unfoldable pub is_on_front : List FrontRow → ℕ → Bool
+is_on_front front row = list_any (λ r. r.row == row) front
+
+-- one where it is, else zero
+abbrev pub flag : Bool → ℕ
+flag on_front = if on_front then 1 else 0
+
+-- what a row of the study has in these columns, whose front and whose totals these are
+abbrev pub fields_of_row : Bool → FrontRow → Configuration → List ℕ → Bool → List (List ℕ)
+fields_of_row wide r config totals on_front =
+    row_fields wide r config ++ (map decimal totals ++ decimal (flag on_front) ∷ [])
+
+unfoldable pub row_record : DesignSpace → FrontRow → List ℕ
+row_record s r =
+    let config = slice_index_or s.rows r.row plain in
+    record_text (fields_of_row s.wide r config (totals_on s.programs config) (is_on_front (front_of_study s) r.row))
+
+-- the header, and a record for each row
+unfoldable pub rows_text_of : DesignSpace → List ℕ
+rows_text_of s = record_text (columns_of s) ++ flat_map (row_record s) (all_rows s)

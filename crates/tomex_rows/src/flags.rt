@@ -1,0 +1,24 @@
+//! Which rows of a study are on the front.
+
+ghost use Rattle.std.specs.Prelude.{◌≡◌, ◌<◌, length, map, All, IfOk};
+ghost use Rattle.std.specs.List.{range_with_len};
+ghost use Rattle.tomex_rows.specs.RowsReport.{is_on_front};
+
+use std::alloc::{AllocError, Allocator};
+use tomex_pareto::FrontRow;
+
+/// For each row from 0 on, of so many, whether it is on the front.
+pub(crate) fn flags<A: Allocator>(
+    alloc: A,
+    rows: usize,
+    front: &[FrontRow],
+) -> Result<Vec<bool, A>, AllocError>
+    requires { All (λ r. r.row < rows) front.now }
+    ensures { IfOk result (λ v. v.items ≡ map (is_on_front front.now) (range_with_len 0 rows)) }
+{
+    let mut flags = vec![in alloc; false; rows]?;
+    for row in front {
+        flags[row.row] = true;
+    }
+    Ok(flags)
+}
