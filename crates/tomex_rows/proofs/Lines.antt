@@ -12,7 +12,8 @@ use Rattle.tomex_runs.specs.Cycles.{cycles_of, totals_on}
 use Rattle.tomex_runs.specs.StudyFront.{front_of_study}
 use Rattle.tomex_study.specs.Study.{DesignSpace, IsStudy}
 use Rattle.tomex_rows.specs.RowsReport.{fields_of_row, is_on_front, row_record}
-use Rattle.tomex_survey.specs.Totals.{all_rows, totals_of}
+use Rattle.tomex_survey.specs.Totals.{totals_of}
+use Rattle.tomex_runs.specs.StudyFront.{all_rows}
 use Rattle.tomex_survey.proofs.Weighing.{as_many_cycles, long_rows}
 
 numbered_from : (n : ℕ) (costs cycles : List ℕ) (k : ℕ) (d : FrontRow) → k < length (rows_from n costs cycles)
@@ -25,13 +26,11 @@ numbered_from n (c ∷ cs) (y ∷ ys) (suc k) d low =
 
 -- a row's number is its place
 pub numbered : (s : DesignSpace) (k : ℕ) (d : FrontRow) → k < length (all_rows s) → (get_or (all_rows s) k d).row ≡ k
-unfolding all_rows
 numbered s k d low =
     numbered_from 0 s.costs (cycles_of s) k d low ∙ (let e : 0 + k ≡ k = omega arith in e)
 
 -- and there are as many as configurations
 pub as_many : (s : DesignSpace) → IsStudy s → length (all_rows s) ≡ length s.rows
-unfolding all_rows
 as_many s is =
     let costs : length s.costs ≡ length s.rows = ap length is.costs ∙ length-map _ _ in
     long_rows 0 s.costs (cycles_of s) (costs ∙ sym (as_many_cycles s)) ∙ costs

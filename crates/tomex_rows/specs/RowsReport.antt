@@ -9,7 +9,7 @@ use Rattle.tomex_runs.specs.Cycles.{totals_on}
 use Rattle.tomex_runs.specs.StudyFront.{front_of_study}
 use Rattle.tomex_study.specs.Program.{Workload}
 use Rattle.tomex_study.specs.Study.{DesignSpace}
-use Rattle.tomex_survey.specs.Totals.{all_rows}
+use Rattle.tomex_runs.specs.StudyFront.{all_rows}
 use Rattle.tomex_texts.specs.FrontReport.{row_columns, row_fields}
 
 -- the column of a program's own cycles, without its weight

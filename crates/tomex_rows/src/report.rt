@@ -7,7 +7,8 @@ ghost use Rattle.tomex_records.specs.Csv.{IsReady, written};
 ghost use Rattle.tomex_rows.specs.RowsReport.{is_on_front, row_record, rows_text_of};
 ghost use Rattle.tomex_runs.specs.Cycles.{totals_on};
 ghost use Rattle.tomex_runs.specs.StudyFront.{front_of_study};
-ghost use Rattle.tomex_survey.specs.Totals.{all_rows, totals_of};
+ghost use Rattle.tomex_survey.specs.Totals.{totals_of};
+ghost use Rattle.tomex_runs.specs.StudyFront.{all_rows};
 
 use crate::columns::columns;
 use crate::fields::fill_record;

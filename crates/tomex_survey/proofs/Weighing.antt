@@ -17,7 +17,8 @@ use Rattle.tomex_runs.proofs.Totals.{all_cycles, cycles_more, next_cycles, total
 use Rattle.tomex_study.specs.Program.{IsProgram, Workload}
 use Rattle.tomex_study.specs.Study.{DesignSpace, IsStudy}
 use Rattle.tomex_workers.proofs.Rows.{as_many_rows, cycles_at}
-use Rattle.tomex_survey.specs.Totals.{all_rows, totals_of}
+use Rattle.tomex_survey.specs.Totals.{totals_of}
+use Rattle.tomex_runs.specs.StudyFront.{all_rows}
 use Rattle.std.specs.List.{AllZip, flat_map}
 use Rattle.std.specs.declared.vec.Vec.{Vec}
 use Rattle.tomex_survey.specs.Stretches.{AreTotalsIn, in_stretch, stretches_of}
@@ -81,7 +82,6 @@ one_row s k before after cost cycles is low grown cost_is cycles_are so_far =
 
 pub no_row : (s : DesignSpace) (before : List FrontRow) → before ≡ []
     → before ++ rows_from 0 (drop 0 s.costs) (drop 0 (cycles_of s)) ≡ all_rows s
-unfolding all_rows
 no_row s before none = rw none refl
 
 none_from : (n k : ℕ) (costs cycles : List ℕ) → length costs ≤ k → rows_from n (drop k costs) (drop k cycles) ≡ []
@@ -124,7 +124,7 @@ same_marks slice marks given rows same are is = same ∙ (are ∙ ap (map (λ (r
 pub finished_front : (s : DesignSpace) (marks : List Mark) (rows : List FrontRow) (costs : List ℕ)
     (front : List FrontRow) → IsStudy s → rows ≡ all_rows s → marks ≡ map (λ r. Finished r.cycles) rows
     → costs ≡ s.costs → front ≡ front_of (finished_from 0 costs marks) → front ≡ front_of_study s
-unfolding all_rows front_of_study
+unfolding front_of_study
 finished_front s marks rows costs front is rows_are marks_are costs_are front_is =
     let same : length s.costs ≡ length (cycles_of s) = as_many_rows s is ∙ sym (as_many_cycles s) in
     front_is
@@ -139,7 +139,6 @@ long_rows n (c ∷ cs) (y ∷ ys) same = ap suc (long_rows (suc n) cs ys (omega 
 
 pub as_many_marks : (s : DesignSpace) (marks : List Mark) (rows : List FrontRow) (costs : List ℕ) → IsStudy s
     → rows ≡ all_rows s → marks ≡ map (λ r. Finished r.cycles) rows → costs ≡ s.costs → length marks ≡ length costs
-unfolding all_rows
 as_many_marks s marks rows costs is rows_are marks_are costs_are =
     let same : length s.costs ≡ length (cycles_of s) = as_many_rows s is ∙ sym (as_many_cycles s) in
     ap length marks_are

@@ -2,7 +2,8 @@
 
 ghost use Rattle.std.specs.Prelude.{◌≡◌, ◌≤◌, IfOk};
 ghost use Rattle.tomex_runs.specs.StudyFront.{front_of_study};
-ghost use Rattle.tomex_survey.specs.Totals.{all_rows, totals_of};
+ghost use Rattle.tomex_survey.specs.Totals.{totals_of};
+ghost use Rattle.tomex_runs.specs.StudyFront.{all_rows};
 
 use crate::rows::{all_rows, marks};
 use crate::surveyed::Survey;

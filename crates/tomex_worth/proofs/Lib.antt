@@ -1,1 +1,4 @@
 -- Lemmas of this crate.
+mod Ranges
+mod Rows
+mod Columns

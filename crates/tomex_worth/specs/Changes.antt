@@ -1,22 +1,18 @@
 -- What one change of a machine leads to: the rows of a study whose configurations differ from it in one list.
 -- A study's lists are the stations of each pool, the options of each kind of unit, the buses and the widths. This is
 -- said of configurations, and not of places in a study's lists: so it holds of any list of configurations.
-use Rattle.std.specs.Prelude.{ℕ, ◌==◌, ◌&&◌, Bool, not, if◌then◌else◌, List, map, slice_index_or}
+use Rattle.std.specs.Prelude.{◌≡◌, ℕ, ◌<◌, ◌==◌, Bool, not, if◌then◌else◌, List, length, map}
+use Rattle.std.specs.Prelude.{slice_index_or, All}
 use Rattle.std.specs.List.{filter, flat_map, list_all, range_with_len}
 use Rattle.tomex_config.specs.Configuration.{Configuration, option_of, plain}
-use Rattle.tomex_config.specs.declared.config.UnitOption.{UnitOption}
-use Rattle.tomex_pareto.specs.Front.{rows_from}
+use Rattle.tomex_prices.specs.Price.{same_option}
 use Rattle.tomex_pareto.specs.declared.front_row.FrontRow.{FrontRow}
-use Rattle.tomex_runs.specs.Cycles.{cycles_of}
 use Rattle.tomex_study.specs.Study.{DesignSpace}
+use Rattle.tomex_runs.specs.StudyFront.{all_rows}
 use Rattle.tomex_timing.specs.Needs.{all_parts, count_of}
 use Rattle.tomex_timing.specs.declared.part.Part.{Part}
 use Rattle.tomex_timing.specs.declared.part.Part.TheVariants.{Units, Width}
 use Rattle.tomex_worth.specs.declared.changes.Change.{Change}
-
--- two options are one if their units, latencies and prices are equal
-abbrev pub same_option : UnitOption → UnitOption → Bool
-same_option a b = a.units == b.units && a.latency == b.latency && a.price == b.price
 
 -- two configurations have the same entry in a part's list
 abbrev pub same_entry : Configuration → Configuration → Part → Bool
@@ -37,10 +33,6 @@ differ_at place a b =
 abbrev pub config_at : DesignSpace → ℕ → Configuration
 config_at s row = slice_index_or s.rows row plain
 
--- all rows of a study, with their costs and cycles
-abbrev pub all_rows : DesignSpace → List FrontRow
-all_rows s = rows_from 0 s.costs (cycles_of s)
-
 abbrev pub change : Part → FrontRow → Change
 change part row = record { part = part; row = row }
 
@@ -52,3 +44,9 @@ changes_at s own place =
 -- and in any one list, list by list
 unfoldable pub changes_of : DesignSpace → FrontRow → List Change
 changes_of s own = flat_map (changes_at s own) (range_with_len 0 13)
+
+-- a machine of a study with its changes, all of which are rows of the study
+pub record IsMachine (s : DesignSpace) (own : FrontRow) (changes : List Change) : Type 0 where
+  pub own : own.row < length s.rows
+  pub changes : changes ≡ changes_of s own
+  pub within : All (λ c. c.row.row < length s.rows) changes

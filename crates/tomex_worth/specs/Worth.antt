@@ -89,14 +89,14 @@ all_headings =
     headings.Part ∷ headings.From ∷ headings.To ∷ headings.Row ∷ headings.Cost ∷ headings.Cycles ∷ headings.Percent
     ∷ headings.Rate ∷ headings.Front ∷ []
 
--- a program's own cycles on a row
-abbrev pub total_at : DesignSpace → Workload → FrontRow → ℕ
-total_at s p r = total (config_at s r.row) p.image
+-- a program's own cycles on the row of that number
+abbrev pub total_at : DesignSpace → Workload → ℕ → ℕ
+total_at s p row = total (config_at s row) p.image
 
 unfoldable pub program_column : DesignSpace → FrontRow → Workload → TableColumn
 program_column s own p = record {
   name = p.name;
-  entries = decimal (total_at s p own) ∷ map (λ c. signed (total_at s p own) (total_at s p c.row)) (changes_of s own);
+  entries = decimal (total_at s p own.row) ∷ map (λ c. signed (total_at s p own.row) (total_at s p c.row.row)) (changes_of s own);
 }
 
 -- a column for each program if there are several

@@ -1,12 +1,13 @@
 //! The rows of a study that differ from a machine in one list only.
 
-ghost use Rattle.std.specs.Prelude.{◌≡◌, ◌<◌, ◌++◌, length, All, IfOk, OnOk};
-ghost use Rattle.tomex_worth.specs.Changes.{all_rows, changes_at, changes_of, differ_at, part_at, same_entry};
-ghost use Rattle.tomex_worth.specs.Changes.{same_option};
+ghost use Rattle.std.specs.Prelude.{◌≡◌, ◌<◌, ◌++◌, if◌then◌else◌, not, length, All, IfOk, OnOk};
+ghost use Rattle.tomex_runs.specs.StudyFront.{all_rows};
+ghost use Rattle.tomex_worth.specs.Changes.{changes_at, changes_of, differ_at, part_at, same_entry};
 
 use std::alloc::{AllocError, Allocator, Global};
-use tomex_config::{Config, UnitOption};
+use tomex_config::Config;
 use tomex_pareto::FrontRow;
+use tomex_prices::same_option;
 use tomex_study::Study;
 use tomex_timing::Part;
 
@@ -16,13 +17,6 @@ pub struct Change {
     /// The part that the list is of.
     pub part: Part,
     pub row: FrontRow,
-}
-
-/// True if two options have the same units, latency and price.
-fn same_option(a: UnitOption, b: UnitOption) -> bool
-    ensures { result ≡ same_option a b }
-{
-    a.units == b.units && a.latency == b.latency && a.price == b.price
 }
 
 /// True if two configurations have the same entry in a part's list.
@@ -35,13 +29,20 @@ fn same_entry(a: &Config, b: &Config, part: Part) -> bool
     }
 }
 
+/// True if two entries are the same, but at the place in question if they are not.
+fn is_as_asked(is_place: bool, same: bool) -> bool
+    ensures { result ≡ (if is_place then not same else same) }
+{
+    if is_place { !same } else { same }
+}
+
 /// True if they differ in the list at this place, and in no other.
 #[tactic(auto, unfolding(crate::specs::Changes::differ_at))]
 fn differ_at(place: usize, a: &Config, b: &Config) -> bool
     ensures { result ≡ differ_at place a.now b.now }
 {
     for (k, part) in Part::ALL.iter().enumerate() {
-        if same_entry(a, b, *part) == (k == place) {
+        if !is_as_asked(k == place, same_entry(a, b, *part)) {
             return false;
         }
     }
@@ -83,7 +84,7 @@ pub fn changes_of<A: Allocator>(
     requires own { own.row < length study.now.rows }
     requires within { All (λ r. r.row < length study.now.rows) rows.now }
     requires rows { rows.now ≡ all_rows study.now }
-    ensures { IfOk result (λ v. v.items ≡ changes_of study.now own) }
+    ensures changes { IfOk result (λ v. v.items ≡ changes_of study.now own) }
 {
     let mut changes = Vec::new(heap);
     for place in 0..Part::ALL.len() {

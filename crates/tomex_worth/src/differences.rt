@@ -31,14 +31,14 @@ pub fn signed(heap: Global, a: u64, b: u64) -> Result<String, AllocError>
 /// The same in percent of `a`, with one digit after the point, rounded towards 0.
 #[tactic(auto, unfolding(crate::specs::Differences::percent, crate::specs::Differences::tenths))]
 pub fn percent(heap: Global, a: u64, b: u64) -> Result<String, AllocError>
-    requires some { 0 < a }
     ensures { IfOk result (λ text. string_bytes text ≡ percent a b) }
 {
     if a == b {
         return format!(in heap; "0");
     }
     let sign = sign_of(a, b);
-    let thousandths = u128::from(a.abs_diff(b)) * 1000 / u128::from(a);
+    let distance = u128::from(a.abs_diff(b));
+    let thousandths = (distance * 1000).checked_div(u128::from(a)).unwrap_or(0);
     let (whole, tenth) = (thousandths / 10, thousandths % 10);
     format!(in heap; "{sign}{whole}.{tenth}")
 }

@@ -7,3 +7,4 @@ mod heading;
 mod table;
 
 pub use changes::Change;
+pub use table::worth_table;

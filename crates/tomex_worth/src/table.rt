@@ -1,22 +1,30 @@
 //! The table of a machine.
 
-ghost use Rattle.std.specs.Prelude.{◌≡◌, ◌<◌, ◌≤◌, ◌++◌, ◌==◌, if◌then◌else◌};
-ghost use Rattle.std.specs.Prelude.{codes, length, map, All, IfOk, OnOk, string_bytes};
-ghost use Rattle.std.specs.List.{AllZip, list_any};
-ghost use Rattle.tomex_runs.specs.Cycles.{totals_on};
+ghost use Rattle.std.specs.Prelude.{◌≡◌, ◌<◌, ◌++◌, ◌==◌, if◌then◌else◌, slice_get, Some};
+ghost use Rattle.std.specs.Prelude.{codes, length, map, IfOk, OnOk, string_bytes};
+ghost use Rattle.std.specs.List.{list_any};
 ghost use Rattle.tomex_runs.specs.StudyFront.{front_of_study};
-ghost use Rattle.tomex_worth.specs.Changes.{all_rows, changes_of, config_at};
-ghost use Rattle.tomex_worth.specs.Worth.{all_headings, heading_column, own_under, text_under};
+ghost use Rattle.tomex_survey.specs.Totals.{totals_of};
+ghost use Rattle.tomex_runs.specs.StudyFront.{all_rows};
+ghost use Rattle.tomex_worth.specs.Changes.{IsMachine};
+ghost use Rattle.tomex_worth.specs.Worth.{all_headings, heading_column, own_under, program_column, program_columns};
+ghost use Rattle.tomex_worth.specs.Worth.{text_under, total_at, worth_table_of};
 
 use crate::changes::{Change, changes_of};
 use crate::differences::{percent, rate_text, signed};
 use crate::heading::{Heading, entry_text, name_of_list};
 use std::alloc::{AllocError, Allocator, Global};
-use tomex_config::Config;
 use tomex_pareto::FrontRow;
-use tomex_study::Study;
+use tomex_study::{Program, Study};
+use tomex_survey::Survey;
 use tomex_tables::{Column, table_of};
-use tomex_timing::Part;
+
+/// A machine, and the rows that differ from it in one list only.
+#[derive(Clone, Copy)]
+struct Machine<'m> {
+    own: FrontRow,
+    changes: &'m [Change],
+}
 
 /// True if a row is on the front.
 fn is_on(front: &[FrontRow], row: usize) -> bool
@@ -94,20 +102,18 @@ fn heading_column<A: Allocator>(
     heap: Global,
     study: &Study<A>,
     front: &[FrontRow],
-    own: FrontRow,
-    changes: &[Change],
+    machine: Machine<'_>,
     heading: Heading,
 ) -> Result<Column, AllocError>
     requires front { front.now ≡ front_of_study study.now }
-    requires own { own.row < length study.now.rows }
-    requires changes { changes.now ≡ changes_of study.now own }
-    requires within { All (λ c. c.row.row < length study.now.rows) changes.now }
-    ensures { IfOk result (λ c. c ≡ heading_column study.now own heading) }
+    requires machine { IsMachine study.now machine.own machine.changes.now }
+    ensures { IfOk result (λ c. c ≡ heading_column study.now machine.own heading) }
 {
+    let own = machine.own;
     let name = heading.name();
     let mut column = Column::new(heap, format!(in heap; "{name}")?);
     column.push(own_under(heap, study, front, own, heading)?)?;
-    for change in changes {
+    for change in machine.changes {
         column.push(text_under(heap, study, front, own, heading, *change)?)?;
     }
     Ok(column)
@@ -119,18 +125,125 @@ fn push_headings<A: Allocator>(
     heap: Global,
     study: &Study<A>,
     front: &[FrontRow],
-    own: FrontRow,
-    changes: &[Change],
+    machine: Machine<'_>,
 ) -> Result<(), AllocError>
     requires front { front.now ≡ front_of_study study.now }
-    requires own { own.row < length study.now.rows }
-    requires changes { changes.now ≡ changes_of study.now own }
-    requires within { All (λ c. c.row.row < length study.now.rows) changes.now }
+    requires machine { IsMachine study.now machine.own machine.changes.now }
     ensures { OnOk result (columns.new.items
-        ≡ columns.old.items ++ map (heading_column study.now own) all_headings) }
+        ≡ columns.old.items ++ map (heading_column study.now machine.own) all_headings) }
 {
     for heading in Heading::ALL {
-        columns.push(heading_column(heap, study, front, own, changes, heading)?)?;
+        columns.push(heading_column(heap, study, front, machine, heading)?)?;
     }
     Ok(())
+}
+
+/// A program's own cycles on a row. The program is the study's at this place.
+fn total_at<A: Allocator>(
+    study: &Study<A>,
+    survey: &Survey<A>,
+    place: usize,
+    program: &Program<A>,
+    row: usize,
+) -> u64
+    requires program { slice_get study.now.programs place ≡ Some program.now }
+    requires row { row < length study.now.rows }
+    requires totals { survey.now.totals ≡ totals_of study.now }
+    ensures { result ≡ total_at study.now program.now row }
+{
+    survey.totals(row)[place]
+}
+
+/// The column of a program, the study's at this place.
+#[tactic(auto, unfolding(crate::specs::Worth::program_column))]
+fn program_column<A: Allocator>(
+    heap: Global,
+    study: &Study<A>,
+    survey: &Survey<A>,
+    machine: Machine<'_>,
+    place: usize,
+    program: &Program<A>,
+) -> Result<Column, AllocError>
+    requires program { slice_get study.now.programs place ≡ Some program.now }
+    requires totals { survey.now.totals ≡ totals_of study.now }
+    requires machine { IsMachine study.now machine.own machine.changes.now }
+    ensures { IfOk result (λ c. c ≡ program_column study.now machine.own program.now) }
+{
+    let name = program.name();
+    let mut column = Column::new(heap, format!(in heap; "{name}")?);
+    let total = total_at(study, survey, place, program, machine.own.row);
+    column.push(format!(in heap; "{total}")?)?;
+    for change in machine.changes {
+        let other = total_at(study, survey, place, program, change.row.row);
+        column.push(signed(heap, total, other)?)?;
+    }
+    Ok(column)
+}
+
+/// Adds a column for each program.
+fn push_each_program<A: Allocator>(
+    columns: &mut Vec<Column>,
+    heap: Global,
+    study: &Study<A>,
+    survey: &Survey<A>,
+    machine: Machine<'_>,
+) -> Result<(), AllocError>
+    requires totals { survey.now.totals ≡ totals_of study.now }
+    requires machine { IsMachine study.now machine.own machine.changes.now }
+    ensures { OnOk result (columns.new.items
+        ≡ columns.old.items ++ map (program_column study.now machine.own) study.now.programs) }
+{
+    for (place, program) in study.programs().iter().enumerate() {
+        columns.push(program_column(heap, study, survey, machine, place, program)?)?;
+    }
+    Ok(())
+}
+
+/// Adds a column for each program, if there are several.
+fn push_programs<A: Allocator>(
+    columns: &mut Vec<Column>,
+    heap: Global,
+    study: &Study<A>,
+    survey: &Survey<A>,
+    machine: Machine<'_>,
+) -> Result<(), AllocError>
+    requires totals { survey.now.totals ≡ totals_of study.now }
+    requires machine { IsMachine study.now machine.own machine.changes.now }
+    ensures { OnOk result (columns.new.items ≡ columns.old.items ++ program_columns study.now machine.own) }
+{
+    if study.programs().len() > 1 {
+        push_each_program(columns, heap, study, survey, machine)?;
+    }
+    Ok(())
+}
+
+/// What each change of one list brings on a machine, the study's configuration of that number, as a table: a line of
+/// names, the machine itself, and a line for each row that differs from it in one list, list by list, then by number.
+///
+/// What is small is taken of `heap`.
+pub fn worth_table<A: Allocator>(
+    alloc: A,
+    heap: Global,
+    study: &Study<A>,
+    survey: &Survey<A>,
+    row: usize,
+) -> Result<Vec<u8, A>, AllocError>
+    requires row { row < length study.now.rows }
+    requires totals { survey.now.totals ≡ totals_of study.now }
+    requires rows { survey.now.rows ≡ all_rows study.now }
+    requires front { survey.now.front ≡ front_of_study study.now }
+    ensures { IfOk result (λ text. text.items ≡ worth_table_of study.now row) }
+{
+    study.keeps_limits();
+    let (rows, front) = (survey.rows(), survey.front());
+    let own = rows[row];
+    let changes = changes_of(heap, study, rows, own)?;
+    let machine = Machine {
+        own,
+        changes: changes.as_slice(),
+    };
+    let mut columns = Vec::new(heap);
+    push_headings(&mut columns, heap, study, front, machine)?;
+    push_programs(&mut columns, heap, study, survey, machine)?;
+    table_of(alloc, changes.len() + 1, columns.as_slice())
 }

@@ -1,0 +1,43 @@
+-- How long columns are: a line for the machine, and one for each change.
+use Rattle.std.proofs.Common.{◌≡◌, ◌∙◌, ap, arith, cond, refl, sym, ℕ, suc, ◌<◌, ◌≤◌, List, [], ◌∷◌, ◌++◌, length, map, All}
+use Rattle.std.specs.Prelude.{Bool, true, false, if◌then◌else◌, nat_lt}
+use Rattle.std.proofs.lemmas.Bool.{le-ltb, lt-ltb}
+use Rattle.std.proofs.lemmas.List.{length-map}
+use Rattle.std.proofs.lemmas.List.Elements.{All-append, All-cons, All-map, All-nil}
+use Rattle.tomex_pareto.specs.declared.front_row.FrontRow.{FrontRow}
+use Rattle.tomex_study.specs.Study.{DesignSpace}
+use Rattle.tomex_tables.specs.Table.{TableColumn}
+use Rattle.tomex_worth.specs.Changes.{changes_of}
+use Rattle.tomex_worth.specs.Worth.{all_headings, columns_of, heading_column, program_column, program_columns}
+
+-- a line more than there are changes
+abbrev pub HasLines : DesignSpace → FrontRow → TableColumn → Type 0
+HasLines s own c = length c.entries ≡ suc (length (changes_of s own))
+
+all_map : {X Y : Type 0} (P : Y → Type 0) (f : X → Y) (xs : List X) → ((x : X) → P (f x)) → All P (map f xs)
+all_map P f [] each = All-nil P
+all_map P f (x ∷ xs) each = All-cons P (f x) (map f xs) (each x) (all_map P f xs each)
+
+all_if : {Y : Type 0} (P : Y → Type 0) (ys : List Y) (b : Bool) → All P ys → All P (if b then ys else [])
+all_if P ys true each = each
+all_if P ys false each = All-nil P
+
+pub columns_long : (s : DesignSpace) (own : FrontRow) → All (HasLines s own) (columns_of s own)
+unfolding heading_column program_column
+columns_long s own =
+    let P = HasLines s own in
+    All-append P (map (heading_column s own) all_headings) (program_columns s own)
+    (all_map P (heading_column s own) all_headings (λ heading. ap suc (length-map _ (changes_of s own))))
+    (all_if P (map (program_column s own) s.programs) (nat_lt 1 (length s.programs))
+    (all_map P (program_column s own) s.programs (λ p. ap suc (length-map _ (changes_of s own)))))
+
+-- of several programs each has a column
+pub several_columns : (s : DesignSpace) (own : FrontRow) → 1 < length s.programs
+    → map (program_column s own) s.programs ≡ program_columns s own
+several_columns s own several =
+    ap (λ (t : Bool). cond t (map (program_column s own) s.programs) []) (sym (lt-ltb 1 (length s.programs) several))
+
+-- and a single one has none
+pub no_column : (s : DesignSpace) (own : FrontRow) → length s.programs ≤ 1 → [] ≡ program_columns s own
+no_column s own one =
+    ap (λ (t : Bool). cond t (map (program_column s own) s.programs) []) (sym (le-ltb 1 (length s.programs) one))

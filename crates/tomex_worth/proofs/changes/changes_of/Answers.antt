@@ -1,0 +1,9 @@
+-- The changes of one list more.
+use Rattle.tomex_tables.proofs.Loops.{number_more}
+use Rattle.tomex_worth.specs.Changes.{changes_at}
+use Rattle.tomex_worth.proofs.changes.changes_of.Goals as goal
+
+pub loop-place-preserved : goal.loop-place-preserved
+loop-place-preserved g c =
+    number_more (changes_at c.args.study.now c.args.own) c.loop-place.place 13 _ _ _ c.loop-place-test.true
+    c.in_ok-push_changes_at.ensures c.loop-place.invariant

@@ -1,0 +1,17 @@
+-- The entries so far, and those to come.
+use Rattle.std.proofs.Common.{◌≡◌, ◌∷◌, ◌++◌, drop, map}
+use Rattle.std.specs.Fmt.{decimal}
+use Rattle.tomex_worth.specs.Differences.{signed}
+use Rattle.tomex_worth.specs.Worth.{total_at}
+use Rattle.tomex_worth.proofs.table.program_column.Given as goal
+
+abbrev pub invariant-loop-change : goal.invariant-loop-change
+invariant-loop-change g l = record {
+  name : l.column.name ≡ l.program.name;
+  entries : l.column.entries
+      ++ map (λ c. signed (total_at l.study l.program l.machine.own.row) (total_at l.study l.program c.row.row))
+          (drop l.change-index l.machine.changes)
+      ≡ decimal (total_at l.study l.program l.machine.own.row)
+      ∷ map (λ c. signed (total_at l.study l.program l.machine.own.row) (total_at l.study l.program c.row.row))
+          l.machine.changes;
+}

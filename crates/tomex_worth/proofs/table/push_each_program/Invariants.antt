@@ -1,0 +1,9 @@
+-- The columns so far, and those to come.
+use Rattle.std.proofs.Common.{◌≡◌, ◌++◌, drop, map}
+use Rattle.tomex_worth.specs.Worth.{program_column}
+use Rattle.tomex_worth.proofs.table.push_each_program.Given as goal
+
+abbrev pub invariant-loop-place : goal.invariant-loop-place
+invariant-loop-place g l =
+    l.columns.items ++ map (program_column l.study l.machine.own) (drop l.place l.study.programs)
+    ≡ l.fn.columns.items ++ map (program_column l.study l.machine.own) l.study.programs
