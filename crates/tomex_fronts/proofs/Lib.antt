@@ -3,3 +3,5 @@ pub mod Loops
 pub mod Zips
 mod Ticks
 mod Rows
+mod Strokes
+mod Dotted

@@ -5,6 +5,8 @@ use Rattle.std.specs.Fmt.{digits}
 use Rattle.tomex_pareto.specs.declared.front_row.FrontRow.{FrontRow}
 use Rattle.tomex_records.specs.Hundredths.{hundredths}
 use Rattle.tomex_fronts.specs.Axes.{step_of, ticks_of}
+use Rattle.std.specs.Prelude.{◌==◌, ◌||◌, Bool}
+use Rattle.tomex_fronts.specs.Dots.{reach, stroke, stroke_at}
 use Rattle.tomex_fronts.specs.FrontTable.{rates_after}
 use Rattle.tomex_fronts.specs.declared.plot.axes.Span.{Span}
 
@@ -52,3 +54,23 @@ rounded = refl
 rate_text : hundredths 157100 ≡ codes "1571.00"
 unfolding hundredths digits
 rate_text = refl
+
+-- strokes of a column that has dots at 80, 161 to 163 and 360
+
+abbrev dot : ℕ → Bool
+dot y = y == 80 || (y == 161 || (y == 162 || (y == 163 || y == 360)))
+
+topmost : stroke_at dot 136 80 ≡ codes "M136 80v0"
+unfolding stroke reach digits
+topmost = refl
+
+longest : stroke_at dot 136 161 ≡ codes "M136 161v2"
+unfolding stroke reach digits
+longest = refl
+
+inside : stroke_at dot 136 162 ≡ []
+inside = refl
+
+lowest : stroke_at dot 648 360 ≡ codes "M648 360v0"
+unfolding stroke reach digits
+lowest = refl

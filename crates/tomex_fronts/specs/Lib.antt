@@ -1,3 +1,5 @@
 pub mod Axes
 pub mod Plot
 pub mod FrontTable
+pub mod Dots
+pub mod RowsPlot

@@ -5,4 +5,5 @@ mod plot;
 mod table;
 
 pub use plot::front_picture;
+pub use plot::over_rows::rows_picture;
 pub use table::front::front_table;

@@ -6,7 +6,9 @@ ghost use Rattle.tomex_fronts.specs.Plot.{front_picture_of, lines_text, picture_
 ghost use Rattle.tomex_fronts.specs.Plot.{scales_text, shade, sheet, size_text, title_of};
 
 pub mod axes;
+pub mod dots;
 pub mod marks;
+pub mod over_rows;
 pub mod points;
 pub mod stairs;
 pub mod ticks;

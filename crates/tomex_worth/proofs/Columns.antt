@@ -27,9 +27,9 @@ unfolding heading_column program_column
 columns_long s own =
     let P = HasLines s own in
     All-append P (map (heading_column s own) all_headings) (program_columns s own)
-    (all_map P (heading_column s own) all_headings (λ heading. ap suc (length-map _ (changes_of s own))))
+    (all_map P (heading_column s own) all_headings (λ heading. ap suc (length-map (changes_of s own) _)))
     (all_if P (map (program_column s own) s.programs) (nat_lt 1 (length s.programs))
-    (all_map P (program_column s own) s.programs (λ p. ap suc (length-map _ (changes_of s own)))))
+    (all_map P (program_column s own) s.programs (λ p. ap suc (length-map (changes_of s own) _))))
 
 -- of several programs each has a column
 pub several_columns : (s : DesignSpace) (own : FrontRow) → 1 < length s.programs

@@ -1,4 +1,5 @@
 -- Lemmas of this crate.
 mod Ranges
 mod Rows
+mod Totals
 mod Columns

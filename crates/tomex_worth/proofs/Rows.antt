@@ -1,5 +1,5 @@
 -- The rows of a study: what each of them is, and that changes are among them.
-use Rattle.std.proofs.Common.{◌≡◌, ◌∙◌, ap, arith, sym, subst, refl, ℕ, zero, suc, ◌+◌, ◌<◌, List, [], ◌∷◌, ◌++◌, length, map, get_or, All}
+use Rattle.std.proofs.Common.{◌≡◌, ◌∙◌, ap, ap₂, arith, subst, ℕ, zero, suc, ◌+◌, ◌<◌, List, [], ◌∷◌, ◌++◌, length, map, get_or, All}
 use Rattle.std.specs.Prelude.{slice_get, Some, take}
 use Rattle.std.specs.List.{filter, flat_map, range_with_len}
 use Rattle.std.proofs.lemmas.List.{get_or-map, length-map}
@@ -34,10 +34,11 @@ pub row_there : (s : DesignSpace) (n : ℕ) (d : FrontRow) → IsStudy s → n <
     → get_or (all_rows s) n d ≡ row_at s n
 unfolding cycles_of
 row_there s n d is within =
-    let many = length-map (cycles_on s.programs) s.rows in
+    let many = length-map s.rows (cycles_on s.programs) in
     let same = as_many s is in
+    let number : 0 + n ≡ n = omega arith in
     row_from 0 n s.costs (cycles_of s) d (omega (arith, within, same)) (omega (arith, within, many))
-    ∙ ap (λ (y : ℕ). record { row = n; cost = get_or s.costs n 0; cycles = y })
+    ∙ ap₂ (λ (m y : ℕ). record { row = m; cost = get_or s.costs n 0; cycles = y }) number
     (get_or-map (cycles_on s.programs) s.rows n plain 0 within)
 
 within_from : (n : ℕ) (cs ys : List ℕ) → All (λ (r : FrontRow). r.row < n + length cs) (rows_from n cs ys)
@@ -51,7 +52,9 @@ within_from n (c ∷ cs) (y ∷ ys) =
 -- all rows are rows of the study
 pub rows_within : (s : DesignSpace) → IsStudy s → All (λ r. r.row < length s.rows) (all_rows s)
 rows_within s is =
-    subst (λ (m : ℕ). All (λ (r : FrontRow). r.row < m) (rows_from 0 s.costs (cycles_of s))) (as_many s is)
+    let many = as_many s is in
+    let same : 0 + length s.costs ≡ length s.rows = omega (arith, many) in
+    subst (λ (m : ℕ). All (λ (r : FrontRow). r.row < m) (rows_from 0 s.costs (cycles_of s))) same
     (within_from 0 s.costs (cycles_of s))
 
 all_flat_map : {X Y : Type 0} (P : Y → Type 0) (f : X → List Y) (xs : List X) → ((x : X) → All P (f x))

@@ -47,6 +47,6 @@ changes_of s own = flat_map (changes_at s own) (range_with_len 0 13)
 
 -- a machine of a study with its changes, all of which are rows of the study
 pub record IsMachine (s : DesignSpace) (own : FrontRow) (changes : List Change) : Type 0 where
-  pub own : own.row < length s.rows
-  pub changes : changes ≡ changes_of s own
+  pub is_row : own.row < length s.rows
+  pub are_changes : changes ≡ changes_of s own
   pub within : All (λ c. c.row.row < length s.rows) changes

@@ -107,7 +107,7 @@ fn heading_column<A: Allocator>(
 ) -> Result<Column, AllocError>
     requires front { front.now ≡ front_of_study study.now }
     requires machine { IsMachine study.now machine.own machine.changes.now }
-    ensures { IfOk result (λ c. c ≡ heading_column study.now machine.own heading) }
+    ensures { IfOk result (λ c. c ≡ heading_column study.now machine.entry.own heading) }
 {
     let own = machine.own;
     let name = heading.name();
@@ -130,7 +130,7 @@ fn push_headings<A: Allocator>(
     requires front { front.now ≡ front_of_study study.now }
     requires machine { IsMachine study.now machine.own machine.changes.now }
     ensures { OnOk result (columns.new.items
-        ≡ columns.old.items ++ map (heading_column study.now machine.own) all_headings) }
+        ≡ columns.old.items ++ map (heading_column study.now machine.entry.own) all_headings) }
 {
     for heading in Heading::ALL {
         columns.push(heading_column(heap, study, front, machine, heading)?)?;
@@ -167,7 +167,7 @@ fn program_column<A: Allocator>(
     requires program { slice_get study.now.programs place ≡ Some program.now }
     requires totals { survey.now.totals ≡ totals_of study.now }
     requires machine { IsMachine study.now machine.own machine.changes.now }
-    ensures { IfOk result (λ c. c ≡ program_column study.now machine.own program.now) }
+    ensures { IfOk result (λ c. c ≡ program_column study.now machine.entry.own program.now) }
 {
     let name = program.name();
     let mut column = Column::new(heap, format!(in heap; "{name}")?);
@@ -191,7 +191,7 @@ fn push_each_program<A: Allocator>(
     requires totals { survey.now.totals ≡ totals_of study.now }
     requires machine { IsMachine study.now machine.own machine.changes.now }
     ensures { OnOk result (columns.new.items
-        ≡ columns.old.items ++ map (program_column study.now machine.own) study.now.programs) }
+        ≡ columns.old.items ++ map (program_column study.now machine.entry.own) study.now.programs) }
 {
     for (place, program) in study.programs().iter().enumerate() {
         columns.push(program_column(heap, study, survey, machine, place, program)?)?;
@@ -209,7 +209,7 @@ fn push_programs<A: Allocator>(
 ) -> Result<(), AllocError>
     requires totals { survey.now.totals ≡ totals_of study.now }
     requires machine { IsMachine study.now machine.own machine.changes.now }
-    ensures { OnOk result (columns.new.items ≡ columns.old.items ++ program_columns study.now machine.own) }
+    ensures { OnOk result (columns.new.items ≡ columns.old.items ++ program_columns study.now machine.entry.own) }
 {
     if study.programs().len() > 1 {
         push_each_program(columns, heap, study, survey, machine)?;

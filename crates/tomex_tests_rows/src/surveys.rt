@@ -1,0 +1,124 @@
+//! The survey of a worked study, its rows as CSV, and its picture.
+
+ghost use Rattle.std.specs.Prelude.{◌≡◌, IfOk};
+ghost use Rattle.tomex_runs.specs.StudyFront.{front_of_study};
+ghost use Rattle.tomex_survey.specs.Totals.{all_rows, totals_of};
+
+use std::alloc::Global;
+use std::test::Fail;
+use std::thread::Threads;
+use tomex_config::{Config, Prices, UnitOption};
+use tomex_fronts::rows_picture;
+use tomex_rows::rows_report;
+use tomex_samples::image_of;
+use tomex_study::{Program, Study};
+use tomex_survey::{Survey, survey};
+use tomex_workers::OpenGate;
+
+/// `addi x1,x0,5; addi x2,x0,7; mul x3,x1,x2; ebreak`
+const PRODUCT: [u32; 4] = [0x00500093, 0x00700113, 0x022081b3, 0x00100073];
+
+/// One unit of this latency, at this price.
+fn unit(latency: u8, price: u32) -> UnitOption {
+    UnitOption {
+        units: 1,
+        latency,
+        price,
+    }
+}
+
+/// 1, 2 or 4 alu stations, a fast and dear or a slow and cheap multiplier, and 1 or 2 buses.
+fn rows_of(alloc: Global) -> Result<Vec<Config>, Fail> {
+    let mut rows = Vec::new(alloc);
+    for row in 0..12usize {
+        let alu = [1, 2, 4][row / 4];
+        let mul = [unit(3, 40), unit(6, 15)][row % 4 / 2];
+        let buses = [1, 2][row % 2];
+        let units = [unit(1, 0), mul, unit(1, 0), unit(1, 0), unit(1, 0)];
+        let config = Config::new([alu, 1, 1, 1, 1, 1], units, buses, 1);
+        rows.push(config.ok_or("no configuration")?)?;
+    }
+    Ok(rows)
+}
+
+/// The product on these rows, at 10 for an alu station and 25 for a bus.
+fn study_of(alloc: Global) -> Result<Study, Fail> {
+    let image = image_of(alloc, 0, 4096, PRODUCT.as_slice())?;
+    let name = String::from_str(alloc, "mul")?;
+    let program = Program::new(alloc, name, image, 262_144, Vec::new(alloc), 1)?;
+    let programs = vec![in alloc; program]?;
+    let rows = rows_of(alloc)?;
+    if rows.is_empty() || rows.len() > 16_384 || programs.is_empty() || programs.len() > 8 {
+        return Err("too few or too many")?;
+    }
+    let prices = Prices::new([10, 0, 0, 0, 0, 0], 25, 0);
+    Ok(Study::new(alloc, programs, rows, prices, false)?)
+}
+
+/// What an independent implementation prints.
+const ROWS: &str =
+    "row,cost,cycles,alu,mul,div,load,store,bru,alu_units,alu_latency,mul_units,mul_latency,\
+div_units,div_latency,mem_units,mem_latency,bru_units,bru_latency,buses,mul_cycles,front\n\
+0,75,10,1,1,1,1,1,1,1,1,1,3,1,1,1,1,1,1,1,10,1\n\
+1,100,10,1,1,1,1,1,1,1,1,1,3,1,1,1,1,1,1,2,10,0\n\
+2,50,13,1,1,1,1,1,1,1,1,1,6,1,1,1,1,1,1,1,13,1\n\
+3,75,13,1,1,1,1,1,1,1,1,1,6,1,1,1,1,1,1,2,13,0\n\
+4,85,8,2,1,1,1,1,1,1,1,1,3,1,1,1,1,1,1,1,8,1\n\
+5,110,8,2,1,1,1,1,1,1,1,1,3,1,1,1,1,1,1,2,8,0\n\
+6,60,11,2,1,1,1,1,1,1,1,1,6,1,1,1,1,1,1,1,11,1\n\
+7,85,11,2,1,1,1,1,1,1,1,1,6,1,1,1,1,1,1,2,11,0\n\
+8,105,8,4,1,1,1,1,1,1,1,1,3,1,1,1,1,1,1,1,8,0\n\
+9,130,8,4,1,1,1,1,1,1,1,1,3,1,1,1,1,1,1,2,8,0\n\
+10,80,11,4,1,1,1,1,1,1,1,1,6,1,1,1,1,1,1,1,11,0\n\
+11,105,11,4,1,1,1,1,1,1,1,1,6,1,1,1,1,1,1,2,11,0\n";
+
+/// The line of all rows in its picture.
+const DOTS: &str =
+    "<path d=\"M136 80v0M200 192v0M296 80v0M296 248v0M328 192v0M360 192v0M360 360v0M456 248v0\
+M488 192v0M488 360v0M520 360v0M648 360v0\" fill=\"none\" stroke=\"#a9b8c9\" stroke-width=\"3\" \
+stroke-linecap=\"round\"/>\n";
+
+/// The survey of the worked study by so many workers.
+fn surveyed<R: Threads + Sync>(
+    rt: &R,
+    alloc: Global,
+    study: &Study,
+    workers: usize,
+) -> Result<Survey, Fail>
+    ensures totals { IfOk result (λ v. v.totals ≡ totals_of study.now) }
+    ensures rows { IfOk result (λ v. v.rows ≡ all_rows study.now) }
+    ensures front { IfOk result (λ v. v.front ≡ front_of_study study.now) }
+{
+    if workers < 1 || workers > 32 {
+        return Err("no such number of workers")?;
+    }
+    Ok(survey(rt, alloc, study, workers, &OpenGate)?)
+}
+
+#[test]
+fn rows_are_those_of_the_independent_implementation(rt: HostRuntime) -> Result<(), Fail> {
+    let study = study_of(rt.alloc())?;
+    for workers in [1, 2, 5, 12, 32] {
+        let survey = surveyed(&rt, rt.alloc(), &study, workers)?;
+        let text = rows_report(rt.alloc(), rt.alloc(), &study, &survey)?;
+        assert!(rt; text.as_slice() == ROWS.as_bytes(), "{workers} workers");
+    }
+    Ok(())
+}
+
+#[test]
+fn all_rows_are_dots(rt: HostRuntime) -> Result<(), Fail> {
+    let study = study_of(rt.alloc())?;
+    let survey = surveyed(&rt, rt.alloc(), &study, 3)?;
+    let text = rows_picture(
+        rt.alloc(),
+        rt.alloc(),
+        &study,
+        survey.rows(),
+        survey.front(),
+    )?;
+    let picture = String::from_utf8(text)?;
+    assert!(rt; picture.contains(DOTS));
+    assert!(rt; picture.contains("<title>front: 4 of 12 rows</title>"));
+    Ok(())
+}
