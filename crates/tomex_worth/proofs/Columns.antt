@@ -1,9 +1,9 @@
 -- How long columns are: a line for the machine, and one for each change.
-use Rattle.std.proofs.Common.{◌≡◌, ◌∙◌, ap, arith, cond, refl, sym, ℕ, suc, ◌<◌, ◌≤◌, List, [], ◌∷◌, ◌++◌, length, map, All}
+use Rattle.std.proofs.Common.{◌≡◌, ap, cond, refl, sym, suc, ◌<◌, ◌≤◌, List, [], ◌∷◌, ◌++◌, length, map, All}
 use Rattle.std.specs.Prelude.{Bool, true, false, if◌then◌else◌, nat_lt}
 use Rattle.std.proofs.lemmas.Bool.{le-ltb, lt-ltb}
 use Rattle.std.proofs.lemmas.List.{length-map}
-use Rattle.std.proofs.lemmas.List.Elements.{All-append, All-cons, All-map, All-nil}
+use Rattle.std.proofs.lemmas.List.Elements.{All-append, All-cons, All-nil}
 use Rattle.tomex_pareto.specs.declared.front_row.FrontRow.{FrontRow}
 use Rattle.tomex_study.specs.Study.{DesignSpace}
 use Rattle.tomex_tables.specs.Table.{TableColumn}
@@ -41,3 +41,9 @@ several_columns s own several =
 pub no_column : (s : DesignSpace) (own : FrontRow) → length s.programs ≤ 1 → [] ≡ program_columns s own
 no_column s own one =
     ap (λ (t : Bool). cond t (map (program_column s own) s.programs) []) (sym (le-ltb 1 (length s.programs) one))
+
+-- they are pushed one after the other
+pub all_columns : (s : DesignSpace) (own : FrontRow) (none first all : List TableColumn) → none ≡ []
+    → first ≡ none ++ map (heading_column s own) all_headings → all ≡ first ++ program_columns s own
+    → all ≡ columns_of s own
+all_columns s own none first all empty headings programs = rw (programs, headings, empty) refl

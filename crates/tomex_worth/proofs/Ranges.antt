@@ -1,5 +1,5 @@
 -- A test of all numbers below a bound, number by number.
-use Rattle.std.proofs.Common.{◌≡◌, ◌∙◌, ap, arith, sym, refl, ℕ, suc, ◌+◌, ◌-◌, ◌<◌, Bool, true, false, ◌&&◌}
+use Rattle.std.proofs.Common.{◌≡◌, ◌∙◌, ap, arith, sym, ℕ, suc, ◌+◌, ◌-◌, ◌<◌, Bool, true, false, ◌&&◌}
 use Rattle.std.specs.List.{list_all, range_with_len}
 
 abbrev from : (ℕ → Bool) → ℕ → Bool

@@ -1,7 +1,6 @@
 -- The rows of a study: what each of them is, and that changes are among them.
-use Rattle.std.proofs.Common.{◌≡◌, ◌∙◌, ap, ap₂, arith, subst, ℕ, zero, suc, ◌+◌, ◌<◌, List, [], ◌∷◌, ◌++◌, length, map, get_or, All}
-use Rattle.std.specs.Prelude.{slice_get, Some, take}
-use Rattle.std.specs.List.{filter, flat_map, range_with_len}
+use Rattle.std.proofs.Common.{◌≡◌, ◌∙◌, ap, ap₂, arith, refl, subst, sym, ℕ, zero, suc, ◌+◌, ◌<◌, List, [], ◌∷◌, length, get_or, All}
+use Rattle.std.specs.List.{flat_map, range_with_len}
 use Rattle.std.proofs.lemmas.List.{get_or-map, length-map}
 use Rattle.std.proofs.lemmas.List.Elements.{All-append, All-cons, All-filter, All-map, All-nil}
 use Rattle.tomex_config.specs.Configuration.{plain}
@@ -10,7 +9,8 @@ use Rattle.tomex_pareto.specs.declared.front_row.FrontRow.{FrontRow}
 use Rattle.tomex_runs.specs.Cycles.{cycles_of, cycles_on}
 use Rattle.tomex_study.specs.Study.{DesignSpace, IsStudy}
 use Rattle.tomex_runs.specs.StudyFront.{all_rows}
-use Rattle.tomex_worth.specs.Changes.{change, changes_at, changes_of, config_at, differ_at, part_at}
+use Rattle.tomex_worth.specs.Changes.{IsMachine, change, changes_at, changes_of, config_at, differ_at}
+use Rattle.tomex_worth.specs.Changes.{part_at}
 use Rattle.tomex_worth.specs.Worth.{row_at}
 use Rattle.tomex_worth.specs.declared.changes.Change.{Change}
 
@@ -72,3 +72,34 @@ changes_within s own is =
     (λ place. All-map P (change (part_at place)) _
     (All-filter (λ r. differ_at place (config_at s own.row) (config_at s r.row)) (λ r. r.row < length s.rows)
     (all_rows s) (rows_within s is)))
+
+-- as many rows are known as there are
+pub rows_long : (s : DesignSpace) (rows : List FrontRow) → IsStudy s → rows ≡ all_rows s
+    → length rows ≡ length s.rows
+unfolding cycles_of
+rows_long s rows is all =
+    ap length all ∙ long_from 0 s.costs (cycles_of s) (as_many s is ∙ sym (length-map s.rows (cycles_on s.programs)))
+    ∙ as_many s is
+  where
+    long_from : (n : ℕ) (cs ys : List ℕ) → length cs ≡ length ys → length (rows_from n cs ys) ≡ length cs
+    long_from n [] ys same = refl
+    long_from n (c ∷ cs) [] same = absurd (omega (arith, same))
+    long_from n (c ∷ cs) (y ∷ ys) same = ap suc (long_from (suc n) cs ys (omega (arith, same)))
+
+-- the row of a machine
+pub own_row : (s : DesignSpace) (rows : List FrontRow) (n : ℕ) (d : FrontRow) → IsStudy s → rows ≡ all_rows s
+    → n < length s.rows → get_or rows n d ≡ row_at s n
+own_row s rows n d is all within = ap (λ (r : List FrontRow). get_or r n d) all ∙ row_there s n d is within
+
+pub own_within : (s : DesignSpace) (rows : List FrontRow) (n : ℕ) (d : FrontRow) → IsStudy s → rows ≡ all_rows s
+    → n < length s.rows → (get_or rows n d).row < length s.rows
+own_within s rows n d is all within =
+    subst (λ (r : FrontRow). r.row < length s.rows) (sym (own_row s rows n d is all within)) within
+
+pub is_machine : (s : DesignSpace) (own : FrontRow) (changes : List Change) → IsStudy s → own.row < length s.rows
+    → changes ≡ changes_of s own → IsMachine s own changes
+is_machine s own changes is within are = record {
+  is_row = within;
+  are_changes = are;
+  within = subst (All (λ c. c.row.row < length s.rows)) (sym are) (changes_within s own is);
+}

@@ -27,7 +27,7 @@ part_at place = slice_index_or all_parts place Width
 unfoldable pub differ_at : ℕ → Configuration → Configuration → Bool
 differ_at place a b =
     list_all (λ k. if k == place then not (same_entry a b (part_at k)) else same_entry a b (part_at k))
-        (range_with_len 0 13)
+    (range_with_len 0 13)
 
 -- the configuration of a row
 abbrev pub config_at : DesignSpace → ℕ → Configuration

@@ -1,5 +1,6 @@
 -- What one part more or less is worth on a machine, as a table.
-use Rattle.std.specs.Prelude.{ℕ, suc, ◌*◌, ◌/◌, ◌==◌, nat_lt, if◌then◌else◌, List, [], ◌∷◌, ◌++◌, codes, length, map, slice_index_or}
+use Rattle.std.specs.Prelude.{ℕ, suc, ◌*◌, ◌/◌, ◌==◌, nat_lt, if◌then◌else◌, List, [], ◌∷◌, ◌++◌}
+use Rattle.std.specs.Prelude.{codes, length, map, slice_index_or}
 use Rattle.std.specs.List.{list_any}
 use Rattle.std.specs.Fmt.{decimal}
 use Rattle.tomex_rvdec.specs.Parts.{name_of_pool, name_of_unit}
@@ -96,7 +97,8 @@ total_at s p row = total (config_at s row) p.image
 unfoldable pub program_column : DesignSpace → FrontRow → Workload → TableColumn
 program_column s own p = record {
   name = p.name;
-  entries = decimal (total_at s p own.row) ∷ map (λ c. signed (total_at s p own.row) (total_at s p c.row.row)) (changes_of s own);
+  entries = decimal (total_at s p own.row)
+      ∷ map (λ c. signed (total_at s p own.row) (total_at s p c.row.row)) (changes_of s own);
 }
 
 -- a column for each program if there are several

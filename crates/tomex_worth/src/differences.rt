@@ -66,6 +66,9 @@ pub fn rate_text(heap: Global, own: FrontRow, other: FrontRow) -> Result<String,
     }
     let cycles = u128::from(own.cycles.abs_diff(other.cycles));
     let mut text = String::new(heap);
-    push_hundredths(&mut text, cycles * 100 / u128::from(own.cost.abs_diff(other.cost)))?;
+    push_hundredths(
+        &mut text,
+        cycles * 100 / u128::from(own.cost.abs_diff(other.cost)),
+    )?;
     Ok(text)
 }

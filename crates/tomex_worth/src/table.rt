@@ -245,5 +245,5 @@ pub fn worth_table<A: Allocator>(
     let mut columns = Vec::new(heap);
     push_headings(&mut columns, heap, study, front, machine)?;
     push_programs(&mut columns, heap, study, survey, machine)?;
-    table_of(alloc, changes.len() + 1, columns.as_slice())
+    table_of(alloc, machine.changes.len() + 1, columns.as_slice())
 }

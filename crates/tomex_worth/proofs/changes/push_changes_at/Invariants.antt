@@ -7,6 +7,6 @@ use Rattle.tomex_worth.proofs.changes.push_changes_at.Given as goal
 abbrev pub invariant-loop-row : goal.invariant-loop-row
 invariant-loop-row g l =
     l.changes.items ++ map (change (part_at l.place))
-        (filter (λ r. differ_at l.place (config_at l.study l.own.row) (config_at l.study r.row)) (drop l.row-index l.rows))
+    (filter (λ r. differ_at l.place (config_at l.study l.own.row) (config_at l.study r.row)) (drop l.row-index l.rows))
     ≡ l.fn.changes.items ++ map (change (part_at l.place))
-        (filter (λ r. differ_at l.place (config_at l.study l.own.row) (config_at l.study r.row)) l.rows)
+    (filter (λ r. differ_at l.place (config_at l.study l.own.row) (config_at l.study r.row)) l.rows)

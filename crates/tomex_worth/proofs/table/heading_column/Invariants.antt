@@ -1,6 +1,5 @@
 -- The entries so far, and those to come.
 use Rattle.std.proofs.Common.{◌≡◌, ◌∷◌, ◌++◌, drop, map}
-use Rattle.tomex_worth.specs.Changes.{changes_of}
 use Rattle.tomex_worth.specs.Worth.{name_under, own_under, text_under}
 use Rattle.tomex_worth.proofs.table.heading_column.Given as goal
 

@@ -10,8 +10,8 @@ invariant-loop-change g l = record {
   name : l.column.name ≡ l.program.name;
   entries : l.column.entries
       ++ map (λ c. signed (total_at l.study l.program l.machine.own.row) (total_at l.study l.program c.row.row))
-          (drop l.change-index l.machine.changes.now)
+      (drop l.change-index l.machine.changes.now)
       ≡ decimal (total_at l.study l.program l.machine.own.row)
       ∷ map (λ c. signed (total_at l.study l.program l.machine.own.row) (total_at l.study l.program c.row.row))
-          l.machine.changes.now;
+      l.machine.changes.now;
 }

@@ -1,5 +1,5 @@
 -- There are totals of the row, and of the program among them.
-use Rattle.std.proofs.Common.{arith, List, ℕ, ◌<◌, length}
+use Rattle.std.proofs.Common.{arith}
 use Rattle.tomex_worth.proofs.Totals.{has_total, has_totals, total_there}
 use Rattle.tomex_worth.proofs.table.total_at.Goals as goal
 
