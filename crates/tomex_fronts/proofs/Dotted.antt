@@ -55,7 +55,7 @@ none_marked axes marks is = record {
       ∙ get_or-replicate (513 * 281) (column * 281 + line) false false (omega arith);
 }
 
--- where a row stands, in columns and lines
+-- the place at which a row stands, by column and line
 module _ (axes : Axes) (r : FrontRow) (place column line : ℕ)
     (at : place ≡ (x_of axes r.cost - 136) * 281 + (y_of axes r.cycles - 80)) (low : column < 513) (high : line < 281)
   where

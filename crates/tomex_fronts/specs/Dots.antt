@@ -46,7 +46,7 @@ column_text dot x = flat_map (stroke_at dot x) all_y
 unfoldable pub dots : Axes → List FrontRow → List ℕ
 dots axes rows = flat_map (λ x. column_text (has_dot axes rows x) x) all_x
 
--- how wide strokes are: narrower where rows are many
+-- how wide strokes are: narrower if rows are many
 abbrev pub width_of : ℕ → ℕ
 width_of rows = if nat_le rows 1024 then 3 else 2
 

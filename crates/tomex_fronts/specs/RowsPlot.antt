@@ -8,7 +8,7 @@ use Rattle.tomex_fronts.specs.Axes.{axes_of}
 use Rattle.tomex_fronts.specs.Dots.{dots_line}
 use Rattle.tomex_fronts.specs.Plot.{lines_text, rows_text, scales_text, shade, sheet, size_text, staircase, title_of}
 
--- the picture of a front of that many rows, all of which are dots behind it: they decide how far the axes reach
+-- the picture of a front, drawn over dots for all of that many rows, which decide how far the axes reach
 unfoldable pub picture_over : ℕ → List FrontRow → List FrontRow → List ℕ
 picture_over all rows front =
     let axes = axes_of rows in

@@ -5,7 +5,7 @@ use Rattle.tomex_runs.specs.Cycles.{totals_on}
 use Rattle.tomex_study.specs.Study.{DesignSpace}
 use Rattle.tomex_survey.specs.declared.stretches.Stretch.{Stretch}
 
--- the rows of the k-th worker, of so many rows and workers
+-- the rows of the k-th worker, if these are the numbers of rows and of workers
 abbrev pub stretch_of : ℕ → ℕ → ℕ → Stretch
 stretch_of rows workers k =
     record { worker = k; first = k * rows / workers; end = (k + 1) * rows / workers }
@@ -18,7 +18,7 @@ stretches_of rows workers = map (stretch_of rows workers) (range_with_len 0 work
 abbrev pub in_stretch : {X : Type 0} → List X → Stretch → List X
 in_stretch xs stretch = slice_range xs stretch.first stretch.end
 
--- it ends after it begins, within so many rows
+-- it ends after it begins, and within this number of rows
 pub record IsWithin (rows : ℕ) (stretch : Stretch) : Type 0 where
   pub order : stretch.first ≤ stretch.end
   pub within : stretch.end ≤ rows

@@ -16,7 +16,7 @@ pub(crate) struct Stretch {
     pub end: usize,
 }
 
-/// So many rows, cut into a stretch for each worker. Two of them differ by at most one row in their length.
+/// The rows, cut into a stretch for each worker. Two of them differ by at most one row in their length.
 pub(crate) fn stretches<A: Allocator>(
     alloc: A,
     rows: usize,

@@ -78,7 +78,7 @@ const DOTS: &str =
 M488 192v0M488 360v0M520 360v0M648 360v0\" fill=\"none\" stroke=\"#a9b8c9\" stroke-width=\"3\" \
 stroke-linecap=\"round\"/>\n";
 
-/// The survey of the worked study by so many workers.
+/// The survey of the worked study by this number of workers.
 fn surveyed<R: Threads + Sync>(
     rt: &R,
     alloc: Global,

@@ -15,7 +15,7 @@ use std::alloc::{AllocError, Allocator, Global};
 use tomex_pareto::FrontRow;
 use tomex_study::Study;
 
-/// The picture of a front of `all` rows, which are dots behind it.
+/// The picture of a front, drawn over dots for all rows, of which there are `all`.
 #[tactic(auto, unfolding(crate::specs::RowsPlot::picture_over))]
 fn picture_over<A: Allocator + Clone>(
     alloc: A,
@@ -41,8 +41,8 @@ fn picture_over<A: Allocator + Clone>(
     Ok(text.into_bytes())
 }
 
-/// The front of a study as the picture that `front_picture` gives, with all rows as faint dots behind it. The axes span
-/// all rows.
+/// The front of a study as the picture that `front_picture` gives, drawn over faint dots for all rows. The axes span all
+/// rows.
 ///
 /// What is small is taken of `heap`.
 pub fn rows_picture<A: Allocator + Clone>(
