@@ -1,2 +1,3 @@
 pub mod Oks
 pub mod Cycles
+mod Surveyed

@@ -63,7 +63,11 @@ fn explored<R: Threads + Wait + Sync, A: Allocator + Clone + Send + Sync + Drop,
 }
 
 /// The front of the study that the bytes and the files stand for, shown. Refusals are those of `answer`.
-pub fn answer_shown<R: Threads + Wait + Sync, A: Allocator + Clone + Send + Sync + Drop, G: Gate + Sync>(
+pub fn answer_shown<
+    R: Threads + Wait + Sync,
+    A: Allocator + Clone + Send + Sync + Drop,
+    G: Gate + Sync,
+>(
     rt: &R,
     alloc: A,
     heap: Global,

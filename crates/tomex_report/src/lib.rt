@@ -26,5 +26,5 @@ pub use tomex_fronts::{front_picture, front_table};
 pub use tomex_konata::{LogError, konata_text};
 pub use tomex_reading::{StudyError, file_names, read_study};
 pub use tomex_texts::{ProgramEnd, RowEnds, limit_changes_no_end, tables_text, times_report};
-pub use tomex_views::{PictureError, pipeline_text, stalls_by_pc, stalls_report};
 pub use tomex_values::{Key, Place};
+pub use tomex_views::{PictureError, pipeline_text, stalls_by_pc, stalls_report};
