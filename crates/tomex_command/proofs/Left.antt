@@ -1,13 +1,18 @@
 -- A text that isn't made leaves the output as it was: none of its failures is that the output failed.
-use Rattle.std.proofs.Common.{◌≡◌, List, ℕ, refl, sym, subst}
+use Rattle.std.proofs.Common.{◌≡◌, List, ℕ, Bool, true, false, refl, sym, subst}
 use Rattle.tomex_line.specs.declared.line.Line.{Line}
 use Rattle.tomex_line.specs.declared.line.Line.TheVariants.{Run, Times, Stalls, Pipeline, Tables}
-use Rattle.tomex_line.specs.declared.line.Line.TheVariants.{All, Explore, Front, Plot, Explain}
+use Rattle.tomex_line.specs.declared.line.Line.TheVariants.{All, Explore, Front, Plot, Rows, Worth, Prices, Explain}
 use Rattle.tomex_streams.specs.Files.{Told}
 use Rattle.tomex_streams.specs.Sinks.{Seen}
 use Rattle.tomex_command.specs.Commands.{IsFailure, IsLeft}
+use Rattle.tomex_command.specs.SurveyLines.{IsPlotFailure}
 use Rattle.tomex_command.specs.declared.failure.Failure.{Failure}
 use Rattle.tomex_command.specs.declared.failure.Failure.TheVariants as failures
+
+not_drawn : (file : List ℕ → Told) (all : Bool) (name : List ℕ) → IsPlotFailure all file name failures.CannotWrite → ⊥
+not_drawn file true name is = is
+not_drawn file false name is = is
 
 not_written : (file : List ℕ → Told) (line : Line) → IsFailure file line failures.CannotWrite → ⊥
 not_written file (Run line) is = is
@@ -18,7 +23,10 @@ not_written file (Tables line) is = is
 not_written file (All line) is = is
 not_written file (Explore line) is = is
 not_written file (Front line) is = is
-not_written file (Plot line) is = is
+not_written file (Plot line) is = not_drawn file line.all line.explore.study.now is
+not_written file (Rows line) is = is
+not_written file (Worth line) is = is
+not_written file (Prices line) is = is
 not_written file (Explain line) is = is
 
 left : (file : List ℕ → Told) (line : Line) (failure : Failure) (seen : Seen) → IsFailure file line failure
@@ -31,6 +39,7 @@ left file line failures.NoSuchProgram seen is = (is, refl)
 left file line failures.CyclePastEnd seen is = (is, refl)
 left file line failures.NoSuchStep seen is = (is, refl)
 left file line failures.PictureTooLarge seen is = (is, refl)
+left file line failures.TableTooLarge seen is = (is, refl)
 left file line failures.NoSuchRefusal seen is = (is, refl)
 left file line (failures.CannotRead name) seen is = (is, refl)
 left file line failures.CannotWrite seen is = absurd (not_written file line is)

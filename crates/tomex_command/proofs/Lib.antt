@@ -1,6 +1,7 @@
 -- What the proofs of the crate share.
 mod Drawn
 mod Fronts
+mod Surveys
 mod Left
 mod Reached
 mod Reading

@@ -5,7 +5,6 @@ use Rattle.tomex_rvexec.specs.Trace.{steps_from}
 use Rattle.tomex_steps.specs.declared.step.Step.{Step}
 use Rattle.tomex_config.specs.Configuration.{Configuration}
 use Rattle.tomex_konata.specs.Konata.{IsLogOf}
-use Rattle.tomex_study.specs.Program.{Workload}
 use Rattle.tomex_views.specs.Chart.{IsPictureOf, IsUnpictured}
 use Rattle.tomex_views.specs.declared.picture_error.PictureError.{PictureError}
 use Rattle.tomex_views.specs.declared.picture_error.PictureError.TheVariants as errors
@@ -24,13 +23,13 @@ IsShown false config steps from count text = IsPictureOf config steps from count
 abbrev pub IsPipelineOf : (List ℕ → Told) → PipelineLine → List ℕ → Type 0
 IsPipelineOf file line text =
     IsOfRun file line.run (λ config program.
-        IsShown line.konata config (steps_from program.limit (start_of program.image)) line.from line.steps text)
+    IsShown line.konata config (steps_from program.limit (start_of program.image)) line.from line.steps text)
 
 -- it has them, and there is no picture of their steps, for this reason
 abbrev pub IsUndrawn : (List ℕ → Told) → PipelineLine → PictureError → Type 0
 IsUndrawn file line error =
     IsOfRun file line.run (λ config program.
-        IsUnpictured config (steps_from program.limit (start_of program.image)) line.from line.steps error)
+    IsUnpictured config (steps_from program.limit (start_of program.image)) line.from line.steps error)
 
 -- when each failure comes: those of the study, then of the configuration, then of the program, then of the step, then
 -- of the size of a picture; a log may have any

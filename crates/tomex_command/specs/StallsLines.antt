@@ -20,7 +20,7 @@ IsReportAsked false config steps text = IsStallsReport config steps text
 abbrev pub IsStallsOf : (List ℕ → Told) → StallsLine → List ℕ → Type 0
 IsStallsOf file line text =
     IsOfRun file line.run (λ config program.
-        IsReportAsked line.by_pc config (steps_from program.limit (start_of program.image)) text)
+    IsReportAsked line.by_pc config (steps_from program.limit (start_of program.image)) text)
 
 -- when each failure comes: those of the study, then of the configuration, then of the program
 abbrev pub IsStallsFailure : (List ℕ → Told) → StallsLine → Failure → Type 0

@@ -12,7 +12,7 @@ use Rattle.tomex_streams.specs.Files.{Told}
 abbrev pub IsTimesOf : (List ℕ → Told) → OneRun → List ℕ → Type 0
 IsTimesOf file run text =
     IsOfRun file run (λ config program.
-        text ≡ times_report_of config (steps_from program.limit (start_of program.image)))
+    text ≡ times_report_of config (steps_from program.limit (start_of program.image)))
 
 -- when each failure comes: those of the study, then of the configuration, then of the program
 abbrev pub IsTimesFailure : (List ℕ → Told) → OneRun → Failure → Type 0

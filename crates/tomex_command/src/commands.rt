@@ -79,7 +79,15 @@ fn text_of<
             let view = SurveyView::Worth(line.config as usize);
             text_of_survey(rt, alloc, heap, line.explore, files, meter, view)
         }
-        Line::Prices(line) => text_of_survey(rt, alloc, heap, line, files, meter, SurveyView::Prices),
+        Line::Prices(line) => text_of_survey(
+            rt,
+            alloc,
+            heap,
+            line,
+            files,
+            meter,
+            SurveyView::Prices,
+        ),
         Line::Explain(line) => text_of_explain(alloc, &line),
     }
 }

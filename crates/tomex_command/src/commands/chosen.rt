@@ -21,8 +21,8 @@ pub fn chosen_in<'s, A: Allocator>(
     run: OneRun<'_>,
 ) -> Result<Chosen<'s, A>, Failure>
     ensures chosen { IfOk result
-        (λ chosen. IsChosen study.now run.config run.program.now chosen.config.now chosen.program.now) }
-    ensures unchosen { IfErr result (λ failure. IsUnchosen study.now run.config run.program.now failure) }
+        (λ chosen. IsChosen study.now run.entry.config run.entry.program.now chosen.config.now chosen.program.now) }
+    ensures unchosen { IfErr result (λ failure. IsUnchosen study.now run.entry.config run.entry.program.now failure) }
 {
     let config = study.config(run.config as usize).ok_or(Failure::NoSuchRow)?;
     let program = study.program(run.program).ok_or(Failure::NoSuchProgram)?;
