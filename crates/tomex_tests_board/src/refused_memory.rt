@@ -7,7 +7,7 @@ use std::alloc::{AllocError, Global};
 use std::marker::Brand;
 use std::test::Fail;
 use tomex_board::{Board, Mark, Plan};
-use tomex_samples::{Attempt, Heap, Try, refusals};
+use tomex_tests_fixtures::{Attempt, Heap, Try, refusals};
 
 /// Makes a board of rows with these costs, and closes it at once.
 fn closed_at_once<J: Plan>(heap: Heap, costs: &[u64]) -> Try

@@ -5,8 +5,8 @@ use std::sync::Wait;
 use std::test::Fail;
 use std::thread::Threads;
 use tomex_command::{Heaps, command};
-use tomex_samples::in_memory::{Narrow, Shelf};
-use tomex_samples::programs::PRODUCT;
+use tomex_tests_fixtures::in_memory::{Narrow, Shelf};
+use tomex_tests_fixtures::programs::PRODUCT;
 use tomex_streams::{Meter, NoMeter};
 
 /// What a run of the program left behind.

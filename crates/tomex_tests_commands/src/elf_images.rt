@@ -3,7 +3,7 @@ ghost use Rattle.std.specs.Prelude.{◌<◌};
 
 use super::commands::{PRODUCT_END, ends, fails};
 use std::test::Fail;
-use tomex_samples::programs::ELF;
+use tomex_tests_fixtures::programs::ELF;
 
 /// The file with one byte changed.
 fn changed(place: usize, value: u8) -> [u8; 100]

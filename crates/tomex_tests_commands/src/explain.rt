@@ -2,50 +2,7 @@
 
 use crate::commands::{comes_to, comes_to_within, words_of};
 use std::test::Fail;
-
-/// The explanation of a refusal.
-pub const OVERLAP: &str = "image: overlap
-Two segments share a byte. `readelf -l FILE` lists them (LOAD). Mend the linker
-script.
-";
-
-/// All refusals, a line each.
-pub const ALL: &str = "cannot read NAME
-bad window
-too long
-no such row
-no such program
-no such step
-picture too large
-table too large
-cycle past the end
-cannot write
-thread refused
-out of memory
-no such refusal
-image: empty
-image: too large
-image: truncated
-image: not RISC-V
-image: not executable
-image: header size
-image: dynamic
-image: too many segments
-image: segment
-image: overlap
-image: entry
-fault: fetch at PC
-fault: illegal at PC
-fault: misaligned target at PC
-fault: access at PC
-study: not TOML
-study: PLACE: unknown key
-study: PLACE: KEY missing
-study: PLACE: KEY of wrong kind
-study: PLACE: KEY out of range
-study: too many configurations
-study: wrong number of files
-";
+use tomex_tests_fixtures::ALL_REFUSALS;
 
 const NONE: &str = "tomex: no such refusal\n";
 
@@ -72,7 +29,7 @@ fn all_refusals_are_listed(rt: HostRuntime) -> Result<(), Fail> {
         &rt,
         [].as_slice(),
         ["tomex", "explain"].as_slice(),
-        (0, ALL, ""),
+        (0, ALL_REFUSALS, ""),
     )
 }
 

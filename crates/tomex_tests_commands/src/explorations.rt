@@ -5,10 +5,10 @@ use std::sync::Wait;
 use std::sync::atomic::{AtomicU64, Ordering};
 use std::test::Fail;
 use std::thread::Threads;
-use tomex_samples::front_report_of;
-use tomex_samples::in_memory::Narrow;
-use tomex_samples::programs::{LOOP, PRODUCT};
-use tomex_samples::studies::{DROPPED, DROPPED_REPORT};
+use tomex_tests_fixtures::front_report_of;
+use tomex_tests_fixtures::in_memory::Narrow;
+use tomex_tests_fixtures::programs::{LOOP, PRODUCT};
+use tomex_tests_fixtures::studies::{DROPPED, DROPPED_REPORT};
 use tomex_streams::{Meter, WriteFault, write_all_of};
 
 /// Two rows, of two alu stations and of one.

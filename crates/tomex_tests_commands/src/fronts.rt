@@ -2,7 +2,7 @@
 //! worked out by hand from the reports' numbers.
 use crate::explorations::{PRICED, TWO, WEIGHED, explores_to};
 use std::test::Fail;
-use tomex_samples::studies::DROPPED;
+use tomex_tests_fixtures::studies::DROPPED;
 
 /// Two rows, which differ only in their alu stations: 2 cycles fewer for 10 more.
 const PRICED_TABLE: &str =

@@ -4,7 +4,7 @@ use std::alloc::{AllocError, Global};
 use std::test::Fail;
 use tomex_command::{Failure, report_failure, report_line_fault};
 use tomex_arguments::{LineFault, not_text, unread};
-use tomex_samples::in_memory::Narrow;
+use tomex_tests_fixtures::in_memory::Narrow;
 
 /// Whether a fault that is told, to an output which takes so many bytes, has this status, and writes these texts.
 fn is_told(

@@ -2,8 +2,8 @@
 //! times reports have.
 use super::commands::{Asked, each_comes_to};
 use std::test::Fail;
-use tomex_samples::programs::{LOOP, PRODUCT};
-use tomex_samples::studies::PRODUCT_STUDY;
+use tomex_tests_fixtures::programs::{LOOP, PRODUCT};
+use tomex_tests_fixtures::studies::PRODUCT_STUDY;
 
 /// The product on the first row, of two alu stations.
 const ON_TWO_STATIONS: &str = "cycles 1 to 8\n\

@@ -2,7 +2,6 @@
 
 use super::fronts::{DROPPED_PICTURE, DROPPED_TABLE};
 use crate::commands::{PRODUCT_END, outcome_of, text_of, words_of};
-use crate::explain::{ALL, OVERLAP};
 use crate::konata::PRODUCT_LOG;
 use crate::pipeline::ON_ONE_STATION;
 use crate::surveys::{TWELVE, TWELVE_PICTURE, TWELVE_PRICES, TWELVE_ROWS, WORTH_FOUR};
@@ -12,12 +11,12 @@ use std::test::Fail;
 use std::thread::Threads;
 use tomex_command::{RunRefusal, run_text};
 use tomex_image::Window;
-use tomex_samples::programs::{ELF, LOOP, PRODUCT};
-use tomex_samples::studies::{
+use tomex_tests_fixtures::programs::{ELF, LOOP, PRODUCT};
+use tomex_tests_fixtures::studies::{
     DROPPED, DROPPED_REPORT, PRODUCT_AFTER_3, PRODUCT_STALLS, PRODUCT_STALLS_BY_PC, PRODUCT_STUDY,
     PRODUCT_TIMES,
 };
-use tomex_samples::{Attempt, Heap, Try, refusals, refusals_of};
+use tomex_tests_fixtures::{ALL_REFUSALS, Attempt, Heap, OVERLAP, Try, refusals, refusals_of};
 use tomex_streams::NoMeter;
 
 /// Makes the text of the run.
@@ -130,7 +129,7 @@ fn of_explanations(rt: HostRuntime) -> Result<(), Fail> {
     // A text grows several times.
     let asked = [
         ("tomex explain image: overlap", OVERLAP, 1),
-        ("tomex explain", ALL, 1),
+        ("tomex explain", ALL_REFUSALS, 1),
     ];
     each_is_granted(&rt, [].as_slice(), asked.as_slice())
 }

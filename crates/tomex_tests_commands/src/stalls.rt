@@ -2,8 +2,8 @@
 //! tests of times reports have.
 use super::commands::{Asked, Refused, each_comes_to, each_is_refused};
 use std::test::Fail;
-use tomex_samples::programs::PRODUCT;
-use tomex_samples::studies::{PRODUCT_STALLS, PRODUCT_STALLS_BY_PC, PRODUCT_STUDY};
+use tomex_tests_fixtures::programs::PRODUCT;
+use tomex_tests_fixtures::studies::{PRODUCT_STALLS, PRODUCT_STALLS_BY_PC, PRODUCT_STUDY};
 
 /// What the product lacks on the first row, of two alu stations: nothing but a wider issue, and the second factor.
 const ON_TWO_STATIONS: &str = "part,count,peak,stalls\n\

@@ -2,8 +2,8 @@
 use super::commands::{Asked, Refused, each_comes_to, each_is_refused};
 use super::times::SUM;
 use std::test::Fail;
-use tomex_samples::programs::PRODUCT;
-use tomex_samples::studies::{PRODUCT_AFTER_3, PRODUCT_STUDY};
+use tomex_tests_fixtures::programs::PRODUCT;
+use tomex_tests_fixtures::studies::{PRODUCT_AFTER_3, PRODUCT_STUDY};
 
 /// `mul x5,x1,x2; addi x5,x0,1; ebreak`
 const WRITTEN_TWICE: &[u8; 12] = b"\xb3\x82\x20\x02\x93\x02\x10\x00\x73\x00\x10\x00";

@@ -7,7 +7,7 @@ use std::sync::atomic::{AtomicU64, Ordering};
 use std::test::Fail;
 use std::thread;
 use std::thread::Threads;
-use tomex_samples::programs::PRODUCT;
+use tomex_tests_fixtures::programs::PRODUCT;
 use tomex_streams::Meter;
 
 /// Turns that a thread is held, at most.

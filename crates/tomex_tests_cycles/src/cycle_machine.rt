@@ -4,10 +4,11 @@ use std::alloc::{AllocError, Allocator, Global};
 use std::test::Fail;
 use tomex_config::{Config, UnitOption};
 use tomex_cycle::{Machine, Progress};
-use tomex_timing::Tables;
 use tomex_image::Image;
 use tomex_rvexec::End;
-use tomex_samples::image_of;
+use tomex_tests_fixtures::image_of;
+use tomex_tests_fixtures::programs::{LOOP_WORDS, PRODUCT_WORDS};
+use tomex_timing::Tables;
 
 mod faults;
 mod random;
@@ -109,9 +110,6 @@ fn end_of<A: Allocator>(machine: Machine<A>) -> Result<End<A>, Fail> {
     }
 }
 
-/// `addi x1,x0,5; addi x2,x0,7; mul x3,x1,x2; ebreak`
-const PRODUCT: [u32; 4] = [0x00500093, 0x00700113, 0x022081b3, 0x00100073];
-
 /// `mul x3,x0,x0; addi x4,x0,1; ebreak`
 const ONE_BUS: [u32; 3] = [0x020001b3, 0x00100213, 0x00100073];
 
@@ -138,9 +136,6 @@ const TWO_LOADS: [u32; 4] = [0x10000413, 0x00040083, 0x00040103, 0x00100073];
 
 /// `addi x0,x0,0; ebreak`
 const NOTHING: [u32; 2] = [0x00000013, 0x00100073];
-
-/// `addi x1,x0,499; addi x1,x1,-1; bne x1,x0,-4; ebreak`
-const LOOP: [u32; 4] = [0x1f300093, 0xfff08093, 0xfe009ee3, 0x00100073];
 
 /// `ebreak`
 const EBREAK: [u32; 1] = [0x00100073];
@@ -190,8 +185,8 @@ fn comes_to(rt: &HostRuntime, row: &Worked) -> Result<(), Fail> {
 }
 
 static WORKED: [Worked; 24] = [
-    (&PRODUCT, TWO_ALU, [1, 3, 1, 1], 1, 8, (12, 3, 0x23)),
-    (&PRODUCT, [1; 6], [1, 3, 1, 1], 1, 10, (12, 3, 0x23)),
+    (&PRODUCT_WORDS, TWO_ALU, [1, 3, 1, 1], 1, 8, (12, 3, 0x23)),
+    (&PRODUCT_WORDS, [1; 6], [1, 3, 1, 1], 1, 10, (12, 3, 0x23)),
     (&ONE_BUS, [1; 6], [1, 2, 1, 1], 1, 5, (8, 4, 1)),
     (&ONE_BUS, [1; 6], [1, 2, 1, 2], 1, 4, (8, 4, 1)),
     (&ONE_UNIT, TWO_ALU, [1, 3, 1, 2], 1, 8, (12, 5, 0)),
@@ -205,13 +200,13 @@ static WORKED: [Worked; 24] = [
     (&TWO_LOADS, [1; 6], [1, 1, 2, 1], 1, 12, (12, 8, 256)),
     (&NOTHING, [1; 6], [1, 1, 1, 1], 1, 2, (4, 0, 0)),
     (&EBREAK, [1; 6], [1, 1, 1, 1], 1, 1, (0, 2, 65536)),
-    (&LOOP, [1; 6], [1, 1, 1, 1], 1, 2000, (12, 1, 0)),
+    (&LOOP_WORDS, [1; 6], [1, 1, 1, 1], 1, 2000, (12, 1, 0)),
     (&WAITED_FOR, [1; 6], [1, 64, 1, 1], 1, 68, (8, 4, 0)),
     // A product issues beside its producers, and nothing beside a JALR after it.
-    (&PRODUCT, TWO_ALU, [2, 3, 1, 2], 1, 8, (12, 3, 0x23)),
-    (&PRODUCT, TWO_ALU, [2, 3, 1, 2], 2, 7, (12, 3, 0x23)),
-    (&PRODUCT, TWO_ALU, [2, 3, 1, 2], 4, 7, (12, 3, 0x23)),
-    (&PRODUCT, [1; 6], [1, 3, 1, 1], 2, 10, (12, 3, 0x23)),
+    (&PRODUCT_WORDS, TWO_ALU, [2, 3, 1, 2], 1, 8, (12, 3, 0x23)),
+    (&PRODUCT_WORDS, TWO_ALU, [2, 3, 1, 2], 2, 7, (12, 3, 0x23)),
+    (&PRODUCT_WORDS, TWO_ALU, [2, 3, 1, 2], 4, 7, (12, 3, 0x23)),
+    (&PRODUCT_WORDS, [1; 6], [1, 3, 1, 1], 2, 10, (12, 3, 0x23)),
     (&INDIRECT, TWO_ALU, [1, 3, 1, 1], 4, 9, (16, 6, 16)),
     (&NOTHING, [1; 6], [1, 1, 1, 1], 2, 2, (4, 0, 0)),
     (&EBREAK, [1; 6], [1, 1, 1, 1], 4, 1, (0, 2, 65536)),

@@ -5,7 +5,7 @@ use std::alloc::Global;
 use std::test::Fail;
 use tomex_image::{Image, ImageError, Window, load};
 use tomex_rvexec::{Fault, FaultKind, RunError, run};
-use tomex_samples::programs::ELF;
+use tomex_tests_fixtures::programs::ELF;
 
 /// A window around the file's segment, small enough for thousands of loads.
 fn window() -> Result<Window, Fail> {

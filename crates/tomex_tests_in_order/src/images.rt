@@ -3,7 +3,7 @@
 use std::alloc::{AllocError, Global};
 use std::test::Fail;
 use tomex_image::{Image, ImageError, Window, load};
-use tomex_samples::programs::ELF;
+use tomex_tests_fixtures::programs::ELF;
 
 /// Whether a memory is the product and zeros, 65,536 bytes in all.
 fn is_product(memory: &[u8]) -> bool {

@@ -8,15 +8,13 @@ use tomex_rvexec::{
     ByteRange, Cpu, End, EndKind, Fault, FaultKind, Fetcher, Memory, RunError, Step, Stepped,
     instruction_at, next_pc, result, run, store, trace,
 };
-use tomex_samples::image_of;
+use tomex_tests_fixtures::image_of;
+use tomex_tests_fixtures::programs::PRODUCT_WORDS;
 
 /// The end of a run of at most so many steps.
 fn ran(alloc: Global, image: &Image, limit: u32) -> Result<End, Fail> {
     Ok(run(alloc, image, limit)?)
 }
-
-/// `addi x1,x0,5; addi x2,x0,7; mul x3,x1,x2; ebreak`
-const PRODUCT: [u32; 4] = [0x00500093, 0x00700113, 0x022081b3, 0x00100073];
 
 /// Whether a program makes more than so many steps.
 fn is_too_long(alloc: Global, image: &Image, limit: u32) -> bool {
@@ -43,7 +41,7 @@ fn steps_so(cpu: &mut Cpu, wanted: &[Stepped]) -> bool {
 
 #[test]
 fn steps_to_the_end_and_stays_there(rt: HostRuntime) -> Result<(), Fail> {
-    let image = image_of(rt.alloc(), 0, 4096, PRODUCT.as_slice())?;
+    let image = image_of(rt.alloc(), 0, 4096, PRODUCT_WORDS.as_slice())?;
     let mut cpu = Cpu::new(rt.alloc(), &image)?;
     assert!(rt; steps_so(&mut cpu, STEPPED.as_slice()));
     assert!(rt; cpu.pc() == 12);
@@ -69,7 +67,10 @@ const LOADED: [u32; 7] = [
 ];
 
 /// Programs, each with its steps and the values that it leaves in x1 and on.
-static ENDING: [(&[u32], u32, &[u32]); 2] = [(&PRODUCT, 4, &[5, 7, 35]), (&LOADS, 9, &LOADED)];
+static ENDING: [(&[u32], u32, &[u32]); 2] = [
+    (&PRODUCT_WORDS, 4, &[5, 7, 35]),
+    (&LOADS, 9, &LOADED),
+];
 
 /// Whether a program ends after so many steps, not within fewer, and leaves these values.
 fn ends(alloc: Global, words: &[u32], steps: u32, wanted: &[u32]) -> Result<bool, Fail> {
@@ -249,7 +250,7 @@ fn steps_on_a_memory_alone(rt: HostRuntime) -> Result<(), Fail> {
 
 #[test]
 fn fetches_an_instruction_twice(rt: HostRuntime) -> Result<(), Fail> {
-    let image = image_of(rt.alloc(), 0, 4096, PRODUCT.as_slice())?;
+    let image = image_of(rt.alloc(), 0, 4096, PRODUCT_WORDS.as_slice())?;
     let mut fetcher = Fetcher::new(&image);
     let product = decode(0x0220_81b3).ok_or(FaultKind::Illegal);
     for _ in 0..2 {

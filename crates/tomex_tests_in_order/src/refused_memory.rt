@@ -4,8 +4,8 @@ use std::alloc::AllocError;
 use std::test::Fail;
 use tomex_image::{Image, ImageError, Window, load};
 use tomex_rvexec::{Cpu, EndKind, RunError, Stepped, run, trace};
-use tomex_samples::programs::ELF;
-use tomex_samples::{Attempt, Heap, Try, refusals};
+use tomex_tests_fixtures::programs::ELF;
+use tomex_tests_fixtures::{Attempt, Heap, Try, refusals};
 
 /// The image of these bytes in a window of 4096 from a base, or how its loading came out.
 fn image_of(heap: Heap, bytes: &[u8], base: u32) -> Result<Image<Heap>, Try> {

@@ -4,7 +4,7 @@ use std::alloc::{AllocError, Global};
 use std::process::Abort;
 use std::test::Fail;
 use tomex_arguments::LineFault;
-use tomex_line::{Line, read_line};
+use tomex_line::{Line, OneRun, read_line};
 
 /// The words of a line, apart at each space.
 fn words(alloc: Global, line: &str) -> Result<Vec<String>, AllocError> {
@@ -29,7 +29,23 @@ fn told_line(alloc: Global, line: &Line) -> Result<String, AllocError> {
             format!(in alloc; "explore {} {}", explore.study, explore.workers)
         }
         Line::Front(front) => format!(in alloc; "front {} {}", front.study, front.workers),
-        Line::Plot(plot) => format!(in alloc; "plot {} {}", plot.study, plot.workers),
+        other => told_of_all_rows(alloc, other),
+    }
+}
+
+/// The same of what is asked of all rows of a study.
+fn told_of_all_rows(alloc: Global, line: &Line) -> Result<String, AllocError> {
+    match line {
+        Line::Plot(plot) => {
+            let (study, workers) = (plot.explore.study, plot.explore.workers);
+            format!(in alloc; "plot {study} {workers} {}", plot.all)
+        }
+        Line::Rows(rows) => format!(in alloc; "rows {} {}", rows.study, rows.workers),
+        Line::Worth(worth) => {
+            let (study, workers) = (worth.explore.study, worth.explore.workers);
+            format!(in alloc; "worth {study} {} {workers}", worth.config)
+        }
+        Line::Prices(prices) => format!(in alloc; "prices {} {}", prices.study, prices.workers),
         other => told_of_a_program(alloc, other),
     }
 }
@@ -38,25 +54,31 @@ fn told_line(alloc: Global, line: &Line) -> Result<String, AllocError> {
 fn told_of_a_program(alloc: Global, line: &Line) -> Result<String, AllocError> {
     match line {
         Line::Stalls(stalls) => {
-            let (study, config) = (stalls.study, stalls.config);
-            format!(in alloc;
-                "stalls {study} {config} {} {}",
-                stalls.program, stalls.by_pc
-            )
+            let OneRun {
+                study,
+                config,
+                program,
+            } = stalls.run;
+            format!(in alloc; "stalls {study} {config} {program} {}", stalls.by_pc)
         }
         Line::Pipeline(pipeline) => {
-            let (study, config) = (pipeline.study, pipeline.config);
+            let OneRun {
+                study,
+                config,
+                program,
+            } = pipeline.run;
             format!(in alloc;
-                "pipeline {study} {config} {} {} {} {}",
-                pipeline.program, pipeline.from, pipeline.steps, pipeline.konata
+                "pipeline {study} {config} {program} {} {} {}",
+                pipeline.from, pipeline.steps, pipeline.konata
             )
         }
         Line::Tables(tables) => {
-            let (study, config) = (tables.study, tables.config);
-            format!(in alloc;
-                "tables {study} {config} {} {}",
-                tables.program, tables.cycle
-            )
+            let OneRun {
+                study,
+                config,
+                program,
+            } = tables.run;
+            format!(in alloc; "tables {study} {config} {program} {}", tables.cycle)
         }
         Line::Explain(explain) => match &explain.refusal {
             Some(words) => format!(in alloc; "explain [{words}]"),
@@ -87,7 +109,7 @@ fn told(alloc: Global, line: &str) -> Result<String, AllocError> {
 }
 
 /// Lines, and how what they come to begins.
-static READ: [(&str, &str); 41] = [
+static READ: [(&str, &str); 54] = [
     ("run mul.bin", "run mul.bin 0 65536 262144"),
     (
         "run a --base 4294967292 --size 4 --limit 1",
@@ -135,8 +157,24 @@ static READ: [(&str, &str); 41] = [
     ("explore --workers 32 a", "explore a 32"),
     ("front a", "front a 1"),
     ("front a --workers 2", "front a 2"),
-    ("plot a", "plot a 1"),
-    ("plot --workers=32 a", "plot a 32"),
+    ("plot a", "plot a 1 false"),
+    ("plot --workers=32 a", "plot a 32 false"),
+    ("plot --rows a", "plot a 1 true"),
+    ("plot a --workers 3 --rows", "plot a 3 true"),
+    ("rows a", "rows a 1"),
+    ("rows a --workers 32", "rows a 32"),
+    ("rows --help", "help Prints the cost and the exact cycles"),
+    ("rows -h", "help Prints the cycles of every configuration"),
+    ("worth a 0", "worth a 0 1"),
+    ("worth --workers=32 a 16383", "worth a 16383 32"),
+    ("worth --help", "help Prints what each change"),
+    ("worth -h", "help Prints what one part more"),
+    ("prices a", "prices a 1"),
+    ("prices --workers 2 a", "prices a 2"),
+    (
+        "prices --help",
+        "help Prints, for each configuration on the front",
+    ),
     ("explain", "explain all"),
     ("explain image: segment", "explain [image: segment]"),
     (

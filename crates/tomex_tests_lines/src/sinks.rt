@@ -1,8 +1,8 @@
 //! A write that stops on its way.
 
 use std::test::Fail;
-use tomex_samples::in_memory::Narrow;
 use tomex_streams::{WriteFault, write_all_of};
+use tomex_tests_fixtures::in_memory::Narrow;
 
 const TEXT: &[u8; 13] = b"0123456789abc";
 

@@ -6,8 +6,8 @@ use std::io::{IsTerminal, Read};
 use std::sync::atomic::{AtomicU64, Ordering};
 use std::test::Fail;
 use std::time::{Clock, Duration};
-use tomex_samples::heap_of;
 use tomex_streams::{Files, HostFiles, Meter, ReadFault, TerminalMeter, bytes_within};
+use tomex_tests_fixtures::heap_of;
 
 const TEXT: &[u8; 13] = b"0123456789abc";
 

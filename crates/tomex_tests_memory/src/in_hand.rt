@@ -4,9 +4,9 @@ use std::sync::atomic::{AtomicU64, Ordering};
 use std::test::Fail;
 use std::thread;
 use tomex_report::read_study;
-use tomex_samples::programs::LOOP;
-use tomex_samples::studies::DROPPED;
-use tomex_samples::{Heap, ample, heap_of};
+use tomex_tests_fixtures::programs::LOOP;
+use tomex_tests_fixtures::studies::DROPPED;
+use tomex_tests_fixtures::{Heap, ample, heap_of};
 use tomex_sweep::{Gate, OpenGate, SweepError, explore};
 
 /// As worker 1 begins with a row, it spends all memory that is left; worker 0 is held until then.

@@ -6,9 +6,9 @@ use tomex_config::{Config, UnitOption};
 use tomex_cycle::Machine;
 use tomex_image::{Image, Window, load};
 use tomex_report::tables_text;
-use tomex_samples::programs::PRODUCT;
-use tomex_samples::studies::PRODUCT_AFTER_3;
-use tomex_samples::{Attempt, Heap, Try, ample, refusals};
+use tomex_tests_fixtures::programs::PRODUCT;
+use tomex_tests_fixtures::studies::PRODUCT_AFTER_3;
+use tomex_tests_fixtures::{Attempt, Heap, Try, ample, refusals};
 
 /// The machine of a program on a configuration, made in one memory, and the text of its tables after 3 cycles,
 /// made in the other.

@@ -104,7 +104,7 @@ fn studies(rt: HostRuntime) -> Result<(), Fail> {
 }
 
 /// What commands refuse themselves, as the definition of what is reported has it.
-static COMMANDS: [(&str, &str); 15] = [
+static COMMANDS: [(&str, &str); 16] = [
     ("tomex: bad window", "bad window"),
     ("too long", "too long"),
     ("tomex: program a: too long", "too long"),

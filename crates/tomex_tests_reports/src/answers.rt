@@ -4,8 +4,8 @@ use std::alloc::{AllocError, Allocator, Global};
 use std::sync::Wait;
 use std::thread::Threads;
 use tomex_report::{AnswerError, answer, answer_all};
-use tomex_samples::programs::LOOP;
 use tomex_sweep::{Gate, Outcome, Study, SweepError, explore};
+use tomex_tests_fixtures::programs::LOOP;
 
 /// The file of the loop, in memory of a heap.
 pub fn loop_in<A: Allocator + Drop>(heap: A, other: Global) -> Result<Vec<Vec<u8, A>>, AllocError> {

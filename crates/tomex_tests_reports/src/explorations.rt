@@ -8,9 +8,9 @@ use std::sync::Wait;
 use std::test::Fail;
 use std::thread::Threads;
 use tomex_report::read_study;
-use tomex_samples::front_report_of;
-use tomex_samples::studies::{DROPPED, DROPPED_REPORT};
 use tomex_sweep::{Gate, Mark, OpenGate};
+use tomex_tests_fixtures::front_report_of;
+use tomex_tests_fixtures::studies::{DROPPED, DROPPED_REPORT};
 
 /// Four rows of one cost.
 const EQUAL: &str = "[[program]]\nname = \"loop\"\nfile = \"loop.bin\"\n\

@@ -6,8 +6,9 @@ use std::sync::Wait;
 use std::test::Fail;
 use std::thread::Threads;
 use tomex_report::AnswerError;
-use tomex_samples::studies::DROPPED;
 use tomex_sweep::OpenGate;
+use tomex_tests_fixtures::programs::LOOP_WORDS;
+use tomex_tests_fixtures::studies::DROPPED;
 
 /// A study of one program, two numbers of alu stations and a mul unit of latency 3.
 const PRICED: &str = "[[program]]\nname = \"mul\"\nfile = \"mul.bin\"\n[prices]\nalu = 10\n\
@@ -15,9 +16,6 @@ const PRICED: &str = "[[program]]\nname = \"mul\"\nfile = \"mul.bin\"\n[prices]\
 
 /// `addi x1,x0,5; addi x2,x0,7; mul x3,x1,x2; ebreak`
 const MUL: [u32; 4] = [0x00500093, 0x00700113, 0x022081b3, 0x00100073];
-
-/// `addi x1,x0,499; addi x1,x1,-1; bne x1,x0,-4; ebreak`, 1,000 steps
-const LOOP: [u32; 4] = [0x1f300093, 0xfff08093, 0xfe009ee3, 0x00100073];
 
 const HEADER: &str =
     "row,cost,cycles,alu,mul,div,load,store,bru,alu_units,alu_latency,mul_units,mul_latency,div_units,div_latency,mem_units,mem_latency,bru_units,bru_latency,buses,program,steps,program_cycles,end,regs,watch\n";
@@ -39,17 +37,17 @@ static REPORTS: [(&str, &[[u32; 4]], &str); 4] = [
     ),
     (
         DROPPED,
-        &[LOOP],
+        &[LOOP_WORDS],
         "0,5,2000,1,1,1,1,1,1,1,1,1,1,1,1,1,1,1,1,1,loop,1000,2000,ebreak,x2=00010000,-\n",
     ),
     (
         STUDY_OF_EQUALS,
-        &[LOOP],
+        &[LOOP_WORDS],
         "0,5,2000,1,1,1,1,1,1,1,1,1,1,1,1,1,1,1,1,1,loop,1000,2000,ebreak,x2=00010000,-\n1,5,2000,1,1,1,1,1,1,1,1,1,1,1,1,1,1,1,1,1,loop,1000,2000,ebreak,x2=00010000,-\n",
     ),
     (
         STUDY_OF_TWO,
-        &[MUL, LOOP],
+        &[MUL, LOOP_WORDS],
         "0,0,2008,1,1,1,1,1,1,1,1,1,1,1,1,1,1,1,1,1,mul,4,8,ebreak,x1=00000005 x2=00000007 x3=00000023,-\n0,0,2008,1,1,1,1,1,1,1,1,1,1,1,1,1,1,1,1,1,loop,1000,2000,ebreak,x2=00010000,00000000:9300301f\n",
     ),
 ];

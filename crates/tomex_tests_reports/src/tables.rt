@@ -3,13 +3,11 @@
 use std::test::Fail;
 use tomex_config::{Config, UnitOption};
 use tomex_cycle::Machine;
-use tomex_timing::{Busy, Field, Tables, Tag};
 use tomex_image::{Window, load};
 use tomex_report::tables_text;
 use tomex_rvdec::{PoolId, decode};
-
-/// `addi x1,x0,5; addi x2,x0,7; mul x3,x1,x2; ebreak`
-const PRODUCT: [u32; 4] = [0x00500093, 0x00700113, 0x022081b3, 0x00100073];
+use tomex_tests_fixtures::programs::PRODUCT_WORDS;
+use tomex_timing::{Busy, Field, Tables, Tag};
 
 /// `mul x5,x1,x2; addi x5,x0,1; ebreak`
 const WRITTEN_TWICE: [u32; 3] = [0x022082b3, 0x00100293, 0x00100073];
@@ -63,10 +61,10 @@ fn text_after(
 
 /// Programs with their alu stations and the latencies of mul and mem, a cycle, and the text after it.
 static WORKED: [(&[u32], [u8; 3], u32, &str); 9] = [
-    (&PRODUCT, [2, 3, 1], 0, "cycle 0\n"),
+    (&PRODUCT_WORDS, [2, 3, 1], 0, "cycle 0\n"),
     // The first operand of the product came in the cycle of its issue.
     (
-        &PRODUCT,
+        &PRODUCT_WORDS,
         [2, 3, 1],
         3,
         "cycle 3\n\
@@ -75,7 +73,7 @@ static WORKED: [(&[u32], [u8; 3], u32, &str); 9] = [
          x2 Qi=alu1\n\
          x3 Qi=mul0\n",
     ),
-    (&PRODUCT, [2, 3, 1], 8, "cycle 8\n"),
+    (&PRODUCT_WORDS, [2, 3, 1], 8, "cycle 8\n"),
     (
         &WRITTEN_TWICE,
         [1, 10, 1],

@@ -7,7 +7,7 @@ use std::thread::Threads;
 use tomex_config::{Config, Prices, UnitOption};
 use tomex_image::{Image, Window, load};
 use tomex_rvexec::trace;
-use tomex_samples::{Heap, Try, ample, refusals_of};
+use tomex_tests_fixtures::{Heap, Try, ample, refusals_of};
 use tomex_sweep::{
     FrontRow, Mark, OpenGate, Outcome, Program, Study, SweepError, explore, run_all,
 };

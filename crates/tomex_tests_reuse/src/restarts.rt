@@ -6,7 +6,7 @@ use tomex_config::{Config, UnitOption};
 use tomex_cycle::Machine;
 use tomex_image::{Image, Window, load};
 use tomex_rvexec::End;
-use tomex_samples::{Heap, ample, heap_of};
+use tomex_tests_fixtures::{Heap, ample, heap_of};
 
 /// `addi x8,x0,256; addi x1,x0,768; sw x1,0(x8); mul x5,x1,x1; lb x2,1(x8); sw x5,4(x8); ebreak`
 static FIRST: [u32; 7] = [

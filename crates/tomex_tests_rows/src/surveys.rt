@@ -10,13 +10,11 @@ use std::thread::Threads;
 use tomex_config::{Config, Prices, UnitOption};
 use tomex_fronts::rows_picture;
 use tomex_rows::rows_report;
-use tomex_samples::image_of;
+use tomex_tests_fixtures::image_of;
 use tomex_study::{Program, Study};
 use tomex_survey::{Survey, survey};
 use tomex_workers::OpenGate;
-
-/// `addi x1,x0,5; addi x2,x0,7; mul x3,x1,x2; ebreak`
-const PRODUCT: [u32; 4] = [0x00500093, 0x00700113, 0x022081b3, 0x00100073];
+use tomex_tests_fixtures::programs::PRODUCT_WORDS;
 
 /// One unit of this latency, at this price.
 fn unit(latency: u8, price: u32) -> UnitOption {
@@ -43,7 +41,7 @@ fn rows_of(alloc: Global) -> Result<Vec<Config>, Fail> {
 
 /// The product on these rows, at 10 for an alu station and 25 for a bus.
 fn study_of(alloc: Global) -> Result<Study, Fail> {
-    let image = image_of(alloc, 0, 4096, PRODUCT.as_slice())?;
+    let image = image_of(alloc, 0, 4096, PRODUCT_WORDS.as_slice())?;
     let name = String::from_str(alloc, "mul")?;
     let program = Program::new(alloc, name, image, 262_144, Vec::new(alloc), 1)?;
     let programs = vec![in alloc; program]?;

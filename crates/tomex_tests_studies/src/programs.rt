@@ -5,8 +5,9 @@ use std::test::Fail;
 use tomex_config::{Config, Prices, UnitOption};
 use tomex_image::{Image, Window};
 use tomex_rvexec::{Fault, FaultKind};
-use tomex_samples::image_of;
 use tomex_study::{Program, ProgramError, Study, WatchRange, can_watch};
+use tomex_tests_fixtures::image_of;
+use tomex_tests_fixtures::programs::PRODUCT_WORDS;
 
 /// The watch of the first 16 bytes.
 fn first_bytes(alloc: Global) -> Result<Vec<WatchRange>, AllocError> {
@@ -41,12 +42,9 @@ fn is_refused(alloc: Global, words: &[u32], limit: u32, error: ProgramError) -> 
     Ok(program_of(alloc, words, limit)?.err() == Some(error))
 }
 
-/// `addi x1,x0,5; addi x2,x0,7; mul x3,x1,x2; ebreak`
-const PRODUCT: [u32; 4] = [0x00500093, 0x00700113, 0x022081b3, 0x00100073];
-
 /// The product, within four steps.
 fn product(alloc: Global) -> Result<Program, Fail> {
-    Ok(program_of(alloc, PRODUCT.as_slice(), 4)??)
+    Ok(program_of(alloc, PRODUCT_WORDS.as_slice(), 4)??)
 }
 
 /// Whether a program is the product.
@@ -60,7 +58,14 @@ fn is_product(program: &Program) -> bool {
 #[test]
 fn four_steps_within_limits(rt: HostRuntime) -> Result<(), Fail> {
     assert!(rt; is_product(&product(rt.alloc())?));
-    assert!(rt; is_refused(rt.alloc(), PRODUCT.as_slice(), 3, ProgramError::TooLong)?);
+    assert!(rt;
+        is_refused(
+            rt.alloc(),
+            PRODUCT_WORDS.as_slice(),
+            3,
+            ProgramError::TooLong
+        )?
+    );
     Ok(())
 }
 

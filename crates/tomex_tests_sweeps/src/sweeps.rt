@@ -5,18 +5,13 @@ use std::sync::Wait;
 use std::test::Fail;
 use std::thread::Threads;
 use tomex_config::{Config, Prices, UnitOption};
-use tomex_samples::image_of;
 use tomex_sweep::{FrontRow, Gate, Mark, OpenGate, Outcome, Program, Study, explore, run_all};
+use tomex_tests_fixtures::image_of;
+use tomex_tests_fixtures::programs::{LOOP_WORDS, PRODUCT_WORDS};
 
 mod many;
 mod refused;
 mod shared;
-
-/// `addi x1,x0,499; addi x1,x1,-1; bne x1,x0,-4; ebreak`
-const LOOP: [u32; 4] = [0x1f300093, 0xfff08093, 0xfe009ee3, 0x00100073];
-
-/// `addi x1,x0,5; addi x2,x0,7; mul x3,x1,x2; ebreak`
-const PRODUCT: [u32; 4] = [0x00500093, 0x00700113, 0x022081b3, 0x00100073];
 
 /// One unit of this latency, at this price.
 fn unit(latency: u8, price: u32) -> UnitOption {
@@ -65,7 +60,7 @@ fn rows_of(alloc: Global, options: &[(u8, u32)]) -> Result<Vec<Config>, Fail> {
 /// The study of the loop, of this weight, on such rows.
 fn weighed_study(alloc: Global, options: &[(u8, u32)], weight: u32) -> Result<Study, Fail> {
     let rows = rows_of(alloc, options)?;
-    let programs = vec![in alloc; program_of(alloc, "loop", LOOP.as_slice(), weight)?]?;
+    let programs = vec![in alloc; program_of(alloc, "loop", LOOP_WORDS.as_slice(), weight)?]?;
     study_on(alloc, programs, rows)
 }
 
@@ -198,8 +193,8 @@ static WEIGHED: [(u32, [u64; 2], &[usize]); 5] = [
 /// The study of the loop, and of the product of this weight, on those two rows, which cost the same.
 fn study_of_both(alloc: Global, weight: u32) -> Result<Study, Fail> {
     let mut programs = Vec::new(alloc);
-    programs.push(program_of(alloc, "loop", LOOP.as_slice(), 1)?)?;
-    programs.push(program_of(alloc, "product", PRODUCT.as_slice(), weight)?)?;
+    programs.push(program_of(alloc, "loop", LOOP_WORDS.as_slice(), 1)?)?;
+    programs.push(program_of(alloc, "product", PRODUCT_WORDS.as_slice(), weight)?)?;
     let fast_alu = config_of(unit(1, 5), unit(64, 0))?;
     let fast_mul = config_of(unit(10, 5), unit(1, 0))?;
     study_on(alloc, programs, vec![in alloc; fast_alu, fast_mul]?)

@@ -4,7 +4,8 @@ use std::alloc::{AllocError, Global};
 use std::test::Fail;
 use tomex_config::{Config, UnitOption};
 use tomex_rvexec::{Step, trace};
-use tomex_samples::{Attempt, Heap, Try, image_of, refusals};
+use tomex_tests_fixtures::programs::PRODUCT_WORDS;
+use tomex_tests_fixtures::{Attempt, Heap, Try, image_of, refusals};
 use tomex_timing::evaluate::{needs, waits};
 use tomex_timing::{Need, Needs, Part, Waits};
 
@@ -115,9 +116,6 @@ fn lacks(
     Ok(are_needs(&needs, config, table, rest) && are_waits(waits.as_slice(), waited))
 }
 
-/// `addi x1,x0,5; addi x2,x0,7; mul x3,x1,x2; ebreak`
-static PRODUCT: [u32; 4] = [0x00500093, 0x00700113, 0x022081b3, 0x00100073];
-
 static PRODUCT_NEEDS: Table = [
     (2, 2, 0),
     (1, 1, 0),
@@ -148,7 +146,7 @@ fn a_product_waits_for_its_last_factor(rt: HostRuntime) -> Result<(), Fail> {
     assert!(rt;
         lacks(
             rt.alloc(),
-            &PRODUCT,
+            &PRODUCT_WORDS,
             &config,
             needs,
             &[0, 1, 0, 0, 4, 8],
@@ -344,7 +342,7 @@ impl<'a> Attempt for Evaluation<'a> {
 #[test]
 fn memory_is_refused(rt: HostRuntime) -> Result<(), Fail> {
     let config = config_of([2, 1, 1, 1, 1, 1], [1, 3, 1], 1)?;
-    let trace = trace_of(rt.alloc(), &PRODUCT)?;
+    let trace = trace_of(rt.alloc(), &PRODUCT_WORDS)?;
     for by_step in [false, true] {
         let evaluation = Evaluation {
             steps: trace.as_slice(),

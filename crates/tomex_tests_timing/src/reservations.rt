@@ -3,7 +3,7 @@
 use std::alloc::AllocError;
 use std::test::Fail;
 use tomex_reservations::{BUSES, ReservationTable};
-use tomex_samples::{Attempt, Heap, Try, refusals};
+use tomex_tests_fixtures::{Attempt, Heap, Try, refusals};
 
 /// The bus is taken in cycle 5.
 #[derive(Drop)]

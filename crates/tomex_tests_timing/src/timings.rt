@@ -4,7 +4,8 @@ use std::alloc::Global;
 use std::test::Fail;
 use tomex_config::{Config, UnitOption};
 use tomex_rvexec::trace;
-use tomex_samples::image_of;
+use tomex_tests_fixtures::image_of;
+use tomex_tests_fixtures::programs::{LOOP_WORDS, PRODUCT_WORDS};
 use tomex_timing::Times;
 use tomex_timing::evaluate::{times, total};
 
@@ -33,14 +34,11 @@ fn times_of(alloc: Global, words: &[u32], config: &Config) -> Result<Vec<Times>,
     Ok(times(alloc, steps.as_slice(), config)?)
 }
 
-/// `addi x1,x0,499; addi x1,x1,-1; bne x1,x0,-4; ebreak`
-static LOOP: [u32; 4] = [0x1f300093, 0xfff08093, 0xfe009ee3, 0x00100073];
-
 #[test]
 fn a_loop_takes_its_cycles(rt: HostRuntime) -> Result<(), Fail> {
     for (latency, cycles) in [(1, 2000), (10, 6500)] {
         let config = config_of([1; 6], [latency, 1, 1, 1, 1])?;
-        let timed = times_of(rt.alloc(), &LOOP, &config)?;
+        let timed = times_of(rt.alloc(), &LOOP_WORDS, &config)?;
         assert!(rt; timed.len() == 1000);
         assert!(rt; total(timed.as_slice()) == cycles);
     }
@@ -101,19 +99,32 @@ fn no_steps_take_no_cycles(rt: HostRuntime) -> Result<(), Fail> {
     Ok(())
 }
 
-/// `addi x1,x0,5; addi x2,x0,7; mul x3,x1,x2; ebreak`
-const PRODUCT: [u32; 4] = [0x00500093, 0x00700113, 0x022081b3, 0x00100073];
-
 /// `addi x5,x0,4; mul x6,x5,x5; jalr x0,0(x6); ebreak; ebreak`
 const INDIRECT: [u32; 5] = [0x00400293, 0x02528333, 0x00030067, 0x00100073, 0x00100073];
 
 /// Programs on machines of so many alu stations, alu units, buses and issues a cycle, each with the issue and the end
 /// of every step. Nothing issues past the jump by a register before it has finished.
 static TIMED: [(&[u32], [u8; 4], &[(u64, u64)]); 5] = [
-    (&PRODUCT, [2, 2, 2, 1], &[(1, 3), (2, 4), (3, 8), (4, 4)]),
-    (&PRODUCT, [2, 2, 2, 2], &[(1, 3), (1, 3), (2, 7), (2, 2)]),
-    (&PRODUCT, [2, 2, 2, 4], &[(1, 3), (1, 3), (1, 7), (1, 1)]),
-    (&PRODUCT, [1, 1, 1, 2], &[(1, 3), (4, 6), (4, 10), (5, 5)]),
+    (
+        &PRODUCT_WORDS,
+        [2, 2, 2, 1],
+        &[(1, 3), (2, 4), (3, 8), (4, 4)],
+    ),
+    (
+        &PRODUCT_WORDS,
+        [2, 2, 2, 2],
+        &[(1, 3), (1, 3), (2, 7), (2, 2)],
+    ),
+    (
+        &PRODUCT_WORDS,
+        [2, 2, 2, 4],
+        &[(1, 3), (1, 3), (1, 7), (1, 1)],
+    ),
+    (
+        &PRODUCT_WORDS,
+        [1, 1, 1, 2],
+        &[(1, 3), (4, 6), (4, 10), (5, 5)],
+    ),
     (&INDIRECT, [2, 1, 1, 4], &[(1, 3), (1, 7), (1, 8), (9, 9)]),
 ];
 

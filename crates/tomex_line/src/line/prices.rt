@@ -18,14 +18,14 @@ how many percent all prices may be wrong at once.
 The first line has the names of the prices: that of a station of each pool, of
 each option of a kind of unit, such as `mul:1@8` for one unit of latency 8, of a
 bus and of the width. A price that all configurations pay equally often changes
-no front, and has no column. The second line has the prices as stated. Then comes
-a line for each configuration on the front. Under a price:
+no front, and has no column. The second line has the prices as stated. Then
+comes a line for each configuration on the front. Under a price:
   2..11  it stays if the price is at least 2 and at most 11
   ..11   if it is at most 11, 0 too
   2..    if it is at least 2, up to the limit of prices, 1000000
   any    whatever the price is
-Under `all` is the greatest percentage by which every price may be wrong, each in
-its own direction, such that the configuration stays.
+Under `all` is the greatest percentage by which every price may be wrong, each
+in its own direction, such that the configuration stays.
 
 STUDY is a TOML document that names programs, prices, axes and unit options;
 its files are read from the current folder. docs/STUDIES.md lists the keys of a

@@ -29,16 +29,16 @@ const ABOUT: &str = "Prints what one part more or less brings on a configuration
 const LONG_ABOUT: &str =
     "Prints what each change of one list brings on a configuration, in cost and in
 cycles: a line for each configuration of the study that differs from it in the
-stations of one pool, the option of one kind of unit, the buses or the width, and
-in nothing else.
+stations of one pool, the option of one kind of unit, the buses or the width,
+and in nothing else.
 
 After a line of names comes the configuration itself. In the other lines `cost`
-and `cycles` are differences from it, `%` is that of the cycles in percent of its
-own, and `rate` is cycles for 1 of cost: what 1 of cost buys if the other one
-costs more, and what 1 of cost saved gives away if it costs less. Where there is
-no such number its reason stands in its place: `better` if the other one costs no
-more and takes no more cycles, and is better in one of the two, `worse` if it is
-this one that does, `same` if neither differs. `front` is `yes` on the front. A
+and `cycles` are differences from it, `%` is that of the cycles in percent of
+its own, and `rate` is cycles for 1 of cost: what 1 of cost buys if the other
+one costs more, and what 1 of cost saved gives away if it costs less. If there
+is no such number, the reason stands in its place: `better` if the other one
+costs no more and takes no more cycles, and is better in one of the two, `worse`
+if this one is so, `same` if neither differs. `front` is `yes` on the front. A
 study of several programs has a column for each program's own cycles.
 
 STUDY is a TOML document that names programs, prices, axes and unit options;

@@ -7,11 +7,10 @@ use std::alloc::{Allocator, Global};
 use std::test::Fail;
 use tomex_config::Config;
 use tomex_cycle::{Machine, Progress};
-use tomex_timing::{Busy, Field, Tables, Tag};
 use tomex_image::Image;
 use tomex_rvexec::{End, Operand, run, trace};
-use tomex_timing::Done;
 use tomex_timing::evaluate::{times, total};
+use tomex_timing::{Busy, Done, Field, Tables, Tag};
 
 /// Marsaglia's xorshift of 32 bits.
 #[derive(Drop)]

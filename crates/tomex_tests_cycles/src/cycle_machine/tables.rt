@@ -1,16 +1,17 @@
 //! The tables of a machine after a cycle: its busy stations, and the register status.
 
 use super::{
-    INDIRECT, PRODUCT, STORED, TWO_ALU, WRITTEN_TWICE, config_of, holds, image_at_0, machine_of,
-    tables_of, tick,
+    INDIRECT, STORED, TWO_ALU, WRITTEN_TWICE, config_of, holds, image_at_0, machine_of, tables_of,
+    tick,
 };
 use Field::{Unread, Value, Waits};
 use std::alloc::Allocator;
 use std::test::Fail;
 use tomex_config::Config;
 use tomex_cycle::{Machine, Progress};
-use tomex_timing::{Busy, Field, Tables, Tag};
 use tomex_rvdec::{PoolId, decode};
+use tomex_tests_fixtures::programs::PRODUCT_WORDS;
+use tomex_timing::{Busy, Field, Tables, Tag};
 
 /// What a station shows: its tag, the word of its instruction, both operands, and an address.
 type Station = (Tag, u32, Field, Field, Option<u32>);
@@ -121,19 +122,19 @@ const SLOW: Station = (MUL_0, WRITTEN_TWICE[0], Value(0), Value(65536), None);
 
 static SHOWN: [Shown; 7] = [
     Shown {
-        words: &PRODUCT,
+        words: &PRODUCT_WORDS,
         pools: TWO_ALU,
         parts: [1, 3, 1, 1],
         width: 1,
         cycle: 3,
         stations: &[
-            (ALU_1, PRODUCT[1], Value(0), Unread, None),
-            (MUL_0, PRODUCT[2], Value(5), Waits(ALU_1), None),
+            (ALU_1, PRODUCT_WORDS[1], Value(0), Unread, None),
+            (MUL_0, PRODUCT_WORDS[2], Value(5), Waits(ALU_1), None),
         ],
         status: &[(2, ALU_1), (3, MUL_0)],
     },
     Shown {
-        words: &PRODUCT,
+        words: &PRODUCT_WORDS,
         pools: TWO_ALU,
         parts: [1, 3, 1, 1],
         width: 1,
@@ -185,15 +186,15 @@ static SHOWN: [Shown; 7] = [
     },
     // What issues beside its producers takes their tags.
     Shown {
-        words: &PRODUCT,
+        words: &PRODUCT_WORDS,
         pools: TWO_ALU,
         parts: [2, 3, 1, 2],
         width: 4,
         cycle: 1,
         stations: &[
-            (ALU_0, PRODUCT[0], Value(0), Unread, None),
-            (ALU_1, PRODUCT[1], Value(0), Unread, None),
-            (MUL_0, PRODUCT[2], Waits(ALU_0), Waits(ALU_1), None),
+            (ALU_0, PRODUCT_WORDS[0], Value(0), Unread, None),
+            (ALU_1, PRODUCT_WORDS[1], Value(0), Unread, None),
+            (MUL_0, PRODUCT_WORDS[2], Waits(ALU_0), Waits(ALU_1), None),
         ],
         status: &[(1, ALU_0), (2, ALU_1), (3, MUL_0)],
     },

@@ -1,6 +1,6 @@
 //! Runs that rows share: which programs run on a row, and that no mark depends on it.
 
-use super::{LOOP, explored, gives_front, gives_marks, program_of, study_on, unit};
+use super::{explored, gives_front, gives_marks, program_of, study_on, unit};
 use std::alloc::Global;
 use std::sync::Wait;
 use std::sync::atomic::{AtomicU64, Ordering};
@@ -8,6 +8,7 @@ use std::test::Fail;
 use std::thread::Threads;
 use tomex_config::{Config, UnitOption};
 use tomex_sweep::{Gate, Mark, Program, Study, run_all};
+use tomex_tests_fixtures::programs::LOOP_WORDS;
 use tomex_timing::evaluate::{times, total};
 
 /// `addi x1,x0,400; mul x2,x1,x1; addi x1,x1,-1; bne x1,x0,-8; ebreak`
@@ -391,7 +392,7 @@ fn dividers(alloc: Global, counts: u8) -> Result<Vec<Config>, Fail> {
 fn divided_study(alloc: Global, counts: u8) -> Result<Study, Fail> {
     let rows = dividers(alloc, counts)?;
     let products = program_of(alloc, "products", PRODUCTS.as_slice(), 1)?;
-    let plain = program_of(alloc, "loop", LOOP.as_slice(), 1)?;
+    let plain = program_of(alloc, "loop", LOOP_WORDS.as_slice(), 1)?;
     study_on(alloc, vec![in alloc; products, plain]?, rows)
 }
 

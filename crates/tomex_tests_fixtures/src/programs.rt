@@ -13,3 +13,9 @@ pub const ELF: &[u8; 100] = b"\x7fELF\x01\x01\x01\x00\x00\x00\x00\x00\x00\x00\x0
 
 /// `addi x1,x0,499; addi x1,x1,-1; bne x1,x0,-4; ebreak`, 1,000 steps
 pub const LOOP: &[u8; 16] = b"\x93\x00\x30\x1f\x93\x80\xf0\xff\xe3\x9e\x00\xfe\x73\x00\x10\x00";
+
+/// The words of the product: `addi x1,x0,5; addi x2,x0,7; mul x3,x1,x2; ebreak`.
+pub const PRODUCT_WORDS: [u32; 4] = [0x00500093, 0x00700113, 0x022081b3, 0x00100073];
+
+/// And of the loop: `addi x1,x0,499; addi x1,x1,-1; bne x1,x0,-4; ebreak`.
+pub const LOOP_WORDS: [u32; 4] = [0x1f300093, 0xfff08093, 0xfe009ee3, 0x00100073];

@@ -1,7 +1,7 @@
 //! Each growth of a call refused in turn: the call says so, and with memory it gives the right answer.
 
 use std::alloc::{AllocError, Global};
-use tomex_refuse::{Budget, Refusing};
+use tomex_tests_allocator::{Budget, Refusing};
 
 /// The memory of a try.
 pub type Heap = Refusing<Global>;

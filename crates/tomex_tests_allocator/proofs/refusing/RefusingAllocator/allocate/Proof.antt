@@ -1,22 +1,22 @@
 -- The budget is asked first. Where it refuses, so does the call; else the inner allocator is asked.
-use Rattle.tomex_refuse.proofs.Steps.{◌≡◌, Ok, Err, [], ◌∷◌, refl, w64, proved, Al, seen, token, Takes, at_takes}
-use Rattle.tomex_refuse.proofs.Steps.{Takes-goes, Takes-gives, Answered, Answer, answer_val, Answer-typed, Answer-Ok}
-use Rattle.tomex_refuse.proofs.Steps.{Answer-err, answers, ftrue, fsep, flft, ◌⊑◌, ⊑_trans, fact, tables, usize, yes}
-use Rattle.tomex_refuse.proofs.Steps.{bounded, uint_vals, uint_Tells, owns, block_ptr, shr_vals, plain, types_at, heard}
-use Rattle.tomex_refuse.proofs.Steps.{nothing, calls_at, Ended, framed, Stays, stay_dropped, Goes-dropped, walk_of}
-use Rattle.tomex_refuse.proofs.Steps.{ends_at, inst_fn, Args, Fn, a_type, dnil, dcons, Val, vint, size, align, capped}
-use Rattle.tomex_refuse.proofs.Steps.{alloc_all, pass_all, free_all, look_at, get, through, sets, lands_as, ‵, raw, ◌⊛◌}
-use Rattle.tomex_refuse.proofs.Steps.{later, given, some, prop, Sq, ◌$◌, ◌∵◌, !, qed, done, move, keep, use0, use1}
-use Rattle.tomex_refuse.proofs.Steps.{use2, split, join, fsplit, fjoin, await, learn, suffices, group, enter, addr, fld}
-use Rattle.tomex_refuse.proofs.Steps.{stop, no_more, and_then, returns, after, block_if_ok, Bool, true, false, vbool}
-use Rattle.tomex_refuse.proofs.Steps.{pick, at_ret, agg, lit, first, branches, skips, exec, returns_within, env}
-use Rattle.tomex_refuse.proofs.Lending.{self, inner_at, budget_of, sees, lends_fields}
-use Rattle.tomex_refuse.proofs.Asking.{Asks, asked, asks, tells}
-use Rattle.tomex_refuse.proofs.budget.Budget.refuses.Met as refuses
-use Rattle.tomex_refuse.specs.contracts.refusing.RefusingAllocator.allocate as f
-use Rattle.tomex_refuse.specs.contracts.refusing.RefusingAllocator.allocate.Key as key
-use Rattle.tomex_refuse.proofs.refusing.RefusingAllocator.allocate.Statement.{statement}
-use Rattle.tomex_refuse.proofs.refusing.RefusingAllocator.allocate.Code as code
+use Rattle.tomex_tests_allocator.proofs.Steps.{◌≡◌, Ok, Err, [], ◌∷◌, refl, w64, proved, Al, seen, token, Takes, at_takes}
+use Rattle.tomex_tests_allocator.proofs.Steps.{Takes-goes, Takes-gives, Answered, Answer, answer_val, Answer-typed, Answer-Ok}
+use Rattle.tomex_tests_allocator.proofs.Steps.{Answer-err, answers, ftrue, fsep, flft, ◌⊑◌, ⊑_trans, fact, tables, usize, yes}
+use Rattle.tomex_tests_allocator.proofs.Steps.{bounded, uint_vals, uint_Tells, owns, block_ptr, shr_vals, plain, types_at, heard}
+use Rattle.tomex_tests_allocator.proofs.Steps.{nothing, calls_at, Ended, framed, Stays, stay_dropped, Goes-dropped, walk_of}
+use Rattle.tomex_tests_allocator.proofs.Steps.{ends_at, inst_fn, Args, Fn, a_type, dnil, dcons, Val, vint, size, align, capped}
+use Rattle.tomex_tests_allocator.proofs.Steps.{alloc_all, pass_all, free_all, look_at, get, through, sets, lands_as, ‵, raw, ◌⊛◌}
+use Rattle.tomex_tests_allocator.proofs.Steps.{later, given, some, prop, Sq, ◌$◌, ◌∵◌, !, qed, done, move, keep, use0, use1}
+use Rattle.tomex_tests_allocator.proofs.Steps.{use2, split, join, fsplit, fjoin, await, learn, suffices, group, enter, addr, fld}
+use Rattle.tomex_tests_allocator.proofs.Steps.{stop, no_more, and_then, returns, after, block_if_ok, Bool, true, false, vbool}
+use Rattle.tomex_tests_allocator.proofs.Steps.{pick, at_ret, agg, lit, first, branches, skips, exec, returns_within, env}
+use Rattle.tomex_tests_allocator.proofs.Lending.{self, inner_at, budget_of, sees, lends_fields}
+use Rattle.tomex_tests_allocator.proofs.Asking.{Asks, asked, asks, tells}
+use Rattle.tomex_tests_allocator.proofs.budget.Budget.refuses.Met as refuses
+use Rattle.tomex_tests_allocator.specs.contracts.refusing.RefusingAllocator.allocate as f
+use Rattle.tomex_tests_allocator.specs.contracts.refusing.RefusingAllocator.allocate.Key as key
+use Rattle.tomex_tests_allocator.proofs.refusing.RefusingAllocator.allocate.Statement.{statement}
+use Rattle.tomex_tests_allocator.proofs.refusing.RefusingAllocator.allocate.Code as code
 
 module _ (Z : Al) where
   abbrev T : Ended
@@ -73,7 +73,7 @@ allocate_spec 𝓤 𝓛 𝓜 𝓡 wired row laws ghosts dict drops met _ =
     $
     sets ! (addr ! (through ! refl (fld ! refl (stop !)))) refl (tt, tt) $
     use2 𝓛 (raw (B.pre x)) (asks 𝓛 𝓜.mem 𝓡.returns κ q b) $
-    calls_at ! (framed 𝓤 𝓛.H 𝓜 𝓣) B (refuses.met 𝓤 𝓛 𝓜 𝓡 (code.calls-tomex_refuse::budget::Budget::refuses 𝓡.env wired))
+    calls_at ! (framed 𝓤 𝓛.H 𝓜 𝓣) B (refuses.met 𝓤 𝓛 𝓜 𝓡 (code.calls-tomex_tests_allocator::budget::Budget::refuses 𝓡.env wired))
     x
     (and_then ! (get ! refl) (no_more !)) (λ v.
     use1 𝓛 (later (some (λ (none_left : Bool). given (v ≡ vbool none_left) (‵ (flft κ q)))))

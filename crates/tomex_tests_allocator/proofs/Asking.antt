@@ -1,13 +1,13 @@
 -- A call that asks the budget: it is lent the budget, and answers yes or no.
-use Rattle.tomex_refuse.proofs.Steps.{◌≡◌, List, [], ◌∷◌, refl, Bor, Lft, Share, ftrue, fsep, flft, shr_vals, nothing}
-use Rattle.tomex_refuse.proofs.Steps.{Val, vptr, ‵, raw, ◌⊛◌, later, some, ◌$◌, ◌∵◌, !, qed, done, move, keep, use1}
-use Rattle.tomex_refuse.proofs.Steps.{split, join, fjoin, feq_i, feq_l, await, id⊢, Ura, Bool, ap, vbool, SProp, ent}
-use Rattle.tomex_refuse.proofs.Steps.{sep, ex, guard, Memory, Routine, Fun, Logic, sem, pick, show, check, updating}
-use Rattle.tomex_refuse.proofs.Steps.{bool, only, Contract, triple_of}
+use Rattle.tomex_tests_allocator.proofs.Steps.{◌≡◌, List, [], ◌∷◌, refl, Bor, Lft, Share, ftrue, fsep, flft, shr_vals, nothing}
+use Rattle.tomex_tests_allocator.proofs.Steps.{Val, vptr, ‵, raw, ◌⊛◌, later, some, ◌$◌, ◌∵◌, !, qed, done, move, keep, use1}
+use Rattle.tomex_tests_allocator.proofs.Steps.{split, join, fjoin, feq_i, feq_l, await, id⊢, Ura, Bool, ap, vbool, SProp, ent}
+use Rattle.tomex_tests_allocator.proofs.Steps.{sep, ex, guard, Memory, Routine, Fun, Logic, sem, pick, show, check, updating}
+use Rattle.tomex_tests_allocator.proofs.Steps.{bool, only, Contract, triple_of}
 use types.Kit.{now as at_once}
-use Rattle.tomex_refuse.proofs.Lending.{sees}
-use Rattle.tomex_refuse.specs.contracts.budget.Budget as budget
-use Rattle.tomex_refuse.specs.contracts.budget.Budget.refuses as refuses
+use Rattle.tomex_tests_allocator.proofs.Lending.{sees}
+use Rattle.tomex_tests_allocator.specs.contracts.budget.Budget as budget
+use Rattle.tomex_tests_allocator.specs.contracts.budget.Budget.refuses as refuses
 
 module _ {M : Type 1} {𝓤 : Ura M} (𝓛 : Logic 𝓤) (at_mem : Memory → SProp 𝓤) (run : Routine → Fun 𝓤) where
   open 𝓛 use {H, A}

@@ -2,11 +2,13 @@
 //! memory, and calls whose memory is refused.
 #![tactic(auto)]
 
+mod explained;
 mod images;
 pub mod in_memory;
 pub mod programs;
 pub mod studies;
 mod tries;
 
+pub use explained::{ALL_REFUSALS, OVERLAP};
 pub use images::image_of;
 pub use tries::{Attempt, Heap, Try, ample, heap_of, refusals};

@@ -1,0 +1,45 @@
+//! What the program refuses.
+
+/// All refusals of the program, a line each, in the order in which they are looked for.
+pub const ALL_REFUSALS: &str = "cannot read NAME
+bad window
+too long
+no such row
+no such program
+no such step
+picture too large
+table too large
+cycle past the end
+cannot write
+thread refused
+out of memory
+no such refusal
+image: empty
+image: too large
+image: truncated
+image: not RISC-V
+image: not executable
+image: header size
+image: dynamic
+image: too many segments
+image: segment
+image: overlap
+image: entry
+fault: fetch at PC
+fault: illegal at PC
+fault: misaligned target at PC
+fault: access at PC
+study: not TOML
+study: PLACE: unknown key
+study: PLACE: KEY missing
+study: PLACE: KEY of wrong kind
+study: PLACE: KEY out of range
+study: too many configurations
+study: wrong number of files
+";
+
+/// The explanation of one of them.
+pub const OVERLAP: &str = "image: overlap
+Two segments share a byte. `readelf -l FILE` lists them (LOAD). Mend the linker
+script.
+";
