@@ -20,9 +20,9 @@ use crate::progress::CycleOutcome;
 use std::alloc::{AllocError, Allocator, Global};
 use tomex_config::Config;
 use tomex_image::Image;
-use tomex_timing::Tables;
 use tomex_rvexec::{End, Fetcher, Memory, initial_sp};
 use tomex_tags::{Pools, RegStatus};
+use tomex_timing::Tables;
 
 /// How a cycle is made.
 #[derive(Clone, Copy)]

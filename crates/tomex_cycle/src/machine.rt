@@ -16,8 +16,8 @@ use std::alloc::{AllocError, Allocator, Global};
 use std::marker::Model;
 use tomex_config::Config;
 use tomex_image::Image;
-use tomex_timing::Tables;
 use tomex_rvexec::{End, Fetcher};
+use tomex_timing::Tables;
 
 /// The cycle of a machine that has made none.
 const BEFORE_THE_FIRST: u64 = 0;

@@ -5,9 +5,9 @@ use std::sync::Wait;
 use std::test::Fail;
 use std::thread::Threads;
 use tomex_command::{Heaps, command};
+use tomex_streams::{Meter, NoMeter};
 use tomex_tests_fixtures::in_memory::{Narrow, Shelf};
 use tomex_tests_fixtures::programs::PRODUCT;
-use tomex_streams::{Meter, NoMeter};
 
 /// What a run of the program left behind.
 #[derive(Drop)]

@@ -5,11 +5,11 @@ use std::sync::Wait;
 use std::sync::atomic::{AtomicU64, Ordering};
 use std::test::Fail;
 use std::thread::Threads;
+use tomex_streams::{Meter, WriteFault, write_all_of};
 use tomex_tests_fixtures::front_report_of;
 use tomex_tests_fixtures::in_memory::Narrow;
 use tomex_tests_fixtures::programs::{LOOP, PRODUCT};
 use tomex_tests_fixtures::studies::{DROPPED, DROPPED_REPORT};
-use tomex_streams::{Meter, WriteFault, write_all_of};
 
 /// Two rows, of two alu stations and of one.
 pub const PRICED: &str = "[[program]]\nname = \"mul\"\nfile = \"mul.bin\"\n[prices]\nalu = 10\n\

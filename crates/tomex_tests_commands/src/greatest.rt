@@ -6,8 +6,8 @@ use std::alloc::{AllocError, Global};
 use std::sync::Wait;
 use std::test::Fail;
 use std::thread::Threads;
-use tomex_tests_fixtures::programs::LOOP;
 use tomex_streams::NoMeter;
+use tomex_tests_fixtures::programs::LOOP;
 
 /// `lui x1,32; addi x1,x1,-2; nop; addi x1,x1,-1; bne x1,x0,-4; ebreak`: its loop is run 131,070 times, so the run
 /// has 262,144 steps.

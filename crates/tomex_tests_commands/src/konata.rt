@@ -3,9 +3,9 @@
 use super::commands::{Asked, each_comes_to, outcome_of};
 use super::pipeline::SLOW_LOOP;
 use std::test::Fail;
+use tomex_streams::NoMeter;
 use tomex_tests_fixtures::programs::{LOOP, PRODUCT};
 use tomex_tests_fixtures::studies::PRODUCT_STUDY;
-use tomex_streams::NoMeter;
 
 /// The product on the first row, of two alu stations.
 pub const PRODUCT_LOG: &str = "Kanata\t0004\nC=\t1\n\

@@ -2,8 +2,8 @@
 
 use std::alloc::{AllocError, Global};
 use std::test::Fail;
-use tomex_command::{Failure, report_failure, report_line_fault};
 use tomex_arguments::{LineFault, not_text, unread};
+use tomex_command::{Failure, report_failure, report_line_fault};
 use tomex_tests_fixtures::in_memory::Narrow;
 
 /// Whether a fault that is told, to an output which takes so many bytes, has this status, and writes these texts.

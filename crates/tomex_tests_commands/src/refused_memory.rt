@@ -11,13 +11,13 @@ use std::test::Fail;
 use std::thread::Threads;
 use tomex_command::{RunRefusal, run_text};
 use tomex_image::Window;
+use tomex_streams::NoMeter;
 use tomex_tests_fixtures::programs::{ELF, LOOP, PRODUCT};
 use tomex_tests_fixtures::studies::{
     DROPPED, DROPPED_REPORT, PRODUCT_AFTER_3, PRODUCT_STALLS, PRODUCT_STALLS_BY_PC, PRODUCT_STUDY,
     PRODUCT_TIMES,
 };
 use tomex_tests_fixtures::{ALL_REFUSALS, Attempt, Heap, OVERLAP, Try, refusals, refusals_of};
-use tomex_streams::NoMeter;
 
 /// Makes the text of the run.
 struct Text;
@@ -167,7 +167,10 @@ static OF_TWELVE: [(&str, &str, u64); 5] = [
 
 #[test]
 fn of_all_rows_of_a_study(rt: HostRuntime) -> Result<(), Fail> {
-    let files = [("study", TWELVE.as_bytes()), ("mul.bin", PRODUCT.as_slice())];
+    let files = [
+        ("study", TWELVE.as_bytes()),
+        ("mul.bin", PRODUCT.as_slice()),
+    ];
     each_is_granted(&rt, files.as_slice(), OF_TWELVE.as_slice())
 }
 

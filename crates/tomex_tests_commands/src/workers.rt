@@ -7,8 +7,8 @@ use std::sync::atomic::{AtomicU64, Ordering};
 use std::test::Fail;
 use std::thread;
 use std::thread::Threads;
-use tomex_tests_fixtures::programs::PRODUCT;
 use tomex_streams::Meter;
+use tomex_tests_fixtures::programs::PRODUCT;
 
 /// Turns that a thread is held, at most.
 const TURNS: u32 = 10_000_000;

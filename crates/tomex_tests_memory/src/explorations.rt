@@ -5,10 +5,10 @@ use std::sync::Wait;
 use std::test::Fail;
 use std::thread::Threads;
 use tomex_report::{AnswerError, StudyError, answer, answer_all, front_report, read_study, replay};
+use tomex_sweep::{Mark, OpenGate, Outcome, Study, SweepError, explore, run_all};
 use tomex_tests_fixtures::programs::{LOOP, PRODUCT};
 use tomex_tests_fixtures::studies::{DROPPED, DROPPED_REPORT};
 use tomex_tests_fixtures::{Attempt, Heap, Try, ample, front_report_of, refusals, refusals_of};
-use tomex_sweep::{Mark, OpenGate, Outcome, Study, SweepError, explore, run_all};
 
 /// The files of the study.
 fn files_in(other: Global) -> Result<Vec<Vec<u8, Heap>>, AllocError> {

@@ -4,10 +4,10 @@ use std::sync::atomic::{AtomicU64, Ordering};
 use std::test::Fail;
 use std::thread;
 use tomex_report::read_study;
+use tomex_sweep::{Gate, OpenGate, SweepError, explore};
 use tomex_tests_fixtures::programs::LOOP;
 use tomex_tests_fixtures::studies::DROPPED;
 use tomex_tests_fixtures::{Heap, ample, heap_of};
-use tomex_sweep::{Gate, OpenGate, SweepError, explore};
 
 /// As worker 1 begins with a row, it spends all memory that is left; worker 0 is held until then.
 #[derive(Drop)]

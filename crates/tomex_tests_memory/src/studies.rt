@@ -6,10 +6,10 @@ use tomex_config::{Axes, Config, GridError, Prices, UnitOption, grid};
 use tomex_image::{Image, Window, load};
 use tomex_report::{StudyError, file_names, read_study, times_report};
 use tomex_rvexec::trace;
+use tomex_sweep::{Program, ProgramError, Study};
 use tomex_tests_fixtures::programs::{ELF, PRODUCT};
 use tomex_tests_fixtures::studies::{PRODUCT_STUDY, PRODUCT_TIMES};
 use tomex_tests_fixtures::{Attempt, Heap, Try, ample, refusals};
-use tomex_sweep::{Program, ProgramError, Study};
 use tomex_timing::evaluate::{times, total};
 
 /// The names of a study's files.

@@ -7,10 +7,10 @@ use std::thread::Threads;
 use tomex_config::{Config, Prices, UnitOption};
 use tomex_image::{Image, Window, load};
 use tomex_rvexec::trace;
-use tomex_tests_fixtures::{Heap, Try, ample, refusals_of};
 use tomex_sweep::{
     FrontRow, Mark, OpenGate, Outcome, Program, Study, SweepError, explore, run_all,
 };
+use tomex_tests_fixtures::{Heap, Try, ample, refusals_of};
 use tomex_timing::evaluate::{times, total};
 
 /// A loop that reads its count behind the program, and leaves another one there: `addi x3,x0,9;

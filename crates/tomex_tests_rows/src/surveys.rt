@@ -10,11 +10,11 @@ use std::thread::Threads;
 use tomex_config::{Config, Prices, UnitOption};
 use tomex_fronts::rows_picture;
 use tomex_rows::rows_report;
-use tomex_tests_fixtures::image_of;
 use tomex_study::{Program, Study};
 use tomex_survey::{Survey, survey};
-use tomex_workers::OpenGate;
+use tomex_tests_fixtures::image_of;
 use tomex_tests_fixtures::programs::PRODUCT_WORDS;
+use tomex_workers::OpenGate;
 
 /// One unit of this latency, at this price.
 fn unit(latency: u8, price: u32) -> UnitOption {

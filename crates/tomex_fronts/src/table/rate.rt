@@ -9,11 +9,7 @@ use tomex_records::push_hundredths;
 use tomex_tables::Column;
 
 /// How many cycles a row takes fewer than the row before, for 1 of what it costs more.
-fn rate_after(
-    heap: Global,
-    before: Option<FrontRow>,
-    row: FrontRow,
-) -> Result<String, AllocError>
+fn rate_after(heap: Global, before: Option<FrontRow>, row: FrontRow) -> Result<String, AllocError>
     ensures { IfOk result (λ text. string_bytes text ≡ rate_after before row) }
 {
     let Some(before) = before else {
