@@ -1,5 +1,5 @@
 -- A survey has totals of each row of its study.
-use Rattle.std.proofs.Common.{◌<◌, ap, arith, length}
+use Rattle.std.proofs.Common.{ap, arith, length}
 use Rattle.std.proofs.lemmas.List.{length-map}
 use Rattle.tomex_runs.specs.Cycles.{totals_on}
 use Rattle.tomex_survey.specs.Totals.{totals_of}
