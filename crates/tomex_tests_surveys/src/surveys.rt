@@ -1,8 +1,8 @@
-//! The survey of a worked study, its rows as CSV, and its picture.
+//! The survey of a worked study, its rows as CSV, and its picture. The modules below are of random studies.
 
 ghost use Rattle.std.specs.Prelude.{◌≡◌, IfOk};
-ghost use Rattle.tomex_runs.specs.StudyFront.{front_of_study};
-ghost use Rattle.tomex_survey.specs.Totals.{all_rows, totals_of};
+ghost use Rattle.tomex_runs.specs.StudyFront.{all_rows, front_of_study};
+ghost use Rattle.tomex_survey.specs.Totals.{totals_of};
 
 use std::alloc::Global;
 use std::test::Fail;
@@ -15,6 +15,14 @@ use tomex_survey::{Survey, survey};
 use tomex_tests_fixtures::image_of;
 use tomex_tests_fixtures::programs::PRODUCT_WORDS;
 use tomex_workers::OpenGate;
+
+mod by_hand;
+mod intervals;
+mod percents;
+mod plain_runs;
+mod random;
+mod too_large;
+mod worth;
 
 /// One unit of this latency, at this price.
 fn unit(latency: u8, price: u32) -> UnitOption {
@@ -39,18 +47,34 @@ fn rows_of(alloc: Global) -> Result<Vec<Config>, Fail> {
     Ok(rows)
 }
 
-/// The product on these rows, at 10 for an alu station and 25 for a bus.
-fn study_of(alloc: Global) -> Result<Study, Fail> {
-    let image = image_of(alloc, 0, 4096, PRODUCT_WORDS.as_slice())?;
-    let name = String::from_str(alloc, "mul")?;
-    let program = Program::new(alloc, name, image, 262_144, Vec::new(alloc), 1)?;
-    let programs = vec![in alloc; program]?;
-    let rows = rows_of(alloc)?;
+/// A program of this weight.
+fn program_of(alloc: Global, name: &str, words: &[u32], weight: u32) -> Result<Program, Fail> {
+    if weight == 0 || 1_000 < weight {
+        return Err("no weight")?;
+    }
+    let image = image_of(alloc, 0, 4096, words)?;
+    let name = String::from_str(alloc, name)?;
+    Ok(Program::new(alloc, name, image, 262_144, Vec::new(alloc), weight)?)
+}
+
+/// The study of these programs on these rows, at these prices.
+fn study_on(
+    alloc: Global,
+    programs: Vec<Program>,
+    rows: Vec<Config>,
+    prices: Prices,
+) -> Result<Study, Fail> {
     if rows.is_empty() || rows.len() > 16_384 || programs.is_empty() || programs.len() > 8 {
         return Err("too few or too many")?;
     }
-    let prices = Prices::new([10, 0, 0, 0, 0, 0], 25, 0);
     Ok(Study::new(alloc, programs, rows, prices, false)?)
+}
+
+/// The product on these rows, at 10 for an alu station and 25 for a bus.
+fn study_of(alloc: Global) -> Result<Study, Fail> {
+    let programs = vec![in alloc; program_of(alloc, "mul", PRODUCT_WORDS.as_slice(), 1)?]?;
+    let prices = Prices::new([10, 0, 0, 0, 0, 0], 25, 0);
+    study_on(alloc, programs, rows_of(alloc)?, prices)
 }
 
 /// What an independent implementation prints.
@@ -76,7 +100,7 @@ const DOTS: &str =
 M488 192v0M488 360v0M520 360v0M648 360v0\" fill=\"none\" stroke=\"#a9b8c9\" stroke-width=\"3\" \
 stroke-linecap=\"round\"/>\n";
 
-/// The survey of the worked study by this number of workers.
+/// The survey of a study by this number of workers.
 fn surveyed<R: Threads + Sync>(
     rt: &R,
     alloc: Global,
@@ -91,6 +115,14 @@ fn surveyed<R: Threads + Sync>(
         return Err("no such number of workers")?;
     }
     Ok(survey(rt, alloc, study, workers, &OpenGate)?)
+}
+
+/// Fails, and says which study it was, unless that is so.
+fn holds_for(turn: u32, is_so: bool) -> Result<(), Fail> {
+    if is_so {
+        return Ok(());
+    }
+    Err(Fail::new(format_args!("study {turn}")))
 }
 
 #[test]

@@ -1,0 +1,133 @@
+//! A row of the front stays on it at exactly the prices of its interval: others are tried, and all rows' costs and
+//! dominations found out by hand.
+
+ghost use Rattle.std.specs.Prelude.{◌≡◌};
+ghost use Rattle.tomex_runs.specs.StudyFront.{all_rows, front_of_study};
+
+use super::random::Random;
+use super::{by_hand, holds_for, surveyed};
+use std::alloc::{AllocError, Global};
+use std::test::Fail;
+use tomex_pareto::FrontRow;
+use tomex_prices::{Price, PriceRange, interval_of, prices, rows_with};
+use tomex_study::Study;
+
+/// Values of a price to be tried: the ends of an interval and the values next to them, the least and the greatest, the
+/// stated one, and some at random.
+fn values(range: PriceRange, stated: u64, random: &mut Random) -> [u64; 12] {
+    let PriceRange { least, most } = range;
+    [
+        least,
+        least.saturating_sub(1),
+        least.saturating_add(1),
+        most,
+        most.saturating_sub(1),
+        most.saturating_add(1),
+        0,
+        1_000_000,
+        stated,
+        random.price(),
+        random.price(),
+        random.price(),
+    ]
+}
+
+/// True if a row is undominated at this value of a price exactly if the value is within an interval, or if it is too
+/// great for a price. `plain` are the study's rows by hand.
+fn is_exact_at(
+    alloc: Global,
+    study: &Study,
+    plain: &[FrontRow],
+    row: usize,
+    replaced: (Price, u64),
+    range: PriceRange,
+) -> Result<bool, Fail> {
+    let value = replaced.1;
+    if value > 1_000_000 {
+        return Ok(true);
+    }
+    let rows = by_hand::repriced(alloc, study, plain, replaced)?;
+    let own = *rows.get(row).ok_or("no such row")?;
+    let is_within = range.least <= value && value <= range.most;
+    Ok(by_hand::is_undominated(rows.as_slice(), own) == is_within)
+}
+
+/// True if that is so of all values that are tried.
+fn is_exact(
+    alloc: Global,
+    study: &Study,
+    plain: &[FrontRow],
+    row: usize,
+    price: Price,
+    range: PriceRange,
+    random: &mut Random,
+) -> Result<bool, Fail> {
+    for value in values(range, price.stated(&study.prices()), random) {
+        if !is_exact_at(alloc, study, plain, row, (price, value), range)? {
+            return Ok(false);
+        }
+    }
+    Ok(true)
+}
+
+/// True if that is so of this price for all rows of the front.
+fn are_exact(
+    alloc: Global,
+    study: &Study,
+    plain: &[FrontRow],
+    rows: &[FrontRow],
+    front: &[FrontRow],
+    price: Price,
+    random: &mut Random,
+) -> Result<bool, Fail>
+    requires rows { rows.now ≡ all_rows study.now }
+    requires front { front.now ≡ front_of_study study.now }
+{
+    let apart = rows_with(alloc, study, rows, price)?;
+    for row in front {
+        let range = interval_of(study, price, apart.as_slice(), *row);
+        if !is_exact(alloc, study, plain, row.row, price, range, random)? {
+            return Ok(false);
+        }
+    }
+    Ok(true)
+}
+
+/// True if that is so of all prices of a study.
+fn all_are_exact(
+    alloc: Global,
+    study: &Study,
+    rows: &[FrontRow],
+    front: &[FrontRow],
+    random: &mut Random,
+) -> Result<bool, Fail>
+    requires rows { rows.now ≡ all_rows study.now }
+    requires front { front.now ≡ front_of_study study.now }
+{
+    let plain = by_hand::all_rows(alloc, study)?;
+    let all = prices(alloc, study)?;
+    for price in &all {
+        if !are_exact(alloc, study, plain.as_slice(), rows, front, *price, random)? {
+            return Ok(false);
+        }
+    }
+    Ok(true)
+}
+
+#[test]
+fn intervals_hold_exactly(rt: HostRuntime) -> Result<(), Fail> {
+    let mut random = Random::new(1181783497);
+    for turn in 0..6u32 {
+        let study = random.study(rt.alloc())?;
+        let survey = surveyed(&rt, rt.alloc(), &study, 2)?;
+        let is_so = all_are_exact(
+            rt.alloc(),
+            &study,
+            survey.rows(),
+            survey.front(),
+            &mut random,
+        )?;
+        holds_for(turn, is_so)?;
+    }
+    Ok(())
+}

@@ -1,0 +1,42 @@
+//! Studies that have too many intervals for a table of prices.
+
+use super::{program_of, study_on, surveyed, unit};
+use std::alloc::Global;
+use std::test::Fail;
+use std::thread::Threads;
+use tomex_config::{Config, Prices};
+use tomex_prices::{PricesError, prices_table};
+use tomex_study::Study;
+use tomex_tests_fixtures::programs::PRODUCT_WORDS;
+
+/// This number of rows, all of which are on the front: they differ only in the prices of four options each, which no
+/// other row has, and the sum of these is the same. So relevant prices are four for each row.
+fn equals(alloc: Global, count: u32) -> Result<Study, Fail> {
+    let mut rows = Vec::new(alloc);
+    for price in 0..count.min(1_000) {
+        let (a, b) = (unit(1, price), unit(1, 1_000 - price));
+        let config = Config::new([1; 6], [a, b, a, b, unit(1, 0)], 1, 1);
+        rows.push(config.ok_or("no configuration")?)?;
+    }
+    let programs = vec![in alloc; program_of(alloc, "mul", PRODUCT_WORDS.as_slice(), 1)?]?;
+    study_on(alloc, programs, rows, Prices::new([0; 6], 0, 0))
+}
+
+/// How many lines the table has of this number of equal rows, or none if it is too large.
+fn lines<R: Threads + Sync>(rt: &R, alloc: Global, count: u32) -> Result<Option<usize>, Fail> {
+    let study = equals(alloc, count)?;
+    let survey = surveyed(rt, alloc, &study, 2)?;
+    match prices_table(alloc, alloc, &study, survey.rows(), survey.front()) {
+        Ok(text) => Ok(Some(text.iter().filter(|byte| **byte == b'\n').count())),
+        Err(PricesError::TooLarge) => Ok(None),
+        Err(error) => Err(error)?,
+    }
+}
+
+/// 257 rows have 257 times 1,028 intervals, which are more than 262,144.
+#[test]
+fn too_many_intervals_are_refused(rt: HostRuntime) -> Result<(), Fail> {
+    assert!(rt; lines(&rt, rt.alloc(), 40)? == Some(42));
+    assert!(rt; lines(&rt, rt.alloc(), 257)? == None);
+    Ok(())
+}
