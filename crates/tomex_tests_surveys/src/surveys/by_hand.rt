@@ -84,22 +84,15 @@ pub(super) fn all_rows(alloc: Global, study: &Study) -> Result<Vec<FrontRow>, Al
     Ok(rows)
 }
 
-/// The same rows with this price replaced.
+/// A row of a study with this price replaced.
 pub(super) fn repriced(
-    alloc: Global,
     study: &Study,
-    rows: &[FrontRow],
+    row: FrontRow,
     replaced: (Price, u64),
-) -> Result<Vec<FrontRow>, AllocError> {
-    let mut others = Vec::new(alloc);
-    for (row, config) in rows.iter().zip(study.rows()) {
-        others.push(FrontRow {
-            row: row.row,
-            cost: cost(config, &study.prices(), Some(replaced)),
-            cycles: row.cycles,
-        })?;
-    }
-    Ok(others)
+) -> Result<FrontRow, Fail> {
+    let config = study.config(row.row).ok_or("no such row")?;
+    let cost = cost(config, &study.prices(), Some(replaced));
+    Ok(FrontRow { cost, ..row })
 }
 
 /// True if a row costs no more than another and takes no more cycles, and is not its equal.

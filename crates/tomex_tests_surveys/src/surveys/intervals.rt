@@ -6,7 +6,7 @@ ghost use Rattle.tomex_runs.specs.StudyFront.{all_rows, front_of_study};
 
 use super::random::Random;
 use super::{by_hand, holds_for, surveyed};
-use std::alloc::{AllocError, Global};
+use std::alloc::Global;
 use std::test::Fail;
 use tomex_pareto::FrontRow;
 use tomex_prices::{Price, PriceRange, interval_of, prices, rows_with};
@@ -32,29 +32,27 @@ fn values(range: PriceRange, stated: u64, random: &mut Random) -> [u64; 12] {
     ]
 }
 
-/// True if a row is undominated at this value of a price exactly if the value is within an interval, or if it is too
-/// great for a price. `plain` are the study's rows by hand.
-fn is_exact_at(
-    alloc: Global,
+/// True if a row is undominated with this price replaced. A rival that takes more cycles is not looked at.
+fn stays(
     study: &Study,
     plain: &[FrontRow],
-    row: usize,
+    row: FrontRow,
     replaced: (Price, u64),
-    range: PriceRange,
 ) -> Result<bool, Fail> {
-    let value = replaced.1;
-    if value > 1_000_000 {
-        return Ok(true);
+    let own = by_hand::repriced(study, row, replaced)?;
+    for rival in plain {
+        if rival.cycles <= own.cycles
+            && by_hand::dominates(by_hand::repriced(study, *rival, replaced)?, own)
+        {
+            return Ok(false);
+        }
     }
-    let rows = by_hand::repriced(alloc, study, plain, replaced)?;
-    let own = *rows.get(row).ok_or("no such row")?;
-    let is_within = range.least <= value && value <= range.most;
-    Ok(by_hand::is_undominated(rows.as_slice(), own) == is_within)
+    Ok(true)
 }
 
-/// True if that is so of all values that are tried.
+/// True if, at all values of a price that are tried, a row is undominated exactly if the value is within an interval.
+/// `plain` are the study's rows by hand.
 fn is_exact(
-    alloc: Global,
     study: &Study,
     plain: &[FrontRow],
     row: usize,
@@ -62,8 +60,10 @@ fn is_exact(
     range: PriceRange,
     random: &mut Random,
 ) -> Result<bool, Fail> {
+    let row = *plain.get(row).ok_or("no such row")?;
     for value in values(range, price.stated(&study.prices()), random) {
-        if !is_exact_at(alloc, study, plain, row, (price, value), range)? {
+        let is_within = range.least <= value && value <= range.most;
+        if value <= 1_000_000 && stays(study, plain, row, (price, value))? != is_within {
             return Ok(false);
         }
     }
@@ -86,7 +86,7 @@ fn are_exact(
     let apart = rows_with(alloc, study, rows, price)?;
     for row in front {
         let range = interval_of(study, price, apart.as_slice(), *row);
-        if !is_exact(alloc, study, plain, row.row, price, range, random)? {
+        if !is_exact(study, plain, row.row, price, range, random)? {
             return Ok(false);
         }
     }

@@ -125,7 +125,7 @@ fn is_greatest(
     Ok(stays && is_beaten(study, plain, own, 101 + percent, 99 - percent)?)
 }
 
-/// True if so many percent are the greatest for each row of a front.
+/// True if what is printed of each row of a front is the greatest such percentage.
 fn are_greatest(
     alloc: Global,
     study: &Study,
