@@ -22,7 +22,8 @@ pub const TWELVE: &str = "\
 
 /// Their costs and cycles, and which of them are on the front.
 pub const TWELVE_ROWS: &str = "\
-    row,cost,cycles,alu,mul,div,load,store,bru,alu_units,alu_latency,mul_units,mul_latency,div_units,div_latency,mem_units,mem_latency,bru_units,bru_latency,buses,mul_cycles,front\n\
+    row,cost,cycles,alu,mul,div,load,store,bru,alu_units,alu_latency,mul_units,mul_latency,div_units,\
+    div_latency,mem_units,mem_latency,bru_units,bru_latency,buses,mul_cycles,front\n\
     0,75,10,1,1,1,1,1,1,1,1,1,3,1,1,1,1,1,1,1,10,1\n\
     1,100,10,1,1,1,1,1,1,1,1,1,3,1,1,1,1,1,1,2,10,0\n\
     2,50,13,1,1,1,1,1,1,1,1,1,6,1,1,1,1,1,1,1,13,1\n\
@@ -65,7 +66,8 @@ pub const TWELVE_PRICES: &str = "\
 
 /// The front before all rows.
 pub const TWELVE_PICTURE: &str = "\
-    <svg xmlns=\"http://www.w3.org/2000/svg\" width=\"720\" height=\"440\" viewBox=\"0 0 720 440\" font-family=\"sans-serif\" font-size=\"12\" fill=\"#333333\">\n\
+    <svg xmlns=\"http://www.w3.org/2000/svg\" width=\"720\" height=\"440\" viewBox=\"0 0 720 440\"\
+    \x20font-family=\"sans-serif\" font-size=\"12\" fill=\"#333333\">\n\
     <title>front: 4 of 12 rows</title>\n\
     <rect width=\"720\" height=\"440\" fill=\"#ffffff\"/>\n\
     <text x=\"112\" y=\"24\" font-size=\"15\">front: 4 of 12 rows</text>\n\
@@ -99,7 +101,9 @@ pub const TWELVE_PICTURE: &str = "\
     <text x=\"104\" y=\"84\">13</text>\n\
     <text x=\"104\" y=\"48\" font-size=\"14\">cycles</text>\n\
     </g>\n\
-    <path d=\"M136 80v0M200 192v0M296 80v0M296 248v0M328 192v0M360 192v0M360 360v0M456 248v0M488 192v0M488 360v0M520 360v0M648 360v0\" fill=\"none\" stroke=\"#a9b8c9\" stroke-width=\"3\" stroke-linecap=\"round\"/>\n\
+    <path d=\"M136 80v0M200 192v0M296 80v0M296 248v0M328 192v0M360 192v0M360 360v0M456 248v0M488 192v0\
+    M488 360v0M520 360v0M648 360v0\" fill=\"none\" stroke=\"#a9b8c9\" stroke-width=\"3\"\
+    \x20stroke-linecap=\"round\"/>\n\
     <path d=\"M136 56V80H200V192H296V248H360V360H696\" fill=\"none\" stroke=\"#1f5fa8\" stroke-width=\"2\"/>\n\
     <g fill=\"#1f5fa8\">\n\
     <circle cx=\"136\" cy=\"80\" r=\"4\"><title>row 2: cost 50, cycles 13</title></circle>\n\
