@@ -2,7 +2,7 @@
 
 use crate::commands::{comes_to, comes_to_within, words_of};
 use std::test::Fail;
-use tomex_tests_fixtures::ALL_REFUSALS;
+use tomex_tests_fixtures::{ALL_REFUSALS, OVERLAP};
 
 const NONE: &str = "tomex: no such refusal\n";
 
