@@ -66,8 +66,8 @@ fn lacks_row<A: Allocator>(study: &Study<A>, view: SurveyView) -> bool
     }
 }
 
-/// What is printed of all rows of the study that the bytes and the files stand for. The number of workers doesn't change
-/// it.
+/// What is printed of all rows of the study that the bytes and the files stand for. The number of workers doesn't
+/// change it.
 ///
 /// A study is refused as `read_study` refuses it; that it has no such row is found before any of its rows is evaluated.
 /// What `toml` and `csv` need, and what is small, they take of `heap`.

@@ -41,8 +41,8 @@ fn picture_over<A: Allocator + Clone>(
     Ok(text.into_bytes())
 }
 
-/// The front of a study as the picture that `front_picture` gives, drawn over faint dots for all rows. The axes span all
-/// rows.
+/// The front of a study as the picture that `front_picture` gives, drawn over faint dots for all rows. The axes span
+/// all rows.
 ///
 /// What is small is taken of `heap`.
 pub fn rows_picture<A: Allocator + Clone>(

@@ -88,8 +88,8 @@ pub(super) fn line_of<'a>(
     alloc: Global,
     matches: &ArgMatches<'a>,
 ) -> Result<StallsLine<'a>, LineFault>
-    ensures line { IfOk result (λ line.
-        IsStallsAsked (rows_of (found_of matches.now)) line.run.study.now line.run.config line.run.program.now line.by_pc) }
+    ensures line { IfOk result (λ line. IsStallsAsked (rows_of (found_of matches.now))
+        line.run.study.now line.run.config line.run.program.now line.by_pc) }
     ensures refused { IfErr result (IsRefusedIf (IsNoStalls (rows_of (found_of matches.now)))) }
 {
     Ok(StallsLine {
