@@ -4,13 +4,13 @@ use Rattle.tomex_rvexec.specs.Run.{start_of}
 use Rattle.tomex_rvexec.specs.Trace.{steps_from}
 use Rattle.tomex_config.specs.Configuration.{Configuration}
 use Rattle.tomex_study.specs.Program.{Workload}
-use Rattle.tomex_views.specs.Chart.{IsUnpictured}
-use Rattle.tomex_views.specs.declared.picture_error.PictureError.{PictureError}
-use Rattle.tomex_views.specs.declared.picture_error.PictureError.TheVariants.{NoSuchStep, TooLarge, Memory}
+use Rattle.tomex_run_views.specs.Chart.{IsUnpictured}
+use Rattle.tomex_run_views.specs.declared.picture_error.PictureError.{PictureError}
+use Rattle.tomex_run_views.specs.declared.picture_error.PictureError.TheVariants.{NoSuchStep, TooLarge, Memory}
 use Rattle.tomex_konata.specs.Konata.{IsUnlogged}
 use Rattle.tomex_konata.specs.declared.log_error.LogError.{LogError}
 use Rattle.tomex_konata.specs.declared.log_error.LogError.TheVariants as logs
-use Rattle.tomex_line.specs.declared.line.pipeline.PipelineLine.{PipelineLine}
+use Rattle.tomex_command_line.specs.declared.line.pipeline.PipelineLine.{PipelineLine}
 use Rattle.tomex_streams.specs.Files.{Told}
 use Rattle.tomex_command.specs.Chosen.{IsChosenIn}
 use Rattle.tomex_command.specs.PipelineLines.{IsPipelineFailure}

@@ -1,8 +1,8 @@
 -- A text that isn't made leaves the output as it was: none of its failures is that the output failed.
 use Rattle.std.proofs.Common.{◌≡◌, List, ℕ, Bool, true, false, refl, sym, subst}
-use Rattle.tomex_line.specs.declared.line.Line.{Line}
-use Rattle.tomex_line.specs.declared.line.Line.TheVariants.{Run, Times, Stalls, Pipeline, Tables}
-use Rattle.tomex_line.specs.declared.line.Line.TheVariants.{All, Explore, Front, Plot, Rows, Worth, Prices, Explain}
+use Rattle.tomex_command_line.specs.declared.line.Line.{Line}
+use Rattle.tomex_command_line.specs.declared.line.Line.TheVariants.{Run, Times, Stalls, Pipeline, Tables}
+use Rattle.tomex_command_line.specs.declared.line.Line.TheVariants.{All, Explore, Front, Plot, Rows, Worth, Prices, Explain}
 use Rattle.tomex_streams.specs.Files.{Told}
 use Rattle.tomex_streams.specs.Sinks.{Seen}
 use Rattle.tomex_command.specs.Commands.{IsFailure, IsLeft}

@@ -2,11 +2,11 @@
 use Rattle.std.specs.Prelude.{◌≡◌, ◌⊎◌, ℕ, List, option_map, string_bytes}
 use Rattle.tomex_command.specs.declared.failure.Failure.{Failure}
 use Rattle.tomex_command.specs.declared.failure.Failure.TheVariants.{CannotWrite}
-use Rattle.tomex_line.specs.declared.line.Line.{Line}
-use Rattle.tomex_line.specs.declared.line.Line.TheVariants.{Run, Times, Stalls, Pipeline, Tables}
-use Rattle.tomex_line.specs.declared.line.Line.TheVariants.{All, Explore, Front, Plot, Rows, Worth, Prices, Explain}
+use Rattle.tomex_command_line.specs.declared.line.Line.{Line}
+use Rattle.tomex_command_line.specs.declared.line.Line.TheVariants.{Run, Times, Stalls, Pipeline, Tables}
+use Rattle.tomex_command_line.specs.declared.line.Line.TheVariants.{All, Explore, Front, Plot, Rows, Worth, Prices, Explain}
 use Rattle.tomex_arguments.specs.declared.fault.LineFault.{LineFault}
-use Rattle.tomex_line.specs.Asked.{IsAsked, IsNoCommand}
+use Rattle.tomex_command_line.specs.Asked.{IsAsked, IsNoCommand}
 use Rattle.tomex_report.specs.declared.front_view.FrontView.TheVariants.{Report, Table}
 use Rattle.tomex_report.specs.declared.surveying.SurveyView.TheVariants as views
 use Rattle.tomex_streams.specs.Files.{Told}

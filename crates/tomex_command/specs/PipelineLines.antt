@@ -5,12 +5,12 @@ use Rattle.tomex_rvexec.specs.Trace.{steps_from}
 use Rattle.tomex_steps.specs.declared.step.Step.{Step}
 use Rattle.tomex_config.specs.Configuration.{Configuration}
 use Rattle.tomex_konata.specs.Konata.{IsLogOf}
-use Rattle.tomex_views.specs.Chart.{IsPictureOf, IsUnpictured}
-use Rattle.tomex_views.specs.declared.picture_error.PictureError.{PictureError}
-use Rattle.tomex_views.specs.declared.picture_error.PictureError.TheVariants as errors
+use Rattle.tomex_run_views.specs.Chart.{IsPictureOf, IsUnpictured}
+use Rattle.tomex_run_views.specs.declared.picture_error.PictureError.{PictureError}
+use Rattle.tomex_run_views.specs.declared.picture_error.PictureError.TheVariants as errors
 use Rattle.tomex_command.specs.declared.failure.Failure.{Failure}
 use Rattle.tomex_command.specs.declared.failure.Failure.TheVariants.{NoSuchStep, PictureTooLarge}
-use Rattle.tomex_line.specs.declared.line.pipeline.PipelineLine.{PipelineLine}
+use Rattle.tomex_command_line.specs.declared.line.pipeline.PipelineLine.{PipelineLine}
 use Rattle.tomex_command.specs.Chosen.{IsOfRun, IsRunFailure}
 use Rattle.tomex_streams.specs.Files.{Told}
 

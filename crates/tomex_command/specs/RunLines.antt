@@ -3,7 +3,7 @@ use Rattle.std.specs.Prelude.{List, ℕ}
 use Rattle.tomex_image.specs.Window.{IsWindow}
 use Rattle.tomex_command.specs.declared.failure.Failure.{Failure}
 use Rattle.tomex_command.specs.declared.failure.Failure.TheVariants.{BadWindow, CannotRead, Run, Memory}
-use Rattle.tomex_line.specs.declared.line.run.RunLine.{RunLine}
+use Rattle.tomex_command_line.specs.declared.line.run.RunLine.{RunLine}
 use Rattle.tomex_command.specs.declared.run.RunRefusal.{RunRefusal}
 use Rattle.tomex_command.specs.Reading.{IsUnread}
 use Rattle.tomex_streams.specs.Files.{Told, IsRead}

@@ -4,10 +4,10 @@ use Rattle.tomex_rvexec.specs.Run.{start_of}
 use Rattle.tomex_rvexec.specs.Trace.{steps_from}
 use Rattle.tomex_steps.specs.declared.step.Step.{Step}
 use Rattle.tomex_config.specs.Configuration.{Configuration}
-use Rattle.tomex_views.specs.ByPlace.{IsReportByPlace}
-use Rattle.tomex_views.specs.StallsReport.{IsStallsReport}
+use Rattle.tomex_run_views.specs.ByPlace.{IsReportByPlace}
+use Rattle.tomex_run_views.specs.StallsReport.{IsStallsReport}
 use Rattle.tomex_command.specs.declared.failure.Failure.{Failure}
-use Rattle.tomex_line.specs.declared.line.stalls.StallsLine.{StallsLine}
+use Rattle.tomex_command_line.specs.declared.line.stalls.StallsLine.{StallsLine}
 use Rattle.tomex_command.specs.Chosen.{IsOfRun, IsRunFailure}
 use Rattle.tomex_streams.specs.Files.{Told}
 

@@ -9,9 +9,9 @@ use Rattle.tomex_refusals.specs.declared.explaining.ExplainError.{ExplainError}
 use Rattle.tomex_refusals.specs.declared.explaining.ExplainError.TheVariants as explanations
 use Rattle.tomex_konata.specs.declared.log_error.LogError.{LogError}
 use Rattle.tomex_konata.specs.declared.log_error.LogError.TheVariants as logs
-use Rattle.tomex_views.specs.declared.picture_error.PictureError.{PictureError}
-use Rattle.tomex_views.specs.declared.picture_error.PictureError.TheVariants as pictures
-use Rattle.tomex_reading.specs.declared.error.StudyError.TheVariants as studies
+use Rattle.tomex_run_views.specs.declared.picture_error.PictureError.{PictureError}
+use Rattle.tomex_run_views.specs.declared.picture_error.PictureError.TheVariants as pictures
+use Rattle.tomex_study_reader.specs.declared.error.StudyError.TheVariants as studies
 use Rattle.tomex_command.specs.declared.run.RunRefusal.TheVariants as refusals
 use Rattle.tomex_command.specs.declared.failure.Failure.{Failure}
 use Rattle.tomex_command.specs.declared.failure.Failure.TheVariants.{BadWindow, Run, Study, NoSuchRow}

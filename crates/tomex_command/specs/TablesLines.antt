@@ -7,7 +7,7 @@ use Rattle.tomex_study.specs.Program.{Workload}
 use Rattle.tomex_texts.specs.TablesText.{tables_text_of}
 use Rattle.tomex_command.specs.declared.failure.Failure.{Failure}
 use Rattle.tomex_command.specs.declared.failure.Failure.TheVariants.{CyclePastEnd, Memory}
-use Rattle.tomex_line.specs.declared.line.tables.TablesLine.{TablesLine}
+use Rattle.tomex_command_line.specs.declared.line.tables.TablesLine.{TablesLine}
 use Rattle.tomex_command.specs.Chosen.{IsOfRun, IsRunFailure}
 use Rattle.tomex_streams.specs.Files.{Told}
 

@@ -35,7 +35,7 @@ use std::thread::Threads;
 use survey::text_of_survey;
 use tables::text_of_tables;
 use times::text_of_times;
-use tomex_line::{Line, read_line};
+use tomex_command_line::{Line, read_line};
 use tomex_report::{FrontView, SurveyView};
 use tomex_streams::{Files, Meter, Sink, write_all_of};
 

@@ -10,8 +10,8 @@ use std::alloc::{AllocError, AllocFailed};
 use tomex_konata::LogError;
 use tomex_refusals::ExplainError;
 use tomex_report::{AnswerError, StudyError, SurveyError};
+use tomex_run_views::PictureError;
 use tomex_sweep::SweepError;
-use tomex_views::PictureError;
 
 /// Why a command was not done. Reported after `tomex: ` on the standard error.
 #[derive(Debug, Drop)]

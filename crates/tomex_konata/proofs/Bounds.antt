@@ -19,7 +19,7 @@ use Rattle.tomex_konata.specs.declared.entries.Entry.{Entry}
 use Rattle.tomex_konata.specs.declared.events.Event.{Event}
 use Rattle.tomex_konata.specs.declared.events.Kind.TheVariants.{Change}
 use Rattle.tomex_konata.specs.Konata.{IsLogOf, cycles_of, entries_from, entry_of, gone_before, head_of, log_of}
-use Rattle.tomex_views.specs.Chart.{first_issue, shown}
+use Rattle.tomex_run_views.specs.Chart.{first_issue, shown}
 use Rattle.tomex_konata.specs.Kept.{ArePut, change_cycles, change_in, changes_of, events_of, once, out_of, written}
 use Rattle.tomex_konata.proofs.Sorting.{filter_alike, rises}
 use Rattle.tomex_konata.proofs.Written.{AreThere, cycles_are}

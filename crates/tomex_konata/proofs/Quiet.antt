@@ -7,9 +7,9 @@ use Rattle.std.proofs.lemmas.Bool.{cases_Bool, cases_order, ne_eqb, eqb-true, eq
 use Rattle.std.proofs.lemmas.Bool.{leb-true}
 use Rattle.tomex_steps.specs.Steps.{is_number}
 use Rattle.tomex_timing.specs.declared.times.Times.{Times}
-use Rattle.tomex_views.specs.declared.stage.Stage.{Stage}
-use Rattle.tomex_views.specs.declared.stage.Stage.TheVariants.{Issue, Address, Execute, Write, BusWait, Wait}
-use Rattle.tomex_views.specs.Chart.{stage_in}
+use Rattle.tomex_run_views.specs.declared.stage.Stage.{Stage}
+use Rattle.tomex_run_views.specs.declared.stage.Stage.TheVariants.{Issue, Address, Execute, Write, BusWait, Wait}
+use Rattle.tomex_run_views.specs.Chart.{stage_in}
 use Rattle.tomex_konata.specs.declared.entries.Entry.{Entry}
 use Rattle.tomex_konata.specs.declared.entries.Producer.{Producer}
 use Rattle.tomex_konata.specs.Konata.{is_shared, issue_lines, step_lines, turn_lines, wake_line, wake_lines}

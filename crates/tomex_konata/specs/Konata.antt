@@ -16,9 +16,9 @@ use Rattle.tomex_config.specs.Configuration.{Configuration}
 use Rattle.tomex_timing.specs.Search.{times_in, total_of}
 use Rattle.tomex_timing.specs.declared.times.Done.{Done}
 use Rattle.tomex_timing.specs.declared.times.Times.{Times}
-use Rattle.tomex_views.specs.Chart.{first_issue, shown, stage_in}
-use Rattle.tomex_views.specs.declared.stage.Stage.{Stage}
-use Rattle.tomex_views.specs.declared.stage.Stage.TheVariants.{Issue, Address, Execute, Write, BusWait, Wait}
+use Rattle.tomex_run_views.specs.Chart.{first_issue, shown, stage_in}
+use Rattle.tomex_run_views.specs.declared.stage.Stage.{Stage}
+use Rattle.tomex_run_views.specs.declared.stage.Stage.TheVariants.{Issue, Address, Execute, Write, BusWait, Wait}
 use Rattle.tomex_konata.specs.declared.entries.Entry.{Entry}
 use Rattle.tomex_konata.specs.declared.entries.Producer.{Producer}
 use Rattle.tomex_konata.specs.declared.log_error.LogError.{LogError}

@@ -8,9 +8,9 @@ ghost use Rattle.tomex_konata.specs.Konata.{wake_lines};
 use crate::entries::{Entry, Producer};
 use std::alloc::AllocError;
 use std::fmt::Write;
+use tomex_run_views::{Stage, stage_in};
 use tomex_rvdec::PoolId;
 use tomex_timing::Times;
-use tomex_views::{Stage, stage_in};
 
 /// A stage's name in the log.
 fn name_of_stage(stage: Stage) -> &'static str

@@ -14,11 +14,11 @@ use crate::log_error::LogError;
 use std::alloc::{AllocError, Allocator, Global};
 use std::fmt::Write;
 use tomex_config::Config;
+use tomex_run_views::{first_issue, part_of};
 use tomex_rvexec::Step;
 use tomex_study::Program;
 use tomex_timing::Times;
 use tomex_timing::evaluate::{times, total};
-use tomex_views::{first_issue, part_of};
 
 /// Adds the lines of an event, if it has any.
 fn push_event(

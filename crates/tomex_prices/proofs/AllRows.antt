@@ -12,13 +12,13 @@ use Rattle.tomex_pareto.specs.declared.front_row.FrontRow.{FrontRow}
 use Rattle.tomex_pareto.proofs.Finished.{IsAt, row_at, rows_apart}
 use Rattle.tomex_pareto.proofs.Pareto.{contains_has, front_is, has_at}
 use Rattle.tomex_study.specs.Study.{DesignSpace, IsStudy}
-use Rattle.tomex_runs.specs.Cycles.{cycles_of}
-use Rattle.tomex_runs.specs.StudyFront.{front_of_study}
+use Rattle.tomex_row_runs.specs.Cycles.{cycles_of}
+use Rattle.tomex_row_runs.specs.StudyFront.{front_of_study}
 use Rattle.tomex_prices.specs.declared.price.Price.{Price}
 use Rattle.tomex_prices.specs.declared.priced_row.PricedRow.{PricedRow}
 use Rattle.tomex_prices.specs.Interval.{IsSmall}
 use Rattle.tomex_prices.specs.Repriced.{priced_from, with_price_apart}
-use Rattle.tomex_runs.specs.StudyFront.{all_rows}
+use Rattle.tomex_row_runs.specs.StudyFront.{all_rows}
 
 pub as_many_costs : (s : DesignSpace) → IsStudy s → length s.costs ≡ length s.rows
 as_many_costs s is = ap length is.costs ∙ length-map _ _

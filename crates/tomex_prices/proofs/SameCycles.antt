@@ -28,7 +28,7 @@ use Rattle.tomex_timing.proofs.Limits.{unit_in}
 use Rattle.tomex_timing.proofs.Serving.{serves_history}
 use Rattle.tomex_cycle.specs.Run.{run_of, total}
 use Rattle.tomex_study.specs.Program.{Workload}
-use Rattle.tomex_runs.specs.Cycles.{cycles_on}
+use Rattle.tomex_row_runs.specs.Cycles.{cycles_on}
 use Rattle.tomex_prices.specs.declared.price.Price.{Price}
 use Rattle.tomex_prices.specs.declared.price.Price.TheVariants.{Station, Choice, Bus, Width as Issues}
 use Rattle.tomex_prices.specs.declared.price.TheConstants.{GREATEST_PRICE}

@@ -11,7 +11,7 @@ use Rattle.tomex_prices.specs.declared.price.Price.{Price}
 use Rattle.tomex_prices.specs.Price.{paid, stated}
 use Rattle.tomex_prices.specs.Prices.{prices_of}
 use Rattle.tomex_prices.specs.Studies.{config_of}
-use Rattle.tomex_runs.specs.StudyFront.{all_rows}
+use Rattle.tomex_row_runs.specs.StudyFront.{all_rows}
 
 -- what two configurations don't have in common, at these prices: each price as often as one of them pays it more than
 -- the other

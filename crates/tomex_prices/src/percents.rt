@@ -3,7 +3,7 @@
 ghost use Rattle.std.specs.Prelude.{◌≡◌, ◌<◌, ◌≤◌, length};
 ghost use Rattle.tomex_prices.specs.Percent.{difference, percent_for, percent_of};
 ghost use Rattle.tomex_prices.specs.Prices.{prices_of};
-ghost use Rattle.tomex_runs.specs.StudyFront.{all_rows};
+ghost use Rattle.tomex_row_runs.specs.StudyFront.{all_rows};
 
 use crate::price::Price;
 use std::alloc::Allocator;

@@ -4,7 +4,7 @@ ghost use Rattle.std.specs.Prelude.{◌≡◌, All, IfOk};
 ghost use Rattle.tomex_prices.specs.Interval.{IsSmall};
 ghost use Rattle.tomex_prices.specs.Repriced.{with_price_apart};
 ghost use Rattle.tomex_prices.specs.Studies.{rows_with};
-ghost use Rattle.tomex_runs.specs.StudyFront.{all_rows};
+ghost use Rattle.tomex_row_runs.specs.StudyFront.{all_rows};
 
 use crate::price::Price;
 use std::alloc::{AllocError, Allocator};

@@ -1,12 +1,12 @@
 //! The table of a study's prices.
 
 ghost use Rattle.std.specs.Prelude.{◌≡◌, ◌↔◌, ◌*◌, ◌++◌, true, length, map, nat_lt, IfOk, IsErrOf, OnOk, string_bytes};
-ghost use Rattle.tomex_runs.specs.StudyFront.{front_of_study};
+ghost use Rattle.tomex_row_runs.specs.StudyFront.{front_of_study};
 ghost use Rattle.tomex_prices.specs.Percent.{percent_text};
 ghost use Rattle.tomex_prices.specs.Prices.{prices_of, relevant_prices_of};
 ghost use Rattle.tomex_prices.specs.PricesTable.{columns_of, heading_column, is_too_large, name_of_heading, now_under};
 ghost use Rattle.tomex_prices.specs.PricesTable.{number_under, percent_column, price_column, prices_table_of};
-ghost use Rattle.tomex_runs.specs.StudyFront.{all_rows};
+ghost use Rattle.tomex_row_runs.specs.StudyFront.{all_rows};
 
 use crate::counts::count_relevant;
 use crate::intervals::interval_of;

@@ -11,9 +11,9 @@ use Rattle.tomex_cycle.specs.Run.{total}
 use Rattle.tomex_study.specs.Program.{Workload}
 use Rattle.tomex_study.specs.Study.{DesignSpace}
 use Rattle.tomex_pareto.specs.declared.front_row.FrontRow.{FrontRow}
-use Rattle.tomex_fronts.specs.FrontTable.{config_of}
-use Rattle.tomex_fronts.proofs.Loops.{item_more}
-use Rattle.tomex_fronts.proofs.Zips.{at_both}
+use Rattle.tomex_front_views.specs.FrontTable.{config_of}
+use Rattle.tomex_front_views.proofs.Loops.{item_more}
+use Rattle.tomex_front_views.proofs.Zips.{at_both}
 use Rattle.tomex_texts.specs.declared.ends.ProgramEnd.{ProgramEnd}
 use Rattle.tomex_texts.specs.declared.row_ends.RowEnds.{RowEnds}
 use Rattle.tomex_texts.specs.Ends.{IsProgramEnd}

@@ -1,11 +1,11 @@
 -- From bytes to what is printed of all rows of a study.
 use Rattle.std.specs.Prelude.{◌≡◌, ℕ, nat_le, Bool, true, false, List, length}
 use Rattle.tomex_study.specs.Study.{DesignSpace}
-use Rattle.tomex_fronts.specs.RowsPlot.{rows_picture_of}
+use Rattle.tomex_front_views.specs.RowsPlot.{rows_picture_of}
 use Rattle.tomex_prices.specs.PricesTable.{is_too_large, prices_table_of}
 use Rattle.tomex_prices.specs.declared.prices_error.PricesError.{PricesError}
 use Rattle.tomex_prices.specs.declared.prices_error.PricesError.TheVariants as prices
-use Rattle.tomex_reading.specs.Study.{IsStudyOf, IsStudyRefusal}
+use Rattle.tomex_study_reader.specs.Study.{IsStudyOf, IsStudyRefusal}
 use Rattle.tomex_rows.specs.RowsReport.{rows_text_of}
 use Rattle.tomex_worth.specs.Worth.{worth_table_of}
 use Rattle.tomex_report.specs.declared.survey_error.SurveyError.{SurveyError}

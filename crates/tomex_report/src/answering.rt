@@ -1,7 +1,7 @@
 //! From the bytes of a study to its report.
 
 ghost use Rattle.std.specs.Prelude.{◌≡◌, ◌≢◌, ◌≤◌, map, IfOk, IfErr};
-ghost use Rattle.tomex_runs.specs.StudyFront.{front_of_study};
+ghost use Rattle.tomex_row_runs.specs.StudyFront.{front_of_study};
 ghost use Rattle.tomex_sweep.specs.declared.outcome.SweepError.TheVariants.{Memory, Worker};
 ghost use Rattle.tomex_report.specs.declared.answer_error.AnswerError.TheVariants.{Sweep};
 ghost use Rattle.tomex_report.specs.Answer.{IsAnswer, IsAnswerRefusal, IsOfSweep, IsShown, shown_as};
@@ -16,7 +16,7 @@ use crate::studied::studied;
 use std::alloc::{AllocError, Allocator, Global};
 use std::sync::Wait;
 use std::thread::Threads;
-use tomex_fronts::{front_picture, front_table};
+use tomex_front_views::{front_picture, front_table};
 use tomex_study::Study;
 use tomex_sweep::{FrontRow, Gate, OpenGate, explore, run_all_under};
 

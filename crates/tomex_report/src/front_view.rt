@@ -2,7 +2,7 @@
 
 ghost use Rattle.std.specs.Prelude.{◌≡◌, ◌<◌, length, Some, slice_get, IfOk};
 ghost use Rattle.std.specs.List.{AllZip};
-ghost use Rattle.tomex_fronts.specs.FrontTable.{cycles_on};
+ghost use Rattle.tomex_front_views.specs.FrontTable.{cycles_on};
 ghost use Rattle.tomex_texts.specs.RowEnds.{AreEndsOf};
 
 use std::alloc::{AllocError, Allocator};

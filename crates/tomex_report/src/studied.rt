@@ -1,11 +1,11 @@
 //! The study that an answer is about.
 
 ghost use Rattle.std.specs.Prelude.{map, IfErr, IfOk};
-ghost use Rattle.tomex_reading.specs.Study.{IsStudyOf, IsStudyRefusal};
+ghost use Rattle.tomex_study_reader.specs.Study.{IsStudyOf, IsStudyRefusal};
 
 use std::alloc::{Allocator, Global};
-use tomex_reading::{StudyError, read_study};
 use tomex_study::Study;
+use tomex_study_reader::{StudyError, read_study};
 
 /// The study that the bytes and the files stand for.
 pub(crate) fn studied<A: Allocator + Clone>(

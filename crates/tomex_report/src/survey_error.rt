@@ -7,7 +7,7 @@ ghost use Rattle.tomex_report.specs.declared.survey_error.SurveyError.TheVariant
 use std::alloc::AllocError;
 use thiserror::Error;
 use tomex_prices::PricesError;
-use tomex_reading::StudyError;
+use tomex_study_reader::StudyError;
 
 /// Why nothing is printed of all rows of a study.
 #[derive(Debug, Drop, Error)]

@@ -3,7 +3,7 @@
 ghost use Rattle.std.specs.Prelude.{◌≡◌, ◌≤◌, false, map, IfErr, IfOk};
 ghost use Rattle.tomex_report.specs.Surveyed.{IsSurveyRefusal, IsSurveyed, IsTextOf, IsWithoutText};
 ghost use Rattle.tomex_report.specs.Surveyed.{lacks_row};
-ghost use Rattle.tomex_runs.specs.StudyFront.{all_rows, front_of_study};
+ghost use Rattle.tomex_row_runs.specs.StudyFront.{all_rows, front_of_study};
 ghost use Rattle.tomex_survey.specs.Totals.{totals_of};
 
 use crate::crew::Crew;
@@ -11,7 +11,7 @@ use crate::studied::studied;
 use crate::survey_error::SurveyError;
 use std::alloc::{Allocator, Global};
 use std::thread::Threads;
-use tomex_fronts::rows_picture;
+use tomex_front_views::rows_picture;
 use tomex_prices::prices_table;
 use tomex_rows::rows_report;
 use tomex_study::Study;

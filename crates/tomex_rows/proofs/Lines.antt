@@ -7,13 +7,13 @@ use Rattle.std.proofs.lemmas.List.{get_or-map, length-map, map_more}
 use Rattle.tomex_config.specs.Configuration.{Configuration, plain}
 use Rattle.tomex_pareto.specs.Front.{rows_from}
 use Rattle.tomex_pareto.specs.declared.front_row.FrontRow.{FrontRow}
-use Rattle.tomex_records.specs.Csv.{record_text}
-use Rattle.tomex_runs.specs.Cycles.{cycles_of, totals_on}
-use Rattle.tomex_runs.specs.StudyFront.{front_of_study}
+use Rattle.tomex_csv_text.specs.Csv.{record_text}
+use Rattle.tomex_row_runs.specs.Cycles.{cycles_of, totals_on}
+use Rattle.tomex_row_runs.specs.StudyFront.{front_of_study}
 use Rattle.tomex_study.specs.Study.{DesignSpace, IsStudy}
 use Rattle.tomex_rows.specs.RowsReport.{fields_of_row, is_on_front, row_record}
 use Rattle.tomex_survey.specs.Totals.{totals_of}
-use Rattle.tomex_runs.specs.StudyFront.{all_rows}
+use Rattle.tomex_row_runs.specs.StudyFront.{all_rows}
 use Rattle.tomex_survey.proofs.Weighing.{as_many_cycles, long_rows}
 
 numbered_from : (n : ℕ) (costs cycles : List ℕ) (k : ℕ) (d : FrontRow) → k < length (rows_from n costs cycles)

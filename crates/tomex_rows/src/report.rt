@@ -3,20 +3,20 @@
 ghost use Rattle.std.specs.Prelude.{◌≡◌, ◌<◌, ◌++◌, length, map, slice_index_or, IfOk, OnOk};
 ghost use Rattle.std.specs.List.{flat_map, range_with_len};
 ghost use Rattle.tomex_config.specs.Configuration.{plain};
-ghost use Rattle.tomex_records.specs.Csv.{IsReady, written};
+ghost use Rattle.tomex_csv_text.specs.Csv.{IsReady, written};
 ghost use Rattle.tomex_rows.specs.RowsReport.{is_on_front, row_record, rows_text_of};
-ghost use Rattle.tomex_runs.specs.Cycles.{totals_on};
-ghost use Rattle.tomex_runs.specs.StudyFront.{front_of_study};
+ghost use Rattle.tomex_row_runs.specs.Cycles.{totals_on};
+ghost use Rattle.tomex_row_runs.specs.StudyFront.{front_of_study};
 ghost use Rattle.tomex_survey.specs.Totals.{totals_of};
-ghost use Rattle.tomex_runs.specs.StudyFront.{all_rows};
+ghost use Rattle.tomex_row_runs.specs.StudyFront.{all_rows};
 
 use crate::columns::columns;
 use crate::fields::fill_record;
 use crate::flags::flags;
 use csv::{ByteRecord, Writer};
 use std::alloc::{AllocError, Allocator, Global};
+use tomex_csv_text::{into_text, put_record};
 use tomex_pareto::FrontRow;
-use tomex_records::{into_text, put_record};
 use tomex_study::Study;
 use tomex_survey::Survey;
 

@@ -11,14 +11,14 @@ use Rattle.tomex_pareto.specs.Finished.{finished_from}
 use Rattle.tomex_pareto.specs.Front.{front_of, rows_from}
 use Rattle.tomex_pareto.specs.declared.front_row.FrontRow.{FrontRow}
 use Rattle.tomex_cycle.specs.Run.{total}
-use Rattle.tomex_runs.specs.Cycles.{cycles_of, cycles_on, totals_on}
-use Rattle.tomex_runs.specs.StudyFront.{front_of_study}
-use Rattle.tomex_runs.proofs.Totals.{all_cycles, cycles_more, next_cycles, total_at}
+use Rattle.tomex_row_runs.specs.Cycles.{cycles_of, cycles_on, totals_on}
+use Rattle.tomex_row_runs.specs.StudyFront.{front_of_study}
+use Rattle.tomex_row_runs.proofs.Totals.{all_cycles, cycles_more, next_cycles, total_at}
 use Rattle.tomex_study.specs.Program.{IsProgram, Workload}
 use Rattle.tomex_study.specs.Study.{DesignSpace, IsStudy}
 use Rattle.tomex_workers.proofs.Rows.{as_many_rows, cycles_at}
 use Rattle.tomex_survey.specs.Totals.{totals_of}
-use Rattle.tomex_runs.specs.StudyFront.{all_rows}
+use Rattle.tomex_row_runs.specs.StudyFront.{all_rows}
 use Rattle.std.specs.List.{AllZip, flat_map}
 use Rattle.std.specs.declared.vec.Vec.{Vec}
 use Rattle.tomex_survey.specs.Stretches.{AreTotalsIn, in_stretch, stretches_of}

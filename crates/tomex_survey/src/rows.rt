@@ -3,10 +3,10 @@
 ghost use Rattle.std.specs.Prelude.{◌≡◌, ◌≤◌, length, map, take, All, IfOk};
 ghost use Rattle.tomex_board.specs.declared.mark.Mark.TheVariants.{Finished};
 ghost use Rattle.tomex_config.specs.Configuration.{Configuration, IsWithinLimits};
-ghost use Rattle.tomex_runs.specs.Cycles.{cycles_on, totals_on};
+ghost use Rattle.tomex_row_runs.specs.Cycles.{cycles_on, totals_on};
 ghost use Rattle.tomex_study.specs.Program.{IsProgram};
 ghost use Rattle.tomex_survey.specs.Totals.{totals_of};
-ghost use Rattle.tomex_runs.specs.StudyFront.{all_rows};
+ghost use Rattle.tomex_row_runs.specs.StudyFront.{all_rows};
 
 use std::alloc::{AllocError, Allocator};
 use tomex_board::Mark;

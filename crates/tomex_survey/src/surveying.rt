@@ -1,9 +1,9 @@
 //! The survey of a study.
 
 ghost use Rattle.std.specs.Prelude.{◌≡◌, ◌≤◌, IfOk};
-ghost use Rattle.tomex_runs.specs.StudyFront.{front_of_study};
+ghost use Rattle.tomex_row_runs.specs.StudyFront.{front_of_study};
 ghost use Rattle.tomex_survey.specs.Totals.{totals_of};
-ghost use Rattle.tomex_runs.specs.StudyFront.{all_rows};
+ghost use Rattle.tomex_row_runs.specs.StudyFront.{all_rows};
 
 use crate::rows::{all_rows, marks};
 use crate::surveyed::Survey;

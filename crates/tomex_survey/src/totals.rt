@@ -2,7 +2,7 @@
 
 ghost use Rattle.std.specs.Prelude.{◌≡◌, ◌<◌, ◌≤◌, count_by, flat_map, is_some, length, map, not, take, All, IfOk};
 ghost use Rattle.std.specs.List.{AllZip};
-ghost use Rattle.tomex_runs.specs.Knowledge.{AreTotalsOn};
+ghost use Rattle.tomex_row_runs.specs.Knowledge.{AreTotalsOn};
 ghost use Rattle.tomex_survey.specs.Stretches.{AreTotalsIn, IsWithin};
 ghost use Rattle.tomex_survey.specs.Totals.{totals_of};
 
@@ -10,7 +10,7 @@ use crate::stretches::{Stretch, stretches};
 use rayon::prelude::*;
 use std::alloc::{AllocError, Allocator};
 use std::thread::Threads;
-use tomex_runs::Knowledge;
+use tomex_row_runs::Knowledge;
 use tomex_study::Study;
 use tomex_workers::Gate;
 

@@ -10,5 +10,5 @@ pub use Rattle.tomex_study.specs.Study
 pub use Rattle.tomex_study.specs.Watch
 pub use Rattle.tomex_pareto.specs.Front
 pub use Rattle.tomex_pareto.specs.Pareto
-pub use Rattle.tomex_runs.specs.Cycles
-pub use Rattle.tomex_runs.specs.StudyFront
+pub use Rattle.tomex_row_runs.specs.Cycles
+pub use Rattle.tomex_row_runs.specs.StudyFront

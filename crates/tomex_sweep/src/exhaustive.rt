@@ -1,8 +1,8 @@
 //! The exploration that runs each configuration to its end.
 
 ghost use Rattle.std.specs.Prelude.{◌≡◌, map, IfOk, IfErr};
-ghost use Rattle.tomex_runs.specs.Cycles.{cycles_of};
-ghost use Rattle.tomex_runs.specs.StudyFront.{front_of_study};
+ghost use Rattle.tomex_row_runs.specs.Cycles.{cycles_of};
+ghost use Rattle.tomex_row_runs.specs.StudyFront.{front_of_study};
 ghost use Rattle.tomex_board.specs.declared.mark.Mark.TheVariants.{Finished};
 ghost use Rattle.tomex_sweep.specs.declared.outcome.SweepError.TheVariants.{Memory};
 
@@ -10,7 +10,7 @@ use crate::outcome::{Outcome, SweepError};
 use std::alloc::{AllocError, Allocator};
 use tomex_board::Mark;
 use tomex_pareto::front;
-use tomex_runs::Runs;
+use tomex_row_runs::Runs;
 use tomex_study::Study;
 use tomex_workers::{Gate, OpenGate};
 

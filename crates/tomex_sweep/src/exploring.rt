@@ -1,8 +1,8 @@
 //! Explorations.
 
 ghost use Rattle.std.specs.Prelude.{◌≡◌, ◌≤◌, IfOk};
-ghost use Rattle.tomex_runs.specs.Cycles.{cycles_of};
-ghost use Rattle.tomex_runs.specs.StudyFront.{front_of_study};
+ghost use Rattle.tomex_row_runs.specs.Cycles.{cycles_of};
+ghost use Rattle.tomex_row_runs.specs.StudyFront.{front_of_study};
 ghost use Rattle.tomex_sweep.specs.Marks.{AreJudged};
 ghost use Rattle.tomex_workers.specs.Plans.{IsPlanOf};
 

@@ -3,12 +3,12 @@
 ghost use Rattle.std.specs.Prelude.{◌≡◌, ◌↔◌, length, true, IfOk, OnOk, IsTrue, All};
 ghost use Rattle.tomex_board.specs.Marks.{AreLawful};
 ghost use Rattle.tomex_lanes.specs.Parts.{is_closed};
-ghost use Rattle.tomex_runs.specs.Cycles.{cycles_of};
+ghost use Rattle.tomex_row_runs.specs.Cycles.{cycles_of};
 ghost use Rattle.tomex_sweep.specs.Marks.{AreJudged, StayClosed, rows_left};
 
 use std::alloc::{AllocError, Allocator};
 use tomex_board::Mark;
-use tomex_runs::Runs;
+use tomex_row_runs::Runs;
 use tomex_study::Study;
 
 /// True if the row of this mark is finished or dropped.

@@ -1,7 +1,7 @@
 -- Tables: a line of names, and after it lines of texts, all aligned at their right.
 use Rattle.std.specs.Prelude.{ℕ, ◌<◌, max, List, [], ◌∷◌, ◌++◌, codes, length, slice_index_or}
 use Rattle.std.specs.List.{flat_map, range_with_len}
-use Rattle.tomex_records.specs.Aligned.{right_aligned}
+use Rattle.tomex_csv_text.specs.Aligned.{right_aligned}
 use Rattle.tomex_tables.specs.declared.column.Line.{Line}
 use Rattle.tomex_tables.specs.declared.column.Line.TheVariants.{Names, Entries}
 

@@ -5,7 +5,7 @@ ghost use Rattle.tomex_tables.specs.Table.{aligned_in, has_line, with_entry};
 
 use std::alloc::{AllocError, Allocator, Global};
 use std::marker::Model;
-use tomex_records::push_aligned;
+use tomex_csv_text::push_aligned;
 
 /// A column: a name, and an entry for each line.
 #[derive(Drop)]

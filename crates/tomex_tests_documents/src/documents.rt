@@ -3,8 +3,8 @@
 use std::process::Abort;
 use std::test::Fail;
 use tomex_image::ImageError;
-use tomex_reading::{StudyError, file_names};
 use tomex_rvexec::{Fault, FaultKind};
+use tomex_study_reader::{StudyError, file_names};
 
 mod reading;
 mod studies;

@@ -4,7 +4,7 @@ use std::alloc::{AllocError, Global};
 use std::process::Abort;
 use std::test::Fail;
 use tomex_arguments::LineFault;
-use tomex_line::{Line, OneRun, read_line};
+use tomex_command_line::{Line, OneRun, read_line};
 
 /// The words of a line, apart at each space.
 fn words(alloc: Global, line: &str) -> Result<Vec<String>, AllocError> {

@@ -4,9 +4,9 @@
 use std::process::Abort;
 use std::test::Fail;
 use tomex_image::ImageError;
-use tomex_reading::StudyError;
 use tomex_refusals::{ExplainError, explain};
 use tomex_rvexec::{Fault, FaultKind};
+use tomex_study_reader::StudyError;
 use tomex_values::{Key, Place};
 
 /// The first line of the explanation of a text is this one, and there are at most twelve lines.

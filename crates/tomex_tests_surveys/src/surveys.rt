@@ -1,14 +1,14 @@
 //! The survey of a worked study, its rows as CSV, and its picture. The modules below are of random studies.
 
 ghost use Rattle.std.specs.Prelude.{◌≡◌, IfOk};
-ghost use Rattle.tomex_runs.specs.StudyFront.{all_rows, front_of_study};
+ghost use Rattle.tomex_row_runs.specs.StudyFront.{all_rows, front_of_study};
 ghost use Rattle.tomex_survey.specs.Totals.{totals_of};
 
 use std::alloc::Global;
 use std::test::Fail;
 use std::thread::Threads;
 use tomex_config::{Config, Prices, UnitOption};
-use tomex_fronts::rows_picture;
+use tomex_front_views::rows_picture;
 use tomex_rows::rows_report;
 use tomex_study::{Program, Study};
 use tomex_survey::{Survey, survey};

@@ -12,10 +12,10 @@ use Rattle.tomex_config.specs.Configuration.{stations_of}
 use Rattle.tomex_cycle.specs.Run.{total}
 use Rattle.tomex_study.specs.Program.{Workload}
 use Rattle.tomex_study.specs.Study.{DesignSpace}
-use Rattle.tomex_runs.specs.StudyFront.{front_of_study}
+use Rattle.tomex_row_runs.specs.StudyFront.{front_of_study}
 use Rattle.tomex_pareto.specs.declared.front_row.FrontRow.{FrontRow}
 use Rattle.tomex_study.specs.declared.watch.WatchRange.{WatchRange}
-use Rattle.tomex_records.specs.Csv.{record_text}
+use Rattle.tomex_csv_text.specs.Csv.{record_text}
 use Rattle.tomex_texts.specs.declared.ends.ProgramEnd.{ProgramEnd}
 use Rattle.tomex_texts.specs.Ends.{bytes_at, count_of, last_state}
 

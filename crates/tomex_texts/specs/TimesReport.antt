@@ -10,7 +10,7 @@ use Rattle.tomex_steps.specs.declared.step.Step.{Step}
 use Rattle.tomex_config.specs.Configuration.{Configuration}
 use Rattle.tomex_timing.specs.Search.{times_in, total_of}
 use Rattle.tomex_timing.specs.declared.times.Times.{Times}
-use Rattle.tomex_records.specs.Csv.{record_text}
+use Rattle.tomex_csv_text.specs.Csv.{record_text}
 
 abbrev pub header : List (List ℕ)
 header =

@@ -3,7 +3,7 @@ use Rattle.std.proofs.Common.{◌≡◌, ℕ, zero, suc, ap, ◌∙◌, List, []
 use Rattle.std.proofs.lemmas.List.{length-map}
 use Rattle.tomex_config.specs.Configuration.{Configuration}
 use Rattle.tomex_study.specs.Study.{DesignSpace, IsStudy}
-use Rattle.tomex_runs.specs.Cycles.{cycles_on, cycles_of}
+use Rattle.tomex_row_runs.specs.Cycles.{cycles_on, cycles_of}
 
 -- there are as many as costs
 pub as_many_rows : (s : DesignSpace) → IsStudy s → length s.costs ≡ length s.rows

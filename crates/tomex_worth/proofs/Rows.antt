@@ -6,9 +6,9 @@ use Rattle.std.proofs.lemmas.List.Elements.{All-append, All-cons, All-filter, Al
 use Rattle.tomex_config.specs.Configuration.{plain}
 use Rattle.tomex_pareto.specs.Front.{rows_from}
 use Rattle.tomex_pareto.specs.declared.front_row.FrontRow.{FrontRow}
-use Rattle.tomex_runs.specs.Cycles.{cycles_of, cycles_on}
+use Rattle.tomex_row_runs.specs.Cycles.{cycles_of, cycles_on}
 use Rattle.tomex_study.specs.Study.{DesignSpace, IsStudy}
-use Rattle.tomex_runs.specs.StudyFront.{all_rows}
+use Rattle.tomex_row_runs.specs.StudyFront.{all_rows}
 use Rattle.tomex_worth.specs.Changes.{IsMachine, change, changes_at, changes_of, config_at, differ_at}
 use Rattle.tomex_worth.specs.Changes.{part_at}
 use Rattle.tomex_worth.specs.Worth.{row_at}

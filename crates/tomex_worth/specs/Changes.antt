@@ -8,7 +8,7 @@ use Rattle.tomex_config.specs.Configuration.{Configuration, option_of, plain}
 use Rattle.tomex_prices.specs.Price.{same_option}
 use Rattle.tomex_pareto.specs.declared.front_row.FrontRow.{FrontRow}
 use Rattle.tomex_study.specs.Study.{DesignSpace}
-use Rattle.tomex_runs.specs.StudyFront.{all_rows}
+use Rattle.tomex_row_runs.specs.StudyFront.{all_rows}
 use Rattle.tomex_timing.specs.Needs.{all_parts, count_of}
 use Rattle.tomex_timing.specs.declared.part.Part.{Part}
 use Rattle.tomex_timing.specs.declared.part.Part.TheVariants.{Units, Width}

@@ -8,9 +8,9 @@ use Rattle.tomex_config.specs.Configuration.{Configuration, option_of}
 use Rattle.tomex_cycle.specs.Run.{total}
 use Rattle.tomex_pareto.specs.Front.{dominates}
 use Rattle.tomex_pareto.specs.declared.front_row.FrontRow.{FrontRow}
-use Rattle.tomex_records.specs.Hundredths.{hundredths}
-use Rattle.tomex_runs.specs.Cycles.{cycles_on}
-use Rattle.tomex_runs.specs.StudyFront.{front_of_study}
+use Rattle.tomex_csv_text.specs.Hundredths.{hundredths}
+use Rattle.tomex_row_runs.specs.Cycles.{cycles_on}
+use Rattle.tomex_row_runs.specs.StudyFront.{front_of_study}
 use Rattle.tomex_study.specs.Program.{Workload}
 use Rattle.tomex_study.specs.Study.{DesignSpace}
 use Rattle.tomex_tables.specs.Table.{TableColumn, table_of}

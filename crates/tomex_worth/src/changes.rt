@@ -1,7 +1,7 @@
 //! The rows of a study that differ from a machine in one list only.
 
 ghost use Rattle.std.specs.Prelude.{◌≡◌, ◌<◌, ◌++◌, if◌then◌else◌, not, length, All, IfOk, OnOk};
-ghost use Rattle.tomex_runs.specs.StudyFront.{all_rows};
+ghost use Rattle.tomex_row_runs.specs.StudyFront.{all_rows};
 ghost use Rattle.tomex_worth.specs.Changes.{changes_at, changes_of, differ_at, part_at, same_entry};
 
 use std::alloc::{AllocError, Allocator, Global};

@@ -6,8 +6,8 @@ ghost use Rattle.tomex_worth.specs.Differences.{distance, percent, sign_of, sign
 ghost use Rattle.tomex_worth.specs.Worth.{rate_text};
 
 use std::alloc::{AllocError, Global};
+use tomex_csv_text::push_hundredths;
 use tomex_pareto::FrontRow;
-use tomex_records::push_hundredths;
 
 /// The sign of what `b` is more than `a`.
 fn sign_of(a: u64, b: u64) -> &'static str

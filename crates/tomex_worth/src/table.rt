@@ -3,9 +3,9 @@
 ghost use Rattle.std.specs.Prelude.{◌≡◌, ◌<◌, ◌++◌, ◌==◌, if◌then◌else◌, slice_get, Some};
 ghost use Rattle.std.specs.Prelude.{codes, length, map, IfOk, OnOk, string_bytes};
 ghost use Rattle.std.specs.List.{list_any};
-ghost use Rattle.tomex_runs.specs.StudyFront.{front_of_study};
+ghost use Rattle.tomex_row_runs.specs.StudyFront.{front_of_study};
 ghost use Rattle.tomex_survey.specs.Totals.{totals_of};
-ghost use Rattle.tomex_runs.specs.StudyFront.{all_rows};
+ghost use Rattle.tomex_row_runs.specs.StudyFront.{all_rows};
 ghost use Rattle.tomex_worth.specs.Changes.{IsMachine};
 ghost use Rattle.tomex_worth.specs.Worth.{all_headings, heading_column, own_under, program_column, program_columns};
 ghost use Rattle.tomex_worth.specs.Worth.{text_under, total_at, worth_table_of};

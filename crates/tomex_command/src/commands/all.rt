@@ -8,7 +8,7 @@ use crate::failure::Failure;
 use crate::metered::Metered;
 use std::alloc::{Allocator, Global};
 use std::thread::Threads;
-use tomex_line::AllLine;
+use tomex_command_line::AllLine;
 use tomex_report::answer_all_under;
 use tomex_streams::{Files, Meter};
 

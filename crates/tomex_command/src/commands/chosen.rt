@@ -4,8 +4,8 @@ ghost use Rattle.tomex_command.specs.Chosen.{IsChosen, IsUnchosen};
 
 use crate::failure::Failure;
 use std::alloc::Allocator;
+use tomex_command_line::OneRun;
 use tomex_config::Config;
-use tomex_line::OneRun;
 use tomex_study::{Program, Study};
 
 /// A configuration of a study, and a program that runs on it.

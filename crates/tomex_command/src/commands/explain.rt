@@ -4,7 +4,7 @@ ghost use Rattle.tomex_command.specs.ExplainLines.{IsExplanation, IsExplainFailu
 
 use crate::failure::Failure;
 use std::alloc::Allocator;
-use tomex_line::ExplainLine;
+use tomex_command_line::ExplainLine;
 use tomex_refusals::{explain, list_refusals};
 
 /// The text that `explain` prints: one refusal's explanation, or the list of all.

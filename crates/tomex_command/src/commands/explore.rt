@@ -9,7 +9,7 @@ use crate::metered::Metered;
 use std::alloc::{Allocator, Global};
 use std::sync::Wait;
 use std::thread::Threads;
-use tomex_line::ExploreLine;
+use tomex_command_line::ExploreLine;
 use tomex_report::{AnswerError, Crew, FrontView, answer, answer_shown};
 use tomex_streams::{Files, Meter};
 use tomex_sweep::Gate;

@@ -6,10 +6,10 @@ use super::chosen::chosen_in;
 use super::study::study_in;
 use crate::failure::Failure;
 use std::alloc::{Allocator, Global};
+use tomex_command_line::PipelineLine;
 use tomex_konata::konata_text;
-use tomex_line::PipelineLine;
+use tomex_run_views::pipeline_text;
 use tomex_streams::Files;
-use tomex_views::pipeline_text;
 
 /// The text that `pipeline` prints, a picture or a log. The step is looked for after the program, and last the size
 /// of a picture.

@@ -8,7 +8,7 @@ use crate::failure::Failure;
 use std::alloc::{Allocator, Global};
 use std::sync::Wait;
 use std::thread::Threads;
-use tomex_line::PlotLine;
+use tomex_command_line::PlotLine;
 use tomex_report::{FrontView, SurveyView};
 use tomex_streams::{Files, Meter};
 

@@ -7,8 +7,8 @@ use super::reading::read;
 use crate::failure::Failure;
 use crate::run::run_text;
 use std::alloc::{Allocator, Global};
+use tomex_command_line::RunLine;
 use tomex_image::Window;
-use tomex_line::RunLine;
 use tomex_streams::Files;
 
 /// The text that `run` prints. The window is tested before the file is read.

@@ -6,7 +6,7 @@ use super::chosen::chosen_in;
 use super::study::study_in;
 use crate::failure::Failure;
 use std::alloc::{Allocator, Global};
-use tomex_line::StallsLine;
+use tomex_command_line::StallsLine;
 use tomex_report::{stalls_by_pc, stalls_report};
 use tomex_streams::Files;
 

@@ -7,7 +7,7 @@ use crate::failure::Failure;
 use crate::metered::Metered;
 use std::alloc::{Allocator, Global};
 use std::thread::Threads;
-use tomex_line::ExploreLine;
+use tomex_command_line::ExploreLine;
 use tomex_report::{Crew, SurveyView, answer_survey};
 use tomex_streams::{Files, Meter};
 

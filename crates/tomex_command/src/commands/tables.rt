@@ -7,8 +7,8 @@ use super::chosen::{Chosen, chosen_in};
 use super::study::study_in;
 use crate::failure::Failure;
 use std::alloc::{Allocator, Global};
+use tomex_command_line::TablesLine;
 use tomex_cycle::Machine;
-use tomex_line::TablesLine;
 use tomex_report::tables_text;
 use tomex_streams::Files;
 

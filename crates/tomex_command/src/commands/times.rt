@@ -6,7 +6,7 @@ use super::chosen::chosen_in;
 use super::study::study_in;
 use crate::failure::Failure;
 use std::alloc::{Allocator, Global};
-use tomex_line::OneRun;
+use tomex_command_line::OneRun;
 use tomex_report::times_report;
 use tomex_streams::Files;
 

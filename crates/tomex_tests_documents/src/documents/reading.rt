@@ -4,9 +4,9 @@ use super::studies::{STUDY_L, STUDY_M};
 use std::alloc::Global;
 use std::test::Fail;
 use tomex_config::Config;
-use tomex_reading::{StudyError, file_names, read_study};
 use tomex_rvdec::PoolId;
 use tomex_study::{Program, Study, WatchRange};
+use tomex_study_reader::{StudyError, file_names, read_study};
 
 /// `addi x1,x0,5; addi x2,x0,7; mul x3,x1,x2; ebreak`
 const PRODUCT: &[u8; 16] = b"\x93\x00\x50\x00\x13\x01\x70\x00\xb3\x81\x20\x02\x73\x00\x10\x00";

@@ -2,7 +2,7 @@
 //! dominations found out by hand.
 
 ghost use Rattle.std.specs.Prelude.{◌≡◌};
-ghost use Rattle.tomex_runs.specs.StudyFront.{all_rows, front_of_study};
+ghost use Rattle.tomex_row_runs.specs.StudyFront.{all_rows, front_of_study};
 
 use super::random::Random;
 use super::{by_hand, holds_for, surveyed};

@@ -3,7 +3,7 @@
 
 ghost use Rattle.std.specs.Prelude.{◌≡◌};
 ghost use Rattle.tomex_prices.specs.Prices.{prices_of};
-ghost use Rattle.tomex_runs.specs.StudyFront.{all_rows};
+ghost use Rattle.tomex_row_runs.specs.StudyFront.{all_rows};
 
 use super::random::Random;
 use super::{by_hand, holds_for, surveyed};

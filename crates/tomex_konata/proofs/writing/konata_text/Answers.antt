@@ -1,6 +1,6 @@
 -- The steps shown end within the run's total, are few, and are those that were asked for.
 use Rattle.std.proofs.Common.{rules}
-use Rattle.tomex_views.proofs.Pictures.{numbers_few, part_ends, part_there, parts_paired}
+use Rattle.tomex_run_views.proofs.Pictures.{numbers_few, part_ends, part_there, parts_paired}
 use Rattle.tomex_konata.proofs.Bounds.{logged}
 use Rattle.tomex_konata.proofs.writing.konata_text.Goals as goal
 

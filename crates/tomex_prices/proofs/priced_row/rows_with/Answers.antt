@@ -1,7 +1,7 @@
 -- There is a row for each configuration; one row more.
 use Rattle.std.proofs.Common.{◌<◌, arith, length}
 use Rattle.tomex_pareto.specs.declared.front_row.FrontRow.{FrontRow}
-use Rattle.tomex_runs.specs.Cycles.{cycles_of}
+use Rattle.tomex_row_runs.specs.Cycles.{cycles_of}
 use Rattle.tomex_prices.proofs.AllRows.{as_many_cycles, made_apart, next_priced, row_there, small_more}
 use Rattle.tomex_prices.proofs.priced_row.rows_with.Goals as goal
 

@@ -1,7 +1,7 @@
 -- The rows so far, and those to come.
 use Rattle.std.proofs.Common.{◌≡◌, ◌++◌, drop}
 use Rattle.std.specs.Prelude.{All}
-use Rattle.tomex_runs.specs.Cycles.{cycles_of}
+use Rattle.tomex_row_runs.specs.Cycles.{cycles_of}
 use Rattle.tomex_prices.specs.Interval.{IsSmall}
 use Rattle.tomex_prices.specs.Repriced.{priced_from}
 use Rattle.tomex_prices.specs.Studies.{rows_with}

@@ -3,7 +3,7 @@ use Rattle.std.proofs.Common.{◌<◌, length, sym, subst}
 use Rattle.std.specs.Prelude.{All}
 use Rattle.tomex_pareto.specs.declared.front_row.FrontRow.{FrontRow}
 use Rattle.std.proofs.Common.{List}
-use Rattle.tomex_runs.proofs.StudyFronts.{study_rows}
+use Rattle.tomex_row_runs.proofs.StudyFronts.{study_rows}
 use Rattle.tomex_prices.proofs.table.percent_column.Goals as goal
 
 pub percent-percent-requires-clause-row : goal.percent-percent-requires-clause-row

@@ -1,7 +1,7 @@
 -- The cycles of the programs so far.
 use Rattle.std.proofs.Common.{◌≡◌, take}
 use Rattle.std.specs.List.{AllZip}
-use Rattle.tomex_fronts.specs.FrontTable.{cycles_on}
+use Rattle.tomex_front_views.specs.FrontTable.{cycles_on}
 use Rattle.tomex_report.proofs.front_view.cycles_by_program.Given as goal
 
 abbrev pub invariant-loop-place : goal.invariant-loop-place

@@ -1,7 +1,7 @@
 -- The cycles so far, and those to come.
 use Rattle.std.proofs.Common.{◌≡◌, ◌++◌, drop, map}
 use Rattle.tomex_cycle.specs.Run.{total}
-use Rattle.tomex_fronts.specs.FrontTable.{config_of}
+use Rattle.tomex_front_views.specs.FrontTable.{config_of}
 use Rattle.tomex_report.proofs.front_view.program_cycles.Given as goal
 
 abbrev pub invariant-loop-end : goal.invariant-loop-end

@@ -2,7 +2,7 @@
 use Rattle.std.proofs.Common.{◌<◌, ◌∙◌, ap, arith, get_or, length, subst, sym, List, ℕ, []}
 use Rattle.std.proofs.lemmas.List.FromFn.{length-map-range_with_len}
 use Rattle.tomex_rows.specs.RowsReport.{is_on_front}
-use Rattle.tomex_runs.specs.StudyFront.{front_of_study}
+use Rattle.tomex_row_runs.specs.StudyFront.{front_of_study}
 use Rattle.tomex_rows.proofs.Lines.{as_many_totals, flag_there, low_read, number_read, totals_there}
 use Rattle.tomex_rows.proofs.report.put_rows.Goals as goal
 

@@ -1,9 +1,9 @@
 -- The text so far: the records of the rows up to here.
 use Rattle.std.proofs.Common.{◌≡◌, ◌++◌, take}
 use Rattle.std.specs.List.{flat_map}
-use Rattle.tomex_records.specs.Csv.{IsReady, written}
+use Rattle.tomex_csv_text.specs.Csv.{IsReady, written}
 use Rattle.tomex_rows.specs.RowsReport.{row_record}
-use Rattle.tomex_runs.specs.StudyFront.{all_rows}
+use Rattle.tomex_row_runs.specs.StudyFront.{all_rows}
 use Rattle.tomex_rows.proofs.report.put_rows.Given as goal
 
 abbrev pub invariant-loop-place : goal.invariant-loop-place

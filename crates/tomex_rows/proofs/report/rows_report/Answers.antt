@@ -2,7 +2,7 @@
 use Rattle.std.proofs.Common.{◌<◌, ◌∙◌, length, subst, sym, All, List}
 use Rattle.tomex_config.specs.Configuration.{Configuration}
 use Rattle.tomex_pareto.specs.declared.front_row.FrontRow.{FrontRow}
-use Rattle.tomex_runs.proofs.StudyFronts.{study_rows}
+use Rattle.tomex_row_runs.proofs.StudyFronts.{study_rows}
 use Rattle.tomex_rows.proofs.report.rows_report.Goals as goal
 
 pub flags-requires : goal.flags-requires

@@ -1,7 +1,7 @@
 -- One row more, whose cycles are the weighed sum of its totals.
 use Rattle.std.proofs.Common.{◌≡◌, ◌<◌, ◌≤◌, ◌∙◌, ap, arith, get_or, length, subst, sym, take, All, List, ℕ, []}
 use Rattle.tomex_config.specs.Configuration.{plain}
-use Rattle.tomex_runs.specs.Cycles.{cycles_on, totals_on}
+use Rattle.tomex_row_runs.specs.Cycles.{cycles_on, totals_on}
 use Rattle.tomex_study.specs.Program.{IsProgram, Workload}
 use Rattle.tomex_workers.proofs.Rows.{as_many_rows}
 use Rattle.tomex_survey.proofs.Weighing.{as_many_totals, last_row, no_row, one_row, totals_at}

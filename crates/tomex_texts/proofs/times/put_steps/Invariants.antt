@@ -1,6 +1,6 @@
 -- The text so far, and that of the steps to come.
 use Rattle.std.proofs.Common.{◌≡◌, ◌+◌, ◌++◌, drop}
-use Rattle.tomex_records.specs.Csv.{IsReady, written}
+use Rattle.tomex_csv_text.specs.Csv.{IsReady, written}
 use Rattle.tomex_texts.specs.TimesReport.{step_records}
 use Rattle.tomex_texts.proofs.times.put_steps.Given as goal
 

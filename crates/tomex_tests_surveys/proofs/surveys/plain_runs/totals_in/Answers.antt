@@ -1,7 +1,7 @@
 -- A survey has totals of each row of its study.
 use Rattle.std.proofs.Common.{ap, arith, length}
 use Rattle.std.proofs.lemmas.List.{length-map}
-use Rattle.tomex_runs.specs.Cycles.{totals_on}
+use Rattle.tomex_row_runs.specs.Cycles.{totals_on}
 use Rattle.tomex_survey.specs.Totals.{totals_of}
 use Rattle.tomex_tests_surveys.proofs.surveys.plain_runs.totals_in.Goals as goal
 

@@ -1,0 +1,6 @@
+-- The command with the number of workers.
+use Rattle.tomex_command_line.proofs.Taken.{taken}
+use Rattle.tomex_command_line.proofs.line.explore.on_rows.Goals as goal
+
+pub returns : goal.returns
+returns c = taken _ _ _ _ _ c.taking.ensures c.on_study-command.ensures c.number.ensures.rule

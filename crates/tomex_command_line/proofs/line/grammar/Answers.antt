@@ -1,0 +1,45 @@
+-- The commands, one after the other.
+use Rattle.std.proofs.Common.{◌≡◌, ◌∙◌, ap₂, IfOk, IsOkAnd, Result, Ok, Err}
+use Rattle.clap.specs.Simple.{App, Shape, app_of, shape_of, with_subcommand}
+use Rattle.clap.specs.declared.builder.command.Command.{Command}
+use Rattle.tomex_command_line.specs.Grammar.{bare_app, run_shape, times_shape, stalls_shape, pipeline_shape, tables_shape}
+use Rattle.tomex_command_line.specs.Grammar.{all_shape, explore_shape, front_shape, plot_shape, rows_shape}
+use Rattle.tomex_command_line.specs.Grammar.{worth_shape, prices_shape, explain_shape}
+use Rattle.tomex_command_line.proofs.line.grammar.Goals as goal
+
+offered : {E : Type 0} (made program command : Result Command E) (a : App) (s : Shape)
+    → IfOk made (λ m. IsOkAnd program (λ p. IsOkAnd command (λ k. app_of m ≡ with_subcommand (app_of p) (shape_of k))))
+    → IfOk program (λ p. app_of p ≡ a) → IfOk command (λ k. shape_of k ≡ s)
+    → IfOk made (λ m. app_of m ≡ with_subcommand a s)
+offered (Err _) program command a s is of is_s = tt
+offered (Ok m) (Ok p) (Ok k) a s is of is_s = is ∙ ap₂ with_subcommand of is_s
+offered (Ok m) (Ok p) (Err _) a s is of is_s = absurd is
+offered (Ok m) (Err _) command a s is of is_s = absurd is
+
+pub returns : goal.returns
+returns c =
+    let one = offered c.offering-program.result (Ok c.without_commands.result) c.grammar.result bare_app run_shape
+    c.offering-program.ensures c.without_commands.ensures c.grammar.ensures in
+    let two = offered c.offering-program-2.result _ _ _ times_shape c.offering-program-2.ensures one c.grammar-2.ensures
+    in
+    let three = offered c.offering-program-3.result _ _ _ stalls_shape c.offering-program-3.ensures two
+    c.grammar-3.ensures in
+    let four = offered c.offering-program-4.result _ _ _ pipeline_shape c.offering-program-4.ensures three
+    c.grammar-4.ensures in
+    let five = offered c.offering-program-5.result _ _ _ tables_shape c.offering-program-5.ensures four
+    c.grammar-5.ensures in
+    let six = offered c.offering-program-6.result _ _ _ all_shape c.offering-program-6.ensures five c.grammar-6.ensures
+    in
+    let seven = offered c.offering-program-7.result _ _ _ explore_shape c.offering-program-7.ensures six
+    c.grammar-7.ensures in
+    let eight = offered c.offering-program-8.result _ _ _ front_shape c.offering-program-8.ensures seven
+    c.grammar-8.ensures in
+    let nine = offered c.offering-program-9.result _ _ _ plot_shape c.offering-program-9.ensures eight
+    c.grammar-9.ensures in
+    let ten = offered c.offering-program-10.result _ _ _ rows_shape c.offering-program-10.ensures nine
+    c.grammar-10.ensures in
+    let eleven = offered c.offering-program-11.result _ _ _ worth_shape c.offering-program-11.ensures ten
+    c.grammar-11.ensures in
+    let twelve = offered c.offering-program-12.result _ _ _ prices_shape c.offering-program-12.ensures eleven
+    c.grammar-12.ensures in
+    offered c.offering.result _ _ _ explain_shape c.offering.ensures twelve c.grammar-13.ensures

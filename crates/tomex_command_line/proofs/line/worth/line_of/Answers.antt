@@ -1,0 +1,13 @@
+-- A value that isn't there, or is out of bounds, is one that no line has.
+use Rattle.tomex_command_line.proofs.PassedOn.{passed_on}
+use Rattle.tomex_command_line.proofs.line.worth.line_of.Goals as goal
+
+pub returns-in_err-line_of-clause-refused : goal.returns-in_err-line_of-clause-refused
+returns-in_err-line_of-clause-refused c =
+    passed_on _ _ _ c.from_residual.result c.from_residual.ensures.1 c.in_err-line_of.ensures.refused
+    (λ none study config workers asked. none study workers asked.of_study)
+
+pub returns-in_err-number_of-clause-refused : goal.returns-in_err-number_of-clause-refused
+returns-in_err-number_of-clause-refused c =
+    passed_on _ _ _ c.from_residual-in_err-number_of.result c.from_residual-in_err-number_of.ensures.1 c.in_err-number_of.ensures.refused
+    (λ none study config workers asked. none config asked.is_config)

@@ -1,0 +1,89 @@
+-- What a command line asks for, by the values that `clap` is specified to find in its words.
+use Rattle.std.specs.Prelude.{◌≡◌, ◌≢◌, ◌⊎◌, List, codes, option_map, Option, Some, None, string_bytes}
+use Rattle.std.specs.List.{All as Each}
+use Rattle.clap.specs.Words.{IsAmong, Row, Shape, Text, fault_of, subcommand_of}
+use Rattle.clap.specs.declared.error.kind.ErrorKind.{ErrorKind}
+use Rattle.clap.specs.declared.error.kind.ErrorKind.TheVariants.{DisplayHelp, DisplayVersion}
+use Rattle.tomex_command_line.specs.declared.line.Line.{Line}
+use Rattle.tomex_command_line.specs.declared.line.Line.TheVariants.{Run, Times, Stalls, Pipeline, Tables}
+use Rattle.tomex_command_line.specs.declared.line.Line.TheVariants.{All, Explore, Front, Plot, Rows, Worth, Prices, Explain}
+use Rattle.tomex_arguments.specs.declared.fault.LineFault.{LineFault}
+use Rattle.tomex_arguments.specs.declared.fault.LineFault.TheVariants.{Help, Usage, Memory}
+use Rattle.tomex_command_line.specs.Grammar.{tomex_app}
+use Rattle.tomex_command_line.specs.Values.{IsRunAsked, IsOneRunAsked, IsStallsAsked, IsPipelineAsked, IsTablesAsked}
+use Rattle.tomex_command_line.specs.Values.{IsAllAsked, IsExploreAsked, IsPlotAsked, IsWorthAsked, IsExplainAsked}
+use Rattle.tomex_command_line.specs.Values.{IsNoRun, IsNoOneRun, IsNoStalls, IsNoPipeline, IsNoTables, IsNoAll}
+use Rattle.tomex_command_line.specs.Values.{IsNoExplore, IsNoPlot, IsNoWorth}
+
+-- the command of that name with these values
+abbrev pub IsCommand : Option (Text × List Row) → Line → Type 0
+IsCommand found (Run line) =
+    (rows : List Row) × (found ≡ Some (codes "run", rows))
+    × IsRunAsked rows line.image.now line.base line.size line.limit
+IsCommand found (Times line) =
+    (rows : List Row) × (found ≡ Some (codes "times", rows))
+    × IsOneRunAsked rows line.study.now line.config line.program.now
+IsCommand found (Stalls line) =
+    (rows : List Row) × (found ≡ Some (codes "stalls", rows))
+    × IsStallsAsked rows line.run.study.now line.run.config line.run.program.now line.by_pc
+IsCommand found (Pipeline line) =
+    (rows : List Row) × (found ≡ Some (codes "pipeline", rows))
+    × IsPipelineAsked rows line.run.study.now line.run.config line.run.program.now line.from line.steps line.konata
+IsCommand found (Tables line) =
+    (rows : List Row) × (found ≡ Some (codes "tables", rows))
+    × IsTablesAsked rows line.run.study.now line.run.config line.run.program.now line.cycle
+IsCommand found (All line) = (rows : List Row) × (found ≡ Some (codes "all", rows)) × IsAllAsked rows line.study.now
+IsCommand found (Explore line) =
+    (rows : List Row) × (found ≡ Some (codes "explore", rows)) × IsExploreAsked rows line.study.now line.workers
+IsCommand found (Front line) =
+    (rows : List Row) × (found ≡ Some (codes "front", rows)) × IsExploreAsked rows line.study.now line.workers
+IsCommand found (Plot line) =
+    (rows : List Row) × (found ≡ Some (codes "plot", rows))
+    × IsPlotAsked rows line.explore.study.now line.explore.workers line.all
+IsCommand found (Rows line) =
+    (rows : List Row) × (found ≡ Some (codes "rows", rows)) × IsExploreAsked rows line.study.now line.workers
+IsCommand found (Worth line) =
+    (rows : List Row) × (found ≡ Some (codes "worth", rows))
+    × IsWorthAsked rows line.explore.study.now line.config line.explore.workers
+IsCommand found (Prices line) =
+    (rows : List Row) × (found ≡ Some (codes "prices", rows)) × IsExploreAsked rows line.study.now line.workers
+IsCommand found (Explain line) =
+    (rows : List Row) × (found ≡ Some (codes "explain", rows))
+    × IsExplainAsked rows (option_map string_bytes line.refusal)
+
+-- the words ask for this
+abbrev pub IsAsked : List Text → Line → Type 0
+IsAsked words line = IsCommand (subcommand_of tomex_app words) line
+
+-- the words ask for help or the version
+abbrev pub IsHelpAsked : List Text → Type 0
+IsHelpAsked words = IsAmong DisplayHelp (fault_of tomex_app words) ⊎ IsAmong DisplayVersion (fault_of tomex_app words)
+
+-- the parser's rules refuse the words: for another kind of error than help and the version
+abbrev pub AreRefused : List Text → Type 0
+AreRefused words = (kind : ErrorKind) × IsAmong kind (fault_of tomex_app words)
+    × (kind ≢ DisplayHelp) × (kind ≢ DisplayVersion)
+
+-- what was found is no line: a command's values aren't there or are out of bounds, or it is no command
+pub data IsNoLineAsked (found : Option (Text × List Row)) : Type 0 where
+  no_run : (rows : List Row) → found ≡ Some (codes "run", rows) → IsNoRun rows → IsNoLineAsked found
+  no_times : (rows : List Row) → found ≡ Some (codes "times", rows) → IsNoOneRun rows → IsNoLineAsked found
+  no_stalls : (rows : List Row) → found ≡ Some (codes "stalls", rows) → IsNoStalls rows → IsNoLineAsked found
+  no_pipeline : (rows : List Row) → found ≡ Some (codes "pipeline", rows) → IsNoPipeline rows → IsNoLineAsked found
+  no_tables : (rows : List Row) → found ≡ Some (codes "tables", rows) → IsNoTables rows → IsNoLineAsked found
+  no_all : (rows : List Row) → found ≡ Some (codes "all", rows) → IsNoAll rows → IsNoLineAsked found
+  no_explore : (rows : List Row) → found ≡ Some (codes "explore", rows) → IsNoExplore rows → IsNoLineAsked found
+  no_front : (rows : List Row) → found ≡ Some (codes "front", rows) → IsNoExplore rows → IsNoLineAsked found
+  no_plot : (rows : List Row) → found ≡ Some (codes "plot", rows) → IsNoPlot rows → IsNoLineAsked found
+  no_rows : (rows : List Row) → found ≡ Some (codes "rows", rows) → IsNoExplore rows → IsNoLineAsked found
+  no_worth : (rows : List Row) → found ≡ Some (codes "worth", rows) → IsNoWorth rows → IsNoLineAsked found
+  no_prices : (rows : List Row) → found ≡ Some (codes "prices", rows) → IsNoExplore rows → IsNoLineAsked found
+  nothing : found ≡ None → IsNoLineAsked found
+  no_command : (name : Text) (rows : List Row) → found ≡ Some (name, rows)
+      → Each (λ (command : Shape). name ≢ command.name) tomex_app.subs → IsNoLineAsked found
+
+-- why a line is no command: help is asked for, the parser's rules refuse it, or it asks for nothing within bounds
+abbrev pub IsNoCommand : List Text → LineFault → Type 0
+IsNoCommand words (Help text) = IsHelpAsked words
+IsNoCommand words (Usage text) = AreRefused words ⊎ IsNoLineAsked (subcommand_of tomex_app words)
+IsNoCommand words Memory = Unit {0}

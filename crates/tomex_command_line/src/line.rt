@@ -1,0 +1,158 @@
+//! The command line, read by `clap`. No part of the program above knows of `clap`.
+//!
+//! Each command has a file here with two functions: `grammar`, what `clap` is to read and to say in
+//! its help, and `line_of`, what was read. A further command is a further file, a variant of `Line`
+//! and a line in each of `grammar` and `line_of` below.
+ghost use Rattle.std.specs.Prelude.{◌≡◌, [], IfOk, IfErr, map, string_bytes};
+ghost use Rattle.tomex_arguments.specs.Faults.{IsRefusedIf};
+ghost use Rattle.tomex_command_line.specs.Grammar.{bare_app, tomex_app};
+ghost use Rattle.clap.specs.Words.{app_of, fault_of as faults_of, subcommand_rows_of};
+ghost use Rattle.tomex_command_line.specs.Asked.{IsCommand, IsAsked, IsNoCommand, IsNoLineAsked};
+
+pub mod all;
+mod described;
+pub mod explain;
+pub mod explore;
+mod front;
+pub mod pipeline;
+pub mod plot;
+mod prices;
+mod rows;
+pub mod run;
+pub mod stalls;
+pub mod studied;
+pub mod tables;
+mod times;
+mod values;
+pub mod worth;
+
+use all::AllLine;
+use clap::{ArgMatches, Command};
+use described::offering;
+use explain::ExplainLine;
+use explore::ExploreLine;
+use pipeline::PipelineLine;
+use plot::PlotLine;
+use run::RunLine;
+use stalls::StallsLine;
+use std::alloc::{AllocError, Global};
+use studied::{OneRun, one_run_of};
+use tables::TablesLine;
+use tomex_arguments::{LineFault, fault_of, refused};
+use worth::WorthLine;
+
+/// What a command line asks for.
+#[derive(Drop)]
+pub enum Line<'a> {
+    Run(RunLine<'a>),
+    Times(OneRun<'a>),
+    Stalls(StallsLine<'a>),
+    Pipeline(PipelineLine<'a>),
+    Tables(TablesLine<'a>),
+    All(AllLine<'a>),
+    Explore(ExploreLine<'a>),
+    Front(ExploreLine<'a>),
+    Plot(PlotLine<'a>),
+    Rows(ExploreLine<'a>),
+    Worth(WorthLine<'a>),
+    Prices(ExploreLine<'a>),
+    Explain(ExplainLine),
+}
+
+const ABOUT: &str = "Runs RV32IM programs, and explores Tomasulo processors that run them";
+
+const LONG_ABOUT: &str = "Runs RV32IM programs in order, and explores Tomasulo processors without
+speculation that run them.
+
+A command writes nothing to standard output before its whole result is there.
+Errors are reported on standard error.";
+
+const AFTER_LONG_HELP: &str = "Exit status:
+  0  the result was written, or help
+  1  the input was refused
+  2  the command line was refused
+  3  memory, a thread, a file or a device was refused
+
+Examples, in the folder `examples`:
+  tomex run mul.bin --size 4096
+  tomex times study.toml 4 mul
+  tomex stalls study.toml 4 mul
+  tomex pipeline study.toml 4 mul
+  tomex tables study.toml 4 mul 3
+  tomex all study.toml
+  tomex explore explore.toml --workers 4
+  tomex front explore.toml --workers 4
+  tomex plot explore.toml --workers 4
+  tomex rows explore.toml --workers 4
+  tomex worth explore.toml 132
+  tomex prices explore.toml
+  tomex explain image: segment
+
+Numbers on the command line are decimal; in a study's TOML they may be
+hexadecimal too, as in 0x10000.";
+
+/// The program, before it has commands.
+fn without_commands<'a>(alloc: Global) -> Command<'a>
+    ensures { app_of result ≡ bare_app }
+{
+    Command::new(alloc, "tomex")
+        .version("0.1.0")
+        .about(ABOUT)
+        .long_about(LONG_ABOUT)
+        .after_long_help(AFTER_LONG_HELP)
+        .subcommand_required(true)
+}
+
+fn grammar<'a>(alloc: Global) -> Result<Command<'a>, AllocError>
+    ensures { IfOk result (λ c. app_of c ≡ tomex_app) }
+{
+    let program = Ok(without_commands(alloc));
+    let program = offering(program, run::grammar(alloc));
+    let program = offering(program, times::grammar(alloc));
+    let program = offering(program, stalls::grammar(alloc));
+    let program = offering(program, pipeline::grammar(alloc));
+    let program = offering(program, tables::grammar(alloc));
+    let program = offering(program, all::grammar(alloc));
+    let program = offering(program, explore::grammar(alloc));
+    let program = offering(program, front::grammar(alloc));
+    let program = offering(program, plot::grammar(alloc));
+    let program = offering(program, rows::grammar(alloc));
+    let program = offering(program, worth::grammar(alloc));
+    let program = offering(program, prices::grammar(alloc));
+    offering(program, explain::grammar(alloc))
+}
+
+/// What the command asks for that the parser found.
+fn line_of<'a>(alloc: Global, matches: &ArgMatches<'a>) -> Result<Line<'a>, LineFault>
+    ensures command { IfOk result (λ line. IsCommand (subcommand_rows_of matches.now) line) }
+    ensures refused { IfErr result (IsRefusedIf (IsNoLineAsked (subcommand_rows_of matches.now))) }
+{
+    match matches.subcommand() {
+        Some(("run", inner)) => Ok(Line::Run(run::line_of(alloc, inner)?)),
+        Some(("times", inner)) => Ok(Line::Times(one_run_of(alloc, inner)?)),
+        Some(("stalls", inner)) => Ok(Line::Stalls(stalls::line_of(alloc, inner)?)),
+        Some(("pipeline", inner)) => Ok(Line::Pipeline(pipeline::line_of(alloc, inner)?)),
+        Some(("tables", inner)) => Ok(Line::Tables(tables::line_of(alloc, inner)?)),
+        Some(("all", inner)) => Ok(Line::All(all::line_of(alloc, inner)?)),
+        Some(("explore", inner)) => Ok(Line::Explore(explore::line_of(alloc, inner)?)),
+        Some(("front", inner)) => Ok(Line::Front(explore::line_of(alloc, inner)?)),
+        Some(("plot", inner)) => Ok(Line::Plot(plot::line_of(alloc, inner)?)),
+        Some(("rows", inner)) => Ok(Line::Rows(explore::line_of(alloc, inner)?)),
+        Some(("worth", inner)) => Ok(Line::Worth(worth::line_of(alloc, inner)?)),
+        Some(("prices", inner)) => Ok(Line::Prices(explore::line_of(alloc, inner)?)),
+        Some(("explain", inner)) => Ok(Line::Explain(explain::line_of(alloc, inner)?)),
+        _ => Err(refused(alloc, "command")),
+    }
+}
+
+/// Reads a command line, the program's own name first.
+pub fn read_line<'a>(alloc: Global, words: &'a [String]) -> Result<Line<'a>, LineFault>
+    ensures asked { IfOk result (λ line. IsAsked (map string_bytes words.now) line) }
+    ensures accepted { IfOk result (λ _. faults_of tomex_app (map string_bytes words.now) ≡ []) }
+    ensures no_command { IfErr result (λ fault. IsNoCommand (map string_bytes words.now) fault) }
+{
+    match grammar(alloc)?.try_get_matches_from(words) {
+        Ok(matches) => line_of(alloc, &matches),
+        Err(error) => Err(fault_of(alloc, &error)),
+    }
+}

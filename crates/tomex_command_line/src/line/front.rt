@@ -1,0 +1,55 @@
+//! `front STUDY [--workers N]`
+ghost use Rattle.std.specs.Prelude.{◌≡◌, IfOk};
+ghost use Rattle.clap.specs.Simple.{shape_of};
+ghost use Rattle.tomex_command_line.specs.Grammar.{front_shape};
+
+use super::described::Texts;
+use super::explore::exploring;
+use clap::Command;
+use std::alloc::{AllocError, Global};
+
+const ABOUT: &str = "Explores a study and prints the front as a table";
+
+const LONG_ABOUT: &str =
+    "Explores a study as `explore` does, and prints the front as a table for people:
+a line of names, and then a line for each configuration on the front, by cost
+and then number, with its number, cost and cycles. `rate` is how many cycles it
+takes fewer than the line above, for 1 of what it costs more. Of the parts, only
+those have a column in which two configurations of the study differ. A study of
+several programs has a column for each program's own cycles, which aren't
+multiplied by its weight.
+
+All columns are aligned at their right, with two spaces between them. `explore`
+prints the same front as CSV, with all parts and how each program ends.
+
+STUDY is a TOML document that names programs, prices, axes and unit options;
+its files are read from the current folder. docs/STUDIES.md lists the keys of a
+study.";
+
+const AFTER_LONG_HELP: &str = "Exit status:
+  0  the table was written
+  1  the study or a program of it was refused
+  2  the command line was refused
+  3  memory, a thread, a file or a device was refused
+
+Examples, in the folder `examples`:
+  tomex front study.toml
+
+prints
+  row  cost  cycles  rate  alu  mul_latency  buses
+    2    50      13     -    1            6      1
+    6    60      11  0.20    2            6      1
+    0    75      10  0.06    1            3      1
+    4    85       8  0.20    2            3      1";
+
+const TEXTS: Texts = Texts {
+    about: ABOUT,
+    long_about: LONG_ABOUT,
+    after_long_help: AFTER_LONG_HELP,
+};
+
+pub(super) fn grammar<'a>(alloc: Global) -> Result<Command<'a>, AllocError>
+    ensures { IfOk result (λ c. shape_of c ≡ front_shape) }
+{
+    exploring(alloc, "front", TEXTS)
+}

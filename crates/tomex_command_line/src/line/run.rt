@@ -1,0 +1,115 @@
+//! `run IMAGE [--base N] [--size N] [--limit N]`
+ghost use Rattle.std.specs.Prelude.{◌≡◌, ◌≤◌, IfOk, IfErr};
+ghost use Rattle.tomex_arguments.specs.Faults.{IsRefusedIf};
+ghost use Rattle.tomex_command_line.specs.Grammar.{run_shape};
+ghost use Rattle.clap.specs.Simple.{shape_of};
+ghost use Rattle.clap.specs.Words.{found_of};
+ghost use Rattle.clap.specs.Walk.{rows_of};
+ghost use Rattle.tomex_command_line.specs.Values.{IsRunAsked, IsNoRun};
+
+use super::described::{Texts, described, taking};
+use super::values::{number, word};
+use clap::{ArgMatches, Command};
+use std::alloc::{AllocError, Global};
+use tomex_arguments::{Bounds, LineFault, number_of, word_of};
+
+const BASE: Bounds = Bounds {
+    least: 0,
+    greatest: 4_294_967_292,
+};
+
+const SIZE: Bounds = Bounds {
+    least: 4,
+    greatest: 1_048_576,
+};
+
+const LIMIT: Bounds = Bounds {
+    least: 1,
+    greatest: 262_144,
+};
+
+/// A run that was asked for.
+#[derive(Clone, Copy)]
+pub struct RunLine<'a> {
+    /// The name of the image's file, as written.
+    pub image: &'a str,
+    /// The address of memory's first byte.
+    pub base: u32,
+    /// The size of memory in bytes.
+    pub size: u32,
+    /// The greatest number of instructions.
+    pub limit: u32,
+    pub ghost base_within: { base ≤ 4294967292 },
+    pub ghost size_from: { 4 ≤ size },
+    pub ghost size_to: { size ≤ 1048576 },
+    pub ghost limit_from: { 1 ≤ limit },
+    pub ghost limit_to: { limit ≤ 262144 },
+}
+
+const ABOUT: &str = "Runs an image in order and prints the registers at its end";
+
+const LONG_ABOUT: &str = "Runs an image, one instruction after the other, until it reaches ECALL or
+EBREAK. Prints the 32 registers in hexadecimal, a line each, and then how and
+where the program ended and after how many instructions.
+
+IMAGE is a flat file of RV32IM code and data, as `objcopy -O binary` writes it,
+or a 32-bit ELF executable that is linked statically for RISC-V. A flat file is
+loaded at the base address and starts there; an ELF file says itself where its
+segments lie, which must be inside memory, and where it starts. The rest of
+memory is zero, and so are all registers but x2: it holds the end of memory,
+rounded down to a multiple of 16. docs/PROGRAMS.md shows how to make programs
+from C.
+
+Numbers are decimal.";
+
+const AFTER_LONG_HELP: &str = "Exit status:
+  0  the program ended, by ECALL or EBREAK
+  1  the window, the image or the run was refused
+  2  the command line was refused
+  3  memory, a file or a device was refused
+
+Examples, in the folder `examples`:
+  tomex run primes.elf --base 65536 --size 262144
+  tomex run mul.bin --base 0 --size 65536 --limit 100
+
+print x0 to x31, a line each, as
+  x2=00000007
+and then how the program ended, as
+  ebreak at 0000000c after 4";
+
+const TEXTS: Texts = Texts {
+    about: ABOUT,
+    long_about: LONG_ABOUT,
+    after_long_help: AFTER_LONG_HELP,
+};
+
+const IMAGE_HELP: &str = "The file of the image";
+
+const BASE_HELP: &str = "First address, a multiple of 4 to 4294967292";
+
+const SIZE_HELP: &str = "Memory in bytes, a multiple of 4 to 1048576";
+
+const LIMIT_HELP: &str = "The most instructions to run, 1 to 262144";
+
+pub(super) fn grammar<'a>(alloc: Global) -> Result<Command<'a>, AllocError>
+    ensures { IfOk result (λ c. shape_of c ≡ run_shape) }
+{
+    let command = Ok(described(alloc, "run", TEXTS));
+    let command = taking(command, word(alloc, "IMAGE", IMAGE_HELP));
+    let command = taking(command, number(alloc, "base", BASE, "0", BASE_HELP));
+    let command = taking(command, number(alloc, "size", SIZE, "65536", SIZE_HELP));
+    taking(command, number(alloc, "limit", LIMIT, "262144", LIMIT_HELP))
+}
+
+pub(super) fn line_of<'a>(alloc: Global, matches: &ArgMatches<'a>) -> Result<RunLine<'a>, LineFault>
+    ensures line { IfOk result
+        (λ line. IsRunAsked (rows_of (found_of matches.now)) line.image.now line.base line.size line.limit) }
+    ensures refused { IfErr result (IsRefusedIf (IsNoRun (rows_of (found_of matches.now)))) }
+{
+    Ok(RunLine {
+        image: word_of(alloc, matches, "IMAGE")?,
+        base: number_of(alloc, matches, "base", BASE)?,
+        size: number_of(alloc, matches, "size", SIZE)?,
+        limit: number_of(alloc, matches, "limit", LIMIT)?,
+    })
+}

@@ -1,0 +1,99 @@
+//! `stalls STUDY CONFIG PROGRAM [--by-pc]`
+ghost use Rattle.std.specs.Prelude.{◌≡◌, ◌≤◌, IfOk, IfErr};
+ghost use Rattle.tomex_arguments.specs.Faults.{IsRefusedIf};
+ghost use Rattle.tomex_command_line.specs.Grammar.{stalls_shape};
+ghost use Rattle.clap.specs.Simple.{shape_of};
+ghost use Rattle.clap.specs.Words.{found_of};
+ghost use Rattle.clap.specs.Walk.{rows_of};
+ghost use Rattle.tomex_command_line.specs.Values.{IsStallsAsked, IsNoStalls};
+
+use super::described::{Texts, taking};
+use super::studied::{OneRun, on_one_run, one_run_of};
+use super::values::flag;
+use clap::{ArgMatches, Command};
+use std::alloc::{AllocError, Global};
+use tomex_arguments::{LineFault, flag_of};
+
+/// A stalls report that was asked for.
+#[derive(Clone, Copy)]
+pub struct StallsLine<'a> {
+    pub run: OneRun<'a>,
+    /// Whether the waits are told by place in the program, and not by part.
+    pub by_pc: bool,
+}
+
+const ABOUT: &str = "Prints which parts of one configuration hold a program back";
+
+const LONG_ABOUT: &str = "Prints, for each part of one of the study's configurations, how many there
+are, how many of them a program ever uses at once, and for how many cycles
+instructions wait for it. A part without stalls is large enough: as few as the
+peak, or any number more, take the same cycles.
+
+STUDY is a TOML document that names programs, prices, axes and unit options;
+its files are read from the current folder. CONFIG is the number of a
+configuration, from 0: `tomex front` prints those of the front, and
+docs/STUDIES.md says how a number follows from the study's lists. PROGRAM
+is the name of a program of the study; a name that begins with `-` must follow
+`--`. docs/STUDIES.md lists the keys of a study, and docs/MACHINE.md says how
+to read the report.
+
+CONFIG is decimal, like all numbers on the command line; in the study's TOML
+they may be hexadecimal too, as in 0x10000.
+
+The report is CSV: a header, and a record for each part: the stations of each
+pool, the units of each kind, the buses and the issue width, with their count,
+peak and stalls. Then come the cycles that instructions wait for what is no
+part: an older branch, an operand, the address of a load or store, an older
+access to the same bytes; then the drain, which is the cycles after the last
+issue, and the total. A cycle in which an instruction waits counts once, for
+the first thing that is wanting.
+
+With --by-pc the same cycles are told by place in the program: a record for
+each instruction, with how many times it ran and how long it waited for what.";
+
+const AFTER_LONG_HELP: &str = "Exit status:
+  0  the report was written
+  1  the study or a program of it was refused, or has no such row or program
+  2  the command line was refused
+  3  memory, a file or a device was refused
+
+Examples, in the folder `examples`:
+  tomex stalls explore.toml 132 matrix
+
+prints a line for each part, such as
+  mul,1,1,10944
+of which there is one, which holds the program back; and
+
+  tomex stalls explore.toml 132 matrix --by-pc
+
+prints a line for each instruction, such as
+  000112e0,\"mul x22,x23,x9\",144,0,144,1008,0,0,0,0,0";
+
+const TEXTS: Texts = Texts {
+    about: ABOUT,
+    long_about: LONG_ABOUT,
+    after_long_help: AFTER_LONG_HELP,
+};
+
+const BY_PC_HELP: &str = "List the waits by place in the program";
+
+pub(super) fn grammar<'a>(alloc: Global) -> Result<Command<'a>, AllocError>
+    ensures { IfOk result (λ c. shape_of c ≡ stalls_shape) }
+{
+    let command = on_one_run(alloc, "stalls", TEXTS);
+    taking(command, flag(alloc, "by-pc", BY_PC_HELP))
+}
+
+pub(super) fn line_of<'a>(
+    alloc: Global,
+    matches: &ArgMatches<'a>,
+) -> Result<StallsLine<'a>, LineFault>
+    ensures line { IfOk result (λ line. IsStallsAsked (rows_of (found_of matches.now))
+        line.run.study.now line.run.config line.run.program.now line.by_pc) }
+    ensures refused { IfErr result (IsRefusedIf (IsNoStalls (rows_of (found_of matches.now)))) }
+{
+    Ok(StallsLine {
+        run: one_run_of(alloc, matches)?,
+        by_pc: flag_of(matches, "by-pc"),
+    })
+}

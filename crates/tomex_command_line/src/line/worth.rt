@@ -1,0 +1,92 @@
+//! `worth STUDY CONFIG [--workers N]`
+ghost use Rattle.std.specs.Prelude.{◌≡◌, ◌≤◌, IfOk, IfErr};
+ghost use Rattle.tomex_arguments.specs.Faults.{IsRefusedIf};
+ghost use Rattle.tomex_command_line.specs.Grammar.{worth_shape};
+ghost use Rattle.clap.specs.Simple.{shape_of};
+ghost use Rattle.clap.specs.Words.{found_of};
+ghost use Rattle.clap.specs.Walk.{rows_of};
+ghost use Rattle.tomex_command_line.specs.Values.{IsWorthAsked, IsNoWorth};
+
+use super::described::{Texts, taking};
+use super::explore::{ExploreLine, line_of as explore_of, on_rows};
+use super::studied::{CONFIG, CONFIG_HELP};
+use super::values::numeral;
+use clap::{ArgMatches, Command};
+use std::alloc::{AllocError, Global};
+use tomex_arguments::{LineFault, number_of};
+
+/// What was asked for of the machines that differ from one in one list.
+#[derive(Clone, Copy)]
+pub struct WorthLine<'a> {
+    pub explore: ExploreLine<'a>,
+    /// The number of the configuration.
+    pub config: u32,
+    pub ghost config_to: { config ≤ 16383 },
+}
+
+const ABOUT: &str = "Prints what one part more or less brings on a configuration";
+
+const LONG_ABOUT: &str =
+    "Prints what each change of one list brings on a configuration, in cost and in
+cycles: a line for each configuration of the study that differs from it in the
+stations of one pool, the option of one kind of unit, the buses or the width,
+and in nothing else.
+
+After a line of names comes the configuration itself. In the other lines `cost`
+and `cycles` are differences from it, `%` is that of the cycles in percent of
+its own, and `rate` is cycles for 1 of cost: what 1 of cost buys if the other
+one costs more, and what 1 of cost saved gives away if it costs less. If there
+is no such number, the reason stands in its place: `better` if the other one
+costs no more and takes no more cycles, and is better in one of the two, `worse`
+if this one is so, `same` if neither differs. `front` is `yes` on the front. A
+study of several programs has a column for each program's own cycles.
+
+STUDY is a TOML document that names programs, prices, axes and unit options;
+its files are read from the current folder. CONFIG is the number of a
+configuration, from 0: `tomex front` prints those of the front, and
+docs/STUDIES.md says how a number follows from the study's lists, and reads such
+a table.";
+
+const AFTER_LONG_HELP: &str = "Exit status:
+  0  the table was written
+  1  the study or a program of it was refused, or has no such row
+  2  the command line was refused
+  3  memory, a file or a device was refused
+
+Examples, in the folder `examples`:
+  tomex worth study.toml 4
+
+prints
+      part  from   to  row  cost  cycles      %   rate  front
+         -     -    -    4    85       8      -      -    yes
+       alu     2    1    0   -10      +2  +25.0   0.20    yes
+       alu     2    4    8   +20       0      0  worse      -
+  unit.mul   1@3  1@6    6   -25      +3  +37.5   0.12    yes
+     buses     1    2    5   +25       0      0  worse      -";
+
+const TEXTS: Texts = Texts {
+    about: ABOUT,
+    long_about: LONG_ABOUT,
+    after_long_help: AFTER_LONG_HELP,
+};
+
+pub(super) fn grammar<'a>(alloc: Global) -> Result<Command<'a>, AllocError>
+    ensures { IfOk result (λ c. shape_of c ≡ worth_shape) }
+{
+    let command = on_rows(alloc, "worth", TEXTS);
+    taking(command, numeral(alloc, "CONFIG", CONFIG, CONFIG_HELP))
+}
+
+pub(super) fn line_of<'a>(
+    alloc: Global,
+    matches: &ArgMatches<'a>,
+) -> Result<WorthLine<'a>, LineFault>
+    ensures line { IfOk result (λ line. IsWorthAsked (rows_of (found_of matches.now))
+        line.explore.study.now line.config line.explore.workers) }
+    ensures refused { IfErr result (IsRefusedIf (IsNoWorth (rows_of (found_of matches.now)))) }
+{
+    Ok(WorthLine {
+        explore: explore_of(alloc, matches)?,
+        config: number_of(alloc, matches, "CONFIG", CONFIG)?,
+    })
+}

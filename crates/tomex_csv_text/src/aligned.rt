@@ -1,0 +1,63 @@
+//! Texts that are aligned, at their right or at their left.
+
+ghost use Rattle.std.specs.Prelude.{◌≡◌, ◌++◌, codes, OnOk, string_bytes};
+ghost use Rattle.std.specs.Fmt.{decimal};
+ghost use Rattle.std.specs.List.{repeat};
+ghost use Rattle.tomex_csv_text.specs.Aligned.{left_aligned, right_aligned};
+
+use std::alloc::{AllocError, Allocator};
+use std::fmt::Write;
+
+/// Adds spaces.
+fn push_spaces<A: Allocator>(text: &mut String<A>, count: usize) -> Result<(), AllocError>
+    ensures { OnOk result (string_bytes text.new
+        ≡ string_bytes text.old ++ repeat count (codes " ")) }
+{
+    let mut left = count;
+    while left > 0 {
+        text.push_str(" ")?;
+        left -= 1;
+    }
+    Ok(())
+}
+
+/// Adds a word, right-aligned.
+pub fn push_aligned<A: Allocator>(
+    text: &mut String<A>,
+    width: usize,
+    word: &str,
+) -> Result<(), AllocError>
+    ensures { OnOk result (string_bytes text.new
+        ≡ string_bytes text.old ++ right_aligned width word.now) }
+{
+    push_spaces(text, width.saturating_sub(word.as_bytes().len()))?;
+    text.push_str(word)
+}
+
+/// Adds a word, left-aligned.
+pub fn push_left_aligned<A: Allocator>(
+    text: &mut String<A>,
+    width: usize,
+    word: &str,
+) -> Result<(), AllocError>
+    ensures { OnOk result (string_bytes text.new
+        ≡ string_bytes text.old ++ left_aligned width word.now) }
+{
+    text.push_str(word)?;
+    push_spaces(text, width.saturating_sub(word.as_bytes().len()))
+}
+
+/// Adds a number, right-aligned.
+pub fn push_aligned_number<A: Allocator>(
+    text: &mut String<A>,
+    scratch: &mut String,
+    width: usize,
+    number: u64,
+) -> Result<(), AllocError>
+    ensures { OnOk result (string_bytes text.new
+        ≡ string_bytes text.old ++ right_aligned width (decimal number)) }
+{
+    scratch.clear();
+    write!(scratch, "{number}")?;
+    push_aligned(text, width, scratch.as_str())
+}

@@ -1,0 +1,16 @@
+//! Numbers of hundredths.
+
+ghost use Rattle.std.specs.Prelude.{◌≡◌, ◌++◌, OnOk, string_bytes};
+ghost use Rattle.tomex_csv_text.specs.Hundredths.{hundredths};
+
+use std::alloc::{AllocError, Allocator};
+use std::fmt::Write;
+
+/// Adds a number of hundredths, with two digits after the point.
+#[tactic(auto, unfolding(crate::specs::Hundredths::hundredths))]
+pub fn push_hundredths<A: Allocator>(text: &mut String<A>, number: u128) -> Result<(), AllocError>
+    ensures { OnOk result (string_bytes text.new ≡ string_bytes text.old ++ hundredths number) }
+{
+    let (whole, tenth, hundredth) = (number / 100, number % 100 / 10, number % 10);
+    write!(text, "{whole}.{tenth}{hundredth}")
+}

@@ -1,0 +1,34 @@
+//! Records written one after the other into a text.
+
+ghost use Rattle.std.specs.Prelude.{◌≡◌, ◌++◌, IfOk, OnOk};
+ghost use Rattle.csv.specs.Records.{fields_of};
+ghost use Rattle.tomex_csv_text.specs.Csv.{IsReady, record_text, written};
+
+use csv::{ByteRecord, Writer};
+use std::alloc::{AllocError, Allocator};
+
+/// Writes a record. Over a list of bytes only memory can fail.
+pub fn put_record<A: Allocator>(
+    writer: &mut Writer<Vec<u8, A>>,
+    fields: &ByteRecord,
+) -> Result<(), AllocError>
+    requires { IsReady writer.old }
+    ensures ready { OnOk result (IsReady writer.new) }
+    ensures text { OnOk result (written (λ v. v.items) writer.new
+        ≡ written (λ v. v.items) writer.old ++ record_text (fields_of fields.now)) }
+{
+    match writer.write_byte_record(fields) {
+        Ok(()) => Ok(()),
+        Err(_) => Err(AllocError),
+    }
+}
+
+/// All that was written.
+pub fn into_text<A: Allocator>(writer: Writer<Vec<u8, A>>) -> Result<Vec<u8, A>, AllocError>
+    ensures { IfOk result (λ text. text.items ≡ written (λ v. v.items) writer) }
+{
+    match writer.into_inner() {
+        Ok(text) => Ok(text),
+        Err(_) => Err(AllocError),
+    }
+}

@@ -1,0 +1,12 @@
+-- The entries so far, and those to come.
+use Rattle.std.proofs.Common.{◌≡◌, ◌++◌, drop, map}
+use Rattle.tomex_front_views.specs.FrontTable.{name_of_heading, number_under}
+use Rattle.std.specs.Fmt.{decimal}
+use Rattle.tomex_front_views.proofs.table.front.heading_column.Given as goal
+
+abbrev pub invariant-loop-row : goal.invariant-loop-row
+invariant-loop-row g l = record {
+  name : l.column.name ≡ name_of_heading l.heading;
+  entries : l.column.entries ++ map (λ r. decimal (number_under l.study l.heading r)) (drop l.row-index l.front)
+      ≡ map (λ r. decimal (number_under l.study l.heading r)) l.front;
+}

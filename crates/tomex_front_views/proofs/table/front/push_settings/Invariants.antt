@@ -1,0 +1,10 @@
+-- The columns so far.
+use Rattle.std.proofs.Common.{◌≡◌, ◌++◌, take}
+use Rattle.std.specs.List.{flat_map}
+use Rattle.tomex_front_views.specs.FrontTable.{all_settings, setting_columns}
+use Rattle.tomex_front_views.proofs.table.front.push_settings.Given as goal
+
+abbrev pub invariant-loop-setting : goal.invariant-loop-setting
+invariant-loop-setting g l =
+    l.columns.items ≡ l.fn.columns.items
+    ++ flat_map (setting_columns l.study l.front) (take l.setting-index all_settings)

@@ -1,0 +1,10 @@
+-- The configurations to come.
+use Rattle.std.proofs.Common.{◌≡◌, ◌==◌, not, drop}
+use Rattle.std.specs.List.{list_any}
+use Rattle.tomex_front_views.specs.FrontTable.{setting_of}
+use Rattle.tomex_front_views.proofs.table.heading.Setting.is_other.Given as goal
+
+abbrev pub invariant-loop-config : goal.invariant-loop-config
+invariant-loop-config l =
+    list_any (λ config. not (setting_of config l.self == l.usual)) (drop l.config-index l.rows)
+    ≡ list_any (λ config. not (setting_of config l.self == l.usual)) l.rows

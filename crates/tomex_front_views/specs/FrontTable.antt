@@ -1,0 +1,111 @@
+-- The front as a table: of a row's parts only those in which rows of the study differ.
+use Rattle.std.specs.Prelude.{ℕ, ◌-◌, ◌*◌, ◌/◌, ◌==◌, nat_le, nat_lt, Bool, false, not, if◌then◌else◌, List}
+use Rattle.std.specs.Prelude.{[], ◌∷◌, ◌++◌, codes, length, map, slice_index_or, Option, Some, None}
+use Rattle.std.specs.Fmt.{decimal}
+use Rattle.std.specs.List.{flat_map, list_any}
+use Rattle.tomex_rvdec.specs.Parts.{name_of_pool, name_of_unit}
+use Rattle.tomex_rvdec.specs.declared.pool.PoolId.TheVariants as pools
+use Rattle.tomex_rvdec.specs.declared.pool.UnitId.TheVariants as units
+use Rattle.tomex_config.specs.Configuration.{Configuration, option_of, plain}
+use Rattle.tomex_cycle.specs.Run.{total}
+use Rattle.tomex_row_runs.specs.StudyFront.{front_of_study}
+use Rattle.tomex_study.specs.Program.{Workload}
+use Rattle.tomex_study.specs.Study.{DesignSpace}
+use Rattle.tomex_pareto.specs.declared.front_row.FrontRow.{FrontRow}
+use Rattle.tomex_timing.specs.Needs.{count_of}
+use Rattle.tomex_timing.specs.declared.part.Part.TheVariants.{Stations, Units, Buses, Width}
+use Rattle.tomex_csv_text.specs.Hundredths.{hundredths}
+use Rattle.tomex_tables.specs.Table.{TableColumn, table_of}
+use Rattle.tomex_front_views.specs.declared.table.heading.Heading.{Heading}
+use Rattle.tomex_front_views.specs.declared.table.heading.Heading.TheVariants.{Row as OfRow, Cost, Cycles}
+use Rattle.tomex_front_views.specs.declared.table.heading.Heading.TheVariants.{Setting as OfSetting}
+use Rattle.tomex_front_views.specs.declared.table.heading.Setting.{Setting}
+use Rattle.tomex_front_views.specs.declared.table.heading.Setting.TheVariants.{Count, Latency}
+
+-- what a row says of itself, in the order of the front report's columns
+abbrev pub all_settings : List Setting
+all_settings =
+    Count (Stations pools.Alu) ∷ Count (Stations pools.Mul) ∷ Count (Stations pools.Div)
+    ∷ Count (Stations pools.Load) ∷ Count (Stations pools.Store) ∷ Count (Stations pools.Bru)
+    ∷ Count (Units units.Alu) ∷ Latency units.Alu ∷ Count (Units units.Mul) ∷ Latency units.Mul
+    ∷ Count (Units units.Div) ∷ Latency units.Div ∷ Count (Units units.Mem) ∷ Latency units.Mem
+    ∷ Count (Units units.Bru) ∷ Latency units.Bru ∷ Count Buses ∷ Count Width ∷ []
+
+abbrev pub name_of_setting : Setting → List ℕ
+name_of_setting (Count (Stations pool)) = name_of_pool pool
+name_of_setting (Count (Units unit)) = name_of_unit unit ++ codes "_units"
+name_of_setting (Count Buses) = codes "buses"
+name_of_setting (Count Width) = codes "width"
+name_of_setting (Latency unit) = name_of_unit unit ++ codes "_latency"
+
+abbrev pub setting_of : Configuration → Setting → ℕ
+setting_of config (Count part) = count_of config part
+setting_of config (Latency unit) = (option_of config unit).latency
+
+-- two of the rows differ in it: one does from the first
+unfoldable pub differs : List Configuration → Setting → Bool
+differs [] setting = false
+differs (first ∷ rows) setting = list_any (λ config. not (setting_of config setting == setting_of first setting)) rows
+
+abbrev pub name_of_heading : Heading → List ℕ
+name_of_heading OfRow = codes "row"
+name_of_heading Cost = codes "cost"
+name_of_heading Cycles = codes "cycles"
+name_of_heading (OfSetting setting) = name_of_setting setting
+
+abbrev pub config_of : DesignSpace → FrontRow → Configuration
+config_of s r = slice_index_or s.rows r.row plain
+
+-- what a front row has under a heading
+unfoldable pub number_under : DesignSpace → Heading → FrontRow → ℕ
+number_under s OfRow r = r.row
+number_under s Cost r = r.cost
+number_under s Cycles r = r.cycles
+number_under s (OfSetting setting) r = setting_of (config_of s r) setting
+
+unfoldable pub heading_column : DesignSpace → List FrontRow → Heading → TableColumn
+heading_column s front heading =
+    record { name = name_of_heading heading; entries = map (λ r. decimal (number_under s heading r)) front }
+
+-- how many cycles a row takes fewer than the row before, for 1 of what it costs more
+abbrev pub rate_after : Option FrontRow → FrontRow → List ℕ
+rate_after None r = codes "-"
+rate_after (Some before) r =
+    if nat_le r.cost before.cost then codes "-"
+    else hundredths ((before.cycles - r.cycles) * 100 / (r.cost - before.cost))
+
+-- the rate of each row
+abbrev pub rates_after : Option FrontRow → List FrontRow → List (List ℕ)
+rates_after before [] = []
+rates_after before (r ∷ rows) = rate_after before r ∷ rates_after (Some r) rows
+
+unfoldable pub rate_column : List FrontRow → TableColumn
+rate_column front = record { name = codes "rate"; entries = rates_after None front }
+
+-- the column of a setting, if rows of the study differ in it
+unfoldable pub setting_columns : DesignSpace → List FrontRow → Setting → List TableColumn
+setting_columns s front setting =
+    if differs s.rows setting then heading_column s front (OfSetting setting) ∷ [] else []
+
+-- the columns that are the rows' own
+abbrev pub own_columns : DesignSpace → List FrontRow → List TableColumn
+own_columns s front =
+    map (heading_column s front) (OfRow ∷ Cost ∷ Cycles ∷ [])
+    ++ rate_column front ∷ flat_map (setting_columns s front) all_settings
+
+-- a program's own cycles on each front row
+unfoldable pub cycles_on : DesignSpace → List FrontRow → Workload → List ℕ
+cycles_on s front p = map (λ r. total (config_of s r) p.image) front
+
+abbrev pub program_column : DesignSpace → List FrontRow → Workload → TableColumn
+program_column s front p = record { name = p.name; entries = map decimal (cycles_on s front p) }
+
+-- a column for each program where there are several
+abbrev pub program_columns : DesignSpace → List FrontRow → List TableColumn
+program_columns s front = if nat_lt 1 (length s.programs) then map (program_column s front) s.programs else []
+
+-- the table of a study's front
+unfoldable pub front_table_of : DesignSpace → List ℕ
+front_table_of s =
+    let front = front_of_study s in
+    table_of (length front) (own_columns s front ++ program_columns s front)

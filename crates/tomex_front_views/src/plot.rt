@@ -1,0 +1,176 @@
+//! The front as one picture in SVG.
+
+ghost use Rattle.std.specs.Prelude.{◌≡◌, ◌++◌, length, OnOk, IfOk, string_bytes};
+ghost use Rattle.tomex_row_runs.specs.StudyFront.{front_of_study};
+ghost use Rattle.tomex_front_views.specs.Plot.{front_picture_of, lines_text, picture_of_rows, rows_text};
+ghost use Rattle.tomex_front_views.specs.Plot.{scales_text, shade, sheet, size_text, title_of};
+
+pub mod axes;
+pub mod dots;
+pub mod marks;
+pub mod over_rows;
+pub mod points;
+pub mod stairs;
+pub mod ticks;
+
+use axes::{Axes, axes_of};
+use marks::{Mark, push_marks};
+use points::{push_circles, push_numbers};
+use stairs::push_staircase;
+use std::alloc::{AllocError, Allocator, Global};
+use std::fmt::Write;
+use tomex_pareto::FrontRow;
+use tomex_study::Study;
+
+/// Adds a piece of text.
+fn push<A: Allocator>(text: &mut String<A>, piece: &str) -> Result<(), AllocError>
+    ensures { OnOk result (string_bytes text.new ≡ string_bytes text.old ++ piece.now) }
+{
+    text.push_str(piece)
+}
+
+/// Adds the picture's size, and how its texts look.
+fn push_size<A: Allocator>(text: &mut String<A>) -> Result<(), AllocError>
+    ensures { OnOk result (string_bytes text.new ≡ string_bytes text.old ++ size_text) }
+{
+    push(
+        text,
+        "<svg xmlns=\"http://www.w3.org/2000/svg\" width=\"720\" height=\"440\"",
+    )?;
+    push(text, " viewBox=\"0 0 720 440\"")?;
+    push(
+        text,
+        " font-family=\"sans-serif\" font-size=\"12\" fill=\"#333333\">\n",
+    )?;
+    Ok(())
+}
+
+/// Adds a white sheet with a title.
+fn push_sheet<A: Allocator>(text: &mut String<A>, title: &str) -> Result<(), AllocError>
+    ensures { OnOk result (string_bytes text.new ≡ string_bytes text.old ++ sheet title.now) }
+{
+    push(text, "<title>")?;
+    push(text, title)?;
+    push(text, "</title>\n")?;
+    push(
+        text,
+        "<rect width=\"720\" height=\"440\" fill=\"#ffffff\"/>\n",
+    )?;
+    push(text, "<text x=\"112\" y=\"24\" font-size=\"15\">")?;
+    push(text, title)?;
+    push(text, "</text>\n")?;
+    Ok(())
+}
+
+/// Adds the part in which rows are dominated.
+#[tactic(auto, unfolding(crate::specs::Plot::shade))]
+fn push_shade<A: Allocator>(text: &mut String<A>, stairs: &str) -> Result<(), AllocError>
+    ensures { OnOk result (string_bytes text.new ≡ string_bytes text.old ++ shade stairs.now) }
+{
+    write!(text, "<path d=\"{stairs}V56Z\" fill=\"#edf3fa\"/>\n")
+}
+
+/// Adds light lines at the ticks, and a frame.
+fn push_lines<A: Allocator>(text: &mut String<A>, axes: &Axes) -> Result<(), AllocError>
+    ensures { OnOk result (string_bytes text.new ≡ string_bytes text.old ++ lines_text axes.now) }
+{
+    push(text, "<g stroke=\"#dddddd\">\n")?;
+    push_marks(text, axes, Mark::CostLine)?;
+    push_marks(text, axes, Mark::CyclesLine)?;
+    push(text, "</g>\n")?;
+    push(
+        text,
+        "<rect x=\"112\" y=\"56\" width=\"584\" height=\"328\" fill=\"none\" stroke=\"#999999\"/>\n",
+    )?;
+    Ok(())
+}
+
+/// Adds the numbers at the ticks, and what they are of.
+fn push_scales<A: Allocator>(text: &mut String<A>, axes: &Axes) -> Result<(), AllocError>
+    ensures { OnOk result (string_bytes text.new ≡ string_bytes text.old ++ scales_text axes.now) }
+{
+    push(text, "<g text-anchor=\"middle\">\n")?;
+    push_marks(text, axes, Mark::CostNumber)?;
+    push(
+        text,
+        "<text x=\"404\" y=\"426\" font-size=\"14\">cost</text>\n</g>\n",
+    )?;
+    push(text, "<g text-anchor=\"end\">\n")?;
+    push_marks(text, axes, Mark::CyclesNumber)?;
+    push(
+        text,
+        "<text x=\"104\" y=\"48\" font-size=\"14\">cycles</text>\n</g>\n",
+    )?;
+    Ok(())
+}
+
+/// Adds the staircase as a line, the points, and their rows' numbers.
+#[tactic(auto, unfolding(crate::specs::Plot::rows_text))]
+fn push_rows<A: Allocator>(
+    text: &mut String<A>,
+    heap: Global,
+    axes: &Axes,
+    stairs: &str,
+    rows: &[FrontRow],
+) -> Result<(), AllocError>
+    ensures { OnOk result (string_bytes text.new
+        ≡ string_bytes text.old ++ rows_text axes.now stairs.now rows.now) }
+{
+    write!(
+        text,
+        "<path d=\"{stairs}\" fill=\"none\" stroke=\"#1f5fa8\" stroke-width=\"2\"/>\n"
+    )?;
+    text.push_str("<g fill=\"#1f5fa8\">\n")?;
+    push_circles(text, axes, rows)?;
+    text.push_str("</g>\n<g font-size=\"11\">\n")?;
+    push_numbers(text, heap, axes, rows)?;
+    text.push_str("</g>\n</svg>\n")?;
+    Ok(())
+}
+
+/// What stands above the picture.
+fn title_of(heap: Global, rows: usize, all: usize) -> Result<String, AllocError>
+    ensures { IfOk result (λ title. string_bytes title ≡ title_of rows all) }
+{
+    format!(in heap; "front: {rows} of {all} rows")
+}
+
+/// The picture of these rows of `all`.
+#[tactic(auto, unfolding(crate::specs::Plot::picture_of_rows))]
+fn picture_of_rows<A: Allocator>(
+    alloc: A,
+    heap: Global,
+    all: usize,
+    rows: &[FrontRow],
+) -> Result<Vec<u8, A>, AllocError>
+    ensures { IfOk result (λ text. text.items ≡ picture_of_rows all rows.now) }
+{
+    let axes = axes_of(rows);
+    let title = title_of(heap, rows.len(), all)?;
+    let mut stairs = String::new(heap);
+    push_staircase(&mut stairs, &axes, rows)?;
+    let mut text = String::new(alloc);
+    push_size(&mut text)?;
+    push_sheet(&mut text, title.as_str())?;
+    push_shade(&mut text, stairs.as_str())?;
+    push_lines(&mut text, &axes)?;
+    push_scales(&mut text, &axes)?;
+    push_rows(&mut text, heap, &axes, stairs.as_str(), rows)?;
+    Ok(text.into_bytes())
+}
+
+/// The front of a study as a picture in SVG, 720 by 440 points: cost from left to right, cycles from bottom to top, a
+/// circle a row, and a staircase through them. It has no script, style sheet or font from elsewhere.
+///
+/// What is small is taken of `heap`.
+pub fn front_picture<A: Allocator>(
+    alloc: A,
+    heap: Global,
+    study: &Study<A>,
+    front: &[FrontRow],
+) -> Result<Vec<u8, A>, AllocError>
+    requires { front.now ≡ front_of_study study.now }
+    ensures { IfOk result (λ text. text.items ≡ front_picture_of study.now) }
+{
+    picture_of_rows(alloc, heap, study.rows().len(), front)
+}

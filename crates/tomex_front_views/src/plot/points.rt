@@ -1,0 +1,132 @@
+//! The points of the rows, and their numbers.
+
+ghost use Rattle.std.specs.Prelude.{◌≡◌, ◌≤◌, ◌++◌, length, None, IfOk, OnOk, string_bytes};
+ghost use Rattle.std.specs.List.{flat_map};
+ghost use Rattle.tomex_front_views.specs.Plot.{circle, circle_at, has_room, named_at, number_at};
+ghost use Rattle.tomex_front_views.specs.Plot.{numbers_of, radius_of, row_title};
+
+use crate::plot::axes::{Axes, Point};
+use std::alloc::{AllocError, Allocator, Global};
+use std::fmt::Write;
+use tomex_pareto::FrontRow;
+
+/// A point whose row's number stands beside it.
+#[derive(Clone, Copy)]
+pub struct Named {
+    pub at: Point,
+    /// How many digits the number has.
+    pub digits: usize,
+}
+
+/// Adds a circle.
+#[tactic(auto, unfolding(crate::specs::Plot::circle_at))]
+fn push_circle_at<A: Allocator>(
+    text: &mut String<A>,
+    at: Point,
+    radius: u64,
+) -> Result<(), AllocError>
+    ensures { OnOk result (string_bytes text.new ≡ string_bytes text.old ++ circle_at at radius) }
+{
+    let (x, y) = (at.x, at.y);
+    write!(text, "<circle cx=\"{x}\" cy=\"{y}\" r=\"{radius}\">")
+}
+
+/// Adds what a circle says where it is pointed at.
+#[tactic(auto, unfolding(crate::specs::Plot::row_title))]
+fn push_row_title<A: Allocator>(text: &mut String<A>, row: FrontRow) -> Result<(), AllocError>
+    ensures { OnOk result (string_bytes text.new ≡ string_bytes text.old ++ row_title row) }
+{
+    let (number, cost, cycles) = (row.row, row.cost, row.cycles);
+    write!(
+        text,
+        "<title>row {number}: cost {cost}, cycles {cycles}</title></circle>\n"
+    )
+}
+
+/// Adds a row's point, which says what it is where it is pointed at.
+#[tactic(auto, unfolding(crate::specs::Plot::circle))]
+fn push_circle<A: Allocator>(
+    text: &mut String<A>,
+    axes: &Axes,
+    radius: u64,
+    row: FrontRow,
+) -> Result<(), AllocError>
+    ensures { OnOk result (string_bytes text.new
+        ≡ string_bytes text.old ++ circle axes.now radius row) }
+{
+    push_circle_at(text, axes.point_of(row), radius)?;
+    push_row_title(text, row)
+}
+
+/// Adds the rows' points; they are smaller where there are many.
+pub fn push_circles<A: Allocator>(
+    text: &mut String<A>,
+    axes: &Axes,
+    rows: &[FrontRow],
+) -> Result<(), AllocError>
+    ensures { OnOk result (string_bytes text.new
+        ≡ string_bytes text.old
+        ++ flat_map (circle axes.now (radius_of (length rows.now))) rows.now) }
+{
+    let radius = if rows.len() <= 64 { 4 } else { 2 };
+    for row in rows {
+        push_circle(text, axes, radius, *row)?;
+    }
+    Ok(())
+}
+
+/// Whether a number at this point would not stand on the last one.
+fn has_room(last: Option<Named>, at: Point) -> bool
+    ensures { result ≡ has_room last at }
+{
+    match last {
+        Some(last) => {
+            let (x, y) = (u128::from(last.at.x), u128::from(last.at.y));
+            let right = x + 4 + 7 * last.digits as u128;
+            right <= u128::from(at.x) || y + 12 <= u128::from(at.y)
+        }
+        None => true,
+    }
+}
+
+/// Adds a row's number beside its point.
+#[tactic(auto, unfolding(crate::specs::Plot::number_at))]
+fn push_number<A: Allocator>(text: &mut String<A>, at: Point, row: usize) -> Result<(), AllocError>
+    requires { at.x ≤ 648 }
+    ensures { OnOk result (string_bytes text.new ≡ string_bytes text.old ++ number_at at row) }
+{
+    let (x, y) = (at.x + 6, at.y.saturating_sub(6));
+    write!(text, "<text x=\"{x}\" y=\"{y}\">{row}</text>\n")
+}
+
+/// A point whose row's number stands beside it.
+fn named_at(heap: Global, at: Point, row: usize) -> Result<Named, AllocError>
+    ensures { IfOk result (λ n. n ≡ named_at at row) }
+{
+    let number = format!(in heap; "{row}")?;
+    Ok(Named {
+        at,
+        digits: number.as_bytes().len(),
+    })
+}
+
+/// Adds the numbers of the rows that have room for one.
+pub fn push_numbers<A: Allocator>(
+    text: &mut String<A>,
+    heap: Global,
+    axes: &Axes,
+    rows: &[FrontRow],
+) -> Result<(), AllocError>
+    ensures { OnOk result (string_bytes text.new
+        ≡ string_bytes text.old ++ numbers_of axes.now None rows.now) }
+{
+    let mut last = None;
+    for row in rows {
+        let at = axes.point_of(*row);
+        if has_room(last, at) {
+            push_number(text, at, row.row)?;
+            last = Some(named_at(heap, at, row.row)?);
+        }
+    }
+    Ok(())
+}

@@ -1,0 +1,111 @@
+//! What the columns of the front's table are of.
+
+ghost use Rattle.std.specs.Prelude.{◌≡◌, ◌==◌, not, IfOk, string_bytes};
+ghost use Rattle.std.specs.List.{list_any};
+ghost use Rattle.tomex_front_views.specs.FrontTable.{differs, name_of_heading, name_of_setting, setting_of};
+
+use std::alloc::{AllocError, Global};
+use tomex_config::Config;
+use tomex_rvdec::{PoolId, UnitId};
+use tomex_timing::Part;
+
+/// What a configuration says of itself.
+#[derive(Clone, Copy)]
+pub enum Setting {
+    Count(Part),
+    /// In cycles.
+    Latency(UnitId),
+}
+
+/// What a column has of a configuration.
+#[derive(Clone, Copy)]
+pub enum Heading {
+    Row,
+    Cost,
+    Cycles,
+    Setting(Setting),
+}
+
+impl Setting {
+    /// All of them, in the order of the front report's columns.
+    pub const ALL: [Setting; 18] = [
+        Setting::Count(Part::Stations(PoolId::Alu)),
+        Setting::Count(Part::Stations(PoolId::Mul)),
+        Setting::Count(Part::Stations(PoolId::Div)),
+        Setting::Count(Part::Stations(PoolId::Load)),
+        Setting::Count(Part::Stations(PoolId::Store)),
+        Setting::Count(Part::Stations(PoolId::Bru)),
+        Setting::Count(Part::Units(UnitId::Alu)),
+        Setting::Latency(UnitId::Alu),
+        Setting::Count(Part::Units(UnitId::Mul)),
+        Setting::Latency(UnitId::Mul),
+        Setting::Count(Part::Units(UnitId::Div)),
+        Setting::Latency(UnitId::Div),
+        Setting::Count(Part::Units(UnitId::Mem)),
+        Setting::Latency(UnitId::Mem),
+        Setting::Count(Part::Units(UnitId::Bru)),
+        Setting::Latency(UnitId::Bru),
+        Setting::Count(Part::Buses),
+        Setting::Count(Part::Width),
+    ];
+
+    /// What a configuration says.
+    pub fn of(self, config: &Config) -> u64
+        ensures { result ≡ setting_of config.now self }
+    {
+        match self {
+            Setting::Count(part) => part.count(config),
+            Setting::Latency(unit) => u64::from(config.latency(unit)),
+        }
+    }
+
+    /// Its name.
+    fn name(self, heap: Global) -> Result<String, AllocError>
+        ensures { IfOk result (λ name. string_bytes name ≡ name_of_setting self) }
+    {
+        match self {
+            Setting::Count(Part::Stations(pool)) => format!(in heap; "{pool}"),
+            Setting::Count(Part::Units(unit)) => format!(in heap; "{unit}_units"),
+            Setting::Count(Part::Buses) => format!(in heap; "buses"),
+            Setting::Count(Part::Width) => format!(in heap; "width"),
+            Setting::Latency(unit) => format!(in heap; "{unit}_latency"),
+        }
+    }
+
+    /// Whether one of the configurations says something else.
+    fn is_other(self, usual: u64, rows: &[Config]) -> bool
+        ensures { result ≡ list_any (λ config. not (setting_of config self == usual)) rows.now }
+    {
+        for config in rows {
+            if self.of(config) != usual {
+                return true;
+            }
+        }
+        false
+    }
+
+    /// Whether two of the configurations differ in it.
+    #[tactic(auto, unfolding(crate::specs::FrontTable::differs))]
+    pub fn differs(self, rows: &[Config]) -> bool
+        ensures { result ≡ differs rows.now self }
+    {
+        let [first, rest @ ..] = rows else {
+            return false;
+        };
+        self.is_other(self.of(first), rest)
+    }
+}
+
+impl Heading {
+    /// Its name.
+    pub fn name(self, heap: Global) -> Result<String, AllocError>
+        ensures { IfOk result (λ name. string_bytes name ≡ name_of_heading self) }
+    {
+        match self {
+            Heading::Row => format!(in heap; "row"),
+            Heading::Cost => format!(in heap; "cost"),
+            Heading::Cycles => format!(in heap; "cycles"),
+            Heading::Setting(setting) => setting.name(heap),
+        }
+    }
+}

@@ -1,0 +1,39 @@
+//! What rows of the front save over the rows before them.
+
+ghost use Rattle.std.specs.Prelude.{◌≡◌, IfOk, string_bytes};
+ghost use Rattle.tomex_front_views.specs.FrontTable.{rate_after, rate_column};
+
+use std::alloc::{AllocError, Global};
+use tomex_csv_text::push_hundredths;
+use tomex_pareto::FrontRow;
+use tomex_tables::Column;
+
+/// How many cycles a row takes fewer than the row before, for 1 of what it costs more.
+fn rate_after(heap: Global, before: Option<FrontRow>, row: FrontRow) -> Result<String, AllocError>
+    ensures { IfOk result (λ text. string_bytes text ≡ rate_after before row) }
+{
+    let Some(before) = before else {
+        return format!(in heap; "-");
+    };
+    if row.cost <= before.cost {
+        return format!(in heap; "-");
+    }
+    let saved = u128::from(before.cycles.saturating_sub(row.cycles));
+    let mut text = String::new(heap);
+    push_hundredths(&mut text, saved * 100 / u128::from(row.cost - before.cost))?;
+    Ok(text)
+}
+
+/// The column of the rates.
+#[tactic(auto, unfolding(crate::specs::FrontTable::rate_column))]
+pub fn rate_column(heap: Global, front: &[FrontRow]) -> Result<Column, AllocError>
+    ensures { IfOk result (λ c. c ≡ rate_column front.now) }
+{
+    let mut column = Column::new(heap, format!(in heap; "rate")?);
+    let mut before = None;
+    for row in front {
+        column.push(rate_after(heap, before, *row)?)?;
+        before = Some(*row);
+    }
+    Ok(column)
+}

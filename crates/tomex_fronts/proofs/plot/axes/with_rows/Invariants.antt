@@ -1,8 +1,0 @@
--- The rows to come.
-use Rattle.std.proofs.Common.{◌≡◌, drop}
-use Rattle.std.specs.List.{fold}
-use Rattle.tomex_fronts.specs.Axes.{with_row}
-use Rattle.tomex_fronts.proofs.plot.axes.with_rows.Given as goal
-
-abbrev pub invariant-loop-row : goal.invariant-loop-row
-invariant-loop-row l = fold with_row l.axes (drop l.row-index l.rows) ≡ fold with_row l.fn.from l.rows

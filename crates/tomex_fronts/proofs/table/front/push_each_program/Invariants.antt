@@ -1,9 +1,0 @@
--- The columns so far, and those to come.
-use Rattle.std.proofs.Common.{◌≡◌, ◌++◌, drop, map}
-use Rattle.tomex_fronts.specs.FrontTable.{program_column}
-use Rattle.tomex_fronts.proofs.table.front.push_each_program.Given as goal
-
-abbrev pub invariant-loop-place : goal.invariant-loop-place
-invariant-loop-place g l =
-    l.columns.items ++ map (program_column l.study l.front) (drop l.place l.study.programs)
-    ≡ l.fn.columns.items ++ map (program_column l.study l.front) l.study.programs

@@ -1,6 +1,0 @@
--- The command with the number of workers.
-use Rattle.tomex_line.proofs.Taken.{taken}
-use Rattle.tomex_line.proofs.line.explore.on_rows.Goals as goal
-
-pub returns : goal.returns
-returns c = taken _ _ _ _ _ c.taking.ensures c.on_study-command.ensures c.number.ensures.rule

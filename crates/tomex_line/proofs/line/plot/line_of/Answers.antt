@@ -1,8 +1,0 @@
--- A value that isn't there, or is out of bounds, is one that no line has.
-use Rattle.tomex_line.proofs.PassedOn.{passed_on}
-use Rattle.tomex_line.proofs.line.plot.line_of.Goals as goal
-
-pub returns-in_err-line_of-clause-refused : goal.returns-in_err-line_of-clause-refused
-returns-in_err-line_of-clause-refused c =
-    passed_on _ _ _ c.from_residual.result c.from_residual.ensures.1 c.in_err-line_of.ensures.refused
-    (λ none study workers all asked. none study workers asked.of_study)

@@ -1,0 +1,30 @@
+-- Looks at a configuration that is run. After each 1,024 cycles, while the run isn't over, a worker looks whether the
+-- configuration can still be on the front: it can't if a finished one that costs no more took fewer cycles, by the
+-- programs' weights, than this one has made.
+use Rattle.std.specs.Prelude.{◌≡◌, ℕ, ◌-◌, ◌*◌, ◌/◌, ◌<◌, ◌≤◌, nat_lt, if◌then◌else◌, List, Option, Some, None}
+use Rattle.tomex_config.specs.Configuration.{Configuration}
+use Rattle.tomex_study.specs.Program.{Workload}
+use Rattle.tomex_row_runs.specs.Cycles.{cycles_on, plain_on, weighed}
+use Rattle.tomex_row_runs.specs.declared.known_row.KnownRow.{KnownRow}
+
+-- the last look at a run of n cycles: the greatest multiple of 1,024 before its end
+abbrev pub last_look : ℕ → ℕ
+last_look n = 1024 * ((n - 1) / 1024)
+
+-- the cycles that a configuration has made then, none if it is over before the first look
+abbrev pub made_at_last_look : List Workload → Configuration → Option ℕ
+made_at_last_look programs config =
+    if nat_lt 1024 (plain_on programs config) then Some (weighed programs config (last_look (plain_on programs config)))
+    else None
+
+-- a row's cycles, and those that it has made at its last look
+pub record IsKnownRow (programs : List Workload) (config : Configuration) (row : KnownRow) : Type 0 where
+  pub cycles : row.cycles ≡ cycles_on programs config
+  pub at_last_look : row.at_last_look ≡ made_at_last_look programs config
+
+-- at no look has a configuration made more cycles than at the last one, and there never more than all of its own
+abbrev pub LastLookSeesMost : Type 0
+LastLookSeesMost = (programs : List Workload) (config : Configuration) (look : ℕ)
+    → 1024 * look < plain_on programs config
+    → (weighed programs config (1024 * look) ≤ weighed programs config (last_look (plain_on programs config)))
+    × (weighed programs config (last_look (plain_on programs config)) ≤ cycles_on programs config)

@@ -1,0 +1,14 @@
+-- The records of the parts so far are written.
+use Rattle.std.proofs.Common.{◌≡◌, ◌++◌, take}
+use Rattle.std.specs.List.{flat_map}
+use Rattle.tomex_timing.specs.Needs.{all_parts}
+use Rattle.tomex_csv_text.specs.Csv.{IsReady, written}
+use Rattle.tomex_run_views.specs.StallsReport.{part_record}
+use Rattle.tomex_run_views.proofs.stalls.put_parts.Given as goal
+
+abbrev pub invariant-loop-part : goal.invariant-loop-part
+invariant-loop-part g l = record {
+  ready : IsReady l.writer;
+  text : written (λ v. v.items) l.writer
+      ≡ written (λ v. v.items) l.fn.writer ++ flat_map (part_record l.config l.needs) (take l.part-index all_parts);
+}

@@ -1,0 +1,33 @@
+//! Why there is no picture.
+
+ghost use Rattle.std.specs.Prelude.{◌≡◌};
+ghost use Rattle.tomex_run_views.specs.declared.picture_error.PictureError.TheVariants.{Memory};
+
+use std::alloc::{AllocError, AllocFailed};
+
+/// Why steps of a run have no picture.
+#[derive(Clone, Copy, Debug, Drop, PartialEq, Eq)]
+pub enum PictureError {
+    /// The run ends before the first of them.
+    NoSuchStep,
+    /// Their lines times its columns are too many.
+    TooLarge,
+    /// Memory was refused.
+    Memory,
+}
+
+impl From<AllocError> for PictureError {
+    ghost from_gives = { λ _ e. e ≡ Memory };
+
+    fn from(_error: AllocError) -> Self {
+        PictureError::Memory
+    }
+}
+
+impl<T: Drop> From<AllocFailed<T>> for PictureError {
+    ghost from_gives = { λ _ e. e ≡ Memory };
+
+    fn from(_error: AllocFailed<T>) -> Self {
+        PictureError::Memory
+    }
+}

@@ -1,0 +1,139 @@
+//! The picture of some steps of a run on one configuration.
+
+ghost use Rattle.std.specs.Prelude.{◌≡◌, ◌+◌, ◌<◌, ◌≤◌, ◌^◌, drop, length, nat_lt, take, IfErr, IfOk, IsErrOf};
+ghost use Rattle.tomex_rvexec.specs.Run.{start_of};
+ghost use Rattle.tomex_rvexec.specs.Trace.{steps_from};
+ghost use Rattle.tomex_timing.specs.Search.{total_of};
+ghost use Rattle.tomex_run_views.specs.Chart.{IsPictureOf, IsUnpictured, first_issue, frame_of};
+ghost use Rattle.tomex_run_views.specs.Chart.{longest_instruction, most_signs, picture_of, signs_of};
+
+use crate::lines::{Frame, push_lines};
+use crate::picture_error::PictureError;
+use std::alloc::{AllocError, Allocator, Global};
+use std::fmt::Write;
+use tomex_config::Config;
+use tomex_rvexec::Step;
+use tomex_study::Program;
+use tomex_timing::Times;
+use tomex_timing::evaluate::{times, total};
+
+/// The most signs of one picture.
+const MOST_SIGNS: u64 = 16_777_216;
+
+/// `count` of these at most, after the first ones.
+pub fn part_of<T>(items: &[T], behind: usize, count: usize) -> &[T]
+    requires { behind ≤ length items.now }
+    ensures { result.now ≡ take count (drop behind items.now) }
+{
+    let rest = &items[behind..];
+    let end = count.min(rest.len());
+    &rest[..end]
+}
+
+/// The issue of the first step, 0 of none.
+pub fn first_issue(times: &[Times]) -> u64
+    ensures { result ≡ first_issue times.now }
+{
+    match times {
+        [first, ..] => first.issue,
+        [] => 0,
+    }
+}
+
+/// Whether steps with these times have too many signs.
+fn is_too_large(times: &[Times]) -> bool
+    requires few { length times.now ≤ 262144 }
+    requires bound { total_of times.now < 2 ^ 32 }
+    ensures { result ≡ nat_lt most_signs (signs_of times.now) }
+{
+    let columns = (total(times) + 1).saturating_sub(first_issue(times));
+    let signs = times.len() as u64 * columns;
+    MOST_SIGNS < signs
+}
+
+/// How long the longest instruction of some steps is.
+fn longest_instruction(heap: Global, steps: &[Step]) -> Result<usize, AllocError>
+    ensures { IfOk result (λ letters. letters ≡ longest_instruction steps.now) }
+{
+    let mut text = String::new(heap);
+    let mut letters = 0;
+    for step in steps {
+        let instr = step.instr;
+        text.clear();
+        write!(&mut text, "{instr}")?;
+        letters = letters.max(text.as_bytes().len());
+    }
+    Ok(letters)
+}
+
+/// The columns of steps with these times, from a number on.
+fn frame_of(heap: Global, number: u64, steps: &[Step], times: &[Times]) -> Result<Frame, AllocError>
+    requires number { 0 < number }
+    requires few { number + length steps.now < 2 ^ 63 }
+    ensures { IfOk result (λ frame. frame ≡ frame_of number steps.now times.now) }
+{
+    let greatest = number + steps.len() as u64 - 1;
+    let text = format!(in heap; "{greatest}")?;
+    Ok(Frame {
+        digits: text.as_bytes().len(),
+        letters: longest_instruction(heap, steps)?,
+        first: first_issue(times),
+    })
+}
+
+/// The picture of steps with these times, from a number on.
+fn picture_of<A: Allocator>(
+    alloc: A,
+    heap: Global,
+    number: u64,
+    steps: &[Step],
+    times: &[Times],
+) -> Result<Vec<u8, A>, AllocError>
+    requires pairs { length times.now ≡ length steps.now }
+    requires number { 0 < number }
+    requires few { number + length steps.now < 2 ^ 63 }
+    requires bound { total_of times.now < 2 ^ 32 }
+    ensures { IfOk result (λ text. text.items ≡ picture_of number steps.now times.now) }
+{
+    let frame = frame_of(heap, number, steps, times)?;
+    let (first, last) = (first_issue(times), total(times));
+    let mut text = String::new(alloc);
+    write!(&mut text, "cycles {first} to {last}\n")?;
+    push_lines(&mut text, heap, &frame, number, steps, times)?;
+    Ok(text.into_bytes())
+}
+
+/// The picture of some steps of a program's run on a configuration, `count` of them at most from step `number` on;
+/// the first step is number 1. A line with the cycles, from the first step's issue to the greatest end, and then a
+/// line a step: its number, its address, its instruction, and a sign for each cycle up to its end.
+///
+/// A picture of more than 2^24 signs isn't made. What is small is taken of `heap`.
+pub fn pipeline_text<A: Allocator + Clone>(
+    alloc: A,
+    heap: Global,
+    program: &Program<A>,
+    config: &Config,
+    number: u32,
+    count: u32,
+) -> Result<Vec<u8, A>, PictureError>
+    requires { 0 < number }
+    ensures text { IfOk result (λ text. IsPictureOf config.now
+        (steps_from program.now.limit (start_of program.now.image)) number count text.items) }
+    ensures refused { IfErr result (λ error. IsUnpictured config.now
+        (steps_from program.now.limit (start_of program.now.image)) number count error) }
+    ensures no_step { length (steps_from program.now.limit (start_of program.now.image)) < number
+        → IsErrOf result PictureError.NoSuchStep }
+{
+    let steps = program.steps();
+    if steps.len() < number as usize {
+        return Err(PictureError::NoSuchStep);
+    }
+    let times = times(alloc.clone()?, steps, config)?;
+    let behind = number as usize - 1;
+    let shown_steps = part_of(steps, behind, count as usize);
+    let shown_times = part_of(times.as_slice(), behind, count as usize);
+    if is_too_large(shown_times) {
+        return Err(PictureError::TooLarge);
+    }
+    Ok(picture_of(alloc, heap, u64::from(number), shown_steps, shown_times)?)
+}

@@ -1,0 +1,195 @@
+//! The stalls report of a run on one configuration.
+
+ghost use Rattle.std.specs.Prelude.{◌≡◌, ◌++◌, ◌∷◌, [], IfOk, OnOk};
+ghost use Rattle.std.specs.List.{flat_map};
+ghost use Rattle.csv.specs.Records.{fields_of, partial_of};
+ghost use Rattle.tomex_rvexec.specs.Run.{start_of};
+ghost use Rattle.tomex_rvexec.specs.Trace.{steps_from};
+ghost use Rattle.tomex_timing.specs.Needs.{all_parts};
+ghost use Rattle.tomex_csv_text.specs.Csv.{IsReady, record_text, written};
+ghost use Rattle.tomex_run_views.specs.StallsReport.{IsStallsReport, header, name_of_part, other_record, other_records};
+ghost use Rattle.tomex_run_views.specs.StallsReport.{part_fields, part_record, report_of_needs};
+
+use csv::{ByteRecord, Writer};
+use std::alloc::{AllocError, Allocator, Global};
+use std::fmt::Write;
+use tomex_config::Config;
+use tomex_csv_text::{into_text, push_decimal, push_names, put_record};
+use tomex_study::Program;
+use tomex_timing::evaluate::needs;
+use tomex_timing::{Needs, Part};
+
+/// Writes the names of the columns.
+fn put_header<A: Allocator>(writer: &mut Writer<Vec<u8, A>>, heap: Global) -> Result<(), AllocError>
+    requires ready { IsReady writer.old }
+    ensures ready { OnOk result (IsReady writer.new) }
+    ensures text { OnOk result (written (λ v. v.items) writer.new
+        ≡ written (λ v. v.items) writer.old ++ record_text header) }
+{
+    let mut record = ByteRecord::new(heap);
+    push_names(&mut record, &["part", "count", "peak", "stalls"])?;
+    put_record(writer, &record)
+}
+
+/// Adds a part's name.
+fn push_part(fields: &mut ByteRecord, scratch: &mut String, part: Part) -> Result<(), AllocError>
+    requires { partial_of fields.old ≡ [] }
+    ensures fields { OnOk result (fields_of fields.new
+        ≡ fields_of fields.old ++ name_of_part part ∷ []) }
+    ensures whole { OnOk result (partial_of fields.new ≡ []) }
+{
+    scratch.clear();
+    match part {
+        Part::Stations(pool) => write!(scratch, "{pool}")?,
+        Part::Units(unit) => write!(scratch, "{unit}_units")?,
+        Part::Buses => scratch.push_str("buses")?,
+        Part::Width => scratch.push_str("width")?,
+    }
+    fields.push_field(scratch.as_bytes())
+}
+
+/// Makes a record the one of a part.
+fn fill_part(
+    fields: &mut ByteRecord,
+    scratch: &mut String,
+    config: &Config,
+    needs: &Needs,
+    part: Part,
+) -> Result<(), AllocError>
+    ensures { OnOk result (fields_of fields.new ≡ part_fields config.now needs.now part) }
+{
+    let need = needs.need(part);
+    fields.clear();
+    push_part(fields, scratch, part)?;
+    push_decimal(fields, scratch, part.count(config))?;
+    push_decimal(fields, scratch, need.peak)?;
+    push_decimal(fields, scratch, need.stalls)?;
+    Ok(())
+}
+
+/// Writes the record of a part.
+#[tactic(auto, unfolding(crate::specs::StallsReport::part_record))]
+fn put_part<A: Allocator>(
+    writer: &mut Writer<Vec<u8, A>>,
+    record: &mut ByteRecord,
+    scratch: &mut String,
+    config: &Config,
+    needs: &Needs,
+    part: Part,
+) -> Result<(), AllocError>
+    requires ready { IsReady writer.old }
+    ensures ready { OnOk result (IsReady writer.new) }
+    ensures text { OnOk result (written (λ v. v.items) writer.new
+        ≡ written (λ v. v.items) writer.old ++ part_record config.now needs.now part) }
+{
+    fill_part(record, scratch, config, needs, part)?;
+    put_record(writer, record)
+}
+
+/// Writes the records of the parts.
+fn put_parts<A: Allocator>(
+    writer: &mut Writer<Vec<u8, A>>,
+    heap: Global,
+    config: &Config,
+    needs: &Needs,
+) -> Result<(), AllocError>
+    requires ready { IsReady writer.old }
+    ensures ready { OnOk result (IsReady writer.new) }
+    ensures text { OnOk result (written (λ v. v.items) writer.new
+        ≡ written (λ v. v.items) writer.old
+        ++ flat_map (part_record config.now needs.now) all_parts) }
+{
+    let mut record = ByteRecord::new(heap);
+    let mut scratch = String::new(heap);
+    for part in Part::ALL {
+        put_part(writer, &mut record, &mut scratch, config, needs, part)?;
+    }
+    Ok(())
+}
+
+/// Writes the record of cycles that are no part's.
+#[tactic(auto, unfolding(crate::specs::StallsReport::other_record))]
+fn put_other<A: Allocator>(
+    writer: &mut Writer<Vec<u8, A>>,
+    heap: Global,
+    name: &str,
+    cycles: u64,
+) -> Result<(), AllocError>
+    requires ready { IsReady writer.old }
+    ensures ready { OnOk result (IsReady writer.new) }
+    ensures text { OnOk result (written (λ v. v.items) writer.new
+        ≡ written (λ v. v.items) writer.old ++ other_record name.now cycles) }
+{
+    let mut record = ByteRecord::new(heap);
+    push_names(&mut record, &[name, "-", "-"])?;
+    push_decimal(&mut record, &mut String::new(heap), cycles)?;
+    put_record(writer, &record)
+}
+
+/// Writes the records of what is no part: the other causes of waits, the drain and the total.
+fn put_others<A: Allocator>(
+    writer: &mut Writer<Vec<u8, A>>,
+    heap: Global,
+    needs: &Needs,
+) -> Result<(), AllocError>
+    requires ready { IsReady writer.old }
+    ensures ready { OnOk result (IsReady writer.new) }
+    ensures text { OnOk result (written (λ v. v.items) writer.new
+        ≡ written (λ v. v.items) writer.old ++ other_records needs.now) }
+{
+    put_other(writer, heap, "branch", needs.branch)?;
+    put_other(writer, heap, "operand", needs.operand)?;
+    put_other(writer, heap, "address", needs.address)?;
+    put_other(writer, heap, "memory", needs.memory)?;
+    put_other(writer, heap, "drain", needs.drain())?;
+    put_other(writer, heap, "total", needs.total)
+}
+
+/// Writes the report of these needs.
+fn put_needs<A: Allocator>(
+    writer: &mut Writer<Vec<u8, A>>,
+    heap: Global,
+    config: &Config,
+    needs: &Needs,
+) -> Result<(), AllocError>
+    requires { IsReady writer.old }
+    ensures { OnOk result (written (λ v. v.items) writer.new
+        ≡ written (λ v. v.items) writer.old ++ report_of_needs config.now needs.now) }
+{
+    put_header(writer, heap)?;
+    put_parts(writer, heap, config, needs)?;
+    put_others(writer, heap, needs)
+}
+
+/// The report of these needs.
+fn text_of_needs<A: Allocator>(
+    alloc: A,
+    heap: Global,
+    config: &Config,
+    needs: &Needs,
+) -> Result<Vec<u8, A>, AllocError>
+    ensures { IfOk result (λ text. text.items ≡ report_of_needs config.now needs.now) }
+{
+    let mut writer = Writer::from_writer(Vec::new(alloc));
+    put_needs(&mut writer, heap, config, needs)?;
+    into_text(writer)
+}
+
+/// The stalls report of a program on a configuration: CSV with a header, a record for each part with how many the
+/// configuration has, how many of them the run takes at once at most, and for how many cycles its steps wait for one;
+/// then the cycles that they wait for what is no part, the drain, which is the cycles after the last issue, and the
+/// total.
+///
+/// What `csv` needs for its records it takes of `heap`.
+pub fn stalls_report<A: Allocator + Clone>(
+    alloc: A,
+    heap: Global,
+    program: &Program<A>,
+    config: &Config,
+) -> Result<Vec<u8, A>, AllocError>
+    ensures { IfOk result (λ text.
+        IsStallsReport config.now (steps_from program.now.limit (start_of program.now.image)) text.items) }
+{
+    let needs = needs(alloc.clone()?, program.steps(), config)?;
+    text_of_needs(alloc, heap, config, &needs)
+}

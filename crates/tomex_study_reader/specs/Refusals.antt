@@ -1,0 +1,37 @@
+-- What the errors of documents, images and programs are told as.
+use Rattle.std.specs.Prelude.{◌≡◌, ℕ, List, Err, String}
+use Rattle.std.specs.Global.{Global}
+use Rattle.tomex_image.specs.declared.error.ImageError.{ImageError}
+use Rattle.tomex_image.specs.declared.error.ImageError.TheVariants as images
+use Rattle.tomex_study.specs.declared.program.ProgramError.{ProgramError}
+use Rattle.tomex_study.specs.declared.program.ProgramError.TheVariants as programs
+use Rattle.tomex_values.specs.declared.error.DocumentError.{DocumentError}
+use Rattle.tomex_values.specs.declared.error.DocumentError.TheVariants as documents
+use Rattle.tomex_document.specs.Document.{document_of}
+use Rattle.tomex_study_reader.specs.declared.error.StudyError.{StudyError}
+use Rattle.tomex_study_reader.specs.declared.error.StudyError.TheVariants.{Syntax, UnknownKey, MissingKey, Kind, Range}
+use Rattle.tomex_study_reader.specs.declared.error.StudyError.TheVariants.{TooMany, Image, Fault, TooLong, Memory}
+
+abbrev pub told_as : DocumentError → StudyError
+told_as documents.Syntax = Syntax
+told_as (documents.UnknownKey place) = UnknownKey place
+told_as (documents.MissingKey place key) = MissingKey place key
+told_as (documents.Kind place key) = Kind place key
+told_as (documents.Range place key) = Range place key
+told_as documents.TooMany = TooMany
+told_as documents.Memory = Memory
+
+-- a test of the document fails, and the refusal tells which
+abbrev pub IsDocumentRefusal : List ℕ → StudyError → Type 0
+IsDocumentRefusal bytes error = (fault : DocumentError) × (document_of bytes ≡ Err fault) × (error ≡ told_as fault)
+
+-- what the refusal of a file that is no image is, by the program's name
+abbrev pub unloaded_as : String Global → ImageError → StudyError
+unloaded_as name images.Memory = Memory
+unloaded_as name error = Image name error
+
+-- and that of a program whose run faults or doesn't end
+abbrev pub unfit_as : String Global → ProgramError → StudyError
+unfit_as name (programs.Fault fault) = Fault name fault
+unfit_as name programs.TooLong = TooLong name
+unfit_as name programs.Memory = Memory
