@@ -1,4 +1,4 @@
--- What is told where a program's steps have no picture or no log.
+-- The failure if a program's steps have no picture or no log.
 use Rattle.std.proofs.Common.{◌≡◌, ℕ, List, false, sym, subst}
 use Rattle.tomex_rvexec.specs.Run.{start_of}
 use Rattle.tomex_rvexec.specs.Trace.{steps_from}
@@ -7,14 +7,14 @@ use Rattle.tomex_study.specs.Program.{Workload}
 use Rattle.tomex_run_views.specs.Chart.{IsUnpictured}
 use Rattle.tomex_run_views.specs.declared.picture_error.PictureError.{PictureError}
 use Rattle.tomex_run_views.specs.declared.picture_error.PictureError.TheVariants.{NoSuchStep, TooLarge, Memory}
-use Rattle.tomex_konata.specs.Konata.{IsUnlogged}
-use Rattle.tomex_konata.specs.declared.log_error.LogError.{LogError}
-use Rattle.tomex_konata.specs.declared.log_error.LogError.TheVariants as logs
+use Rattle.tomex_run_views.specs.Excerpt.{HasNoExcerpt}
+use Rattle.tomex_run_views.specs.declared.excerpt_error.ExcerptError.{ExcerptError}
+use Rattle.tomex_run_views.specs.declared.excerpt_error.ExcerptError.TheVariants as excerpts
 use Rattle.tomex_command_line.specs.declared.line.pipeline.PipelineLine.{PipelineLine}
 use Rattle.tomex_streams.specs.Files.{Told}
 use Rattle.tomex_command.specs.Chosen.{IsChosenIn}
 use Rattle.tomex_command.specs.PipelineLines.{IsPipelineFailure}
-use Rattle.tomex_command.specs.Statuses.{failure_of_log, failure_of_picture}
+use Rattle.tomex_command.specs.Statuses.{failure_of_excerpt, failure_of_picture}
 use Rattle.tomex_command.specs.declared.failure.Failure.{Failure}
 
 pub undrawn : (file : List ℕ → Told) (line : PipelineLine) (config : Configuration) (program : Workload)
@@ -32,12 +32,12 @@ undrawn file line config program Memory failure chosen why drawn is =
     subst (λ (f : Failure). IsPipelineFailure file line f) (sym is) tt
 
 pub unlogged : (file : List ℕ → Told) (line : PipelineLine) (config : Configuration) (program : Workload)
-    (error : LogError) (failure : Failure)
+    (error : ExcerptError) (failure : Failure)
     → IsChosenIn file line.run.study.now line.run.config line.run.program.now config program
-    → IsUnlogged (steps_from program.limit (start_of program.image)) line.from error
-    → failure ≡ failure_of_log error → IsPipelineFailure file line failure
-unlogged file line config program logs.NoSuchStep failure chosen why is =
+    → HasNoExcerpt (steps_from program.limit (start_of program.image)) line.from error
+    → failure ≡ failure_of_excerpt error → IsPipelineFailure file line failure
+unlogged file line config program excerpts.NoSuchStep failure chosen why is =
     subst (λ (f : Failure). IsPipelineFailure file line f) (sym is)
     (record { config = config; program = program; chosen = chosen; holds = why })
-unlogged file line config program logs.Memory failure chosen why is =
+unlogged file line config program excerpts.Memory failure chosen why is =
     subst (λ (f : Failure). IsPipelineFailure file line f) (sym is) tt

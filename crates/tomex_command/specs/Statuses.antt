@@ -7,8 +7,8 @@ use Rattle.tomex_report.specs.declared.survey_error.SurveyError.{SurveyError}
 use Rattle.tomex_report.specs.declared.survey_error.SurveyError.TheVariants as surveys
 use Rattle.tomex_refusals.specs.declared.explaining.ExplainError.{ExplainError}
 use Rattle.tomex_refusals.specs.declared.explaining.ExplainError.TheVariants as explanations
-use Rattle.tomex_konata.specs.declared.log_error.LogError.{LogError}
-use Rattle.tomex_konata.specs.declared.log_error.LogError.TheVariants as logs
+use Rattle.tomex_run_views.specs.declared.excerpt_error.ExcerptError.{ExcerptError}
+use Rattle.tomex_run_views.specs.declared.excerpt_error.ExcerptError.TheVariants as excerpts
 use Rattle.tomex_run_views.specs.declared.picture_error.PictureError.{PictureError}
 use Rattle.tomex_run_views.specs.declared.picture_error.PictureError.TheVariants as pictures
 use Rattle.tomex_study_reader.specs.declared.error.StudyError.TheVariants as studies
@@ -57,12 +57,12 @@ failure_of_picture pictures.NoSuchStep = NoSuchStep
 failure_of_picture pictures.TooLarge = PictureTooLarge
 failure_of_picture pictures.Memory = Memory
 
--- and a refused log
-abbrev pub failure_of_log : LogError → Failure
-failure_of_log logs.NoSuchStep = NoSuchStep
-failure_of_log logs.Memory = Memory
+-- the failure if there is no excerpt
+abbrev pub failure_of_excerpt : ExcerptError → Failure
+failure_of_excerpt excerpts.NoSuchStep = NoSuchStep
+failure_of_excerpt excerpts.Memory = Memory
 
--- and a refused explanation
+-- the failure that a refused explanation becomes
 abbrev pub failure_of_explanation : ExplainError → Failure
 failure_of_explanation explanations.NoSuchRefusal = NoSuchRefusal
 failure_of_explanation explanations.Memory = Memory

@@ -2,15 +2,14 @@
 ghost use Rattle.std.specs.Prelude.{◌≡◌};
 ghost use Rattle.tomex_command.specs.declared.failure.Failure.TheVariants as failures;
 ghost use Rattle.tomex_command.specs.Statuses.{failure_of_answer, failure_of_explanation};
-ghost use Rattle.tomex_command.specs.Statuses.{failure_of_log, failure_of_picture, failure_of_survey};
+ghost use Rattle.tomex_command.specs.Statuses.{failure_of_excerpt, failure_of_picture, failure_of_survey};
 ghost use Rattle.tomex_command.specs.Statuses.{status_of_failure};
 
 use crate::run::RunRefusal;
 use std::alloc::{AllocError, AllocFailed};
-use tomex_konata::LogError;
 use tomex_refusals::ExplainError;
 use tomex_report::{AnswerError, StudyError, SurveyError};
-use tomex_run_views::PictureError;
+use tomex_run_views::{ExcerptError, PictureError};
 use tomex_sweep::SweepError;
 
 /// Why a command was not done. Reported after `tomex: ` on the standard error.
@@ -134,13 +133,13 @@ impl From<PictureError> for Failure {
     }
 }
 
-impl From<LogError> for Failure {
-    ghost from_gives = { λ error failure. failure ≡ failure_of_log error };
+impl From<ExcerptError> for Failure {
+    ghost from_gives = { λ error failure. failure ≡ failure_of_excerpt error };
 
-    fn from(error: LogError) -> Failure {
+    fn from(error: ExcerptError) -> Failure {
         match error {
-            LogError::NoSuchStep => Failure::NoSuchStep,
-            LogError::Memory => Failure::Memory,
+            ExcerptError::NoSuchStep => Failure::NoSuchStep,
+            ExcerptError::Memory => Failure::Memory,
         }
     }
 }

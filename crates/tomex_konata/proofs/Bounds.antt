@@ -19,7 +19,8 @@ use Rattle.tomex_konata.specs.declared.entries.Entry.{Entry}
 use Rattle.tomex_konata.specs.declared.events.Event.{Event}
 use Rattle.tomex_konata.specs.declared.events.Kind.TheVariants.{Change}
 use Rattle.tomex_konata.specs.Konata.{IsLogOf, cycles_of, entries_from, entry_of, gone_before, head_of, log_of}
-use Rattle.tomex_run_views.specs.Chart.{first_issue, shown}
+use Rattle.tomex_run_views.specs.Chart.{first_issue}
+use Rattle.tomex_run_views.specs.Excerpt.{IsExcerptOf, TimedSteps}
 use Rattle.tomex_konata.specs.Kept.{ArePut, change_cycles, change_in, changes_of, events_of, once, out_of, written}
 use Rattle.tomex_konata.proofs.Sorting.{filter_alike, rises}
 use Rattle.tomex_konata.proofs.Written.{AreThere, cycles_are}
@@ -219,17 +220,10 @@ headed none head text bytes lines first empty begun more made =
     made ∙ (more ∙ ap (λ (z : List ℕ). z ++ lines) (begun ∙ ap (λ (z : List ℕ). z ++ head_of first) empty))
 
 -- the text is the log that was asked for
-pub logged : (config : Configuration) (run made steps : List Step) (kept slice times : List Times)
-    (number count from : ℕ) (text : List ℕ) → made ≡ run → kept ≡ times_in config made → slice ≡ kept
-    → steps ≡ shown number count made → times ≡ shown number count slice → number ≤ length made
-    → from ≡ number → text ≡ log_of from steps times → IsLogOf config run number count text
-logged config run made steps kept slice times number count from text is kept_is same steps_are times_are low from_is
-    text_is =
-    let of_run : times ≡ shown number count (times_in config run) =
-    times_are ∙ ap (λ (ts : List Times). shown number count ts) (same ∙ (kept_is ∙ ap (times_in config) is)) in
-    let those : steps ≡ shown number count run = steps_are ∙ ap (λ (ss : List Step). shown number count ss) is in
-    record {
-      there = subst (λ (ss : List Step). number ≤ length ss) is low;
-      is = text_is ∙ (ap (λ (f : ℕ). log_of f steps times) from_is
-          ∙ ap₂ (λ (a : List Step) (b : List Times). log_of number a b) those of_run);
-    }
+pub logged : (config : Configuration) (run : List Step) (number count : ℕ) (e : TimedSteps) (text : List ℕ)
+    → IsExcerptOf config run number count e → text ≡ log_of e.number e.steps e.times
+    → IsLogOf config run number count text
+logged config run number count e text asked is = record {
+  there = asked.there;
+  is = is ∙ ap (λ (x : TimedSteps). log_of x.number x.steps x.times) asked.is;
+}

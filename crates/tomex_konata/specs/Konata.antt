@@ -16,13 +16,12 @@ use Rattle.tomex_config.specs.Configuration.{Configuration}
 use Rattle.tomex_timing.specs.Search.{times_in, total_of}
 use Rattle.tomex_timing.specs.declared.times.Done.{Done}
 use Rattle.tomex_timing.specs.declared.times.Times.{Times}
-use Rattle.tomex_run_views.specs.Chart.{first_issue, shown, stage_in}
+use Rattle.tomex_run_views.specs.Chart.{first_issue, stage_in}
+use Rattle.tomex_run_views.specs.Excerpt.{shown}
 use Rattle.tomex_run_views.specs.declared.stage.Stage.{Stage}
 use Rattle.tomex_run_views.specs.declared.stage.Stage.TheVariants.{Issue, Address, Execute, Write, BusWait, Wait}
 use Rattle.tomex_konata.specs.declared.entries.Entry.{Entry}
 use Rattle.tomex_konata.specs.declared.entries.Producer.{Producer}
-use Rattle.tomex_konata.specs.declared.log_error.LogError.{LogError}
-use Rattle.tomex_konata.specs.declared.log_error.LogError.TheVariants.{NoSuchStep, Memory}
 
 -- an operand's producer among some older steps: the youngest that writes it
 abbrev pub producer : List Done → Option Operand → Option Producer
@@ -185,8 +184,3 @@ log_of number steps times =
 pub record IsLogOf (config : Configuration) (steps : List Step) (number count : ℕ) (text : List ℕ) : Type 0 where
   pub there : number ≤ length steps
   pub is : text ≡ log_of number (shown number count steps) (shown number count (times_in config steps))
-
--- why there is none
-abbrev pub IsUnlogged : List Step → ℕ → LogError → Type 0
-IsUnlogged steps number NoSuchStep = length steps < number
-IsUnlogged steps number Memory = Unit {0}

@@ -4,8 +4,6 @@
 mod entries;
 mod events;
 mod lines;
-mod log_error;
 mod writing;
 
-pub use log_error::LogError;
 pub use writing::konata_text;

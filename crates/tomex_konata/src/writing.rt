@@ -3,22 +3,19 @@
 ghost use Rattle.std.specs.Prelude.{◌≡◌, ◌+◌, ◌-◌, ◌<◌, ◌^◌, ◌++◌, All, length, IfErr, IfOk, IsErrOf, OnOk, string_bytes};
 ghost use Rattle.tomex_rvexec.specs.Run.{start_of};
 ghost use Rattle.tomex_rvexec.specs.Trace.{steps_from};
-ghost use Rattle.tomex_timing.specs.Search.{total_of};
-ghost use Rattle.tomex_konata.specs.Konata.{IsLogOf, IsUnlogged, head_of, log_of, next_since, with_cycle};
+ghost use Rattle.tomex_run_views.specs.Excerpt.{HasNoExcerpt};
+ghost use Rattle.tomex_konata.specs.Konata.{IsLogOf, head_of, log_of, next_since, with_cycle};
 ghost use Rattle.tomex_konata.specs.Kept.{event_lines, gone_after, written};
 
 use crate::entries::{Entry, entries_of};
 use crate::events::{Event, Kind, ordered_events};
 use crate::lines::{push_out, push_step};
-use crate::log_error::LogError;
 use std::alloc::{AllocError, Allocator, Global};
 use std::fmt::Write;
 use tomex_config::Config;
-use tomex_run_views::{first_issue, part_of};
-use tomex_rvexec::Step;
+use tomex_run_views::{Excerpt, ExcerptError, first_issue};
 use tomex_study::Program;
-use tomex_timing::Times;
-use tomex_timing::evaluate::{times, total};
+use tomex_timing::evaluate::total;
 
 /// Adds the lines of an event, if it has any.
 fn push_event(
@@ -39,7 +36,7 @@ fn push_event(
     }
 }
 
-/// Adds lines of a cycle, if there are any, behind the cycles that passed since the last one with lines. Returns which
+/// Adds lines of a cycle, if there are any, after the cycles that passed since the last one with lines. Returns which
 /// one that is now.
 fn push_in_cycle<A: Allocator>(
     text: &mut String<A>,
@@ -121,34 +118,32 @@ fn text_of<A: Allocator>(
     Ok(text.into_bytes())
 }
 
-/// The log of steps with these times, from a number on.
+/// The log of an excerpt. What is small is taken of `heap`.
 fn log_of<A: Allocator + Clone>(
     alloc: A,
     heap: Global,
-    number: u64,
-    steps: &[Step],
-    times: &[Times],
+    excerpt: &Excerpt<A>,
 ) -> Result<Vec<u8, A>, AllocError>
-    requires pairs { length times.now ≡ length steps.now }
-    requires few { number + length steps.now < 2 ^ 63 }
-    requires bound { total_of times.now < 2 ^ 32 }
-    ensures { IfOk result (λ text. text.items ≡ log_of number steps.now times.now) }
+    ensures { IfOk result
+        (λ text. text.items ≡ log_of excerpt.now.number excerpt.now.steps excerpt.now.times) }
 {
+    excerpt.keeps_limits();
+    let times = excerpt.times();
     let first = first_issue(times);
-    let entries = entries_of(alloc.clone()?, steps, times)?;
+    let entries = entries_of(alloc.clone()?, excerpt.steps(), times)?;
     let events = ordered_events(alloc.clone()?, entries.as_slice(), total(times) + 1)?;
     text_of(
         alloc,
         heap,
-        number,
+        excerpt.number(),
         first,
         entries.as_slice(),
         events.as_slice(),
     )
 }
 
-/// The log of some steps of a program's run on a configuration for the viewer Konata, `count` of them at most from
-/// step `number` on; the first step is number 1. Producers are looked for among these steps alone.
+/// The log of some steps of a program's run on a configuration for the viewer Konata, at most `count` of them from
+/// step `number` on; the first step is number 1. Producers are looked for among these steps only.
 ///
 /// The work grows as n log n with the steps, whatever the number of cycles. What is small is taken of `heap`.
 pub fn konata_text<A: Allocator + Clone>(
@@ -158,22 +153,15 @@ pub fn konata_text<A: Allocator + Clone>(
     config: &Config,
     number: u32,
     count: u32,
-) -> Result<Vec<u8, A>, LogError>
+) -> Result<Vec<u8, A>, ExcerptError>
     requires { 0 < number }
     ensures text { IfOk result (λ text. IsLogOf config.now
         (steps_from program.now.limit (start_of program.now.image)) number count text.items) }
-    ensures refused { IfErr result (λ error. IsUnlogged
+    ensures refused { IfErr result (λ error. HasNoExcerpt
         (steps_from program.now.limit (start_of program.now.image)) number error) }
     ensures no_step { length (steps_from program.now.limit (start_of program.now.image)) < number
-        → IsErrOf result LogError.NoSuchStep }
+        → IsErrOf result ExcerptError.NoSuchStep }
 {
-    let steps = program.steps();
-    if steps.len() < number as usize {
-        return Err(LogError::NoSuchStep);
-    }
-    let times = times(alloc.clone()?, steps, config)?;
-    let behind = number as usize - 1;
-    let shown_steps = part_of(steps, behind, count as usize);
-    let shown_times = part_of(times.as_slice(), behind, count as usize);
-    Ok(log_of(alloc, heap, u64::from(number), shown_steps, shown_times)?)
+    let excerpt = Excerpt::new(alloc.clone()?, program, config, number, count)?;
+    Ok(log_of(alloc, heap, &excerpt)?)
 }

@@ -2,5 +2,6 @@ pub mod Written
 pub mod Sums
 pub mod Tallies
 pub mod Reports
+pub mod Excerpts
 pub mod Pictures
 mod Rows

@@ -67,53 +67,6 @@ no_line frame number index steps times text whole past so_far =
     ∙ (ap (λ (ss : List Step). text ++ lines_of frame number ss (drop index times)) (sym (drop_all index steps past))
     ∙ so_far)
 
--- the greatest end of some steps is no later than that of all
-total_take : (n : ℕ) (times : List Times) → total_of (take n times) ≤ total_of times
-total_take zero times = omega arith
-total_take (suc n) [] = omega arith
-total_take (suc n) (at ∷ times) = omega (arith, total_take n times)
-
-total_drop : (n : ℕ) (times : List Times) → total_of (drop n times) ≤ total_of times
-total_drop zero times = omega arith
-total_drop (suc n) [] = omega arith
-total_drop (suc n) (at ∷ times) = omega (arith, total_drop n times)
-
-pub part_ends : (n k : ℕ) (steps : List Step) (times times-slice part : List Times)
-    → part ≡ take n (drop k times-slice) → times-slice ≡ times → total_of times ≤ 67 * length steps
-    → length steps ≤ 262144 → total_of part < 2 ^ 32
-part_ends n k steps times times-slice part is times_are bound few =
-    let ends = total_take n (drop k times-slice) in
-    let all = total_drop k times-slice in
-    let same = ap total_of times_are in
-    subst (λ (p : List Times). total_of p < 2 ^ 32) (sym is) (omega (arith, ends, all, same, bound, few))
-
--- how long a part is
-part_length : {X : Type 0} (n k : ℕ) (xs part : List X) → part ≡ take n (drop k xs)
-    → length part ≡ min n (length xs - k)
-part_length n k xs part is = ap length is ∙ (length-take n (drop k xs) ∙ ap (min n) (length-drop k xs))
-
-module _ {X Y : Type 0} (n k : ℕ) (xs : List X) (kept slice : List Y) (same : slice ≡ kept)
-    (pairs : length kept ≡ length xs) where
-  -- a part begins within the list
-  pub part_there : (number : ℕ) → number ≤ length xs → number - 1 ≤ length slice
-  part_there number low = let long : length slice ≡ length kept = ap length same in omega (arith, low, pairs)
-
-  pub part_few : (part : List Y) → part ≡ take n (drop k slice) → length xs ≤ 262144 → length part ≤ 262144
-  part_few part is few =
-      let long : length slice ≡ length kept = ap length same in
-      omega (arith, part_length n k slice part is, few, pairs)
-
-  pub parts_paired : (those : List X) (part : List Y) → those ≡ take n (drop k xs) → part ≡ take n (drop k slice)
-      → length part ≡ length those
-  parts_paired those part those_are is =
-      let long : length slice ≡ length xs = ap length same ∙ pairs in
-      part_length n k slice part is ∙ (ap (λ (m : ℕ). min n (m - k)) long ∙ sym (part_length n k xs those those_are))
-
--- and its numbers are no large ones
-pub numbers_few : {X : Type 0} (n k number from : ℕ) (xs part : List X) → from ≡ number → number < 4294967296
-    → part ≡ take n (drop k xs) → length xs ≤ 262144 → from + length part < 9223372036854775808
-numbers_few n k number from xs part same low is few = omega (arith, part_length n k xs part is, same, low, few)
-
 -- what comes after five pieces
 line_after : (a b c d e rest : List ℕ) → (a ++ (b ++ (c ++ (d ++ e)))) ++ rest ≡ a ++ (b ++ (c ++ (d ++ (e ++ rest))))
 line_after a b c d e rest =
@@ -136,19 +89,22 @@ drawn_is number first last steps times frame none head text bytes empty begun mo
     (lines_of (frame_of number steps times) number steps times))))
 
 -- the text is the picture that was asked for
-pub pictured : (config : Configuration) (run made steps : List Step) (kept slice times : List Times)
-    (number count from : ℕ) (text : List ℕ) → made ≡ run → kept ≡ times_in config made → slice ≡ kept
-    → steps ≡ shown number count made → times ≡ shown number count slice → number ≤ length made
-    → nat_lt most_signs (signs_of times) ≡ false → from ≡ number → text ≡ picture_of from steps times
-    → IsPictureOf config run number count text
-pictured config run made steps kept slice times number count from text is kept_is same steps_are times_are low few
-    from_is text_is =
-    let of_run : times ≡ shown number count (times_in config run) =
-    times_are ∙ ap (λ (ts : List Times). shown number count ts) (same ∙ (kept_is ∙ ap (times_in config) is)) in
-    let those : steps ≡ shown number count run = steps_are ∙ ap (λ (ss : List Step). shown number count ss) is in
-    record {
-      there = subst (λ (ss : List Step). number ≤ length ss) is low;
-      drawn = subst (λ (ts : List Times). signs_of ts ≤ most_signs) of_run (ltb-false most_signs (signs_of times) few);
-      is = text_is ∙ (ap (λ (f : ℕ). picture_of f steps times) from_is
-          ∙ ap₂ (λ (a : List Step) (b : List Times). picture_of number a b) those of_run);
-    }
+pub pictured : (config : Configuration) (run : List Step) (number count : ℕ) (e : TimedSteps) (text : List ℕ)
+    → IsExcerptOf config run number count e → nat_lt most_signs (signs_of e.times) ≡ false
+    → text ≡ picture_of e.number e.steps e.times → IsPictureOf config run number count text
+pictured config run number count e text asked few is = record {
+  there = asked.there;
+  drawn = subst (λ (x : TimedSteps). signs_of x.times ≤ most_signs) asked.is
+      (ltb-false most_signs (signs_of e.times) few);
+  is = is ∙ ap (λ (x : TimedSteps). picture_of x.number x.steps x.times) asked.is;
+}
+
+-- there is none since there are too many signs
+pub too_large : (config : Configuration) (run : List Step) (number count : ℕ) (e : TimedSteps)
+    → IsExcerptOf config run number count e → nat_lt most_signs (signs_of e.times) ≡ true
+    → (number ≤ length run) × (most_signs < signs_shown config run number count)
+too_large config run number count e asked many = (
+  asked.there,
+  subst (λ (x : TimedSteps). most_signs < signs_of x.times) asked.is
+      (ltb-true most_signs (signs_of e.times) many),
+)

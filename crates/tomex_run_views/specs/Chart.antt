@@ -11,13 +11,16 @@ use Rattle.tomex_config.specs.Configuration.{Configuration}
 use Rattle.tomex_timing.specs.Search.{times_in, total_of}
 use Rattle.tomex_timing.specs.declared.times.Times.{Times}
 use Rattle.tomex_csv_text.specs.Aligned.{left_aligned, right_aligned}
+use Rattle.tomex_run_views.specs.Excerpt.{shown}
+use Rattle.tomex_run_views.specs.declared.excerpt_error.ExcerptError.{ExcerptError}
+use Rattle.tomex_run_views.specs.declared.excerpt_error.ExcerptError.TheVariants as excerpts
 use Rattle.tomex_run_views.specs.declared.lines.Frame.{Frame}
 use Rattle.tomex_run_views.specs.declared.picture_error.PictureError.{PictureError}
 use Rattle.tomex_run_views.specs.declared.picture_error.PictureError.TheVariants.{NoSuchStep, TooLarge, Memory}
 use Rattle.tomex_run_views.specs.declared.stage.Stage.{Stage}
 use Rattle.tomex_run_views.specs.declared.stage.Stage.TheVariants.{Issue, Address, Execute, Write, BusWait, Wait}
 
--- what a step does in a cycle, if anything: the first configuration that fits. A step without a destination ends as it
+-- what a step does in a cycle, if anything: the first row that fits. A step without a destination ends as it
 -- finishes, in its unit; those without a unit start as they issue.
 abbrev pub stage_in : Times → ℕ → Option Stage
 stage_in at t =
@@ -96,10 +99,6 @@ signs_of times = length times * (total_of times + 1 - first_issue times)
 abbrev pub most_signs : ℕ
 most_signs = 16777216
 
--- what is shown of a list: `count` at most, from a number on; the first is number 1
-abbrev pub shown : {X : Type 0} → ℕ → ℕ → List X → List X
-shown number count xs = take count (drop (number - 1) xs)
-
 -- the signs of what is shown of a run on a configuration
 abbrev pub signs_shown : Configuration → List Step → ℕ → ℕ → ℕ
 signs_shown config steps number count = signs_of (shown number count (times_in config steps))
@@ -116,3 +115,8 @@ IsUnpictured config steps number count NoSuchStep = length steps < number
 IsUnpictured config steps number count TooLarge =
     (number ≤ length steps) × (most_signs < signs_shown config steps number count)
 IsUnpictured config steps number count Memory = Unit {0}
+
+-- no excerpt, no picture
+abbrev pub error_of_excerpt : ExcerptError → PictureError
+error_of_excerpt excerpts.NoSuchStep = NoSuchStep
+error_of_excerpt excerpts.Memory = Memory

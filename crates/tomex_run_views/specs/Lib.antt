@@ -2,4 +2,5 @@ pub mod StallsReport
 pub mod ByPlace
 pub mod Tally
 pub mod Laws
+pub mod Excerpt
 pub mod Chart

@@ -3,6 +3,8 @@
 #![tactic(auto)]
 
 mod by_place;
+mod excerpt;
+mod excerpt_error;
 mod laws;
 mod lines;
 mod picture_error;
@@ -12,8 +14,10 @@ mod stalls;
 mod tally;
 
 pub use by_place::stalls_by_pc;
+pub use excerpt::Excerpt;
+pub use excerpt_error::ExcerptError;
 pub use laws::waits_of_places_add_up;
 pub use picture_error::PictureError;
-pub use pipeline::{first_issue, part_of, pipeline_text};
+pub use pipeline::{first_issue, pipeline_text};
 pub use stage::{Stage, stage_in};
 pub use stalls::stalls_report;

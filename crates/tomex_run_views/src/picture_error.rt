@@ -1,8 +1,10 @@
 //! Why there is no picture.
 
 ghost use Rattle.std.specs.Prelude.{◌≡◌};
+ghost use Rattle.tomex_run_views.specs.Chart.{error_of_excerpt};
 ghost use Rattle.tomex_run_views.specs.declared.picture_error.PictureError.TheVariants.{Memory};
 
+use crate::excerpt_error::ExcerptError;
 use std::alloc::{AllocError, AllocFailed};
 
 /// Why steps of a run have no picture.
@@ -14,6 +16,17 @@ pub enum PictureError {
     TooLarge,
     /// Memory was refused.
     Memory,
+}
+
+impl From<ExcerptError> for PictureError {
+    ghost from_gives = { λ error e. e ≡ error_of_excerpt error };
+
+    fn from(error: ExcerptError) -> Self {
+        match error {
+            ExcerptError::NoSuchStep => PictureError::NoSuchStep,
+            ExcerptError::Memory => PictureError::Memory,
+        }
+    }
 }
 
 impl From<AllocError> for PictureError {

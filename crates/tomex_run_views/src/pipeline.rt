@@ -7,6 +7,7 @@ ghost use Rattle.tomex_timing.specs.Search.{total_of};
 ghost use Rattle.tomex_run_views.specs.Chart.{IsPictureOf, IsUnpictured, first_issue, frame_of};
 ghost use Rattle.tomex_run_views.specs.Chart.{longest_instruction, most_signs, picture_of, signs_of};
 
+use crate::excerpt::Excerpt;
 use crate::lines::{Frame, push_lines};
 use crate::picture_error::PictureError;
 use std::alloc::{AllocError, Allocator, Global};
@@ -15,20 +16,10 @@ use tomex_config::Config;
 use tomex_rvexec::Step;
 use tomex_study::Program;
 use tomex_timing::Times;
-use tomex_timing::evaluate::{times, total};
+use tomex_timing::evaluate::total;
 
 /// The most signs of one picture.
 const MOST_SIGNS: u64 = 16_777_216;
-
-/// `count` of these at most, after the first ones.
-pub fn part_of<T>(items: &[T], behind: usize, count: usize) -> &[T]
-    requires { behind ≤ length items.now }
-    ensures { result.now ≡ take count (drop behind items.now) }
-{
-    let rest = &items[behind..];
-    let end = count.min(rest.len());
-    &rest[..end]
-}
 
 /// The issue of the first step, 0 of none.
 pub fn first_issue(times: &[Times]) -> u64
@@ -66,44 +57,49 @@ fn longest_instruction(heap: Global, steps: &[Step]) -> Result<usize, AllocError
     Ok(letters)
 }
 
-/// The columns of steps with these times, from a number on.
-fn frame_of(heap: Global, number: u64, steps: &[Step], times: &[Times]) -> Result<Frame, AllocError>
-    requires number { 0 < number }
-    requires few { number + length steps.now < 2 ^ 63 }
-    ensures { IfOk result (λ frame. frame ≡ frame_of number steps.now times.now) }
+/// The columns of an excerpt.
+fn frame_of<A: Allocator>(heap: Global, excerpt: &Excerpt<A>) -> Result<Frame, AllocError>
+    ensures { IfOk result
+        (λ frame. frame ≡ frame_of excerpt.now.number excerpt.now.steps excerpt.now.times) }
 {
-    let greatest = number + steps.len() as u64 - 1;
+    excerpt.keeps_limits();
+    let steps = excerpt.steps();
+    let greatest = excerpt.number() + steps.len() as u64 - 1;
     let text = format!(in heap; "{greatest}")?;
     Ok(Frame {
         digits: text.as_bytes().len(),
         letters: longest_instruction(heap, steps)?,
-        first: first_issue(times),
+        first: first_issue(excerpt.times()),
     })
 }
 
-/// The picture of steps with these times, from a number on.
-fn picture_of<A: Allocator>(
+/// The picture of an excerpt. What is small is taken of `heap`.
+fn picture_of<A: Allocator, B: Allocator>(
     alloc: A,
     heap: Global,
-    number: u64,
-    steps: &[Step],
-    times: &[Times],
+    excerpt: &Excerpt<B>,
 ) -> Result<Vec<u8, A>, AllocError>
-    requires pairs { length times.now ≡ length steps.now }
-    requires number { 0 < number }
-    requires few { number + length steps.now < 2 ^ 63 }
-    requires bound { total_of times.now < 2 ^ 32 }
-    ensures { IfOk result (λ text. text.items ≡ picture_of number steps.now times.now) }
+    ensures { IfOk result
+        (λ text. text.items ≡ picture_of excerpt.now.number excerpt.now.steps excerpt.now.times) }
 {
-    let frame = frame_of(heap, number, steps, times)?;
+    excerpt.keeps_limits();
+    let frame = frame_of(heap, excerpt)?;
+    let times = excerpt.times();
     let (first, last) = (first_issue(times), total(times));
     let mut text = String::new(alloc);
     write!(&mut text, "cycles {first} to {last}\n")?;
-    push_lines(&mut text, heap, &frame, number, steps, times)?;
+    push_lines(
+        &mut text,
+        heap,
+        &frame,
+        excerpt.number(),
+        excerpt.steps(),
+        times,
+    )?;
     Ok(text.into_bytes())
 }
 
-/// The picture of some steps of a program's run on a configuration, `count` of them at most from step `number` on;
+/// The picture of some steps of a program's run on a configuration, at most `count` of them from step `number` on;
 /// the first step is number 1. A line with the cycles, from the first step's issue to the greatest end, and then a
 /// line a step: its number, its address, its instruction, and a sign for each cycle up to its end.
 ///
@@ -124,16 +120,10 @@ pub fn pipeline_text<A: Allocator + Clone>(
     ensures no_step { length (steps_from program.now.limit (start_of program.now.image)) < number
         → IsErrOf result PictureError.NoSuchStep }
 {
-    let steps = program.steps();
-    if steps.len() < number as usize {
-        return Err(PictureError::NoSuchStep);
-    }
-    let times = times(alloc.clone()?, steps, config)?;
-    let behind = number as usize - 1;
-    let shown_steps = part_of(steps, behind, count as usize);
-    let shown_times = part_of(times.as_slice(), behind, count as usize);
-    if is_too_large(shown_times) {
+    let excerpt = Excerpt::new(alloc.clone()?, program, config, number, count)?;
+    excerpt.keeps_limits();
+    if is_too_large(excerpt.times()) {
         return Err(PictureError::TooLarge);
     }
-    Ok(picture_of(alloc, heap, u64::from(number), shown_steps, shown_times)?)
+    Ok(picture_of(alloc, heap, &excerpt)?)
 }

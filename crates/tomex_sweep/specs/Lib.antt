@@ -1,6 +1,7 @@
--- What contracts cite: workers and what they owe, and marks of rows.
+-- What contracts cite: workers and what they owe, marks of rows, and explorations.
 pub mod Crews
 pub mod Marks
+pub mod Exploration
 pub use Rattle.tomex_image.specs.Image
 pub use Rattle.tomex_rvexec.specs.Run
 pub use Rattle.tomex_config.specs.Configuration

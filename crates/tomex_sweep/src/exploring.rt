@@ -2,7 +2,7 @@
 
 ghost use Rattle.std.specs.Prelude.{◌≡◌, ◌≤◌, IfOk};
 ghost use Rattle.tomex_row_runs.specs.Cycles.{cycles_of};
-ghost use Rattle.tomex_row_runs.specs.StudyFront.{front_of_study};
+ghost use Rattle.tomex_sweep.specs.Exploration.{IsExploration};
 ghost use Rattle.tomex_sweep.specs.Marks.{AreJudged};
 ghost use Rattle.tomex_workers.specs.Plans.{IsPlanOf};
 
@@ -66,10 +66,7 @@ pub fn explore_on<
 ) -> Result<Outcome<A>, SweepError>
     requires some_workers { 1 ≤ workers }
     requires few_workers { workers ≤ 32 }
-    ensures marks { IfOk result
-        (λ o. AreJudged study.now.costs (cycles_of study.now) o.marks.items) }
-    ensures front { IfOk result (λ o. o.front.items ≡ front_of_study study.now) }
-    ensures gathered { IfOk result (λ o. o.gathered ≡ 0) }
+    ensures { IfOk result (λ o. IsExploration study.now o.marks.items o.front.items o.gathered) }
 {
     study.keeps_limits();
     let costs = study.costs();
@@ -94,11 +91,11 @@ pub fn explore_on<
 /// Runs each row until it is over, or until a finished row is known that costs no more and takes
 /// strictly fewer cycles, and gives the front.
 ///
-/// The rows are dealt to so many workers, a thread each. A worker whose own rows are all taken steals
+/// The rows are dealt to `workers` workers, a thread each. A worker whose own rows are all taken steals
 /// from the others; they share nothing but the study and a board of single words, so none waits for
 /// another. Which rows are dropped depends on who was faster. The front doesn't.
 ///
-/// Where a thread or memory is refused, what was started is waited for first.
+/// If a thread or memory is refused, what was started is waited for first.
 pub fn explore<R: Threads + Wait + Sync, A: Allocator + Clone + Send + Sync + Drop, G: Gate + Sync>(
     rt: &R,
     alloc: A,
@@ -108,10 +105,7 @@ pub fn explore<R: Threads + Wait + Sync, A: Allocator + Clone + Send + Sync + Dr
 ) -> Result<Outcome<A>, SweepError>
     requires some_workers { 1 ≤ workers }
     requires few_workers { workers ≤ 32 }
-    ensures marks { IfOk result
-        (λ o. AreJudged study.now.costs (cycles_of study.now) o.marks.items) }
-    ensures front { IfOk result (λ o. o.front.items ≡ front_of_study study.now) }
-    ensures gathered { IfOk result (λ o. o.gathered ≡ 0) }
+    ensures { IfOk result (λ o. IsExploration study.now o.marks.items o.front.items o.gathered) }
 {
     explore_on(rt, alloc, study, workers, gate, &UsualStacks)
 }

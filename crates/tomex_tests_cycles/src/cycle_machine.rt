@@ -7,20 +7,13 @@ use tomex_cycle::{Machine, Progress};
 use tomex_image::Image;
 use tomex_rvexec::End;
 use tomex_tests_fixtures::image_of;
+use tomex_tests_fixtures::machines::{PLAIN, config_of, unit};
 use tomex_tests_fixtures::programs::{LOOP_WORDS, PRODUCT_WORDS};
 use tomex_timing::Tables;
 
 mod faults;
 mod random;
 mod tables;
-
-fn unit(units: u8, latency: u8) -> UnitOption {
-    UnitOption {
-        units,
-        latency,
-        price: 0,
-    }
-}
 
 /// The image of a program at address 0.
 fn image_at_0(rt: &HostRuntime, words: &[u32]) -> Result<Image, Fail> {
@@ -31,18 +24,16 @@ fn holds(ok: bool, what: &'static str) -> Result<(), Fail> {
     if ok { Ok(()) } else { Err(what.into()) }
 }
 
-/// A configuration of these stations, alu units, latencies of mul and mem, buses and issue width: of one unit a kind
-/// else, and of latency 1.
-fn config_of(stations: [u8; 6], parts: [u8; 4], width: u8) -> Result<Config, Fail> {
+/// A configuration of these stations, alu units, latencies of mul and mem, buses and issue width, with
+/// one unit of latency 1 of each other kind.
+fn machine_config(stations: [u8; 6], parts: [u8; 4], width: u8) -> Result<Config, Fail> {
     let [alu, mul, mem, buses] = parts;
-    let units = [
-        unit(alu, 1),
-        unit(1, mul),
-        unit(1, 1),
-        unit(1, mem),
-        unit(1, 1),
-    ];
-    Ok(Config::new(stations, units, buses, width).ok_or("no configuration")?)
+    let alus = UnitOption {
+        units: alu,
+        ..PLAIN
+    };
+    let units = [alus, unit(mul), PLAIN, unit(mem), PLAIN];
+    config_of(stations, units, buses, width)
 }
 
 /// A machine before its first cycle.
@@ -176,7 +167,7 @@ fn ticked(
 fn comes_to(rt: &HostRuntime, row: &Worked) -> Result<(), Fail> {
     let (words, stations, parts, width, total, (pc, register, value)) = *row;
     let image = image_at_0(rt, words)?;
-    let config = config_of(stations, parts, width)?;
+    let config = machine_config(stations, parts, width)?;
     let leaps = leaps_to(rt, &image, &config, total)?;
     holds(leaps, "a leap to another cycle, or to no end")?;
     let end = ticked(rt, &image, &config, total)?;
@@ -230,7 +221,7 @@ fn is_skipped<A: Allocator>(machine: &mut Machine<A>) -> bool {
 /// Of the 68 cycles of a run with a long multiplication few are made.
 #[test]
 fn a_long_wait_is_skipped(rt: HostRuntime) -> Result<(), Fail> {
-    let config = config_of([1; 6], [1, 64, 1, 1], 1)?;
+    let config = machine_config([1; 6], [1, 64, 1, 1], 1)?;
     let image = image_at_0(&rt, WAITED_FOR.as_slice())?;
     let mut machine = machine_of(&rt, &image, &config)?;
     assert!(rt; is_skipped(&mut machine));

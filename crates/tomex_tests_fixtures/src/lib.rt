@@ -1,10 +1,11 @@
-//! What tests of several crates share: programs, studies and what comes of them, images, a sink and files in
-//! memory, and calls whose memory is refused.
+//! What tests of several crates share: programs, machines, studies and what comes of them, images, a sink and files
+//! in memory, and calls whose memory is refused.
 #![tactic(auto)]
 
 mod explained;
 mod images;
 pub mod in_memory;
+pub mod machines;
 pub mod programs;
 pub mod studies;
 mod tries;

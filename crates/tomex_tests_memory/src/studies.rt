@@ -7,6 +7,7 @@ use tomex_image::{Image, Window, load};
 use tomex_report::{StudyError, file_names, read_study, times_report};
 use tomex_rvexec::trace;
 use tomex_sweep::{Program, ProgramError, Study};
+use tomex_tests_fixtures::machines::PLAIN;
 use tomex_tests_fixtures::programs::{ELF, PRODUCT};
 use tomex_tests_fixtures::studies::{PRODUCT_STUDY, PRODUCT_TIMES};
 use tomex_tests_fixtures::{Attempt, Heap, Try, ample, refusals};
@@ -81,12 +82,6 @@ fn of_studies_and_reports(rt: HostRuntime) -> Result<(), Fail> {
     assert!(rt; refusals(other, &TimesReport { other })? > Some(2));
     Ok(())
 }
-
-const PLAIN: UnitOption = UnitOption {
-    units: 1,
-    latency: 1,
-    price: 0,
-};
 
 /// Makes the rows of these axes.
 #[derive(Clone, Copy)]

@@ -2,10 +2,11 @@
 
 use std::alloc::{AllocError, Global};
 use std::test::Fail;
-use tomex_config::{Config, UnitOption};
+use tomex_config::Config;
 use tomex_cycle::Machine;
 use tomex_image::{Image, Window, load};
 use tomex_report::tables_text;
+use tomex_tests_fixtures::machines::one_unit_each;
 use tomex_tests_fixtures::programs::PRODUCT;
 use tomex_tests_fixtures::studies::PRODUCT_AFTER_3;
 use tomex_tests_fixtures::{Attempt, Heap, Try, ample, refusals};
@@ -56,13 +57,7 @@ fn machines_and_tables(rt: HostRuntime) -> Result<(), Fail> {
     let other = rt.alloc();
     let window = Window::new(0, 4096).ok_or("no window")?;
     let image = load(ample(other)?, PRODUCT.as_slice(), window)?;
-    let unit = |latency: u8| UnitOption {
-        units: 1,
-        latency,
-        price: 0,
-    };
-    let units = [unit(1), unit(3), unit(1), unit(1), unit(1)];
-    let config = Config::new([2, 1, 1, 1, 1, 1], units, 1, 1).ok_or("no configuration")?;
+    let config = one_unit_each([2, 1, 1, 1, 1, 1], [1, 3, 1, 1, 1], 1)?;
     let machine = NewMachine {
         other,
         image: &image,

@@ -7,15 +7,12 @@ use std::test::Fail;
 use std::thread::Threads;
 use tomex_report::AnswerError;
 use tomex_sweep::OpenGate;
-use tomex_tests_fixtures::programs::LOOP_WORDS;
+use tomex_tests_fixtures::programs::{LOOP_WORDS, PRODUCT_WORDS};
 use tomex_tests_fixtures::studies::DROPPED;
 
 /// A study of one program, two numbers of alu stations and a mul unit of latency 3.
 const PRICED: &str = "[[program]]\nname = \"mul\"\nfile = \"mul.bin\"\n[prices]\nalu = 10\n\
     [axes]\nalu = [2, 1]\n[[unit.mul]]\nlatency = 3\n";
-
-/// `addi x1,x0,5; addi x2,x0,7; mul x3,x1,x2; ebreak`
-const MUL: [u32; 4] = [0x00500093, 0x00700113, 0x022081b3, 0x00100073];
 
 const HEADER: &str =
     "row,cost,cycles,alu,mul,div,load,store,bru,alu_units,alu_latency,mul_units,mul_latency,div_units,div_latency,mem_units,mem_latency,bru_units,bru_latency,buses,program,steps,program_cycles,end,regs,watch\n";
@@ -32,7 +29,7 @@ const STUDY_OF_EQUALS: &str =
 static REPORTS: [(&str, &[[u32; 4]], &str); 4] = [
     (
         PRICED,
-        &[MUL],
+        &[PRODUCT_WORDS],
         "1,10,10,1,1,1,1,1,1,1,1,1,3,1,1,1,1,1,1,1,mul,4,10,ebreak,x1=00000005 x2=00000007 x3=00000023,-\n0,20,8,2,1,1,1,1,1,1,1,1,3,1,1,1,1,1,1,1,mul,4,8,ebreak,x1=00000005 x2=00000007 x3=00000023,-\n",
     ),
     (
@@ -47,7 +44,7 @@ static REPORTS: [(&str, &[[u32; 4]], &str); 4] = [
     ),
     (
         STUDY_OF_TWO,
-        &[MUL, LOOP_WORDS],
+        &[PRODUCT_WORDS, LOOP_WORDS],
         "0,0,2008,1,1,1,1,1,1,1,1,1,1,1,1,1,1,1,1,1,mul,4,8,ebreak,x1=00000005 x2=00000007 x3=00000023,-\n0,0,2008,1,1,1,1,1,1,1,1,1,1,1,1,1,1,1,1,1,loop,1000,2000,ebreak,x2=00010000,00000000:9300301f\n",
     ),
 ];

@@ -1,11 +1,12 @@
 //! The texts of tables: those of worked runs, and of tables made by hand.
 
 use std::test::Fail;
-use tomex_config::{Config, UnitOption};
+use tomex_config::Config;
 use tomex_cycle::Machine;
 use tomex_image::{Window, load};
 use tomex_report::tables_text;
 use tomex_rvdec::{PoolId, decode};
+use tomex_tests_fixtures::machines::one_unit_each;
 use tomex_tests_fixtures::programs::PRODUCT_WORDS;
 use tomex_timing::{Busy, Field, Tables, Tag};
 
@@ -23,23 +24,6 @@ const STORED: [u32; 5] = [0x10000413, 0x30000093, 0x00142023, 0x00140103, 0x0010
 
 /// `addi x8,x0,256; lb x2,-1(x8); ebreak`
 const BELOW: [u32; 3] = [0x10000413, 0xfff40103, 0x00100073];
-
-/// A row of one unit a kind and one bus.
-fn config_of(alu_stations: u8, mul_latency: u8, mem_latency: u8) -> Result<Config, Fail> {
-    let unit = |latency: u8| UnitOption {
-        units: 1,
-        latency,
-        price: 0,
-    };
-    let units = [
-        unit(1),
-        unit(mul_latency),
-        unit(1),
-        unit(mem_latency),
-        unit(1),
-    ];
-    Ok(Config::new([alu_stations, 1, 1, 1, 1, 1], units, 1, 1).ok_or("no configuration")?)
-}
 
 /// The text of the tables of a program at address 0 after a cycle.
 fn text_after(
@@ -133,7 +117,12 @@ static WORKED: [(&[u32], [u8; 3], u32, &str); 9] = [
 fn worked_tables(rt: HostRuntime) -> Result<(), Fail> {
     for row in &WORKED {
         let (words, [alu, mul, mem], cycle, wanted) = *row;
-        let text = text_after(&rt, words, &config_of(alu, mul, mem)?, cycle)?;
+        let text = text_after(
+            &rt,
+            words,
+            &one_unit_each([alu, 1, 1, 1, 1, 1], [1, mul, 1, mem, 1], 1)?,
+            cycle,
+        )?;
         assert!(rt; text.as_slice() == wanted.as_bytes());
     }
     Ok(())

@@ -5,28 +5,19 @@ use std::sync::Wait;
 use std::sync::atomic::{AtomicU64, Ordering};
 use std::test::Fail;
 use std::thread::Threads;
-use tomex_config::{Config, Prices, UnitOption};
+use tomex_config::{Config, Prices};
 use tomex_image::{Window, load};
 use tomex_sweep::{FrontRow, Gate, OpenGate, Program, Study, explore, run_all};
+use tomex_tests_fixtures::machines::one_unit_each;
 
 /// `addi x1,x0,2; addi x1,x1,-1; bne x1,x0,-4; ebreak`: five steps, which use the alu and the branch unit.
 const TWICE: [u8; 16] = [
     0x93, 0x00, 0x20, 0x00, 0x93, 0x80, 0xf0, 0xff, 0xe3, 0x9e, 0x00, 0xfe, 0x73, 0x00, 0x10, 0x00,
 ];
 
-/// One unit of this latency.
-fn unit(latency: u8) -> UnitOption {
-    UnitOption {
-        units: 1,
-        latency,
-        price: 0,
-    }
-}
-
 /// A row with an alu and a branch unit of these latencies.
-fn config_of(alu: u8, bru: u8) -> Result<Config, Fail> {
-    let units = [unit(alu), unit(1), unit(1), unit(1), unit(bru)];
-    Ok(Config::new([1; 6], units, 1, 1).ok_or("no configuration")?)
+fn config_with(alu: u8, bru: u8) -> Result<Config, Fail> {
+    one_unit_each([1; 6], [alu, 1, 1, 1, bru], 1)
 }
 
 /// The study of the short loop on rows.
@@ -46,7 +37,7 @@ fn study_on(alloc: Global, rows: Vec<Config>) -> Result<Study, Fail> {
 fn latencies(alloc: Global, count: u32) -> Result<Vec<Config>, Fail> {
     let mut rows = Vec::new(alloc);
     for number in 0..count {
-        rows.push(config_of((number % 64) as u8 + 1, (number / 64 % 64) as u8 + 1)?)?;
+        rows.push(config_with((number % 64) as u8 + 1, (number / 64 % 64) as u8 + 1)?)?;
     }
     Ok(rows)
 }
@@ -81,7 +72,7 @@ static AGAIN: [(u32, u64); 4] = [(0, 1), (5, 1), (6, 0), (1029, 0)];
 fn the_oldest_plateau_goes_first(rt: HostRuntime) -> Result<(), Fail> {
     for (number, more) in &AGAIN {
         let mut rows = latencies(rt.alloc(), 1030)?;
-        rows.push(config_of((*number % 64) as u8 + 1, (*number / 64 % 64) as u8 + 1)?)?;
+        rows.push(config_with((*number % 64) as u8 + 1, (*number / 64 % 64) as u8 + 1)?)?;
         let study = study_on(rt.alloc(), rows)?;
         let (runs, front) = counted(&rt, &study)?;
         assert!(rt; runs == 1030 + *more);
@@ -100,7 +91,7 @@ fn is_of_each_128th(front: &[FrontRow]) -> bool {
 fn a_study_has_as_many_rows_as_it_may(rt: HostRuntime) -> Result<(), Fail> {
     let mut rows = Vec::new(rt.alloc());
     for number in 0..16_384u32 {
-        rows.push(config_of((number % 64) as u8 + 1, (number / 64 % 2) as u8 + 1)?)?;
+        rows.push(config_with((number % 64) as u8 + 1, (number / 64 % 2) as u8 + 1)?)?;
     }
     let study = study_on(rt.alloc(), rows)?;
     let front = explore(&rt, rt.alloc(), &study, 3, &OpenGate)?.front;

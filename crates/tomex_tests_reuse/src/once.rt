@@ -4,12 +4,13 @@ use std::alloc::{AllocError, Global};
 use std::sync::Wait;
 use std::test::Fail;
 use std::thread::Threads;
-use tomex_config::{Config, Prices, UnitOption};
+use tomex_config::{Config, Prices};
 use tomex_image::{Image, Window, load};
 use tomex_rvexec::trace;
 use tomex_sweep::{
     FrontRow, Mark, OpenGate, Outcome, Program, Study, SweepError, explore, run_all,
 };
+use tomex_tests_fixtures::machines::one_unit_each;
 use tomex_tests_fixtures::{Heap, Try, ample, refusals_of};
 use tomex_timing::evaluate::{times, total};
 
@@ -51,23 +52,12 @@ fn program_of(other: Global, words: &[u32], size: u32) -> Result<Program<Heap>, 
     named(other, ample(other)?, image)
 }
 
-/// A plain configuration of so many alu stations and buses.
-fn config_of(stations: u8, buses: u8) -> Result<Config, Fail> {
-    let plain = UnitOption {
-        units: 1,
-        latency: 1,
-        price: 0,
-    };
-    let config = Config::new([stations, 1, 1, 1, 1, 1], [plain; 5], buses, 1);
-    Ok(config.ok_or("no configuration")?)
-}
-
 /// Rows of 1, 2, 3 and so on alu stations, each with 1, 2, 3 and so on buses.
 fn rows_of(other: Global, most_stations: u8, most_buses: u8) -> Result<Vec<Config, Heap>, Fail> {
     let mut configs = Vec::new(ample(other)?);
     for stations in 1..=most_stations {
         for buses in 1..=most_buses {
-            configs.push(config_of(stations, buses)?)?;
+            configs.push(one_unit_each([stations, 1, 1, 1, 1, 1], [1; 5], buses)?)?;
         }
     }
     Ok(configs)

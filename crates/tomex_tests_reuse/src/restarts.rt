@@ -2,10 +2,11 @@
 
 use std::alloc::{AllocError, Allocator, Global};
 use std::test::Fail;
-use tomex_config::{Config, UnitOption};
+use tomex_config::Config;
 use tomex_cycle::Machine;
 use tomex_image::{Image, Window, load};
 use tomex_rvexec::End;
+use tomex_tests_fixtures::machines::one_unit_each;
 use tomex_tests_fixtures::{Heap, ample, heap_of};
 
 /// `addi x8,x0,256; addi x1,x0,768; sw x1,0(x8); mul x5,x1,x1; lb x2,1(x8); sw x5,4(x8); ebreak`
@@ -30,14 +31,8 @@ fn image_of(other: Global, words: &[u32], size: u32) -> Result<Image<Heap>, Fail
 }
 
 /// A configuration with so many alu stations and a multiplier of this latency.
-fn config_of(stations: u8, latency: u8) -> Result<Config, Fail> {
-    let plain = UnitOption {
-        units: 1,
-        latency: 1,
-        price: 0,
-    };
-    let units = [plain, UnitOption { latency, ..plain }, plain, plain, plain];
-    Ok(Config::new([stations, 1, 1, 1, 1, 1], units, 1, 1).ok_or("no configuration")?)
+fn config_with(stations: u8, latency: u8) -> Result<Config, Fail> {
+    one_unit_each([stations, 1, 1, 1, 1, 1], [1, latency, 1, 1, 1], 1)
 }
 
 /// Whether two machines show the same.
@@ -130,7 +125,7 @@ fn is_restarted<'a>(
     second: &'a Image<Heap>,
     cut: u32,
 ) -> Result<bool, Fail> {
-    let (before, after) = (config_of(2, 9)?, config_of(1, 3)?);
+    let (before, after) = (config_with(2, 9)?, config_with(1, 3)?);
     let old = machine_of(other, 2, first, &before, cut)?;
     let new = machine_of(other, 1, second, &after, 0)?;
     Ok(restarts(old, new, second, &after))
@@ -180,7 +175,7 @@ fn refuses<'a>(
     large: &'a Image<Heap>,
     cut: u32,
 ) -> Result<bool, Fail> {
-    let (before, after) = (config_of(2, 9)?, config_of(1, 3)?);
+    let (before, after) = (config_with(2, 9)?, config_with(1, 3)?);
     let old = machine_of(other, 1, first, &before, cut)?;
     let new = machine_of(other, 1, first, &before, cut)?;
     Ok(goes_on(old, new, large, &after))
@@ -197,7 +192,7 @@ fn are_refused(other: Global, first: &Image<Heap>, large: &Image<Heap>) -> Resul
 
 /// Whether a machine takes an image in the memory that it has.
 fn takes<'a>(other: Global, first: &'a Image<Heap>, second: &'a Image<Heap>) -> Result<bool, Fail> {
-    let (before, after) = (config_of(2, 9)?, config_of(1, 3)?);
+    let (before, after) = (config_with(2, 9)?, config_with(1, 3)?);
     let machine = machine_of(other, 1, first, &before, 0)?;
     Ok(machine.restart(second, &after).is_ok())
 }

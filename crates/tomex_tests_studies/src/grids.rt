@@ -4,12 +4,7 @@
 use std::alloc::{AllocError, Global};
 use std::test::Fail;
 use tomex_config::{Axes, Config, GridError, Prices, UnitOption, cost, grid};
-
-const PLAIN: UnitOption = UnitOption {
-    units: 1,
-    latency: 1,
-    price: 0,
-};
+use tomex_tests_fixtures::machines::PLAIN;
 
 /// No value for any part.
 fn empty(alloc: Global) -> Axes {

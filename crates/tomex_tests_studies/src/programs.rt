@@ -7,6 +7,7 @@ use tomex_image::{Image, Window};
 use tomex_rvexec::{Fault, FaultKind};
 use tomex_study::{Program, ProgramError, Study, WatchRange, can_watch};
 use tomex_tests_fixtures::image_of;
+use tomex_tests_fixtures::machines::{PLAIN, config_of};
 use tomex_tests_fixtures::programs::PRODUCT_WORDS;
 
 /// The watch of the first 16 bytes.
@@ -105,17 +106,12 @@ fn a_fault_is_told(rt: HostRuntime) -> Result<(), Fail> {
     Ok(())
 }
 
-/// A row of so many alu stations and two buses, whose unit of multiplications costs 50.
-fn config_of(stations: u8) -> Option<Config> {
-    let plain = UnitOption {
-        units: 1,
-        latency: 1,
-        price: 0,
-    };
-    let mul = UnitOption { price: 50, ..plain };
-    Config::new(
+/// A row of this number of alu stations and two buses, whose unit of multiplications costs 50.
+fn row_of(stations: u8) -> Result<Config, Fail> {
+    let mul = UnitOption { price: 50, ..PLAIN };
+    config_of(
         [stations, 1, 1, 1, 1, 1],
-        [plain, mul, plain, plain, plain],
+        [PLAIN, mul, PLAIN, PLAIN, PLAIN],
         2,
         1,
     )
@@ -128,20 +124,21 @@ fn prices() -> Prices {
 
 /// The study of the product on a row of two alu stations and one of one.
 fn study_of_product(alloc: Global) -> Result<Study, Fail> {
-    let two = config_of(2).ok_or("no configuration")?;
-    let one = config_of(1).ok_or("no configuration")?;
-    let rows = vec![in alloc; two, one]?;
+    let rows = vec![in alloc; row_of(2)?, row_of(1)?]?;
     let programs = vec![in alloc; product(alloc)?]?;
     Ok(Study::new(alloc, programs, rows, prices(), false)?)
 }
 
 /// Whether a study has those two rows at their prices.
-fn has_two_rows(study: &Study) -> bool {
-    study.costs() == [184, 174].as_slice()
-        && study.prices() == prices()
-        && study.rows().len() == 2
-        && study.config(1).copied() == config_of(1)
-        && study.config(2).copied() == None
+fn has_two_rows(study: &Study) -> Result<bool, Fail> {
+    let one = row_of(1)?;
+    Ok(
+        study.costs() == [184, 174].as_slice()
+            && study.prices() == prices()
+            && study.rows().len() == 2
+            && study.config(1).copied() == Some(one)
+            && study.config(2).copied() == None,
+    )
 }
 
 /// Whether a study has the product alone.

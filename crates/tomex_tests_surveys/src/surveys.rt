@@ -7,12 +7,13 @@ ghost use Rattle.tomex_survey.specs.Totals.{totals_of};
 use std::alloc::Global;
 use std::test::Fail;
 use std::thread::Threads;
-use tomex_config::{Config, Prices, UnitOption};
+use tomex_config::{Config, Prices};
 use tomex_front_views::rows_picture;
 use tomex_rows::rows_report;
 use tomex_study::{Program, Study};
 use tomex_survey::{Survey, survey};
 use tomex_tests_fixtures::image_of;
+use tomex_tests_fixtures::machines::{PLAIN, config_of, priced};
 use tomex_tests_fixtures::programs::PRODUCT_WORDS;
 use tomex_workers::OpenGate;
 
@@ -24,25 +25,15 @@ mod random;
 mod too_large;
 mod worth;
 
-/// One unit of this latency, at this price.
-fn unit(latency: u8, price: u32) -> UnitOption {
-    UnitOption {
-        units: 1,
-        latency,
-        price,
-    }
-}
-
 /// 1, 2 or 4 alu stations, a fast and dear or a slow and cheap multiplier, and 1 or 2 buses.
 fn rows_of(alloc: Global) -> Result<Vec<Config>, Fail> {
     let mut rows = Vec::new(alloc);
     for row in 0..12usize {
         let alu = [1, 2, 4][row / 4];
-        let mul = [unit(3, 40), unit(6, 15)][row % 4 / 2];
+        let mul = [priced(3, 40), priced(6, 15)][row % 4 / 2];
         let buses = [1, 2][row % 2];
-        let units = [unit(1, 0), mul, unit(1, 0), unit(1, 0), unit(1, 0)];
-        let config = Config::new([alu, 1, 1, 1, 1, 1], units, buses, 1);
-        rows.push(config.ok_or("no configuration")?)?;
+        let units = [PLAIN, mul, PLAIN, PLAIN, PLAIN];
+        rows.push(config_of([alu, 1, 1, 1, 1, 1], units, buses, 1)?)?;
     }
     Ok(rows)
 }

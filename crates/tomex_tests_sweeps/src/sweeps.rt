@@ -7,25 +7,18 @@ use std::thread::Threads;
 use tomex_config::{Config, Prices, UnitOption};
 use tomex_sweep::{FrontRow, Gate, Mark, OpenGate, Outcome, Program, Study, explore, run_all};
 use tomex_tests_fixtures::image_of;
+use tomex_tests_fixtures::machines::{PLAIN, config_of, priced, unit};
 use tomex_tests_fixtures::programs::{LOOP_WORDS, PRODUCT_WORDS};
 
 mod many;
+mod plain_runs;
+mod random;
 mod refused;
 mod shared;
 
-/// One unit of this latency, at this price.
-fn unit(latency: u8, price: u32) -> UnitOption {
-    UnitOption {
-        units: 1,
-        latency,
-        price,
-    }
-}
-
 /// A row of one station a pool, with an alu unit and a multiplier of these latencies.
-fn config_of(alu: UnitOption, mul: UnitOption) -> Result<Config, Fail> {
-    let units = [alu, mul, unit(1, 0), unit(1, 0), unit(1, 0)];
-    Ok(Config::new([1; 6], units, 1, 1).ok_or("no configuration")?)
+fn with_two(alu: UnitOption, mul: UnitOption) -> Result<Config, Fail> {
+    config_of([1; 6], [alu, mul, PLAIN, PLAIN, PLAIN], 1, 1)
 }
 
 /// A program of this weight.
@@ -52,7 +45,7 @@ fn study_on(alloc: Global, programs: Vec<Program>, rows: Vec<Config>) -> Result<
 fn rows_of(alloc: Global, options: &[(u8, u32)]) -> Result<Vec<Config>, Fail> {
     let mut rows = Vec::new(alloc);
     for (latency, price) in options {
-        rows.push(config_of(unit(*latency, *price), unit(1, 0))?)?;
+        rows.push(with_two(priced(*latency, *price), PLAIN)?)?;
     }
     Ok(rows)
 }
@@ -195,8 +188,8 @@ fn study_of_both(alloc: Global, weight: u32) -> Result<Study, Fail> {
     let mut programs = Vec::new(alloc);
     programs.push(program_of(alloc, "loop", LOOP_WORDS.as_slice(), 1)?)?;
     programs.push(program_of(alloc, "product", PRODUCT_WORDS.as_slice(), weight)?)?;
-    let fast_alu = config_of(unit(1, 5), unit(64, 0))?;
-    let fast_mul = config_of(unit(10, 5), unit(1, 0))?;
+    let fast_alu = with_two(priced(1, 5), unit(64))?;
+    let fast_mul = with_two(priced(10, 5), PLAIN)?;
     study_on(alloc, programs, vec![in alloc; fast_alu, fast_mul]?)
 }
 

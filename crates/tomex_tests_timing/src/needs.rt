@@ -2,28 +2,13 @@
 
 use std::alloc::{AllocError, Global};
 use std::test::Fail;
-use tomex_config::{Config, UnitOption};
+use tomex_config::Config;
 use tomex_rvexec::{Step, trace};
+use tomex_tests_fixtures::machines::one_unit_each;
 use tomex_tests_fixtures::programs::PRODUCT_WORDS;
 use tomex_tests_fixtures::{Attempt, Heap, Try, image_of, refusals};
 use tomex_timing::evaluate::{needs, waits};
 use tomex_timing::{Need, Needs, Part, Waits};
-
-/// One unit of this latency.
-fn unit(latency: u8) -> UnitOption {
-    UnitOption {
-        units: 1,
-        latency,
-        price: 0,
-    }
-}
-
-/// A configuration of one unit a kind, whose div and bru units have latency 1.
-fn config_of(stations: [u8; 6], latencies: [u8; 3], buses: u8) -> Result<Config, Fail> {
-    let [alu, mul, mem] = latencies;
-    let units = [unit(alu), unit(mul), unit(1), unit(mem), unit(1)];
-    Ok(Config::new(stations, units, buses, 1).ok_or("no configuration")?)
-}
 
 /// The trace of a program at address 0.
 fn trace_of(alloc: Global, words: &[u32]) -> Result<Vec<Step>, Fail> {
@@ -141,7 +126,7 @@ static PRODUCT_WAITS: [[u64; 8]; 4] = [
 
 #[test]
 fn a_product_waits_for_its_last_factor(rt: HostRuntime) -> Result<(), Fail> {
-    let config = config_of([2, 1, 1, 1, 1, 1], [1, 3, 1], 1)?;
+    let config = one_unit_each([2, 1, 1, 1, 1, 1], [1, 3, 1, 1, 1], 1)?;
     let (needs, waits) = (&PRODUCT_NEEDS, &PRODUCT_WAITS);
     assert!(rt;
         lacks(
@@ -189,7 +174,7 @@ static FOLLOWED_WAITS: [[u64; 8]; 7] = [
 
 #[test]
 fn the_followed_program_waits_for_its_load(rt: HostRuntime) -> Result<(), Fail> {
-    let config = config_of([2, 1, 1, 1, 1, 1], [1, 5, 2], 1)?;
+    let config = one_unit_each([2, 1, 1, 1, 1, 1], [1, 5, 1, 2, 1], 1)?;
     let (needs, waits) = (&FOLLOWED_NEEDS, &FOLLOWED_WAITS);
     assert!(rt;
         lacks(
@@ -218,8 +203,8 @@ fn are_shared(needs: &Needs, total: u64, operand: u64, buses: [u64; 2], units: [
 
 #[test]
 fn a_second_bus_may_cost_a_cycle(rt: HostRuntime) -> Result<(), Fail> {
-    let one_bus = config_of([1; 6], [2, 3, 2], 1)?;
-    let two_buses = config_of([1; 6], [2, 3, 2], 2)?;
+    let one_bus = one_unit_each([1; 6], [2, 3, 1, 2, 1], 1)?;
+    let two_buses = one_unit_each([1; 6], [2, 3, 1, 2, 1], 2)?;
     let one = needs_of(rt.alloc(), &STORE_BEFORE_LOAD, &one_bus)?;
     let two = needs_of(rt.alloc(), &STORE_BEFORE_LOAD, &two_buses)?;
     // The sum waits for the bus, so the store takes the unit after the load.
@@ -271,7 +256,7 @@ static EACH_CAUSE_WAITS: [[u64; 8]; 11] = [
 
 #[test]
 fn each_cause_is_charged(rt: HostRuntime) -> Result<(), Fail> {
-    let config = config_of([1, 2, 1, 1, 1, 1], [1, 2, 2], 1)?;
+    let config = one_unit_each([1, 2, 1, 1, 1, 1], [1, 2, 1, 2, 1], 1)?;
     let (needs, waits) = (&EACH_CAUSE_NEEDS, &EACH_CAUSE_WAITS);
     assert!(rt;
         lacks(
@@ -293,9 +278,9 @@ fn is_idle(needs: &Needs, part: Part) -> bool {
 
 #[test]
 fn parts_without_stalls_may_be_fewer(rt: HostRuntime) -> Result<(), Fail> {
-    let large = config_of([16; 6], [1, 5, 2], 8)?;
-    let enough = config_of([2, 1, 1, 1, 1, 1], [1, 5, 2], 2)?;
-    let fewer = config_of([1, 1, 1, 1, 1, 1], [1, 5, 2], 2)?;
+    let large = one_unit_each([16; 6], [1, 5, 1, 2, 1], 8)?;
+    let enough = one_unit_each([2, 1, 1, 1, 1, 1], [1, 5, 1, 2, 1], 2)?;
+    let fewer = one_unit_each([1, 1, 1, 1, 1, 1], [1, 5, 1, 2, 1], 2)?;
     let needs = needs_of(rt.alloc(), &FOLLOWED, &large)?;
     // What doesn't divide takes no div station and no div unit.
     assert!(rt; is_idle(&needs, Part::ALL[2]));
@@ -308,7 +293,7 @@ fn parts_without_stalls_may_be_fewer(rt: HostRuntime) -> Result<(), Fail> {
 
 #[test]
 fn no_steps_lack_nothing(rt: HostRuntime) -> Result<(), Fail> {
-    let config = config_of([1; 6], [1; 3], 1)?;
+    let config = one_unit_each([1; 6], [1; 5], 1)?;
     let none: Vec<Step> = Vec::new(rt.alloc());
     let needs = needs(rt.alloc(), none.as_slice(), &config)?;
     assert!(rt; needs.total == 0 && needs.drain() == 0);
@@ -341,7 +326,7 @@ impl<'a> Attempt for Evaluation<'a> {
 
 #[test]
 fn memory_is_refused(rt: HostRuntime) -> Result<(), Fail> {
-    let config = config_of([2, 1, 1, 1, 1, 1], [1, 3, 1], 1)?;
+    let config = one_unit_each([2, 1, 1, 1, 1, 1], [1, 3, 1, 1, 1], 1)?;
     let trace = trace_of(rt.alloc(), &PRODUCT_WORDS)?;
     for by_step in [false, true] {
         let evaluation = Evaluation {

@@ -5,24 +5,10 @@ use std::test::Fail;
 use tomex_config::{Config, UnitOption};
 use tomex_rvexec::trace;
 use tomex_tests_fixtures::image_of;
+use tomex_tests_fixtures::machines::{config_of, one_unit_each, unit};
 use tomex_tests_fixtures::programs::{LOOP_WORDS, PRODUCT_WORDS};
 use tomex_timing::Times;
 use tomex_timing::evaluate::{times, total};
-
-/// One unit of this latency.
-fn unit(latency: u8) -> UnitOption {
-    UnitOption {
-        units: 1,
-        latency,
-        price: 0,
-    }
-}
-
-/// A configuration of one unit of each of these latencies, and one bus.
-fn config_of(stations: [u8; 6], latencies: [u8; 5]) -> Result<Config, Fail> {
-    let units = latencies.map(unit);
-    Ok(Config::new(stations, units, 1, 1).ok_or("no configuration")?)
-}
 
 /// The times of a program at address 0.
 fn times_of(alloc: Global, words: &[u32], config: &Config) -> Result<Vec<Times>, Fail> {
@@ -37,7 +23,7 @@ fn times_of(alloc: Global, words: &[u32], config: &Config) -> Result<Vec<Times>,
 #[test]
 fn a_loop_takes_its_cycles(rt: HostRuntime) -> Result<(), Fail> {
     for (latency, cycles) in [(1, 2000), (10, 6500)] {
-        let config = config_of([1; 6], [latency, 1, 1, 1, 1])?;
+        let config = one_unit_each([1; 6], [latency, 1, 1, 1, 1], 1)?;
         let timed = times_of(rt.alloc(), &LOOP_WORDS, &config)?;
         assert!(rt; timed.len() == 1000);
         assert!(rt; total(timed.as_slice()) == cycles);
@@ -71,7 +57,7 @@ fn loads_of_one_byte_do_not_wait_for_each_other(rt: HostRuntime) -> Result<(), F
         (2, load_times([3, 5, 6, 7, 8], 1), 8),
         (1, load_times([8, 9, 10, 11, 12], 0), 12),
     ] {
-        let config = config_of([1, 1, 1, stations, 1, 1], [1, 1, 1, 2, 1])?;
+        let config = one_unit_each([1, 1, 1, stations, 1, 1], [1, 1, 1, 2, 1], 1)?;
         let timed = times_of(rt.alloc(), &TWO_LOADS, &config)?;
         assert!(rt; are_loads(timed.as_slice(), second));
         assert!(rt; total(timed.as_slice()) == cycles);
@@ -84,7 +70,7 @@ static WAITED_FOR: [u32; 3] = [0x020001b3, 0x00018213, 0x00100073];
 
 #[test]
 fn ends_behind_a_long_product(rt: HostRuntime) -> Result<(), Fail> {
-    let config = config_of([1; 6], [1, 64, 1, 1, 1])?;
+    let config = one_unit_each([1; 6], [1, 64, 1, 1, 1], 1)?;
     let timed = times_of(rt.alloc(), &WAITED_FOR, &config)?;
     assert!(rt; timed.iter().map(|at| at.end).eq([66, 68, 3]));
     assert!(rt; total(timed.as_slice()) == 68);
@@ -93,7 +79,7 @@ fn ends_behind_a_long_product(rt: HostRuntime) -> Result<(), Fail> {
 
 #[test]
 fn no_steps_take_no_cycles(rt: HostRuntime) -> Result<(), Fail> {
-    let config = config_of([1; 6], [1; 5])?;
+    let config = one_unit_each([1; 6], [1; 5], 1)?;
     let timed = times(rt.alloc(), &[], &config)?;
     assert!(rt; total(timed.as_slice()) == 0);
     Ok(())
@@ -133,8 +119,7 @@ fn machine_of(parts: [u8; 4]) -> Result<Config, Fail> {
     let [stations, units, buses, width] = parts;
     let alus = UnitOption { units, ..unit(1) };
     let kinds = [alus, unit(3), unit(1), unit(1), unit(1)];
-    let config = Config::new([stations, 1, 1, 1, 1, 1], kinds, buses, width);
-    Ok(config.ok_or("no configuration")?)
+    config_of([stations, 1, 1, 1, 1, 1], kinds, buses, width)
 }
 
 /// Whether a program's steps issue and end in these cycles on such a machine.

@@ -1,6 +1,6 @@
 //! Machines of programs that fault.
 
-use super::{config_of, cycle_of, holds, image_at_0, machine_of, tick};
+use super::{cycle_of, holds, image_at_0, machine_config, machine_of, tick};
 use std::alloc::Allocator;
 use std::test::Fail;
 use tomex_config::Config;
@@ -62,6 +62,6 @@ fn are_told(rt: &HostRuntime, config: &Config) -> Result<(), Fail> {
 /// On a wide machine the second of a cycle's instructions is told too.
 #[test]
 fn of_each_kind(rt: HostRuntime) -> Result<(), Fail> {
-    are_told(&rt, &config_of([1; 6], [1; 4], 1)?)?;
-    are_told(&rt, &config_of([2; 6], [2, 1, 1, 1], 4)?)
+    are_told(&rt, &machine_config([1; 6], [1; 4], 1)?)?;
+    are_told(&rt, &machine_config([2; 6], [2, 1, 1, 1], 4)?)
 }

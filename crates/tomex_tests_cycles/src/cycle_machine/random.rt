@@ -2,13 +2,14 @@
 
 ghost use Rattle.std.specs.Prelude.{◌≤◌};
 
-use super::{cycle_of, end_of, has_ended, holds, image_at_0, machine_of, tables_of, tick, unit};
+use super::{cycle_of, end_of, has_ended, holds, image_at_0, machine_of, tables_of, tick};
 use std::alloc::{Allocator, Global};
 use std::test::Fail;
 use tomex_config::Config;
 use tomex_cycle::{Machine, Progress};
 use tomex_image::Image;
 use tomex_rvexec::{End, Operand, run, trace};
+use tomex_tests_fixtures::machines::{config_of, unit};
 use tomex_timing::evaluate::{times, total};
 use tomex_timing::{Busy, Done, Field, Tables, Tag};
 
@@ -309,16 +310,13 @@ static ROWS: [Row; 10] = [
 ];
 
 /// The configuration of a row.
-fn config_of(row: &Row) -> Result<Config, Fail> {
+fn config_of_row(row: &Row) -> Result<Config, Fail> {
     let (stations, units, latencies, buses, width) = *row;
-    let kinds = [
-        unit(units[0], latencies[0]),
-        unit(units[1], latencies[1]),
-        unit(units[2], latencies[2]),
-        unit(units[3], latencies[3]),
-        unit(units[4], latencies[4]),
-    ];
-    Ok(Config::new(stations, kinds, buses, width).ok_or("no configuration")?)
+    let mut kinds = latencies.map(unit);
+    for kind in 0..5usize {
+        kinds[kind].units = units[kind];
+    }
+    config_of(stations, kinds, buses, width)
 }
 
 /// Runs a program on each row, and compares each cycle.
@@ -329,7 +327,7 @@ fn compare_rows(
     random: &mut Random,
 ) -> Result<(), Fail> {
     for row in rows {
-        compare(rt, words, &config_of(row)?, random)?;
+        compare(rt, words, &config_of_row(row)?, random)?;
     }
     Ok(())
 }

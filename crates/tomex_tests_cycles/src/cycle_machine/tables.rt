@@ -1,8 +1,8 @@
 //! The tables of a machine after a cycle: its busy stations, and the register status.
 
 use super::{
-    INDIRECT, STORED, TWO_ALU, WRITTEN_TWICE, config_of, holds, image_at_0, machine_of, tables_of,
-    tick,
+    INDIRECT, STORED, TWO_ALU, WRITTEN_TWICE, holds, image_at_0, machine_config, machine_of,
+    tables_of, tick,
 };
 use Field::{Unread, Value, Waits};
 use std::alloc::Allocator;
@@ -202,7 +202,7 @@ static SHOWN: [Shown; 7] = [
 
 /// The tables of its program show what it says.
 fn compare(rt: &HostRuntime, shown: &Shown) -> Result<(), Fail> {
-    let config = config_of(shown.pools, shown.parts, shown.width)?;
+    let config = machine_config(shown.pools, shown.parts, shown.width)?;
     let tables = tables_after(rt, shown.words, &config, shown.cycle)?;
     show(&tables, shown.stations, shown.status)
 }
@@ -228,7 +228,7 @@ fn runs_on<A: Allocator>(machine: &mut Machine<A>) -> bool {
 /// A machine that knows a run before it makes it can't have this one: `jal x0,0` has no end.
 #[test]
 fn a_jump_to_itself_runs_on(rt: HostRuntime) -> Result<(), Fail> {
-    let config = config_of([1; 6], [1; 4], 1)?;
+    let config = machine_config([1; 6], [1; 4], 1)?;
     let image = image_at_0(&rt, [0x0000006f].as_slice())?;
     let mut machine = machine_of(&rt, &image, &config)?;
     assert!(rt; runs_on(&mut machine));

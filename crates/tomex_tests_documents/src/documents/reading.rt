@@ -7,12 +7,7 @@ use tomex_config::Config;
 use tomex_rvdec::PoolId;
 use tomex_study::{Program, Study, WatchRange};
 use tomex_study_reader::{StudyError, file_names, read_study};
-
-/// `addi x1,x0,5; addi x2,x0,7; mul x3,x1,x2; ebreak`
-const PRODUCT: &[u8; 16] = b"\x93\x00\x50\x00\x13\x01\x70\x00\xb3\x81\x20\x02\x73\x00\x10\x00";
-
-/// `addi x1,x0,499; addi x1,x1,-1; bne x1,x0,-4; ebreak`, 1,000 steps
-const LOOP: &[u8; 16] = b"\x93\x00\x30\x1f\x93\x80\xf0\xff\xe3\x9e\x00\xfe\x73\x00\x10\x00";
+use tomex_tests_fixtures::programs::{ELF, LOOP, PRODUCT};
 
 /// What a study and its files come to.
 fn reading<R: AllocGlobal>(
@@ -130,15 +125,6 @@ fn the_first_program_that_fails_is_named(rt: HostRuntime) -> Result<(), Fail> {
     }
     Ok(())
 }
-
-/// The product as an ELF file of 100 bytes, to be loaded at 65536: a header, a program header from 52 on, and from 84
-/// on the code.
-const ELF: &[u8; 100] = b"\x7fELF\x01\x01\x01\x00\x00\x00\x00\x00\x00\x00\x00\x00\
-    \x02\x00\xf3\x00\x01\x00\x00\x00\x00\x00\x01\x00\x34\x00\x00\x00\
-    \x00\x00\x00\x00\x00\x00\x00\x00\x34\x00\x20\x00\x01\x00\x00\x00\x00\x00\x00\x00\
-    \x01\x00\x00\x00\x54\x00\x00\x00\x00\x00\x01\x00\x00\x00\x01\x00\
-    \x10\x00\x00\x00\x20\x00\x00\x00\x05\x00\x00\x00\x04\x00\x00\x00\
-    \x93\x00\x50\x00\x13\x01\x70\x00\xb3\x81\x20\x02\x73\x00\x10\x00";
 
 /// The file with this byte at this place, and so many more program headers after the first one, each of them `apart`
 /// bytes of memory after the one before.

@@ -1,12 +1,13 @@
 //! Studies that have too many intervals for a table of prices.
 
-use super::{program_of, study_on, surveyed, unit};
+use super::{program_of, study_on, surveyed};
 use std::alloc::Global;
 use std::test::Fail;
 use std::thread::Threads;
 use tomex_config::{Config, Prices};
 use tomex_prices::{PricesError, prices_table};
 use tomex_study::Study;
+use tomex_tests_fixtures::machines::{PLAIN, config_of, priced};
 use tomex_tests_fixtures::programs::PRODUCT_WORDS;
 
 /// This number of rows, all of which are on the front: they differ only in the prices of four options each, which no
@@ -14,9 +15,8 @@ use tomex_tests_fixtures::programs::PRODUCT_WORDS;
 fn equals(alloc: Global, count: u32) -> Result<Study, Fail> {
     let mut rows = Vec::new(alloc);
     for price in 0..count.min(1_000) {
-        let (a, b) = (unit(1, price), unit(1, 1_000 - price));
-        let config = Config::new([1; 6], [a, b, a, b, unit(1, 0)], 1, 1);
-        rows.push(config.ok_or("no configuration")?)?;
+        let (a, b) = (priced(1, price), priced(1, 1_000 - price));
+        rows.push(config_of([1; 6], [a, b, a, b, PLAIN], 1, 1)?)?;
     }
     let programs = vec![in alloc; program_of(alloc, "mul", PRODUCT_WORDS.as_slice(), 1)?]?;
     study_on(alloc, programs, rows, Prices::new([0; 6], 0, 0))

@@ -2,13 +2,14 @@
 //! these rows is so.
 
 use super::random::Random;
-use super::{by_hand, holds_for, surveyed, unit};
+use super::{by_hand, holds_for, surveyed};
 use std::alloc::Global;
 use std::test::Fail;
 use tomex_config::Config;
 use tomex_pareto::FrontRow;
 use tomex_rvdec::{PoolId, UnitId};
 use tomex_study::Study;
+use tomex_tests_fixtures::machines::{PLAIN, config_of, priced};
 use tomex_worth::worth_table;
 
 /// The lines of each table: the names, the machine itself, and as many as the lists' entries less one of each: a list
@@ -23,12 +24,11 @@ fn grid(alloc: Global) -> Result<Vec<Config>, Fail> {
     let mut rows = Vec::new(alloc);
     for row in 0..24usize {
         let alu = [1, 2, 4][row / 8];
-        let mul = [unit(2, 9), unit(5, 3)][row % 8 / 4];
+        let mul = [priced(2, 9), priced(5, 3)][row % 8 / 4];
         let buses = [1, 2][row % 4 / 2];
         let width = [1, 2][row % 2];
-        let units = [unit(1, 2), mul, unit(4, 1), unit(2, 3), unit(1, 0)];
-        let config = Config::new([alu, 2, 1, 1, 2, 1], units, buses, width);
-        rows.push(config.ok_or("no configuration")?)?;
+        let units = [priced(1, 2), mul, priced(4, 1), priced(2, 3), PLAIN];
+        rows.push(config_of([alu, 2, 1, 1, 2, 1], units, buses, width)?)?;
     }
     Ok(rows)
 }

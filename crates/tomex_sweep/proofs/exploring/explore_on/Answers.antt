@@ -10,10 +10,10 @@ close_rest-requires-clause-count g c = c.in_ok-marks.ensures.count
 pub close_rest-requires-clause-lawful : goal.close_rest-requires-clause-lawful
 close_rest-requires-clause-lawful g c = c.in_ok-marks.ensures.lawful
 
-pub returns-clause-front : goal.returns-clause-front
-returns-clause-front g c =
-    judged_front c.args.study.now _ _ _ c.keeps_limits.ensures c.in_ok-gathered.ensures.judged c.as_slice.ensures.value
-    c.costs-costs.ensures.value c.in_ok-front.ensures
-
-pub returns-clause-gathered : goal.returns-clause-gathered
-returns-clause-gathered g c = c.in_ok-gathered.ensures.counted ∙ none_left _ c.in_ok-marks.ensures.closed
+pub returns : goal.returns
+returns g c = record {
+  marks = c.in_ok-gathered.ensures.judged;
+  front = judged_front c.args.study.now _ _ _ c.keeps_limits.ensures c.in_ok-gathered.ensures.judged
+      c.as_slice.ensures.value c.costs-costs.ensures.value c.in_ok-front.ensures;
+  gathered = c.in_ok-gathered.ensures.counted ∙ none_left _ c.in_ok-marks.ensures.closed;
+}

@@ -1,31 +1,31 @@
-//! Why there is no log.
+//! Why there is no excerpt.
 
 ghost use Rattle.std.specs.Prelude.{◌≡◌};
-ghost use Rattle.tomex_konata.specs.declared.log_error.LogError.TheVariants.{Memory};
+ghost use Rattle.tomex_run_views.specs.declared.excerpt_error.ExcerptError.TheVariants.{Memory};
 
 use std::alloc::{AllocError, AllocFailed};
 
-/// Why steps of a run have no log.
+/// Why a run has no such steps to show.
 #[derive(Clone, Copy, Debug, Drop, PartialEq, Eq)]
-pub enum LogError {
+pub enum ExcerptError {
     /// The run ends before the first of them.
     NoSuchStep,
     /// Memory was refused.
     Memory,
 }
 
-impl From<AllocError> for LogError {
+impl From<AllocError> for ExcerptError {
     ghost from_gives = { λ _ e. e ≡ Memory };
 
     fn from(_error: AllocError) -> Self {
-        LogError::Memory
+        ExcerptError::Memory
     }
 }
 
-impl<T: Drop> From<AllocFailed<T>> for LogError {
+impl<T: Drop> From<AllocFailed<T>> for ExcerptError {
     ghost from_gives = { λ _ e. e ≡ Memory };
 
     fn from(_error: AllocFailed<T>) -> Self {
-        LogError::Memory
+        ExcerptError::Memory
     }
 }

@@ -1,0 +1,44 @@
+-- An excerpt of a run: some neighbouring steps, and their times on a configuration.
+use Rattle.std.specs.Prelude.{◌≡◌, ◌-◌, ◌<◌, ◌≤◌, ◌×◌, ◌^◌, ℕ, List, Unit, drop, length, take}
+use Rattle.tomex_steps.specs.declared.step.Step.{Step}
+use Rattle.tomex_config.specs.Configuration.{Configuration}
+use Rattle.tomex_timing.specs.Search.{times_in, total_of}
+use Rattle.tomex_timing.specs.declared.times.Times.{Times}
+use Rattle.tomex_run_views.specs.declared.excerpt_error.ExcerptError.{ExcerptError}
+use Rattle.tomex_run_views.specs.declared.excerpt_error.ExcerptError.TheVariants.{Memory, NoSuchStep}
+
+-- the number of the first of them, the run's first step being number 1; the steps in program order; a time each
+pub record TimedSteps : Type 0 where
+  pub number : ℕ
+  pub steps : List Step
+  pub times : List Times
+
+-- what is shown of a list: `count` at most, from a number on; the first is number 1
+abbrev pub shown : {X : Type 0} → ℕ → ℕ → List X → List X
+shown number count xs = take count (drop (number - 1) xs)
+
+-- the steps of a run that are shown, and their times on a configuration
+abbrev pub excerpt_of : Configuration → List Step → ℕ → ℕ → TimedSteps
+excerpt_of config steps number count = record {
+  number = number;
+  steps = shown number count steps;
+  times = shown number count (times_in config steps);
+}
+
+-- what each excerpt of a program's run has: its numbers are those of a run, and its cycles too
+pub record IsExcerpt (e : TimedSteps) : Type 0 where
+  pub number : 0 < e.number
+  pub pairs : length e.times ≡ length e.steps
+  pub short : length e.steps ≤ 262144
+  pub numbers : e.number < 2 ^ 32
+  pub bound : total_of e.times < 2 ^ 32
+
+-- it is the one that is asked for
+pub record IsExcerptOf (config : Configuration) (steps : List Step) (number count : ℕ) (e : TimedSteps) : Type 0 where
+  pub there : number ≤ length steps
+  pub is : e ≡ excerpt_of config steps number count
+
+-- why there is none
+abbrev pub HasNoExcerpt : List Step → ℕ → ExcerptError → Type 0
+HasNoExcerpt steps number NoSuchStep = length steps < number
+HasNoExcerpt steps number Memory = Unit {0}

@@ -1,0 +1,123 @@
+//! Excerpts of runs.
+
+ghost use Rattle.std.specs.Prelude.{◌≡◌, ◌-◌, ◌<◌, ◌≤◌, IfErr, IfOk, IsErrOf, drop, length, take};
+ghost use Rattle.tomex_rvexec.specs.Run.{start_of};
+ghost use Rattle.tomex_rvexec.specs.Trace.{steps_from};
+ghost use Rattle.tomex_run_views.specs.Excerpt.{HasNoExcerpt, IsExcerpt, IsExcerptOf};
+
+use crate::excerpt_error::ExcerptError;
+use std::alloc::Allocator;
+use std::marker::Model;
+use tomex_config::Config;
+use tomex_rvexec::Step;
+use tomex_study::Program;
+use tomex_timing::Times;
+use tomex_timing::evaluate::times;
+
+/// Neighbouring steps of a program's run, and when they happen on a configuration.
+#[derive(Drop)]
+pub struct Excerpt<'a, A: Allocator> {
+    /// The number of the first of them; the run's first step is number 1.
+    number: u32,
+    steps: &'a [Step],
+    /// The times of all steps of the run.
+    run_times: Vec<Times, A>,
+    /// How many steps are shown at most.
+    count: usize,
+}
+
+impl<'a, A: Allocator> Model for Excerpt<'a, A> {
+    ghost use Rattle.std.specs.Prelude.{◌-◌, ◌≤◌, ◌×◌, drop, length, take};
+    ghost use Rattle.tomex_run_views.specs.Excerpt.{IsExcerpt, TimedSteps};
+
+    ghost Value = { TimedSteps };
+
+    ghost view = { λ e. record {
+      number = e.number;
+      steps = e.steps.now;
+      times = take e.count (drop (e.number - 1) e.run_times.items);
+    } };
+
+    ghost invariant = { λ e. (e.number - 1 ≤ length e.run_times.items) × IsExcerpt (record {
+      number = e.number;
+      steps = e.steps.now;
+      times = take e.count (drop (e.number - 1) e.run_times.items);
+    }) };
+}
+
+/// `count` of these at most, after the first ones.
+fn part_of<T>(items: &[T], skipped: usize, count: usize) -> &[T]
+    requires { skipped ≤ length items.now }
+    ensures { result.now ≡ take count (drop skipped items.now) }
+{
+    let rest = &items[skipped..];
+    let end = count.min(rest.len());
+    &rest[..end]
+}
+
+impl<'a, A: Allocator + Clone> Excerpt<'a, A> {
+    /// At most `count` steps of a program's run on a configuration, from step `number` on; the first step is
+    /// number 1. All steps of the run are timed.
+    pub fn new(
+        alloc: A,
+        program: &'a Program<A>,
+        config: &Config,
+        number: u32,
+        count: u32,
+    ) -> Result<Excerpt<'a, A>, ExcerptError>
+        requires { 0 < number }
+        ensures steps { IfOk result (λ e. IsExcerptOf config.now
+            (steps_from program.now.limit (start_of program.now.image)) number count e) }
+        ensures refused { IfErr result (λ error. HasNoExcerpt
+            (steps_from program.now.limit (start_of program.now.image)) number error) }
+        ensures no_step { length (steps_from program.now.limit (start_of program.now.image)) < number
+            → IsErrOf result ExcerptError.NoSuchStep }
+    {
+        let steps = program.steps();
+        if steps.len() < number as usize {
+            return Err(ExcerptError::NoSuchStep);
+        }
+        let run_times = times(alloc, steps, config)?;
+        let count = count as usize;
+        Ok(Excerpt {
+            number,
+            steps: part_of(steps, number as usize - 1, count),
+            run_times,
+            count,
+        })
+    }
+}
+
+impl<'a, A: Allocator> Excerpt<'a, A> {
+    /// A law: there is a time for each step, at most 262,144 of them, and their numbers and cycles are below 2^32.
+    pub fn keeps_limits(&self)
+        ensures { IsExcerpt self.now }
+    {
+        let _number = self.number;
+    }
+
+    /// The number of the first step.
+    pub fn number(&self) -> u64
+        ensures { result ≡ self.now.number }
+    {
+        u64::from(self.number)
+    }
+
+    /// The steps, in program order.
+    pub fn steps(&self) -> &[Step]
+        ensures { result.now ≡ self.now.steps }
+    {
+        self.steps
+    }
+
+    /// When each of them happens.
+    pub fn times(&self) -> &[Times]
+        ensures { result.now ≡ self.now.times }
+    {
+        part_of(
+            self.run_times.as_slice(),
+            self.number as usize - 1,
+            self.count,
+        )
+    }
+}

@@ -1,0 +1,14 @@
+-- What an exploration gives.
+use Rattle.std.specs.Prelude.{◌≡◌, ℕ, List}
+use Rattle.tomex_board.specs.declared.mark.Mark.{Mark}
+use Rattle.tomex_pareto.specs.declared.front_row.FrontRow.{FrontRow}
+use Rattle.tomex_row_runs.specs.Cycles.{cycles_of}
+use Rattle.tomex_row_runs.specs.StudyFront.{front_of_study}
+use Rattle.tomex_study.specs.Study.{DesignSpace}
+use Rattle.tomex_sweep.specs.Marks.{AreJudged}
+
+-- a mark for each row, the front of all rows, and how many rows were run after the workers: none
+pub record IsExploration (s : DesignSpace) (marks : List Mark) (front : List FrontRow) (gathered : ℕ) : Type 0 where
+  pub marks : AreJudged s.costs (cycles_of s) marks
+  pub front : front ≡ front_of_study s
+  pub gathered : gathered ≡ 0
