@@ -162,6 +162,6 @@ pub fn konata_text<A: Allocator + Clone>(
     ensures no_step { length (steps_from program.now.limit (start_of program.now.image)) < number
         → IsErrOf result ExcerptError.NoSuchStep }
 {
-    let excerpt = Excerpt::new(alloc.clone()?, program, config, number, count)?;
+    let excerpt = Excerpt::new(&alloc, program, config, number, count)?;
     Ok(log_of(alloc, heap, &excerpt)?)
 }

@@ -7,7 +7,8 @@ use Rattle.tomex_steps.specs.declared.step.Step.{Step}
 use Rattle.tomex_config.specs.Configuration.{Configuration, plain}
 use Rattle.tomex_timing.specs.Search.{times_in, times_of}
 use Rattle.tomex_timing.proofs.Programs.{product, two_results, stored_and_loaded, two_alu_stations, with_latency}
-use Rattle.tomex_run_views.specs.Chart.{line_of, picture_of, shown, sign_in}
+use Rattle.tomex_run_views.specs.Chart.{line_of, picture_of, sign_in}
+use Rattle.tomex_run_views.specs.Excerpt.{shown}
 
 -- the picture of so many steps from a number on
 abbrev picture : ℕ → ℕ → Configuration → List Step → List ℕ

@@ -27,7 +27,7 @@ pub struct Excerpt<'a, A: Allocator> {
 }
 
 impl<'a, A: Allocator> Model for Excerpt<'a, A> {
-    ghost use Rattle.std.specs.Prelude.{◌-◌, ◌≤◌, ◌×◌, drop, length, take};
+    ghost use Rattle.std.specs.Prelude.{◌-◌, ◌≤◌, drop, length, take};
     ghost use Rattle.tomex_run_views.specs.Excerpt.{IsExcerpt, TimedSteps};
 
     ghost Value = { TimedSteps };
@@ -59,7 +59,7 @@ impl<'a, A: Allocator + Clone> Excerpt<'a, A> {
     /// At most `count` steps of a program's run on a configuration, from step `number` on; the first step is
     /// number 1. All steps of the run are timed.
     pub fn new(
-        alloc: A,
+        alloc: &A,
         program: &'a Program<A>,
         config: &Config,
         number: u32,
@@ -77,7 +77,7 @@ impl<'a, A: Allocator + Clone> Excerpt<'a, A> {
         if steps.len() < number as usize {
             return Err(ExcerptError::NoSuchStep);
         }
-        let run_times = times(alloc, steps, config)?;
+        let run_times = times(alloc.clone()?, steps, config)?;
         let count = count as usize;
         Ok(Excerpt {
             number,

@@ -120,7 +120,7 @@ pub fn pipeline_text<A: Allocator + Clone>(
     ensures no_step { length (steps_from program.now.limit (start_of program.now.image)) < number
         → IsErrOf result PictureError.NoSuchStep }
 {
-    let excerpt = Excerpt::new(alloc.clone()?, program, config, number, count)?;
+    let excerpt = Excerpt::new(&alloc, program, config, number, count)?;
     excerpt.keeps_limits();
     if is_too_large(excerpt.times()) {
         return Err(PictureError::TooLarge);
