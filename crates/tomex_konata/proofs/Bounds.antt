@@ -1,5 +1,5 @@
 -- The places and the cycles of a log's steps and events, and that its events in their order are written as the log.
-use Rattle.std.proofs.Common.{◌≡◌, ◌∙◌, ap, ap₂, sym, subst, refl, arith, inl, inr, ℕ, zero, suc, ◌+◌, ◌<◌, ◌≤◌, ◌==◌}
+use Rattle.std.proofs.Common.{◌≡◌, ◌∙◌, ap, sym, subst, refl, arith, inl, inr, ℕ, zero, suc, ◌+◌, ◌<◌, ◌≤◌, ◌==◌}
 use Rattle.std.proofs.Common.{Bool, false, cond, List, [], ◌∷◌, ◌++◌, append_assoc, length, map, Some, Ok, Err, Vec}
 use Rattle.std.specs.Prelude.{All, IfOk, Result, nat_lt, not, ◌&&◌}
 use Rattle.std.specs.List.{filter, flat_map, list_any, slice_get}
@@ -12,7 +12,7 @@ use Rattle.std.proofs.lemmas.List.Sorted.{All-permutation}
 use Rattle.std.proofs.lemmas.List.Sums.{sum_by-cons}
 use Rattle.tomex_steps.specs.declared.step.Step.{Step}
 use Rattle.tomex_config.specs.Configuration.{Configuration}
-use Rattle.tomex_timing.specs.Search.{times_in, total_of}
+use Rattle.tomex_timing.specs.Search.{total_of}
 use Rattle.tomex_timing.specs.declared.times.Done.{Done}
 use Rattle.tomex_timing.specs.declared.times.Times.{Times}
 use Rattle.tomex_konata.specs.declared.entries.Entry.{Entry}

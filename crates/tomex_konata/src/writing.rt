@@ -3,6 +3,7 @@
 ghost use Rattle.std.specs.Prelude.{◌≡◌, ◌+◌, ◌-◌, ◌<◌, ◌^◌, ◌++◌, All, length, IfErr, IfOk, IsErrOf, OnOk, string_bytes};
 ghost use Rattle.tomex_rvexec.specs.Run.{start_of};
 ghost use Rattle.tomex_rvexec.specs.Trace.{steps_from};
+ghost use Rattle.tomex_timing.specs.Search.{total_of};
 ghost use Rattle.tomex_run_views.specs.Excerpt.{HasNoExcerpt};
 ghost use Rattle.tomex_konata.specs.Konata.{IsLogOf, head_of, log_of, next_since, with_cycle};
 ghost use Rattle.tomex_konata.specs.Kept.{event_lines, gone_after, written};
@@ -14,7 +15,9 @@ use std::alloc::{AllocError, Allocator, Global};
 use std::fmt::Write;
 use tomex_config::Config;
 use tomex_run_views::{Excerpt, ExcerptError, first_issue};
+use tomex_rvexec::Step;
 use tomex_study::Program;
+use tomex_timing::Times;
 use tomex_timing::evaluate::total;
 
 /// Adds the lines of an event, if it has any.
@@ -118,24 +121,26 @@ fn text_of<A: Allocator>(
     Ok(text.into_bytes())
 }
 
-/// The log of an excerpt. What is small is taken of `heap`.
+/// The log of steps with these times, from a number on.
 fn log_of<A: Allocator + Clone>(
     alloc: A,
     heap: Global,
-    excerpt: &Excerpt<A>,
+    number: u64,
+    steps: &[Step],
+    times: &[Times],
 ) -> Result<Vec<u8, A>, AllocError>
-    ensures { IfOk result
-        (λ text. text.items ≡ log_of excerpt.now.number excerpt.now.steps excerpt.now.times) }
+    requires pairs { length times.now ≡ length steps.now }
+    requires few { number + length steps.now < 2 ^ 63 }
+    requires bound { total_of times.now < 2 ^ 32 }
+    ensures { IfOk result (λ text. text.items ≡ log_of number steps.now times.now) }
 {
-    excerpt.keeps_limits();
-    let times = excerpt.times();
     let first = first_issue(times);
-    let entries = entries_of(alloc.clone()?, excerpt.steps(), times)?;
+    let entries = entries_of(alloc.clone()?, steps, times)?;
     let events = ordered_events(alloc.clone()?, entries.as_slice(), total(times) + 1)?;
     text_of(
         alloc,
         heap,
-        excerpt.number(),
+        number,
         first,
         entries.as_slice(),
         events.as_slice(),
@@ -163,5 +168,12 @@ pub fn konata_text<A: Allocator + Clone>(
         → IsErrOf result ExcerptError.NoSuchStep }
 {
     let excerpt = Excerpt::new(&alloc, program, config, number, count)?;
-    Ok(log_of(alloc, heap, &excerpt)?)
+    excerpt.keeps_limits();
+    Ok(log_of(
+        alloc,
+        heap,
+        excerpt.number(),
+        excerpt.steps(),
+        excerpt.times(),
+    )?)
 }

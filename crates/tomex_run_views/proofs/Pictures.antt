@@ -1,14 +1,14 @@
 -- What a picture's loops have written one turn later, and that the steps shown end no later than the whole run.
-use Rattle.std.proofs.Common.{◌≡◌, ◌∙◌, ap, ap₂, sym, subst, refl, arith, ℕ, zero, suc, ◌+◌, ◌-◌, ◌*◌, ◌^◌, ◌<◌, ◌≤◌}
+use Rattle.std.proofs.Common.{◌≡◌, ◌∙◌, ap, ap₂, sym, subst, refl, arith, ℕ, zero, suc, ◌+◌, ◌-◌, ◌<◌, ◌≤◌}
 use Rattle.std.proofs.Common.{List, [], ◌∷◌, ◌++◌, append_assoc, drop, get_or, length, true, false}
-use Rattle.std.specs.Prelude.{codes, min, nat_lt}
+use Rattle.std.specs.Prelude.{codes, nat_lt}
 use Rattle.std.specs.Fmt.{decimal}
 use Rattle.std.specs.List.{flat_map, range_with_len}
-use Rattle.std.proofs.lemmas.List.{append-nil, drop_all, length-take}
+use Rattle.std.proofs.lemmas.List.{append-nil, drop_all}
 use borrow.Author.Tests.{ltb-false, ltb-true}
 use Rattle.tomex_steps.specs.declared.step.Step.{Step}
 use Rattle.tomex_config.specs.Configuration.{Configuration}
-use Rattle.tomex_timing.specs.Search.{times_in, total_of}
+use Rattle.tomex_timing.specs.Search.{total_of}
 use Rattle.tomex_timing.specs.declared.times.Times.{Times}
 use Rattle.tomex_run_views.specs.Chart.{IsPictureOf, chart, first_issue, frame_of, line_of, lines_of, most_signs}
 use Rattle.tomex_run_views.specs.Chart.{picture_of, sign_in, signs_of, signs_shown}

@@ -1,6 +1,6 @@
 -- The picture of some steps of a run: a line a step, with a column for each cycle after its instruction.
 use Rattle.std.specs.Prelude.{◌≡◌, ℕ, ◌+◌, ◌-◌, ◌*◌, ◌<◌, ◌≤◌, ◌==◌, nat_le, nat_lt, ◌&&◌, if◌then◌else◌}
-use Rattle.std.specs.Prelude.{max, List, [], ◌∷◌, ◌++◌, codes, drop, length, take, Option, Some, None}
+use Rattle.std.specs.Prelude.{max, List, [], ◌∷◌, ◌++◌, codes, length, Option, Some, None}
 use Rattle.std.specs.List.{flat_map, range_with_len}
 use Rattle.std.specs.Fmt.{decimal}
 use Rattle.tomex_rvdec.specs.Text.{instr_text}

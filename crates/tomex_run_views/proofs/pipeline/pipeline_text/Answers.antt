@@ -1,6 +1,6 @@
 -- The steps shown are those that were asked for.
 use Rattle.std.proofs.Common.{◌∙◌, rules, sym}
-use Rattle.tomex_run_views.proofs.Pictures.{pictured, too_large}
+use Rattle.tomex_run_views.proofs.Pictures.{pictured}
 use Rattle.tomex_run_views.proofs.pipeline.pipeline_text.Goals as goal
 
 pub returns : goal.returns
