@@ -1,17 +1,16 @@
 -- What a picture's loops have written one turn later, and that the steps shown end no later than the whole run.
 use Rattle.std.proofs.Common.{◌≡◌, ◌∙◌, ap, ap₂, sym, subst, refl, arith, ℕ, zero, suc, ◌+◌, ◌-◌, ◌<◌, ◌≤◌}
-use Rattle.std.proofs.Common.{List, [], ◌∷◌, ◌++◌, append_assoc, drop, get_or, length, true, false}
-use Rattle.std.specs.Prelude.{codes, nat_lt}
+use Rattle.std.proofs.Common.{List, [], ◌∷◌, ◌++◌, append_assoc, drop, get_or, length}
+use Rattle.std.specs.Prelude.{codes}
 use Rattle.std.specs.Fmt.{decimal}
 use Rattle.std.specs.List.{flat_map, range_with_len}
 use Rattle.std.proofs.lemmas.List.{append-nil, drop_all}
-use borrow.Author.Tests.{ltb-false, ltb-true}
 use Rattle.tomex_steps.specs.declared.step.Step.{Step}
 use Rattle.tomex_config.specs.Configuration.{Configuration}
 use Rattle.tomex_timing.specs.Search.{total_of}
 use Rattle.tomex_timing.specs.declared.times.Times.{Times}
 use Rattle.tomex_run_views.specs.Chart.{IsPictureOf, chart, first_issue, frame_of, line_of, lines_of, most_signs}
-use Rattle.tomex_run_views.specs.Chart.{picture_of, sign_in, signs_of, signs_shown}
+use Rattle.tomex_run_views.specs.Chart.{picture_of, sign_in, signs_of}
 use Rattle.tomex_run_views.specs.Excerpt.{IsExcerptOf, TimedSteps}
 use Rattle.tomex_run_views.specs.declared.lines.Frame.{Frame}
 
@@ -91,21 +90,10 @@ drawn_is number first last steps times frame none head text bytes empty begun mo
 
 -- the text is the picture that was asked for
 pub pictured : (config : Configuration) (run : List Step) (number count : ℕ) (e : TimedSteps) (text : List ℕ)
-    → IsExcerptOf config run number count e → nat_lt most_signs (signs_of e.times) ≡ false
+    → IsExcerptOf config run number count e → signs_of e.times ≤ most_signs
     → text ≡ picture_of e.number e.steps e.times → IsPictureOf config run number count text
 pictured config run number count e text asked few is = record {
   there = asked.there;
-  drawn = subst (λ (x : TimedSteps). signs_of x.times ≤ most_signs) asked.is
-      (ltb-false most_signs (signs_of e.times) few);
+  drawn = subst (λ (x : TimedSteps). signs_of x.times ≤ most_signs) asked.is few;
   is = is ∙ ap (λ (x : TimedSteps). picture_of x.number x.steps x.times) asked.is;
 }
-
--- there is none since there are too many signs
-pub too_large : (config : Configuration) (run : List Step) (number count : ℕ) (e : TimedSteps)
-    → IsExcerptOf config run number count e → nat_lt most_signs (signs_of e.times) ≡ true
-    → (number ≤ length run) × (most_signs < signs_shown config run number count)
-too_large config run number count e asked many = (
-  asked.there,
-  subst (λ (x : TimedSteps). most_signs < signs_of x.times) asked.is
-      (ltb-true most_signs (signs_of e.times) many),
-)

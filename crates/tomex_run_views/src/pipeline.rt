@@ -31,15 +31,14 @@ pub fn first_issue(times: &[Times]) -> u64
     }
 }
 
-/// Whether steps with these times have too many signs.
-fn is_too_large(times: &[Times]) -> bool
-    requires few { length times.now ≤ 262144 }
-    requires bound { total_of times.now < 2 ^ 32 }
-    ensures { result ≡ nat_lt most_signs (signs_of times.now) }
+/// How many signs the picture of an excerpt has: its lines times its columns.
+pub fn signs_of<A: Allocator>(excerpt: &Excerpt<A>) -> u64
+    ensures { result ≡ signs_of excerpt.now.times }
 {
+    excerpt.keeps_limits();
+    let times = excerpt.times();
     let columns = (total(times) + 1).saturating_sub(first_issue(times));
-    let signs = times.len() as u64 * columns;
-    MOST_SIGNS < signs
+    times.len() as u64 * columns
 }
 
 /// How long the longest instruction of some steps is.
@@ -73,8 +72,8 @@ fn frame_of<A: Allocator>(heap: Global, excerpt: &Excerpt<A>) -> Result<Frame, A
     })
 }
 
-/// The picture of an excerpt. What is small is taken of `heap`.
-fn picture_of<A: Allocator, B: Allocator>(
+/// The picture of an excerpt, whatever its size. What is small is taken of `heap`.
+pub fn picture_of<A: Allocator, B: Allocator>(
     alloc: A,
     heap: Global,
     excerpt: &Excerpt<B>,
@@ -121,8 +120,7 @@ pub fn pipeline_text<A: Allocator + Clone>(
         → IsErrOf result PictureError.NoSuchStep }
 {
     let excerpt = Excerpt::new(&alloc, program, config, number, count)?;
-    excerpt.keeps_limits();
-    if is_too_large(excerpt.times()) {
+    if MOST_SIGNS < signs_of(&excerpt) {
         return Err(PictureError::TooLarge);
     }
     Ok(picture_of(alloc, heap, &excerpt)?)
