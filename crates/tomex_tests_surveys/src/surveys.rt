@@ -22,6 +22,7 @@ mod intervals;
 mod percents;
 mod plain_runs;
 mod random;
+mod shares;
 mod too_large;
 mod worth;
 

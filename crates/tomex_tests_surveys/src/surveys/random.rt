@@ -56,6 +56,11 @@ impl Random {
         }
     }
 
+    /// A number from 0 to this one.
+    pub(super) fn to(&mut self, greatest: u64) -> u64 {
+        u64::from(self.next()) % greatest.saturating_add(1).max(1)
+    }
+
     /// A number from 1 to 4, mostly a low one.
     fn few(&mut self) -> u8 {
         let turn = self.next();
