@@ -33,7 +33,7 @@ has_place q (x ∷ xs) (suc k) r low at = inr (has_place q xs k r (omega arith) 
 
 -- rows of one number are one
 
-same_row : (rows : List FrontRow) (x y : FrontRow) → AreApart rows → Has rows x → Has rows y → x.row ≡ y.row → x ≡ y
+pub same_row : (rows : List FrontRow) (x y : FrontRow) → AreApart rows → Has rows x → Has rows y → x.row ≡ y.row → x ≡ y
 same_row [] x y far hx hy e = absurd hx
 same_row (z ∷ zs) x y far (inl i) (inl j) e = sym i ∙ j
 same_row (z ∷ zs) x y far (inl i) (inr t) e =
@@ -42,7 +42,7 @@ same_row (z ∷ zs) x y far (inr s) (inl j) e =
     absurd (all_has (λ q. z.row ≢ q.row) zs x far.0 s (ap (λ (v : FrontRow). v.row) j ∙ sym e))
 same_row (z ∷ zs) x y far (inr s) (inr t) e = same_row zs x y far.1 s t e
 
-number_has : (xs : List FrontRow) (n : ℕ) → list_any (λ x. x.row == n) xs ≡ true → (x : FrontRow) × Has xs x
+pub number_has : (xs : List FrontRow) (n : ℕ) → list_any (λ x. x.row == n) xs ≡ true → (x : FrontRow) × Has xs x
     × (x.row ≡ n)
 number_has [] n e = absurd (false≢true e)
 number_has (x ∷ xs) n e = elim (cases_Bool (x.row == n)) [

@@ -9,6 +9,7 @@ use Rattle.tomex_config.specs.Configuration.{Configuration, plain}
 use Rattle.tomex_config.specs.Cost.{PriceList}
 use Rattle.tomex_pareto.specs.Front.{front_of, rows_from}
 use Rattle.tomex_pareto.specs.declared.front_row.FrontRow.{FrontRow}
+use Rattle.tomex_pareto.proofs.Finished.{IsAt}
 use Rattle.tomex_pareto.proofs.Pareto.{contains_has}
 use Rattle.tomex_study.specs.Study.{DesignSpace, IsStudy, costs_of}
 use Rattle.tomex_row_runs.specs.Cycles.{cycles_of}
@@ -69,11 +70,10 @@ priced_at price prices n (suc k) (c ∷ cs) (y ∷ ys) d low less =
     priced_at price prices (suc n) k cs ys d (omega arith) (omega arith)
     ∙ ap (λ (m : ℕ). with_price_apart price prices m (get_or cs k plain) (get_or ys k 0)) e
 
--- with a price apart, it is one of the rows with that price apart
-pub row_apart : (s : DesignSpace) (price : Price) (r : FrontRow) → IsStudy s → Contains (front_of_study s) r
+-- with a price apart, a row is one of the rows with that price apart
+pub row_at_apart : (s : DesignSpace) (price : Price) (r : FrontRow) → IsStudy s → IsAt 0 s.costs (cycles_of s) r
     → Contains (rows_with s price) (row_with s price r)
-row_apart s price r is one =
-    let at = front_row_at s r one in
+row_at_apart s price r is at =
     let costs = as_many_costs s is in
     let cycles = as_many_cycles s in
     let is_k : at.k ≡ r.row = (let n = at.number in omega arith) in
@@ -88,6 +88,10 @@ row_apart s price r is one =
           ∙ (ap (λ (y : ℕ). with_price_apart price s.prices at.k (get_or s.rows at.k plain) y) (sym at.cycles_are)
           ∙ ap row is_k)),
     )
+
+pub row_apart : (s : DesignSpace) (price : Price) (r : FrontRow) → IsStudy s → Contains (front_of_study s) r
+    → Contains (rows_with s price) (row_with s price r)
+row_apart s price r is one = row_at_apart s price r is (front_row_at s r one)
 
 pub is_there : (front : List FrontRow) (r : FrontRow) → Contains front r → is_on front r.row ≡ true
 is_there front r one = has_number front r (contains_has front one.0 r one.1 one.2)

@@ -8,4 +8,6 @@ pub mod Studies
 pub mod Prices
 pub mod PriceLaws
 pub mod Percent
+pub mod AllPrices
+pub mod Together
 pub mod PricesTable

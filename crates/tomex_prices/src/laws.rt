@@ -1,9 +1,12 @@
 //! Laws of the prices at which a row stays. These functions do nothing: their contracts are the laws.
 
+ghost use Rattle.tomex_prices.specs.AllPrices.{IsStatedAtHundred, LeavesBeyondPercent, StaysIfHundred};
+ghost use Rattle.tomex_prices.specs.AllPrices.{StaysWithinPercent};
 ghost use Rattle.tomex_prices.specs.Laws.{IsOnFrontExactlyWithin, StaysExactlyWithin};
 ghost use Rattle.tomex_prices.specs.PriceLaws.{HoldsAllIfIrrelevant, HoldsStated};
 ghost use Rattle.tomex_prices.specs.Repriced.{CostsSplit, IsOnRepricedExactlyWithin, StatedCostsStay};
 ghost use Rattle.tomex_prices.specs.Studies.{IsOnStudyExactlyWithin};
+ghost use Rattle.tomex_prices.specs.Together.{IsStatedAtStated, StaysByShares};
 
 /// A row that no other dominates at the price as it is stated stays so at exactly the prices of its interval.
 pub fn stays_exactly_within()
@@ -41,4 +44,21 @@ pub fn stated_prices_are_within()
 /// The interval of a price that isn't relevant holds all prices.
 pub fn irrelevant_prices_are_any()
     ensures { HoldsAllIfIrrelevant }
+{}
+
+/// With all prices wrong at once, each by a factor of its own, a row of the front stays on it if none is wrong by more
+/// than the percentage that is computed of the row, and whatever the prices if that is 100. If it is less, one percent
+/// more can be too much. Factors are in hundredths: if all are 100, costs are those that are stated.
+pub fn all_prices_may_be_wrong_by_the_percentage()
+    ensures stays { StaysWithinPercent }
+    ensures whatever { StaysIfHundred }
+    ensures leaves { LeavesBeyondPercent }
+    ensures stated { IsStatedAtHundred }
+{}
+
+/// If several prices move at once, each by a share of its way to an end of its interval, and the shares add up to at
+/// most the whole, a row of the front stays on it. If all are as they are stated, so are costs.
+pub fn prices_may_move_by_shares()
+    ensures stays { StaysByShares }
+    ensures stated { IsStatedAtStated }
 {}

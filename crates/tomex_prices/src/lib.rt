@@ -14,9 +14,9 @@ mod table;
 
 pub use intervals::{PriceRange, interval, interval_of};
 pub use laws::{
-    costs_split, irrelevant_prices_are_any, on_front_exactly_within,
-    on_front_of_study_exactly_within, on_repriced_front_exactly_within, stated_prices_are_within,
-    stays_exactly_within,
+    all_prices_may_be_wrong_by_the_percentage, costs_split, irrelevant_prices_are_any,
+    on_front_exactly_within, on_front_of_study_exactly_within, on_repriced_front_exactly_within,
+    prices_may_move_by_shares, stated_prices_are_within, stays_exactly_within,
 };
 pub use percents::percent;
 pub use price::{GREATEST_PRICE, Price, same_option};
