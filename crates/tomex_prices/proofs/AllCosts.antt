@@ -1,12 +1,11 @@
 -- What a configuration costs is the sum of all prices of the study, each as often as the configuration pays it.
-use Rattle.std.proofs.Common.{◌≡◌, ◌∙◌, ◌+◌, ◌*◌, ◌<◌, ℕ, zero, suc, ap, arith, refl, sym, subst}
-use Rattle.std.proofs.Common.{Bool, true, false, inl, inr, not, cond, List, [], ◌∷◌, ◌++◌, get_or, length, map}
+use Rattle.std.proofs.Common.{◌≡◌, ◌∙◌, ◌+◌, ◌*◌, ◌<◌, ℕ, zero, suc, ap, arith, refl, sym}
+use Rattle.std.proofs.Common.{true, false, inl, inr, not, cond, List, [], ◌∷◌, ◌++◌, get_or, length, map}
 use Rattle.std.specs.Prelude.{sum_by}
 use Rattle.std.specs.List.{filter, flat_map}
 use Rattle.std.proofs.lemmas.Bool.{cases_Bool, eq-eqb}
 use Rattle.std.proofs.lemmas.List.Sums.{sum_by-append, sum_by-cons}
 use Rattle.std.proofs.Math.Nat.{mul_comm}
-use Rattle.tomex_rvdec.specs.declared.pool.PoolId.{PoolId}
 use Rattle.tomex_rvdec.specs.declared.pool.PoolId.TheVariants as pools
 use Rattle.tomex_rvdec.specs.declared.pool.UnitId.{UnitId}
 use Rattle.tomex_rvdec.specs.declared.pool.UnitId.TheVariants as units

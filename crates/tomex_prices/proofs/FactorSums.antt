@@ -1,34 +1,17 @@
 -- What two configurations pay at factors of the prices, beside what they differ by.
-use Rattle.std.proofs.Common.{◌≡◌, ◌≢◌, ◌∙◌, ◌+◌, ◌-◌, ◌*◌, ◌/◌, ◌<◌, ◌≤◌, ◌⊎◌, ◌&&◌, inl, inr, ℕ, zero, suc, ap, arith}
-use Rattle.std.proofs.Common.{refl, sym, subst, Bool, true, false, cond, List, [], ◌∷◌, get_or, length, map}
-use Rattle.std.specs.Prelude.{min, nat_le, nat_lt, sum_by}
+use Rattle.std.proofs.Common.{◌≡◌, ◌+◌, ◌-◌, ◌*◌, ◌≤◌, inl, inr, ℕ, ap, arith}
+use Rattle.std.proofs.Common.{sym, subst, cond, List, [], ◌∷◌}
+use Rattle.std.specs.Prelude.{nat_lt, sum_by}
 use Rattle.std.specs.Int.{abs_diff}
-use Rattle.std.specs.List.{Contains, list_any}
-use Rattle.std.proofs.lemmas.Bool.{and_from, cases_Bool, cases_lt, le-leb, le-ltb, lt-leb, lt-ltb, true≢false}
-use Rattle.std.proofs.lemmas.List.{get_or-map}
+use Rattle.std.proofs.lemmas.Bool.{cases_Bool, cases_lt, le-ltb, lt-ltb}
 use Rattle.std.proofs.lemmas.List.Sums.{sum_by-cons}
-use Rattle.std.proofs.lemmas.Nat.{le-div}
-use Rattle.std.proofs.Math.Nat.{add-mul, div-mul-le_self, mul-add, mul-le-mul_left, mul-le-mul_right}
-use Rattle.tomex_config.specs.Configuration.{Configuration, plain}
-use Rattle.tomex_config.specs.Cost.{PriceList, cost_of}
-use Rattle.tomex_pareto.specs.Front.{front_of}
-use Rattle.tomex_pareto.specs.declared.front_row.FrontRow.{FrontRow}
-use Rattle.tomex_pareto.specs.Pareto.{Dominates}
-use Rattle.tomex_pareto.proofs.Finished.{row_at, rows_apart}
-use Rattle.tomex_pareto.proofs.Pareto.{AllOf, AreApart, Has, IsFree, contains_has, front_is}
-use Rattle.tomex_study.specs.Study.{DesignSpace, IsStudy}
-use Rattle.tomex_row_runs.specs.Cycles.{cycles_of}
-use Rattle.tomex_row_runs.specs.StudyFront.{all_rows, front_of_study}
+use Rattle.std.proofs.Math.Nat.{add-mul, mul-add, mul-le-mul_left, mul-le-mul_right}
+use Rattle.tomex_config.specs.Configuration.{Configuration}
+use Rattle.tomex_config.specs.Cost.{PriceList}
 use Rattle.tomex_prices.specs.declared.price.Price.{Price}
-use Rattle.tomex_prices.specs.AllPrices.{AreWithin, Factors, IsStatedAtHundred, LeavesBeyondPercent, StaysIfHundred}
-use Rattle.tomex_prices.specs.AllPrices.{StaysWithinPercent, cost_times, is_on_at, row_times}
-use Rattle.tomex_prices.specs.Percent.{difference, least_percent, percent_for, percent_of}
+use Rattle.tomex_prices.specs.AllPrices.{AreWithin, Factors}
 use Rattle.tomex_prices.specs.Price.{paid, stated}
-use Rattle.tomex_prices.specs.Prices.{prices_of}
-use Rattle.tomex_prices.specs.Studies.{config_of}
-use Rattle.tomex_prices.proofs.AllCosts.{cost_is_shares, share}
-use Rattle.tomex_prices.proofs.AllRows.{as_many_costs}
-use Rattle.tomex_prices.proofs.OnFront.{has_number, number_has, same_row}
+use Rattle.tomex_prices.proofs.AllCosts.{share}
 
 -- one price: f is its factor, s what it is stated as, a and b how often the row and a rival pay it
 

@@ -1,16 +1,12 @@
 -- All rows of a study with other costs: a row is on the front if each rival that is no slower costs enough more.
-use Rattle.std.proofs.Common.{◌≡◌, ◌≢◌, ◌∙◌, ◌+◌, ◌-◌, ◌*◌, ◌/◌, ◌<◌, ◌≤◌, ◌⊎◌, ◌&&◌, inl, inr, ℕ, zero, suc, ap, arith}
+use Rattle.std.proofs.Common.{◌≡◌, ◌≢◌, ◌∙◌, ◌+◌, ◌<◌, ◌≤◌, inl, inr, ℕ, ap, arith}
 use Rattle.std.proofs.Common.{refl, sym, subst, Bool, true, false, cond, List, [], ◌∷◌, get_or, length, map}
-use Rattle.std.specs.Prelude.{min, nat_le, nat_lt, sum_by}
-use Rattle.std.specs.Int.{abs_diff}
-use Rattle.std.specs.List.{Contains, list_any}
-use Rattle.std.proofs.lemmas.Bool.{and_from, cases_Bool, cases_lt, le-leb, le-ltb, lt-leb, lt-ltb, true≢false}
+use Rattle.std.specs.Prelude.{nat_lt, sum_by}
+use Rattle.std.specs.List.{Contains}
+use Rattle.std.proofs.lemmas.Bool.{cases_Bool, cases_lt, le-ltb, lt-ltb}
 use Rattle.std.proofs.lemmas.List.{get_or-map}
-use Rattle.std.proofs.lemmas.List.Sums.{sum_by-cons}
-use Rattle.std.proofs.lemmas.Nat.{le-div}
-use Rattle.std.proofs.Math.Nat.{add-mul, div-mul-le_self, mul-add, mul-le-mul_left, mul-le-mul_right}
-use Rattle.tomex_config.specs.Configuration.{Configuration, plain}
-use Rattle.tomex_config.specs.Cost.{PriceList, cost_of}
+use Rattle.tomex_config.specs.Configuration.{plain}
+use Rattle.tomex_config.specs.Cost.{cost_of}
 use Rattle.tomex_pareto.specs.Front.{front_of}
 use Rattle.tomex_pareto.specs.declared.front_row.FrontRow.{FrontRow}
 use Rattle.tomex_pareto.specs.Pareto.{Dominates}
@@ -19,11 +15,6 @@ use Rattle.tomex_pareto.proofs.Pareto.{AllOf, AreApart, Has, IsFree, contains_ha
 use Rattle.tomex_study.specs.Study.{DesignSpace, IsStudy}
 use Rattle.tomex_row_runs.specs.Cycles.{cycles_of}
 use Rattle.tomex_row_runs.specs.StudyFront.{all_rows, front_of_study}
-use Rattle.tomex_prices.specs.declared.price.Price.{Price}
-use Rattle.tomex_prices.specs.AllPrices.{AreWithin, Factors, IsStatedAtHundred, LeavesBeyondPercent, StaysIfHundred}
-use Rattle.tomex_prices.specs.AllPrices.{StaysWithinPercent, cost_times, is_on_at, row_times}
-use Rattle.tomex_prices.specs.Percent.{difference, least_percent, percent_for, percent_of}
-use Rattle.tomex_prices.specs.Price.{paid, stated}
 use Rattle.tomex_prices.specs.Prices.{prices_of}
 use Rattle.tomex_prices.specs.Studies.{config_of}
 use Rattle.tomex_prices.proofs.AllCosts.{cost_is_shares, share}

@@ -1,15 +1,14 @@
 -- Prices that move together, each by a share of its way to an end of its interval.
-use Rattle.std.proofs.Common.{◌≡◌, ◌∙◌, ◌+◌, ◌-◌, ◌*◌, ◌/◌, ◌<◌, ◌≤◌, ◌&&◌, inl, inr, ℕ, zero, suc, ap, arith}
-use Rattle.std.proofs.Common.{refl, sym, subst, true, false, cond, List, [], ◌∷◌, get_or, length}
-use Rattle.std.specs.Prelude.{max, min, nat_le, nat_lt, sum_by}
+use Rattle.std.proofs.Common.{◌≡◌, ◌∙◌, ◌+◌, ◌-◌, ◌*◌, ◌/◌, ◌<◌, ◌≤◌, inl, inr, ℕ, zero, suc, ap, arith}
+use Rattle.std.proofs.Common.{refl, sym, subst, List, [], ◌∷◌, get_or, length}
+use Rattle.std.specs.Prelude.{max, min, sum_by}
 use Rattle.std.specs.List.{Contains}
 use Rattle.std.proofs.lemmas.Bool.{cases_lt, le-leb, lt-ltb}
 use Rattle.std.proofs.lemmas.List.Sums.{sum_by-cons}
 use Rattle.std.proofs.Math.Nat.{add-mul, div-mul-le_self, le_of_mul-le-mul_right, mul-add, mul-le-mul_left, mul-le-mul_right, mul_assoc, mul_comm}
-use Rattle.tomex_config.specs.Configuration.{Configuration, plain}
-use Rattle.tomex_config.specs.Cost.{PriceList}
+use Rattle.tomex_config.specs.Configuration.{plain}
 use Rattle.tomex_pareto.specs.declared.front_row.FrontRow.{FrontRow}
-use Rattle.tomex_pareto.proofs.Finished.{IsAt, row_at}
+use Rattle.tomex_pareto.proofs.Finished.{row_at}
 use Rattle.tomex_pareto.proofs.Pareto.{Has, contains_has}
 use Rattle.tomex_study.specs.Study.{DesignSpace, IsStudy}
 use Rattle.tomex_row_runs.specs.Cycles.{cycles_of}
@@ -19,7 +18,6 @@ use Rattle.tomex_prices.specs.declared.priced_row.PricedRow.{PricedRow}
 use Rattle.tomex_prices.specs.Interval.{cost_at, fall, least, most, rise, slack}
 use Rattle.tomex_prices.specs.Price.{paid, stated}
 use Rattle.tomex_prices.specs.Prices.{prices_of}
-use Rattle.tomex_prices.specs.Repriced.{cost_with}
 use Rattle.tomex_prices.specs.Studies.{config_of, interval_of, row_with, rows_with}
 use Rattle.tomex_prices.specs.Together.{IsShareOfWay, IsStatedAtStated, StaysByShares, Values, cost_at_values}
 use Rattle.tomex_prices.proofs.AllCosts.{share}
