@@ -1,6 +1,6 @@
 //! The reservation table: how many units of each kind, and how many buses, are taken in the cycles ahead.
 
-ghost use Rattle.std.specs.Prelude.{◌≡◌, ℕ, ◌+◌, ◌-◌, ◌^◌, ◌<◌, ◌≤◌, OnErr, OnOk, length, max, []};
+ghost use Rattle.std.specs.Prelude.{◌≡◌, ℕ, ◌+◌, ◌-◌, ◌^◌, ◌<◌, ◌≤◌, IfOk, OnErr, OnOk, length, max, []};
 ghost use Rattle.tomex_reservations.specs.Reservations.{Reserved, is_left, taken_at, taken_with, IsFirst};
 
 use std::alloc::{AllocError, Allocator};
@@ -145,6 +145,36 @@ impl<A: Allocator> ReservationTable<A> {
         self.grow(place)?;
         self.slots[place][line] += 1;
         Ok(())
+    }
+
+    /// Takes one of a line in the first cycle from `from` on in which fewer are taken than there are. Past the cycle
+    /// `bound` none are.
+    #[inline(always)]
+    pub fn reserve(
+        &mut self,
+        line: usize,
+        most: u8,
+        from: u64,
+        bound: u64,
+    ) -> Result<Room, AllocError>
+        requires line { line < 6 }
+        requires most { 1 ≤ most }
+        requires ahead { self.old.base ≤ from }
+        requires quiet { (t : ℕ) → bound < t → taken_at self.old line t ≡ 0 }
+        requires from { from < 2 ^ 63 + 128 }
+        requires small { bound < 2 ^ 63 }
+        ensures first { IfOk result (λ r. IsFirst from (is_left self.old line most) r.cycle) }
+        ensures taken { IfOk result (λ r. r.taken ≡ taken_at self.old line r.cycle + 1) }
+        ensures from { IfOk result (λ r. from ≤ r.cycle) }
+        ensures by { IfOk result (λ r. r.cycle ≤ max from (bound + 1)) }
+        ensures base { self.new.base ≡ self.old.base }
+        ensures with { IfOk result (λ r. (l t : ℕ) → l < 6 → self.old.base ≤ t
+            → taken_at self.new l t ≡ taken_with self.old line r.cycle l t) }
+        ensures refused { OnErr result ((l t : ℕ) → taken_at self.new l t ≡ taken_at self.old l t) }
+    {
+        let room = self.first(line, most, from, bound);
+        self.take(line, room.cycle)?;
+        Ok(room)
     }
 
     /// Lets go of the cycles before one, if they are many: nothing that is asked lies there any more.

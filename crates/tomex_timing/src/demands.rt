@@ -32,7 +32,7 @@ impl Demand {
     /// Notes a step that takes that much of the part at once and waits for it for that many cycles.
     // Both are rare, so that a step costs two comparisons.
     #[inline(always)]
-    fn note(&mut self, taken: u64, waited: u64)
+    pub(crate) fn note(&mut self, taken: u64, waited: u64)
         ensures { self.new ≡ demand_after self.old taken waited }
     {
         if self.peak < taken {
@@ -56,7 +56,7 @@ fn note_station(demands: &mut [Demand; 6], pool: Option<PoolId>, taken: u64, wai
 
 /// The same of its kind of unit.
 #[inline(always)]
-fn note_unit(demands: &mut [Demand; 5], unit: Option<UnitId>, taken: u64, waited: u64)
+pub(crate) fn note_unit(demands: &mut [Demand; 5], unit: Option<UnitId>, taken: u64, waited: u64)
     ensures { demands.new ≡ units_asked unit taken waited demands.old }
 {
     if let Some(unit) = unit {

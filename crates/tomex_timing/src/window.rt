@@ -205,6 +205,23 @@ impl<A: Allocator> Window<A> {
             (λ _. self.new.accesses.items ≡ accesses_after facts.now at.now self.old.accesses.items) }
     {
         reserve(&mut self.table, facts, at)?;
+        self.keep_taken(facts, at)
+    }
+
+    /// The same of a step whose unit and bus are taken already, except that the table lets go of nothing.
+    #[inline(always)]
+    pub fn keep_taken(&mut self, facts: &Facts, at: &Times) -> Result<(), AllocError>
+        requires register { IfSome facts.now.dest (λ r. r < 32) }
+        requires few { self.old.latest.issued < 2 ^ 63 }
+        requires station { IfSome at.now.station (λ n. n < 16) }
+        ensures latest { IfOk result
+            (λ _. self.new.latest ≡ latest_after facts.now at.now self.old.latest) }
+        ensures table { self.new.table ≡ self.old.table }
+        ensures stations { IfOk result
+            (λ _. self.new.stations.ends ≡ ends_after facts.now at.now self.old.stations.ends) }
+        ensures accesses { IfOk result
+            (λ _. self.new.accesses.items ≡ accesses_after facts.now at.now self.old.accesses.items) }
+    {
         keep_access(&mut self.accesses, facts, at)?;
         if let (Some(pool), Some(number)) = (facts.pool, at.station) {
             self.stations.take(pool, number, at.end);
