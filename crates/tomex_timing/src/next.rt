@@ -1,6 +1,6 @@
 //! The times of the next step, by what is kept of those before.
 
-ghost use Rattle.std.specs.Prelude.{◌≡◌, ℕ, ◌+◌, ◌-◌, ◌^◌, ◌<◌, ◌≤◌, None, max, IfSome};
+ghost use Rattle.std.specs.Prelude.{◌≡◌, ℕ, ◌+◌, ◌-◌, ◌^◌, ◌<◌, ◌≤◌, None, max, IfSome, slice_index};
 ghost use Rattle.tomex_config.specs.Configuration.{IsWithinLimits, option_of};
 ghost use Rattle.tomex_rvdec.specs.Parts.{place_of_unit};
 ghost use Rattle.tomex_timing.specs.Ahead.{IsIdle, IsNextBy, IsSettledBy, TakesBus, TakesStation, end_in};
@@ -40,14 +40,13 @@ pub(crate) struct Next {
 }
 
 /// The end of the producer of what a register holds, 0 without a register.
+// Without one it is x0's, so that no jump depends on it.
 pub(crate) fn end_of(latest: &Latest, register: Option<u8>) -> u64
-    requires { IfSome register (λ r. r < 32) }
+    requires register { IfSome register (λ r. r < 32) }
+    requires zero { slice_index latest.now.ends 0 ≡ 0 }
     ensures { result ≡ end_in latest.now.ends register }
 {
-    match register {
-        None => 0,
-        Some(register) => latest.ends[register as usize],
-    }
+    latest.ends[usize::from(register.unwrap_or(0))]
 }
 
 /// The first cycle that is in program order, with room for an issue, and later than each branch's
