@@ -1,7 +1,7 @@
 -- One step more: what is counted of its demands is what its needs say of them.
 use Rattle.std.proofs.Common.{ℕ, ◌+◌, ◌*◌, ◌^◌, ◌<◌, ◌≤◌, ◌∙◌, ◌≡◌, [], length, ap, arith, refl, sym, Bool, true, false, List, Option, Some, None}
 use Rattle.std.proofs.Common.{map, take, zero, suc}
-use Rattle.std.specs.Prelude.{◌==◌, max, nat_lt, not, ◌||◌, slice_index_or}
+use Rattle.std.specs.Prelude.{◌==◌, is_some, max, nat_lt, not, ◌||◌, slice_index_or}
 use Rattle.std.proofs.Math.ListN.{get_or-map}
 use Rattle.std.proofs.Math.ListN.{set}
 use Rattle.std.proofs.lemmas.Bool.{lt-ltb, ne_eqb}
@@ -10,6 +10,7 @@ use Rattle.tomex_rvdec.specs.Parts.{place_of_pool, place_of_unit}
 use Rattle.tomex_rvdec.specs.declared.pool.PoolId.{PoolId}
 use Rattle.tomex_rvdec.specs.declared.pool.UnitId.{UnitId}
 use Rattle.tomex_steps.specs.declared.step.Step.{Step}
+use Rattle.tomex_steps.proofs.Fields.{bytes_of_memory}
 use Rattle.tomex_config.specs.Configuration.{Configuration, IsWithinLimits}
 use Rattle.tomex_reservations.specs.Reservations.{Reserved}
 use Rattle.tomex_timing.specs.declared.accesses.Access.{Access}
@@ -39,7 +40,7 @@ use Rattle.tomex_timing.proofs.Needed.{needs_none}
 use Rattle.tomex_timing.proofs.Shown.{IsShown}
 use Rattle.tomex_timing.proofs.ShownTurns.{IsStep, held_turn}
 use Rattle.tomex_timing.proofs.Turns.{end_bound, issued_bound}
-use Rattle.tomex_timing.specs.Window.{AreFacts, latest_after}
+use Rattle.tomex_timing.specs.Window.{AreFacts, facts_of, is_memory_pool, latest_after}
 
 or_none : (b : Bool) → b ≡ (b || false)
 or_none true = refl
@@ -119,6 +120,10 @@ held_demands config steps i x f latest table taken accesses next demands waits t
           ∙ (ap (λ (n : ℕ). demands_after f waits takes (max next.at.end n) (demands_of before.needs)) total
           ∙ sym (demands_more f waits takes next.at before.needs));
     }
+
+-- what touches bytes is of the pools of loads and stores
+pub touches : (x : Step) (f : Facts) → f ≡ facts_of x → is_some f.bytes ≡ is_memory_pool f.pool
+touches x f is = rw is (bytes_of_memory x)
 
 -- so what a step leaves shows the steps up to it
 pub asked_turn : (config : Configuration) (steps : List Step) (i : ℕ) (x : Step) (f : Facts) (latest : Latest)

@@ -1,6 +1,6 @@
 //! A run's next step timed, noted and kept in one walk, for what a run asks of a configuration's parts.
 
-ghost use Rattle.std.specs.Prelude.{◌≡◌, ℕ, ◌+◌, ◌-◌, ◌^◌, ◌<◌, ◌≤◌, ◌&&◌, ◌==◌, Some, IfOk, IsSome, is_some};
+ghost use Rattle.std.specs.Prelude.{◌≡◌, ℕ, ◌+◌, ◌-◌, ◌^◌, ◌<◌, ◌≤◌, ◌&&◌, ◌==◌, Some, IfOk, is_some};
 ghost use Rattle.std.specs.Prelude.{if◌then◌else◌};
 ghost use Rattle.tomex_config.specs.Configuration.{option_of};
 ghost use Rattle.tomex_reservations.specs.Reservations.{IsFirst, bus_line, is_left, taken_at, taken_with};
@@ -10,14 +10,14 @@ ghost use Rattle.tomex_timing.specs.Ahead.{RunsOn, end_in, one, with_own};
 ghost use Rattle.tomex_timing.specs.Demands.{demand_after, demands_after, stations_asked, units_asked};
 ghost use Rattle.tomex_timing.specs.History.{cycle_of, is_of};
 ghost use Rattle.tomex_timing.specs.Waiting.{past_branches, taken_from, waits_by};
-ghost use Rattle.tomex_timing.specs.Window.{HasRegisters, latest_after};
+ghost use Rattle.tomex_timing.specs.Window.{HasRegisters, is_memory_pool, latest_after};
 
 use crate::accesses::past_conflicts;
-use crate::demands::{Demand, Demands, note_unit};
+use crate::demands::{Demand, Demands};
 use crate::next::{Marks, Next, address_of, end_of, issue_from, next_step, ready_of};
 use crate::times::Times;
 use crate::waiting::{taken_by, waits_of};
-use crate::window::{Facts, Latest, Window};
+use crate::window::{Facts, Latest, Window, keep_access};
 use std::alloc::{AllocError, Allocator};
 use tomex_config::Config;
 use tomex_reservations::{BUSES, ReservationTable, Room};
@@ -32,12 +32,13 @@ struct Slots {
     end: Room,
 }
 
-/// A step's issue: the cycle from which on it lacks no slot and no branch, the cycle of its issue, its station's number
-/// in its pool, and its address cycle.
+/// A step's issue: the cycle from which on it lacks no slot and no branch, the cycle of its issue, how many issue in it
+/// up to this one, its station's number in its pool, and its address cycle.
 #[derive(Clone, Copy)]
 struct Issued {
     from: u64,
     cycle: u64,
+    count: u64,
     number: u8,
     address: Option<u64>,
 }
@@ -112,12 +113,7 @@ fn take_slots<A: Allocator>(
         ≡ taken_at table.old bus_line t + one (is_some facts.now.dest && s.end.cycle == t)) }
 {
     let start = table.reserve(unit.place(), config.units(unit), clear, bound)?;
-    note_unit(
-        &mut demands.units,
-        facts.unit,
-        start.taken,
-        start.cycle - clear,
-    );
+    demands.units[unit.place()].note(start.taken, start.cycle - clear);
     let finish = start.cycle + u64::from(config.latency(unit)) - 1;
     let end = take_bus(table, &mut demands.buses, config, facts.dest, finish, bound)?;
     Ok(Slots { start, finish, end })
@@ -125,31 +121,20 @@ fn take_slots<A: Allocator>(
 
 /// Notes a step's issue and its station.
 #[inline(always)]
-fn note_issue(
-    demands: &mut Demands,
-    latest: &Latest,
-    pool: PoolId,
-    from: u64,
-    issue: u64,
-    number: u8,
-)
-    requires few { latest.now.issued < 2 ^ 63 }
+fn note_issue(demands: &mut Demands, latest: &Latest, pool: PoolId, issued: &Issued)
     requires branch { latest.now.branch < 2 ^ 63 }
     ensures { demands.new ≡ record demands.old {
-      stations = stations_asked (Some pool) (number + 1) (issue - from) demands.old.stations;
-      width = demand_after demands.old.width (if issue == latest.now.issue then latest.now.issued + 1 else 1)
-          (from - past_branches latest.now);
+      stations = stations_asked (Some pool) (issued.now.number + 1) (issued.now.cycle - issued.now.from)
+          demands.old.stations;
+      width = demand_after demands.old.width issued.now.count (issued.now.from - past_branches latest.now);
     } }
 {
-    let taken = u64::from(number) + 1;
-    demands.stations[pool.place()].note(taken, issue.saturating_sub(from));
-    let issued = if issue == latest.issue {
-        latest.issued + 1
-    } else {
-        1
-    };
+    let taken = u64::from(issued.number) + 1;
+    demands.stations[pool.place()].note(taken, issued.cycle.saturating_sub(issued.from));
     let low = latest.issue.max(1).max(latest.branch + 1);
-    demands.width.note(issued, from.saturating_sub(low));
+    demands
+        .width
+        .note(issued.count, issued.from.saturating_sub(low));
 }
 
 /// The rest of an operation that has issued: its start, finish and end, which are noted. The step is kept.
@@ -159,15 +144,17 @@ fn run_issued<A: Allocator>(
     demands: &mut Demands,
     config: &Config,
     facts: &Facts,
+    pool: PoolId,
     unit: UnitId,
     issued: Issued,
 ) -> Result<Next, AllocError>
-    requires pool { IsSome facts.now.pool }
+    requires pool { facts.now.pool ≡ Some pool }
     requires unit { facts.now.unit ≡ Some unit }
     requires registers { HasRegisters facts.now }
     requires settled { let w = window.old in IsSettledBy w.latest w.table w.stations.ends w.accesses.items }
     requires small { window.old.latest.end < 2 ^ 62 }
-    requires few { window.old.latest.issued < 2 ^ 63 }
+    requires count { let latest = window.old.latest in
+        issued.count ≡ (if issued.cycle == latest.issue then latest.issued + 1 else 1) }
     requires issue { (window.old.latest.issue ≤ issued.cycle) × (issued.cycle ≤ window.old.latest.end + 1) }
     requires address { cycle_of issued.address ≤ window.old.latest.end + 2 }
     requires number { issued.number < 16 }
@@ -213,7 +200,9 @@ fn run_issued<A: Allocator>(
         end: slots.end.cycle,
         station: Some(issued.number),
     };
-    window.keep_taken(facts, &at)?;
+    keep_access(&mut window.accesses, facts, &at)?;
+    window.stations.take(pool, issued.number, slots.end.cycle);
+    window.latest.note_issued(facts, &at, issued.count);
     let marks = Marks {
         from: issued.from,
         operands,
@@ -240,6 +229,7 @@ pub(crate) fn ask_operation<A: Allocator>(
 ) -> Result<Next, AllocError>
     requires pool { facts.now.pool ≡ Some pool }
     requires unit { facts.now.unit ≡ Some unit }
+    requires memory { is_some facts.now.bytes ≡ is_memory_pool facts.now.pool }
     requires registers { HasRegisters facts.now }
     requires settled { let w = window.old in IsSettledBy w.latest w.table w.stations.ends w.accesses.items }
     requires small { window.old.latest.end < 2 ^ 62 }
@@ -258,16 +248,29 @@ pub(crate) fn ask_operation<A: Allocator>(
     let latest = &window.latest;
     let from = issue_from(config, latest);
     let free = window.stations.first(pool, config.stations(pool), from);
-    note_issue(demands, latest, pool, from, free.cycle, free.number);
-    let base = end_of(latest, facts.j);
-    let address = address_of(latest, facts.pool, base, free.cycle);
     let issued = Issued {
         from,
         cycle: free.cycle,
+        count: latest.issued_in(free.cycle),
         number: free.number,
-        address,
+        address: None,
     };
-    run_issued(window, demands, config, facts, unit, issued)
+    note_issue(demands, latest, pool, &issued);
+    // Two calls, so that an operation that touches no memory asks nothing of accesses.
+    if facts.bytes.is_none() {
+        return run_issued(window, demands, config, facts, pool, unit, issued);
+    }
+    let base = end_of(latest, facts.j);
+    let address = address_of(latest, facts.pool, base, free.cycle);
+    run_issued(
+        window,
+        demands,
+        config,
+        facts,
+        pool,
+        unit,
+        Issued { address, ..issued },
+    )
 }
 
 /// Any other next step. There are few.

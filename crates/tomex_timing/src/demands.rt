@@ -56,7 +56,7 @@ fn note_station(demands: &mut [Demand; 6], pool: Option<PoolId>, taken: u64, wai
 
 /// The same of its kind of unit.
 #[inline(always)]
-pub(crate) fn note_unit(demands: &mut [Demand; 5], unit: Option<UnitId>, taken: u64, waited: u64)
+fn note_unit(demands: &mut [Demand; 5], unit: Option<UnitId>, taken: u64, waited: u64)
     ensures { demands.new ≡ units_asked unit taken waited demands.old }
 {
     if let Some(unit) = unit {

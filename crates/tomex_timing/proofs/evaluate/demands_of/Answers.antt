@@ -1,7 +1,7 @@
 -- Each turn of the loop keeps what is held, and adds the step's demands.
 use Rattle.std.proofs.Common.{◌≡◌, ◌≤◌, ◌*◌, length, arith}
 use Rattle.tomex_timing.proofs.HeldNeeds.{length_facts, step_of}
-use Rattle.tomex_timing.proofs.Demanded.{asked_turn, demands_none, few_more}
+use Rattle.tomex_timing.proofs.Demanded.{asked_turn, demands_none, few_more, touches}
 use Rattle.tomex_timing.proofs.Shown.{settled_there, start_shown}
 use Rattle.tomex_timing.proofs.ShownTurns.{can_keep}
 use Rattle.tomex_timing.proofs.evaluate.demands_of.Goals as goal
@@ -38,6 +38,12 @@ ask_operation-requires-clause-few g c = omega (
       c.loop-step.step-index _ _ _ _ c.keeps_limits.ensures c.requires.run.1 c.requires.few c.loop-step-test.true
       (c.loop-step.invariant c.requires.run.0 c.requires.run.1).shown).1,
 )
+
+pub ask_operation-requires-clause-memory : goal.ask_operation-requires-clause-memory
+ask_operation-requires-clause-memory g c =
+    let at = step_of c.args.config.now c.requires.run.0 c.args.facts.now c.loop-step.step-index _ c.keeps_limits.ensures
+    c.requires.run.1 c.loop-step-test.true in
+    touches at.0 _ at.1.facts
 
 pub ask_rest-requires-clause-settled : goal.ask_rest-requires-clause-settled
 ask_rest-requires-clause-settled g c =
