@@ -1,12 +1,12 @@
 //! A run's next step timed, noted and kept in one walk, for what a run asks of a configuration's parts.
 
-ghost use Rattle.std.specs.Prelude.{◌≡◌, ℕ, ◌+◌, ◌-◌, ◌^◌, ◌<◌, ◌≤◌, ◌&&◌, ◌==◌, Some, IfOk, is_some};
+ghost use Rattle.std.specs.Prelude.{◌≡◌, ℕ, ◌+◌, ◌-◌, ◌^◌, ◌<◌, ◌≤◌, ◌&&◌, ◌==◌, Some, IfOk, is_some, max};
 ghost use Rattle.std.specs.Prelude.{if◌then◌else◌};
 ghost use Rattle.tomex_config.specs.Configuration.{option_of};
 ghost use Rattle.tomex_reservations.specs.Reservations.{IsFirst, bus_line, is_left, taken_at, taken_with};
 ghost use Rattle.tomex_rvdec.specs.Parts.{place_of_unit};
-ghost use Rattle.tomex_timing.specs.Ahead.{CanKeep, IsNextBy, IsSettledBy, IsTableAfter, TakesBus, accesses_after, ends_after};
-ghost use Rattle.tomex_timing.specs.Ahead.{RunsOn, end_in, one, with_own};
+ghost use Rattle.tomex_timing.specs.Ahead.{CanKeep, IsNextBy, IsSettledBy, IsTableAfter, TakesBus, accesses_after};
+ghost use Rattle.tomex_timing.specs.Ahead.{RunsOn, end_in, ends_after, one, with_own};
 ghost use Rattle.tomex_timing.specs.Demands.{demand_after, demands_after, stations_asked, units_asked};
 ghost use Rattle.tomex_timing.specs.History.{cycle_of, is_of};
 ghost use Rattle.tomex_timing.specs.Waiting.{past_branches, taken_from, waits_by};
@@ -14,7 +14,7 @@ ghost use Rattle.tomex_timing.specs.Window.{HasRegisters, is_memory_pool, latest
 
 use crate::accesses::past_conflicts;
 use crate::demands::{Demand, Demands};
-use crate::next::{Marks, Next, address_of, end_of, issue_from, next_step, ready_of};
+use crate::next::{Marks, Next, end_of, issue_from, next_step, ready_of};
 use crate::times::Times;
 use crate::waiting::{taken_by, waits_of};
 use crate::window::{Facts, Latest, Window, keep_access};
@@ -137,7 +137,20 @@ fn note_issue(demands: &mut Demands, latest: &Latest, pool: PoolId, issued: &Iss
         .note(issued.count, issued.from.saturating_sub(low));
 }
 
-/// The rest of an operation that has issued: its start, finish and end, which are noted. The step is kept.
+/// The cycle in which an access computes its address, from the end of its base's producer.
+fn address_after(latest: &Latest, base: u64, issue: u64) -> u64
+    requires base { base ≤ latest.now.end }
+    requires issue { issue ≤ latest.now.end + 1 }
+    requires address { latest.now.address ≤ latest.now.end }
+    requires small { latest.now.end < 2 ^ 63 }
+    ensures cycle { result ≡ max (max issue base) latest.now.address + 1 }
+    ensures by { result ≤ latest.now.end + 2 }
+{
+    issue.max(base).max(latest.address) + 1
+}
+
+/// The rest of an operation that has issued: its start, finish and end, which are noted. The step is kept, except as
+/// an access.
 #[inline(always)]
 fn run_issued<A: Allocator>(
     window: &mut Window<A>,
@@ -173,8 +186,7 @@ fn run_issued<A: Allocator>(
     ensures table { IfOk result (λ n. IsTableAfter facts.now n.at window.old.table window.new.table) }
     ensures stations { IfOk result
         (λ n. window.new.stations.ends ≡ ends_after facts.now n.at window.old.stations.ends) }
-    ensures accesses { IfOk result
-        (λ n. window.new.accesses.items ≡ accesses_after facts.now n.at window.old.accesses.items) }
+    ensures accesses { window.new.accesses ≡ window.old.accesses }
 {
     let bound = window.latest.end;
     let j = end_of(&window.latest, facts.j);
@@ -200,7 +212,6 @@ fn run_issued<A: Allocator>(
         end: slots.end.cycle,
         station: Some(issued.number),
     };
-    keep_access(&mut window.accesses, facts, &at)?;
     window.stations.take(pool, issued.number, slots.end.cycle);
     window.latest.note_issued(facts, &at, issued.count);
     let marks = Marks {
@@ -257,20 +268,25 @@ pub(crate) fn ask_operation<A: Allocator>(
     };
     note_issue(demands, latest, pool, &issued);
     // Two calls, so that an operation that touches no memory asks nothing of accesses.
-    if facts.bytes.is_none() {
+    let Some(_) = facts.bytes else {
         return run_issued(window, demands, config, facts, pool, unit, issued);
-    }
+    };
     let base = end_of(latest, facts.j);
-    let address = address_of(latest, facts.pool, base, free.cycle);
-    run_issued(
+    let address = address_after(latest, base, free.cycle);
+    let next = run_issued(
         window,
         demands,
         config,
         facts,
         pool,
         unit,
-        Issued { address, ..issued },
-    )
+        Issued {
+            address: Some(address),
+            ..issued
+        },
+    )?;
+    keep_access(&mut window.accesses, facts, &next.at)?;
+    Ok(next)
 }
 
 /// Any other next step. There are few.

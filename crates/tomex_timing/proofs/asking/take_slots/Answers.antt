@@ -1,5 +1,5 @@
 -- The unit's line is not the buses'.
-use Rattle.std.proofs.Common.{◌≡◌, ◌∙◌, arith}
+use Rattle.std.proofs.Common.{◌∙◌, arith}
 use Rattle.tomex_rvdec.specs.Parts.{place_of_unit}
 use Rattle.tomex_timing.proofs.Limits.{unit_in}
 use Rattle.tomex_timing.proofs.Slots.{buses_stay, takes_bus, unit_taken}

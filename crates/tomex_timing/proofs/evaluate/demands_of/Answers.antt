@@ -1,5 +1,5 @@
 -- Each turn of the loop keeps what is held, and adds the step's demands.
-use Rattle.std.proofs.Common.{◌≡◌, ◌≤◌, ◌*◌, length, arith}
+use Rattle.std.proofs.Common.{◌≡◌, length, arith}
 use Rattle.tomex_timing.proofs.HeldNeeds.{length_facts, step_of}
 use Rattle.tomex_timing.proofs.Demanded.{asked_turn, demands_none, few_more, touches}
 use Rattle.tomex_timing.proofs.Shown.{settled_there, start_shown}
