@@ -1,6 +1,6 @@
 //! The reservation table: how many units of each kind, and how many buses, are taken in the cycles ahead.
 
-ghost use Rattle.std.specs.Prelude.{◌≡◌, ℕ, ◌+◌, ◌-◌, ◌^◌, ◌<◌, ◌≤◌, OnErr, OnOk, length, max, []};
+ghost use Rattle.std.specs.Prelude.{◌≡◌, ℕ, ◌+◌, ◌-◌, ◌^◌, ◌<◌, ◌≤◌, IfOk, OnErr, OnOk, length, max, []};
 ghost use Rattle.tomex_reservations.specs.Reservations.{Reserved, is_left, taken_at, taken_with, IsFirst};
 
 use std::alloc::{AllocError, Allocator};
@@ -92,6 +92,7 @@ impl<A: Allocator> ReservationTable<A> {
     }
 
     /// The same, by a search.
+    #[inline(never)]
     fn search(&self, line: usize, most: u8, from: u64, bound: u64) -> Room
         requires line { line < 6 }
         requires most { 1 ≤ most }
@@ -118,15 +119,29 @@ impl<A: Allocator> ReservationTable<A> {
     }
 
     /// Makes room up to a place, and for it.
+    #[inline(always)]
     fn grow(&mut self, place: usize) -> Result<(), AllocError>
         ensures base { self.new.base ≡ self.old.base }
         ensures room { OnOk result (place < length self.new.slots) }
         ensures same { (l t : ℕ) → taken_at self.new l t ≡ taken_at self.old l t }
     {
         if self.slots.len() <= place {
-            self.slots.resize(place.saturating_add(STRIDE), [0; 8])?;
+            self.extend(place)
+        } else {
+            Ok(())
         }
-        Ok(())
+    }
+
+    /// The same of a place past the end.
+    #[cold]
+    #[inline(never)]
+    fn extend(&mut self, place: usize) -> Result<(), AllocError>
+        requires past { length self.old.slots ≤ place }
+        ensures base { self.new.base ≡ self.old.base }
+        ensures room { OnOk result (place < length self.new.slots) }
+        ensures same { (l t : ℕ) → taken_at self.new l t ≡ taken_at self.old l t }
+    {
+        self.slots.resize(place.saturating_add(STRIDE), [0; 8])
     }
 
     /// Takes one more of a line in a cycle.
@@ -147,6 +162,74 @@ impl<A: Allocator> ReservationTable<A> {
         Ok(())
     }
 
+    /// Takes one of a line in the first cycle from `from` on in which fewer are taken than there are. Past the cycle
+    /// `bound` none are.
+    #[inline(always)]
+    pub fn reserve(
+        &mut self,
+        line: usize,
+        most: u8,
+        from: u64,
+        bound: u64,
+    ) -> Result<Room, AllocError>
+        requires line { line < 6 }
+        requires most { 1 ≤ most }
+        requires ahead { self.old.base ≤ from }
+        requires quiet { (t : ℕ) → bound < t → taken_at self.old line t ≡ 0 }
+        requires from { from < 2 ^ 63 + 128 }
+        requires small { bound < 2 ^ 63 }
+        ensures first { IfOk result (λ r. IsFirst from (is_left self.old line most) r.cycle) }
+        ensures taken { IfOk result (λ r. r.taken ≡ taken_at self.old line r.cycle + 1) }
+        ensures from { IfOk result (λ r. from ≤ r.cycle) }
+        ensures by { IfOk result (λ r. r.cycle ≤ max from (bound + 1)) }
+        ensures base { self.new.base ≡ self.old.base }
+        ensures with { IfOk result (λ r. (l t : ℕ) → l < 6 → self.old.base ≤ t
+            → taken_at self.new l t ≡ taken_with self.old line r.cycle l t) }
+        ensures refused { OnErr result ((l t : ℕ) → taken_at self.new l t ≡ taken_at self.old l t) }
+    {
+        let place = (from - self.base) as usize;
+        // Mostly the cycle has room: then it is found and taken by one look.
+        if place < self.slots.len() && self.slots[place][line] < most {
+            let taken = self.slots[place][line];
+            self.slots[place][line] = taken + 1;
+            return Ok(Room {
+                cycle: from,
+                taken: u64::from(taken) + 1,
+            });
+        }
+        let room = self.reserve_later(line, most, from, bound)?;
+        Ok(room)
+    }
+
+    /// The same, by a search.
+    #[inline(never)]
+    fn reserve_later(
+        &mut self,
+        line: usize,
+        most: u8,
+        from: u64,
+        bound: u64,
+    ) -> Result<Room, AllocError>
+        requires line { line < 6 }
+        requires most { 1 ≤ most }
+        requires ahead { self.old.base ≤ from }
+        requires quiet { (t : ℕ) → bound < t → taken_at self.old line t ≡ 0 }
+        requires from { from < 2 ^ 63 + 128 }
+        requires small { bound < 2 ^ 63 }
+        ensures first { IfOk result (λ r. IsFirst from (is_left self.old line most) r.cycle) }
+        ensures taken { IfOk result (λ r. r.taken ≡ taken_at self.old line r.cycle + 1) }
+        ensures from { IfOk result (λ r. from ≤ r.cycle) }
+        ensures by { IfOk result (λ r. r.cycle ≤ max from (bound + 1)) }
+        ensures base { self.new.base ≡ self.old.base }
+        ensures with { IfOk result (λ r. (l t : ℕ) → l < 6 → self.old.base ≤ t
+            → taken_at self.new l t ≡ taken_with self.old line r.cycle l t) }
+        ensures refused { OnErr result ((l t : ℕ) → taken_at self.new l t ≡ taken_at self.old l t) }
+    {
+        let room = self.first(line, most, from, bound);
+        self.take(line, room.cycle)?;
+        Ok(room)
+    }
+
     /// Lets go of the cycles before one, if they are many: nothing that is asked lies there any more.
     #[inline(always)]
     pub fn pass(&mut self, cycle: u64)
@@ -160,6 +243,8 @@ impl<A: Allocator> ReservationTable<A> {
     }
 
     /// Lets go of the cycles before one.
+    #[cold]
+    #[inline(never)]
     fn forget(&mut self, cycle: u64)
         requires later { self.old.base ≤ cycle }
         ensures base { self.new.base ≡ cycle }

@@ -1,7 +1,7 @@
 -- One step more: what is counted of its demands is what its needs say of them.
-use Rattle.std.proofs.Common.{ℕ, ◌+◌, ◌∙◌, ◌≡◌, [], ap, arith, refl, sym, Bool, true, false, List, Option, Some, None}
+use Rattle.std.proofs.Common.{ℕ, ◌+◌, ◌*◌, ◌^◌, ◌<◌, ◌≤◌, ◌∙◌, ◌≡◌, [], length, ap, arith, refl, sym, Bool, true, false, List, Option, Some, None}
 use Rattle.std.proofs.Common.{map, take, zero, suc}
-use Rattle.std.specs.Prelude.{◌==◌, max, nat_lt, not, ◌||◌, slice_index_or}
+use Rattle.std.specs.Prelude.{◌==◌, is_some, max, nat_lt, not, ◌||◌, slice_index_or}
 use Rattle.std.proofs.Math.ListN.{get_or-map}
 use Rattle.std.proofs.Math.ListN.{set}
 use Rattle.std.proofs.lemmas.Bool.{lt-ltb, ne_eqb}
@@ -10,7 +10,8 @@ use Rattle.tomex_rvdec.specs.Parts.{place_of_pool, place_of_unit}
 use Rattle.tomex_rvdec.specs.declared.pool.PoolId.{PoolId}
 use Rattle.tomex_rvdec.specs.declared.pool.UnitId.{UnitId}
 use Rattle.tomex_steps.specs.declared.step.Step.{Step}
-use Rattle.tomex_config.specs.Configuration.{Configuration}
+use Rattle.tomex_steps.proofs.Fields.{bytes_of_memory}
+use Rattle.tomex_config.specs.Configuration.{Configuration, IsWithinLimits}
 use Rattle.tomex_reservations.specs.Reservations.{Reserved}
 use Rattle.tomex_timing.specs.declared.accesses.Access.{Access}
 use Rattle.tomex_timing.specs.declared.demands.Demands.{Demands}
@@ -25,7 +26,7 @@ use Rattle.tomex_timing.specs.declared.times.Times.{Times}
 use Rattle.tomex_timing.specs.declared.waiting.Taken.{Taken}
 use Rattle.tomex_timing.specs.declared.window.Facts.{Facts}
 use Rattle.tomex_timing.specs.declared.window.Latest.{Latest}
-use Rattle.tomex_timing.specs.Ahead.{IsNextBy}
+use Rattle.tomex_timing.specs.Ahead.{IsNextBy, IsTableAfter, accesses_after, ends_after}
 use Rattle.tomex_timing.specs.Demands.{AreDemands, demand_after, demand_from, demand_of, demands_after, demands_of}
 use Rattle.tomex_timing.specs.Demands.{no_demand}
 use Rattle.tomex_timing.specs.Demands.{nothing_asked, stations_asked, units_asked}
@@ -34,10 +35,12 @@ use Rattle.tomex_timing.specs.History.{greatest_end}
 use Rattle.tomex_timing.specs.Search.{history}
 use Rattle.tomex_timing.specs.Waiting.{need_after, needs_after, nothing_needed, stations_after, units_after}
 use Rattle.tomex_timing.specs.Waiting.{taken_from, waits_by}
-use Rattle.tomex_timing.proofs.HeldNeeds.{held_needs}
+use Rattle.tomex_timing.proofs.HeldNeeds.{held_needs, length_facts}
 use Rattle.tomex_timing.proofs.Needed.{needs_none}
 use Rattle.tomex_timing.proofs.Shown.{IsShown}
-use Rattle.tomex_timing.proofs.ShownTurns.{IsStep}
+use Rattle.tomex_timing.proofs.ShownTurns.{IsStep, held_turn}
+use Rattle.tomex_timing.proofs.Turns.{end_bound, issued_bound}
+use Rattle.tomex_timing.specs.Window.{AreFacts, facts_of, is_memory_pool, latest_after}
 
 or_none : (b : Bool) → b ≡ (b || false)
 or_none true = refl
@@ -117,6 +120,42 @@ held_demands config steps i x f latest table taken accesses next demands waits t
           ∙ (ap (λ (n : ℕ). demands_after f waits takes (max next.at.end n) (demands_of before.needs)) total
           ∙ sym (demands_more f waits takes next.at before.needs));
     }
+
+-- what touches bytes is of the pools of loads and stores
+pub touches : (x : Step) (f : Facts) → f ≡ facts_of x → is_some f.bytes ≡ is_memory_pool f.pool
+touches x f is = rw is (bytes_of_memory x)
+
+-- so what a step leaves shows the steps up to it
+pub asked_turn : (config : Configuration) (steps : List Step) (i : ℕ) (x : Step) (f : Facts) (latest : Latest)
+    (table : Reserved) (taken : List ℕ) (accesses : List Access) (demands : Demands) (next : Next) (latest' : Latest)
+    (table' : Reserved) (taken' : List ℕ) (accesses' : List Access) (demands' : Demands) → IsStep config steps i x f
+    → IsShown (history config (take i steps)) latest table taken accesses
+    → AreDemands config (history config (take i steps)) (with_total latest.end demands)
+    → IsNextBy config latest table taken accesses f next → latest' ≡ latest_after f next.at latest
+    → IsTableAfter f next.at table table' → taken' ≡ ends_after f next.at taken
+    → accesses' ≡ accesses_after f next.at accesses
+    → demands'
+    ≡ demands_after f (waits_by latest next.marks next.at) (taken_from latest next) demands.total demands
+    → IsShown (history config (take (i + 1) steps)) latest' table' taken' accesses'
+    × AreDemands config (history config (take (i + 1) steps)) (with_total latest'.end demands')
+asked_turn config steps i x f latest table taken accesses demands next latest' table' taken' accesses' demands' step
+    shown are by last after ends under noted = (
+      rw (last, ends, under)
+          (held_turn config steps i x f latest table table' taken accesses next step shown by after).0,
+      rw (noted, last) (held_demands config steps i x f latest table taken accesses next demands _ _ step shown by refl
+          refl are),
+    )
+
+-- cycles and issues are few
+pub few_more : (config : Configuration) (steps : List Step) (facts : List Facts) (i : ℕ) (latest : Latest)
+    (table : Reserved) (taken : List ℕ) (accesses : List Access) → IsWithinLimits config → AreFacts steps facts
+    → length facts < 2 ^ 28 → i < length facts → IsShown (history config (take i steps)) latest table taken accesses
+    → (latest.end ≤ 67 * i) × (latest.issued ≤ i)
+few_more config steps facts i latest table taken accesses good are few l shown =
+    let n : length facts ≡ length steps = length_facts steps facts are in
+    let e : latest.end ≤ 67 * i = end_bound config steps i _ latest good (omega arith) shown.kept in
+    let k : latest.issued ≤ i = issued_bound config steps i _ latest (omega arith) shown.kept in
+    (e, k)
 
 -- the demand for a part is its peak, and whether it has stalls
 pub demand_is : {config : Configuration} {h : List Done} {demands : Demands} (part : Part)

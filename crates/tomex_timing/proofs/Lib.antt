@@ -34,3 +34,4 @@ pub mod WaitLists
 pub mod NeedTurns
 pub mod HeldNeeds
 pub mod Demanded
+pub mod Slots

@@ -55,7 +55,7 @@ from_late config latest = either (nat_lt latest.issued config.width)
     either false = (omega arith, omega arith)
 
 -- a search from one cycle on, of a test that is as another from there on
-first_agree : (p q : ℕ → Bool) (from t : ℕ) → ((s : ℕ) → from ≤ s → p s ≡ q s) → IsFirst from p t → IsFirst from q t
+pub first_agree : (p q : ℕ → Bool) (from t : ℕ) → ((s : ℕ) → from ≤ s → p s ≡ q s) → IsFirst from p t → IsFirst from q t
 first_agree p q from t agree first =
     least_agree (λ s. nat_le from s && p s) (λ s. nat_le from s && q s) t (λ s. elim (cases_Bool (nat_le from s)) [
       | inl e ↦ rw (e, agree s (leb-true from s e)) refl

@@ -1,10 +1,14 @@
 -- After the greatest end of a history nothing in it stands in the way of a next step.
 use Rattle.std.proofs.Common.{ℕ, ◌+◌, ◌<◌, ◌≤◌, ◌≡◌, Bool, true, false, arith, refl, List, [], ◌∷◌, Option, Some, None}
-use Rattle.std.proofs.Common.{inl, inr}
+use Rattle.std.proofs.Common.{inl, inr, zero, suc}
 use Rattle.std.specs.Prelude.{nat_lt, nat_le, ◌==◌, not, ◌&&◌, ◌||◌, is_some, count_by}
 use Rattle.std.specs.List.{list_all, AllByRecursion}
 use Rattle.std.proofs.lemmas.Bool.{cases_Bool, lt-ltb, le-leb, lt-leb, ne_eqb, and_from, and_right, or_right}
 use Rattle.std.proofs.lemmas.List.Sums.{sum_by-cons}
+use Rattle.tomex_rvdec.specs.Meaning.{form_of}
+use Rattle.tomex_rvdec.specs.Operands.{dest_at, unless_zero}
+use Rattle.tomex_rvdec.specs.declared.op.Form.{Form}
+use Rattle.tomex_rvdec.specs.declared.op.Form.TheVariants as forms
 use Rattle.tomex_rvdec.specs.declared.pool.PoolId.{PoolId}
 use Rattle.tomex_rvdec.specs.declared.pool.UnitId.{UnitId}
 use Rattle.tomex_steps.specs.Steps.{step_pool, step_unit, step_dest, j_of, k_of, is_branch, is_in, is_number}
@@ -39,6 +43,27 @@ last_address_by g (d ∷ older) h = elim (cases_Bool (is_memory d.step)) [
   | inl e ↦ rw e h.0.address
   | inr e ↦ rw e (last_address_by g older h.1)
 ]
+
+-- x0 is never written
+not_zero : (n : ℕ) → is_number (unless_zero n) 0 ≡ false
+not_zero zero = refl
+not_zero (suc n) = let e : (suc n == 0) ≡ false = ne_eqb (suc n) 0 (λ (e : suc n ≡ 0). absurd (omega arith)) in rw e e
+
+no_writer : (form : Form) (rd : ℕ) → is_number (dest_at form rd) 0 ≡ false
+no_writer forms.Register rd = not_zero rd
+no_writer forms.Immediate rd = not_zero rd
+no_writer forms.Offset rd = not_zero rd
+no_writer forms.Shift rd = not_zero rd
+no_writer forms.Store rd = refl
+no_writer forms.Branch rd = refl
+no_writer forms.Upper rd = not_zero rd
+no_writer forms.Jump rd = not_zero rd
+no_writer forms.Fence rd = refl
+no_writer forms.Whole rd = refl
+
+pub writer_of_zero : (older : List Done) → writer_end older 0 ≡ 0
+writer_of_zero [] = refl
+writer_of_zero (d ∷ older) = rw (no_writer (form_of d.step.instr.op) d.step.instr.rd) (writer_of_zero older)
 
 pub writer_end_by : (g : ℕ) (older : List Done) (r : ℕ) → AllBy g older → writer_end older r ≤ g
 writer_end_by g [] r h = omega arith

@@ -27,7 +27,7 @@ use Rattle.tomex_timing.specs.Window.{IsSettled}
 use Rattle.tomex_timing.proofs.Bound.{timed_by}
 use Rattle.tomex_timing.proofs.Histories.{are_timed}
 use Rattle.tomex_timing.proofs.Limits.{pool_in, unit_in}
-use Rattle.tomex_timing.proofs.Settled.{IsDoneBy, AllBy, count_none, all_pass, last_issue_by}
+use Rattle.tomex_timing.proofs.Settled.{IsDoneBy, AllBy, count_none, all_pass, last_issue_by, writer_of_zero}
 use Rattle.tomex_timing.proofs.Turns.{settled, start_kept}
 use Rattle.tomex_timing.proofs.WindowTests.{AreClosed, count_recent, all_recent}
 
@@ -110,6 +110,7 @@ settled_by config h latest table taken accesses good timed shown =
           omega arith;
       finishes = rw e (All-from_recursion (λ a. a.finish ≤ greatest_end h) accesses shown.finishes);
       ends = s.ends;
+      zero = shown.kept.ends 0 (omega arith) ∙ writer_of_zero h;
       issue = s.issue;
       branch = s.branch;
       address = s.address;

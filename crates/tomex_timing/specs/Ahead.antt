@@ -148,6 +148,8 @@ pub record IsSettledBy (latest : Latest) (table : Reserved) (taken : List ℕ) (
   pub stations : (pool : PoolId) (n : ℕ) → n < 16 → end_at taken pool n ≤ latest.end
   pub finishes : All (λ a. a.finish ≤ latest.end) accesses
   pub ends : (r : ℕ) → r < 32 → slice_index latest.ends r ≤ latest.end
+  -- x0 is never written
+  pub zero : slice_index latest.ends 0 ≡ 0
   pub issue : latest.issue ≤ latest.end
   pub branch : latest.branch ≤ latest.end
   pub address : latest.address ≤ latest.end

@@ -32,7 +32,7 @@ impl Demand {
     /// Notes a step that takes that much of the part at once and waits for it for that many cycles.
     // Both are rare, so that a step costs two comparisons.
     #[inline(always)]
-    fn note(&mut self, taken: u64, waited: u64)
+    pub(crate) fn note(&mut self, taken: u64, waited: u64)
         ensures { self.new ≡ demand_after self.old taken waited }
     {
         if self.peak < taken {

@@ -9,6 +9,7 @@ ghost use Rattle.tomex_steps.specs.declared.step.Step.{Step};
 ghost use Rattle.tomex_timing.specs.Waiting.{AreWithin};
 ghost use Rattle.tomex_timing.specs.Window.{AreFacts};
 
+use crate::asking::{ask_operation, ask_rest};
 use crate::demands::Demands;
 use crate::needs::Needs;
 use crate::next::next_step;
@@ -126,11 +127,11 @@ pub(crate) fn demands_of<A: Allocator>(
     let mut demands = Demands::none();
     config.keeps_limits();
     for step in facts {
-        let next = next_step(config, &window, step);
-        let waits = waits_of(&window.latest, &next);
-        let taken = taken_by(&window.latest, &next);
-        demands.note(step, &waits, &taken);
-        window.keep(step, &next.at)?;
+        if let (Some(pool), Some(unit)) = (step.pool, step.unit) {
+            ask_operation(&mut window, &mut demands, config, step, pool, unit)?;
+        } else {
+            ask_rest(&mut window, &mut demands, config, step)?;
+        }
     }
     demands.total = window.latest.end;
     Ok(demands)

@@ -8,6 +8,7 @@
 #![tactic(auto)]
 
 mod accesses;
+mod asking;
 mod demands;
 pub mod evaluate;
 mod laws;

@@ -1,6 +1,6 @@
 //! The times of the next step, by what is kept of those before.
 
-ghost use Rattle.std.specs.Prelude.{◌≡◌, ℕ, ◌+◌, ◌-◌, ◌^◌, ◌<◌, ◌≤◌, None, max, IfSome};
+ghost use Rattle.std.specs.Prelude.{◌≡◌, ℕ, ◌+◌, ◌-◌, ◌^◌, ◌<◌, ◌≤◌, None, max, IfSome, slice_index};
 ghost use Rattle.tomex_config.specs.Configuration.{IsWithinLimits, option_of};
 ghost use Rattle.tomex_rvdec.specs.Parts.{place_of_unit};
 ghost use Rattle.tomex_timing.specs.Ahead.{IsIdle, IsNextBy, IsSettledBy, TakesBus, TakesStation, end_in};
@@ -40,19 +40,18 @@ pub(crate) struct Next {
 }
 
 /// The end of the producer of what a register holds, 0 without a register.
-fn end_of(latest: &Latest, register: Option<u8>) -> u64
-    requires { IfSome register (λ r. r < 32) }
+// Without one it is x0's, so that no jump depends on it.
+pub(crate) fn end_of(latest: &Latest, register: Option<u8>) -> u64
+    requires register { IfSome register (λ r. r < 32) }
+    requires zero { slice_index latest.now.ends 0 ≡ 0 }
     ensures { result ≡ end_in latest.now.ends register }
 {
-    match register {
-        None => 0,
-        Some(register) => latest.ends[register as usize],
-    }
+    latest.ends[usize::from(register.unwrap_or(0))]
 }
 
 /// The first cycle that is in program order, with room for an issue, and later than each branch's
 /// finish.
-fn issue_from(config: &Config, latest: &Latest) -> u64
+pub(crate) fn issue_from(config: &Config, latest: &Latest) -> u64
     requires issue { latest.now.issue ≤ latest.now.end }
     requires branch { latest.now.branch ≤ latest.now.end }
     requires small { latest.now.end < 2 ^ 63 }
@@ -95,7 +94,12 @@ fn station_of(
 }
 
 /// The cycle in which a load or store computes its address, from the end of its base's producer.
-fn address_of(latest: &Latest, pool: Option<PoolId>, base: u64, issue: u64) -> Option<u64>
+pub(crate) fn address_of(
+    latest: &Latest,
+    pool: Option<PoolId>,
+    base: u64,
+    issue: u64,
+) -> Option<u64>
     requires base { base ≤ latest.now.end }
     requires issue { issue ≤ latest.now.end + 1 }
     requires address { latest.now.address ≤ latest.now.end }
@@ -110,7 +114,7 @@ fn address_of(latest: &Latest, pool: Option<PoolId>, base: u64, issue: u64) -> O
 }
 
 /// The first cycle after a step's issue, its address and the ends of its operands' producers.
-fn ready_of(issue: u64, address: Option<u64>, j: u64, k: u64) -> u64
+pub(crate) fn ready_of(issue: u64, address: Option<u64>, j: u64, k: u64) -> u64
     requires issue { issue < 2 ^ 63 + 2 }
     requires address { cycle_of address < 2 ^ 63 + 2 }
     requires j { j < 2 ^ 63 }

@@ -1,6 +1,6 @@
 //! What the evaluator keeps of the steps before: what is latest, and what may still be in the way of a next one.
 
-ghost use Rattle.std.specs.Prelude.{◌≡◌, ◌<◌, ◌≤◌, ◌^◌, [], replicate, IfOk, IfSome};
+ghost use Rattle.std.specs.Prelude.{◌≡◌, ◌<◌, ◌≤◌, ◌^◌, ◌+◌, ◌==◌, if◌then◌else◌, [], replicate, IfOk, IfSome};
 ghost use Rattle.std.specs.Option.{ForSome};
 ghost use Rattle.tomex_timing.specs.Ahead.{CanKeep, CanReserve, IsTableAfter, accesses_after, ends_after};
 ghost use Rattle.tomex_timing.specs.Window.{AreFacts, facts_of, register_of, HasRegisters, nothing_yet, latest_after};
@@ -108,6 +108,19 @@ impl Latest {
         }
     }
 
+    /// How many issue in a cycle with one that issues in it next.
+    #[inline(always)]
+    pub fn issued_in(&self, cycle: u64) -> u64
+        requires { self.now.issued < 2 ^ 63 }
+        ensures { result ≡ (if cycle == self.now.issue then self.now.issued + 1 else 1) }
+    {
+        if cycle == self.issue {
+            self.issued + 1
+        } else {
+            1
+        }
+    }
+
     /// Notes a step with its times.
     #[inline(always)]
     pub fn note(&mut self, facts: &Facts, at: &Times)
@@ -115,14 +128,21 @@ impl Latest {
         requires few { self.old.issued < 2 ^ 63 }
         ensures { self.new ≡ latest_after facts.now at.now self.old }
     {
+        let issued = self.issued_in(at.issue);
+        self.note_issued(facts, at, issued);
+    }
+
+    /// The same, by how many issue in the cycle of its issue.
+    #[inline(always)]
+    pub fn note_issued(&mut self, facts: &Facts, at: &Times, issued: u64)
+        requires register { IfSome facts.now.dest (λ r. r < 32) }
+        requires issued { issued ≡ (if at.now.issue == self.old.issue then self.old.issued + 1 else 1) }
+        ensures { self.new ≡ latest_after facts.now at.now self.old }
+    {
         if let Some(register) = facts.dest {
             self.ends[register as usize] = at.end;
         }
-        self.issued = if at.issue == self.issue {
-            self.issued + 1
-        } else {
-            1
-        };
+        self.issued = issued;
         self.issue = at.issue;
         if facts.is_branch {
             self.branch = at.finish.max(self.branch);
@@ -156,7 +176,7 @@ fn reserve<A: Allocator>(
 
 /// Keeps an access, and of those before the ones that finish no earlier than it issues.
 #[inline(always)]
-fn keep_access<A: Allocator>(
+pub(crate) fn keep_access<A: Allocator>(
     accesses: &mut Vec<Access, A>,
     facts: &Facts,
     at: &Times,

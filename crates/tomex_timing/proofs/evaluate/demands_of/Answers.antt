@@ -1,11 +1,11 @@
 -- Each turn of the loop keeps what is held, and adds the step's demands.
-use Rattle.std.proofs.Common.{◌≡◌, ◌≤◌, ◌*◌, length, arith}
+use Rattle.std.proofs.Common.{◌≡◌, length, arith}
 use Rattle.tomex_timing.proofs.HeldNeeds.{length_facts, step_of}
-use Rattle.tomex_timing.proofs.Demanded.{demands_none, held_demands}
+use Rattle.tomex_timing.proofs.Demanded.{asked_turn, demands_none, few_more, touches}
 use Rattle.tomex_timing.proofs.Shown.{settled_there, start_shown}
-use Rattle.tomex_timing.proofs.ShownTurns.{can_keep, held_turn}
-use Rattle.tomex_timing.proofs.Turns.{end_bound, issued_bound}
+use Rattle.tomex_timing.proofs.ShownTurns.{can_keep}
 use Rattle.tomex_timing.proofs.evaluate.demands_of.Goals as goal
+use Rattle.tomex_timing.proofs.evaluate.demands_of.Goals.{in-Some-Some+in_ok-ask_operation, in_default+in_ok-ask_rest}
 
 pub loop-step-init : goal.loop-step-init
 loop-step-init g c = λ steps are. record {
@@ -18,64 +18,77 @@ loop-step-init g c = λ steps are. record {
   demands = rw (c.none-demands.ensures, c.new-window.ensures.latest) (demands_none c.args.config.now);
 }
 
-pub next_step-next-requires-clause-registers : goal.next_step-next-requires-clause-registers
-next_step-next-requires-clause-registers g c = c.requires.run.1.registers c.loop-step.step-index _ c.loop-step-test.true
-
-pub next_step-next-requires-clause-settled : goal.next_step-next-requires-clause-settled
-next_step-next-requires-clause-settled g c =
+pub ask_operation-requires-clause-settled : goal.ask_operation-requires-clause-settled
+ask_operation-requires-clause-settled g c =
     settled_there c.args.config.now c.requires.run.0 c.loop-step.step-index _ _ _ _ c.keeps_limits.ensures
     (c.loop-step.invariant c.requires.run.0 c.requires.run.1).shown
 
-pub next_step-next-requires-clause-small : goal.next_step-next-requires-clause-small
-next_step-next-requires-clause-small g c =
-    let n : length c.args.facts.now ≡ length c.requires.run.0 =
-    length_facts c.requires.run.0 c.args.facts.now c.requires.run.1 in
-    let by : c.loop-step.window.latest.end ≤ 67 * c.loop-step.step-index =
-    end_bound c.args.config.now c.requires.run.0 c.loop-step.step-index _ c.loop-step.window.latest
-    c.keeps_limits.ensures (omega arith) (c.loop-step.invariant c.requires.run.0 c.requires.run.1).shown.kept in
-    omega arith
+pub ask_operation-requires-clause-small : goal.ask_operation-requires-clause-small
+ask_operation-requires-clause-small g c = omega (
+  arith,
+  (few_more c.args.config.now c.requires.run.0 c.args.facts.now
+      c.loop-step.step-index _ _ _ _ c.keeps_limits.ensures c.requires.run.1 c.requires.few c.loop-step-test.true
+      (c.loop-step.invariant c.requires.run.0 c.requires.run.1).shown).0,
+)
 
-pub waits_of-waits-requires : goal.waits_of-waits-requires
-waits_of-waits-requires g c =
-    let n : length c.args.facts.now ≡ length c.requires.run.0 =
-    length_facts c.requires.run.0 c.args.facts.now c.requires.run.1 in
-    let shown = (c.loop-step.invariant c.requires.run.0 c.requires.run.1).shown in
-    let s = settled_there c.args.config.now c.requires.run.0 c.loop-step.step-index _ _ _ _ c.keeps_limits.ensures shown
-    in
-    let b : c.loop-step.window.latest.branch ≤ c.loop-step.window.latest.end = s.branch in
-    let by : c.loop-step.window.latest.end ≤ 67 * c.loop-step.step-index =
-    end_bound c.args.config.now c.requires.run.0 c.loop-step.step-index _ c.loop-step.window.latest
-    c.keeps_limits.ensures (omega arith) shown.kept in
-    record { branch = omega arith }
+pub ask_operation-requires-clause-few : goal.ask_operation-requires-clause-few
+ask_operation-requires-clause-few g c = omega (
+  arith,
+  (few_more c.args.config.now c.requires.run.0 c.args.facts.now
+      c.loop-step.step-index _ _ _ _ c.keeps_limits.ensures c.requires.run.1 c.requires.few c.loop-step-test.true
+      (c.loop-step.invariant c.requires.run.0 c.requires.run.1).shown).1,
+)
 
-pub taken_by-taken-requires : goal.taken_by-taken-requires
-taken_by-taken-requires g c =
-    let n : length c.args.facts.now ≡ length c.requires.run.0 =
-    length_facts c.requires.run.0 c.args.facts.now c.requires.run.1 in
-    let by : c.loop-step.window.latest.issued ≤ c.loop-step.step-index =
-    issued_bound c.args.config.now c.requires.run.0 c.loop-step.step-index _ c.loop-step.window.latest (omega arith)
-    (c.loop-step.invariant c.requires.run.0 c.requires.run.1).shown.kept in
-    record { few = omega arith }
+pub ask_operation-requires-clause-memory : goal.ask_operation-requires-clause-memory
+ask_operation-requires-clause-memory g c =
+    let at = step_of c.args.config.now c.requires.run.0 c.args.facts.now c.loop-step.step-index _ c.keeps_limits.ensures
+    c.requires.run.1 c.loop-step-test.true in
+    touches at.0 _ at.1.facts
 
-pub keep-requires : goal.keep-requires
-keep-requires g c =
+pub ask_rest-requires-clause-settled : goal.ask_rest-requires-clause-settled
+ask_rest-requires-clause-settled g c =
+    settled_there c.args.config.now c.requires.run.0 c.loop-step.step-index _ _ _ _ c.keeps_limits.ensures
+    (c.loop-step.invariant c.requires.run.0 c.requires.run.1).shown
+
+pub ask_rest-requires-clause-small : goal.ask_rest-requires-clause-small
+ask_rest-requires-clause-small g c = omega (
+  arith,
+  (few_more c.args.config.now c.requires.run.0 c.args.facts.now
+      c.loop-step.step-index _ _ _ _ c.keeps_limits.ensures c.requires.run.1 c.requires.few c.loop-step-test.true
+      (c.loop-step.invariant c.requires.run.0 c.requires.run.1).shown).0,
+)
+
+pub ask_rest-requires-clause-few : goal.ask_rest-requires-clause-few
+ask_rest-requires-clause-few g c = omega (
+  arith,
+  (few_more c.args.config.now c.requires.run.0 c.args.facts.now
+      c.loop-step.step-index _ _ _ _ c.keeps_limits.ensures c.requires.run.1 c.requires.few c.loop-step-test.true
+      (c.loop-step.invariant c.requires.run.0 c.requires.run.1).shown).1,
+)
+
+pub ask_rest-requires-clause-keeps : goal.ask_rest-requires-clause-keeps
+ask_rest-requires-clause-keeps g c =
     let n : length c.args.facts.now ≡ length c.requires.run.0 =
     length_facts c.requires.run.0 c.args.facts.now c.requires.run.1 in
     let at = step_of c.args.config.now c.requires.run.0 c.args.facts.now c.loop-step.step-index _ c.keeps_limits.ensures
     c.requires.run.1 c.loop-step-test.true in
-    can_keep c.args.config.now c.requires.run.0 c.loop-step.step-index at.0 _ _ _ _ _ c.next_step-next.result
-    (omega arith) at.1 (c.loop-step.invariant c.requires.run.0 c.requires.run.1).shown c.next_step-next.ensures
+    λ next by. can_keep c.args.config.now c.requires.run.0 c.loop-step.step-index at.0 _ _ _ _ _ next
+    (omega arith) at.1 (c.loop-step.invariant c.requires.run.0 c.requires.run.1).shown by
 
 pub loop-step-preserved : goal.loop-step-preserved
 loop-step-preserved g c = λ steps are.
     let at = step_of c.args.config.now steps c.args.facts.now c.loop-step.step-index _ c.keeps_limits.ensures are
     c.loop-step-test.true in
     let before = c.loop-step.invariant steps are in
-    let turn = held_turn c.args.config.now steps c.loop-step.step-index at.0 _ _ _ _ _ _ c.next_step-next.result at.1
-    before.shown c.next_step-next.ensures c.in_ok-keep.ensures.table in
-    record {
-      shown = rw (c.in_ok-keep.ensures.latest, c.in_ok-keep.ensures.stations, c.in_ok-keep.ensures.accesses) turn.0;
-      demands = rw (c.note.ensures, c.in_ok-keep.ensures.latest) (held_demands c.args.config.now steps c.loop-step.step-index at.0 _ _ _ _ _
-          c.next_step-next.result c.loop-step.demands c.waits_of-waits.result c.taken_by-taken.result at.1 before.shown
-          c.next_step-next.ensures c.waits_of-waits.ensures c.taken_by-taken.ensures before.demands);
-    }
+    elim c.match-step.branch [
+      | in-Some-Some+in_ok-ask_operation w ↦
+          let e = w.in_ok-ask_operation.ensures in
+          let turn = asked_turn c.args.config.now steps c.loop-step.step-index at.0 _ _ _ _ _ _ _ _ _ _ _ _
+          at.1 before.shown before.demands e.next e.latest e.table e.stations e.accesses e.noted in
+          rw (w.window-is, w.demands-is) (record { shown = turn.0; demands = turn.1 })
+      | in_default+in_ok-ask_rest w ↦
+          let e = w.in_ok-ask_rest.ensures in
+          let turn = asked_turn c.args.config.now steps c.loop-step.step-index at.0 _ _ _ _ _ _ _ _ _ _ _ _
+          at.1 before.shown before.demands e.next e.latest e.table e.stations e.accesses e.noted in
+          rw (w.window-is, w.demands-is) (record { shown = turn.0; demands = turn.1 })
+    ]
