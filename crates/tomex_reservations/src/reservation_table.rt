@@ -197,8 +197,7 @@ impl<A: Allocator> ReservationTable<A> {
                 taken: u64::from(taken) + 1,
             });
         }
-        let room = self.reserve_later(line, most, from, bound)?;
-        Ok(room)
+        self.reserve_later(line, most, from, bound)
     }
 
     /// The same, by a search.

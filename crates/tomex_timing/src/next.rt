@@ -94,12 +94,7 @@ fn station_of(
 }
 
 /// The cycle in which a load or store computes its address, from the end of its base's producer.
-pub(crate) fn address_of(
-    latest: &Latest,
-    pool: Option<PoolId>,
-    base: u64,
-    issue: u64,
-) -> Option<u64>
+fn address_of(latest: &Latest, pool: Option<PoolId>, base: u64, issue: u64) -> Option<u64>
     requires base { base ≤ latest.now.end }
     requires issue { issue ≤ latest.now.end + 1 }
     requires address { latest.now.address ≤ latest.now.end }
