@@ -12,7 +12,7 @@ use Rattle.tomex_html.specs.declared.links.Anchor.TheVariants.{Next, Previous}
 use Rattle.tomex_html.specs.declared.links.Links.{Links}
 
 -- a character of a name: what HTML reads as markup by its reference, a control character as refusals show it
-abbrev pub html_char : ℕ → List ℕ
+unfoldable pub html_char : ℕ → List ℕ
 html_char c =
     if c == 38 then codes "&amp;"
     else (if c == 60 then codes "&lt;"
@@ -21,7 +21,7 @@ html_char c =
     else shown_char c)))
 
 -- each character of a name
-abbrev pub html_name : List ℕ → List ℕ
+unfoldable pub html_name : List ℕ → List ℕ
 html_name name = flat_map html_char (chars name)
 
 -- from a page's first byte into its body
@@ -30,7 +30,7 @@ page_start title style =
     head_html ++ (title ++ (codes "</title>\n<style>\n" ++ (base_css ++ (frame_css ++ (style
     ++ codes "</style>\n</head>\n<body>\n")))))
 
-abbrev pub page_end : List ℕ
+unfoldable pub page_end : List ℕ
 page_end = codes "</body>\n</html>\n"
 
 -- a cell, which is marked if what it shows is new
@@ -51,7 +51,7 @@ is_new was now = not (bytes_eq was now) && nat_lt 0 (length now)
 abbrev pub changed_cell : List ℕ → List ℕ → List ℕ
 changed_cell was now = cell (is_new was now) now
 
-abbrev pub table_end : List ℕ
+unfoldable pub table_end : List ℕ
 table_end = codes "</tbody></table></div>\n"
 
 -- the link *next* of view N is `nN`, its link *previous* `pN`

@@ -7,6 +7,7 @@ use std::alloc::{AllocError, Allocator};
 use tomex_streams::push_shown;
 
 /// Adds a character of a name.
+#[tactic(auto, unfolding(crate::specs::Html::html_char))]
 fn push_char<A: Allocator>(text: &mut String<A>, letter: char) -> Result<(), AllocError>
     ensures { OnOk result (string_bytes text.new ≡ string_bytes text.old ++ html_char letter) }
 {

@@ -26,6 +26,7 @@ pub fn push_page_start<A: Allocator>(
 }
 
 /// Adds what a page ends with.
+#[tactic(auto, unfolding(crate::specs::Html::page_end))]
 pub fn push_page_end<A: Allocator>(text: &mut String<A>) -> Result<(), AllocError>
     ensures { OnOk result (string_bytes text.new ≡ string_bytes text.old ++ page_end) }
 {

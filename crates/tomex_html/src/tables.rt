@@ -34,6 +34,7 @@ pub fn push_changed_cell<A: Allocator>(
 }
 
 /// Adds what a table ends with.
+#[tactic(auto, unfolding(crate::specs::Html::table_end))]
 pub fn push_table_end<A: Allocator>(text: &mut String<A>) -> Result<(), AllocError>
     ensures { OnOk result (string_bytes text.new ≡ string_bytes text.old ++ table_end) }
 {

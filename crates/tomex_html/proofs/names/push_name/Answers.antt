@@ -5,7 +5,7 @@ use Rattle.std.proofs.lemmas.Iterator.{YieldsList-from_chars}
 use Rattle.std.proofs.lemmas.Iterator.Consumers.{YieldsList-end}
 use Rattle.std.proofs.lemmas.Grind.{flat_map-append}
 use Rattle.std.proofs.lemmas.List.{append-nil, map-id}
-use Rattle.tomex_html.specs.Html.{html_char}
+use Rattle.tomex_html.specs.Html.{html_char, html_name}
 use Rattle.tomex_html.proofs.names.push_name.Goals as goal
 
 pub loop-letter-preserved : goal.loop-letter-preserved
@@ -20,6 +20,7 @@ loop-letter-preserved g c =
     ∙ sym (flat_map-append html_char c.loop-letter.yielded (letter ∷ [])))))
 
 pub returns : goal.returns
+unfolding html_name
 returns g c =
     let letters = YieldsList-from_chars c.args.name.now c.utf8.name cc in
     let end = YieldsList-end letters c.loop-letter.yielded _ c.loop-letter.yielded_by _ _ c.in-None.is

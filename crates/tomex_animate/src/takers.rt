@@ -1,0 +1,158 @@
+//! What takes a result that is sent.
+
+ghost use Rattle.std.specs.Prelude.{◌≡◌, ◌-◌, ◌++◌, IfOk, OnOk, string_bytes};
+ghost use Rattle.std.specs.List.{flat_map};
+ghost use Rattle.tomex_animate.specs.Takers.{awaits, operand_takers, register_takers, same_name, same_tag, takers};
+ghost use Rattle.tomex_animate.specs.Takers.{takers_text};
+
+use crate::entries::{Entry, Name};
+use crate::view::View;
+use std::alloc::{AllocError, Allocator, Global};
+use std::fmt::{self, Write};
+use tomex_timing::{Busy, Field, Tag};
+
+/// What takes a result: an operand in a station, or a register.
+#[derive(Clone, Copy)]
+pub enum Taker {
+    J(Tag),
+    K(Tag),
+    Register(u8),
+}
+
+impl fmt::Display for Taker {
+    ghost use Rattle.std.specs.Prelude.{Some};
+    ghost use Rattle.tomex_animate.specs.Takers.{taker_text};
+
+    ghost output = { λ taker. Some (taker_text taker) };
+
+    fn fmt<W: fmt::Write>(&self, f: &mut fmt::Formatter<W>) -> fmt::Result {
+        match *self {
+            Taker::J(Tag { pool, number }) => write!(f, "{pool}{number} Vj"),
+            Taker::K(Tag { pool, number }) => write!(f, "{pool}{number} Vk"),
+            Taker::Register(register) => write!(f, "x{register}"),
+        }
+    }
+}
+
+fn same_tag(a: Tag, b: Tag) -> bool
+    ensures { result ≡ same_tag a b }
+{
+    a.pool.place() == b.pool.place() && a.number == b.number
+}
+
+/// Whether both are the same station, or both are none.
+pub fn same_name(a: Option<Tag>, b: Option<Tag>) -> bool
+    ensures { result ≡ same_name a b }
+{
+    match (a, b) {
+        (None, None) => true,
+        (Some(a), Some(b)) => same_tag(a, b),
+        _ => false,
+    }
+}
+
+/// Whether an operand waits for what a station will have.
+fn awaits(tag: Tag, field: Field) -> bool
+    ensures { result ≡ awaits tag field }
+{
+    match field {
+        Field::Waits(other) => same_tag(other, tag),
+        Field::Value(_) | Field::Unread => false,
+    }
+}
+
+/// Adds the operands in a station that wait for another.
+fn push_operands(takers: &mut Vec<Taker>, tag: Tag, station: Option<Busy>) -> Result<(), AllocError>
+    ensures { OnOk result (takers.new.items ≡ takers.old.items ++ operand_takers tag station) }
+{
+    let Some(busy) = station else {
+        return Ok(());
+    };
+    if awaits(tag, busy.j) {
+        takers.push(Taker::J(busy.tag))?;
+    }
+    if awaits(tag, busy.k) {
+        takers.push(Taker::K(busy.tag))?;
+    }
+    Ok(())
+}
+
+/// Adds the operands in all stations that wait for one.
+fn push_all_operands(
+    takers: &mut Vec<Taker>,
+    tag: Tag,
+    stations: &[Option<Busy>; 96],
+) -> Result<(), AllocError>
+    ensures { OnOk result (takers.new.items
+        ≡ takers.old.items ++ flat_map (operand_takers tag) stations.now) }
+{
+    for station in stations {
+        push_operands(takers, tag, *station)?;
+    }
+    Ok(())
+}
+
+/// Adds a register, if a station was its Qi and none is.
+fn push_register(
+    takers: &mut Vec<Taker>,
+    tag: Tag,
+    register: u8,
+    was: Option<Tag>,
+    now: Option<Tag>,
+) -> Result<(), AllocError>
+    ensures { OnOk result (takers.new.items
+        ≡ takers.old.items ++ register_takers tag register was now) }
+{
+    if let (Some(was), None) = (was, now) {
+        if same_tag(was, tag) {
+            takers.push(Taker::Register(register))?;
+        }
+    }
+    Ok(())
+}
+
+/// The takers of a step's result in the cycle in which it is sent.
+#[tactic(auto, unfolding(crate::specs::Takers::takers))]
+fn takers_of(heap: Global, view: &View<'_>, entry: &Entry) -> Result<Vec<Taker>, AllocError>
+    ensures { IfOk result (λ v. v.items ≡ takers view.now.cycle view.now.entries.now entry.now) }
+{
+    let mut takers = Vec::new(heap);
+    if let (Some(tag), Some(register)) = (entry.station(), entry.step.dest()) {
+        let boards = &view.boards;
+        push_all_operands(&mut takers, tag, &boards.taking.stations)?;
+        let was = boards.before.registers[register as usize];
+        let now = boards.now.registers[register as usize];
+        push_register(&mut takers, tag, register, was, now)?;
+    }
+    Ok(takers)
+}
+
+/// Adds takers, with commas between them.
+fn push_list<A: Allocator>(text: &mut String<A>, takers: &[Taker]) -> Result<(), AllocError>
+    ensures { OnOk result (string_bytes text.new ≡ string_bytes text.old ++ takers_text takers.now) }
+{
+    let Some((first, rest)) = takers.split_first() else {
+        return text.push_str("none");
+    };
+    let first = *first;
+    write!(text, "{first}")?;
+    for taker in rest {
+        let taker = *taker;
+        write!(text, ", {taker}")?;
+    }
+    Ok(())
+}
+
+/// Adds the takers of a step's result in the cycle in which it is sent.
+pub fn push_takers<A: Allocator>(
+    text: &mut String<A>,
+    heap: Global,
+    view: &View<'_>,
+    entry: &Entry,
+) -> Result<(), AllocError>
+    ensures { OnOk result (string_bytes text.new ≡ string_bytes text.old
+        ++ takers_text (takers view.now.cycle view.now.entries.now entry.now)) }
+{
+    let takers = takers_of(heap, view, entry)?;
+    push_list(text, takers.as_slice())
+}
