@@ -1,9 +1,9 @@
 -- What stations and registers show, by one step more.
-use Rattle.std.proofs.Common.{◌≡◌, ◌∙◌, ◌<◌, ◌≤◌, ◌+◌, ◌*◌, ◌/◌, ◌%◌, ℕ, zero, suc, arith, refl, ap, sym, List, [], ◌∷◌, ◌++◌}
+use Rattle.std.proofs.Common.{◌≡◌, ◌∙◌, ◌<◌, ◌≤◌, ◌+◌, ◌*◌, ◌/◌, ◌%◌, ℕ, zero, suc, arith, refl, ap, sym, List, [], ◌∷◌}
 use Rattle.std.proofs.Common.{ap₂, get_or, Bool, Option, Some, None, map, reverse, take, true, false, inl, inr, length, replicate}
-use Rattle.std.specs.Prelude.{◌≢◌, ◌==◌, ◌&&◌, nat_lt, nat_le, if◌then◌else◌, slice_index_or, slice_set, IfSome}
+use Rattle.std.specs.Prelude.{◌≢◌, ◌==◌, ◌&&◌, nat_lt, nat_le, if◌then◌else◌, slice_index_or, IfSome}
 use Rattle.std.specs.List.{range_with_len}
-use Rattle.std.proofs.lemmas.Bool.{and_right, cases_Bool, cases_eq, eq-eqb, le-ltb, lt-ltb, ltb-false, ltb-true, ne_eqb}
+use Rattle.std.proofs.lemmas.Bool.{and_right, cases_Bool, eq-eqb, ltb-false, ltb-true, ne_eqb}
 use Rattle.std.proofs.lemmas.Bool.{false_from_ne_true, eqb-true, and_from, and_parts}
 use Rattle.std.proofs.lemmas.Simd.{map-map}
 use Rattle.std.proofs.lemmas.List.{reverse-append, map-append, take_more}
@@ -13,18 +13,17 @@ use Rattle.tomex_rvdec.specs.declared.pool.PoolId.{PoolId}
 use Rattle.tomex_rvdec.specs.declared.pool.PoolId.TheVariants as pools
 use Rattle.tomex_steps.specs.Steps.{is_in, is_number, j_of, k_of, step_dest, step_pool}
 use Rattle.tomex_steps.specs.declared.step.Operand.{Operand}
-use Rattle.tomex_steps.specs.declared.step.Step.{Step}
 use Rattle.tomex_timing.specs.Tables.{a_of, all_tags, busy_of, field_from, field_of, is_under_way, producer, qi_of, shown}
-use Rattle.tomex_timing.specs.Tables.{tag_at, tag_of, unsent_tag}
+use Rattle.tomex_timing.specs.Tables.{tag_at, unsent_tag}
 use Rattle.tomex_timing.specs.declared.tables.Busy.{Busy}
 use Rattle.tomex_timing.specs.declared.tables.Field.{Field}
 use Rattle.tomex_timing.specs.declared.tables.Tag.{Tag}
 use Rattle.tomex_timing.specs.declared.times.Done.{Done}
 use Rattle.tomex_animate.specs.declared.board.Board.{Board}
 use Rattle.tomex_animate.specs.declared.entries.Entry.{Entry}
-use Rattle.tomex_animate.specs.Entries.{done_of, history_of, station_of}
+use Rattle.tomex_animate.specs.Entries.{done_of, history_of}
 use Rattle.tomex_animate.specs.Takers.{held}
-use Rattle.tomex_animate.specs.Kept.{IsBoard, board_after, busy_in, field_in, place_of, registers_after, set_in}
+use Rattle.tomex_animate.specs.Kept.{IsBoard, board_after, busy_in, field_in, registers_after, set_in}
 use Rattle.tomex_animate.specs.Kept.{stations_after, stations_with}
 use Rattle.tomex_animate.proofs.Lists.{map_below, set_is}
 

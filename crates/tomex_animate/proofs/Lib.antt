@@ -1,2 +1,5 @@
 pub mod Lists
 pub mod Boards
+pub mod Shown
+pub mod Whole
+pub mod Pages

@@ -1,5 +1,5 @@
 -- The cells of an instruction's row after a cycle.
-use Rattle.std.specs.Prelude.{ℕ, ◌+◌, ◌-◌, ◌==◌, nat_le, nat_lt, Bool, false, ◌&&◌, if◌then◌else◌, List, [], ◌++◌}
+use Rattle.std.specs.Prelude.{ℕ, ◌+◌, ◌-◌, ◌==◌, nat_le, nat_lt, false, ◌&&◌, if◌then◌else◌, List, [], ◌++◌}
 use Rattle.std.specs.Prelude.{codes, is_some, Option, Some, None}
 use Rattle.std.specs.Fmt.{decimal}
 use Rattle.tomex_steps.specs.Steps.{step_dest}

@@ -55,7 +55,7 @@ items t es event =
 
 unfoldable pub event_text : ℕ → List Entry → Event → List ℕ
 event_text t es event =
-    codes "<div><dt>" ++ (name_of_event event ++ (codes "</dt>" ++ (items t es event ++ codes "</div>\n")))
+    (codes "<div><dt>" ++ (name_of_event event ++ codes "</dt>")) ++ (items t es event ++ codes "</div>\n")
 
 unfoldable pub events : ℕ → List Entry → List ℕ
 events t es = codes "<dl class=\"e\">\n" ++ (flat_map (event_text t es) all_events ++ codes "</dl>\n")

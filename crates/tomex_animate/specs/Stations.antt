@@ -63,8 +63,8 @@ field_cell was now column = changed_cell (column_text was column) (column_text n
 -- a station, with what it showed after the cycle before
 unfoldable pub station_row : Tag → Option Busy → Option Busy → List ℕ
 station_row tag was now =
-    codes "<tr><th scope=\"row\">" ++ (tag_text tag ++ (codes "</th>"
-    ++ (flat_map (field_cell was now) all_columns ++ codes "</tr>\n")))
+    (codes "<tr><th scope=\"row\">" ++ (tag_text tag ++ codes "</th>"))
+    ++ (flat_map (field_cell was now) all_columns ++ codes "</tr>\n")
 
 unfoldable pub row_in : ℕ → List Done → PoolId → ℕ → List ℕ
 row_in t h pool number =

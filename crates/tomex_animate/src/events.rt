@@ -181,7 +181,7 @@ fn push_event<A: Allocator>(
     let name = event.name();
     write!(text, "<div><dt>{name}</dt>")?;
     push_items(text, heap, view, event)?;
-    text.push_str("</div>\n")
+    write!(text, "</div>\n")
 }
 
 /// Adds an entry for each of these events.
@@ -212,5 +212,5 @@ pub fn push_events<A: Allocator>(
 {
     text.push_str("<dl class=\"e\">\n")?;
     push_all_events(text, heap, view, all_events())?;
-    text.push_str("</dl>\n")
+    write!(text, "</dl>\n")
 }

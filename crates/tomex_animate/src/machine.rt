@@ -38,7 +38,7 @@ fn push_row<A: Allocator>(
 {
     write!(text, "<tr><th scope=\"row\">{name}</th>")?;
     push_numbers(text, values)?;
-    text.push_str("</tr>\n")
+    write!(text, "</tr>\n")
 }
 
 /// The stations of each pool.
@@ -160,5 +160,5 @@ pub fn push_index<A: Allocator>(text: &mut String<A>, page: Span) -> Result<(), 
 {
     text.push_str("<div><h2>Cycles</h2>\n<p class=\"i\">\n")?;
     push_index_links(text, page)?;
-    text.push_str("</p></div>\n")
+    write!(text, "</p></div>\n")
 }

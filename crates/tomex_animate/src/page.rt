@@ -132,7 +132,7 @@ fn push_page_head<A: Allocator>(
     push_run_name(text, program, number)?;
     text.push_str("<bdi>")?;
     push_name(text, study)?;
-    text.push_str("</bdi></h1></header>\n<main class=\"v\">\n")
+    write!(text, "</bdi></h1></header>\n<main class=\"v\">\n")
 }
 
 /// Adds what a page has after its views.

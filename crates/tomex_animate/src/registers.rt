@@ -87,5 +87,5 @@ pub fn push_register_status<A: Allocator>(
 {
     text.push_str("<div class=\"q\"><h3>Register status (Qi)</h3>\n<dl class=\"r\">\n")?;
     push_registers(text, view)?;
-    text.push_str("</dl></div>\n")
+    write!(text, "</dl></div>\n")
 }

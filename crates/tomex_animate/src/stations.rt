@@ -187,7 +187,7 @@ fn push_row<A: Allocator>(
     let name = Name(Some(tag));
     write!(text, "<tr><th scope=\"row\">{name}</th>")?;
     push_fields(text, scratch, was, now, all_columns())?;
-    text.push_str("</tr>\n")
+    write!(text, "</tr>\n")
 }
 
 /// Adds the row of a station of a pool.
@@ -203,8 +203,9 @@ fn push_row_in<A: Allocator>(
         ++ row_in view.now.cycle (history_of view.now.entries.now) pool number) }
 {
     let place = 16 * pool.place() + number as usize;
-    let was = view.boards.before.stations[place];
-    let now = view.boards.now.stations[place];
+    let boards = &view.boards;
+    let was = boards.before.stations[place];
+    let now = boards.now.stations[place];
     push_row(text, scratch, Tag { pool, number }, &was, &now)
 }
 

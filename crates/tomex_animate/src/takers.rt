@@ -1,9 +1,10 @@
 //! What takes a result that is sent.
 
-ghost use Rattle.std.specs.Prelude.{◌≡◌, ◌-◌, ◌++◌, IfOk, OnOk, string_bytes};
+ghost use Rattle.std.specs.Prelude.{◌≡◌, ◌<◌, ◌++◌, IfOk, OnOk, string_bytes};
 ghost use Rattle.std.specs.List.{flat_map};
+ghost use Rattle.tomex_animate.specs.Entries.{history_of};
 ghost use Rattle.tomex_animate.specs.Takers.{awaits, operand_takers, register_takers, same_name, same_tag, takers};
-ghost use Rattle.tomex_animate.specs.Takers.{takers_text};
+ghost use Rattle.tomex_animate.specs.Takers.{takers_text, takers_to};
 
 use crate::entries::{Entry, Name};
 use crate::view::View;
@@ -111,20 +112,35 @@ fn push_register(
     Ok(())
 }
 
-/// The takers of a step's result in the cycle in which it is sent.
+/// The takers of what a station sends to a register in a view's cycle.
+fn takers_to(
+    heap: Global,
+    view: &View<'_>,
+    tag: Tag,
+    register: u8,
+) -> Result<Vec<Taker>, AllocError>
+    requires { register < 32 }
+    ensures { IfOk result (λ v. v.items
+        ≡ takers_to view.now.cycle (history_of view.now.entries.now) tag register) }
+{
+    let boards = &view.boards;
+    let was = boards.before.registers[register as usize];
+    let now = boards.now.registers[register as usize];
+    let mut takers = Vec::new(heap);
+    push_all_operands(&mut takers, tag, &boards.taking.stations)?;
+    push_register(&mut takers, tag, register, was, now)?;
+    Ok(takers)
+}
+
+/// The takers of a step's result in a view's cycle, if it has a station and a register.
 #[tactic(auto, unfolding(crate::specs::Takers::takers))]
 fn takers_of(heap: Global, view: &View<'_>, entry: &Entry) -> Result<Vec<Taker>, AllocError>
     ensures { IfOk result (λ v. v.items ≡ takers view.now.cycle view.now.entries.now entry.now) }
 {
-    let mut takers = Vec::new(heap);
-    if let (Some(tag), Some(register)) = (entry.station(), entry.step.dest()) {
-        let boards = &view.boards;
-        push_all_operands(&mut takers, tag, &boards.taking.stations)?;
-        let was = boards.before.registers[register as usize];
-        let now = boards.now.registers[register as usize];
-        push_register(&mut takers, tag, register, was, now)?;
+    match (entry.station(), entry.step.dest()) {
+        (Some(tag), Some(register)) => takers_to(heap, view, tag, register),
+        _ => Ok(Vec::new(heap)),
     }
-    Ok(takers)
 }
 
 /// Adds takers, with commas between them.

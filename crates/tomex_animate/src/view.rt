@@ -69,7 +69,7 @@ fn push_head<A: Allocator>(
         "<section id=\"c{cycle}\">\n<header><h2>Cycle {cycle} <small>of {total}</small></h2>\n"
     )?;
     push_links(text, links_at(page, cycle))?;
-    text.push_str("</header>\n")
+    write!(text, "</header>\n")
 }
 
 /// What all views of a page are made of.
@@ -105,7 +105,7 @@ fn push_view<A: Allocator>(
     push_status_table(text, views.page, views.entries, cycle)?;
     push_station_table(text, scratch, &view, views.config)?;
     push_register_status(text, &view)?;
-    text.push_str("</section>\n")
+    write!(text, "</section>\n")
 }
 
 /// Adds the views of all cycles of the page.
