@@ -8,13 +8,13 @@ use Rattle.tomex_steps.specs.declared.step.Step.{Step}
 use Rattle.tomex_config.specs.Configuration.{Configuration}
 use Rattle.tomex_timing.specs.Search.{times_in, total_of}
 use Rattle.tomex_timing.specs.declared.times.Times.{Times}
-use Rattle.tomex_animate.specs.Entries.{entries_of}
-use Rattle.tomex_animate.specs.Kept.{IsStretch, is_later, is_past}
+use Rattle.tomex_snapshots.specs.Entries.{entries_of}
+use Rattle.tomex_animate.specs.Stretch.{IsStretch, is_later, is_past}
 use Rattle.tomex_animate.specs.Machine.{cycles_of}
 use Rattle.tomex_animate.specs.Page.{IsAnimationOf, animate_page, frame, page_foot, page_head, page_of}
-use Rattle.tomex_animate.specs.declared.entries.Entry.{Entry}
-use Rattle.tomex_animate.specs.declared.entries.Span.{Span}
-use Rattle.tomex_animate.proofs.Lists.{three_pieces}
+use Rattle.tomex_snapshots.specs.declared.entries.Entry.{Entry}
+use Rattle.tomex_snapshots.specs.declared.entries.Span.{Span}
+use Rattle.tomex_snapshots.proofs.Lists.{three_pieces}
 use Rattle.tomex_animate.proofs.Whole.{frames_same}
 
 -- what stands between the first steps and the last ones

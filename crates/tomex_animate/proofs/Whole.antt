@@ -17,25 +17,25 @@ use Rattle.tomex_timing.specs.declared.tables.Tag.{Tag}
 use Rattle.tomex_timing.specs.declared.times.Done.{Done}
 use Rattle.tomex_timing.specs.declared.times.Times.{Times}
 use Rattle.tomex_timing.specs.History.{cycle_of}
-use Rattle.tomex_animate.specs.declared.entries.Entry.{Entry}
-use Rattle.tomex_animate.specs.declared.entries.Span.{Span}
-use Rattle.tomex_animate.specs.Entries.{done_of, history_of, is_there}
-use Rattle.tomex_animate.specs.Kept.{earliest, is_later, is_past}
-use Rattle.tomex_animate.specs.Takers.{held, operand_takers, register_takers, takers, takers_from, takers_to}
-use Rattle.tomex_animate.specs.Events.{all_events, event_text, events, happens, item, item_if, items}
+use Rattle.tomex_snapshots.specs.declared.entries.Entry.{Entry}
+use Rattle.tomex_snapshots.specs.declared.entries.Span.{Span}
+use Rattle.tomex_snapshots.specs.Entries.{done_of, history_of, is_there}
+use Rattle.tomex_animate.specs.Stretch.{earliest, is_later, is_past}
+use Rattle.tomex_snapshots.specs.Takers.{held, operand_takers, register_takers, takers, takers_from, takers_to}
+use Rattle.tomex_frames.specs.Events.{all_events, event_text, events, happens, item, item_if, items}
 use Rattle.tomex_animate.specs.Machine.{cycles_of}
 use Rattle.tomex_animate.specs.Page.{frame}
-use Rattle.tomex_animate.specs.Kept.{IsStretch}
-use Rattle.tomex_animate.specs.Stations.{pool_rows, register_at, register_cell, register_status, registers_text, row_in}
-use Rattle.tomex_animate.specs.Stations.{station_row, station_table, all_pools}
-use Rattle.tomex_animate.specs.Status.{listed, row_if, status_table}
-use Rattle.tomex_animate.specs.declared.events.Event.{Event}
-use Rattle.tomex_animate.specs.declared.events.Event.TheVariants.{Issue, Address, Start, Finish, Write}
-use Rattle.tomex_animate.specs.declared.takers.Taker.{Taker}
+use Rattle.tomex_animate.specs.Stretch.{IsStretch}
+use Rattle.tomex_frames.specs.Stations.{pool_rows, register_at, register_cell, register_status, registers_text, row_in}
+use Rattle.tomex_frames.specs.Stations.{station_row, station_table, all_pools}
+use Rattle.tomex_frames.specs.Status.{listed, row_if, status_table}
+use Rattle.tomex_frames.specs.declared.events.Event.{Event}
+use Rattle.tomex_frames.specs.declared.events.Event.TheVariants.{Issue, Address, Start, Finish, Write}
+use Rattle.tomex_snapshots.specs.declared.takers.Taker.{Taker}
 use Rattle.tomex_rvdec.specs.declared.pool.PoolId.{PoolId}
 use Rattle.tomex_config.specs.Configuration.{stations_of}
-use Rattle.tomex_animate.proofs.Boards.{held_is}
-use Rattle.tomex_animate.proofs.Lists.{flat_map_same}
+use Rattle.tomex_snapshots.proofs.Noted.{held_is}
+use Rattle.tomex_snapshots.proofs.Lists.{flat_map_same}
 
 -- each step of these is past, or later, by cases on the list
 abbrev pub ArePast : ℕ → List Done → Type 0

@@ -1,11 +1,5 @@
 pub mod Constants
-pub mod Entries
-pub mod Takers
-pub mod Events
-pub mod Cells
-pub mod Status
-pub mod Stations
 pub mod Machine
 pub mod Page
-pub mod Kept
+pub mod Stretch
 pub mod Laws

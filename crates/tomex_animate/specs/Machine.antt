@@ -7,8 +7,8 @@ use Rattle.tomex_rvdec.specs.declared.pool.UnitId.TheVariants as units
 use Rattle.tomex_config.specs.Configuration.{Configuration, option_of, stations_of}
 use Rattle.tomex_html.specs.Html.{td}
 use Rattle.tomex_animate.specs.Constants.{machine_head}
-use Rattle.tomex_animate.specs.Stations.{all_pools}
-use Rattle.tomex_animate.specs.declared.entries.Span.{Span}
+use Rattle.tomex_frames.specs.Stations.{all_pools}
+use Rattle.tomex_snapshots.specs.declared.entries.Span.{Span}
 
 -- the kind of unit that each pool's instructions use: loads and stores share those of memory
 unfoldable pub all_kinds : List UnitId

@@ -9,15 +9,15 @@ use Rattle.tomex_timing.specs.Search.{times_in, total_of}
 use Rattle.tomex_html.specs.Html.{html_name, links, page_end, page_start}
 use Rattle.tomex_html.specs.declared.links.Links.{Links}
 use Rattle.tomex_animate.specs.Constants.{animate_css, animate_help}
-use Rattle.tomex_animate.specs.Entries.{entries_of, history_of}
-use Rattle.tomex_animate.specs.Events.{events}
+use Rattle.tomex_snapshots.specs.Entries.{entries_of, history_of}
+use Rattle.tomex_frames.specs.Events.{events}
 use Rattle.tomex_animate.specs.Machine.{cycles_of, index, machine_table}
-use Rattle.tomex_animate.specs.Stations.{register_status, station_table}
-use Rattle.tomex_animate.specs.Status.{status_table}
+use Rattle.tomex_frames.specs.Stations.{register_status, station_table}
+use Rattle.tomex_frames.specs.Status.{status_table}
 use Rattle.tomex_animate.specs.declared.animation_error.AnimationError.{AnimationError}
 use Rattle.tomex_animate.specs.declared.animation_error.AnimationError.TheVariants.{PastEnd, Memory}
-use Rattle.tomex_animate.specs.declared.entries.Entry.{Entry}
-use Rattle.tomex_animate.specs.declared.entries.Span.{Span}
+use Rattle.tomex_snapshots.specs.declared.entries.Entry.{Entry}
+use Rattle.tomex_snapshots.specs.declared.entries.Span.{Span}
 
 -- the first view is followed by the others
 unfoldable pub links_at : Span → ℕ → Links

@@ -2,18 +2,10 @@
 #![tactic(auto)]
 
 mod animation_error;
-mod board;
-mod cells;
 mod constants;
-mod doing;
-mod entries;
-mod events;
 mod machine;
 mod page;
-mod registers;
-mod stations;
-mod status;
-mod takers;
+mod stretch;
 mod view;
 
 pub use animation_error::AnimationError;

@@ -5,14 +5,14 @@ ghost use Rattle.std.specs.List.{flat_map};
 ghost use Rattle.tomex_config.specs.Configuration.{option_of, stations_of};
 ghost use Rattle.tomex_animate.specs.Machine.{all_kinds, cycles_of, index, index_link, machine_row, machine_rows};
 ghost use Rattle.tomex_animate.specs.Machine.{machine_table, number_cell, shared_text};
-ghost use Rattle.tomex_animate.specs.Stations.{all_pools};
+ghost use Rattle.tomex_frames.specs.Stations.{all_pools};
 
 use crate::constants::machine_head;
-use crate::entries::Span;
 use std::alloc::{AllocError, Allocator};
 use std::fmt::Write;
 use tomex_config::Config;
 use tomex_rvdec::{PoolId, UnitId};
+use tomex_snapshots::Span;
 
 /// Adds a cell for each number.
 fn push_numbers<A: Allocator>(text: &mut String<A>, values: &[u8; 6]) -> Result<(), AllocError>

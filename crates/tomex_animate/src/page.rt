@@ -1,84 +1,28 @@
 //! The page of some cycles of a run.
 
-ghost use Rattle.std.specs.Prelude.{◌≡◌, ◌+◌, ◌-◌, ◌<◌, ◌≤◌, ◌^◌, ◌++◌, true, All, drop, length, min, take};
+ghost use Rattle.std.specs.Prelude.{◌≡◌, ◌+◌, ◌-◌, ◌<◌, ◌≤◌, ◌^◌, ◌++◌, length, min};
 ghost use Rattle.std.specs.Prelude.{IfErr, IfOk, OnOk, string_bytes};
 ghost use Rattle.tomex_rvexec.specs.Run.{start_of};
 ghost use Rattle.tomex_rvexec.specs.Trace.{steps_from};
 ghost use Rattle.tomex_timing.specs.Search.{times_in};
-ghost use Rattle.tomex_animate.specs.Entries.{entries_of};
-ghost use Rattle.tomex_animate.specs.Kept.{IsStretch, earliest, is_later, is_past, latest};
+ghost use Rattle.tomex_snapshots.specs.Entries.{entries_of};
 ghost use Rattle.tomex_animate.specs.Page.{IsAnimationOf, IsUnanimated, animate_page, page_foot, page_head, page_of};
 ghost use Rattle.tomex_animate.specs.Page.{run_named, title_of};
 
 use crate::animation_error::AnimationError;
 use crate::constants::{animate_css, animate_help};
-use crate::entries::{Entry, Span, entries_of};
 use crate::machine::{push_index, push_machine_table};
+use crate::stretch::stretch;
 use crate::view::{Views, push_views};
 use std::alloc::{AllocError, Allocator, Global};
 use std::fmt::Write;
 use tomex_config::Config;
 use tomex_html::{push_name, push_page_end, push_page_start};
 use tomex_rvexec::Step;
+use tomex_snapshots::{Entry, Span, entries_of};
 use tomex_study::Program;
 use tomex_timing::Times;
 use tomex_timing::evaluate::{times, total, waits};
-
-/// The first of a step's cycles.
-fn earliest(at: &Times) -> u64
-    ensures { result ≡ earliest at.now }
-{
-    let address = at.address.unwrap_or(at.issue);
-    at.issue
-        .min(address.min(at.start.min(at.finish.min(at.end))))
-}
-
-/// The last of a step's cycles.
-fn latest(at: &Times) -> u64
-    ensures { result ≡ latest at.now }
-{
-    let address = at.address.unwrap_or(0);
-    at.issue
-        .max(address.max(at.start.max(at.finish.max(at.end))))
-}
-
-/// Whether a step is in no view from a cycle on.
-fn is_past(first: u64, entry: &Entry) -> bool
-    ensures { result ≡ is_past first entry.now }
-{
-    latest(&entry.at) < first.saturating_sub(2)
-}
-
-/// Whether a step is in no view up to a cycle.
-fn is_later(last: u64, entry: &Entry) -> bool
-    ensures { result ≡ is_later last entry.now }
-{
-    last < entry.from && last < earliest(&entry.at)
-}
-
-/// How many steps at the beginning of a run are in no view from a cycle on.
-fn count_past(entries: &[Entry], first: u64) -> usize
-    ensures few { result ≤ length entries.now }
-    ensures past { All (λ e. is_past first e ≡ true) (take result entries.now) }
-{
-    let mut count = 0;
-    while count < entries.len() && is_past(first, &entries[count]) {
-        count += 1;
-    }
-    count
-}
-
-/// The steps without those at their end that are in no view up to a cycle.
-fn without_later(entries: &[Entry], last: u64) -> usize
-    ensures few { result ≤ length entries.now }
-    ensures later { All (λ e. is_later last e ≡ true) (drop result entries.now) }
-{
-    let mut count = entries.len();
-    while 0 < count && is_later(last, &entries[count - 1]) {
-        count -= 1;
-    }
-    count
-}
 
 /// Adds what a page is of, without the study's name.
 #[tactic(auto, unfolding(crate::specs::Page::run_named))]
@@ -188,16 +132,6 @@ fn entries_in<A: Allocator + Clone>(
 {
     let waits = waits(alloc.clone()?, steps, config)?;
     entries_of(alloc, steps, times, waits.as_slice())
-}
-
-/// The steps that are in some view of a page, with all that stand between them.
-fn stretch(entries: &[Entry], page: Span) -> &[Entry]
-    ensures { IsStretch page entries.now result.now }
-{
-    let behind = count_past(entries, page.from);
-    let rest = &entries[behind..];
-    let count = without_later(rest, page.to);
-    &rest[..count]
 }
 
 /// The last cycle of a page.

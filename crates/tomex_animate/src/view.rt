@@ -2,30 +2,15 @@
 
 ghost use Rattle.std.specs.Prelude.{◌≡◌, ◌<◌, ◌^◌, ◌++◌, OnOk, string_bytes};
 ghost use Rattle.std.specs.List.{flat_map};
-ghost use Rattle.tomex_animate.specs.Entries.{history_of};
-ghost use Rattle.tomex_animate.specs.Kept.{AreBoards};
 ghost use Rattle.tomex_animate.specs.Machine.{cycles_of};
 ghost use Rattle.tomex_animate.specs.Page.{frame, frame_head, links_at};
 
-use crate::board::{Boards, boards_of};
-use crate::entries::{Entry, Span};
-use crate::events::push_events;
-use crate::registers::push_register_status;
-use crate::stations::{Scratch, push_station_table};
-use crate::status::push_status_table;
 use std::alloc::{AllocError, Allocator, Global};
 use std::fmt::Write;
 use tomex_config::Config;
+use tomex_frames::{Scratch, push_events, push_register_status, push_station_table, push_status_table};
 use tomex_html::{Links, push_links};
-
-/// A cycle, and what a view of it is made of.
-#[derive(Clone, Copy)]
-pub struct View<'a> {
-    pub cycle: u64,
-    pub entries: &'a [Entry],
-    pub boards: Boards,
-    pub ghost boards_are: { AreBoards cycle (history_of entries.now) boards },
-}
+use tomex_snapshots::{Entry, Span, View};
 
 /// The links of the view of a cycle.
 #[tactic(auto, unfolding(crate::specs::Page::links_at))]
@@ -95,11 +80,7 @@ fn push_view<A: Allocator>(
     ensures { OnOk result (string_bytes text.new ≡ string_bytes text.old
         ++ frame views.now.config.now views.now.page views.now.total views.now.entries.now cycle) }
 {
-    let view = View {
-        cycle,
-        entries: views.entries,
-        boards: boards_of(views.entries, cycle),
-    };
+    let view = View::new(views.entries, cycle);
     push_head(text, views.page, views.total, cycle)?;
     push_events(text, heap, &view)?;
     push_status_table(text, views.page, views.entries, cycle)?;

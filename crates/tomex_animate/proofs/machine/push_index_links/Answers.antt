@@ -1,7 +1,7 @@
 -- One link more.
 use Rattle.std.proofs.Common.{◌+◌, arith}
 use Rattle.tomex_animate.specs.Machine.{index_link}
-use Rattle.tomex_animate.proofs.Lists.{number_more}
+use Rattle.tomex_snapshots.proofs.Lists.{number_more}
 use Rattle.tomex_animate.proofs.machine.push_index_links.Goals as goal
 
 pub loop-cycle-preserved : goal.loop-cycle-preserved

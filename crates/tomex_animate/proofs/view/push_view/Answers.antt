@@ -1,7 +1,7 @@
 -- One piece after the other.
 use Rattle.std.proofs.lemmas.Result.{on_ok_weaker}
 use Rattle.tomex_animate.specs.Page.{frame}
-use Rattle.tomex_animate.proofs.Lists.{six_pieces}
+use Rattle.tomex_snapshots.proofs.Lists.{six_pieces}
 use Rattle.tomex_animate.proofs.view.push_view.Goals as goal
 
 pub returns : goal.returns

@@ -1,7 +1,7 @@
 -- One view more.
 use Rattle.std.proofs.Common.{◌+◌, arith}
 use Rattle.tomex_animate.specs.Page.{frame}
-use Rattle.tomex_animate.proofs.Lists.{number_more}
+use Rattle.tomex_snapshots.proofs.Lists.{number_more}
 use Rattle.tomex_animate.proofs.view.push_views.Goals as goal
 
 pub loop-cycle-preserved : goal.loop-cycle-preserved
