@@ -42,7 +42,7 @@ fn push_row<A: Allocator>(
 }
 
 /// The stations of each pool.
-#[tactic(auto, unfolding(crate::specs::Stations::all_pools))]
+#[tactic(auto, unfolding(tomex_frames::specs::Stations::all_pools))]
 fn stations(config: &Config) -> [u8; 6]
     ensures { result ≡ map (stations_of config.now) all_pools }
 {

@@ -8,7 +8,9 @@ ghost use Rattle.tomex_animate.specs.Page.{frame, frame_head, links_at};
 use std::alloc::{AllocError, Allocator, Global};
 use std::fmt::Write;
 use tomex_config::Config;
-use tomex_frames::{Scratch, push_events, push_register_status, push_station_table, push_status_table};
+use tomex_frames::{
+    Scratch, push_events, push_register_status, push_station_table, push_status_table,
+};
 use tomex_html::{Links, push_links};
 use tomex_snapshots::{Entry, Span, View};
 

@@ -7,6 +7,9 @@ use Rattle.tomex_animate.proofs.view.push_view.Goals as goal
 pub returns : goal.returns
 unfolding frame
 returns g c =
+    let cycle = c.new-view.ensures.cycle in
+    let entries = c.new-view.ensures.entries in
     on_ok_weaker c.write.result (λ last. six_pieces _ _ _ _ _ _ _ _ _ _ _ _ _ c.in_ok-push_head.ensures
-    c.in_ok-push_events.ensures c.in_ok-push_status_table.ensures c.in_ok-push_station_table.ensures
-    c.in_ok-push_register_status.ensures last) c.write.ensures.bytes
+    (rw (cycle, entries) at c.in_ok-push_events.ensures) c.in_ok-push_status_table.ensures
+    (rw (cycle, entries) at c.in_ok-push_station_table.ensures)
+    (rw (cycle, entries) at c.in_ok-push_register_status.ensures) last) c.write.ensures.bytes
