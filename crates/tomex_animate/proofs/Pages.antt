@@ -1,0 +1,69 @@
+-- The page of the steps that are in its views is that of all steps.
+use Rattle.std.proofs.Common.{◌≡◌, ◌∙◌, ◌<◌, ◌≤◌, ◌+◌, ◌-◌, ℕ, arith, ap, ap₂, subst, sym, List, [], ◌++◌, min, true}
+use Rattle.std.proofs.Common.{drop, take}
+use Rattle.std.specs.Prelude.{All}
+use Rattle.std.specs.List.{flat_map}
+use Rattle.std.proofs.lemmas.List.{take-append-drop}
+use Rattle.tomex_steps.specs.declared.step.Step.{Step}
+use Rattle.tomex_config.specs.Configuration.{Configuration}
+use Rattle.tomex_timing.specs.Search.{times_in, total_of}
+use Rattle.tomex_timing.specs.declared.times.Times.{Times}
+use Rattle.tomex_snapshots.specs.Entries.{entries_of}
+use Rattle.tomex_animate.specs.Stretch.{IsStretch, is_later, is_past}
+use Rattle.tomex_animate.specs.Machine.{cycles_of}
+use Rattle.tomex_animate.specs.Page.{IsAnimationOf, animate_page, frame, page_foot, page_head, page_of}
+use Rattle.tomex_snapshots.specs.declared.entries.Entry.{Entry}
+use Rattle.tomex_snapshots.specs.declared.entries.Span.{Span}
+use Rattle.tomex_snapshots.proofs.Lists.{three_pieces}
+use Rattle.tomex_animate.proofs.Whole.{frames_same}
+
+-- what stands between the first steps and the last ones
+pub stretch_is : (page : Span) (all rest some : List Entry) (behind count : ℕ)
+    → All (λ e. is_past page.from e ≡ true) (take behind all) → rest ≡ drop behind all
+    → All (λ e. is_later page.to e ≡ true) (drop count rest) → some ≡ take count rest → IsStretch page all some
+stretch_is page all rest some behind count past rest_is later some_is = record {
+  front = take behind all;
+  rest = drop count rest;
+  is = sym (take-append-drop behind all) ∙ ap (λ (z : List Entry). take behind all ++ z)
+      (sym rest_is ∙ (sym (take-append-drop count rest) ∙ ap (λ (z : List Entry). z ++ drop count rest) (sym some_is)));
+  past = past;
+  later = later;
+}
+
+-- the page's text
+pub page_is : (study program : List ℕ) (number : ℕ) (config : Configuration) (page : Span) (total : ℕ)
+    (es : List Entry) (none head views foot bytes : List ℕ) → none ≡ [] → head ≡ none ++ page_head study program number page
+    → views ≡ head ++ flat_map (frame config page total es) (cycles_of page) → foot ≡ views ++ page_foot config page
+    → bytes ≡ foot → bytes ≡ animate_page study program number config page total es
+page_is study program number config page total es none head views foot bytes empty begun shown ended made =
+    made ∙ (three_pieces none head views foot _ _ _ begun shown ended
+    ∙ ap (λ (z : List ℕ). z ++ animate_page study program number config page total es) empty)
+
+pub animated : (study program : List ℕ) (number : ℕ) (config : Configuration) (run made : List Step)
+    (kept slice : List Times) (first count from total to : ℕ) (entries all some : List Entry) (text : List ℕ)
+    → made ≡ run → kept ≡ times_in config made → slice ≡ kept → total ≡ total_of slice → from ≡ first → from ≤ total
+    → to ≡ min (from + count - 1) total → 0 < first → 0 < count → entries ≡ entries_of config made → all ≡ entries
+    → IsStretch (record { from = from; to = to }) all some
+    → text ≡ animate_page study program number config (record { from = from; to = to }) total some
+    → IsAnimationOf study program number config run first count text
+animated study program number config run made kept slice first count from total to entries all some text run_is kept_is
+    same total_is from_is low to_is some_first some_count entries_are all_is stretch text_is =
+    let page : Span = record { from = from; to = to } in
+    let total_of_run : total ≡ total_of (times_in config run) =
+    total_is ∙ ap total_of (same ∙ (kept_is ∙ ap (times_in config) run_is)) in
+    let all_of_run : all ≡ entries_of config run = all_is ∙ (entries_are ∙ ap (entries_of config) run_is) in
+    let frames : flat_map (frame config page total all) (cycles_of page)
+    ≡ flat_map (frame config page total some) (cycles_of page) =
+    frames_same config page total all some (omega (arith, low, to_is, some_first, some_count, from_is)) stretch in
+    let of_all : text ≡ animate_page study program number config page total all =
+    text_is ∙ ap (λ (z : List ℕ). page_head study program number page ++ (z ++ page_foot config page)) (sym frames) in
+    let page_same : page ≡ page_of first count (total_of (times_in config run)) =
+    ap (λ (n : ℕ). record { from = from; to = n }) to_is
+    ∙ (ap (λ (n : ℕ). record { from = n; to = min (n + count - 1) total }) from_is
+    ∙ ap (λ (n : ℕ). record { from = first; to = min (first + count - 1) n }) total_of_run) in
+    record {
+      reached = subst (λ (n : ℕ). first ≤ n) total_of_run (subst (λ (n : ℕ). n ≤ total) from_is low);
+      is = of_all ∙ (ap (λ (p : Span). animate_page study program number config p total all) page_same
+          ∙ ap₂ (λ (n : ℕ) (es : List Entry). animate_page study program number config
+          (page_of first count (total_of (times_in config run))) n es) total_of_run all_of_run);
+    }

@@ -1,0 +1,14 @@
+-- What is left out is past, or later.
+use Rattle.std.proofs.Common.{◌-◌, drop, length, refl, take}
+use Rattle.std.proofs.lemmas.List.{take_rest}
+use Rattle.tomex_animate.proofs.Pages.{stretch_is}
+use Rattle.tomex_animate.proofs.stretch.stretch.Goals as goal
+
+pub returns : goal.returns
+returns c =
+    let all = c.args.entries.now in
+    let behind = c.count_past-behind.result in
+    let count = c.without_later-count.result in
+    let rest = take (length all - behind) (drop behind all) in
+    stretch_is c.args.page all rest (take count rest) behind count c.count_past-behind.ensures.past (take_rest all behind)
+    c.without_later-count.ensures.later refl

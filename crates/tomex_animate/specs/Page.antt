@@ -1,0 +1,83 @@
+-- The page of some cycles of a run: a view for each cycle, with Tomasulo's tables after it.
+use Rattle.std.specs.Prelude.{◌≡◌, ℕ, ◌+◌, ◌-◌, ◌<◌, ◌≤◌, nat_lt, if◌then◌else◌, List, ◌++◌, codes, min}
+use Rattle.std.specs.Prelude.{Some, None}
+use Rattle.std.specs.List.{flat_map}
+use Rattle.std.specs.Fmt.{decimal}
+use Rattle.tomex_steps.specs.declared.step.Step.{Step}
+use Rattle.tomex_config.specs.Configuration.{Configuration}
+use Rattle.tomex_timing.specs.Search.{times_in, total_of}
+use Rattle.tomex_html.specs.Html.{html_name, links, page_end, page_start}
+use Rattle.tomex_html.specs.declared.links.Links.{Links}
+use Rattle.tomex_animate.specs.Constants.{animate_css, animate_help}
+use Rattle.tomex_snapshots.specs.Entries.{entries_of, history_of}
+use Rattle.tomex_frames.specs.Events.{events}
+use Rattle.tomex_animate.specs.Machine.{cycles_of, index, machine_table}
+use Rattle.tomex_frames.specs.Stations.{register_status, station_table}
+use Rattle.tomex_frames.specs.Status.{status_table}
+use Rattle.tomex_animate.specs.declared.animation_error.AnimationError.{AnimationError}
+use Rattle.tomex_animate.specs.declared.animation_error.AnimationError.TheVariants.{PastEnd, Memory}
+use Rattle.tomex_snapshots.specs.declared.entries.Entry.{Entry}
+use Rattle.tomex_snapshots.specs.declared.entries.Span.{Span}
+
+-- the first view is followed by the others
+unfoldable pub links_at : Span → ℕ → Links
+links_at page t = record {
+  first = page.from;
+  before = if nat_lt page.from t then Some (t - 1) else None;
+  here = t;
+  after = if nat_lt t page.to then Some (t + 1) else None;
+  last = page.to;
+}
+
+unfoldable pub frame_head : Span → ℕ → ℕ → List ℕ
+frame_head page total t =
+    (codes "<section id=\"c" ++ (decimal t ++ (codes "\">\n<header><h2>Cycle " ++ (decimal t
+    ++ (codes " <small>of " ++ (decimal total ++ codes "</small></h2>\n"))))))
+    ++ (links (links_at page t) ++ codes "</header>\n")
+
+-- the view of a cycle
+unfoldable pub frame : Configuration → Span → ℕ → List Entry → ℕ → List ℕ
+frame config page total es t =
+    frame_head page total t ++ (events t es ++ (status_table page es t ++ (station_table config t (history_of es)
+    ++ (register_status t (history_of es) ++ codes "</section>\n"))))
+
+-- what the page is of; a study's name is what stands on the command line
+unfoldable pub run_named : List ℕ → ℕ → List ℕ
+run_named program number = program ++ (codes " on configuration " ++ (decimal number ++ codes " of "))
+
+unfoldable pub title_of : List ℕ → List ℕ → ℕ → Span → List ℕ
+title_of study program number page =
+    run_named program number ++ (html_name study ++ (codes ", cycles " ++ (decimal page.from
+    ++ (codes " to " ++ decimal page.to))))
+
+unfoldable pub page_head : List ℕ → List ℕ → ℕ → Span → List ℕ
+page_head study program number page =
+    page_start (title_of study program number page) animate_css
+    ++ (codes "<header><h1>" ++ (run_named program number ++ (codes "<bdi>" ++ (html_name study
+    ++ codes "</bdi></h1></header>\n<main class=\"v\">\n"))))
+
+unfoldable pub page_foot : Configuration → Span → List ℕ
+page_foot config page =
+    codes "</main>\n<footer>\n" ++ (machine_table config ++ (index page ++ (animate_help
+    ++ (codes "</footer>\n" ++ page_end))))
+
+abbrev pub animate_page : List ℕ → List ℕ → ℕ → Configuration → Span → ℕ → List Entry → List ℕ
+animate_page study program number config page total es =
+    page_head study program number page
+    ++ (flat_map (frame config page total es) (cycles_of page) ++ page_foot config page)
+
+-- from the first cycle on, as many as are asked for, and none past the total
+abbrev pub page_of : ℕ → ℕ → ℕ → Span
+page_of first count total = record { from = first; to = min (first + count - 1) total }
+
+-- the text is the page of the cycles that are asked for
+pub record IsAnimationOf (study program : List ℕ) (number : ℕ) (config : Configuration) (steps : List Step)
+    (first count : ℕ) (text : List ℕ) : Type 0 where
+  pub reached : first ≤ total_of (times_in config steps)
+  pub is : text ≡ animate_page study program number config (page_of first count (total_of (times_in config steps)))
+      (total_of (times_in config steps)) (entries_of config steps)
+
+-- why there is none
+abbrev pub IsUnanimated : Configuration → List Step → ℕ → AnimationError → Type 0
+IsUnanimated config steps first PastEnd = total_of (times_in config steps) < first
+IsUnanimated config steps first Memory = Unit {0}

@@ -1,0 +1,12 @@
+//! A run cycle by cycle as one HTML page: a view for each cycle, with Tomasulo's tables as they are after it.
+#![tactic(auto)]
+
+mod animation_error;
+mod constants;
+mod machine;
+mod page;
+mod stretch;
+mod view;
+
+pub use animation_error::AnimationError;
+pub use page::animation;

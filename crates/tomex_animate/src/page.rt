@@ -1,0 +1,185 @@
+//! The page of some cycles of a run.
+
+ghost use Rattle.std.specs.Prelude.{◌≡◌, ◌+◌, ◌-◌, ◌<◌, ◌≤◌, ◌^◌, ◌++◌, length, min};
+ghost use Rattle.std.specs.Prelude.{IfErr, IfOk, OnOk, string_bytes};
+ghost use Rattle.tomex_rvexec.specs.Run.{start_of};
+ghost use Rattle.tomex_rvexec.specs.Trace.{steps_from};
+ghost use Rattle.tomex_timing.specs.Search.{times_in};
+ghost use Rattle.tomex_snapshots.specs.Entries.{entries_of};
+ghost use Rattle.tomex_animate.specs.Page.{IsAnimationOf, IsUnanimated, animate_page, page_foot, page_head, page_of};
+ghost use Rattle.tomex_animate.specs.Page.{run_named, title_of};
+
+use crate::animation_error::AnimationError;
+use crate::constants::{animate_css, animate_help};
+use crate::machine::{push_index, push_machine_table};
+use crate::stretch::stretch;
+use crate::view::{Views, push_views};
+use std::alloc::{AllocError, Allocator, Global};
+use std::fmt::Write;
+use tomex_config::Config;
+use tomex_html::{push_name, push_page_end, push_page_start};
+use tomex_rvexec::Step;
+use tomex_snapshots::{Entry, Span, entries_of};
+use tomex_study::Program;
+use tomex_timing::Times;
+use tomex_timing::evaluate::{times, total, waits};
+
+/// Adds what a page is of, without the study's name.
+#[tactic(auto, unfolding(crate::specs::Page::run_named))]
+fn push_run_name<A: Allocator>(
+    text: &mut String<A>,
+    program: &str,
+    number: usize,
+) -> Result<(), AllocError>
+    ensures { OnOk result (string_bytes text.new
+        ≡ string_bytes text.old ++ run_named program.now number) }
+{
+    write!(text, "{program} on configuration {number} of ")
+}
+
+/// A page's title.
+#[tactic(auto, unfolding(crate::specs::Page::title_of))]
+fn title_of(
+    heap: Global,
+    study: &str,
+    program: &str,
+    number: usize,
+    page: Span,
+) -> Result<String, AllocError>
+    ensures { IfOk result
+        (λ title. string_bytes title ≡ title_of study.now program.now number page) }
+{
+    let Span { from, to } = page;
+    let mut title = String::new(heap);
+    push_run_name(&mut title, program, number)?;
+    push_name(&mut title, study)?;
+    write!(&mut title, ", cycles {from} to {to}")?;
+    Ok(title)
+}
+
+/// Adds what a page has before its views.
+#[tactic(auto, unfolding(crate::specs::Page::page_head))]
+fn push_page_head<A: Allocator>(
+    text: &mut String<A>,
+    heap: Global,
+    study: &str,
+    program: &str,
+    number: usize,
+    page: Span,
+) -> Result<(), AllocError>
+    ensures { OnOk result (string_bytes text.new
+        ≡ string_bytes text.old ++ page_head study.now program.now number page) }
+{
+    let title = title_of(heap, study, program, number, page)?;
+    push_page_start(text, title.as_str(), animate_css())?;
+    text.push_str("<header><h1>")?;
+    push_run_name(text, program, number)?;
+    text.push_str("<bdi>")?;
+    push_name(text, study)?;
+    write!(text, "</bdi></h1></header>\n<main class=\"v\">\n")
+}
+
+/// Adds what a page has after its views.
+#[tactic(auto, unfolding(crate::specs::Page::page_foot))]
+fn push_page_foot<A: Allocator>(
+    text: &mut String<A>,
+    config: &Config,
+    page: Span,
+) -> Result<(), AllocError>
+    requires { page.to < 2 ^ 63 }
+    ensures { OnOk result (string_bytes text.new
+        ≡ string_bytes text.old ++ page_foot config.now page) }
+{
+    text.push_str("</main>\n<footer>\n")?;
+    push_machine_table(text, config)?;
+    push_index(text, page)?;
+    text.push_str(animate_help())?;
+    text.push_str("</footer>\n")?;
+    push_page_end(text)
+}
+
+/// The page of some steps.
+fn page_text<A: Allocator>(
+    alloc: A,
+    heap: Global,
+    study: &str,
+    program: &str,
+    number: usize,
+    views: &Views<'_>,
+) -> Result<Vec<u8, A>, AllocError>
+    requires { views.now.page.to < 2 ^ 63 }
+    ensures { IfOk result (λ text. text.items ≡ animate_page study.now program.now number
+        views.now.config.now views.now.page views.now.total views.now.entries.now) }
+{
+    let mut text = String::new(alloc);
+    push_page_head(&mut text, heap, study, program, number, views.page)?;
+    push_views(&mut text, heap, views)?;
+    push_page_foot(&mut text, views.config, views.page)?;
+    Ok(text.into_bytes())
+}
+
+/// The steps of a run with these times on a configuration.
+fn entries_in<A: Allocator + Clone>(
+    alloc: A,
+    steps: &[Step],
+    times: &[Times],
+    config: &Config,
+) -> Result<Vec<Entry, A>, AllocError>
+    requires few { length steps.now ≤ 262144 }
+    requires times { times.now ≡ times_in config.now steps.now }
+    requires pairs { length times.now ≡ length steps.now }
+    ensures { IfOk result (λ v. v.items ≡ entries_of config.now steps.now) }
+{
+    let waits = waits(alloc.clone()?, steps, config)?;
+    entries_of(alloc, steps, times, waits.as_slice())
+}
+
+/// The last cycle of a page.
+fn last_of(first: u64, count: u32, total: u64) -> u64
+    requires first { 0 < first }
+    requires small { first < 2 ^ 32 }
+    ensures { result ≡ min (first + count - 1) total }
+{
+    (first + u64::from(count) - 1).min(total)
+}
+
+/// The page of `count` cycles at most of a program's run on a configuration, from cycle `first` on: for each cycle what
+/// happens in it, the instruction status, the reservation stations and the register status, with what has changed. The
+/// study's name may be any text; `number` is the configuration's number in the study.
+///
+/// A page has 4 to 6.5 KB a cycle on usual machines. What is small is taken of `heap`.
+pub fn animation<A: Allocator + Clone>(
+    alloc: A,
+    heap: Global,
+    study: &str,
+    program: &Program<A>,
+    number: usize,
+    config: &Config,
+    first: u32,
+    count: u32,
+) -> Result<Vec<u8, A>, AnimationError>
+    requires first { 0 < first }
+    requires count { 0 < count }
+    ensures text { IfOk result (λ text. IsAnimationOf study.now program.now.name number config.now
+        (steps_from program.now.limit (start_of program.now.image)) first count text.items) }
+    ensures refused { IfErr result (λ error. IsUnanimated config.now
+        (steps_from program.now.limit (start_of program.now.image)) first error) }
+{
+    let steps = program.steps();
+    let first = u64::from(first);
+    let times = times(alloc.clone()?, steps, config)?;
+    let total = total(times.as_slice());
+    if total < first {
+        return Err(AnimationError::PastEnd);
+    }
+    let to = last_of(first, count, total);
+    let page = Span { from: first, to };
+    let entries = entries_in(alloc.clone()?, steps, times.as_slice(), config)?;
+    let views = Views {
+        config,
+        page,
+        total,
+        entries: stretch(entries.as_slice(), page),
+    };
+    Ok(page_text(alloc, heap, study, program.name(), number, &views)?)
+}

@@ -1,0 +1,5 @@
+pub mod Constants
+pub mod Events
+pub mod Cells
+pub mod Status
+pub mod Stations

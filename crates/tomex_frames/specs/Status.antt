@@ -1,0 +1,43 @@
+-- Instruction status: a row for each step that is there.
+use Rattle.std.specs.Prelude.{ℕ, ◌-◌, nat_le, nat_lt, if◌then◌else◌, List, [], ◌++◌, codes, count_by}
+use Rattle.std.specs.List.{flat_map}
+use Rattle.std.specs.Fmt.{decimal}
+use Rattle.tomex_rvdec.specs.Text.{instr_text}
+use Rattle.tomex_html.specs.Html.{table_end}
+use Rattle.tomex_frames.specs.Cells.{address_cell, cell_text, doing_in, doing_text, execute_cell, issue_cell}
+use Rattle.tomex_frames.specs.Cells.{station_cell, write_cell}
+use Rattle.tomex_frames.specs.Constants.{status_head}
+use Rattle.tomex_snapshots.specs.Entries.{is_there}
+use Rattle.tomex_snapshots.specs.declared.entries.Entry.{Entry}
+use Rattle.tomex_snapshots.specs.declared.entries.Span.{Span}
+
+-- steps that issue later and those that have ended look paler
+abbrev pub row_class : ℕ → Entry → List ℕ
+row_class t e =
+    if nat_lt t e.at.issue then codes " class=\"f\"" else (if nat_lt e.at.end t then codes " class=\"o\"" else [])
+
+unfoldable pub row_head : ℕ → Entry → List ℕ
+row_head t e =
+    codes "<tr" ++ (row_class t e ++ (codes "><td>" ++ (decimal e.number
+    ++ (codes "</td><th scope=\"row\">" ++ (instr_text e.step.instr ++ codes "</th>")))))
+
+unfoldable pub row_cells : ℕ → Entry → List ℕ
+row_cells t e =
+    cell_text (station_cell t e) ++ (cell_text (issue_cell t e) ++ (cell_text (address_cell t e)
+    ++ (cell_text (execute_cell t e) ++ cell_text (write_cell t e))))
+
+unfoldable pub step_row : ℕ → Entry → List ℕ
+step_row t e =
+    row_head t e ++ (row_cells t e ++ (codes "<td>" ++ (doing_text (doing_in t e) ++ codes "</td></tr>\n")))
+
+-- All steps of the page's cycles if these are 16 at most: then the table stays as it is, and fills in. Else those of a
+-- cycle and the two before it.
+abbrev pub listed : Span → List Entry → ℕ → Span
+listed page es t =
+    if nat_le (count_by (is_there page) es) 16 then page else record { from = t - 2; to = t }
+
+abbrev pub row_if : Span → ℕ → Entry → List ℕ
+row_if span t e = if is_there span e then step_row t e else []
+
+unfoldable pub status_table : Span → List Entry → ℕ → List ℕ
+status_table page es t = status_head ++ (flat_map (row_if (listed page es t) t) es ++ table_end)

@@ -1,0 +1,132 @@
+//! What a step does in a cycle, or waits for.
+
+ghost use Rattle.std.specs.Prelude.{◌≡◌};
+ghost use Rattle.tomex_frames.specs.Cells.{doing_in, issue_cause, start_cause};
+
+use std::fmt;
+use tomex_snapshots::Entry;
+use tomex_timing::Waits;
+use tomex_views::{Stage, stage_in};
+
+/// What a step waits for: to issue an older branch, the issue width or a station, to start an operand, its address, an
+/// older access or a unit, and in the end a bus.
+#[derive(Clone, Copy)]
+pub enum Cause {
+    Branch,
+    Width,
+    Station,
+    Operand,
+    Address,
+    Memory,
+    Unit,
+    Bus,
+}
+
+impl fmt::Display for Cause {
+    ghost use Rattle.std.specs.Prelude.{Some};
+    ghost use Rattle.tomex_frames.specs.Cells.{cause_text};
+
+    ghost output = { λ cause. Some (cause_text cause) };
+
+    fn fmt<W: fmt::Write>(&self, f: &mut fmt::Formatter<W>) -> fmt::Result {
+        match *self {
+            Cause::Branch => write!(f, "branch"),
+            Cause::Width => write!(f, "width"),
+            Cause::Station => write!(f, "station"),
+            Cause::Operand => write!(f, "operand"),
+            Cause::Address => write!(f, "address"),
+            Cause::Memory => write!(f, "memory"),
+            Cause::Unit => write!(f, "unit"),
+            Cause::Bus => write!(f, "bus"),
+        }
+    }
+}
+
+/// What a step does in a cycle.
+#[derive(Clone, Copy)]
+pub enum Doing {
+    Issues,
+    /// It computes its address.
+    Computes,
+    Executes,
+    Writes,
+    Waits(Cause),
+}
+
+/// What a step does, in words, or nothing.
+#[derive(Clone, Copy)]
+pub struct Words(pub Option<Doing>);
+
+impl fmt::Display for Words {
+    ghost use Rattle.std.specs.Prelude.{Some};
+    ghost use Rattle.tomex_frames.specs.Cells.{doing_text};
+
+    ghost output = { λ words. Some (doing_text words.0) };
+
+    fn fmt<W: fmt::Write>(&self, f: &mut fmt::Formatter<W>) -> fmt::Result {
+        match self.0 {
+            None => Ok(()),
+            Some(Doing::Issues) => write!(f, "issues"),
+            Some(Doing::Computes) => write!(f, "address"),
+            Some(Doing::Executes) => write!(f, "executes"),
+            Some(Doing::Writes) => write!(f, "writes"),
+            Some(Doing::Waits(cause)) => write!(f, "waits: {cause}"),
+        }
+    }
+}
+
+/// What a cycle of a step's waits to start is charged to; it is the one after `behind` others.
+fn start_cause(waits: &Waits, behind: u64) -> Cause
+    ensures { result ≡ start_cause waits.now behind }
+{
+    let past_operand = behind.saturating_sub(waits.operand);
+    if behind < waits.operand {
+        Cause::Operand
+    } else if past_operand < waits.address {
+        Cause::Address
+    } else if past_operand.saturating_sub(waits.address) < waits.memory {
+        Cause::Memory
+    } else {
+        Cause::Unit
+    }
+}
+
+/// What a cycle of a step's waits to issue is charged to; it is the one after `behind` others.
+fn issue_cause(waits: &Waits, behind: u64) -> Cause
+    ensures { result ≡ issue_cause waits.now behind }
+{
+    if behind < waits.branch {
+        Cause::Branch
+    } else if behind.saturating_sub(waits.branch) < waits.width {
+        Cause::Width
+    } else {
+        Cause::Station
+    }
+}
+
+/// What a step does in a cycle, if anything.
+#[tactic(auto, unfolding(crate::specs::Cells::doing_in))]
+pub fn doing_in(cycle: u64, entry: &Entry) -> Option<Doing>
+    ensures { result ≡ doing_in cycle entry.now }
+{
+    let issue = entry.at.issue;
+    match stage_in(&entry.at, cycle) {
+        Some(Stage::Issue) => Some(Doing::Issues),
+        Some(Stage::Address) => Some(Doing::Computes),
+        Some(Stage::Execute) => Some(Doing::Executes),
+        Some(Stage::Write) => Some(Doing::Writes),
+        Some(Stage::BusWait) => Some(Doing::Waits(Cause::Bus)),
+        Some(Stage::Wait) => {
+            let behind = cycle.saturating_sub(issue).saturating_sub(1);
+            Some(Doing::Waits(start_cause(&entry.waits, behind)))
+        }
+        None => {
+            if entry.from <= cycle && cycle < issue {
+                let behind = cycle.saturating_sub(entry.from);
+                Some(Doing::Waits(issue_cause(&entry.waits, behind)))
+            } else {
+                None
+            }
+        }
+    }
+}

@@ -1,0 +1,214 @@
+//! What happens in a cycle.
+
+ghost use Rattle.std.specs.Prelude.{◌≡◌, ◌++◌, OnOk, string_bytes};
+ghost use Rattle.std.specs.List.{flat_map, list_any};
+ghost use Rattle.tomex_frames.specs.Events.{name_of_event};
+ghost use Rattle.tomex_frames.specs.Events.{all_events, event_text, events, happens, item, item_if, items};
+
+use std::alloc::{AllocError, Allocator, Global};
+use std::fmt::Write;
+use tomex_snapshots::{Entry, Name, View, push_takers};
+
+/// What may happen to a step in a cycle.
+#[derive(Clone, Copy)]
+pub enum Event {
+    Issue,
+    /// A load or store computes its address.
+    Address,
+    Start,
+    Finish,
+    /// A result is sent on a common data bus.
+    Write,
+}
+
+/// All of them, in the order in which a view has them.
+const EVENTS: [Event; 5] = [
+    Event::Issue,
+    Event::Address,
+    Event::Start,
+    Event::Finish,
+    Event::Write,
+];
+
+/// All of them, in the order in which a view has them.
+#[tactic(auto, unfolding(crate::specs::Events::all_events))]
+fn all_events() -> &'static [Event]
+    ensures { result.now ≡ all_events }
+{
+    &EVENTS
+}
+
+impl Event {
+    fn name(self) -> &'static str
+        ensures { result.now ≡ name_of_event self }
+    {
+        match self {
+            Event::Issue => "Issue",
+            Event::Address => "Address",
+            Event::Start => "Start",
+            Event::Finish => "Finish",
+            Event::Write => "Write result",
+        }
+    }
+
+    /// Whether it happens to a step in a cycle.
+    fn happens(self, cycle: u64, entry: &Entry) -> bool
+        ensures { result ≡ happens self cycle entry.now }
+    {
+        let at = &entry.at;
+        match self {
+            Event::Issue => at.issue == cycle,
+            Event::Address => match at.address {
+                Some(address) => address == cycle,
+                None => false,
+            },
+            Event::Start => entry.has_unit() && at.start == cycle,
+            Event::Finish => entry.has_unit() && at.finish == cycle,
+            Event::Write => { entry.has_unit() && (entry.step.dest().is_some() && at.end == cycle) }
+        }
+    }
+}
+
+/// Adds what is said of a step to which it happens.
+#[tactic(auto, unfolding(crate::specs::Events::item))]
+fn push_item<A: Allocator>(
+    text: &mut String<A>,
+    heap: Global,
+    view: &View<'_>,
+    event: Event,
+    entry: &Entry,
+) -> Result<(), AllocError>
+    ensures { OnOk result (string_bytes text.new ≡ string_bytes text.old
+        ++ item view.now.cycle view.now.entries.now event entry.now) }
+{
+    let station = entry.station();
+    let name = Name(station);
+    match event {
+        Event::Issue => {
+            let instr = entry.step.instr;
+            write!(text, "{instr}")?;
+            if station.is_some() {
+                write!(text, " &#8594; {name}")?;
+            }
+            Ok(())
+        }
+        Event::Address => {
+            let address = entry.step.vj.wrapping_add(entry.step.instr.imm());
+            write!(text, "{name} A={address:08x}")
+        }
+        Event::Start | Event::Finish => write!(text, "{name}"),
+        Event::Write => {
+            write!(text, "{name} &#8594; ")?;
+            push_takers(text, heap, view, entry)
+        }
+    }
+}
+
+/// Adds a step, if it happens to it.
+#[tactic(auto, unfolding(crate::specs::Events::item_if))]
+fn push_item_if<A: Allocator>(
+    text: &mut String<A>,
+    heap: Global,
+    view: &View<'_>,
+    event: Event,
+    entry: &Entry,
+) -> Result<(), AllocError>
+    ensures { OnOk result (string_bytes text.new ≡ string_bytes text.old
+        ++ item_if view.now.cycle view.now.entries.now event entry.now) }
+{
+    if event.happens(view.cycle, entry) {
+        text.push_str("<dd>")?;
+        push_item(text, heap, view, event, entry)?;
+        text.push_str("</dd>")?;
+    }
+    Ok(())
+}
+
+/// Adds the steps to which it happens.
+fn push_all_items<A: Allocator>(
+    text: &mut String<A>,
+    heap: Global,
+    view: &View<'_>,
+    event: Event,
+) -> Result<(), AllocError>
+    ensures { OnOk result (string_bytes text.new ≡ string_bytes text.old
+        ++ flat_map (item_if view.now.cycle view.now.entries.now event) view.now.entries.now) }
+{
+    for entry in view.entries {
+        push_item_if(text, heap, view, event, entry)?;
+    }
+    Ok(())
+}
+
+/// Whether it happens to any of these steps.
+fn happens_to_any(entries: &[Entry], cycle: u64, event: Event) -> bool
+    ensures { result ≡ list_any (happens event cycle) entries.now }
+{
+    entries.iter().any(|entry| event.happens(cycle, entry))
+}
+
+/// Adds the steps to which it happens, or a dash if there are none.
+#[tactic(auto, unfolding(crate::specs::Events::items))]
+fn push_items<A: Allocator>(
+    text: &mut String<A>,
+    heap: Global,
+    view: &View<'_>,
+    event: Event,
+) -> Result<(), AllocError>
+    ensures { OnOk result (string_bytes text.new ≡ string_bytes text.old
+        ++ items view.now.cycle view.now.entries.now event) }
+{
+    if happens_to_any(view.entries, view.cycle, event) {
+        push_all_items(text, heap, view, event)
+    } else {
+        text.push_str("<dd>-</dd>")
+    }
+}
+
+/// Adds an entry.
+#[tactic(auto, unfolding(crate::specs::Events::event_text))]
+fn push_event<A: Allocator>(
+    text: &mut String<A>,
+    heap: Global,
+    view: &View<'_>,
+    event: Event,
+) -> Result<(), AllocError>
+    ensures { OnOk result (string_bytes text.new ≡ string_bytes text.old
+        ++ event_text view.now.cycle view.now.entries.now event) }
+{
+    let name = event.name();
+    write!(text, "<div><dt>{name}</dt>")?;
+    push_items(text, heap, view, event)?;
+    write!(text, "</div>\n")
+}
+
+/// Adds an entry for each of these events.
+fn push_all_events<A: Allocator>(
+    text: &mut String<A>,
+    heap: Global,
+    view: &View<'_>,
+    events: &[Event],
+) -> Result<(), AllocError>
+    ensures { OnOk result (string_bytes text.new ≡ string_bytes text.old
+        ++ flat_map (event_text view.now.cycle view.now.entries.now) events.now) }
+{
+    for event in events {
+        push_event(text, heap, view, *event)?;
+    }
+    Ok(())
+}
+
+/// Adds what happens in a view's cycle.
+#[tactic(auto, unfolding(crate::specs::Events::events))]
+pub fn push_events<A: Allocator>(
+    text: &mut String<A>,
+    heap: Global,
+    view: &View<'_>,
+) -> Result<(), AllocError>
+    ensures { OnOk result (string_bytes text.new ≡ string_bytes text.old
+        ++ events view.now.cycle view.now.entries.now) }
+{
+    text.push_str("<dl class=\"e\">\n")?;
+    push_all_events(text, heap, view, all_events())?;
+    write!(text, "</dl>\n")
+}

@@ -1,0 +1,132 @@
+//! Instruction status.
+
+ghost use Rattle.std.specs.Prelude.{◌≡◌, ◌++◌, OnOk, count_by, string_bytes};
+ghost use Rattle.std.specs.List.{flat_map};
+ghost use Rattle.tomex_snapshots.specs.Entries.{is_there};
+ghost use Rattle.tomex_frames.specs.Status.{listed, row_cells, row_class, row_head, row_if, status_table, step_row};
+
+use crate::cells::{address_cell, execute_cell, issue_cell, station_cell, write_cell};
+use crate::constants::status_head;
+use crate::doing::{Words, doing_in};
+use std::alloc::{AllocError, Allocator};
+use std::fmt::Write;
+use tomex_html::push_table_end;
+use tomex_snapshots::{Entry, Span};
+
+/// How many steps a table has that stays as it is.
+const FEW_STEPS: usize = 16;
+
+/// How a row looks: paler before the step's issue and after its end.
+fn row_class(cycle: u64, entry: &Entry) -> &'static str
+    ensures { result.now ≡ row_class cycle entry.now }
+{
+    if cycle < entry.at.issue {
+        " class=\"f\""
+    } else if entry.at.end < cycle {
+        " class=\"o\""
+    } else {
+        ""
+    }
+}
+
+/// Adds what a row begins with: its number and its instruction.
+#[tactic(auto, unfolding(crate::specs::Status::row_head))]
+fn push_row_head<A: Allocator>(
+    text: &mut String<A>,
+    cycle: u64,
+    entry: &Entry,
+) -> Result<(), AllocError>
+    ensures { OnOk result (string_bytes text.new
+        ≡ string_bytes text.old ++ row_head cycle entry.now) }
+{
+    let class = row_class(cycle, entry);
+    let (number, instr) = (entry.number, entry.step.instr);
+    write!(
+        text,
+        "<tr{class}><td>{number}</td><th scope=\"row\">{instr}</th>"
+    )
+}
+
+/// Adds a row's cells.
+#[tactic(auto, unfolding(crate::specs::Status::row_cells))]
+fn push_row_cells<A: Allocator>(
+    text: &mut String<A>,
+    cycle: u64,
+    entry: &Entry,
+) -> Result<(), AllocError>
+    ensures { OnOk result (string_bytes text.new
+        ≡ string_bytes text.old ++ row_cells cycle entry.now) }
+{
+    let (station, issue) = (station_cell(cycle, entry), issue_cell(cycle, entry));
+    let (address, execute) = (address_cell(cycle, entry), execute_cell(cycle, entry));
+    let write = write_cell(cycle, entry);
+    write!(text, "{station}{issue}{address}{execute}{write}")
+}
+
+/// Adds a step's row.
+#[tactic(auto, unfolding(crate::specs::Status::step_row))]
+fn push_row<A: Allocator>(text: &mut String<A>, cycle: u64, entry: &Entry) -> Result<(), AllocError>
+    ensures { OnOk result (string_bytes text.new
+        ≡ string_bytes text.old ++ step_row cycle entry.now) }
+{
+    let words = Words(doing_in(cycle, entry));
+    push_row_head(text, cycle, entry)?;
+    push_row_cells(text, cycle, entry)?;
+    write!(text, "<td>{words}</td></tr>\n")
+}
+
+/// How many steps are there in some of these cycles.
+fn count_in(span: Span, entries: &[Entry]) -> usize
+    ensures { result ≡ count_by (is_there span) entries.now }
+{
+    entries.iter().filter(|entry| entry.is_there(span)).count()
+}
+
+/// The cycles whose steps are listed in the view of a cycle.
+fn listed(page: Span, entries: &[Entry], cycle: u64) -> Span
+    ensures { result ≡ listed page entries.now cycle }
+{
+    if count_in(page, entries) <= FEW_STEPS {
+        page
+    } else {
+        Span {
+            from: cycle.saturating_sub(2),
+            to: cycle,
+        }
+    }
+}
+
+/// Adds the rows of the steps that are there in some of these cycles.
+fn push_rows<A: Allocator>(
+    text: &mut String<A>,
+    span: Span,
+    cycle: u64,
+    entries: &[Entry],
+) -> Result<(), AllocError>
+    ensures { OnOk result (string_bytes text.new
+        ≡ string_bytes text.old ++ flat_map (row_if span cycle) entries.now) }
+{
+    for entry in entries {
+        if entry.is_there(span) {
+            push_row(text, cycle, entry)?;
+        }
+    }
+    Ok(())
+}
+
+/// Adds the table of instructions.
+#[tactic(auto, unfolding(crate::specs::Status::status_table))]
+pub fn push_status_table<A: Allocator>(
+    text: &mut String<A>,
+    page: Span,
+    entries: &[Entry],
+    cycle: u64,
+) -> Result<(), AllocError>
+    ensures { OnOk result (string_bytes text.new
+        ≡ string_bytes text.old ++ status_table page entries.now cycle) }
+{
+    let span = listed(page, entries, cycle);
+    text.push_str(status_head())?;
+    push_rows(text, span, cycle, entries)?;
+    push_table_end(text)
+}

@@ -1,0 +1,13 @@
+//! What a view of a cycle is made of: the steps of a run with their times and waits, what stations and registers show
+//! after the cycle, and what takes the results that are sent in it.
+#![tactic(auto)]
+
+mod entries;
+mod snapshot;
+mod takers;
+mod view;
+
+pub use entries::{Entry, Name, Span, entries_of};
+pub use snapshot::{Snapshot, Snapshots};
+pub use takers::{push_takers, same_name};
+pub use view::View;
