@@ -5,9 +5,9 @@ use Rattle.std.specs.Fmt.{decimal}
 use Rattle.tomex_steps.specs.Steps.{step_dest}
 use Rattle.tomex_timing.specs.declared.part.Waits.{Waits}
 use Rattle.tomex_timing.specs.declared.tables.Tag.{Tag}
-use Rattle.tomex_views.specs.Chart.{stage_in}
-use Rattle.tomex_views.specs.declared.stage.Stage.{Stage}
-use Rattle.tomex_views.specs.declared.stage.Stage.TheVariants as stages
+use Rattle.tomex_run_views.specs.Chart.{stage_in}
+use Rattle.tomex_run_views.specs.declared.stage.Stage.{Stage}
+use Rattle.tomex_run_views.specs.declared.stage.Stage.TheVariants as stages
 use Rattle.tomex_html.specs.Html.{cell}
 use Rattle.tomex_snapshots.specs.Entries.{has_unit, name_text, station_of}
 use Rattle.tomex_frames.specs.declared.cells.Cell.{Cell}

@@ -6,7 +6,7 @@ ghost use Rattle.tomex_frames.specs.Cells.{doing_in, issue_cause, start_cause};
 use std::fmt;
 use tomex_snapshots::Entry;
 use tomex_timing::Waits;
-use tomex_views::{Stage, stage_in};
+use tomex_run_views::{Stage, stage_in};
 
 /// What a step waits for: to issue an older branch, the issue width or a station, to start an operand, its address, an
 /// older access or a unit, and in the end a bus.
