@@ -5,15 +5,15 @@ use Rattle.clap.specs.Words.{IsAmong, Row, Shape, Text, fault_of, subcommand_of}
 use Rattle.clap.specs.declared.error.kind.ErrorKind.{ErrorKind}
 use Rattle.clap.specs.declared.error.kind.ErrorKind.TheVariants.{DisplayHelp, DisplayVersion}
 use Rattle.tomex_command_line.specs.declared.line.Line.{Line}
-use Rattle.tomex_command_line.specs.declared.line.Line.TheVariants.{Run, Times, Stalls, Pipeline, Tables}
+use Rattle.tomex_command_line.specs.declared.line.Line.TheVariants.{Run, Times, Stalls, Pipeline, Tables, Animate}
 use Rattle.tomex_command_line.specs.declared.line.Line.TheVariants.{All, Explore, Front, Plot, Rows, Worth, Prices, Explain}
 use Rattle.tomex_arguments.specs.declared.fault.LineFault.{LineFault}
 use Rattle.tomex_arguments.specs.declared.fault.LineFault.TheVariants.{Help, Usage, Memory}
 use Rattle.tomex_command_line.specs.Grammar.{tomex_app}
 use Rattle.tomex_command_line.specs.Values.{IsRunAsked, IsOneRunAsked, IsStallsAsked, IsPipelineAsked, IsTablesAsked}
-use Rattle.tomex_command_line.specs.Values.{IsAllAsked, IsExploreAsked, IsPlotAsked, IsWorthAsked, IsExplainAsked}
+use Rattle.tomex_command_line.specs.Values.{IsAnimateAsked, IsAllAsked, IsExploreAsked, IsPlotAsked, IsWorthAsked, IsExplainAsked}
 use Rattle.tomex_command_line.specs.Values.{IsNoRun, IsNoOneRun, IsNoStalls, IsNoPipeline, IsNoTables, IsNoAll}
-use Rattle.tomex_command_line.specs.Values.{IsNoExplore, IsNoPlot, IsNoWorth}
+use Rattle.tomex_command_line.specs.Values.{IsNoAnimate, IsNoExplore, IsNoPlot, IsNoWorth}
 
 -- the command of that name with these values
 abbrev pub IsCommand : Option (Text × List Row) → Line → Type 0
@@ -32,6 +32,9 @@ IsCommand found (Pipeline line) =
 IsCommand found (Tables line) =
     (rows : List Row) × (found ≡ Some (codes "tables", rows))
     × IsTablesAsked rows line.run.study.now line.run.config line.run.program.now line.cycle
+IsCommand found (Animate line) =
+    (rows : List Row) × (found ≡ Some (codes "animate", rows))
+    × IsAnimateAsked rows line.run.study.now line.run.config line.run.program.now line.from line.cycles
 IsCommand found (All line) = (rows : List Row) × (found ≡ Some (codes "all", rows)) × IsAllAsked rows line.study.now
 IsCommand found (Explore line) =
     (rows : List Row) × (found ≡ Some (codes "explore", rows)) × IsExploreAsked rows line.study.now line.workers
@@ -71,6 +74,7 @@ pub data IsNoLineAsked (found : Option (Text × List Row)) : Type 0 where
   no_stalls : (rows : List Row) → found ≡ Some (codes "stalls", rows) → IsNoStalls rows → IsNoLineAsked found
   no_pipeline : (rows : List Row) → found ≡ Some (codes "pipeline", rows) → IsNoPipeline rows → IsNoLineAsked found
   no_tables : (rows : List Row) → found ≡ Some (codes "tables", rows) → IsNoTables rows → IsNoLineAsked found
+  no_animate : (rows : List Row) → found ≡ Some (codes "animate", rows) → IsNoAnimate rows → IsNoLineAsked found
   no_all : (rows : List Row) → found ≡ Some (codes "all", rows) → IsNoAll rows → IsNoLineAsked found
   no_explore : (rows : List Row) → found ≡ Some (codes "explore", rows) → IsNoExplore rows → IsNoLineAsked found
   no_front : (rows : List Row) → found ≡ Some (codes "front", rows) → IsNoExplore rows → IsNoLineAsked found

@@ -18,7 +18,7 @@ abbrev pub numeral_rule : Text → ℕ → ℕ → Rule
 numeral_rule name least greatest =
     record (new_rule name) { required = true; parser = Some (parsers.Signed (pos least) (pos greatest)) }
 
--- an option `--name N`, and the number where it isn't given
+-- an option `--name N`, and the number if it isn't given
 abbrev pub option_rule : Text → ℕ → ℕ → Text → Rule
 option_rule name least greatest default = record (new_rule name) {
   long = Some name;
@@ -82,6 +82,14 @@ tables_shape = record (new_shape (codes "tables")) {
       ∷ numeral_rule (codes "CYCLE") 0 17563648 ∷ [];
 }
 
+-- `animate STUDY CONFIG PROGRAM [--from CYCLE] [--cycles N]`
+abbrev pub animate_shape : Shape
+animate_shape = record (new_shape (codes "animate")) {
+  rules = word_rule (codes "STUDY") ∷ numeral_rule (codes "CONFIG") 0 16383 ∷ word_rule (codes "PROGRAM")
+      ∷ option_rule (codes "from") 1 17563648 (codes "1")
+      ∷ option_rule (codes "cycles") 1 256 (codes "64") ∷ [];
+}
+
 -- `all STUDY`
 abbrev pub all_shape : Shape
 all_shape = record (new_shape (codes "all")) { rules = word_rule (codes "STUDY") ∷ [] }
@@ -129,6 +137,6 @@ bare_app = on_top (λ s. record s { has_version = true; subcommand_required = tr
 abbrev pub tomex_app : App
 tomex_app = record {
   top = record (new_shape (codes "tomex")) { has_version = true; is_leaf = false; subcommand_required = true };
-  subs = run_shape ∷ times_shape ∷ stalls_shape ∷ pipeline_shape ∷ tables_shape ∷ all_shape ∷ explore_shape
-      ∷ front_shape ∷ plot_shape ∷ rows_shape ∷ worth_shape ∷ prices_shape ∷ explain_shape ∷ [];
+  subs = run_shape ∷ times_shape ∷ stalls_shape ∷ pipeline_shape ∷ tables_shape ∷ animate_shape ∷ all_shape
+      ∷ explore_shape ∷ front_shape ∷ plot_shape ∷ rows_shape ∷ worth_shape ∷ prices_shape ∷ explain_shape ∷ [];
 }

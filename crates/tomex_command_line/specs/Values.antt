@@ -54,6 +54,17 @@ abbrev pub IsNoTables : List Row → Type 0
 IsNoTables rows = (study : List ℕ) (config : ℕ) (program : List ℕ) (cycle : ℕ)
     → IsTablesAsked rows study config program cycle → ⊥
 
+-- the values of `animate`
+pub record IsAnimateAsked (rows : List Row) (study : List ℕ) (config : ℕ) (program : List ℕ)
+    (from cycles : ℕ) : Type 0 where
+  pub of_run : IsOneRunAsked rows study config program
+  pub is_from : IsNumber rows (codes "from") 1 17563648 from
+  pub is_cycles : IsNumber rows (codes "cycles") 1 256 cycles
+
+abbrev pub IsNoAnimate : List Row → Type 0
+IsNoAnimate rows = (study : List ℕ) (config : ℕ) (program : List ℕ) (from cycles : ℕ)
+    → IsAnimateAsked rows study config program from cycles → ⊥
+
 -- the value of `all`
 abbrev pub IsAllAsked : List Row → List ℕ → Type 0
 IsAllAsked rows study = IsWord rows (codes "STUDY") study

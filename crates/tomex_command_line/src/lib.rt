@@ -5,6 +5,7 @@
 mod line;
 
 pub use line::all::AllLine;
+pub use line::animate::AnimateLine;
 pub use line::explain::ExplainLine;
 pub use line::explore::ExploreLine;
 pub use line::pipeline::PipelineLine;

@@ -10,6 +10,7 @@ ghost use Rattle.clap.specs.Words.{app_of, fault_of as faults_of, subcommand_row
 ghost use Rattle.tomex_command_line.specs.Asked.{IsCommand, IsAsked, IsNoCommand, IsNoLineAsked};
 
 pub mod all;
+pub mod animate;
 mod described;
 pub mod explain;
 pub mod explore;
@@ -27,6 +28,7 @@ mod values;
 pub mod worth;
 
 use all::AllLine;
+use animate::AnimateLine;
 use clap::{ArgMatches, Command};
 use described::offering;
 use explain::ExplainLine;
@@ -49,6 +51,7 @@ pub enum Line<'a> {
     Stalls(StallsLine<'a>),
     Pipeline(PipelineLine<'a>),
     Tables(TablesLine<'a>),
+    Animate(AnimateLine<'a>),
     All(AllLine<'a>),
     Explore(ExploreLine<'a>),
     Front(ExploreLine<'a>),
@@ -79,6 +82,7 @@ Examples, in the folder `examples`:
   tomex stalls study.toml 4 mul
   tomex pipeline study.toml 4 mul
   tomex tables study.toml 4 mul 3
+  tomex animate study.toml 4 mul > mul.html
   tomex all study.toml
   tomex explore explore.toml --workers 4
   tomex front explore.toml --workers 4
@@ -112,6 +116,7 @@ fn grammar<'a>(alloc: Global) -> Result<Command<'a>, AllocError>
     let program = offering(program, stalls::grammar(alloc));
     let program = offering(program, pipeline::grammar(alloc));
     let program = offering(program, tables::grammar(alloc));
+    let program = offering(program, animate::grammar(alloc));
     let program = offering(program, all::grammar(alloc));
     let program = offering(program, explore::grammar(alloc));
     let program = offering(program, front::grammar(alloc));
@@ -133,6 +138,7 @@ fn line_of<'a>(alloc: Global, matches: &ArgMatches<'a>) -> Result<Line<'a>, Line
         Some(("stalls", inner)) => Ok(Line::Stalls(stalls::line_of(alloc, inner)?)),
         Some(("pipeline", inner)) => Ok(Line::Pipeline(pipeline::line_of(alloc, inner)?)),
         Some(("tables", inner)) => Ok(Line::Tables(tables::line_of(alloc, inner)?)),
+        Some(("animate", inner)) => Ok(Line::Animate(animate::line_of(alloc, inner)?)),
         Some(("all", inner)) => Ok(Line::All(all::line_of(alloc, inner)?)),
         Some(("explore", inner)) => Ok(Line::Explore(explore::line_of(alloc, inner)?)),
         Some(("front", inner)) => Ok(Line::Front(explore::line_of(alloc, inner)?)),

@@ -3,7 +3,7 @@ use Rattle.std.proofs.Common.{◌≡◌, ◌∙◌, ap₂, IfOk, IsOkAnd, Result
 use Rattle.clap.specs.Simple.{App, Shape, app_of, shape_of, with_subcommand}
 use Rattle.clap.specs.declared.builder.command.Command.{Command}
 use Rattle.tomex_command_line.specs.Grammar.{bare_app, run_shape, times_shape, stalls_shape, pipeline_shape, tables_shape}
-use Rattle.tomex_command_line.specs.Grammar.{all_shape, explore_shape, front_shape, plot_shape, rows_shape}
+use Rattle.tomex_command_line.specs.Grammar.{animate_shape, all_shape, explore_shape, front_shape, plot_shape, rows_shape}
 use Rattle.tomex_command_line.specs.Grammar.{worth_shape, prices_shape, explain_shape}
 use Rattle.tomex_command_line.proofs.line.grammar.Goals as goal
 
@@ -28,18 +28,20 @@ returns c =
     c.grammar-4.ensures in
     let five = offered c.offering-program-5.result _ _ _ tables_shape c.offering-program-5.ensures four
     c.grammar-5.ensures in
-    let six = offered c.offering-program-6.result _ _ _ all_shape c.offering-program-6.ensures five c.grammar-6.ensures
-    in
-    let seven = offered c.offering-program-7.result _ _ _ explore_shape c.offering-program-7.ensures six
+    let six = offered c.offering-program-6.result _ _ _ animate_shape c.offering-program-6.ensures five
+    c.grammar-6.ensures in
+    let seven = offered c.offering-program-7.result _ _ _ all_shape c.offering-program-7.ensures six
     c.grammar-7.ensures in
-    let eight = offered c.offering-program-8.result _ _ _ front_shape c.offering-program-8.ensures seven
+    let eight = offered c.offering-program-8.result _ _ _ explore_shape c.offering-program-8.ensures seven
     c.grammar-8.ensures in
-    let nine = offered c.offering-program-9.result _ _ _ plot_shape c.offering-program-9.ensures eight
+    let nine = offered c.offering-program-9.result _ _ _ front_shape c.offering-program-9.ensures eight
     c.grammar-9.ensures in
-    let ten = offered c.offering-program-10.result _ _ _ rows_shape c.offering-program-10.ensures nine
+    let ten = offered c.offering-program-10.result _ _ _ plot_shape c.offering-program-10.ensures nine
     c.grammar-10.ensures in
-    let eleven = offered c.offering-program-11.result _ _ _ worth_shape c.offering-program-11.ensures ten
+    let eleven = offered c.offering-program-11.result _ _ _ rows_shape c.offering-program-11.ensures ten
     c.grammar-11.ensures in
-    let twelve = offered c.offering-program-12.result _ _ _ prices_shape c.offering-program-12.ensures eleven
+    let twelve = offered c.offering-program-12.result _ _ _ worth_shape c.offering-program-12.ensures eleven
     c.grammar-12.ensures in
-    offered c.offering.result _ _ _ explain_shape c.offering.ensures twelve c.grammar-13.ensures
+    let thirteen = offered c.offering-program-13.result _ _ _ prices_shape c.offering-program-13.ensures twelve
+    c.grammar-13.ensures in
+    offered c.offering.result _ _ _ explain_shape c.offering.ensures thirteen c.grammar-14.ensures

@@ -5,7 +5,7 @@ use Rattle.clap.specs.Words.{Shape, found_of, subcommand_rows_of}
 use Rattle.clap.specs.Walk.{rows_of}
 use Rattle.tomex_command_line.specs.Grammar.{tomex_app}
 use Rattle.tomex_command_line.specs.Asked.{no_run, no_times, no_stalls, no_pipeline, no_tables, no_all, no_explore}
-use Rattle.tomex_command_line.specs.Asked.{no_front, no_plot, no_rows, no_worth, no_prices, no_command, nothing}
+use Rattle.tomex_command_line.specs.Asked.{no_animate, no_front, no_plot, no_rows, no_worth, no_prices, no_command, nothing}
 use Rattle.tomex_command_line.proofs.Found.{found_as, found_is, none_found}
 use Rattle.tomex_arguments.proofs.WhyRefused.{refused_if}
 use Rattle.tomex_command_line.proofs.PassedOn.{passed_on}
@@ -96,6 +96,23 @@ returns-in_err-line_of-in-Some-tables-default-clause-refused c =
     c.in_err-line_of-in-Some-tables-default.ensures.refused (no_tables _
     (found_as c.args.matches.now _ (codes "tables") _ c.in-Some-tables-default.ensures.name
     c.in-Some-tables-default.ensures.rows c.in-Some-tables-default.is-tables))
+
+pub returns-in_ok-line_of-in-Some-animate-default-clause-command :
+    goal.returns-in_ok-line_of-in-Some-animate-default-clause-command
+returns-in_ok-line_of-in-Some-animate-default-clause-command c = (
+  _,
+  found_as c.args.matches.now _ (codes "animate") _ c.in-Some-animate-default.ensures.name
+      c.in-Some-animate-default.ensures.rows c.in-Some-animate-default.is-animate,
+  c.in_ok-line_of-in-Some-animate-default.ensures.line,
+)
+
+pub returns-in_err-line_of-in-Some-animate-default-clause-refused :
+    goal.returns-in_err-line_of-in-Some-animate-default-clause-refused
+returns-in_err-line_of-in-Some-animate-default-clause-refused c =
+    passed_on _ _ _ c.from_residual-in_err-line_of-in-Some-animate-default.result c.from_residual-in_err-line_of-in-Some-animate-default.ensures.1
+    c.in_err-line_of-in-Some-animate-default.ensures.refused (no_animate _
+    (found_as c.args.matches.now _ (codes "animate") _ c.in-Some-animate-default.ensures.name
+    c.in-Some-animate-default.ensures.rows c.in-Some-animate-default.is-animate))
 
 pub returns-in_ok-line_of-in-Some-all-default-clause-command :
     goal.returns-in_ok-line_of-in-Some-all-default-clause-command
@@ -236,7 +253,7 @@ returns-in_default-clause-refused c = elim c.in_default.branch [
       (sym (ap (option_map (λ p. p.0.now)) w.in_default.is) ∙ c.subcommand.ensures.name)
       (sym (ap (option_map (λ p. rows_of (found_of p.1.now))) w.in_default.is) ∙ c.subcommand.ensures.rows))
       (All-from_recursion (λ (command : Shape). name ≢ command.name) tomex_app.subs
-      (search rules, (search rules, (search rules, (search rules, (search rules, (search rules, (search rules, (search rules, (search rules, (search rules, (search rules, (search rules, (search rules, tt)))))))))))))))
+      (search rules, (search rules, (search rules, (search rules, (search rules, (search rules, (search rules, (search rules, (search rules, (search rules, (search rules, (search rules, (search rules, (search rules, tt))))))))))))))))
   | in_default-via-in_default w ↦
       let none = none_found (subcommand_rows_of c.args.matches.now)
       (sym (ap (option_map (λ p. rows_of (found_of p.1.now))) w.in_default.is) ∙ c.subcommand.ensures.rows) in
