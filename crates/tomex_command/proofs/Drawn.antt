@@ -1,4 +1,4 @@
--- The failure if a program's steps have no picture or no log.
+-- The failure if a program's run has no picture, no log, or no page.
 use Rattle.std.proofs.Common.{◌≡◌, ℕ, List, false, sym, subst}
 use Rattle.tomex_rvexec.specs.Run.{start_of}
 use Rattle.tomex_rvexec.specs.Trace.{steps_from}
@@ -10,11 +10,16 @@ use Rattle.tomex_run_views.specs.declared.picture_error.PictureError.TheVariants
 use Rattle.tomex_run_views.specs.Excerpt.{HasNoExcerpt}
 use Rattle.tomex_run_views.specs.declared.excerpt_error.ExcerptError.{ExcerptError}
 use Rattle.tomex_run_views.specs.declared.excerpt_error.ExcerptError.TheVariants as excerpts
+use Rattle.tomex_animate.specs.Page.{IsUnanimated}
+use Rattle.tomex_animate.specs.declared.animation_error.AnimationError.{AnimationError}
+use Rattle.tomex_animate.specs.declared.animation_error.AnimationError.TheVariants as animations
+use Rattle.tomex_command_line.specs.declared.line.animate.AnimateLine.{AnimateLine}
 use Rattle.tomex_command_line.specs.declared.line.pipeline.PipelineLine.{PipelineLine}
 use Rattle.tomex_streams.specs.Files.{Told}
+use Rattle.tomex_command.specs.AnimateLines.{IsAnimateFailure}
 use Rattle.tomex_command.specs.Chosen.{IsChosenIn}
 use Rattle.tomex_command.specs.PipelineLines.{IsPipelineFailure}
-use Rattle.tomex_command.specs.Statuses.{failure_of_excerpt, failure_of_picture}
+use Rattle.tomex_command.specs.Statuses.{failure_of_animation, failure_of_excerpt, failure_of_picture}
 use Rattle.tomex_command.specs.declared.failure.Failure.{Failure}
 
 pub undrawn : (file : List ℕ → Told) (line : PipelineLine) (config : Configuration) (program : Workload)
@@ -41,3 +46,14 @@ unlogged file line config program excerpts.NoSuchStep failure chosen why is =
     (record { config = config; program = program; chosen = chosen; holds = why })
 unlogged file line config program excerpts.Memory failure chosen why is =
     subst (λ (f : Failure). IsPipelineFailure file line f) (sym is) tt
+
+pub unanimated : (file : List ℕ → Told) (line : AnimateLine) (config : Configuration) (program : Workload)
+    (error : AnimationError) (failure : Failure)
+    → IsChosenIn file line.run.study.now line.run.config line.run.program.now config program
+    → IsUnanimated config (steps_from program.limit (start_of program.image)) line.from error
+    → failure ≡ failure_of_animation error → IsAnimateFailure file line failure
+unanimated file line config program animations.PastEnd failure chosen why is =
+    subst (λ (f : Failure). IsAnimateFailure file line f) (sym is)
+    (record { config = config; program = program; chosen = chosen; holds = why })
+unanimated file line config program animations.Memory failure chosen why is =
+    subst (λ (f : Failure). IsAnimateFailure file line f) (sym is) tt

@@ -1,7 +1,7 @@
 -- A text that isn't made leaves the output as it was: none of its failures is that the output failed.
 use Rattle.std.proofs.Common.{◌≡◌, List, ℕ, Bool, true, false, refl, sym, subst}
 use Rattle.tomex_command_line.specs.declared.line.Line.{Line}
-use Rattle.tomex_command_line.specs.declared.line.Line.TheVariants.{Run, Times, Stalls, Pipeline, Tables}
+use Rattle.tomex_command_line.specs.declared.line.Line.TheVariants.{Run, Times, Stalls, Pipeline, Tables, Animate}
 use Rattle.tomex_command_line.specs.declared.line.Line.TheVariants.{All, Explore, Front, Plot, Rows, Worth, Prices, Explain}
 use Rattle.tomex_streams.specs.Files.{Told}
 use Rattle.tomex_streams.specs.Sinks.{Seen}
@@ -20,6 +20,7 @@ not_written file (Times line) is = is
 not_written file (Stalls line) is = is
 not_written file (Pipeline line) is = is
 not_written file (Tables line) is = is
+not_written file (Animate line) is = is
 not_written file (All line) is = is
 not_written file (Explore line) is = is
 not_written file (Front line) is = is

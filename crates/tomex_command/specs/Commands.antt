@@ -3,13 +3,14 @@ use Rattle.std.specs.Prelude.{◌≡◌, ◌⊎◌, ℕ, List, option_map, strin
 use Rattle.tomex_command.specs.declared.failure.Failure.{Failure}
 use Rattle.tomex_command.specs.declared.failure.Failure.TheVariants.{CannotWrite}
 use Rattle.tomex_command_line.specs.declared.line.Line.{Line}
-use Rattle.tomex_command_line.specs.declared.line.Line.TheVariants.{Run, Times, Stalls, Pipeline, Tables}
+use Rattle.tomex_command_line.specs.declared.line.Line.TheVariants.{Run, Times, Stalls, Pipeline, Tables, Animate}
 use Rattle.tomex_command_line.specs.declared.line.Line.TheVariants.{All, Explore, Front, Plot, Rows, Worth, Prices, Explain}
 use Rattle.tomex_arguments.specs.declared.fault.LineFault.{LineFault}
 use Rattle.tomex_command_line.specs.Asked.{IsAsked, IsNoCommand}
 use Rattle.tomex_report.specs.declared.front_view.FrontView.TheVariants.{Report, Table}
 use Rattle.tomex_report.specs.declared.surveying.SurveyView.TheVariants as views
 use Rattle.tomex_streams.specs.Files.{Told}
+use Rattle.tomex_command.specs.AnimateLines.{IsAnimateOf, IsAnimateFailure}
 use Rattle.tomex_command.specs.ExplainLines.{IsExplanation, IsExplainFailure}
 use Rattle.tomex_command.specs.FrontLines.{IsFrontOf, IsAllFailure, IsExploreFailure}
 use Rattle.tomex_streams.specs.Sinks.{Seen, IsWhole, IsCut}
@@ -28,6 +29,7 @@ IsDone file (Times line) text = IsTimesOf file line text
 IsDone file (Stalls line) text = IsStallsOf file line text
 IsDone file (Pipeline line) text = IsPipelineOf file line text
 IsDone file (Tables line) text = IsTablesOf file line text
+IsDone file (Animate line) text = IsAnimateOf file line text
 IsDone file (All line) text = IsFrontOf Report file line.study.now text
 IsDone file (Explore line) text = IsFrontOf Report file line.study.now text
 IsDone file (Front line) text = IsFrontOf Table file line.study.now text
@@ -44,6 +46,7 @@ IsFailure file (Times line) failure = IsTimesFailure file line failure
 IsFailure file (Stalls line) failure = IsStallsFailure file line failure
 IsFailure file (Pipeline line) failure = IsPipelineFailure file line failure
 IsFailure file (Tables line) failure = IsTablesFailure file line failure
+IsFailure file (Animate line) failure = IsAnimateFailure file line failure
 IsFailure file (All line) failure = IsAllFailure file line.study.now failure
 IsFailure file (Explore line) failure = IsExploreFailure file line.study.now failure
 IsFailure file (Front line) failure = IsExploreFailure file line.study.now failure

@@ -1,3 +1,4 @@
+pub mod AnimateLines
 pub mod Chosen
 pub mod Commands
 pub mod ExplainLines

@@ -5,6 +5,8 @@ use Rattle.tomex_report.specs.declared.answer_error.AnswerError.{AnswerError}
 use Rattle.tomex_report.specs.declared.answer_error.AnswerError.TheVariants as answers
 use Rattle.tomex_report.specs.declared.survey_error.SurveyError.{SurveyError}
 use Rattle.tomex_report.specs.declared.survey_error.SurveyError.TheVariants as surveys
+use Rattle.tomex_animate.specs.declared.animation_error.AnimationError.{AnimationError}
+use Rattle.tomex_animate.specs.declared.animation_error.AnimationError.TheVariants as animations
 use Rattle.tomex_refusals.specs.declared.explaining.ExplainError.{ExplainError}
 use Rattle.tomex_refusals.specs.declared.explaining.ExplainError.TheVariants as explanations
 use Rattle.tomex_run_views.specs.declared.excerpt_error.ExcerptError.{ExcerptError}
@@ -61,6 +63,11 @@ failure_of_picture pictures.Memory = Memory
 abbrev pub failure_of_excerpt : ExcerptError → Failure
 failure_of_excerpt excerpts.NoSuchStep = NoSuchStep
 failure_of_excerpt excerpts.Memory = Memory
+
+-- the failure that a refused page of a run becomes
+abbrev pub failure_of_animation : AnimationError → Failure
+failure_of_animation animations.PastEnd = CyclePastEnd
+failure_of_animation animations.Memory = Memory
 
 -- the failure that a refused explanation becomes
 abbrev pub failure_of_explanation : ExplainError → Failure

@@ -6,6 +6,7 @@ ghost use Rattle.std.specs.Prelude.{◌≡◌, ◌≤◌, ◌⊎◌, map, string
 ghost use Rattle.tomex_command.specs.Commands.{IsDone, IsFailure, IsCarriedOut, IsLeft, IsEnd};
 
 pub mod all;
+pub mod animate;
 pub mod chosen;
 pub mod explain;
 pub mod explore;
@@ -23,6 +24,7 @@ use crate::failure::Failure;
 use crate::heaps::Heaps;
 use crate::telling::{report_failure, report_line_fault};
 use all::text_of_all;
+use animate::text_of_animate;
 use explain::text_of_explain;
 use explore::text_of_front;
 use pipeline::text_of_pipeline;
@@ -62,6 +64,7 @@ fn text_of<
         Line::Stalls(line) => text_of_stalls(alloc, heap, line, files),
         Line::Pipeline(line) => text_of_pipeline(alloc, heap, line, files),
         Line::Tables(line) => text_of_tables(alloc, heap, line, files),
+        Line::Animate(line) => text_of_animate(alloc, heap, line, files),
         Line::All(line) => text_of_all(rt, alloc, heap, line, files, meter),
         Line::Explore(line) => text_of_front(
             rt,

@@ -1,12 +1,13 @@
 //! Why a command was not done.
 ghost use Rattle.std.specs.Prelude.{◌≡◌};
 ghost use Rattle.tomex_command.specs.declared.failure.Failure.TheVariants as failures;
-ghost use Rattle.tomex_command.specs.Statuses.{failure_of_answer, failure_of_explanation};
+ghost use Rattle.tomex_command.specs.Statuses.{failure_of_animation, failure_of_answer, failure_of_explanation};
 ghost use Rattle.tomex_command.specs.Statuses.{failure_of_excerpt, failure_of_picture, failure_of_survey};
 ghost use Rattle.tomex_command.specs.Statuses.{status_of_failure};
 
 use crate::run::RunRefusal;
 use std::alloc::{AllocError, AllocFailed};
+use tomex_animate::AnimationError;
 use tomex_refusals::ExplainError;
 use tomex_report::{AnswerError, StudyError, SurveyError};
 use tomex_run_views::{ExcerptError, PictureError};
@@ -140,6 +141,17 @@ impl From<ExcerptError> for Failure {
         match error {
             ExcerptError::NoSuchStep => Failure::NoSuchStep,
             ExcerptError::Memory => Failure::Memory,
+        }
+    }
+}
+
+impl From<AnimationError> for Failure {
+    ghost from_gives = { λ error failure. failure ≡ failure_of_animation error };
+
+    fn from(error: AnimationError) -> Failure {
+        match error {
+            AnimationError::PastEnd => Failure::CyclePastEnd,
+            AnimationError::Memory => Failure::Memory,
         }
     }
 }
