@@ -4,9 +4,9 @@ ghost use Rattle.std.specs.Prelude.{◌≡◌};
 ghost use Rattle.tomex_frames.specs.Cells.{doing_in, issue_cause, start_cause};
 
 use std::fmt;
+use tomex_run_views::{Stage, stage_in};
 use tomex_snapshots::Entry;
 use tomex_timing::Waits;
-use tomex_run_views::{Stage, stage_in};
 
 /// What a step waits for: to issue an older branch, the issue width or a station, to start an operand, its address, an
 /// older access or a unit, and in the end a bus.
