@@ -2,6 +2,7 @@
 #![tactic(auto)]
 
 #[cfg(test)]
+mod animate;
 mod commands;
 #[cfg(test)]
 mod compiled;

@@ -80,6 +80,17 @@ fn told_of_a_program(alloc: Global, line: &Line) -> Result<String, AllocError> {
             } = tables.run;
             format!(in alloc; "tables {study} {config} {program} {}", tables.cycle)
         }
+        Line::Animate(animate) => {
+            let OneRun {
+                study,
+                config,
+                program,
+            } = animate.run;
+            format!(in alloc;
+                "animate {study} {config} {program} {} {}",
+                animate.from, animate.cycles
+            )
+        }
         Line::Explain(explain) => match &explain.refusal {
             Some(words) => format!(in alloc; "explain [{words}]"),
             None => String::from_str(alloc, "explain all"),
@@ -109,7 +120,7 @@ fn told(alloc: Global, line: &str) -> Result<String, AllocError> {
 }
 
 /// Lines, and how what they come to begins.
-static READ: [(&str, &str); 54] = [
+static READ: [(&str, &str); 59] = [
     ("run mul.bin", "run mul.bin 0 65536 262144"),
     (
         "run a --base 4294967292 --size 4 --limit 1",
@@ -146,6 +157,17 @@ static READ: [(&str, &str); 54] = [
         "tables study 16383 -a 17563648",
     ),
     ("tables --help", "help Prints the tables"),
+    ("animate study 0 a", "animate study 0 a 1 64"),
+    (
+        "animate study 0 a --cycles 256 --from 17563648",
+        "animate study 0 a 17563648 256",
+    ),
+    (
+        "animate --from=2 --cycles=1 study 16383 -- -a",
+        "animate study 16383 -a 2 1",
+    ),
+    ("animate --help", "help Prints a web page"),
+    ("animate -h", "help Shows a run"),
     ("tables -h", "help Prints the stations"),
     (
         "run --limit=262144 --size=1048576 a",
@@ -229,7 +251,7 @@ fn help_is_whole(rt: HostRuntime) -> Result<(), Fail> {
 }
 
 /// Lines that are refused.
-static REFUSED: [&str; 31] = [
+static REFUSED: [&str; 37] = [
     "run a --base 4294967293",
     "run a --base -4",
     "run a --base 0x10",
@@ -255,6 +277,12 @@ static REFUSED: [&str; 31] = [
     "pipeline study 0 a --steps 262145",
     "pipeline study 0 a --konata 1",
     "pipeline study 0 a --konata --konata",
+    "animate study 0 a --from 0",
+    "animate study 0 a --from 17563649",
+    "animate study 0 a --cycles 0",
+    "animate study 0 a --cycles 257",
+    "animate study 16384 a",
+    "animate study 0",
     "tables study 16384 a 0",
     "tables study 0 a 17563649",
     "tables study 0 a -1",
