@@ -3,6 +3,7 @@
 
 use crate::commands::{Outcome, outcome_of, words_of};
 use std::alloc::{AllocError, Global};
+use std::process::Abort;
 use std::sync::Wait;
 use std::test::Fail;
 use std::thread::Threads;
@@ -76,16 +77,24 @@ fn is_done<R: AllocGlobal + Threads + Wait + Sync>(
     Ok(outcome.status == 0 && outcome.err.is_empty() && is_whole)
 }
 
-/// Lines, and how what they print begins and ends.
-static ON_A_LONG_RUN: [(&str, &str, &str); 8] = [
+/// A line, and how what it prints begins and ends.
+type Done = (&'static str, &'static str, &'static str);
+
+static REPORTS: [Done; 2] = [
     (
         "tomex run long.bin",
         "x0=00000000\n",
         "ebreak at 00000014 after 262144\n",
     ),
     ("tomex times one 0 long", "step,", "\n"),
+];
+
+static STALLS: [Done; 2] = [
     ("tomex stalls one 0 long", "part,", "\n"),
     ("tomex stalls one 0 long --by-pc", "pc,", "\n"),
+];
+
+static PICTURES: [Done; 3] = [
     (
         "tomex pipeline one 0 long --from 262144 --steps 1",
         "cycles ",
@@ -96,16 +105,47 @@ static ON_A_LONG_RUN: [(&str, &str, &str); 8] = [
         "Kanata\t0004\n",
         "\n",
     ),
+    (
+        "tomex animate one 0 long --from 262144 --cycles 1",
+        "<!DOCTYPE html>\n",
+        "</html>\n",
+    ),
+];
+
+static RUN_BY_CYCLES: [Done; 2] = [
     ("tomex tables one 0 long 262144", "cycle 262144\n", "\n"),
     ("tomex all one", "row,cost,", ",ebreak,x2=00010000,-\n"),
 ];
 
-#[test]
-fn long_runs_are_not_refused(rt: HostRuntime) -> Result<(), Fail> {
-    for (line, start, end) in &ON_A_LONG_RUN {
-        assert!(rt; is_done(&rt, line, start, end)?, "{line}");
+/// Fails unless each of these lines is done.
+fn are_done<R: Abort + AllocGlobal + Threads + Wait + Sync>(
+    rt: &R,
+    lines: &[Done],
+) -> Result<(), Fail> {
+    for (line, start, end) in lines {
+        assert!(rt; is_done(rt, *line, *start, *end)?, "{line}");
     }
     Ok(())
+}
+
+#[test]
+fn long_runs_have_reports(rt: HostRuntime) -> Result<(), Fail> {
+    are_done(&rt, &REPORTS)
+}
+
+#[test]
+fn long_runs_have_stalls(rt: HostRuntime) -> Result<(), Fail> {
+    are_done(&rt, &STALLS)
+}
+
+#[test]
+fn long_runs_have_pictures(rt: HostRuntime) -> Result<(), Fail> {
+    are_done(&rt, &PICTURES)
+}
+
+#[test]
+fn long_runs_are_made_cycle_by_cycle(rt: HostRuntime) -> Result<(), Fail> {
+    are_done(&rt, &RUN_BY_CYCLES)
 }
 
 /// Lines that print the front of eight programs, or of 80 configurations, and how many lines they print.
