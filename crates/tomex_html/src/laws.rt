@@ -1,0 +1,9 @@
+//! Laws of the pieces that pages have in common. These functions do nothing: their contracts are the laws.
+
+ghost use Rattle.tomex_html.specs.Laws.{ChangedIsMarked, UnchangedIsUnmarked};
+
+/// A cell is marked if it shows something else than before, and only then; an empty one isn't marked.
+pub fn marks_are_differences()
+    ensures unchanged { UnchangedIsUnmarked }
+    ensures changed { ChangedIsMarked }
+{}
