@@ -1,5 +1,5 @@
 -- Texts are the same if their bytes are.
-use Rattle.std.proofs.Common.{◌≡◌, ◌<◌, ℕ, List, [], ◌∷◌, arith, length, false, refl, true}
+use Rattle.std.proofs.Common.{◌≡◌, ℕ, List, [], ◌∷◌, arith, length, refl, true}
 use Rattle.std.specs.Prelude.{◌≢◌, nat_lt}
 use Rattle.std.specs.Str.{bytes_eq}
 use Rattle.std.proofs.lemmas.Bool.{and_from, false_from_ne_true, lt-ltb, not_from_false}
