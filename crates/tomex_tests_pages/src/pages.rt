@@ -5,30 +5,15 @@ use product::{VIEW_1, VIEW_2, VIEW_3, VIEW_8};
 use std::alloc::Global;
 use std::test::Fail;
 use tomex_animate::{AnimationError, animation};
-use tomex_config::{Config, UnitOption};
 use tomex_study::Program;
 use tomex_tests_fixtures::image_of;
+use tomex_tests_fixtures::machines::one_unit_each;
 use tomex_tests_fixtures::programs::PRODUCT_WORDS;
 
 mod digests;
 mod frame;
 mod product;
 mod refused_memory;
-
-/// One unit of this latency.
-fn unit(latency: u8) -> UnitOption {
-    UnitOption {
-        units: 1,
-        latency,
-        price: 0,
-    }
-}
-
-/// A configuration with so many alu stations and multipliers of this latency, and one of each other part.
-fn config_of(alu: u8, latency: u8) -> Result<Config, Fail> {
-    let units = [unit(1), unit(latency), unit(1), unit(1), unit(1)];
-    Ok(Config::new([alu, 1, 1, 1, 1, 1], units, 1, 1).ok_or("no configuration")?)
-}
 
 /// The product.
 fn product_of(alloc: Global) -> Result<Program, Fail> {
@@ -57,7 +42,10 @@ fn holds(is_so: bool) -> Result<(), Fail> {
 #[test]
 fn three_cycles(rt: HostRuntime) -> Result<(), Fail> {
     let alloc = rt.alloc();
-    let (program, config) = (product_of(alloc)?, config_of(2, 3)?);
+    let (program, config) = (
+        product_of(alloc)?,
+        one_unit_each([2, 1, 1, 1, 1, 1], [1, 3, 1, 1, 1], 1)?,
+    );
     let text = animation(alloc, alloc, "study.toml", &program, 0, &config, 1, 3)?;
     holds(is_made_of(
         text.as_slice(),
@@ -98,7 +86,10 @@ fn is_last_cycle(text: &[u8]) -> bool {
 #[test]
 fn the_last_cycle(rt: HostRuntime) -> Result<(), Fail> {
     let alloc = rt.alloc();
-    let (program, config) = (product_of(alloc)?, config_of(2, 3)?);
+    let (program, config) = (
+        product_of(alloc)?,
+        one_unit_each([2, 1, 1, 1, 1, 1], [1, 3, 1, 1, 1], 1)?,
+    );
     for count in [1, 2, 256, u32::MAX] {
         let text = animation(alloc, alloc, "study.toml", &program, 0, &config, 8, count)?;
         holds(is_last_cycle(text.as_slice()))?;
@@ -109,7 +100,10 @@ fn the_last_cycle(rt: HostRuntime) -> Result<(), Fail> {
 #[test]
 fn past_the_end(rt: HostRuntime) -> Result<(), Fail> {
     let alloc = rt.alloc();
-    let (program, config) = (product_of(alloc)?, config_of(2, 3)?);
+    let (program, config) = (
+        product_of(alloc)?,
+        one_unit_each([2, 1, 1, 1, 1, 1], [1, 3, 1, 1, 1], 1)?,
+    );
     for first in [9, 17_563_648, u32::MAX] {
         match animation(alloc, alloc, "study.toml", &program, 0, &config, first, 1) {
             Err(AnimationError::PastEnd) => {}
@@ -122,7 +116,10 @@ fn past_the_end(rt: HostRuntime) -> Result<(), Fail> {
 #[test]
 fn names_of_studies(rt: HostRuntime) -> Result<(), Fail> {
     let alloc = rt.alloc();
-    let (program, config) = (product_of(alloc)?, config_of(2, 3)?);
+    let (program, config) = (
+        product_of(alloc)?,
+        one_unit_each([2, 1, 1, 1, 1, 1], [1, 3, 1, 1, 1], 1)?,
+    );
     for (name, shown) in [
         ("a&b.toml", "a&amp;b.toml"),
         ("<i>.toml", "&lt;i&gt;.toml"),
