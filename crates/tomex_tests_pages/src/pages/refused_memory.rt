@@ -1,12 +1,13 @@
 //! A page with each growth of its memory refused in turn.
 
-use super::{config_of, is_last_cycle};
+use super::is_last_cycle;
 use std::alloc::{AllocError, Global};
 use std::test::Fail;
 use tomex_animate::{AnimationError, animation};
 use tomex_config::Config;
 use tomex_image::{Window, load};
 use tomex_study::Program;
+use tomex_tests_fixtures::machines::one_unit_each;
 use tomex_tests_fixtures::programs::PRODUCT;
 use tomex_tests_fixtures::{Attempt, Heap, Try, ample, refusals};
 
@@ -63,7 +64,7 @@ impl<'a> Attempt for NoPage<'a> {
 fn pages(rt: HostRuntime) -> Result<(), Fail> {
     let other = rt.alloc();
     let program = product_in(other)?;
-    let config = config_of(2, 3)?;
+    let config = one_unit_each([2, 1, 1, 1, 1, 1], [1, 3, 1, 1, 1], 1)?;
     let page = Page {
         other,
         program: &program,
