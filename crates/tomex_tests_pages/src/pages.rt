@@ -24,7 +24,7 @@ fn unit(latency: u8) -> UnitOption {
     }
 }
 
-/// A configuration with so many alu stations and multipliers of this latency, and one of each other part.
+/// A configuration with this number of alu stations, a multiplier of this latency, and one of each other part.
 fn config_of(alu: u8, latency: u8) -> Result<Config, Fail> {
     let units = [unit(1), unit(latency), unit(1), unit(1), unit(1)];
     Ok(Config::new([alu, 1, 1, 1, 1, 1], units, 1, 1).ok_or("no configuration")?)
@@ -77,7 +77,7 @@ fn three_cycles(rt: HostRuntime) -> Result<(), Fail> {
     ))
 }
 
-/// True if the page of so many cycles from cycle 8 on, the last one, is this one.
+/// True if this is the page of cycle 8, the last one.
 fn is_last_cycle(text: &[u8]) -> bool {
     is_made_of(
         text,
