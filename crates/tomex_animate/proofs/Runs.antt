@@ -1,6 +1,6 @@
 -- The steps of a page are the history of the run.
-use Rattle.std.proofs.Common.{◌≡◌, ◌∙◌, ◌<◌, ◌+◌, ℕ, suc, arith, ap, ap₂, refl, sym, List, [], ◌∷◌, ◌++◌, length, map, reverse}
-use Rattle.std.proofs.Common.{Bool, Option, Some, None, false, inl, inr, true}
+use Rattle.std.proofs.Common.{◌≡◌, ◌∙◌, ◌<◌, ◌+◌, ℕ, arith, ap, refl, sym, List, [], ◌∷◌, ◌++◌, length, map, reverse}
+use Rattle.std.proofs.Common.{Option, Some, None, false, inl, inr, true}
 use Rattle.std.specs.Prelude.{◌==◌, ◌&&◌, slice_index}
 use Rattle.std.proofs.lemmas.Bool.{and_from, and_parts, cases_Bool, eqb-true, false≢true}
 use Rattle.std.proofs.lemmas.List.{length-map, map-append, reverse-append, reverse-reverse}
@@ -12,17 +12,13 @@ use Rattle.tomex_config.specs.Configuration.{Configuration, stations_of}
 use Rattle.tomex_timing.specs.Needs.{waits_in}
 use Rattle.tomex_timing.specs.Recurrence.{AreTimed}
 use Rattle.tomex_timing.specs.Search.{history, timed_of, times_in}
-use Rattle.tomex_timing.specs.Tables.{busy_of, is_under_way, shown}
+use Rattle.tomex_timing.specs.Tables.{is_under_way}
 use Rattle.tomex_timing.specs.declared.part.Waits.{Waits}
-use Rattle.tomex_timing.specs.declared.tables.Busy.{Busy}
 use Rattle.tomex_timing.specs.declared.tables.Tag.{Tag}
 use Rattle.tomex_timing.specs.declared.times.Done.{Done}
-use Rattle.tomex_timing.specs.declared.times.Times.{Times}
-use Rattle.tomex_timing.proofs.Histories.{length-history}
 use Rattle.tomex_timing.proofs.Holders.{number_low}
 use Rattle.tomex_timing.proofs.WaitLists.{length-waits_in}
-use Rattle.tomex_snapshots.specs.Entries.{done_of, entries_from, entries_of, history_of}
-use Rattle.tomex_snapshots.specs.declared.entries.Entry.{Entry}
+use Rattle.tomex_snapshots.specs.Entries.{done_of, entries_from}
 use Rattle.tomex_animate.specs.Laws.{BusyStationsHaveRows, EntriesAreTheHistory}
 
 steps_of : (config : Configuration) (xs : List Step) → map (λ d. d.step) (timed_of config xs) ≡ xs

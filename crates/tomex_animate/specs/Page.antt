@@ -41,7 +41,7 @@ frame config page total es t =
     frame_head page total t ++ (events t es ++ (status_table page es t ++ (station_table config t (history_of es)
     ++ (register_status t (history_of es) ++ codes "</section>\n"))))
 
--- what the page is of; a study's name is what stands on the command line
+-- what the page is of; a study's name is that of the command line
 unfoldable pub run_named : List ℕ → ℕ → List ℕ
 run_named program number = program ++ (codes " on configuration " ++ (decimal number ++ codes " of "))
 

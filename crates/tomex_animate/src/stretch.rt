@@ -66,8 +66,8 @@ fn without_later(entries: &[Entry], last: u64) -> usize
 pub fn stretch(entries: &[Entry], page: Span) -> &[Entry]
     ensures { IsStretch page entries.now result.now }
 {
-    let behind = count_past(entries, page.from);
-    let rest = &entries[behind..];
+    let first = count_past(entries, page.from);
+    let rest = &entries[first..];
     let count = without_later(rest, page.to);
     &rest[..count]
 }

@@ -19,7 +19,7 @@ use Rattle.tomex_frames.specs.declared.doing.Doing.{Doing}
 use Rattle.tomex_frames.specs.declared.doing.Doing.TheVariants.{Issues, Computes, Executes, Writes, Waits as WaitsFor}
 use Rattle.tomex_snapshots.specs.declared.entries.Entry.{Entry}
 
--- a dash stands between the first and the last cycle of an execution
+-- there is a dash between the first and the last cycle of an execution
 abbrev pub content_text : Content → List ℕ
 content_text Nothing = []
 content_text NotUsed = codes "-"

@@ -75,12 +75,12 @@ impl fmt::Display for Words {
     }
 }
 
-/// What a cycle of a step's waits to start is charged to; it is the one after `behind` others.
-fn start_cause(waits: &Waits, behind: u64) -> Cause
-    ensures { result ≡ start_cause waits.now behind }
+/// What a cycle of a step's waits to start is charged to; `waited` others come before it.
+fn start_cause(waits: &Waits, waited: u64) -> Cause
+    ensures { result ≡ start_cause waits.now waited }
 {
-    let past_operand = behind.saturating_sub(waits.operand);
-    if behind < waits.operand {
+    let past_operand = waited.saturating_sub(waits.operand);
+    if waited < waits.operand {
         Cause::Operand
     } else if past_operand < waits.address {
         Cause::Address
@@ -91,13 +91,13 @@ fn start_cause(waits: &Waits, behind: u64) -> Cause
     }
 }
 
-/// What a cycle of a step's waits to issue is charged to; it is the one after `behind` others.
-fn issue_cause(waits: &Waits, behind: u64) -> Cause
-    ensures { result ≡ issue_cause waits.now behind }
+/// What a cycle of a step's waits to issue is charged to; `waited` others come before it.
+fn issue_cause(waits: &Waits, waited: u64) -> Cause
+    ensures { result ≡ issue_cause waits.now waited }
 {
-    if behind < waits.branch {
+    if waited < waits.branch {
         Cause::Branch
-    } else if behind.saturating_sub(waits.branch) < waits.width {
+    } else if waited.saturating_sub(waits.branch) < waits.width {
         Cause::Width
     } else {
         Cause::Station
@@ -117,13 +117,13 @@ pub fn doing_in(cycle: u64, entry: &Entry) -> Option<Doing>
         Some(Stage::Write) => Some(Doing::Writes),
         Some(Stage::BusWait) => Some(Doing::Waits(Cause::Bus)),
         Some(Stage::Wait) => {
-            let behind = cycle.saturating_sub(issue).saturating_sub(1);
-            Some(Doing::Waits(start_cause(&entry.waits, behind)))
+            let waited = cycle.saturating_sub(issue).saturating_sub(1);
+            Some(Doing::Waits(start_cause(&entry.waits, waited)))
         }
         None => {
             if entry.from <= cycle && cycle < issue {
-                let behind = cycle.saturating_sub(entry.from);
-                Some(Doing::Waits(issue_cause(&entry.waits, behind)))
+                let waited = cycle.saturating_sub(entry.from);
+                Some(Doing::Waits(issue_cause(&entry.waits, waited)))
             } else {
                 None
             }

@@ -65,7 +65,7 @@ fn three_cycles(rt: HostRuntime) -> Result<(), Fail> {
     ))
 }
 
-/// True if the page of so many cycles from cycle 8 on, the last one, is this one.
+/// True if this is the page of cycle 8, the last one.
 fn is_last_cycle(text: &[u8]) -> bool {
     is_made_of(
         text,

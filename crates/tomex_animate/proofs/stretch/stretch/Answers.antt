@@ -7,8 +7,8 @@ use Rattle.tomex_animate.proofs.stretch.stretch.Goals as goal
 pub returns : goal.returns
 returns c =
     let all = c.args.entries.now in
-    let behind = c.count_past-behind.result in
+    let first = c.count_past-first.result in
     let count = c.without_later-count.result in
-    let rest = take (length all - behind) (drop behind all) in
-    stretch_is c.args.page all rest (take count rest) behind count c.count_past-behind.ensures.past (take_rest all behind)
+    let rest = take (length all - first) (drop first all) in
+    stretch_is c.args.page all rest (take count rest) first count c.count_past-first.ensures.past (take_rest all first)
     c.without_later-count.ensures.later refl
