@@ -6,7 +6,7 @@ use Rattle.tomex_rvdec.specs.declared.pool.UnitId.{UnitId}
 use Rattle.tomex_rvdec.specs.declared.pool.UnitId.TheVariants.{Alu, Mul, Div, Mem, Bru}
 use Rattle.tomex_steps.specs.Steps.{step_unit, step_dest, j_of, k_of, is_branch}
 use Rattle.tomex_steps.specs.declared.step.Step.{Step}
-use Rattle.tomex_config.specs.Configuration.{Configuration}
+use Rattle.tomex_config.specs.Configuration.{Configuration, option_of}
 use Rattle.tomex_config.specs.declared.config.UnitOption.{UnitOption}
 use Rattle.tomex_timing.specs.declared.times.Done.{Done}
 use Rattle.tomex_timing.specs.declared.times.Times.{Times}
@@ -79,6 +79,10 @@ floors_of latency w (s ∷ older) =
 -- the floor of a run, whose steps stand in program order
 abbrev pub floor_of : (UnitId → ℕ) → ℕ → List Step → ℕ
 floor_of latency w steps = greatest_end (floors_of latency w (reverse steps))
+
+-- a configuration's latencies
+abbrev pub latency_of : Configuration → UnitId → ℕ
+latency_of config unit = (option_of config unit).latency
 
 -- each time of the first is no later than the second's
 pub record IsNoLater (a b : Times) : Type 0 where

@@ -4,6 +4,11 @@
 //! `specs/Floor.antt` is the definition, over the recurrence of `tomex_timing`; `specs/Laws.antt` says what it bounds.
 #![tactic(auto)]
 
+mod accesses;
+mod evaluate;
+mod latest;
 mod laws;
+mod next;
 
+pub use evaluate::floor;
 pub use laws::no_machine_is_faster;
