@@ -1,22 +1,26 @@
 -- The floors of a run grow by one step at a time, and none of their times is late.
-use Rattle.std.proofs.Common.{ℕ, ◌+◌, ◌*◌, ◌-◌, ◌≤◌, ◌≡◌, Bool, arith, ap, inl, inr, List, [], ◌∷◌, ◌++◌}
-use Rattle.std.proofs.Common.{Option, Some, None, zero, suc, length, reverse}
-use Rattle.std.specs.Prelude.{is_some}
-use Rattle.std.proofs.lemmas.Bool.{cases_Bool}
-use Rattle.std.proofs.lemmas.List.{reverse-append, length-reverse}
+use Rattle.std.proofs.Common.{ℕ, ◌+◌, ◌*◌, ◌-◌, ◌≤◌, ◌≡◌, Bool, true, false, arith, refl, ap, inl, inr, List, [], ◌∷◌, ◌++◌}
+use Rattle.std.proofs.Common.{◌<◌, max, sym, subst, Option, Some, None, zero, suc, length, reverse}
+use Rattle.std.specs.Prelude.{IfSome, if◌then◌else◌, is_some, slice_index, slice_index_or, slice_set}
+use Rattle.std.proofs.lemmas.Bool.{cases_Bool, cases_order}
+use Rattle.std.proofs.lemmas.Bool.Decides.{nat_tests}
+use Rattle.std.proofs.lemmas.Grind.{common_steps}
+use Rattle.std.proofs.lemmas.List.{get_or-set_other, get_or-set_same, reverse-append, length-reverse}
 use Rattle.tomex_rvdec.specs.declared.pool.UnitId.{UnitId}
-use Rattle.tomex_steps.specs.Steps.{step_unit, step_dest, j_of, k_of, is_branch}
+use Rattle.tomex_steps.specs.Steps.{step_unit, step_dest, j_of, k_of, is_branch, is_number}
 use Rattle.tomex_steps.specs.declared.step.Step.{Step}
 use Rattle.tomex_config.specs.Configuration.{Configuration, IsWithinLimits}
 use Rattle.tomex_timing.specs.declared.times.Done.{Done}
-use Rattle.tomex_timing.specs.History.{is_memory, cycle_of}
+use Rattle.tomex_timing.specs.declared.times.Times.{Times}
+use Rattle.tomex_timing.specs.History.{is_memory, cycle_of, writer_end}
 use Rattle.tomex_timing.specs.Recurrence.{conflicts}
+use Rattle.tomex_timing.specs.Window.{written_by}
 use Rattle.tomex_timing.proofs.Limits.{latency_high}
 use Rattle.tomex_timing.proofs.Settled.{AllBy, IsDoneBy, last_address_by, source_end_by, writer_end_by}
 use Rattle.tomex_floor.specs.declared.latest.Latest.{Latest}
 use Rattle.tomex_floor.specs.Floor.{floor_address, floor_end, floor_from, floor_issue, floor_start, floor_times, floors_of}
 use Rattle.tomex_floor.specs.Floor.{issue_back, last_finish, latency_of}
-use Rattle.tomex_floor.specs.Kept.{IsLatest, IsLatestBy}
+use Rattle.tomex_floor.specs.Kept.{IsLatest, IsLatestBy, facts_of, latest_after}
 
 pub floors_more : (latency : UnitId → ℕ) (w : ℕ) (xs : List Step) (x : Step)
     → floors_of latency w (reverse (xs ++ (x ∷ [])))
@@ -133,6 +137,52 @@ latest_by g h latest by is = record {
   issues = λ n l. rw (is.issues n l) (back_by g h n by);
   branch = rw is.branch (finish_by is_branch g h by);
   address = rw is.address (last_address_by g h by);
-  count = is.count;
-  issued = is.issued;
 }
+
+-- what is latest after one more step
+
+ends_more : (dest : Option ℕ) (end : ℕ) (ends : List ℕ) (h : List Done) (r : ℕ) → length ends ≡ 32
+    → IfSome dest (λ n. n < 32) → ((r : ℕ) → r < 32 → slice_index ends r ≡ writer_end h r) → r < 32
+    → slice_index (written_by dest end ends) r ≡ (if is_number dest r then end else writer_end h r)
+ends_more None end ends h r count low are l = are r l
+ends_more (Some n) end ends h r count low are l = let before = are r l in grind (arith, nat_tests, common_steps)
+
+ends_count : (dest : Option ℕ) (end : ℕ) (ends : List ℕ) → length ends ≡ 32 → length (written_by dest end ends) ≡ 32
+ends_count None end ends count = count
+ends_count (Some n) end ends count = grind (arith, common_steps)
+
+issues_more : (h : List Done) (d : Done) (issues : List ℕ) (n : ℕ)
+    → ((n : ℕ) → n < 4 → slice_index issues n ≡ issue_back h n) → n < 4
+    → slice_index (d.at.issue ∷ slice_index issues 0 ∷ slice_index issues 1 ∷ slice_index issues 2 ∷ []) n
+    ≡ issue_back (d ∷ h) n
+issues_more h d issues zero are l = refl
+issues_more h d issues (suc zero) are l = are 0 (omega arith)
+issues_more h d issues (suc (suc zero)) are l = are 1 (omega arith)
+issues_more h d issues (suc (suc (suc zero))) are l = are 2 (omega arith)
+issues_more h d issues (suc (suc (suc (suc n)))) are l = absurd (omega arith)
+
+branch_more : (b : Bool) (f m : ℕ) → (if b then max f m else m) ≡ max (if b then f else 0) m
+branch_more true f m = refl
+branch_more false f m = omega arith
+
+pub latest_more : (h : List Done) (s : Step) (at : Times) (latest : Latest) → IfSome (step_dest s) (λ r. r < 32)
+    → IsLatest h latest → IsLatest (record { step = s; at = at } ∷ h) (latest_after (facts_of s) at latest)
+latest_more h s at latest low is = record {
+  count = ends_count (step_dest s) at.end latest.ends is.count;
+  ends = λ r l. ends_more (step_dest s) at.end latest.ends h r is.count low is.ends l;
+  issued = refl;
+  issues = λ n l. issues_more h (record { step = s; at = at }) latest.issues n is.issues l;
+  branch = rw is.branch (branch_more (is_branch s) at.finish (last_finish is_branch h));
+  address = rw is.address refl;
+  end = rw is.end refl;
+}
+
+-- so each of a list has a property up to a place after it is set there
+pub set_up_to : {X : Type 0} (P : ℕ → X → Type 0) (xs : List X) (n : ℕ) (x : X) → n < length xs → P n x
+    → ((i : ℕ) (d : X) → i < n → P i (slice_index_or xs i d)) → (i : ℕ) (d : X) → i < n + 1
+    → P i (slice_index_or (slice_set xs n x) i d)
+set_up_to P xs n x within here before i d l = elim (cases_order i n) [
+  | inl e ↦ subst (λ (y : ℕ). P y (slice_index_or (slice_set xs n x) y d)) (sym e) (rw (get_or-set_same xs n x d within) here)
+  | inr (inl k) ↦ rw (get_or-set_other xs n i x d (λ (e : i ≡ n). absurd (omega arith))) (before i d k)
+  | inr (inr k) ↦ absurd (omega arith)
+]

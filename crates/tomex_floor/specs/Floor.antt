@@ -80,6 +80,11 @@ floors_of latency w (s ∷ older) =
 abbrev pub floor_of : (UnitId → ℕ) → ℕ → List Step → ℕ
 floor_of latency w steps = greatest_end (floors_of latency w (reverse steps))
 
+-- the floors of a run for the issue widths from 1 to 4
+abbrev pub floors_by_width : (UnitId → ℕ) → List Step → List ℕ
+floors_by_width latency steps = floor_of latency 1 steps ∷ floor_of latency 2 steps ∷ floor_of latency 3 steps
+    ∷ floor_of latency 4 steps ∷ []
+
 -- a configuration's latencies
 abbrev pub latency_of : Configuration → UnitId → ℕ
 latency_of config unit = (option_of config unit).latency

@@ -1,14 +1,13 @@
-//! What is latest of the steps so far.
+//! What is latest of the steps so far, for one issue width.
 
-ghost use Rattle.std.specs.Prelude.{◌≡◌, ◌<◌, ◌≤◌, ◌^◌, List, [], ◌∷◌};
-ghost use Rattle.std.specs.Option.{ForSome};
-ghost use Rattle.tomex_steps.specs.declared.step.Step.{Step};
+ghost use Rattle.std.specs.Prelude.{◌≡◌, ◌<◌, ◌≤◌, ◌^◌, List, [], Option, IfSome};
+ghost use Rattle.tomex_steps.specs.declared.step.Operand.{Operand};
 ghost use Rattle.tomex_timing.specs.declared.times.Done.{Done};
-ghost use Rattle.tomex_timing.specs.History.{is_memory, source_end};
-ghost use Rattle.tomex_floor.specs.Kept.{IsLatest, IsLatestBy};
+ghost use Rattle.tomex_timing.specs.History.{source_end};
+ghost use Rattle.tomex_timing.specs.Window.{register_of};
+ghost use Rattle.tomex_floor.specs.Kept.{IsLatest, IsLatestBy, latest_after};
 
-use tomex_rvdec::PoolId;
-use tomex_rvexec::{Operand, Step};
+use crate::facts::Facts;
 use tomex_timing::Times;
 
 /// The latest of each kind of cycle so far, 0 if there is none.
@@ -26,13 +25,6 @@ pub(crate) struct Latest {
     pub end: u64,
 }
 
-/// True if a step is a load or store.
-pub(crate) fn is_memory(step: &Step) -> bool
-    ensures { result ≡ is_memory step.now }
-{
-    matches!(step.pool(), Some(PoolId::Load | PoolId::Store))
-}
-
 impl Latest {
     /// Before the first step.
     pub fn none() -> Latest
@@ -47,32 +39,35 @@ impl Latest {
         }
     }
 
-    /// The end of an operand's producer, 0 if there is none.
-    pub fn end_of(&self, operand: Option<Operand>) -> u64
-        requires register { ForSome operand (λ o. o.register < 32) }
+    /// The end of the producer of what a register holds, 0 without a register.
+    #[inline(always)]
+    pub fn end_of(&self, register: Option<u8>) -> u64
+        requires register { IfSome register (λ r. r < 32) }
         requires small { IsLatestBy (2 ^ 63) self.now }
-        ensures end { (h : List Done) → IsLatest h self.now → result ≡ source_end h operand }
+        ensures end { (h : List Done) (operand : Option Operand) → IsLatest h self.now → register ≡ register_of operand
+            → result ≡ source_end h operand }
         ensures by { result ≤ 2 ^ 63 }
     {
-        match operand {
+        match register {
             None => 0,
-            Some(operand) => self.ends[usize::from(operand.register)],
+            Some(register) => self.ends[usize::from(register)],
         }
     }
 
     /// Notes a step with its times.
-    pub fn note(&mut self, step: &Step, at: &Times)
-        ensures { (h : List Done) → IsLatest h self.old
-            → IsLatest (record { step = step.now; at = at.now } ∷ h) self.new }
+    #[inline(always)]
+    pub fn note(&mut self, facts: &Facts, at: &Times)
+        requires { IfSome facts.now.dest (λ r. r < 32) }
+        ensures { self.new ≡ latest_after facts.now at.now self.old }
     {
-        if let Some(register) = step.dest() {
+        if let Some(register) = facts.dest {
             self.ends[usize::from(register)] = at.end;
         }
         self.issues = [at.issue, self.issues[0], self.issues[1], self.issues[2]];
-        if step.is_branch() {
+        if facts.is_branch {
             self.branch = at.finish.max(self.branch);
         }
-        if is_memory(step) {
+        if facts.is_memory {
             self.address = at.address.unwrap_or(0);
         }
         self.end = at.end.max(self.end);

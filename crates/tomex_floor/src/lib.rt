@@ -6,9 +6,10 @@
 
 mod accesses;
 mod evaluate;
+mod facts;
 mod latest;
 mod laws;
 mod next;
 
-pub use evaluate::floor;
+pub use evaluate::floors;
 pub use laws::no_machine_is_faster;

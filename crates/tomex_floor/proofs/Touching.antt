@@ -1,8 +1,8 @@
--- The finishes that an access waits for, byte by byte.
-use Rattle.std.proofs.Common.{ℕ, ◌+◌, ◌<◌, ◌≤◌, ◌≡◌, ◌∙◌, Bool, true, false, arith, refl, ap, sym, inl, inr, List, [], ◌∷◌}
+-- What an access waits for, byte by byte.
+use Rattle.std.proofs.Common.{ℕ, ◌+◌, ◌<◌, ◌≤◌, ◌≡◌, ◌∙◌, ◌⊎◌, Bool, true, false, arith, refl, ap, sym, inl, inr, List, [], ◌∷◌}
 use Rattle.std.proofs.Common.{Option, Some, None, max}
-use Rattle.std.specs.Prelude.{nat_lt, nat_le, nat_eq, ◌&&◌, ◌||◌, if◌then◌else◌}
-use Rattle.std.proofs.lemmas.Bool.{cases_Bool}
+use Rattle.std.specs.Prelude.{◌*◌, ◌/◌, ◌%◌, unwrap_or, nat_lt, nat_le, nat_eq, ◌&&◌, ◌||◌, if◌then◌else◌}
+use Rattle.std.proofs.lemmas.Bool.{cases_Bool, leb-false, leb-true, ltb-false, ltb-true}
 use Rattle.std.proofs.lemmas.Bool.Decides.{nat_tests}
 use native.Mathlib.Numerals.{unary_clauses}
 use Rattle.tomex_rvdec.specs.declared.op.Op.{Op}
@@ -11,9 +11,11 @@ use Rattle.tomex_steps.specs.declared.step.ByteRange.{ByteRange}
 use Rattle.tomex_steps.specs.declared.step.Step.{Step}
 use Rattle.tomex_timing.specs.declared.times.Done.{Done}
 use Rattle.tomex_timing.specs.Recurrence.{conflicts, shares_byte}
-use Rattle.tomex_floor.specs.declared.accesses.Finishes.{Finishes}
 use Rattle.tomex_floor.specs.Floor.{last_finish}
-use Rattle.tomex_floor.specs.Kept.{finishes_after, finishes_of, has_byte, has_some, shares_some, waited_for}
+use Rattle.tomex_floor.specs.Kept.{Touched, below, has_byte, has_some, shares_some, touched_after, touched_in}
+use Rattle.tomex_floor.specs.Kept.{no_word, touched_from, touched_of, waited_for}
+use Rattle.tomex_floor.specs.declared.accesses.Word.{Word}
+use Rattle.std.specs.HashMap.{HashMap, get}
 
 -- tests that agree have one greatest finish
 finish_same : (p q : Step → Bool) → ((x : Step) → p x ≡ q x) → (h : List Done) → last_finish p h ≡ last_finish q h
@@ -94,7 +96,7 @@ and_true true = refl
 and_true false = refl
 
 waited_is : (b : ℕ) (store : Bool) (h : List Done)
-    → waited_for store (finishes_of b h) ≡ last_finish (at_byte b store) h
+    → waited_for store (touched_in h b) ≡ last_finish (at_byte b store) h
 waited_is b true h =
     finish_same (λ x. has_byte b (bytes_of x)) (at_byte b true)
     (λ x. sym (ap (λ (t : Bool). has_byte b (bytes_of x) && t) (or_true (is_store x)) ∙ and_true (has_byte b (bytes_of x))))
@@ -103,8 +105,8 @@ waited_is b false h =
     finish_same (λ x. has_byte b (bytes_of x) && is_store x) (at_byte b false)
     (λ x. sym (ap (λ (t : Bool). has_byte b (bytes_of x) && t) (or_false (is_store x)))) h
 
-pub latest_more : (from b : ℕ) (store : Bool) (h : List Done) (f : Finishes) (latest : ℕ) → from ≤ b
-    → f ≡ finishes_of b h → latest ≡ last_finish (shares_some from b store) h
+pub latest_more : (from b : ℕ) (store : Bool) (h : List Done) (f : Touched) (latest : ℕ) → from ≤ b
+    → f ≡ touched_in h b → latest ≡ last_finish (shares_some from b store) h
     → max (waited_for store f) latest ≡ last_finish (shares_some from (b + 1) store) h
 latest_more from b store h f latest low is so =
     let a = finish_same (shares_some from (b + 1) store) (λ x. shares_some from b store x || at_byte b store x)
@@ -145,13 +147,11 @@ no_conflict s h is =
     (λ x. ap (λ (o : Option ByteRange). shares_byte (bytes_of x) o && (is_store x || is_store s)) is
     ∙ ap (λ (t : Bool). t && (is_store x || is_store s)) (shares_none (bytes_of x))) h ∙ none_finished h
 
--- the finishes at a byte after one more step
+-- what was touched after one more step
 
-pub finishes_more : (b : ℕ) (d : Done) (h : List Done) (r : ByteRange) → bytes_of d.step ≡ Some r
-    → finishes_of b (d ∷ h)
-    ≡ (if nat_le r.from b && nat_lt b r.to then finishes_after (is_store d.step) d.at.finish (finishes_of b h)
-    else finishes_of b h)
-finishes_more b d h r is = elim (cases_Bool (nat_le r.from b && nat_lt b r.to)) [
+pub touched_more : (b : ℕ) (d : Done) (h : List Done) (r : ByteRange) → bytes_of d.step ≡ Some r
+    → touched_in (d ∷ h) b ≡ touched_after r.from r.to (is_store d.step) d.at.finish b (touched_in h b)
+touched_more b d h r is = elim (cases_Bool (nat_le r.from b && nat_lt b r.to)) [
   | inl e ↦ elim (cases_Bool (is_store d.step)) [
     | inl f ↦ rw (is, e, f) refl
     | inr f ↦ rw (is, e, f) (simp unary_clauses)
@@ -159,9 +159,47 @@ finishes_more b d h r is = elim (cases_Bool (nat_le r.from b && nat_lt b r.to)) 
   | inr e ↦ rw (is, e) (simp unary_clauses)
 ]
 
-pub finishes_same : (b : ℕ) (d : Done) (h : List Done) → bytes_of d.step ≡ None → finishes_of b (d ∷ h) ≡ finishes_of b h
-finishes_same b d h is = rw is (simp unary_clauses)
+pub touched_same : (b : ℕ) (d : Done) (h : List Done) → bytes_of d.step ≡ None → touched_in (d ∷ h) b ≡ touched_in h b
+touched_same b d h is = rw is (simp unary_clauses)
 
--- all bytes up to the last are those up to it
-pub all_bytes : (from to t b : ℕ) → t ≡ to → (nat_le from b && nat_lt b t) ≡ (nat_le from b && nat_lt b to)
-all_bytes from to t b same = rw same refl
+-- a range up to a byte, and with the byte
+
+pub below_more : (from to b : ℕ) (store : Bool) (h : List Done) (t : Touched) (latest : ℕ) → from ≤ b → b < to
+    → t ≡ touched_in h b → latest ≡ last_finish (shares_some from (below from to b) store) h
+    → max (waited_for store t) latest ≡ last_finish (shares_some from (below from to (b + 1)) store) h
+below_more from to b store h t latest low high is so =
+    let here : below from to b ≡ b = omega arith in
+    let next : below from to (b + 1) ≡ b + 1 = omega arith in
+    rw next (latest_more from b store h t latest low is (rw here at so))
+
+pub below_same : (from to b : ℕ) (store : Bool) (h : List Done) → (b < from) ⊎ (to ≤ b) → from < to
+    → last_finish (shares_some from (below from to (b + 1)) store) h
+    ≡ last_finish (shares_some from (below from to b) store) h
+below_same from to b store h (inl low) full =
+    let same : below from to (b + 1) ≡ below from to b = omega arith in rw same refl
+below_same from to b store h (inr high) full =
+    let same : below from to (b + 1) ≡ below from to b = omega arith in rw same refl
+
+pub below_turn : (from to b next : ℕ) (store : Bool) (h : List Done) (t : Touched) (latest new : ℕ) → from < to
+    → next ≡ b + 1 → t ≡ touched_in h b → latest ≡ last_finish (shares_some from (below from to b) store) h
+    → new ≡ (if nat_le from b && nat_lt b to then max (waited_for store t) latest else latest)
+    → new ≡ last_finish (shares_some from (below from to next) store) h
+below_turn from to b next store h t latest new full one is so so_new = rw one (elim (cases_Bool (nat_le from b)) [
+  | inl e ↦ elim (cases_Bool (nat_lt b to)) [
+    | inl f ↦
+        let now : new ≡ max (waited_for store t) latest = rw (e, f) at so_new in
+        now ∙ below_more from to b store h t latest (leb-true from b e) (ltb-true b to f) is so
+    | inr f ↦
+        let now : new ≡ latest = rw (e, f) at so_new in
+        now ∙ (so ∙ sym (below_same from to b store h (inr (ltb-false b to f)) full))
+  ]
+  | inr e ↦
+      let now : new ≡ latest = rw e at so_new in
+      now ∙ (so ∙ sym (below_same from to b store h (inl (leb-false from b e)) full))
+])
+
+-- a byte of a word
+pub touched_here : {S : Type 0} (n w lane : ℕ) (m : HashMap ℕ Word S) → lane < 4
+    → touched_from n m (4 * w + lane) ≡ touched_of n (unwrap_or (get nat_eq m w) no_word) lane
+touched_here n w lane m l =
+    let q : (4 * w + lane) / 4 ≡ w = omega arith in let r : (4 * w + lane) % 4 ≡ lane = omega arith in rw (q, r) refl
