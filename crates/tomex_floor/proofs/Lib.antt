@@ -1,0 +1,5 @@
+-- Lemmas of this crate.
+pub mod Above
+pub mod Reached
+pub mod Touching
+pub mod Turns

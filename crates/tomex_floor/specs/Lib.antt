@@ -1,0 +1,4 @@
+-- What contracts cite: the floor of a run, its laws, and what the evaluator keeps.
+pub mod Floor
+pub mod Laws
+pub mod Kept

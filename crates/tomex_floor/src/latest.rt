@@ -1,0 +1,75 @@
+//! What is latest of the steps so far, for one issue width.
+
+ghost use Rattle.std.specs.Prelude.{◌≡◌, ◌<◌, ◌≤◌, ◌^◌, List, [], Option, IfSome};
+ghost use Rattle.tomex_steps.specs.declared.step.Operand.{Operand};
+ghost use Rattle.tomex_timing.specs.declared.times.Done.{Done};
+ghost use Rattle.tomex_timing.specs.History.{source_end};
+ghost use Rattle.tomex_timing.specs.Window.{register_of};
+ghost use Rattle.tomex_floor.specs.Kept.{IsLatest, IsLatestBy, latest_after};
+
+use crate::facts::Facts;
+use tomex_timing::Times;
+
+/// The latest of each kind of cycle so far, 0 if there is none.
+#[derive(Clone, Copy)]
+pub(crate) struct Latest {
+    /// The end of each register's youngest writer.
+    pub ends: [u64; 32],
+    /// The issues of the last four steps, the youngest first.
+    pub issues: [u64; 4],
+    /// The latest finish of a branch.
+    pub branch: u64,
+    /// The last address cycle.
+    pub address: u64,
+    /// The greatest end.
+    pub end: u64,
+}
+
+impl Latest {
+    /// Before the first step.
+    pub fn none() -> Latest
+        ensures { IsLatest [] result }
+    {
+        Latest {
+            ends: [0; 32],
+            issues: [0; 4],
+            branch: 0,
+            address: 0,
+            end: 0,
+        }
+    }
+
+    /// The end of the producer of what a register holds, 0 without a register.
+    #[inline(always)]
+    pub fn end_of(&self, register: Option<u8>) -> u64
+        requires register { IfSome register (λ r. r < 32) }
+        requires small { IsLatestBy (2 ^ 63) self.now }
+        ensures end { (h : List Done) (operand : Option Operand) → IsLatest h self.now → register ≡ register_of operand
+            → result ≡ source_end h operand }
+        ensures by { result ≤ 2 ^ 63 }
+    {
+        match register {
+            None => 0,
+            Some(register) => self.ends[usize::from(register)],
+        }
+    }
+
+    /// Notes a step with its times.
+    #[inline(always)]
+    pub fn note(&mut self, facts: &Facts, at: &Times)
+        requires { IfSome facts.now.dest (λ r. r < 32) }
+        ensures { self.new ≡ latest_after facts.now at.now self.old }
+    {
+        if let Some(register) = facts.dest {
+            self.ends[usize::from(register)] = at.end;
+        }
+        self.issues = [at.issue, self.issues[0], self.issues[1], self.issues[2]];
+        if facts.is_branch {
+            self.branch = at.finish.max(self.branch);
+        }
+        if facts.is_memory {
+            self.address = at.address.unwrap_or(0);
+        }
+        self.end = at.end.max(self.end);
+    }
+}
