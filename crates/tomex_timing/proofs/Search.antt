@@ -52,7 +52,7 @@ address_low older s issue g h i = elim (cases_Bool (is_memory s)) [
   | inr e ↦ rw e (omega arith)
 ]
 
-pub station_is : (config : Configuration) (older : List Done) (pool : Option PoolId) (t : ℕ)
+station_is : (config : Configuration) (older : List Done) (pool : Option PoolId) (t : ℕ)
     → has_station config older pool t ≡ true
     → MatchOption pool (station_at config older pool t ≡ None) (λ p. (n : ℕ) × (station_at config older pool t ≡ Some n)
     × IsLeast (is_free p older t) n)
