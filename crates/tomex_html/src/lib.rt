@@ -1,0 +1,16 @@
+//! What HTML pages have in common: their beginning and their end, names in them, tables, and views with links from one
+//! to the next.
+//!
+//! Source: the HTML Living Standard, in its XML syntax.
+#![tactic(auto)]
+
+mod constants;
+mod links;
+mod names;
+mod page;
+mod tables;
+
+pub use links::{Links, push_links};
+pub use names::push_name;
+pub use page::{push_page_end, push_page_start};
+pub use tables::{cell_start, push_changed_cell, push_table_end};

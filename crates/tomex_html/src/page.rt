@@ -1,0 +1,34 @@
+//! How pages begin and end.
+
+ghost use Rattle.std.specs.Prelude.{◌≡◌, ◌++◌, OnOk, string_bytes};
+ghost use Rattle.tomex_html.specs.Html.{page_end, page_start};
+
+use crate::constants::{base_css, frame_css, head_html};
+use std::alloc::{AllocError, Allocator};
+use std::fmt::Write;
+
+/// Adds what a page begins with, up to its body. `title` is text in which nothing is markup, `style` what the page has
+/// beside the styles of all pages.
+#[tactic(auto, unfolding(crate::specs::Html::page_start))]
+pub fn push_page_start<A: Allocator>(
+    text: &mut String<A>,
+    title: &str,
+    style: &str,
+) -> Result<(), AllocError>
+    ensures { OnOk result (string_bytes text.new
+        ≡ string_bytes text.old ++ page_start title.now style.now) }
+{
+    let (head, base, frame) = (head_html(), base_css(), frame_css());
+    write!(
+        text,
+        "{head}{title}</title>\n<style>\n{base}{frame}{style}</style>\n</head>\n<body>\n"
+    )
+}
+
+/// Adds what a page ends with.
+#[tactic(auto, unfolding(crate::specs::Html::page_end))]
+pub fn push_page_end<A: Allocator>(text: &mut String<A>) -> Result<(), AllocError>
+    ensures { OnOk result (string_bytes text.new ≡ string_bytes text.old ++ page_end) }
+{
+    text.push_str("</body>\n</html>\n")
+}
