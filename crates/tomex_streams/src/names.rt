@@ -2,11 +2,11 @@
 ghost use Rattle.std.specs.Prelude.{◌≡◌, ◌++◌, IfOk, OnOk, string_bytes};
 ghost use Rattle.tomex_streams.specs.Names.{shown_char, shown_name};
 
-use std::alloc::{AllocError, Global};
+use std::alloc::{AllocError, Allocator, Global};
 use std::fmt::Write;
 
 /// Adds a character: a control character as `char::escape_debug` writes it, any other as it is.
-fn push_shown(text: &mut String, letter: char) -> Result<(), AllocError>
+pub fn push_shown<A: Allocator>(text: &mut String<A>, letter: char) -> Result<(), AllocError>
     ensures { OnOk result (string_bytes text.new ≡ string_bytes text.old ++ shown_char letter) }
 {
     match letter {
