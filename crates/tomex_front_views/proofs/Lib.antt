@@ -5,3 +5,4 @@ mod Ticks
 mod Rows
 mod Strokes
 mod Dotted
+pub mod Pieces

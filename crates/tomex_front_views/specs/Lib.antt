@@ -3,3 +3,4 @@ pub mod Plot
 pub mod FrontTable
 pub mod Dots
 pub mod RowsPlot
+pub mod LinkedPlot

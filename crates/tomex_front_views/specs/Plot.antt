@@ -13,7 +13,8 @@ use Rattle.tomex_front_views.specs.declared.plot.axes.Axes.{Axes}
 use Rattle.tomex_front_views.specs.declared.plot.axes.Point.{Point}
 use Rattle.tomex_front_views.specs.declared.plot.axes.Span.{Span}
 use Rattle.tomex_front_views.specs.declared.plot.marks.Mark.{Mark}
-use Rattle.tomex_front_views.specs.declared.plot.marks.Mark.TheVariants.{CostLine, CyclesLine, CostNumber, CyclesNumber}
+use Rattle.tomex_front_views.specs.declared.plot.marks.Mark.TheVariants.{CostLine, CyclesLine, CostNumber}
+use Rattle.tomex_front_views.specs.declared.plot.marks.Mark.TheVariants.{CyclesNumber}
 use Rattle.tomex_front_views.specs.declared.plot.points.Named.{Named}
 
 -- what stands above the picture: `front: 14 of 384 rows`
@@ -72,11 +73,15 @@ circle_at at radius =
 unfoldable pub row_title : FrontRow → List ℕ
 row_title r =
     codes "<title>row " ++ (decimal r.row ++ (codes ": cost " ++ (decimal r.cost
-    ++ (codes ", cycles " ++ (decimal r.cycles ++ codes "</title></circle>\n")))))
+    ++ (codes ", cycles " ++ (decimal r.cycles ++ codes "</title></circle>")))))
 
 -- a row's point
 unfoldable pub circle : Axes → ℕ → FrontRow → List ℕ
 circle axes radius r = circle_at (point_of axes r) radius ++ row_title r
+
+-- and as a line
+unfoldable pub circle_line : Axes → ℕ → FrontRow → List ℕ
+circle_line axes radius r = circle axes radius r ++ codes "\n"
 
 -- a row's number stands beside its point unless it would stand on the last one
 abbrev pub has_room : Option Named → Point → Bool
@@ -160,7 +165,7 @@ scales_text axes =
 unfoldable pub rows_text : Axes → List ℕ → List FrontRow → List ℕ
 rows_text axes stairs rows =
     codes "<path d=\"" ++ (stairs ++ (codes "\" fill=\"none\" stroke=\"#1f5fa8\" stroke-width=\"2\"/>\n"
-    ++ (codes "<g fill=\"#1f5fa8\">\n" ++ (flat_map (circle axes (radius_of (length rows))) rows
+    ++ (codes "<g fill=\"#1f5fa8\">\n" ++ (flat_map (circle_line axes (radius_of (length rows))) rows
     ++ (codes "</g>\n<g font-size=\"11\">\n" ++ (numbers_of axes None rows ++ codes "</g>\n</svg>\n"))))))
 
 -- the picture of these rows of that many

@@ -6,7 +6,8 @@ use Rattle.tomex_study.specs.Study.{DesignSpace}
 use Rattle.tomex_row_runs.specs.StudyFront.{all_rows}
 use Rattle.tomex_front_views.specs.Axes.{axes_of}
 use Rattle.tomex_front_views.specs.Dots.{dots_line}
-use Rattle.tomex_front_views.specs.Plot.{lines_text, rows_text, scales_text, shade, sheet, size_text, staircase, title_of}
+use Rattle.tomex_front_views.specs.Plot.{lines_text, rows_text, scales_text, shade, sheet, size_text, staircase}
+use Rattle.tomex_front_views.specs.Plot.{title_of}
 
 -- the picture of a front, drawn over dots for all of that many rows, which decide how far the axes reach
 unfoldable pub picture_over : ℕ → List FrontRow → List FrontRow → List ℕ

@@ -7,6 +7,7 @@ ghost use Rattle.tomex_front_views.specs.Plot.{scales_text, shade, sheet, size_t
 
 pub mod axes;
 pub mod dots;
+pub mod linked;
 pub mod marks;
 pub mod over_rows;
 pub mod points;

@@ -42,3 +42,19 @@ kept number count run part times some low there few pairs bound is = (
     bound = omega (arith, total_take count (drop (number - 1) times), total_drop (number - 1) times, bound, few);
   },
 )
+
+-- what begins at the first step is one too, also of a run without steps
+pub kept_first : (count : ℕ) (run part : List Step) (times : List Times) → length run ≤ 262144
+    → length times ≡ length run → total_of times ≤ 67 * length run → part ≡ take count (drop 0 run)
+    → (1 - 1 ≤ length times)
+    × IsExcerpt (record { number = 1; steps = part; times = take count (drop (1 - 1) times) })
+kept_first count run part times few pairs bound is = (
+  omega arith,
+  record {
+    number = omega arith;
+    pairs = omega (arith, length-take count times, pairs, part_length count 0 run part is);
+    short = omega (arith, part_length count 0 run part is, few);
+    numbers = omega arith;
+    bound = omega (arith, total_take count times, bound, few);
+  },
+)

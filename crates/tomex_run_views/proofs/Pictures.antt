@@ -77,16 +77,17 @@ line_after a b c d e rest =
 
 -- the line with the cycles, and those of the steps after it
 pub drawn_is : (number first last : ℕ) (steps : List Step) (times : List Times) (frame : Frame)
-    (none head text bytes : List ℕ) → none ≡ []
-    → head ≡ none ++ (codes "cycles " ++ (decimal first ++ (codes " to " ++ (decimal last ++ codes "\n"))))
-    → text ≡ head ++ lines_of frame number steps times → bytes ≡ text → first ≡ first_issue times
-    → last ≡ total_of times → frame ≡ frame_of number steps times → bytes ≡ picture_of number steps times
-drawn_is number first last steps times frame none head text bytes empty begun more made first_is last_is frame_is =
+    (before head text : List ℕ)
+    → head ≡ before ++ (codes "cycles " ++ (decimal first ++ (codes " to " ++ (decimal last ++ codes "\n"))))
+    → text ≡ head ++ lines_of frame number steps times → first ≡ first_issue times
+    → last ≡ total_of times → frame ≡ frame_of number steps times → text ≡ before ++ picture_of number steps times
+drawn_is number first last steps times frame before head text begun more first_is last_is frame_is =
     let line = codes "cycles " ++ (decimal first ++ (codes " to " ++ (decimal last ++ codes "\n"))) in
-    made ∙ (more ∙ (ap (λ (z : List ℕ). z ++ lines_of frame number steps times)
-    (begun ∙ ap (λ (z : List ℕ). z ++ line) empty) ∙ rw (first_is, last_is, frame_is)
+    more ∙ (ap (λ (z : List ℕ). z ++ lines_of frame number steps times) begun
+    ∙ (append_assoc before line (lines_of frame number steps times)
+    ∙ ap (λ (z : List ℕ). before ++ z) (rw (first_is, last_is, frame_is)
     (line_after (codes "cycles ") (decimal (first_issue times)) (codes " to ") (decimal (total_of times)) (codes "\n")
-    (lines_of (frame_of number steps times) number steps times))))
+    (lines_of (frame_of number steps times) number steps times)))))
 
 -- the text is the picture that was asked for
 pub pictured : (config : Configuration) (run : List Step) (number count : ℕ) (e : TimedSteps) (text : List ℕ)

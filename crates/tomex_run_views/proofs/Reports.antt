@@ -1,5 +1,6 @@
 -- The report of what was counted is that of the visits.
-use Rattle.std.proofs.Common.{◌≡◌, ◌≢◌, ◌≤◌, ◌⊎◌, Ok, Err, Vec, ◌∙◌, ap, ap₂, sym, refl, inl, inr, ℕ, ◌==◌, Bool, true}
+use Rattle.std.proofs.Common.{◌≡◌, ◌≢◌, ◌≤◌, ◌⊎◌, Ok, Err, Vec, ◌∙◌, ap, ap₂, sym, refl, inl, inr, ℕ, ◌==◌, Bool}
+use Rattle.std.proofs.Common.{true}
 use Rattle.std.proofs.Common.{false, cond, ◌||◌, List, [], ◌∷◌, ◌++◌, get_or, Option, Some, is_some, arith}
 use Rattle.std.specs.Prelude.{All, IfOk, OnOk, Result}
 use Rattle.std.specs.BTreeMap.{IsOrdered, is_at, keys}
@@ -20,7 +21,8 @@ use Rattle.tomex_timing.specs.Needs.{waits_in}
 use Rattle.tomex_timing.specs.Waiting.{AreWithin}
 use Rattle.tomex_timing.specs.declared.part.Waits.{Waits}
 use Rattle.tomex_csv_text.specs.Csv.{record_text}
-use Rattle.tomex_run_views.specs.ByPlace.{ArePlaces, IsReport, Visit, header, place_record, report_at, visits_at, visits_in}
+use Rattle.tomex_run_views.specs.ByPlace.{ArePlaces, IsReport, Visit, header, place_record, report_at, visits_at}
+use Rattle.tomex_run_views.specs.ByPlace.{visits_in}
 use Rattle.tomex_run_views.specs.declared.tally.Place.{Place}
 use Rattle.tomex_run_views.specs.declared.tally.Sum.{Sum}
 use Rattle.tomex_run_views.specs.declared.tally.Tally.{Tally}

@@ -1,5 +1,6 @@
 -- One visit more in what visits come to, and that the sums stay small.
-use Rattle.std.proofs.Common.{◌≡◌, ◌≢◌, ◌⊎◌, ◌∙◌, ap, sym, inl, inr, eqb-true, take_all, subst, refl, ℕ, ◌+◌, ◌^◌, ◌<◌}
+use Rattle.std.proofs.Common.{◌≡◌, ◌≢◌, ◌⊎◌, ◌∙◌, ap, sym, inl, inr, eqb-true, take_all, subst, refl, ℕ, ◌+◌, ◌^◌}
+use Rattle.std.proofs.Common.{◌<◌}
 use Rattle.std.proofs.Common.{◌≤◌, ◌==◌, Bool, true, false, cond, List, [], ◌∷◌, ◌++◌, length, get_or, take, Option}
 use Rattle.std.proofs.Common.{Some, arith}
 use Rattle.std.specs.Prelude.{All, sum_by, unwrap_or}

@@ -3,10 +3,10 @@
 ghost use Rattle.std.specs.Prelude.{◌≡◌, ◌-◌, ◌<◌, ◌≤◌, IfErr, IfOk, IsErrOf, drop, length, take};
 ghost use Rattle.tomex_rvexec.specs.Run.{start_of};
 ghost use Rattle.tomex_rvexec.specs.Trace.{steps_from};
-ghost use Rattle.tomex_run_views.specs.Excerpt.{HasNoExcerpt, IsExcerpt, IsExcerptOf};
+ghost use Rattle.tomex_run_views.specs.Excerpt.{HasNoExcerpt, IsExcerpt, IsExcerptOf, excerpt_of};
 
 use crate::excerpt_error::ExcerptError;
-use std::alloc::Allocator;
+use std::alloc::{AllocError, Allocator};
 use std::marker::Model;
 use tomex_config::Config;
 use tomex_rvexec::Step;
@@ -82,6 +82,29 @@ impl<'a, A: Allocator + Clone> Excerpt<'a, A> {
         Ok(Excerpt {
             number,
             steps: part_of(steps, number as usize - 1, count),
+            run_times,
+            count,
+        })
+    }
+}
+
+impl<'a, A: Allocator + Clone> Excerpt<'a, A> {
+    /// The first steps of a program's run on a configuration, at most `count` of them. All steps of the run are timed.
+    pub fn of_first(
+        alloc: &A,
+        program: &'a Program<A>,
+        config: &Config,
+        count: u32,
+    ) -> Result<Excerpt<'a, A>, AllocError>
+        ensures { IfOk result (λ e. e ≡ excerpt_of config.now
+            (steps_from program.now.limit (start_of program.now.image)) 1 count) }
+    {
+        let steps = program.steps();
+        let run_times = times(alloc.clone()?, steps, config)?;
+        let count = count as usize;
+        Ok(Excerpt {
+            number: 1,
+            steps: part_of(steps, 0, count),
             run_times,
             count,
         })

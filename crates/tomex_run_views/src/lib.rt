@@ -18,6 +18,6 @@ pub use excerpt::Excerpt;
 pub use excerpt_error::ExcerptError;
 pub use laws::waits_of_places_add_up;
 pub use picture_error::PictureError;
-pub use pipeline::{first_issue, picture_of, pipeline_text, signs_of};
+pub use pipeline::{first_issue, picture_of, pipeline_text, push_picture, signs_of};
 pub use stage::{Stage, stage_in};
-pub use stalls::stalls_report;
+pub use stalls::{push_name_of_part, stalls_report};

@@ -1,6 +1,7 @@
 //! The picture of some steps of a run on one configuration.
 
-ghost use Rattle.std.specs.Prelude.{◌≡◌, ◌+◌, ◌<◌, ◌≤◌, ◌^◌, drop, length, nat_lt, take, IfErr, IfOk, IsErrOf};
+ghost use Rattle.std.specs.Prelude.{◌≡◌, ◌+◌, ◌++◌, ◌<◌, ◌≤◌, ◌^◌, drop, length, nat_lt, take};
+ghost use Rattle.std.specs.Prelude.{IfErr, IfOk, IsErrOf, OnOk, string_bytes};
 ghost use Rattle.tomex_rvexec.specs.Run.{start_of};
 ghost use Rattle.tomex_rvexec.specs.Trace.{steps_from};
 ghost use Rattle.tomex_timing.specs.Search.{total_of};
@@ -72,6 +73,30 @@ fn frame_of<A: Allocator>(heap: Global, excerpt: &Excerpt<A>) -> Result<Frame, A
     })
 }
 
+/// Adds the picture of an excerpt, whatever its size. What is small is taken of `heap`.
+pub fn push_picture<A: Allocator, B: Allocator>(
+    text: &mut String<A>,
+    heap: Global,
+    excerpt: &Excerpt<B>,
+) -> Result<(), AllocError>
+    ensures { OnOk result (string_bytes text.new ≡ string_bytes text.old
+        ++ picture_of excerpt.now.number excerpt.now.steps excerpt.now.times) }
+{
+    excerpt.keeps_limits();
+    let frame = frame_of(heap, excerpt)?;
+    let times = excerpt.times();
+    let (first, last) = (first_issue(times), total(times));
+    write!(text, "cycles {first} to {last}\n")?;
+    push_lines(
+        text,
+        heap,
+        &frame,
+        excerpt.number(),
+        excerpt.steps(),
+        times,
+    )
+}
+
 /// The picture of an excerpt, whatever its size. What is small is taken of `heap`.
 pub fn picture_of<A: Allocator, B: Allocator>(
     alloc: A,
@@ -81,20 +106,8 @@ pub fn picture_of<A: Allocator, B: Allocator>(
     ensures { IfOk result
         (λ text. text.items ≡ picture_of excerpt.now.number excerpt.now.steps excerpt.now.times) }
 {
-    excerpt.keeps_limits();
-    let frame = frame_of(heap, excerpt)?;
-    let times = excerpt.times();
-    let (first, last) = (first_issue(times), total(times));
     let mut text = String::new(alloc);
-    write!(&mut text, "cycles {first} to {last}\n")?;
-    push_lines(
-        &mut text,
-        heap,
-        &frame,
-        excerpt.number(),
-        excerpt.steps(),
-        times,
-    )?;
+    push_picture(&mut text, heap, excerpt)?;
     Ok(text.into_bytes())
 }
 

@@ -1,13 +1,14 @@
 //! The stalls report of a run on one configuration.
 
-ghost use Rattle.std.specs.Prelude.{◌≡◌, ◌++◌, ◌∷◌, [], IfOk, OnOk};
+ghost use Rattle.std.specs.Prelude.{◌≡◌, ◌++◌, ◌∷◌, [], IfOk, OnOk, string_bytes};
 ghost use Rattle.std.specs.List.{flat_map};
 ghost use Rattle.csv.specs.Records.{fields_of, partial_of};
 ghost use Rattle.tomex_rvexec.specs.Run.{start_of};
 ghost use Rattle.tomex_rvexec.specs.Trace.{steps_from};
 ghost use Rattle.tomex_timing.specs.Needs.{all_parts};
 ghost use Rattle.tomex_csv_text.specs.Csv.{IsReady, record_text, written};
-ghost use Rattle.tomex_run_views.specs.StallsReport.{IsStallsReport, header, name_of_part, other_record, other_records};
+ghost use Rattle.tomex_run_views.specs.StallsReport.{IsStallsReport, header, name_of_part, other_record};
+ghost use Rattle.tomex_run_views.specs.StallsReport.{other_records};
 ghost use Rattle.tomex_run_views.specs.StallsReport.{part_fields, part_record, report_of_needs};
 
 use csv::{ByteRecord, Writer};
@@ -31,7 +32,19 @@ fn put_header<A: Allocator>(writer: &mut Writer<Vec<u8, A>>, heap: Global) -> Re
     put_record(writer, &record)
 }
 
-/// Adds a part's name.
+/// Adds a part's name, which is that of its column in the front report.
+pub fn push_name_of_part<A: Allocator>(text: &mut String<A>, part: Part) -> Result<(), AllocError>
+    ensures { OnOk result (string_bytes text.new ≡ string_bytes text.old ++ name_of_part part) }
+{
+    match part {
+        Part::Stations(pool) => write!(text, "{pool}"),
+        Part::Units(unit) => write!(text, "{unit}_units"),
+        Part::Buses => text.push_str("buses"),
+        Part::Width => text.push_str("width"),
+    }
+}
+
+/// Adds a part's name as a field.
 fn push_part(fields: &mut ByteRecord, scratch: &mut String, part: Part) -> Result<(), AllocError>
     requires { partial_of fields.old ≡ [] }
     ensures fields { OnOk result (fields_of fields.new
@@ -39,12 +52,7 @@ fn push_part(fields: &mut ByteRecord, scratch: &mut String, part: Part) -> Resul
     ensures whole { OnOk result (partial_of fields.new ≡ []) }
 {
     scratch.clear();
-    match part {
-        Part::Stations(pool) => write!(scratch, "{pool}")?,
-        Part::Units(unit) => write!(scratch, "{unit}_units")?,
-        Part::Buses => scratch.push_str("buses")?,
-        Part::Width => scratch.push_str("width")?,
-    }
+    push_name_of_part(scratch, part)?;
     fields.push_field(scratch.as_bytes())
 }
 

@@ -1,5 +1,5 @@
 -- Lemmas of this crate.
 mod Ranges
-mod Rows
-mod Totals
+pub mod Rows
+pub mod Totals
 mod Columns

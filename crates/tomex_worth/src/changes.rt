@@ -20,7 +20,7 @@ pub struct Change {
 }
 
 /// True if two configurations have the same entry in a part's list.
-fn same_entry(a: &Config, b: &Config, part: Part) -> bool
+pub fn same_entry(a: &Config, b: &Config, part: Part) -> bool
     ensures { result ≡ same_entry a.now b.now part }
 {
     match part {

@@ -1,11 +1,12 @@
 //! Differences as texts.
 
-ghost use Rattle.std.specs.Prelude.{◌≡◌, ◌<◌, ◌^◌, IfOk, string_bytes};
+ghost use Rattle.std.specs.Prelude.{◌≡◌, ◌++◌, IfOk, OnOk, string_bytes};
 ghost use Rattle.tomex_pareto.specs.Front.{dominates};
 ghost use Rattle.tomex_worth.specs.Differences.{distance, percent, sign_of, signed, tenths};
 ghost use Rattle.tomex_worth.specs.Worth.{rate_text};
 
-use std::alloc::{AllocError, Global};
+use std::alloc::{AllocError, Allocator, Global};
+use std::fmt::Write;
 use tomex_csv_text::push_hundredths;
 use tomex_pareto::FrontRow;
 
@@ -16,31 +17,49 @@ fn sign_of(a: u64, b: u64) -> &'static str
     if a < b { "+" } else { "-" }
 }
 
-/// How much `b` is more than `a`.
+/// Adds how much `b` is more than `a`, as in `+6`, `-9426` and `0`.
 #[tactic(auto, unfolding(crate::specs::Differences::signed))]
+pub fn push_signed<A: Allocator>(text: &mut String<A>, a: u64, b: u64) -> Result<(), AllocError>
+    ensures { OnOk result (string_bytes text.new ≡ string_bytes text.old ++ signed a b) }
+{
+    if a == b {
+        return text.push_str("0");
+    }
+    let (sign, distance) = (sign_of(a, b), a.abs_diff(b));
+    write!(text, "{sign}{distance}")
+}
+
+/// How much `b` is more than `a`.
 pub fn signed(heap: Global, a: u64, b: u64) -> Result<String, AllocError>
     ensures { IfOk result (λ text. string_bytes text ≡ signed a b) }
 {
-    if a == b {
-        return format!(in heap; "0");
-    }
-    let (sign, distance) = (sign_of(a, b), a.abs_diff(b));
-    format!(in heap; "{sign}{distance}")
+    let mut text = String::new(heap);
+    push_signed(&mut text, a, b)?;
+    Ok(text)
 }
 
-/// The same in percent of `a`, with one digit after the point, rounded towards 0.
+/// Adds how much `b` is more than `a` in percent of `a`, with one digit after the point, rounded towards 0.
 #[tactic(auto, unfolding(crate::specs::Differences::percent, crate::specs::Differences::tenths))]
-pub fn percent(heap: Global, a: u64, b: u64) -> Result<String, AllocError>
-    ensures { IfOk result (λ text. string_bytes text ≡ percent a b) }
+pub fn push_percent<A: Allocator>(text: &mut String<A>, a: u64, b: u64) -> Result<(), AllocError>
+    ensures { OnOk result (string_bytes text.new ≡ string_bytes text.old ++ percent a b) }
 {
     if a == b {
-        return format!(in heap; "0");
+        return text.push_str("0");
     }
     let sign = sign_of(a, b);
     let distance = u128::from(a.abs_diff(b));
     let thousandths = (distance * 1000).checked_div(u128::from(a)).unwrap_or(0);
     let (whole, tenth) = (thousandths / 10, thousandths % 10);
-    format!(in heap; "{sign}{whole}.{tenth}")
+    write!(text, "{sign}{whole}.{tenth}")
+}
+
+/// How much `b` is more than `a` in percent of `a`.
+pub fn percent(heap: Global, a: u64, b: u64) -> Result<String, AllocError>
+    ensures { IfOk result (λ text. string_bytes text ≡ percent a b) }
+{
+    let mut text = String::new(heap);
+    push_percent(&mut text, a, b)?;
+    Ok(text)
 }
 
 /// True if a row dominates another.
@@ -50,25 +69,36 @@ fn dominates(a: FrontRow, b: FrontRow) -> bool
     a.cost <= b.cost && a.cycles <= b.cycles && (a.cost < b.cost || a.cycles < b.cycles)
 }
 
-/// Cycles for 1 of cost between two rows, or why there is no such number.
+/// Adds the cycles for 1 of cost between two rows, or why there is no such number.
 #[tactic(auto, unfolding(crate::specs::Worth::rate_text))]
+pub fn push_rate<A: Allocator>(
+    text: &mut String<A>,
+    own: FrontRow,
+    other: FrontRow,
+) -> Result<(), AllocError>
+    ensures { OnOk result (string_bytes text.new ≡ string_bytes text.old ++ rate_text own other) }
+{
+    if dominates(other, own) {
+        return text.push_str("better");
+    }
+    if dominates(own, other) {
+        return text.push_str("worse");
+    }
+    if other.cost == own.cost {
+        return text.push_str("same");
+    }
+    let cycles = u128::from(own.cycles.abs_diff(other.cycles));
+    push_hundredths(
+        text,
+        cycles * 100 / u128::from(own.cost.abs_diff(other.cost)),
+    )
+}
+
+/// Cycles for 1 of cost between two rows, or why there is no such number.
 pub fn rate_text(heap: Global, own: FrontRow, other: FrontRow) -> Result<String, AllocError>
     ensures { IfOk result (λ text. string_bytes text ≡ rate_text own other) }
 {
-    if dominates(other, own) {
-        return format!(in heap; "better");
-    }
-    if dominates(own, other) {
-        return format!(in heap; "worse");
-    }
-    if other.cost == own.cost {
-        return format!(in heap; "same");
-    }
-    let cycles = u128::from(own.cycles.abs_diff(other.cycles));
     let mut text = String::new(heap);
-    push_hundredths(
-        &mut text,
-        cycles * 100 / u128::from(own.cost.abs_diff(other.cost)),
-    )?;
+    push_rate(&mut text, own, other)?;
     Ok(text)
 }

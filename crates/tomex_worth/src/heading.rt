@@ -1,9 +1,10 @@
 //! What the columns of the table are of.
 
-ghost use Rattle.std.specs.Prelude.{◌≡◌, IfOk, string_bytes};
+ghost use Rattle.std.specs.Prelude.{◌≡◌, ◌++◌, IfOk, OnOk, string_bytes};
 ghost use Rattle.tomex_worth.specs.Worth.{entry_text, name_of_list, name_under};
 
-use std::alloc::{AllocError, Global};
+use std::alloc::{AllocError, Allocator, Global};
+use std::fmt::Write;
 use tomex_config::Config;
 use tomex_timing::Part;
 
@@ -55,15 +56,46 @@ impl Heading {
     }
 }
 
+/// Adds a list's name, as a study has it.
+pub fn push_name_of_list<A: Allocator>(text: &mut String<A>, part: Part) -> Result<(), AllocError>
+    ensures { OnOk result (string_bytes text.new ≡ string_bytes text.old ++ name_of_list part) }
+{
+    match part {
+        Part::Stations(pool) => write!(text, "{pool}"),
+        Part::Units(unit) => write!(text, "unit.{unit}"),
+        Part::Buses => text.push_str("buses"),
+        Part::Width => text.push_str("width"),
+    }
+}
+
 /// A list's name, as a study has it.
 pub fn name_of_list(heap: Global, part: Part) -> Result<String, AllocError>
     ensures { IfOk result (λ name. string_bytes name ≡ name_of_list part) }
 {
+    let mut name = String::new(heap);
+    push_name_of_list(&mut name, part)?;
+    Ok(name)
+}
+
+/// Adds a configuration's entry in a part's list: a number, or units and latency, as in `1@8`.
+pub fn push_entry<A: Allocator>(
+    text: &mut String<A>,
+    config: &Config,
+    part: Part,
+) -> Result<(), AllocError>
+    ensures { OnOk result (string_bytes text.new
+        ≡ string_bytes text.old ++ entry_text config.now part) }
+{
     match part {
-        Part::Stations(pool) => format!(in heap; "{pool}"),
-        Part::Units(unit) => format!(in heap; "unit.{unit}"),
-        Part::Buses => format!(in heap; "buses"),
-        Part::Width => format!(in heap; "width"),
+        Part::Units(unit) => {
+            let option = config.option(unit);
+            let (units, latency) = (option.units, option.latency);
+            write!(text, "{units}@{latency}")
+        }
+        part => {
+            let count = part.count(config);
+            write!(text, "{count}")
+        }
     }
 }
 
@@ -71,15 +103,7 @@ pub fn name_of_list(heap: Global, part: Part) -> Result<String, AllocError>
 pub fn entry_text(heap: Global, config: &Config, part: Part) -> Result<String, AllocError>
     ensures { IfOk result (λ text. string_bytes text ≡ entry_text config.now part) }
 {
-    match part {
-        Part::Units(unit) => {
-            let option = config.option(unit);
-            let (units, latency) = (option.units, option.latency);
-            format!(in heap; "{units}@{latency}")
-        }
-        part => {
-            let count = part.count(config);
-            format!(in heap; "{count}")
-        }
-    }
+    let mut text = String::new(heap);
+    push_entry(&mut text, config, part)?;
+    Ok(text)
 }

@@ -6,5 +6,7 @@ mod differences;
 mod heading;
 mod table;
 
-pub use changes::Change;
+pub use changes::{Change, changes_of, same_entry};
+pub use differences::{push_percent, push_rate, push_signed};
+pub use heading::{push_entry, push_name_of_list};
 pub use table::worth_table;

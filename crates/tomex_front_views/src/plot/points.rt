@@ -2,7 +2,7 @@
 
 ghost use Rattle.std.specs.Prelude.{◌≡◌, ◌≤◌, ◌++◌, length, None, IfOk, OnOk, string_bytes};
 ghost use Rattle.std.specs.List.{flat_map};
-ghost use Rattle.tomex_front_views.specs.Plot.{circle, circle_at, has_room, named_at, number_at};
+ghost use Rattle.tomex_front_views.specs.Plot.{circle, circle_at, circle_line, has_room, named_at, number_at};
 ghost use Rattle.tomex_front_views.specs.Plot.{numbers_of, radius_of, row_title};
 
 use crate::plot::axes::{Axes, Point};
@@ -39,13 +39,13 @@ fn push_row_title<A: Allocator>(text: &mut String<A>, row: FrontRow) -> Result<(
     let (number, cost, cycles) = (row.row, row.cost, row.cycles);
     write!(
         text,
-        "<title>row {number}: cost {cost}, cycles {cycles}</title></circle>\n"
+        "<title>row {number}: cost {cost}, cycles {cycles}</title></circle>"
     )
 }
 
 /// Adds a row's point, which says what it is where it is pointed at.
 #[tactic(auto, unfolding(crate::specs::Plot::circle))]
-fn push_circle<A: Allocator>(
+pub fn push_circle<A: Allocator>(
     text: &mut String<A>,
     axes: &Axes,
     radius: u64,
@@ -58,7 +58,29 @@ fn push_circle<A: Allocator>(
     push_row_title(text, row)
 }
 
-/// Adds the rows' points; they are smaller where there are many.
+/// Adds a line with a row's point.
+#[tactic(auto, unfolding(crate::specs::Plot::circle_line))]
+fn push_circle_line<A: Allocator>(
+    text: &mut String<A>,
+    axes: &Axes,
+    radius: u64,
+    row: FrontRow,
+) -> Result<(), AllocError>
+    ensures { OnOk result (string_bytes text.new
+        ≡ string_bytes text.old ++ circle_line axes.now radius row) }
+{
+    push_circle(text, axes, radius, row)?;
+    text.push_str("\n")
+}
+
+/// How large points are, in points of the picture; they are smaller if rows are many.
+pub fn radius_of(rows: usize) -> u64
+    ensures { result ≡ radius_of rows }
+{
+    if rows <= 64 { 4 } else { 2 }
+}
+
+/// Adds the rows' points, a line each.
 pub fn push_circles<A: Allocator>(
     text: &mut String<A>,
     axes: &Axes,
@@ -66,11 +88,11 @@ pub fn push_circles<A: Allocator>(
 ) -> Result<(), AllocError>
     ensures { OnOk result (string_bytes text.new
         ≡ string_bytes text.old
-        ++ flat_map (circle axes.now (radius_of (length rows.now))) rows.now) }
+        ++ flat_map (circle_line axes.now (radius_of (length rows.now))) rows.now) }
 {
-    let radius = if rows.len() <= 64 { 4 } else { 2 };
+    let radius = radius_of(rows.len());
     for row in rows {
-        push_circle(text, axes, radius, *row)?;
+        push_circle_line(text, axes, radius, *row)?;
     }
     Ok(())
 }

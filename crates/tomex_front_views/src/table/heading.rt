@@ -1,10 +1,11 @@
 //! What the columns of the front's table are of.
 
-ghost use Rattle.std.specs.Prelude.{◌≡◌, ◌==◌, not, IfOk, string_bytes};
+ghost use Rattle.std.specs.Prelude.{◌≡◌, ◌++◌, ◌==◌, not, IfOk, OnOk, string_bytes};
 ghost use Rattle.std.specs.List.{list_any};
 ghost use Rattle.tomex_front_views.specs.FrontTable.{differs, name_of_heading, name_of_setting, setting_of};
 
-use std::alloc::{AllocError, Global};
+use std::alloc::{AllocError, Allocator, Global};
+use std::fmt::Write;
 use tomex_config::Config;
 use tomex_rvdec::{PoolId, UnitId};
 use tomex_timing::Part;
@@ -59,17 +60,27 @@ impl Setting {
         }
     }
 
+    /// Adds its name, which is that of its column in the front report.
+    pub fn push_name<A: Allocator>(self, text: &mut String<A>) -> Result<(), AllocError>
+        ensures { OnOk result (string_bytes text.new
+            ≡ string_bytes text.old ++ name_of_setting self) }
+    {
+        match self {
+            Setting::Count(Part::Stations(pool)) => write!(text, "{pool}"),
+            Setting::Count(Part::Units(unit)) => write!(text, "{unit}_units"),
+            Setting::Count(Part::Buses) => text.push_str("buses"),
+            Setting::Count(Part::Width) => text.push_str("width"),
+            Setting::Latency(unit) => write!(text, "{unit}_latency"),
+        }
+    }
+
     /// Its name.
     fn name(self, heap: Global) -> Result<String, AllocError>
         ensures { IfOk result (λ name. string_bytes name ≡ name_of_setting self) }
     {
-        match self {
-            Setting::Count(Part::Stations(pool)) => format!(in heap; "{pool}"),
-            Setting::Count(Part::Units(unit)) => format!(in heap; "{unit}_units"),
-            Setting::Count(Part::Buses) => format!(in heap; "buses"),
-            Setting::Count(Part::Width) => format!(in heap; "width"),
-            Setting::Latency(unit) => format!(in heap; "{unit}_latency"),
-        }
+        let mut name = String::new(heap);
+        self.push_name(&mut name)?;
+        Ok(name)
     }
 
     /// Whether one of the configurations says something else.

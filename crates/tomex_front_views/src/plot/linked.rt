@@ -1,0 +1,174 @@
+//! The front over all rows of a study, as a picture in a page: the circles of some rows are links.
+
+ghost use Rattle.std.specs.Prelude.{◌≡◌, ◌++◌, length, OnOk, string_bytes};
+ghost use Rattle.std.specs.List.{flat_map};
+ghost use Rattle.tomex_row_runs.specs.StudyFront.{all_rows, front_of_study};
+ghost use Rattle.tomex_front_views.specs.LinkedPlot.{is_shown, link_start, link_to, linked_circle, linked_line};
+ghost use Rattle.tomex_front_views.specs.LinkedPlot.{linked_over, linked_picture_of, linked_rows};
+ghost use Rattle.tomex_front_views.specs.Plot.{circle, radius_of};
+
+use crate::plot::axes::{Axes, axes_of};
+use crate::plot::dots::push_dots_line;
+use crate::plot::points::{push_circle, push_numbers, radius_of};
+use crate::plot::stairs::push_staircase;
+use crate::plot::{push_lines, push_scales, push_shade, push_sheet, push_size, title_of};
+use std::alloc::{AllocError, Allocator, Global};
+use std::fmt::Write;
+use tomex_pareto::FrontRow;
+use tomex_study::Study;
+
+/// True if the row of this number is one of those that are shown.
+#[tactic(auto, unfolding(crate::specs::LinkedPlot::is_shown))]
+pub fn is_shown(shown: &[FrontRow], row: usize) -> bool
+    ensures { result ≡ is_shown shown.now row }
+{
+    shown.iter().any(|r| r.row == row)
+}
+
+/// Adds what a link to a row's view begins with.
+#[tactic(auto, unfolding(crate::specs::LinkedPlot::link_start))]
+pub fn push_link_start<A: Allocator>(text: &mut String<A>, row: usize) -> Result<(), AllocError>
+    ensures { OnOk result (string_bytes text.new ≡ string_bytes text.old ++ link_start row) }
+{
+    write!(text, "<a href=\"#r{row}\">")
+}
+
+/// Adds a row's point as a link.
+#[tactic(auto, unfolding(crate::specs::LinkedPlot::link_to))]
+fn push_link<A: Allocator>(
+    text: &mut String<A>,
+    axes: &Axes,
+    radius: u64,
+    row: FrontRow,
+) -> Result<(), AllocError>
+    ensures { OnOk result (string_bytes text.new
+        ≡ string_bytes text.old ++ link_to row.row (circle axes.now radius row)) }
+{
+    push_link_start(text, row.row)?;
+    push_circle(text, axes, radius, row)?;
+    text.push_str("</a>")
+}
+
+/// Adds a row's point, which is a link if the row is shown.
+#[tactic(auto, unfolding(crate::specs::LinkedPlot::linked_circle))]
+fn push_linked_circle<A: Allocator>(
+    text: &mut String<A>,
+    axes: &Axes,
+    radius: u64,
+    shown: &[FrontRow],
+    row: FrontRow,
+) -> Result<(), AllocError>
+    ensures { OnOk result (string_bytes text.new
+        ≡ string_bytes text.old ++ linked_circle axes.now radius shown.now row) }
+{
+    if is_shown(shown, row.row) {
+        push_link(text, axes, radius, row)
+    } else {
+        push_circle(text, axes, radius, row)
+    }
+}
+
+/// Adds a line with it.
+#[tactic(auto, unfolding(crate::specs::LinkedPlot::linked_line))]
+fn push_linked_line<A: Allocator>(
+    text: &mut String<A>,
+    axes: &Axes,
+    radius: u64,
+    shown: &[FrontRow],
+    row: FrontRow,
+) -> Result<(), AllocError>
+    ensures { OnOk result (string_bytes text.new
+        ≡ string_bytes text.old ++ linked_line axes.now radius shown.now row) }
+{
+    push_linked_circle(text, axes, radius, shown, row)?;
+    text.push_str("\n")
+}
+
+/// Adds the rows' points, a line each.
+fn push_linked_lines<A: Allocator>(
+    text: &mut String<A>,
+    axes: &Axes,
+    shown: &[FrontRow],
+    front: &[FrontRow],
+) -> Result<(), AllocError>
+    ensures { OnOk result (string_bytes text.new ≡ string_bytes text.old
+        ++ flat_map (linked_line axes.now (radius_of (length front.now)) shown.now) front.now) }
+{
+    let radius = radius_of(front.len());
+    for row in front {
+        push_linked_line(text, axes, radius, shown, *row)?;
+    }
+    Ok(())
+}
+
+/// Adds the staircase as a line, the points, and their rows' numbers.
+#[tactic(auto, unfolding(crate::specs::LinkedPlot::linked_rows))]
+fn push_linked_rows<A: Allocator>(
+    text: &mut String<A>,
+    heap: Global,
+    axes: &Axes,
+    stairs: &str,
+    shown: &[FrontRow],
+    front: &[FrontRow],
+) -> Result<(), AllocError>
+    ensures { OnOk result (string_bytes text.new
+        ≡ string_bytes text.old ++ linked_rows axes.now stairs.now shown.now front.now) }
+{
+    write!(
+        text,
+        "<path d=\"{stairs}\" fill=\"none\" stroke=\"#1f5fa8\" stroke-width=\"2\"/>\n"
+    )?;
+    text.push_str("<g fill=\"#1f5fa8\">\n")?;
+    push_linked_lines(text, axes, shown, front)?;
+    text.push_str("</g>\n<g font-size=\"11\">\n")?;
+    push_numbers(text, heap, axes, front)?;
+    text.push_str("</g>\n</svg>\n")
+}
+
+/// Adds the picture of a front, drawn over dots for all rows, of which there are `all`.
+#[tactic(auto, unfolding(crate::specs::LinkedPlot::linked_over))]
+fn push_linked_over<A: Allocator + Clone>(
+    text: &mut String<A>,
+    alloc: A,
+    heap: Global,
+    all: usize,
+    rows: &[FrontRow],
+    front: &[FrontRow],
+    shown: &[FrontRow],
+) -> Result<(), AllocError>
+    ensures { OnOk result (string_bytes text.new
+        ≡ string_bytes text.old ++ linked_over all rows.now front.now shown.now) }
+{
+    let axes = axes_of(rows);
+    let title = title_of(heap, front.len(), all)?;
+    let mut stairs = String::new(heap);
+    push_staircase(&mut stairs, &axes, front)?;
+    push_size(text)?;
+    push_sheet(text, title.as_str())?;
+    push_shade(text, stairs.as_str())?;
+    push_lines(text, &axes)?;
+    push_scales(text, &axes)?;
+    push_dots_line(text, alloc, &axes, rows)?;
+    push_linked_rows(text, heap, &axes, stairs.as_str(), shown, front)
+}
+
+/// Adds the picture that `rows_picture` gives, except that the circle of each row that is shown is a link to the row's
+/// view in the page.
+///
+/// `rows` are all rows of the study, `front` those of its front. What is small is taken of `heap`.
+pub fn push_linked_picture<A: Allocator + Clone>(
+    text: &mut String<A>,
+    alloc: A,
+    heap: Global,
+    study: &Study<A>,
+    rows: &[FrontRow],
+    front: &[FrontRow],
+    shown: &[FrontRow],
+) -> Result<(), AllocError>
+    requires rows { rows.now ≡ all_rows study.now }
+    requires front { front.now ≡ front_of_study study.now }
+    ensures { OnOk result (string_bytes text.new
+        ≡ string_bytes text.old ++ linked_picture_of study.now shown.now) }
+{
+    push_linked_over(text, alloc, heap, study.rows().len(), rows, front, shown)
+}

@@ -1,0 +1,63 @@
+-- The constant pieces of a page.
+use Rattle.std.specs.Prelude.{ℕ, List, ◌++◌, codes}
+
+-- how a study's report looks
+unfoldable pub page_css : List ℕ
+page_css =
+    codes ":root{--shade:#edf3fa;--dot:#a9b8c9;--bar:#7ba3d0}\n"
+    ++ (codes "@media screen and (prefers-color-scheme:dark){:root{--shade:#1c2733;--dot:#5b6b7c;--bar:#4678ad}"
+    ++ (codes "}\n"
+    ++ (codes ".c,.l{display:grid;gap:1rem 2.5rem;align-items:start}\n"
+    ++ (codes ".c .w+.w{margin-top:1rem}\n"
+    ++ (codes ".c>*,section>*,.l>*{min-width:0}\n"
+    ++ (codes ".a td,.a thead th{text-align:right}\n"
+    ++ (codes ".a th:first-child{text-align:left}\n"
+    ++ (codes ".x td{white-space:normal}\n"
+    ++ (codes "svg{max-width:100%;height:auto;fill:var(--ink)}\n"
+    ++ (codes "svg rect[fill=\"#ffffff\"]{fill:none}\n"
+    ++ (codes "svg path[fill=\"#edf3fa\"]{fill:var(--shade)}\n"
+    ++ (codes "svg g[stroke=\"#dddddd\"]{stroke:var(--line)}\n"
+    ++ (codes "svg rect[stroke=\"#999999\"]{stroke:var(--soft)}\n"
+    ++ (codes "svg path[stroke=\"#1f5fa8\"]{stroke:var(--link)}\n"
+    ++ (codes "svg path[stroke=\"#a9b8c9\"]{stroke:var(--dot)}\n"
+    ++ (codes "svg g[fill=\"#1f5fa8\"]{fill:var(--link)}\n"
+    ++ (codes "svg a:hover circle,svg a:focus-visible circle{stroke:var(--ink);stroke-width:3}\n"
+    ++ (codes "section{padding-top:1rem;border-top:1px solid var(--line)}\n"
+    ++ (codes "section :target{scroll-margin-top:3rem}\n"
+    ++ (codes "section>p,.l{grid-column:1/-1}\n"
+    ++ (codes ".t{width:100%}\n"
+    ++ (codes ".t td,.t th{padding-top:0;padding-bottom:0}\n"
+    ++ (codes ".t td:last-child{width:55%;padding-right:0}\n"
+    ++ (codes ".t th:last-child{text-align:left}\n"
+    ++ (codes ".t i{display:block;height:.75em;background:var(--bar);print-color-adjust:exact;"
+    ++ (codes "-webkit-print-color-adjust:exact}\n"
+    ++ (codes ".t th[scope=rowgroup]{padding-top:.6rem;font:inherit;font-size:.85rem;color:var(--soft)}\n"
+    ++ (codes "pre{margin:.3rem 0;overflow-x:auto;font-size:.75rem;line-height:1.35}\n"
+    ++ (codes "footer{border-top:1px solid var(--line);padding-top:1rem}\n"
+    ++ (codes "@media print,(min-width:40rem){.l{grid-template-columns:repeat(auto-fit,minmax(27rem,1fr))}}\n"
+    ++ (codes "@media print,(min-width:76rem){.c{grid-template-columns:45rem 1fr}section{grid-template-columns:"
+    ++ (codes "auto auto 1fr;column-gap:4rem}}\n"
+    ++ (codes "@media screen and (max-width:48rem){body{padding:.7rem .7rem 2rem}th,td{padding:.15rem .3rem}}\n"
+    ++ (codes "@media print{section{break-inside:auto;break-before:page}."
+    ++ codes "w,details{break-inside:avoid}}\n"))))))))))))))))))))))))))))))))))
+
+-- how to read it
+unfoldable pub page_help : List ℕ
+page_help =
+    codes "<footer><h2>How to read this</h2>\n"
+    ++ (codes "<p>A row is a configuration, by its number. It is on the front if no other one costs as much or "
+    ++ (codes "less and takes as many cycles or fewer, and is better in one of the two. Dots are rows that "
+    ++ (codes "aren't. A point of the picture, or a row's number, leads to the row; there, follow <i>next</i> "
+    ++ (codes "once, then Enter goes on.</p>\n"
+    ++ (codes "<p>A unit option is written units@latency. Rate: of two rows that are a trade, cycles for each "
+    ++ (codes "unit of cost. A price stays within A..B: with any value from A to B, all other prices as stated, "
+    ++ (codes "the row is on the front.</p>\n"
+    ++ (codes "<p>A cycle in which an instruction waits counts once, for the first thing that is wanting. "
+    ++ (codes "Before its issue: an older branch, the issue width, a station. In its station: an operand, its "
+    ++ (codes "address, an older access to its bytes, a unit, at last a bus. Drain is the time after the last "
+    ++ (codes "issue. Peak is how many of a part were ever in use at once: a part without stalls is large "
+    ++ (codes "enough, and any number of it down to its peak costs no cycle.</p>\n"
+    ++ (codes "<p>In charts an instruction issues (I), computes its address (A), is in its unit (E), has its "
+    ++ (codes "result on a bus (W), waits for a bus (-) or for anything else (=).</p>\n"
+    ++ (codes "<p>Each number is one that a command of tomex prints: "
+    ++ codes "front, worth, prices, stalls, pipeline.</p></footer>\n")))))))))))))))

@@ -1,0 +1,125 @@
+-- A study's report as a page: its picture, what was asked, its front, and a view for each row of the front.
+use Rattle.std.specs.Prelude.{ℕ, ◌-◌, nat_le, if◌then◌else◌, List, [], ◌∷◌, ◌++◌, codes, length, option_map}
+use Rattle.std.specs.Prelude.{slice_get, slice_index_or, Option, Some, None}
+use Rattle.std.specs.Fmt.{decimal}
+use Rattle.std.specs.List.{flat_map}
+use Rattle.tomex_config.specs.Configuration.{Configuration}
+use Rattle.tomex_html.specs.Html.{html_name, links, page_end, page_start}
+use Rattle.tomex_html.specs.declared.links.Links.{Links}
+use Rattle.tomex_pareto.specs.declared.front_row.FrontRow.{FrontRow}
+use Rattle.tomex_row_runs.specs.StudyFront.{front_of_study}
+use Rattle.tomex_study.specs.Program.{Workload}
+use Rattle.tomex_study.specs.Study.{DesignSpace}
+use Rattle.tomex_front_views.specs.LinkedPlot.{linked_picture_of}
+use Rattle.tomex_page_tables.specs.Asked.{lists_table, programs_table, steps_of}
+use Rattle.tomex_page_tables.specs.Changed.{changes_table}
+use Rattle.tomex_page.specs.Charts.{chart_of, first_steps}
+use Rattle.tomex_page.specs.Constants.{page_css, page_help}
+use Rattle.tomex_page_tables.specs.Front.{front_table}
+use Rattle.tomex_page_tables.specs.Parts.{against, parts_table}
+use Rattle.tomex_page.specs.Runs.{needs_on}
+use Rattle.tomex_page_tables.specs.Shown.{most_rows, no_row, row_of, shown_of}
+use Rattle.tomex_page.specs.Stalls.{stalls_table}
+use Rattle.tomex_page_tables.specs.Stays.{prices_table}
+use Rattle.tomex_page.specs.declared.section.View.{View}
+use Rattle.tomex_page_tables.specs.declared.shown.ShownRow.{ShownRow}
+
+-- a program's run on a configuration: its stalls, and its chart
+unfoldable pub run_block : Configuration → Workload → List ℕ
+run_block config p =
+    codes "<div>\n" ++ (stalls_table config (needs_on config p) p.name
+    ++ (chart_of p.name (first_steps config (steps_of p)) ++ codes "</div>\n"))
+
+unfoldable pub section_start : FrontRow → List ℕ
+section_start r =
+    codes "<section id=\"r" ++ (decimal r.row ++ (codes "\">\n<header><h2>Row " ++ (decimal r.row
+    ++ (codes " <small>cost " ++ (decimal r.cost ++ (codes ", " ++ (decimal r.cycles
+    ++ codes " cycles</small></h2>\n")))))))
+
+abbrev pub number_of : FrontRow → ℕ
+number_of r = r.row
+
+abbrev pub number_before : ShownRow → ℕ
+number_before r = r.row.row
+
+-- a row's view among those of the rows that are shown, which are called by the rows' numbers
+abbrev pub view_of : List FrontRow → View → Links
+view_of shown v = record {
+  first = (slice_index_or shown 0 no_row).row;
+  before = option_map number_before v.before;
+  here = v.here.row.row;
+  after = option_map number_of v.after;
+  last = (slice_index_or shown (length shown - 1) no_row).row;
+}
+
+-- the header of a row's view
+unfoldable pub section_head : List FrontRow → View → List ℕ
+section_head shown v = section_start v.here.row ++ (links (view_of shown v) ++ codes "</header>\n")
+
+-- what it has of the row
+unfoldable pub section_tables : DesignSpace → List FrontRow → View → List ℕ
+section_tables s shown v =
+    against v.before v.here ++ (parts_table s.prices v.before v.here
+    ++ (changes_table s shown v.here.row ++ prices_table s v.here.row))
+
+-- and of the programs' runs on it
+unfoldable pub section_runs : DesignSpace → Configuration → List ℕ
+section_runs s config =
+    codes "<div class=\"l\">\n" ++ (flat_map (run_block config) s.programs ++ codes "</div>\n</section>\n")
+
+-- a row's view
+unfoldable pub row_section : DesignSpace → List FrontRow → View → List ℕ
+row_section s shown v =
+    section_head shown v ++ (section_tables s shown v ++ section_runs s v.here.config)
+
+abbrev pub view_at : DesignSpace → Option ShownRow → FrontRow → List FrontRow → View
+view_at s before r rows = record { before = before; here = row_of s r; after = slice_get rows 0 }
+
+-- the views of the rows after one, if there is one
+abbrev pub row_sections : DesignSpace → List FrontRow → Option ShownRow → List FrontRow → List ℕ
+row_sections s shown before [] = []
+row_sections s shown before (r ∷ rows) =
+    row_section s shown (view_at s before r rows) ++ row_sections s shown (Some (row_of s r)) rows
+
+-- what isn't shown
+unfoldable pub all_in_picture : ℕ → List ℕ
+all_in_picture front =
+    codes "<p>The picture has all " ++ (decimal front
+    ++ (codes " rows of the front. The table and the rows below it are 64 of them: <code>tomex front</code> "
+    ++ codes "has them all.</p>\n"))
+
+unfoldable pub left_out : ℕ → List ℕ
+left_out front = if nat_le front most_rows then [] else all_in_picture front
+
+-- the study's name may have any characters; in its element it turns nothing else round
+unfoldable pub counts_text : ℕ → ℕ → List ℕ
+counts_text front rows = codes ": " ++ (decimal front ++ (codes " of " ++ (decimal rows ++ codes " rows are on the front")))
+
+unfoldable pub title_of : List ℕ → ℕ → ℕ → List ℕ
+title_of name front rows = html_name name ++ counts_text front rows
+
+unfoldable pub page_head : List ℕ → ℕ → ℕ → List ℕ
+page_head name front rows =
+    page_start (title_of name front rows) page_css ++ (codes "<header><h1><bdi>" ++ (html_name name
+    ++ (codes "</bdi>" ++ (counts_text front rows ++ codes "</h1></header>\n<main>\n<div class=\"c\">\n"))))
+
+-- the picture beside what was asked
+unfoldable pub overview : DesignSpace → List FrontRow → List ℕ
+overview s shown =
+    codes "<div class=\"w\">" ++ (linked_picture_of s shown ++ (codes "</div>\n<div>\n"
+    ++ (programs_table s ++ (lists_table s ++ codes "</div>\n</div>\n"))))
+
+-- the front, and the rows
+unfoldable pub rows_text : DesignSpace → ℕ → List FrontRow → List ℕ
+rows_text s front shown =
+    left_out front ++ (front_table s shown ++ (codes "<div class=\"v\">\n" ++ (row_sections s shown None shown
+    ++ codes "</div>\n</main>\n")))
+
+unfoldable pub page_over : List ℕ → DesignSpace → List FrontRow → List FrontRow → List ℕ
+page_over name s front shown =
+    page_head name (length front) (length s.rows) ++ (overview s shown
+    ++ (rows_text s (length front) shown ++ (page_help ++ page_end)))
+
+-- the page of a study of that name
+unfoldable pub page_of : List ℕ → DesignSpace → List ℕ
+page_of name s = page_over name s (front_of_study s) (shown_of (front_of_study s))

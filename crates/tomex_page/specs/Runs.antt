@@ -1,0 +1,37 @@
+-- A program's run on a configuration, as pages show it.
+use Rattle.std.specs.Prelude.{ℕ, List, map}
+use Rattle.tomex_config.specs.Configuration.{Configuration}
+use Rattle.tomex_config.specs.Cost.{all_pools}
+use Rattle.tomex_study.specs.Program.{Workload}
+use Rattle.tomex_timing.specs.History.{greatest_end, last_issue}
+use Rattle.tomex_timing.specs.Needs.{all_units, peak, stalls, stalls_by}
+use Rattle.tomex_timing.specs.Search.{history}
+use Rattle.tomex_timing.specs.declared.needs.Needs.{Needs}
+use Rattle.tomex_timing.specs.declared.part.Need.{Need}
+use Rattle.tomex_timing.specs.declared.part.Part.{Part}
+use Rattle.tomex_timing.specs.declared.part.Part.TheVariants.{Stations, Units, Buses, Width}
+use Rattle.tomex_timing.specs.declared.times.Done.{Done}
+use Rattle.tomex_page_tables.specs.Asked.{steps_of}
+
+-- what a history needs of a part: the most that it takes of it at once, and how long its steps wait for it
+abbrev pub need_in : Configuration → List Done → Part → Need
+need_in config h part = record { peak = peak part h; stalls = stalls config part h }
+
+-- all that it needs
+abbrev pub needs_in : Configuration → List Done → Needs
+needs_in config h = record {
+  stations = map (λ pool. need_in config h (Stations pool)) all_pools;
+  units = map (λ unit. need_in config h (Units unit)) all_units;
+  buses = need_in config h Buses;
+  width = need_in config h Width;
+  branch = stalls_by (λ w. w.branch) config h;
+  operand = stalls_by (λ w. w.operand) config h;
+  address = stalls_by (λ w. w.address) config h;
+  memory = stalls_by (λ w. w.memory) config h;
+  last_issue = last_issue h;
+  total = greatest_end h;
+}
+
+-- and what a program needs on a configuration
+unfoldable pub needs_on : Configuration → Workload → Needs
+needs_on config p = needs_in config (history config (steps_of p))

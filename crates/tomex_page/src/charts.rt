@@ -1,0 +1,78 @@
+//! The chart of a run's first instructions.
+
+ghost use Rattle.std.specs.Prelude.{◌≡◌, ◌++◌, OnOk, string_bytes};
+ghost use Rattle.tomex_page.specs.Charts.{chart_of, chart_start, first_steps, picture_text};
+ghost use Rattle.tomex_page_tables.specs.Asked.{steps_of};
+
+use std::alloc::{AllocError, Allocator, Global};
+use std::fmt::Write;
+use tomex_config::Config;
+use tomex_run_views::{Excerpt, push_picture, signs_of};
+use tomex_study::Program;
+
+/// So many instructions have a chart at most.
+const CHART_STEPS: u32 = 32;
+
+/// A chart of more signs than this isn't drawn.
+const CHART_SIGNS: u64 = 16_384;
+
+/// Adds the picture of an excerpt, or why there is none.
+#[tactic(auto, unfolding(crate::specs::Charts::picture_text))]
+fn push_picture_text<A: Allocator, B: Allocator>(
+    text: &mut String<A>,
+    heap: Global,
+    excerpt: &Excerpt<B>,
+) -> Result<(), AllocError>
+    ensures { OnOk result (string_bytes text.new
+        ≡ string_bytes text.old ++ picture_text excerpt.now) }
+{
+    if signs_of(excerpt) <= CHART_SIGNS {
+        text.push_str("<pre>")?;
+        push_picture(text, heap, excerpt)?;
+        text.push_str("</pre>")
+    } else {
+        text.push_str("<p>Too wide: <code>tomex pipeline</code> draws it.</p>\n")
+    }
+}
+
+/// Adds what a chart begins with.
+#[tactic(auto, unfolding(crate::specs::Charts::chart_start))]
+fn push_chart_start<A: Allocator>(text: &mut String<A>, name: &str) -> Result<(), AllocError>
+    ensures { OnOk result (string_bytes text.new ≡ string_bytes text.old ++ chart_start name.now) }
+{
+    write!(
+        text,
+        "<details><summary>{name}: its first instructions, cycle by cycle</summary>\n"
+    )
+}
+
+/// Adds the chart of an excerpt of a program's run.
+#[tactic(auto, unfolding(crate::specs::Charts::chart_of))]
+fn push_chart_of<A: Allocator, B: Allocator>(
+    text: &mut String<A>,
+    heap: Global,
+    name: &str,
+    excerpt: &Excerpt<B>,
+) -> Result<(), AllocError>
+    ensures { OnOk result (string_bytes text.new
+        ≡ string_bytes text.old ++ chart_of name.now excerpt.now) }
+{
+    push_chart_start(text, name)?;
+    push_picture_text(text, heap, excerpt)?;
+    text.push_str("</details>\n")
+}
+
+/// Adds the chart of the first instructions of a program's run on a configuration.
+pub fn push_chart<A: Allocator, B: Allocator + Clone>(
+    text: &mut String<A>,
+    alloc: &B,
+    heap: Global,
+    program: &Program<B>,
+    config: &Config,
+) -> Result<(), AllocError>
+    ensures { OnOk result (string_bytes text.new ≡ string_bytes text.old
+        ++ chart_of program.now.name (first_steps config.now (steps_of program.now))) }
+{
+    let excerpt = Excerpt::of_first(alloc, program, config, CHART_STEPS)?;
+    push_chart_of(text, heap, program.name(), &excerpt)
+}

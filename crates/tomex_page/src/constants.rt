@@ -1,0 +1,76 @@
+//! The constant pieces of a page.
+
+ghost use Rattle.std.specs.Prelude.{◌≡◌};
+ghost use Rattle.tomex_page.specs.Constants.{page_css, page_help};
+
+/// How a study's report looks.
+const PAGE_CSS: &str = "\
+:root{--shade:#edf3fa;--dot:#a9b8c9;--bar:#7ba3d0}
+@media screen and (prefers-color-scheme:dark){:root{--shade:#1c2733;--dot:#5b6b7c;--bar:#4678ad}}
+.c,.l{display:grid;gap:1rem 2.5rem;align-items:start}
+.c .w+.w{margin-top:1rem}
+.c>*,section>*,.l>*{min-width:0}
+.a td,.a thead th{text-align:right}
+.a th:first-child{text-align:left}
+.x td{white-space:normal}
+svg{max-width:100%;height:auto;fill:var(--ink)}
+svg rect[fill=\"#ffffff\"]{fill:none}
+svg path[fill=\"#edf3fa\"]{fill:var(--shade)}
+svg g[stroke=\"#dddddd\"]{stroke:var(--line)}
+svg rect[stroke=\"#999999\"]{stroke:var(--soft)}
+svg path[stroke=\"#1f5fa8\"]{stroke:var(--link)}
+svg path[stroke=\"#a9b8c9\"]{stroke:var(--dot)}
+svg g[fill=\"#1f5fa8\"]{fill:var(--link)}
+svg a:hover circle,svg a:focus-visible circle{stroke:var(--ink);stroke-width:3}
+section{padding-top:1rem;border-top:1px solid var(--line)}
+section :target{scroll-margin-top:3rem}
+section>p,.l{grid-column:1/-1}
+.t{width:100%}
+.t td,.t th{padding-top:0;padding-bottom:0}
+.t td:last-child{width:55%;padding-right:0}
+.t th:last-child{text-align:left}
+.t i{display:block;height:.75em;background:var(--bar);print-color-adjust:exact;-webkit-print-color-adjust:\
+exact}
+.t th[scope=rowgroup]{padding-top:.6rem;font:inherit;font-size:.85rem;color:var(--soft)}
+pre{margin:.3rem 0;overflow-x:auto;font-size:.75rem;line-height:1.35}
+footer{border-top:1px solid var(--line);padding-top:1rem}
+@media print,(min-width:40rem){.l{grid-template-columns:repeat(auto-fit,minmax(27rem,1fr))}}
+@media print,(min-width:76rem){.c{grid-template-columns:45rem 1fr}section{grid-template-columns:auto auto 1fr;\
+column-gap:4rem}}
+@media screen and (max-width:48rem){body{padding:.7rem .7rem 2rem}th,td{padding:.15rem .3rem}}
+@media print{section{break-inside:auto;break-before:page}.w,details{break-inside:avoid}}
+";
+
+/// How to read it.
+const PAGE_HELP: &str = "\
+<footer><h2>How to read this</h2>
+<p>A row is a configuration, by its number. It is on the front if no other one costs as much or less and \
+takes as many cycles or fewer, and is better in one of the two. Dots are rows that aren't. A point of the \
+picture, or a row's number, leads to the row; there, follow <i>next</i> once, then Enter goes on.</p>
+<p>A unit option is written units@latency. Rate: of two rows that are a trade, cycles for each unit of cost. \
+A price stays within A..B: with any value from A to B, all other prices as stated, the row is on the front.\
+</p>
+<p>A cycle in which an instruction waits counts once, for the first thing that is wanting. Before its issue: \
+an older branch, the issue width, a station. In its station: an operand, its address, an older access to its \
+bytes, a unit, at last a bus. Drain is the time after the last issue. Peak is how many of a part were ever in \
+use at once: a part without stalls is large enough, and any number of it down to its peak costs no cycle.</p>
+<p>In charts an instruction issues (I), computes its address (A), is in its unit (E), has its result on a bus \
+(W), waits for a bus (-) or for anything else (=).</p>
+<p>Each number is one that a command of tomex prints: front, worth, prices, stalls, pipeline.</p></footer>
+";
+
+/// How a study's report looks.
+#[tactic(auto, unfolding(crate::specs::Constants::page_css))]
+pub fn page_css() -> &'static str
+    ensures { result.now ≡ page_css }
+{
+    PAGE_CSS
+}
+
+/// How to read it.
+#[tactic(auto, unfolding(crate::specs::Constants::page_help))]
+pub fn page_help() -> &'static str
+    ensures { result.now ≡ page_help }
+{
+    PAGE_HELP
+}

@@ -1,0 +1,15 @@
+//! A study's report as one HTML page: the picture of all rows, what was asked, the front, and a view for each row of
+//! the front, with its parts, what one part changed brings, the prices with which it stays, and its runs.
+//!
+//! Source: the HTML Living Standard, in its XML syntax.
+#![tactic(auto)]
+
+mod charts;
+mod constants;
+mod overview;
+mod page;
+mod runs;
+mod section;
+mod stalls;
+
+pub use page::study_page;

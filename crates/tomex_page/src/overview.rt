@@ -1,0 +1,108 @@
+//! What stands above the rows' views: the name, the picture beside what was asked, and the front.
+
+ghost use Rattle.std.specs.Prelude.{◌≡◌, ◌++◌, IfOk, OnOk, string_bytes};
+ghost use Rattle.tomex_page.specs.Page.{all_in_picture, counts_text, left_out, overview, page_head, title_of};
+ghost use Rattle.tomex_row_runs.specs.StudyFront.{all_rows, front_of_study};
+
+use crate::constants::page_css;
+use std::alloc::{AllocError, Allocator, Global};
+use std::fmt::Write;
+use tomex_front_views::push_linked_picture;
+use tomex_html::{push_name, push_page_start};
+use tomex_page_tables::{MOST_ROWS, push_lists_table, push_programs_table};
+use tomex_pareto::FrontRow;
+use tomex_study::Study;
+
+/// Adds how many rows there are, and how many of them are on the front.
+#[tactic(auto, unfolding(crate::specs::Page::counts_text))]
+fn push_counts<A: Allocator>(
+    text: &mut String<A>,
+    front: usize,
+    rows: usize,
+) -> Result<(), AllocError>
+    ensures { OnOk result (string_bytes text.new
+        ≡ string_bytes text.old ++ counts_text front rows) }
+{
+    write!(text, ": {front} of {rows} rows are on the front")
+}
+
+/// The page's title.
+#[tactic(auto, unfolding(crate::specs::Page::title_of))]
+fn title_of(heap: Global, name: &str, front: usize, rows: usize) -> Result<String, AllocError>
+    ensures { IfOk result (λ title. string_bytes title ≡ title_of name.now front rows) }
+{
+    let mut title = String::new(heap);
+    push_name(&mut title, name)?;
+    push_counts(&mut title, front, rows)?;
+    Ok(title)
+}
+
+/// Adds what the page begins with, up to the picture.
+#[tactic(auto, unfolding(crate::specs::Page::page_head))]
+pub fn push_page_head<A: Allocator>(
+    text: &mut String<A>,
+    heap: Global,
+    name: &str,
+    front: usize,
+    rows: usize,
+) -> Result<(), AllocError>
+    ensures { OnOk result (string_bytes text.new
+        ≡ string_bytes text.old ++ page_head name.now front rows) }
+{
+    let title = title_of(heap, name, front, rows)?;
+    push_page_start(text, title.as_str(), page_css())?;
+    text.push_str("<header><h1><bdi>")?;
+    push_name(text, name)?;
+    text.push_str("</bdi>")?;
+    push_counts(text, front, rows)?;
+    text.push_str("</h1></header>\n<main>\n<div class=\"c\">\n")
+}
+
+/// Adds the picture of all rows beside what was asked.
+///
+/// `rows` are all rows of the study, `front` those of its front, `shown` those of them that are shown.
+#[tactic(auto, unfolding(crate::specs::Page::overview))]
+pub fn push_overview<A: Allocator + Clone>(
+    text: &mut String<A>,
+    alloc: &A,
+    heap: Global,
+    study: &Study<A>,
+    rows: &[FrontRow],
+    front: &[FrontRow],
+    shown: &[FrontRow],
+) -> Result<(), AllocError>
+    requires rows { rows.now ≡ all_rows study.now }
+    requires front { front.now ≡ front_of_study study.now }
+    ensures { OnOk result (string_bytes text.new
+        ≡ string_bytes text.old ++ overview study.now shown.now) }
+{
+    text.push_str("<div class=\"w\">")?;
+    push_linked_picture(text, alloc.clone()?, heap, study, rows, front, shown)?;
+    text.push_str("</div>\n<div>\n")?;
+    push_programs_table(text, study)?;
+    push_lists_table(text, heap, study)?;
+    text.push_str("</div>\n</div>\n")
+}
+
+/// Adds that the picture has all rows of the front, and the page doesn't.
+#[tactic(auto, unfolding(crate::specs::Page::all_in_picture))]
+fn push_all_in_picture<A: Allocator>(text: &mut String<A>, front: usize) -> Result<(), AllocError>
+    ensures { OnOk result (string_bytes text.new ≡ string_bytes text.old ++ all_in_picture front) }
+{
+    write!(
+        text,
+        "<p>The picture has all {front} rows of the front. The table and the rows below it are 64 of \
+them: <code>tomex front</code> has them all.</p>\n"
+    )
+}
+
+/// Adds what isn't shown, if anything.
+#[tactic(auto, unfolding(crate::specs::Page::left_out))]
+pub fn push_left_out<A: Allocator>(text: &mut String<A>, front: usize) -> Result<(), AllocError>
+    ensures { OnOk result (string_bytes text.new ≡ string_bytes text.old ++ left_out front) }
+{
+    if front <= MOST_ROWS {
+        return Ok(());
+    }
+    push_all_in_picture(text, front)
+}

@@ -1,0 +1,96 @@
+//! The page of a study.
+
+ghost use Rattle.std.specs.Prelude.{◌≡◌, ◌<◌, ◌++◌, length, All, IfOk, OnOk, string_bytes};
+ghost use Rattle.std.specs.List.{Contains};
+ghost use Rattle.tomex_page.specs.Page.{page_of, page_over, rows_text};
+ghost use Rattle.tomex_row_runs.specs.StudyFront.{all_rows, front_of_study};
+ghost use Rattle.tomex_survey.specs.Totals.{totals_of};
+
+use crate::constants::page_help;
+use crate::overview::{push_left_out, push_overview, push_page_head};
+use crate::section::push_sections;
+use std::alloc::{AllocError, Allocator, Global};
+use tomex_html::push_page_end;
+use tomex_page_tables::{PriceBook, push_front_table, shown_of};
+use tomex_pareto::FrontRow;
+use tomex_study::Study;
+use tomex_survey::Survey;
+
+/// Adds the front, and the views of the rows that are shown.
+#[tactic(auto, unfolding(crate::specs::Page::rows_text))]
+fn push_rows<A: Allocator, B: Allocator + Clone>(
+    text: &mut String<A>,
+    alloc: &B,
+    heap: Global,
+    study: &Study<B>,
+    survey: &Survey<B>,
+    shown: &[FrontRow],
+) -> Result<(), AllocError>
+    requires totals { survey.now.totals ≡ totals_of study.now }
+    requires rows { survey.now.rows ≡ all_rows study.now }
+    requires shown { All (Contains (front_of_study study.now)) shown.now }
+    requires within { All (λ r. r.row < length study.now.rows) shown.now }
+    ensures { OnOk result (string_bytes text.new
+        ≡ string_bytes text.old ++ rows_text study.now (length survey.now.front) shown.now) }
+{
+    let rows = survey.rows();
+    let book = PriceBook::new(heap, study, rows, shown)?;
+    push_left_out(text, survey.front().len())?;
+    push_front_table(text, heap, study, survey, shown)?;
+    text.push_str("<div class=\"v\">\n")?;
+    push_sections(text, alloc, heap, study, rows, &book, shown)?;
+    text.push_str("</div>\n</main>\n")
+}
+
+/// Adds the page of a study of that name, with these rows of its front.
+#[tactic(auto, unfolding(crate::specs::Page::page_over))]
+fn push_page<A: Allocator + Clone>(
+    text: &mut String<A>,
+    alloc: &A,
+    heap: Global,
+    name: &str,
+    study: &Study<A>,
+    survey: &Survey<A>,
+    shown: &[FrontRow],
+) -> Result<(), AllocError>
+    requires totals { survey.now.totals ≡ totals_of study.now }
+    requires rows { survey.now.rows ≡ all_rows study.now }
+    requires front { survey.now.front ≡ front_of_study study.now }
+    requires shown { All (Contains (front_of_study study.now)) shown.now }
+    requires within { All (λ r. r.row < length study.now.rows) shown.now }
+    ensures { OnOk result (string_bytes text.new ≡ string_bytes text.old
+        ++ page_over name.now study.now survey.now.front shown.now) }
+{
+    let (rows, front) = (survey.rows(), survey.front());
+    push_page_head(text, heap, name, front.len(), study.rows().len())?;
+    push_overview(text, alloc, heap, study, rows, front, shown)?;
+    push_rows(text, alloc, heap, study, survey, shown)?;
+    text.push_str(page_help())?;
+    push_page_end(text)
+}
+
+/// A study's report as a page: the picture of all rows, the programs and the lists of parts, the front, and for each
+/// row of the front, or for 64 of more, what it has more than the row before, its parts, what one part changed brings,
+/// the prices with which it stays on the front, and for each program its stalls and the chart of its first
+/// instructions.
+///
+/// `name` is the study's, and may have any characters. The work is that of a run of each program on each row that is
+/// shown. What is small is taken of `heap`.
+pub fn study_page<A: Allocator + Clone>(
+    alloc: A,
+    heap: Global,
+    name: &str,
+    study: &Study<A>,
+    survey: &Survey<A>,
+) -> Result<Vec<u8, A>, AllocError>
+    requires totals { survey.now.totals ≡ totals_of study.now }
+    requires rows { survey.now.rows ≡ all_rows study.now }
+    requires front { survey.now.front ≡ front_of_study study.now }
+    ensures { IfOk result (λ text. text.items ≡ page_of name.now study.now) }
+{
+    study.keeps_limits();
+    let shown = shown_of(heap, survey.front())?;
+    let mut text = String::new(alloc.clone()?);
+    push_page(&mut text, &alloc, heap, name, study, survey, shown.as_slice())?;
+    Ok(text.into_bytes())
+}

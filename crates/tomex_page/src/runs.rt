@@ -1,0 +1,61 @@
+//! A program's run on a configuration: its stalls, and its chart.
+
+ghost use Rattle.std.specs.Prelude.{◌≡◌, ◌++◌, IfOk, OnOk, string_bytes};
+ghost use Rattle.std.specs.List.{flat_map};
+ghost use Rattle.tomex_page.specs.Page.{run_block};
+ghost use Rattle.tomex_page.specs.Runs.{needs_on};
+
+use crate::charts::push_chart;
+use crate::stalls::push_stalls_table;
+use std::alloc::{AllocError, Allocator, Global};
+use tomex_config::Config;
+use tomex_study::Program;
+use tomex_timing::Needs;
+use tomex_timing::evaluate::needs;
+
+/// What a program needs on a configuration.
+fn needs_on<A: Allocator>(
+    alloc: A,
+    program: &Program<A>,
+    config: &Config,
+) -> Result<Needs, AllocError>
+    ensures { IfOk result (λ n. n ≡ needs_on config.now program.now) }
+{
+    needs(alloc, program.steps(), config)
+}
+
+/// Adds a program's run on a configuration.
+#[tactic(auto, unfolding(crate::specs::Page::run_block))]
+fn push_run<A: Allocator, B: Allocator + Clone>(
+    text: &mut String<A>,
+    alloc: &B,
+    heap: Global,
+    config: &Config,
+    program: &Program<B>,
+) -> Result<(), AllocError>
+    ensures { OnOk result (string_bytes text.new
+        ≡ string_bytes text.old ++ run_block config.now program.now) }
+{
+    let needs = needs_on(alloc.clone()?, program, config)?;
+    text.push_str("<div>\n")?;
+    push_stalls_table(text, heap, config, &needs, program.name())?;
+    push_chart(text, alloc, heap, program, config)?;
+    text.push_str("</div>\n")
+}
+
+/// Adds the runs of some programs on a configuration.
+pub fn push_runs<A: Allocator, B: Allocator + Clone>(
+    text: &mut String<A>,
+    alloc: &B,
+    heap: Global,
+    config: &Config,
+    programs: &[Program<B>],
+) -> Result<(), AllocError>
+    ensures { OnOk result (string_bytes text.new
+        ≡ string_bytes text.old ++ flat_map (run_block config.now) programs.now) }
+{
+    for program in programs {
+        push_run(text, alloc, heap, config, program)?;
+    }
+    Ok(())
+}

@@ -1,0 +1,178 @@
+//! The views of the rows that are shown.
+
+ghost use Rattle.std.specs.Prelude.{◌≡◌, ◌<◌, ◌++◌, length, option_map, slice_index_or, All, None, OnOk};
+ghost use Rattle.std.specs.Prelude.{string_bytes};
+ghost use Rattle.tomex_page.specs.Page.{number_before, row_section, row_sections, section_head, section_runs};
+ghost use Rattle.tomex_page.specs.Page.{section_start};
+ghost use Rattle.tomex_page.specs.Page.{section_tables, view_of};
+ghost use Rattle.tomex_page_tables.specs.Shown.{no_row};
+ghost use Rattle.tomex_page_tables.specs.Stays.{AreFound};
+ghost use Rattle.tomex_row_runs.specs.StudyFront.{all_rows};
+
+use crate::runs::push_runs;
+use std::alloc::{AllocError, Allocator, Global};
+use std::fmt::Write;
+use tomex_config::Config;
+use tomex_html::{Links, push_links};
+use tomex_page_tables::{
+    PriceBook, ShownRow, push_against, push_changes_table, push_parts_table, push_prices_table, row_of,
+};
+use tomex_pareto::FrontRow;
+use tomex_study::Study;
+
+/// A row between its neighbours among the rows that are shown.
+pub struct View {
+    pub before: Option<ShownRow>,
+    pub here: ShownRow,
+    pub after: Option<FrontRow>,
+}
+
+/// Adds what a row's view begins with.
+#[tactic(auto, unfolding(crate::specs::Page::section_start))]
+fn push_start<A: Allocator>(text: &mut String<A>, row: FrontRow) -> Result<(), AllocError>
+    ensures { OnOk result (string_bytes text.new ≡ string_bytes text.old ++ section_start row) }
+{
+    let FrontRow { row, cost, cycles } = row;
+    write!(
+        text,
+        "<section id=\"r{row}\">\n<header><h2>Row {row} <small>cost {cost}, {cycles} cycles</small></h2>\n"
+    )
+}
+
+/// The number of the row before, if there is one.
+fn number_before(before: &Option<ShownRow>) -> Option<u64>
+    ensures { result ≡ option_map number_before before.now }
+{
+    match before {
+        Some(before) => Some(before.row.row as u64),
+        None => None,
+    }
+}
+
+/// Where a row's view is among those of the rows that are shown.
+fn links_of(shown: &[FrontRow], view: &View) -> Links
+    requires { 0 < length shown.now }
+    ensures { result ≡ view_of shown.now view.now }
+{
+    Links {
+        first: shown[0].row as u64,
+        before: number_before(&view.before),
+        here: view.here.row.row as u64,
+        after: view.after.map(|after| after.row as u64),
+        last: shown[shown.len() - 1].row as u64,
+    }
+}
+
+/// Adds the header of a row's view.
+#[tactic(auto, unfolding(crate::specs::Page::section_head))]
+fn push_head<A: Allocator>(
+    text: &mut String<A>,
+    shown: &[FrontRow],
+    view: &View,
+) -> Result<(), AllocError>
+    requires { 0 < length shown.now }
+    ensures { OnOk result (string_bytes text.new
+        ≡ string_bytes text.old ++ section_head shown.now view.now) }
+{
+    push_start(text, view.here.row)?;
+    push_links(text, links_of(shown, view))?;
+    text.push_str("</header>\n")
+}
+
+/// Adds the tables of the row that is shown at a place.
+#[tactic(auto, unfolding(crate::specs::Page::section_tables))]
+fn push_tables<A: Allocator, B: Allocator>(
+    text: &mut String<A>,
+    heap: Global,
+    study: &Study<B>,
+    rows: &[FrontRow],
+    book: &PriceBook,
+    shown: &[FrontRow],
+    place: usize,
+    view: &View,
+) -> Result<(), AllocError>
+    requires rows { rows.now ≡ all_rows study.now }
+    requires book { AreFound study.now shown.now book.now }
+    requires place { place < length shown.now }
+    requires within { All (λ r. r.row < length study.now.rows) shown.now }
+    requires here { view.now.here.row ≡ slice_index_or shown.now place no_row }
+    ensures { OnOk result (string_bytes text.new
+        ≡ string_bytes text.old ++ section_tables study.now shown.now view.now) }
+{
+    push_against(text, &view.before, &view.here)?;
+    push_parts_table(text, &study.prices(), &view.before, &view.here)?;
+    push_changes_table(text, heap, study, rows, shown, view.here.row)?;
+    push_prices_table(text, study, rows, book, shown, place)
+}
+
+/// Adds the programs' runs on a row.
+#[tactic(auto, unfolding(crate::specs::Page::section_runs))]
+fn push_section_runs<A: Allocator, B: Allocator + Clone>(
+    text: &mut String<A>,
+    alloc: &B,
+    heap: Global,
+    study: &Study<B>,
+    config: &Config,
+) -> Result<(), AllocError>
+    ensures { OnOk result (string_bytes text.new
+        ≡ string_bytes text.old ++ section_runs study.now config.now) }
+{
+    text.push_str("<div class=\"l\">\n")?;
+    push_runs(text, alloc, heap, config, study.programs())?;
+    text.push_str("</div>\n</section>\n")
+}
+
+/// Adds the view of the row that is shown at a place.
+#[tactic(auto, unfolding(crate::specs::Page::row_section))]
+fn push_section<A: Allocator, B: Allocator + Clone>(
+    text: &mut String<A>,
+    alloc: &B,
+    heap: Global,
+    study: &Study<B>,
+    rows: &[FrontRow],
+    book: &PriceBook,
+    shown: &[FrontRow],
+    place: usize,
+    view: &View,
+) -> Result<(), AllocError>
+    requires rows { rows.now ≡ all_rows study.now }
+    requires book { AreFound study.now shown.now book.now }
+    requires place { place < length shown.now }
+    requires within { All (λ r. r.row < length study.now.rows) shown.now }
+    requires here { view.now.here.row ≡ slice_index_or shown.now place no_row }
+    ensures { OnOk result (string_bytes text.new
+        ≡ string_bytes text.old ++ row_section study.now shown.now view.now) }
+{
+    push_head(text, shown, view)?;
+    push_tables(text, heap, study, rows, book, shown, place, view)?;
+    push_section_runs(text, alloc, heap, study, &view.here.config)
+}
+
+/// Adds a view for each row that is shown.
+pub fn push_sections<A: Allocator, B: Allocator + Clone>(
+    text: &mut String<A>,
+    alloc: &B,
+    heap: Global,
+    study: &Study<B>,
+    rows: &[FrontRow],
+    book: &PriceBook,
+    shown: &[FrontRow],
+) -> Result<(), AllocError>
+    requires rows { rows.now ≡ all_rows study.now }
+    requires book { AreFound study.now shown.now book.now }
+    requires within { All (λ r. r.row < length study.now.rows) shown.now }
+    ensures { OnOk result (string_bytes text.new
+        ≡ string_bytes text.old ++ row_sections study.now shown.now None shown.now) }
+{
+    let mut before = None;
+    for (place, row) in shown.iter().enumerate() {
+        let view = View {
+            before,
+            here: row_of(study, *row),
+            after: shown.get(place + 1).copied(),
+        };
+        push_section(text, alloc, heap, study, rows, book, shown, place, &view)?;
+        before = Some(row_of(study, *row));
+    }
+    Ok(())
+}

@@ -1,0 +1,22 @@
+-- One piece after the other; the totals are those of the programs on the row.
+use Rattle.std.proofs.Common.{◌≡◌, ◌∙◌, ap, List, ℕ}
+use Rattle.std.specs.List.{flat_map}
+use Rattle.std.proofs.lemmas.Result.{on_ok_weaker}
+use Rattle.tomex_front_views.proofs.Pieces.{three_pieces}
+use Rattle.tomex_page_tables.specs.Front.{front_cells, own_programs, total_cell}
+use Rattle.tomex_page_tables.specs.Pieces.{number_cell}
+use Rattle.tomex_page_tables.specs.Shown.{row_of}
+use Rattle.tomex_page_tables.proofs.Programs.{cells_of_totals}
+use Rattle.tomex_page_tables.proofs.front.push_front_cells.Goals as goal
+
+pub returns : goal.returns
+unfolding front_cells
+returns g c =
+    let totals : flat_map number_cell c.own_totals.result.now
+    ≡ flat_map (total_cell (row_of c.args.study.now c.args.row)) (own_programs c.args.study.now) =
+    ap (flat_map number_cell) c.own_totals.ensures
+    ∙ cells_of_totals c.args.study.now c.args.row (own_programs c.args.study.now) in
+    on_ok_weaker c.push_numbers.result (λ last. three_pieces _ _ _ _ _ _ _
+    (rw c.row_of-here.ensures at c.in_ok-push_own_cells.ensures)
+    (rw (c.row_of-here.ensures, c.requires.settings) at c.in_ok-push_setting_cells.ensures) last)
+    (rw totals at c.push_numbers.ensures)

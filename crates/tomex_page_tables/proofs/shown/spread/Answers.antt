@@ -1,0 +1,16 @@
+-- One row more.
+use Rattle.std.proofs.Common.{◌∙◌, ap, ◌++◌, List, map, ℕ}
+use Rattle.std.specs.List.{range_with_len}
+use Rattle.tomex_pareto.specs.declared.front_row.FrontRow.{FrontRow}
+use Rattle.tomex_page_tables.specs.Shown.{chosen}
+use Rattle.tomex_page_tables.proofs.Chosen.{values_at_last, value_more}
+use Rattle.tomex_page_tables.proofs.shown.spread.Goals as goal
+
+pub loop-k-preserved : goal.loop-k-preserved
+loop-k-preserved c =
+    value_more (chosen c.args.front.now) c.loop-k.k 64 _ _ _ _ c.loop-k-test.true c.chosen.ensures
+    c.in_ok-push.ensures.items c.loop-k.invariant
+
+pub returns : goal.returns
+returns c =
+    values_at_last (chosen c.args.front.now) c.loop-k.k 64 _ _ c.loop-k-test.false c.loop-k.invariant

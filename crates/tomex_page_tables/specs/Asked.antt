@@ -1,0 +1,93 @@
+-- What was asked: the programs, and the lists of parts with their prices. A study's value has rows and no lists, so a
+-- list's entries are those of the rows, in the order of the first rows that have them.
+use Rattle.std.specs.Prelude.{ℕ, ◌-◌, ◌*◌, not, List, [], ◌∷◌, ◌++◌, codes, length, slice_get, Option, Some, None}
+use Rattle.std.specs.Fmt.{decimal}
+use Rattle.std.specs.List.{filter, flat_map}
+use Rattle.tomex_rvdec.specs.Text.{instr_text}
+use Rattle.tomex_config.specs.Configuration.{Configuration, option_of}
+use Rattle.tomex_config.specs.Cost.{PriceList, price_of}
+use Rattle.tomex_html.specs.Html.{table_end, td}
+use Rattle.tomex_rvexec.specs.Run.{start_of}
+use Rattle.tomex_rvexec.specs.Trace.{steps_from}
+use Rattle.tomex_steps.specs.declared.step.Step.{Step}
+use Rattle.tomex_study.specs.Program.{Workload}
+use Rattle.tomex_study.specs.Study.{DesignSpace}
+use Rattle.tomex_timing.specs.Needs.{all_parts, count_of}
+use Rattle.tomex_timing.specs.declared.part.Part.{Part}
+use Rattle.tomex_timing.specs.declared.part.Part.TheVariants.{Stations, Units, Buses, Width}
+use Rattle.tomex_worth.specs.Changes.{same_entry}
+use Rattle.tomex_worth.specs.Worth.{entry_text, name_of_list}
+use Rattle.tomex_page_tables.specs.Pieces.{number_cell, some, table_head, table_row}
+use Rattle.tomex_page_tables.specs.declared.choices.Facet.{Facet}
+use Rattle.tomex_page_tables.specs.declared.choices.Facet.TheVariants.{Choice, Cost}
+
+-- the steps of a program's run, the last of which ends it
+abbrev pub steps_of : Workload → List Step
+steps_of p = steps_from p.limit (start_of p.image)
+
+abbrev pub instruction_text : Option Step → List ℕ
+instruction_text None = []
+instruction_text (Some step) = instr_text step.instr
+
+-- the last step's instruction, which ends the run: ebreak or ecall
+abbrev pub end_text : List Step → List ℕ
+end_text steps = instruction_text (slice_get steps (length steps - 1))
+
+-- a program: how many instructions its run has, the one that ends it, and how often its cycles count
+abbrev pub program_cells : Workload → List ℕ
+program_cells p = number_cell (length (steps_of p)) ++ (td (end_text (steps_of p)) ++ number_cell p.weight)
+
+unfoldable pub program_row : Workload → List ℕ
+program_row p = table_row p.name (program_cells p)
+
+abbrev pub program_names : List (List ℕ)
+program_names = codes "Name" ∷ codes "Instructions" ∷ codes "End" ∷ codes "Weight" ∷ []
+
+unfoldable pub programs_table : DesignSpace → List ℕ
+programs_table s =
+    table_head (codes " class=\"a\"") (codes "Programs") program_names ++ (flat_map program_row s.programs ++ table_end)
+
+-- the first rows with each entry of a part's list: theirs are all entries, each once
+abbrev pub firsts : Part → List Configuration → List Configuration
+firsts part [] = []
+firsts part (config ∷ rows) = config ∷ filter (λ c. not (same_entry config c part)) (firsts part rows)
+
+-- the price of one more of a part, which a unit option doesn't have
+abbrev pub price_of_part : PriceList → Part → ℕ
+price_of_part prices (Stations pool) = price_of prices pool
+price_of_part prices (Units unit) = 0
+price_of_part prices Buses = prices.bus
+price_of_part prices Width = prices.width
+
+-- what a configuration's entry in a part's list costs: a unit option as a whole, else the count times the price
+abbrev pub cost_of_part : PriceList → Configuration → Part → ℕ
+cost_of_part prices config (Units unit) = (option_of config unit).price
+cost_of_part prices config part = count_of config part * price_of_part prices part
+
+-- what is shown of a configuration's entry in a part's list
+abbrev pub facet_text : PriceList → Facet → Part → Configuration → List ℕ
+facet_text prices Choice part config = entry_text config part
+facet_text prices Cost part config = decimal (cost_of_part prices config part)
+
+-- of each entry of a list that some row has
+unfoldable pub entries_text : DesignSpace → Facet → Part → List ℕ
+entries_text s facet part = some (facet_text s.prices facet part) (firsts part s.rows)
+
+-- what a list's entries cost: each option has its price, any other list one for all
+abbrev pub prices_text : DesignSpace → Part → List ℕ
+prices_text s (Units unit) = entries_text s Cost (Units unit)
+prices_text s part = decimal (price_of_part s.prices part)
+
+abbrev pub list_cells : DesignSpace → Part → List ℕ
+list_cells s part = td (entries_text s Choice part) ++ td (prices_text s part)
+
+unfoldable pub list_row : DesignSpace → Part → List ℕ
+list_row s part = table_row (name_of_list part) (list_cells s part)
+
+abbrev pub list_names : List (List ℕ)
+list_names = codes "Part" ∷ codes "Choices" ∷ codes "Price" ∷ []
+
+unfoldable pub lists_table : DesignSpace → List ℕ
+lists_table s =
+    table_head (codes " class=\"x\"") (codes "Parts, and the price of each") list_names
+    ++ (flat_map (list_row s) all_parts ++ table_end)

@@ -1,0 +1,86 @@
+-- The front as a table, in which a row's differences are to the row above.
+use Rattle.std.specs.Prelude.{ℕ, ◌==◌, nat_lt, Bool, false, not, if◌then◌else◌, List, [], ◌∷◌, ◌++◌, codes, length}
+use Rattle.std.specs.Prelude.{Option, Some, None}
+use Rattle.std.specs.Fmt.{decimal}
+use Rattle.std.specs.List.{filter, flat_map}
+use Rattle.tomex_html.specs.Html.{cell, table_end, td}
+use Rattle.tomex_cycle.specs.Run.{total}
+use Rattle.tomex_pareto.specs.declared.front_row.FrontRow.{FrontRow}
+use Rattle.tomex_study.specs.Program.{Workload}
+use Rattle.tomex_study.specs.Study.{DesignSpace}
+use Rattle.tomex_front_views.specs.FrontTable.{all_settings, differs, name_of_setting, setting_of}
+use Rattle.tomex_front_views.specs.LinkedPlot.{link_to}
+use Rattle.tomex_front_views.specs.declared.table.heading.Setting.{Setting}
+use Rattle.tomex_worth.specs.Differences.{percent, signed}
+use Rattle.tomex_page_tables.specs.Pieces.{column_head, head_end, number_cell, table_row, table_start}
+use Rattle.tomex_page_tables.specs.Shown.{row_of}
+use Rattle.tomex_page_tables.specs.declared.shown.ShownRow.{ShownRow}
+
+-- what rows of the study differ in
+unfoldable pub settings_of : DesignSpace → List Setting
+settings_of s = filter (differs s.rows) all_settings
+
+-- the programs whose own cycles are shown: all of several
+unfoldable pub own_programs : DesignSpace → List Workload
+own_programs s = if nat_lt 1 (length s.programs) then s.programs else []
+
+-- what a row has more than the one before, which the first doesn't have
+abbrev pub more_cost : Option ShownRow → ShownRow → List ℕ
+more_cost None r = []
+more_cost (Some before) r = signed before.row.cost r.row.cost
+
+abbrev pub more_cycles : Option ShownRow → ShownRow → List ℕ
+more_cycles None r = []
+more_cycles (Some before) r = signed before.row.cycles r.row.cycles
+
+-- and in percent of the cycles of the one before
+abbrev pub more_percent : Option ShownRow → ShownRow → List ℕ
+more_percent None r = []
+more_percent (Some before) r = percent before.row.cycles r.row.cycles
+
+-- the row before has another value
+abbrev pub sets_anew : Option ShownRow → ShownRow → Setting → Bool
+sets_anew None r setting = false
+sets_anew (Some before) r setting = not (setting_of before.config setting == setting_of r.config setting)
+
+unfoldable pub setting_cell : Option ShownRow → ShownRow → Setting → List ℕ
+setting_cell before r setting = cell (sets_anew before r setting) (decimal (setting_of r.config setting))
+
+-- a program's own cycles on the row
+unfoldable pub total_cell : ShownRow → Workload → List ℕ
+total_cell r p = number_cell (total r.config p.image)
+
+unfoldable pub own_cells : Option ShownRow → ShownRow → List ℕ
+own_cells before r =
+    number_cell r.row.cost ++ (td (more_cost before r) ++ (number_cell r.row.cycles
+    ++ (td (more_cycles before r) ++ td (more_percent before r))))
+
+unfoldable pub front_cells : DesignSpace → Option ShownRow → ShownRow → List ℕ
+front_cells s before r =
+    own_cells before r
+    ++ (flat_map (setting_cell before r) (settings_of s) ++ flat_map (total_cell r) (own_programs s))
+
+unfoldable pub front_row : DesignSpace → Option ShownRow → ShownRow → List ℕ
+front_row s before r = table_row (link_to r.row.row (decimal r.row.row)) (front_cells s before r)
+
+-- the rows after one, if there is one
+abbrev pub front_rows : DesignSpace → Option ShownRow → List FrontRow → List ℕ
+front_rows s before [] = []
+front_rows s before (r ∷ rows) = front_row s before (row_of s r) ++ front_rows s (Some (row_of s r)) rows
+
+abbrev pub own_names : List (List ℕ)
+own_names = codes "row" ∷ codes "cost" ∷ codes "more" ∷ codes "cycles" ∷ codes "more" ∷ codes "%" ∷ []
+
+-- what its columns are called
+unfoldable pub column_heads : DesignSpace → List ℕ
+column_heads s =
+    flat_map column_head own_names ++ (flat_map (λ setting. column_head (name_of_setting setting)) (settings_of s)
+    ++ flat_map (λ p. column_head p.name) (own_programs s))
+
+abbrev pub front_caption : List ℕ
+front_caption = codes "The front, and what each row has more than the one above"
+
+unfoldable pub front_table : DesignSpace → List FrontRow → List ℕ
+front_table s shown =
+    table_start (codes " class=\"a\" id=\"front\"") front_caption ++ (column_heads s ++ (head_end
+    ++ (front_rows s None shown ++ table_end)))

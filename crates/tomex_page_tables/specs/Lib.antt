@@ -1,0 +1,8 @@
+-- The tables of a study's report as a page.
+pub mod Pieces
+pub mod Shown
+pub mod Asked
+pub mod Front
+pub mod Parts
+pub mod Changed
+pub mod Stays

@@ -1,0 +1,174 @@
+//! What was asked: the programs, and the lists of parts with their prices.
+
+ghost use Rattle.std.specs.Prelude.{◌≡◌, ◌++◌, length, OnOk, string_bytes};
+ghost use Rattle.std.specs.List.{flat_map};
+ghost use Rattle.tomex_html.specs.Html.{td};
+ghost use Rattle.tomex_page_tables.specs.Asked.{end_text, list_cells, list_row, lists_table, program_row};
+ghost use Rattle.tomex_page_tables.specs.Asked.{programs_table};
+ghost use Rattle.tomex_page_tables.specs.Pieces.{number_cell, row_start};
+ghost use Rattle.tomex_timing.specs.Needs.{all_parts};
+ghost use Rattle.tomex_worth.specs.Worth.{name_of_list};
+
+use crate::choices::{Facet, push_entries, push_prices};
+use crate::tables::{push_number, push_row_start, push_table_head};
+use std::alloc::{AllocError, Allocator, Global};
+use std::fmt::Write;
+use tomex_html::push_table_end;
+use tomex_rvexec::Step;
+use tomex_study::{Program, Study};
+use tomex_timing::Part;
+use tomex_worth::push_name_of_list;
+
+/// Adds a cell with the last step's instruction, which ends the run.
+fn push_end<A: Allocator>(text: &mut String<A>, steps: &[Step]) -> Result<(), AllocError>
+    ensures { OnOk result (string_bytes text.new
+        ≡ string_bytes text.old ++ td (end_text steps.now)) }
+{
+    match steps.last() {
+        Some(step) => {
+            let instr = step.instr;
+            write!(text, "<td>{instr}</td>")
+        }
+        None => text.push_str("<td></td>"),
+    }
+}
+
+/// Adds how many instructions a run has, the one that ends it, and how often its cycles count.
+fn push_program_cells<A: Allocator>(
+    text: &mut String<A>,
+    steps: &[Step],
+    weight: u32,
+) -> Result<(), AllocError>
+    ensures { OnOk result (string_bytes text.new ≡ string_bytes text.old
+        ++ (number_cell (length steps.now) ++ (td (end_text steps.now) ++ number_cell weight))) }
+{
+    push_number(text, steps.len() as u64)?;
+    push_end(text, steps)?;
+    push_number(text, u64::from(weight))
+}
+
+/// Adds a program's row.
+#[tactic(auto, unfolding(crate::specs::Asked::program_row, crate::specs::Pieces::table_row))]
+fn push_program_row<A: Allocator, B: Allocator>(
+    text: &mut String<A>,
+    program: &Program<B>,
+) -> Result<(), AllocError>
+    ensures { OnOk result (string_bytes text.new
+        ≡ string_bytes text.old ++ program_row program.now) }
+{
+    push_row_start(text, program.name())?;
+    push_program_cells(text, program.steps(), program.weight())?;
+    text.push_str("</tr>\n")
+}
+
+/// Adds the rows of some programs.
+fn push_program_rows<A: Allocator, B: Allocator>(
+    text: &mut String<A>,
+    programs: &[Program<B>],
+) -> Result<(), AllocError>
+    ensures { OnOk result (string_bytes text.new
+        ≡ string_bytes text.old ++ flat_map program_row programs.now) }
+{
+    for program in programs {
+        push_program_row(text, program)?;
+    }
+    Ok(())
+}
+
+/// Adds the table of the programs.
+#[tactic(auto, unfolding(crate::specs::Asked::programs_table))]
+pub fn push_programs_table<A: Allocator, B: Allocator>(
+    text: &mut String<A>,
+    study: &Study<B>,
+) -> Result<(), AllocError>
+    ensures { OnOk result (string_bytes text.new
+        ≡ string_bytes text.old ++ programs_table study.now) }
+{
+    let names = ["Name", "Instructions", "End", "Weight"];
+    push_table_head(text, " class=\"a\"", "Programs", &names)?;
+    push_program_rows(text, study.programs())?;
+    push_table_end(text)
+}
+
+/// Adds what a row begins with that is called by a part's list.
+#[tactic(auto, unfolding(crate::specs::Pieces::row_start))]
+pub fn push_list_start<A: Allocator>(text: &mut String<A>, part: Part) -> Result<(), AllocError>
+    ensures { OnOk result (string_bytes text.new
+        ≡ string_bytes text.old ++ row_start (name_of_list part)) }
+{
+    text.push_str("<tr><th scope=\"row\">")?;
+    push_name_of_list(text, part)?;
+    write!(text, "</th>")
+}
+
+/// Adds the entries of a part's list, and what they cost.
+fn push_list_cells<A: Allocator, B: Allocator>(
+    text: &mut String<A>,
+    heap: Global,
+    study: &Study<B>,
+    part: Part,
+) -> Result<(), AllocError>
+    ensures { OnOk result (string_bytes text.new
+        ≡ string_bytes text.old ++ list_cells study.now part) }
+{
+    text.push_str("<td>")?;
+    push_entries(text, heap, study, Facet::Choice, part)?;
+    text.push_str("</td><td>")?;
+    push_prices(text, heap, study, part)?;
+    text.push_str("</td>")
+}
+
+/// Adds the row of a part's list.
+#[tactic(auto, unfolding(crate::specs::Asked::list_row, crate::specs::Pieces::table_row))]
+fn push_list_row<A: Allocator, B: Allocator>(
+    text: &mut String<A>,
+    heap: Global,
+    study: &Study<B>,
+    part: Part,
+) -> Result<(), AllocError>
+    ensures { OnOk result (string_bytes text.new
+        ≡ string_bytes text.old ++ list_row study.now part) }
+{
+    push_list_start(text, part)?;
+    push_list_cells(text, heap, study, part)?;
+    text.push_str("</tr>\n")
+}
+
+/// Adds the rows of some parts' lists.
+fn push_list_rows<A: Allocator, B: Allocator>(
+    text: &mut String<A>,
+    heap: Global,
+    study: &Study<B>,
+    parts: &[Part],
+) -> Result<(), AllocError>
+    ensures { OnOk result (string_bytes text.new
+        ≡ string_bytes text.old ++ flat_map (list_row study.now) parts.now) }
+{
+    for part in parts {
+        push_list_row(text, heap, study, *part)?;
+    }
+    Ok(())
+}
+
+/// All parts.
+pub fn all_parts() -> &'static [Part]
+    ensures { result.now ≡ all_parts }
+{
+    &Part::ALL
+}
+
+/// Adds the table of the lists of parts.
+#[tactic(auto, unfolding(crate::specs::Asked::lists_table))]
+pub fn push_lists_table<A: Allocator, B: Allocator>(
+    text: &mut String<A>,
+    heap: Global,
+    study: &Study<B>,
+) -> Result<(), AllocError>
+    ensures { OnOk result (string_bytes text.new
+        ≡ string_bytes text.old ++ lists_table study.now) }
+{
+    let names = ["Part", "Choices", "Price"];
+    push_table_head(text, " class=\"x\"", "Parts, and the price of each", &names)?;
+    push_list_rows(text, heap, study, all_parts())?;
+    push_table_end(text)
+}

@@ -1,0 +1,191 @@
+//! The entries of a study's lists. A study has rows and no lists, so a list's entries are those of the rows.
+
+ghost use Rattle.std.specs.Prelude.{◌≡◌, ◌++◌, ◌*◌, codes, IfOk, OnOk, string_bytes};
+ghost use Rattle.std.specs.List.{flat_map, list_any};
+ghost use Rattle.tomex_page_tables.specs.Asked.{cost_of_part, entries_text, facet_text, firsts, price_of_part};
+ghost use Rattle.tomex_page_tables.specs.Asked.{prices_text};
+ghost use Rattle.tomex_page_tables.specs.Pieces.{joined, some};
+ghost use Rattle.tomex_worth.specs.Changes.{same_entry};
+
+use crate::tables::{MOST_LINES, first_lines};
+use std::alloc::{AllocError, Allocator, Global};
+use std::fmt::Write;
+use tomex_config::{Config, Prices};
+use tomex_study::Study;
+use tomex_timing::Part;
+use tomex_worth::{push_entry, same_entry};
+
+/// What is shown of an entry of a list.
+#[derive(Clone, Copy)]
+pub enum Facet {
+    /// What it is.
+    Choice,
+    /// What it costs.
+    Cost,
+}
+
+/// The price of one more of a part, which a unit option doesn't have.
+pub fn price_of_part(prices: &Prices, part: Part) -> u64
+    ensures { result ≡ price_of_part prices.now part }
+{
+    match part {
+        Part::Stations(pool) => u64::from(prices.station(pool)),
+        Part::Units(_) => 0,
+        Part::Buses => u64::from(prices.bus()),
+        Part::Width => u64::from(prices.width()),
+    }
+}
+
+/// What a count of a part costs.
+fn cost_of_count(count: u8, price: u32) -> u64
+    ensures { result ≡ count * price }
+{
+    u64::from(count) * u64::from(price)
+}
+
+/// What a configuration's entry in a part's list costs.
+pub fn cost_of_part(prices: &Prices, config: &Config, part: Part) -> u64
+    ensures { result ≡ cost_of_part prices.now config.now part }
+{
+    match part {
+        Part::Stations(pool) => cost_of_count(config.stations(pool), prices.station(pool)),
+        Part::Units(unit) => u64::from(config.option(unit).price),
+        Part::Buses => cost_of_count(config.buses(), prices.bus()),
+        Part::Width => cost_of_count(config.width(), prices.width()),
+    }
+}
+
+/// True if one of these configurations has another one's entry in a part's list.
+fn has_entry(rows: &[Config], config: &Config, part: Part) -> bool
+    ensures { result ≡ list_any (λ c. same_entry c config.now part) rows.now }
+{
+    for row in rows {
+        if same_entry(row, config, part) {
+            return true;
+        }
+    }
+    false
+}
+
+/// The first rows with each entry of a part's list: theirs are all entries, each once.
+fn firsts(heap: Global, rows: &[Config], part: Part) -> Result<Vec<Config>, AllocError>
+    ensures { IfOk result (λ v. v.items ≡ firsts part rows.now) }
+{
+    let mut firsts = Vec::new(heap);
+    for (place, config) in rows.iter().enumerate() {
+        if !has_entry(&rows[..place], config, part) {
+            firsts.push(*config)?;
+        }
+    }
+    Ok(firsts)
+}
+
+/// Adds what is shown of a configuration's entry in a part's list.
+fn push_facet<A: Allocator>(
+    text: &mut String<A>,
+    prices: &Prices,
+    facet: Facet,
+    part: Part,
+    config: &Config,
+) -> Result<(), AllocError>
+    ensures { OnOk result (string_bytes text.new
+        ≡ string_bytes text.old ++ facet_text prices.now facet part config.now) }
+{
+    match facet {
+        Facet::Choice => push_entry(text, config, part),
+        Facet::Cost => {
+            let cost = cost_of_part(prices, config, part);
+            write!(text, "{cost}")
+        }
+    }
+}
+
+/// Adds the same of several configurations, after commas.
+fn push_others<A: Allocator>(
+    text: &mut String<A>,
+    prices: &Prices,
+    facet: Facet,
+    part: Part,
+    configs: &[Config],
+) -> Result<(), AllocError>
+    ensures { OnOk result (string_bytes text.new ≡ string_bytes text.old
+        ++ flat_map (λ c. codes ", " ++ facet_text prices.now facet part c) configs.now) }
+{
+    for config in configs {
+        text.push_str(", ")?;
+        push_facet(text, prices, facet, part, config)?;
+    }
+    Ok(())
+}
+
+/// Adds the same of several configurations, with commas between them.
+fn push_joined<A: Allocator>(
+    text: &mut String<A>,
+    prices: &Prices,
+    facet: Facet,
+    part: Part,
+    configs: &[Config],
+) -> Result<(), AllocError>
+    ensures { OnOk result (string_bytes text.new
+        ≡ string_bytes text.old ++ joined (facet_text prices.now facet part) configs.now) }
+{
+    let [first, rest @ ..] = configs else {
+        return Ok(());
+    };
+    push_facet(text, prices, facet, part, first)?;
+    push_others(text, prices, facet, part, rest)
+}
+
+/// Adds the same of the first ones, and a sign that there are more.
+#[tactic(auto, unfolding(crate::specs::Pieces::some))]
+fn push_some<A: Allocator>(
+    text: &mut String<A>,
+    prices: &Prices,
+    facet: Facet,
+    part: Part,
+    configs: &[Config],
+) -> Result<(), AllocError>
+    ensures { OnOk result (string_bytes text.new
+        ≡ string_bytes text.old ++ some (facet_text prices.now facet part) configs.now) }
+{
+    push_joined(text, prices, facet, part, first_lines(configs))?;
+    if configs.len() > MOST_LINES {
+        text.push_str(" ..")?;
+    }
+    Ok(())
+}
+
+/// Adds what is shown of each entry of a part's list.
+#[tactic(auto, unfolding(crate::specs::Asked::entries_text))]
+pub fn push_entries<A: Allocator, B: Allocator>(
+    text: &mut String<A>,
+    heap: Global,
+    study: &Study<B>,
+    facet: Facet,
+    part: Part,
+) -> Result<(), AllocError>
+    ensures { OnOk result (string_bytes text.new
+        ≡ string_bytes text.old ++ entries_text study.now facet part) }
+{
+    let firsts = firsts(heap, study.rows(), part)?;
+    push_some(text, &study.prices(), facet, part, firsts.as_slice())
+}
+
+/// Adds what the entries of a part's list cost: each unit option has its price, any other list one for all.
+pub fn push_prices<A: Allocator, B: Allocator>(
+    text: &mut String<A>,
+    heap: Global,
+    study: &Study<B>,
+    part: Part,
+) -> Result<(), AllocError>
+    ensures { OnOk result (string_bytes text.new
+        ≡ string_bytes text.old ++ prices_text study.now part) }
+{
+    match part {
+        Part::Units(unit) => push_entries(text, heap, study, Facet::Cost, Part::Units(unit)),
+        part => {
+            let price = price_of_part(&study.prices(), part);
+            write!(text, "{price}")
+        }
+    }
+}

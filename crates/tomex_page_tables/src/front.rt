@@ -1,0 +1,221 @@
+//! The front as a table, in which a row's differences are to the row above.
+
+ghost use Rattle.std.specs.Prelude.{◌≡◌, ◌<◌, ◌++◌, length, All, None, OnOk, string_bytes};
+ghost use Rattle.std.specs.Fmt.{decimal};
+ghost use Rattle.tomex_front_views.specs.LinkedPlot.{link_to};
+ghost use Rattle.tomex_html.specs.Html.{td};
+ghost use Rattle.tomex_page_tables.specs.Front.{front_cells, front_row, front_rows, front_table, more_cost};
+ghost use Rattle.tomex_page_tables.specs.Front.{more_cycles};
+ghost use Rattle.tomex_page_tables.specs.Front.{more_percent, own_cells, settings_of};
+ghost use Rattle.tomex_page_tables.specs.Pieces.{row_start};
+ghost use Rattle.tomex_page_tables.specs.Shown.{row_of};
+ghost use Rattle.tomex_survey.specs.Totals.{totals_of};
+ghost use Rattle.tomex_worth.specs.Differences.{percent, signed};
+
+use crate::settings::{own_totals, push_front_heads, push_setting_cells, settings_of};
+use crate::shown::{ShownRow, row_of};
+use crate::tables::{push_empty, push_head_end, push_number, push_numbers, push_table_start};
+use std::alloc::{AllocError, Allocator, Global};
+use std::fmt::Write;
+use tomex_front_views::{Setting, push_link_start};
+use tomex_html::push_table_end;
+use tomex_pareto::FrontRow;
+use tomex_study::Study;
+use tomex_survey::Survey;
+use tomex_worth::{push_percent, push_signed};
+
+/// Adds a cell with how much `b` is more than `a`.
+pub fn push_signed_cell<A: Allocator>(
+    text: &mut String<A>,
+    a: u64,
+    b: u64,
+) -> Result<(), AllocError>
+    ensures { OnOk result (string_bytes text.new ≡ string_bytes text.old ++ td (signed a b)) }
+{
+    text.push_str("<td>")?;
+    push_signed(text, a, b)?;
+    text.push_str("</td>")
+}
+
+/// Adds a cell with the same in percent of `a`.
+pub fn push_percent_cell<A: Allocator>(
+    text: &mut String<A>,
+    a: u64,
+    b: u64,
+) -> Result<(), AllocError>
+    ensures { OnOk result (string_bytes text.new ≡ string_bytes text.old ++ td (percent a b)) }
+{
+    text.push_str("<td>")?;
+    push_percent(text, a, b)?;
+    text.push_str("</td>")
+}
+
+/// Adds what a row costs more than the one before, which the first doesn't have.
+fn push_more_cost<A: Allocator>(
+    text: &mut String<A>,
+    before: &Option<ShownRow>,
+    row: &ShownRow,
+) -> Result<(), AllocError>
+    ensures { OnOk result (string_bytes text.new
+        ≡ string_bytes text.old ++ td (more_cost before.now row.now)) }
+{
+    match before {
+        Some(before) => push_signed_cell(text, before.row.cost, row.row.cost),
+        None => push_empty(text),
+    }
+}
+
+/// Adds how many cycles it takes more.
+fn push_more_cycles<A: Allocator>(
+    text: &mut String<A>,
+    before: &Option<ShownRow>,
+    row: &ShownRow,
+) -> Result<(), AllocError>
+    ensures { OnOk result (string_bytes text.new
+        ≡ string_bytes text.old ++ td (more_cycles before.now row.now)) }
+{
+    match before {
+        Some(before) => push_signed_cell(text, before.row.cycles, row.row.cycles),
+        None => push_empty(text),
+    }
+}
+
+/// Adds how many it takes more in percent.
+fn push_more_percent<A: Allocator>(
+    text: &mut String<A>,
+    before: &Option<ShownRow>,
+    row: &ShownRow,
+) -> Result<(), AllocError>
+    ensures { OnOk result (string_bytes text.new
+        ≡ string_bytes text.old ++ td (more_percent before.now row.now)) }
+{
+    match before {
+        Some(before) => push_percent_cell(text, before.row.cycles, row.row.cycles),
+        None => push_empty(text),
+    }
+}
+
+/// Adds a row's cost and cycles, and what it has more of each than the row before.
+#[tactic(auto, unfolding(crate::specs::Front::own_cells))]
+fn push_own_cells<A: Allocator>(
+    text: &mut String<A>,
+    before: &Option<ShownRow>,
+    row: &ShownRow,
+) -> Result<(), AllocError>
+    ensures { OnOk result (string_bytes text.new
+        ≡ string_bytes text.old ++ own_cells before.now row.now) }
+{
+    push_number(text, row.row.cost)?;
+    push_more_cost(text, before, row)?;
+    push_number(text, row.row.cycles)?;
+    push_more_cycles(text, before, row)?;
+    push_more_percent(text, before, row)
+}
+
+/// Adds a row's number as a link to the row's view.
+#[tactic(auto, unfolding(tomex_front_views::specs::LinkedPlot::link_to))]
+pub fn push_row_link<A: Allocator>(text: &mut String<A>, row: usize) -> Result<(), AllocError>
+    ensures { OnOk result (string_bytes text.new
+        ≡ string_bytes text.old ++ link_to row (decimal row)) }
+{
+    push_link_start(text, row)?;
+    write!(text, "{row}</a>")
+}
+
+/// Adds what a row begins with that is called by a row's number.
+fn push_link_head<A: Allocator>(text: &mut String<A>, row: usize) -> Result<(), AllocError>
+    ensures { OnOk result (string_bytes text.new
+        ≡ string_bytes text.old ++ row_start (link_to row (decimal row))) }
+{
+    text.push_str("<tr><th scope=\"row\">")?;
+    push_row_link(text, row)?;
+    write!(text, "</th>")
+}
+
+/// Adds the cells of a row.
+#[tactic(auto, unfolding(crate::specs::Front::front_cells))]
+fn push_front_cells<A: Allocator, B: Allocator>(
+    text: &mut String<A>,
+    study: &Study<B>,
+    survey: &Survey<B>,
+    settings: &[Setting],
+    before: &Option<ShownRow>,
+    row: FrontRow,
+) -> Result<(), AllocError>
+    requires row { row.row < length study.now.rows }
+    requires totals { survey.now.totals ≡ totals_of study.now }
+    requires settings { settings.now ≡ settings_of study.now }
+    ensures { OnOk result (string_bytes text.new
+        ≡ string_bytes text.old ++ front_cells study.now before.now (row_of study.now row)) }
+{
+    let here = row_of(study, row);
+    push_own_cells(text, before, &here)?;
+    push_setting_cells(text, before, &here, settings)?;
+    push_numbers(text, own_totals(study, survey, row.row))
+}
+
+/// Adds a row.
+#[tactic(auto, unfolding(crate::specs::Front::front_row, crate::specs::Pieces::table_row))]
+fn push_front_row<A: Allocator, B: Allocator>(
+    text: &mut String<A>,
+    study: &Study<B>,
+    survey: &Survey<B>,
+    settings: &[Setting],
+    before: &Option<ShownRow>,
+    row: FrontRow,
+) -> Result<(), AllocError>
+    requires row { row.row < length study.now.rows }
+    requires totals { survey.now.totals ≡ totals_of study.now }
+    requires settings { settings.now ≡ settings_of study.now }
+    ensures { OnOk result (string_bytes text.new
+        ≡ string_bytes text.old ++ front_row study.now before.now (row_of study.now row)) }
+{
+    push_link_head(text, row.row)?;
+    push_front_cells(text, study, survey, settings, before, row)?;
+    text.push_str("</tr>\n")
+}
+
+/// Adds the rows that are shown.
+fn push_front_rows<A: Allocator, B: Allocator>(
+    text: &mut String<A>,
+    study: &Study<B>,
+    survey: &Survey<B>,
+    settings: &[Setting],
+    shown: &[FrontRow],
+) -> Result<(), AllocError>
+    requires within { All (λ r. r.row < length study.now.rows) shown.now }
+    requires totals { survey.now.totals ≡ totals_of study.now }
+    requires settings { settings.now ≡ settings_of study.now }
+    ensures { OnOk result (string_bytes text.new
+        ≡ string_bytes text.old ++ front_rows study.now None shown.now) }
+{
+    let mut before = None;
+    for row in shown {
+        push_front_row(text, study, survey, settings, &before, *row)?;
+        before = Some(row_of(study, *row));
+    }
+    Ok(())
+}
+
+/// Adds the table of the rows that are shown.
+#[tactic(auto, unfolding(crate::specs::Front::front_table))]
+pub fn push_front_table<A: Allocator, B: Allocator>(
+    text: &mut String<A>,
+    heap: Global,
+    study: &Study<B>,
+    survey: &Survey<B>,
+    shown: &[FrontRow],
+) -> Result<(), AllocError>
+    requires within { All (λ r. r.row < length study.now.rows) shown.now }
+    requires totals { survey.now.totals ≡ totals_of study.now }
+    ensures { OnOk result (string_bytes text.new
+        ≡ string_bytes text.old ++ front_table study.now shown.now) }
+{
+    let settings = settings_of(heap, study)?;
+    let caption = "The front, and what each row has more than the one above";
+    push_table_start(text, " class=\"a\" id=\"front\"", caption)?;
+    push_front_heads(text, study, settings.as_slice())?;
+    push_head_end(text)?;
+    push_front_rows(text, study, survey, settings.as_slice(), shown)?;
+    push_table_end(text)
+}

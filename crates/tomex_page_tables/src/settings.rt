@@ -1,0 +1,168 @@
+//! What the front's table has of each row beside its cost and cycles: what rows of the study differ in, and the own
+//! cycles of several programs.
+
+ghost use Rattle.std.specs.Prelude.{◌≡◌, ◌<◌, ◌++◌, length, map, IfOk, OnOk, string_bytes};
+ghost use Rattle.std.specs.List.{flat_map};
+ghost use Rattle.tomex_cycle.specs.Run.{total};
+ghost use Rattle.tomex_front_views.specs.FrontTable.{all_settings, config_of, name_of_setting};
+ghost use Rattle.tomex_page_tables.specs.Front.{column_heads, own_programs, setting_cell, settings_of, sets_anew};
+ghost use Rattle.tomex_page_tables.specs.Pieces.{column_head};
+ghost use Rattle.tomex_survey.specs.Totals.{totals_of};
+ghost use Rattle.tomex_worth.specs.Changes.{config_at};
+
+use crate::shown::ShownRow;
+use crate::tables::{push_column_head, push_column_heads};
+use std::alloc::{AllocError, Allocator, Global};
+use std::fmt::Write;
+use tomex_front_views::Setting;
+use tomex_html::cell_start;
+use tomex_study::{Program, Study};
+use tomex_survey::Survey;
+
+/// All settings.
+fn all_settings() -> &'static [Setting]
+    ensures { result.now ≡ all_settings }
+{
+    &Setting::ALL
+}
+
+/// What rows of the study differ in.
+#[tactic(auto, unfolding(crate::specs::Front::settings_of))]
+pub fn settings_of<A: Allocator>(heap: Global, study: &Study<A>) -> Result<Vec<Setting>, AllocError>
+    ensures { IfOk result (λ v. v.items ≡ settings_of study.now) }
+{
+    let mut settings = Vec::new(heap);
+    for setting in all_settings() {
+        if setting.differs(study.rows()) {
+            settings.push(*setting)?;
+        }
+    }
+    Ok(settings)
+}
+
+/// True if the row before has another value.
+fn sets_anew(before: &Option<ShownRow>, row: &ShownRow, setting: Setting) -> bool
+    ensures { result ≡ sets_anew before.now row.now setting }
+{
+    match before {
+        Some(before) => setting.of(&before.config) != setting.of(&row.config),
+        None => false,
+    }
+}
+
+/// Adds a row's value of a setting, which is marked if the row before has another one.
+#[tactic(auto, unfolding(crate::specs::Front::setting_cell))]
+fn push_setting_cell<A: Allocator>(
+    text: &mut String<A>,
+    before: &Option<ShownRow>,
+    row: &ShownRow,
+    setting: Setting,
+) -> Result<(), AllocError>
+    ensures { OnOk result (string_bytes text.new
+        ≡ string_bytes text.old ++ setting_cell before.now row.now setting) }
+{
+    let start = cell_start(sets_anew(before, row, setting));
+    let value = setting.of(&row.config);
+    write!(text, "{start}{value}</td>")
+}
+
+/// Adds a row's values of some settings.
+pub fn push_setting_cells<A: Allocator>(
+    text: &mut String<A>,
+    before: &Option<ShownRow>,
+    row: &ShownRow,
+    settings: &[Setting],
+) -> Result<(), AllocError>
+    ensures { OnOk result (string_bytes text.new
+        ≡ string_bytes text.old ++ flat_map (setting_cell before.now row.now) settings.now) }
+{
+    for setting in settings {
+        push_setting_cell(text, before, row, *setting)?;
+    }
+    Ok(())
+}
+
+/// The programs whose own cycles are shown: all of several.
+#[tactic(auto, unfolding(crate::specs::Front::own_programs))]
+fn own_programs<A: Allocator>(study: &Study<A>) -> &[Program<A>]
+    ensures { result.now ≡ own_programs study.now }
+{
+    if study.programs().len() > 1 {
+        study.programs()
+    } else {
+        &[]
+    }
+}
+
+/// Their own cycles on a row.
+pub fn own_totals<'s, A: Allocator>(
+    study: &Study<A>,
+    survey: &'s Survey<A>,
+    row: usize,
+) -> &'s [u64]
+    requires row { row < length study.now.rows }
+    requires totals { survey.now.totals ≡ totals_of study.now }
+    ensures { result.now ≡ map (λ p. total (config_at study.now row) p.image) (own_programs study.now) }
+{
+    if study.programs().len() > 1 {
+        survey.totals(row)
+    } else {
+        &[]
+    }
+}
+
+/// Adds the name of a setting's column.
+#[tactic(auto, unfolding(crate::specs::Pieces::column_head))]
+fn push_setting_head<A: Allocator>(text: &mut String<A>, setting: Setting) -> Result<(), AllocError>
+    ensures { OnOk result (string_bytes text.new
+        ≡ string_bytes text.old ++ column_head (name_of_setting setting)) }
+{
+    text.push_str("<th scope=\"col\">")?;
+    setting.push_name(text)?;
+    write!(text, "</th>")
+}
+
+/// Adds the names of some settings' columns.
+fn push_setting_heads<A: Allocator>(
+    text: &mut String<A>,
+    settings: &[Setting],
+) -> Result<(), AllocError>
+    ensures { OnOk result (string_bytes text.new ≡ string_bytes text.old
+        ++ flat_map (λ setting. column_head (name_of_setting setting)) settings.now) }
+{
+    for setting in settings {
+        push_setting_head(text, *setting)?;
+    }
+    Ok(())
+}
+
+/// Adds the names of some programs' columns.
+fn push_program_heads<A: Allocator, B: Allocator>(
+    text: &mut String<A>,
+    programs: &[Program<B>],
+) -> Result<(), AllocError>
+    ensures { OnOk result (string_bytes text.new ≡ string_bytes text.old
+        ++ flat_map (λ p. column_head p.name) programs.now) }
+{
+    for program in programs {
+        push_column_head(text, program.name())?;
+    }
+    Ok(())
+}
+
+/// Adds the names of the front's columns.
+#[tactic(auto, unfolding(crate::specs::Front::column_heads))]
+pub fn push_front_heads<A: Allocator, B: Allocator>(
+    text: &mut String<A>,
+    study: &Study<B>,
+    settings: &[Setting],
+) -> Result<(), AllocError>
+    requires { settings.now ≡ settings_of study.now }
+    ensures { OnOk result (string_bytes text.new
+        ≡ string_bytes text.old ++ column_heads study.now) }
+{
+    let names = ["row", "cost", "more", "cycles", "more", "%"];
+    push_column_heads(text, &names)?;
+    push_setting_heads(text, settings)?;
+    push_program_heads(text, own_programs(study))
+}
