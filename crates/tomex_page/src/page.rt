@@ -91,6 +91,14 @@ pub fn study_page<A: Allocator + Clone>(
     study.keeps_limits();
     let shown = shown_of(heap, survey.front())?;
     let mut text = String::new(alloc.clone()?);
-    push_page(&mut text, &alloc, heap, name, study, survey, shown.as_slice())?;
+    push_page(
+        &mut text,
+        &alloc,
+        heap,
+        name,
+        study,
+        survey,
+        shown.as_slice(),
+    )?;
     Ok(text.into_bytes())
 }

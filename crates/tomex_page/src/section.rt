@@ -15,7 +15,8 @@ use std::fmt::Write;
 use tomex_config::Config;
 use tomex_html::{Links, push_links};
 use tomex_page_tables::{
-    PriceBook, ShownRow, push_against, push_changes_table, push_parts_table, push_prices_table, row_of,
+    PriceBook, ShownRow, push_against, push_changes_table, push_parts_table, push_prices_table,
+    row_of,
 };
 use tomex_pareto::FrontRow;
 use tomex_study::Study;

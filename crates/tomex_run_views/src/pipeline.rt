@@ -87,14 +87,7 @@ pub fn push_picture<A: Allocator, B: Allocator>(
     let times = excerpt.times();
     let (first, last) = (first_issue(times), total(times));
     write!(text, "cycles {first} to {last}\n")?;
-    push_lines(
-        text,
-        heap,
-        &frame,
-        excerpt.number(),
-        excerpt.steps(),
-        times,
-    )
+    push_lines(text, heap, &frame, excerpt.number(), excerpt.steps(), times)
 }
 
 /// The picture of an excerpt, whatever its size. What is small is taken of `heap`.
