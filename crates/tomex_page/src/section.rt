@@ -15,12 +15,14 @@ use std::fmt::Write;
 use tomex_config::Config;
 use tomex_html::{Links, push_links};
 use tomex_page_tables::{
-    PriceBook, ShownRow, push_against, push_changes_table, push_parts_table, push_prices_table, row_of,
+    PriceBook, ShownRow, push_against, push_changes_table, push_parts_table, push_prices_table,
+    row_of,
 };
 use tomex_pareto::FrontRow;
 use tomex_study::Study;
 
 /// A row between its neighbours among the rows that are shown.
+#[derive(Drop)]
 pub struct View {
     pub before: Option<ShownRow>,
     pub here: ShownRow,
@@ -76,7 +78,7 @@ fn push_head<A: Allocator>(
 {
     push_start(text, view.here.row)?;
     push_links(text, links_of(shown, view))?;
-    text.push_str("</header>\n")
+    write!(text, "</header>\n")
 }
 
 /// Adds the tables of the row that is shown at a place.
@@ -119,7 +121,7 @@ fn push_section_runs<A: Allocator, B: Allocator + Clone>(
 {
     text.push_str("<div class=\"l\">\n")?;
     push_runs(text, alloc, heap, config, study.programs())?;
-    text.push_str("</div>\n</section>\n")
+    write!(text, "</div>\n</section>\n")
 }
 
 /// Adds the view of the row that is shown at a place.
