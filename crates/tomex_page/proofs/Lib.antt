@@ -1,1 +1,3 @@
 -- Lemmas of this crate.
+mod NeedsOf
+mod ShownRows

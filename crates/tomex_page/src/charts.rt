@@ -1,7 +1,7 @@
 //! The chart of a run's first instructions.
 
 ghost use Rattle.std.specs.Prelude.{◌≡◌, ◌++◌, OnOk, string_bytes};
-ghost use Rattle.tomex_page.specs.Charts.{chart_of, chart_start, first_steps, picture_text};
+ghost use Rattle.tomex_page.specs.Charts.{chart_of, chart_start, first_steps, picture_text, preformatted, too_wide};
 ghost use Rattle.tomex_page_tables.specs.Asked.{steps_of};
 
 use std::alloc::{AllocError, Allocator, Global};
@@ -16,6 +16,29 @@ const CHART_STEPS: u32 = 32;
 /// A chart of more signs than this isn't drawn.
 const CHART_SIGNS: u64 = 16_384;
 
+/// Adds the picture of an excerpt.
+#[tactic(auto, unfolding(crate::specs::Charts::preformatted))]
+fn push_preformatted<A: Allocator, B: Allocator>(
+    text: &mut String<A>,
+    heap: Global,
+    excerpt: &Excerpt<B>,
+) -> Result<(), AllocError>
+    ensures { OnOk result (string_bytes text.new
+        ≡ string_bytes text.old ++ preformatted excerpt.now) }
+{
+    text.push_str("<pre>")?;
+    push_picture(text, heap, excerpt)?;
+    text.push_str("</pre>")
+}
+
+/// Adds that the picture is too wide.
+#[tactic(auto, unfolding(crate::specs::Charts::too_wide))]
+fn push_too_wide<A: Allocator>(text: &mut String<A>) -> Result<(), AllocError>
+    ensures { OnOk result (string_bytes text.new ≡ string_bytes text.old ++ too_wide) }
+{
+    text.push_str("<p>Too wide: <code>tomex pipeline</code> draws it.</p>\n")
+}
+
 /// Adds the picture of an excerpt, or why there is none.
 #[tactic(auto, unfolding(crate::specs::Charts::picture_text))]
 fn push_picture_text<A: Allocator, B: Allocator>(
@@ -27,11 +50,9 @@ fn push_picture_text<A: Allocator, B: Allocator>(
         ≡ string_bytes text.old ++ picture_text excerpt.now) }
 {
     if signs_of(excerpt) <= CHART_SIGNS {
-        text.push_str("<pre>")?;
-        push_picture(text, heap, excerpt)?;
-        text.push_str("</pre>")
+        push_preformatted(text, heap, excerpt)
     } else {
-        text.push_str("<p>Too wide: <code>tomex pipeline</code> draws it.</p>\n")
+        push_too_wide(text)
     }
 }
 
@@ -59,7 +80,7 @@ fn push_chart_of<A: Allocator, B: Allocator>(
 {
     push_chart_start(text, name)?;
     push_picture_text(text, heap, excerpt)?;
-    text.push_str("</details>\n")
+    write!(text, "</details>\n")
 }
 
 /// Adds the chart of the first instructions of a program's run on a configuration.

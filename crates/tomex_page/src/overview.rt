@@ -55,7 +55,7 @@ pub fn push_page_head<A: Allocator>(
     push_name(text, name)?;
     text.push_str("</bdi>")?;
     push_counts(text, front, rows)?;
-    text.push_str("</h1></header>\n<main>\n<div class=\"c\">\n")
+    write!(text, "</h1></header>\n<main>\n<div class=\"c\">\n")
 }
 
 /// Adds the picture of all rows beside what was asked.
@@ -81,7 +81,7 @@ pub fn push_overview<A: Allocator + Clone>(
     text.push_str("</div>\n<div>\n")?;
     push_programs_table(text, study)?;
     push_lists_table(text, heap, study)?;
-    text.push_str("</div>\n</div>\n")
+    write!(text, "</div>\n</div>\n")
 }
 
 /// Adds that the picture has all rows of the front, and the page doesn't.

@@ -10,6 +10,7 @@ use crate::constants::page_help;
 use crate::overview::{push_left_out, push_overview, push_page_head};
 use crate::section::push_sections;
 use std::alloc::{AllocError, Allocator, Global};
+use std::fmt::Write;
 use tomex_html::push_page_end;
 use tomex_page_tables::{PriceBook, push_front_table, shown_of};
 use tomex_pareto::FrontRow;
@@ -39,7 +40,7 @@ fn push_rows<A: Allocator, B: Allocator + Clone>(
     push_front_table(text, heap, study, survey, shown)?;
     text.push_str("<div class=\"v\">\n")?;
     push_sections(text, alloc, heap, study, rows, &book, shown)?;
-    text.push_str("</div>\n</main>\n")
+    write!(text, "</div>\n</main>\n")
 }
 
 /// Adds the page of a study of that name, with these rows of its front.

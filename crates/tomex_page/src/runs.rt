@@ -8,6 +8,7 @@ ghost use Rattle.tomex_page.specs.Runs.{needs_on};
 use crate::charts::push_chart;
 use crate::stalls::push_stalls_table;
 use std::alloc::{AllocError, Allocator, Global};
+use std::fmt::Write;
 use tomex_config::Config;
 use tomex_study::Program;
 use tomex_timing::Needs;
@@ -40,7 +41,7 @@ fn push_run<A: Allocator, B: Allocator + Clone>(
     text.push_str("<div>\n")?;
     push_stalls_table(text, heap, config, &needs, program.name())?;
     push_chart(text, alloc, heap, program, config)?;
-    text.push_str("</div>\n")
+    write!(text, "</div>\n")
 }
 
 /// Adds the runs of some programs on a configuration.

@@ -22,6 +22,7 @@ use tomex_pareto::FrontRow;
 use tomex_study::Study;
 
 /// A row between its neighbours among the rows that are shown.
+#[derive(Drop)]
 pub struct View {
     pub before: Option<ShownRow>,
     pub here: ShownRow,
@@ -77,7 +78,7 @@ fn push_head<A: Allocator>(
 {
     push_start(text, view.here.row)?;
     push_links(text, links_of(shown, view))?;
-    text.push_str("</header>\n")
+    write!(text, "</header>\n")
 }
 
 /// Adds the tables of the row that is shown at a place.
@@ -120,7 +121,7 @@ fn push_section_runs<A: Allocator, B: Allocator + Clone>(
 {
     text.push_str("<div class=\"l\">\n")?;
     push_runs(text, alloc, heap, config, study.programs())?;
-    text.push_str("</div>\n</section>\n")
+    write!(text, "</div>\n</section>\n")
 }
 
 /// Adds the view of the row that is shown at a place.

@@ -144,7 +144,7 @@ fn push_part_start<A: Allocator>(text: &mut String<A>, part: Part) -> Result<(),
 {
     text.push_str("<tr><th scope=\"row\">")?;
     push_name_of_part(text, part)?;
-    text.push_str("</th>")
+    write!(text, "</th>")
 }
 
 /// Adds how many there are of a part, how many are in use at once at most, and how long instructions wait for it.
