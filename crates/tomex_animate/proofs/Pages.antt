@@ -40,29 +40,29 @@ page_is study program number config page total es none head views foot bytes emp
     ∙ ap (λ (z : List ℕ). z ++ animate_page study program number config page total es) empty)
 
 pub animated : (study program : List ℕ) (number : ℕ) (config : Configuration) (run made : List Step)
-    (kept slice : List Times) (first count from total to : ℕ) (entries all some : List Entry) (text : List ℕ)
-    → made ≡ run → kept ≡ times_in config made → slice ≡ kept → total ≡ total_of slice → from ≡ first → from ≤ total
-    → to ≡ min (from + count - 1) total → 0 < first → 0 < count → entries ≡ entries_of config made → all ≡ entries
-    → IsStretch (record { from = from; to = to }) all some
-    → text ≡ animate_page study program number config (record { from = from; to = to }) total some
+    (kept slice : List Times) (first count total : ℕ) (page : Span) (entries all some : List Entry) (text : List ℕ)
+    → made ≡ run → kept ≡ times_in config made → slice ≡ kept → total ≡ total_of slice
+    → (first ≤ total) × (page ≡ page_of first count total) → 0 < first → 0 < count
+    → entries ≡ entries_of config made → all ≡ entries → IsStretch page all some
+    → text ≡ animate_page study program number config page total some
     → IsAnimationOf study program number config run first count text
-animated study program number config run made kept slice first count from total to entries all some text run_is kept_is
-    same total_is from_is low to_is some_first some_count entries_are all_is stretch text_is =
-    let page : Span = record { from = from; to = to } in
+animated study program number config run made kept slice first count total page entries all some text run_is kept_is same
+    total_is page_is some_first some_count entries_are all_is stretch text_is =
+    let low : first ≤ total = page_is.0 in
     let total_of_run : total ≡ total_of (times_in config run) =
     total_is ∙ ap total_of (same ∙ (kept_is ∙ ap (times_in config) run_is)) in
     let all_of_run : all ≡ entries_of config run = all_is ∙ (entries_are ∙ ap (entries_of config) run_is) in
+    let from : page.from ≡ first = ap (λ (p : Span). p.from) page_is.1 in
+    let to : page.to ≡ min (first + count - 1) total = ap (λ (p : Span). p.to) page_is.1 in
     let frames : flat_map (frame config page total all) (cycles_of page)
     ≡ flat_map (frame config page total some) (cycles_of page) =
-    frames_same config page total all some (omega (arith, low, to_is, some_first, some_count, from_is)) stretch in
+    frames_same config page total all some (omega (arith, low, from, to, some_first, some_count)) stretch in
     let of_all : text ≡ animate_page study program number config page total all =
     text_is ∙ ap (λ (z : List ℕ). page_head study program number page ++ (z ++ page_foot config page)) (sym frames) in
     let page_same : page ≡ page_of first count (total_of (times_in config run)) =
-    ap (λ (n : ℕ). record { from = from; to = n }) to_is
-    ∙ (ap (λ (n : ℕ). record { from = n; to = min (n + count - 1) total }) from_is
-    ∙ ap (λ (n : ℕ). record { from = first; to = min (first + count - 1) n }) total_of_run) in
+    page_is.1 ∙ ap (page_of first count) total_of_run in
     record {
-      reached = subst (λ (n : ℕ). first ≤ n) total_of_run (subst (λ (n : ℕ). n ≤ total) from_is low);
+      reached = subst (λ (n : ℕ). first ≤ n) total_of_run low;
       is = of_all ∙ (ap (λ (p : Span). animate_page study program number config p total all) page_same
           ∙ ap₂ (λ (n : ℕ) (es : List Entry). animate_page study program number config
           (page_of first count (total_of (times_in config run))) n es) total_of_run all_of_run);

@@ -3,10 +3,12 @@
 
 mod animation_error;
 mod constants;
+mod laws;
 mod machine;
 mod page;
 mod stretch;
 mod view;
 
 pub use animation_error::AnimationError;
+pub use laws::views_are_tables;
 pub use page::animation;

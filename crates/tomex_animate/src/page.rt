@@ -6,6 +6,7 @@ ghost use Rattle.tomex_rvexec.specs.Run.{start_of};
 ghost use Rattle.tomex_rvexec.specs.Trace.{steps_from};
 ghost use Rattle.tomex_timing.specs.Search.{times_in};
 ghost use Rattle.tomex_snapshots.specs.Entries.{entries_of};
+ghost use Rattle.tomex_animate.specs.declared.animation_error.AnimationError.TheVariants.{PastEnd};
 ghost use Rattle.tomex_animate.specs.Page.{IsAnimationOf, IsUnanimated, animate_page, page_foot, page_head, page_of};
 ghost use Rattle.tomex_animate.specs.Page.{run_named, title_of};
 
@@ -134,13 +135,20 @@ fn entries_in<A: Allocator + Clone>(
     entries_of(alloc, steps, times, waits.as_slice())
 }
 
-/// The last cycle of a page.
-fn last_of(first: u64, count: u32, total: u64) -> u64
+/// The cycles of a page: `count` at most from `first` on.
+fn page_in(first: u32, count: u32, total: u64) -> Result<Span, AnimationError>
     requires first { 0 < first }
-    requires small { first < 2 ^ 32 }
-    ensures { result ≡ min (first + count - 1) total }
+    ensures page { IfOk result (λ page. (first ≤ total) × (page ≡ page_of first count total)) }
+    ensures past { IfErr result (λ error. (total < first) × (error ≡ PastEnd)) }
 {
-    (first + u64::from(count) - 1).min(total)
+    let first = u64::from(first);
+    if total < first {
+        return Err(AnimationError::PastEnd);
+    }
+    Ok(Span {
+        from: first,
+        to: (first + u64::from(count) - 1).min(total),
+    })
 }
 
 /// The page of `count` cycles at most of a program's run on a configuration, from cycle `first` on: for each cycle what
@@ -166,14 +174,9 @@ pub fn animation<A: Allocator + Clone>(
         (steps_from program.now.limit (start_of program.now.image)) first error) }
 {
     let steps = program.steps();
-    let first = u64::from(first);
     let times = times(alloc.clone()?, steps, config)?;
     let total = total(times.as_slice());
-    if total < first {
-        return Err(AnimationError::PastEnd);
-    }
-    let to = last_of(first, count, total);
-    let page = Span { from: first, to };
+    let page = page_in(first, count, total)?;
     let entries = entries_in(alloc.clone()?, steps, times.as_slice(), config)?;
     let views = Views {
         config,

@@ -1,2 +1,3 @@
 pub mod Constants
 pub mod Html
+pub mod Laws

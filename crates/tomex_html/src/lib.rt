@@ -5,11 +5,13 @@
 #![tactic(auto)]
 
 mod constants;
+mod laws;
 mod links;
 mod names;
 mod page;
 mod tables;
 
+pub use laws::{marks_are_differences, names_are_text};
 pub use links::{Links, push_links};
 pub use names::push_name;
 pub use page::{push_page_end, push_page_start};

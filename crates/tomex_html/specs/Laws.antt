@@ -1,0 +1,26 @@
+-- Laws of the pieces that pages have in common.
+use Rattle.std.specs.Prelude.{◌≡◌, ◌≢◌, ◌==◌, ◌&&◌, ◌⊎◌, ℕ, Bool, not, true, List, [], codes}
+use Rattle.std.specs.List.{list_all}
+use Rattle.tomex_html.specs.Html.{changed_cell, html_char, is_new, td}
+
+-- a cell that shows what it showed isn't marked
+abbrev pub UnchangedIsUnmarked : Type 0
+UnchangedIsUnmarked = (text : List ℕ) → changed_cell text text ≡ td text
+
+-- and it is marked if it shows anything else, unless it is empty
+abbrev pub ChangedIsMarked : Type 0
+ChangedIsMarked = (was now : List ℕ) → was ≢ now → now ≢ [] → is_new was now ≡ true
+
+-- no byte of markup
+abbrev pub is_plain : ℕ → Bool
+is_plain b = not (b == 38) && not (b == 60) && not (b == 62) && not (b == 34)
+
+-- a reference, or no byte of markup
+abbrev pub IsCharacterText : List ℕ → Type 0
+IsCharacterText text =
+    (text ≡ codes "&amp;") ⊎ (text ≡ codes "&lt;") ⊎ (text ≡ codes "&gt;") ⊎ (text ≡ codes "&quot;")
+    ⊎ (list_all is_plain text ≡ true)
+
+-- nothing in a name is markup: it is one such text after the other
+abbrev pub NamesAreText : Type 0
+NamesAreText = (c : ℕ) → IsCharacterText (html_char c)

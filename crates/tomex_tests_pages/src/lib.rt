@@ -1,0 +1,5 @@
+//! Tests of HTML pages.
+#![tactic(auto)]
+
+#[cfg(test)]
+mod pages;
