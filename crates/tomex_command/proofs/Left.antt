@@ -2,7 +2,7 @@
 use Rattle.std.proofs.Common.{◌≡◌, List, ℕ, Bool, true, false, refl, sym, subst}
 use Rattle.tomex_command_line.specs.declared.line.Line.{Line}
 use Rattle.tomex_command_line.specs.declared.line.Line.TheVariants.{Run, Times, Stalls, Pipeline, Tables, Animate}
-use Rattle.tomex_command_line.specs.declared.line.Line.TheVariants.{All, Explore, Front, Plot, Rows, Worth, Prices, Explain}
+use Rattle.tomex_command_line.specs.declared.line.Line.TheVariants.{All, Explore, Front, Plot, Rows, Worth, Prices, Page, Explain}
 use Rattle.tomex_streams.specs.Files.{Told}
 use Rattle.tomex_streams.specs.Sinks.{Seen}
 use Rattle.tomex_command.specs.Commands.{IsFailure, IsLeft}
@@ -28,6 +28,7 @@ not_written file (Plot line) is = not_drawn file line.all line.explore.study.now
 not_written file (Rows line) is = is
 not_written file (Worth line) is = is
 not_written file (Prices line) is = is
+not_written file (Page line) is = is
 not_written file (Explain line) is = is
 
 left : (file : List ℕ → Told) (line : Line) (failure : Failure) (seen : Seen) → IsFailure file line failure

@@ -4,7 +4,7 @@ use Rattle.tomex_command.specs.declared.failure.Failure.{Failure}
 use Rattle.tomex_command.specs.declared.failure.Failure.TheVariants.{CannotWrite}
 use Rattle.tomex_command_line.specs.declared.line.Line.{Line}
 use Rattle.tomex_command_line.specs.declared.line.Line.TheVariants.{Run, Times, Stalls, Pipeline, Tables, Animate}
-use Rattle.tomex_command_line.specs.declared.line.Line.TheVariants.{All, Explore, Front, Plot, Rows, Worth, Prices, Explain}
+use Rattle.tomex_command_line.specs.declared.line.Line.TheVariants.{All, Explore, Front, Plot, Rows, Worth, Prices, Page, Explain}
 use Rattle.tomex_arguments.specs.declared.fault.LineFault.{LineFault}
 use Rattle.tomex_command_line.specs.Asked.{IsAsked, IsNoCommand}
 use Rattle.tomex_report.specs.declared.front_view.FrontView.TheVariants.{Report, Table}
@@ -37,6 +37,7 @@ IsDone file (Plot line) text = IsPlotOf line.all file line.explore.study.now tex
 IsDone file (Rows line) text = IsSurveyOf views.Rows file line.study.now text
 IsDone file (Worth line) text = IsSurveyOf (views.Worth line.config) file line.explore.study.now text
 IsDone file (Prices line) text = IsSurveyOf views.Prices file line.study.now text
+IsDone file (Page line) text = IsSurveyOf (views.Page line.study) file line.study.now text
 IsDone file (Explain line) text = IsExplanation (option_map string_bytes line.refusal) text
 
 -- the line has no text, for this reason
@@ -54,6 +55,7 @@ IsFailure file (Plot line) failure = IsPlotFailure line.all file line.explore.st
 IsFailure file (Rows line) failure = IsSurveyFailure views.Rows file line.study.now failure
 IsFailure file (Worth line) failure = IsSurveyFailure (views.Worth line.config) file line.explore.study.now failure
 IsFailure file (Prices line) failure = IsSurveyFailure views.Prices file line.study.now failure
+IsFailure file (Page line) failure = IsSurveyFailure (views.Page line.study) file line.study.now failure
 IsFailure file (Explain line) failure = IsExplainFailure (option_map string_bytes line.refusal) failure
 
 -- a line was carried out: its text is on the output

@@ -91,6 +91,10 @@ fn text_of<
             meter,
             SurveyView::Prices,
         ),
+        Line::Page(line) => {
+            let view = SurveyView::Page(line.study);
+            text_of_survey(rt, alloc, heap, line, files, meter, view)
+        }
         Line::Explain(line) => text_of_explain(alloc, &line),
     }
 }

@@ -6,7 +6,7 @@ use Rattle.clap.specs.declared.error.kind.ErrorKind.{ErrorKind}
 use Rattle.clap.specs.declared.error.kind.ErrorKind.TheVariants.{DisplayHelp, DisplayVersion}
 use Rattle.tomex_command_line.specs.declared.line.Line.{Line}
 use Rattle.tomex_command_line.specs.declared.line.Line.TheVariants.{Run, Times, Stalls, Pipeline, Tables, Animate}
-use Rattle.tomex_command_line.specs.declared.line.Line.TheVariants.{All, Explore, Front, Plot, Rows, Worth, Prices, Explain}
+use Rattle.tomex_command_line.specs.declared.line.Line.TheVariants.{All, Explore, Front, Plot, Rows, Worth, Prices, Page, Explain}
 use Rattle.tomex_arguments.specs.declared.fault.LineFault.{LineFault}
 use Rattle.tomex_arguments.specs.declared.fault.LineFault.TheVariants.{Help, Usage, Memory}
 use Rattle.tomex_command_line.specs.Grammar.{tomex_app}
@@ -50,6 +50,8 @@ IsCommand found (Worth line) =
     × IsWorthAsked rows line.explore.study.now line.config line.explore.workers
 IsCommand found (Prices line) =
     (rows : List Row) × (found ≡ Some (codes "prices", rows)) × IsExploreAsked rows line.study.now line.workers
+IsCommand found (Page line) =
+    (rows : List Row) × (found ≡ Some (codes "page", rows)) × IsExploreAsked rows line.study.now line.workers
 IsCommand found (Explain line) =
     (rows : List Row) × (found ≡ Some (codes "explain", rows))
     × IsExplainAsked rows (option_map string_bytes line.refusal)
@@ -82,6 +84,7 @@ pub data IsNoLineAsked (found : Option (Text × List Row)) : Type 0 where
   no_rows : (rows : List Row) → found ≡ Some (codes "rows", rows) → IsNoExplore rows → IsNoLineAsked found
   no_worth : (rows : List Row) → found ≡ Some (codes "worth", rows) → IsNoWorth rows → IsNoLineAsked found
   no_prices : (rows : List Row) → found ≡ Some (codes "prices", rows) → IsNoExplore rows → IsNoLineAsked found
+  no_page : (rows : List Row) → found ≡ Some (codes "page", rows) → IsNoExplore rows → IsNoLineAsked found
   nothing : found ≡ None → IsNoLineAsked found
   no_command : (name : Text) (rows : List Row) → found ≡ Some (name, rows)
       → Each (λ (command : Shape). name ≢ command.name) tomex_app.subs → IsNoLineAsked found

@@ -125,6 +125,9 @@ worth_shape = record (new_shape (codes "worth")) {
 abbrev pub prices_shape : Shape
 prices_shape = exploring_shape (codes "prices")
 
+abbrev pub page_shape : Shape
+page_shape = exploring_shape (codes "page")
+
 -- `explain [REFUSAL]..`
 abbrev pub explain_shape : Shape
 explain_shape = record (new_shape (codes "explain")) { rules = words_rule (codes "REFUSAL") ∷ [] }
@@ -138,5 +141,5 @@ abbrev pub tomex_app : App
 tomex_app = record {
   top = record (new_shape (codes "tomex")) { has_version = true; is_leaf = false; subcommand_required = true };
   subs = run_shape ∷ times_shape ∷ stalls_shape ∷ pipeline_shape ∷ tables_shape ∷ animate_shape ∷ all_shape
-      ∷ explore_shape ∷ front_shape ∷ plot_shape ∷ rows_shape ∷ worth_shape ∷ prices_shape ∷ explain_shape ∷ [];
+      ∷ explore_shape ∷ front_shape ∷ plot_shape ∷ rows_shape ∷ worth_shape ∷ prices_shape ∷ page_shape ∷ explain_shape ∷ [];
 }

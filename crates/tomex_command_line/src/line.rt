@@ -15,6 +15,7 @@ mod described;
 pub mod explain;
 pub mod explore;
 mod front;
+mod page;
 pub mod pipeline;
 pub mod plot;
 mod prices;
@@ -59,6 +60,7 @@ pub enum Line<'a> {
     Rows(ExploreLine<'a>),
     Worth(WorthLine<'a>),
     Prices(ExploreLine<'a>),
+    Page(ExploreLine<'a>),
     Explain(ExplainLine),
 }
 
@@ -90,6 +92,7 @@ Examples, in the folder `examples`:
   tomex rows explore.toml --workers 4
   tomex worth explore.toml 132
   tomex prices explore.toml
+  tomex page explore.toml > explore.html
   tomex explain image: segment
 
 Numbers on the command line are decimal; in a study's TOML they may be
@@ -124,6 +127,7 @@ fn grammar<'a>(alloc: Global) -> Result<Command<'a>, AllocError>
     let program = offering(program, rows::grammar(alloc));
     let program = offering(program, worth::grammar(alloc));
     let program = offering(program, prices::grammar(alloc));
+    let program = offering(program, page::grammar(alloc));
     offering(program, explain::grammar(alloc))
 }
 
@@ -146,6 +150,7 @@ fn line_of<'a>(alloc: Global, matches: &ArgMatches<'a>) -> Result<Line<'a>, Line
         Some(("rows", inner)) => Ok(Line::Rows(explore::line_of(alloc, inner)?)),
         Some(("worth", inner)) => Ok(Line::Worth(worth::line_of(alloc, inner)?)),
         Some(("prices", inner)) => Ok(Line::Prices(explore::line_of(alloc, inner)?)),
+        Some(("page", inner)) => Ok(Line::Page(explore::line_of(alloc, inner)?)),
         Some(("explain", inner)) => Ok(Line::Explain(explain::line_of(alloc, inner)?)),
         _ => Err(refused(alloc, "command")),
     }

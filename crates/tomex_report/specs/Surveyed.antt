@@ -2,6 +2,7 @@
 use Rattle.std.specs.Prelude.{◌≡◌, ℕ, nat_le, Bool, true, false, List, length}
 use Rattle.tomex_study.specs.Study.{DesignSpace}
 use Rattle.tomex_front_views.specs.RowsPlot.{rows_picture_of}
+use Rattle.tomex_page.specs.Page.{page_of}
 use Rattle.tomex_prices.specs.PricesTable.{is_too_large, prices_table_of}
 use Rattle.tomex_prices.specs.declared.prices_error.PricesError.{PricesError}
 use Rattle.tomex_prices.specs.declared.prices_error.PricesError.TheVariants as prices
@@ -11,7 +12,7 @@ use Rattle.tomex_worth.specs.Worth.{worth_table_of}
 use Rattle.tomex_report.specs.declared.survey_error.SurveyError.{SurveyError}
 use Rattle.tomex_report.specs.declared.survey_error.SurveyError.TheVariants.{Study, NoSuchRow, TooLarge, Memory}
 use Rattle.tomex_report.specs.declared.surveying.SurveyView.{SurveyView}
-use Rattle.tomex_report.specs.declared.surveying.SurveyView.TheVariants.{Rows, Picture, Worth, Prices}
+use Rattle.tomex_report.specs.declared.surveying.SurveyView.TheVariants.{Rows, Picture, Worth, Prices, Page}
 
 -- what is printed of all rows of a study
 abbrev pub surveyed_as : SurveyView → DesignSpace → List ℕ
@@ -19,6 +20,7 @@ surveyed_as Rows s = rows_text_of s
 surveyed_as Picture s = rows_picture_of s
 surveyed_as (Worth row) s = worth_table_of s row
 surveyed_as Prices s = prices_table_of s
+surveyed_as (Page name) s = page_of name.now s
 
 -- it is of a configuration that the study doesn't have
 abbrev pub lacks_row : SurveyView → DesignSpace → Bool

@@ -12,6 +12,7 @@ use crate::survey_error::SurveyError;
 use std::alloc::{Allocator, Global};
 use std::thread::Threads;
 use tomex_front_views::rows_picture;
+use tomex_page::study_page;
 use tomex_prices::prices_table;
 use tomex_rows::rows_report;
 use tomex_study::Study;
@@ -20,8 +21,8 @@ use tomex_sweep::Gate;
 use tomex_worth::worth_table;
 
 /// What is printed of all rows of a study.
-#[derive(Clone, Copy, Debug, PartialEq, Eq)]
-pub enum SurveyView {
+#[derive(Clone, Copy)]
+pub enum SurveyView<'a> {
     /// Each row, in CSV.
     Rows,
     /// The front with all rows, as a picture in SVG.
@@ -30,6 +31,8 @@ pub enum SurveyView {
     Worth(usize),
     /// For which prices each row of the front stays on it, as a table.
     Prices,
+    /// A report of the study of this name, as a page in HTML.
+    Page(&'a str),
 }
 
 /// The text of a survey.
@@ -38,7 +41,7 @@ fn text_of<A: Allocator + Clone>(
     heap: Global,
     study: &Study<A>,
     survey: &Survey<A>,
-    view: SurveyView,
+    view: SurveyView<'_>,
 ) -> Result<Vec<u8, A>, SurveyError>
     requires totals { survey.now.totals ≡ totals_of study.now }
     requires rows { survey.now.rows ≡ all_rows study.now }
@@ -53,11 +56,12 @@ fn text_of<A: Allocator + Clone>(
         SurveyView::Picture => Ok(rows_picture(alloc, heap, study, rows, front)?),
         SurveyView::Worth(row) => Ok(worth_table(alloc, heap, study, survey, row)?),
         SurveyView::Prices => Ok(prices_table(alloc, heap, study, rows, front)?),
+        SurveyView::Page(name) => Ok(study_page(alloc, heap, name, study, survey)?),
     }
 }
 
 /// True if the view is of a configuration that the study doesn't have.
-fn lacks_row<A: Allocator>(study: &Study<A>, view: SurveyView) -> bool
+fn lacks_row<A: Allocator>(study: &Study<A>, view: SurveyView<'_>) -> bool
     ensures { result ≡ lacks_row view study.now }
 {
     match view {
@@ -78,7 +82,7 @@ pub fn answer_survey<R: Threads + Sync, A: Allocator + Clone + Send + Sync + Dro
     study: &[u8],
     files: &[Vec<u8, A>],
     crew: Crew<'_, G>,
-    view: SurveyView,
+    view: SurveyView<'_>,
 ) -> Result<Vec<u8, A>, SurveyError>
     requires some_workers { 1 ≤ crew.workers }
     requires few_workers { crew.workers ≤ 32 }

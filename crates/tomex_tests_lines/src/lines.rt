@@ -46,6 +46,7 @@ fn told_of_all_rows(alloc: Global, line: &Line) -> Result<String, AllocError> {
             format!(in alloc; "worth {study} {} {workers}", worth.config)
         }
         Line::Prices(prices) => format!(in alloc; "prices {} {}", prices.study, prices.workers),
+        Line::Page(page) => format!(in alloc; "page {} {}", page.study, page.workers),
         other => told_of_a_program(alloc, other),
     }
 }
@@ -120,7 +121,7 @@ fn told(alloc: Global, line: &str) -> Result<String, AllocError> {
 }
 
 /// Lines, and how what they come to begins.
-static READ: [(&str, &str); 59] = [
+static READ: [(&str, &str); 63] = [
     ("run mul.bin", "run mul.bin 0 65536 262144"),
     (
         "run a --base 4294967292 --size 4 --limit 1",
@@ -193,6 +194,10 @@ static READ: [(&str, &str); 59] = [
     ("worth -h", "help Prints what one part more"),
     ("prices a", "prices a 1"),
     ("prices --workers 2 a", "prices a 2"),
+    ("page a", "page a 1"),
+    ("page a --workers 32", "page a 32"),
+    ("page --help", "help Prints a report of a study"),
+    ("page -h", "help Prints a study's report"),
     (
         "prices --help",
         "help Prints, for each configuration on the front",

@@ -11,7 +11,7 @@ use tomex_command_line::ExploreLine;
 use tomex_report::{Crew, SurveyView, answer_survey};
 use tomex_streams::{Files, Meter};
 
-/// What is printed of all rows of a study: by `rows`, `worth` and `prices`, and by `plot` with all rows.
+/// What is printed of all rows of a study: by `rows`, `worth`, `prices` and `page`, and by `plot` with all rows.
 pub fn text_of_survey<
     R: Threads + Sync,
     F: Files,
@@ -24,7 +24,7 @@ pub fn text_of_survey<
     line: ExploreLine<'_>,
     files: &F,
     meter: &M,
-    view: SurveyView,
+    view: SurveyView<'_>,
 ) -> Result<Vec<u8, A>, Failure>
     ensures text { IfOk result
         (λ text. IsSurveyOf view (F.file files.now) line.entry.study.now text.items) }

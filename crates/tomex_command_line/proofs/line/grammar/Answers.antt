@@ -4,7 +4,7 @@ use Rattle.clap.specs.Simple.{App, Shape, app_of, shape_of, with_subcommand}
 use Rattle.clap.specs.declared.builder.command.Command.{Command}
 use Rattle.tomex_command_line.specs.Grammar.{bare_app, run_shape, times_shape, stalls_shape, pipeline_shape, tables_shape}
 use Rattle.tomex_command_line.specs.Grammar.{animate_shape, all_shape, explore_shape, front_shape, plot_shape, rows_shape}
-use Rattle.tomex_command_line.specs.Grammar.{worth_shape, prices_shape, explain_shape}
+use Rattle.tomex_command_line.specs.Grammar.{worth_shape, prices_shape, page_shape, explain_shape}
 use Rattle.tomex_command_line.proofs.line.grammar.Goals as goal
 
 offered : {E : Type 0} (made program command : Result Command E) (a : App) (s : Shape)
@@ -44,4 +44,6 @@ returns c =
     c.grammar-12.ensures in
     let thirteen = offered c.offering-program-13.result _ _ _ prices_shape c.offering-program-13.ensures twelve
     c.grammar-13.ensures in
-    offered c.offering.result _ _ _ explain_shape c.offering.ensures thirteen c.grammar-14.ensures
+    let fourteen = offered c.offering-program-14.result _ _ _ page_shape c.offering-program-14.ensures thirteen
+    c.grammar-14.ensures in
+    offered c.offering.result _ _ _ explain_shape c.offering.ensures fourteen c.grammar-15.ensures

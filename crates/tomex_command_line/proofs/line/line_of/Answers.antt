@@ -5,7 +5,7 @@ use Rattle.clap.specs.Words.{Shape, found_of, subcommand_rows_of}
 use Rattle.clap.specs.Walk.{rows_of}
 use Rattle.tomex_command_line.specs.Grammar.{tomex_app}
 use Rattle.tomex_command_line.specs.Asked.{no_run, no_times, no_stalls, no_pipeline, no_tables, no_all, no_explore}
-use Rattle.tomex_command_line.specs.Asked.{no_animate, no_front, no_plot, no_rows, no_worth, no_prices, no_command, nothing}
+use Rattle.tomex_command_line.specs.Asked.{no_animate, no_front, no_plot, no_rows, no_worth, no_prices, no_page, no_command, nothing}
 use Rattle.tomex_command_line.proofs.Found.{found_as, found_is, none_found}
 use Rattle.tomex_arguments.proofs.WhyRefused.{refused_if}
 use Rattle.tomex_command_line.proofs.PassedOn.{passed_on}
@@ -233,6 +233,23 @@ returns-in_err-line_of-in-Some-prices-default-clause-refused c =
     (found_as c.args.matches.now _ (codes "prices") _ c.in-Some-prices-default.ensures.name
     c.in-Some-prices-default.ensures.rows c.in-Some-prices-default.is-prices))
 
+pub returns-in_ok-line_of-in-Some-page-default-clause-command :
+    goal.returns-in_ok-line_of-in-Some-page-default-clause-command
+returns-in_ok-line_of-in-Some-page-default-clause-command c = (
+  _,
+  found_as c.args.matches.now _ (codes "page") _ c.in-Some-page-default.ensures.name
+      c.in-Some-page-default.ensures.rows c.in-Some-page-default.is-page,
+  c.in_ok-line_of-in-Some-page-default.ensures.line,
+)
+
+pub returns-in_err-line_of-in-Some-page-default-clause-refused :
+    goal.returns-in_err-line_of-in-Some-page-default-clause-refused
+returns-in_err-line_of-in-Some-page-default-clause-refused c =
+    passed_on _ _ _ c.from_residual-in_err-line_of-in-Some-page-default.result c.from_residual-in_err-line_of-in-Some-page-default.ensures.1
+    c.in_err-line_of-in-Some-page-default.ensures.refused (no_page _
+    (found_as c.args.matches.now _ (codes "page") _ c.in-Some-page-default.ensures.name
+    c.in-Some-page-default.ensures.rows c.in-Some-page-default.is-page))
+
 pub returns-in_ok-line_of-in-Some-explain-default-clause-command :
     goal.returns-in_ok-line_of-in-Some-explain-default-clause-command
 returns-in_ok-line_of-in-Some-explain-default-clause-command c = (
@@ -253,7 +270,7 @@ returns-in_default-clause-refused c = elim c.in_default.branch [
       (sym (ap (option_map (λ p. p.0.now)) w.in_default.is) ∙ c.subcommand.ensures.name)
       (sym (ap (option_map (λ p. rows_of (found_of p.1.now))) w.in_default.is) ∙ c.subcommand.ensures.rows))
       (All-from_recursion (λ (command : Shape). name ≢ command.name) tomex_app.subs
-      (search rules, (search rules, (search rules, (search rules, (search rules, (search rules, (search rules, (search rules, (search rules, (search rules, (search rules, (search rules, (search rules, (search rules, tt))))))))))))))))
+      (search rules, (search rules, (search rules, (search rules, (search rules, (search rules, (search rules, (search rules, (search rules, (search rules, (search rules, (search rules, (search rules, (search rules, (search rules, tt)))))))))))))))))
   | in_default-via-in_default w ↦
       let none = none_found (subcommand_rows_of c.args.matches.now)
       (sym (ap (option_map (λ p. rows_of (found_of p.1.now))) w.in_default.is) ∙ c.subcommand.ensures.rows) in
