@@ -32,7 +32,8 @@ stretch_is page all rest some behind count past rest_is later some_is = record {
 
 -- the page's text
 pub page_is : (study program : List ℕ) (number : ℕ) (config : Configuration) (page : Span) (total : ℕ)
-    (es : List Entry) (none head views foot bytes : List ℕ) → none ≡ [] → head ≡ none ++ page_head study program number page
+    (es : List Entry) (none head views foot bytes : List ℕ) → none ≡ [] → head ≡ none ++ page_head study program
+    number page
     → views ≡ head ++ flat_map (frame config page total es) (cycles_of page) → foot ≡ views ++ page_foot config page
     → bytes ≡ foot → bytes ≡ animate_page study program number config page total es
 page_is study program number config page total es none head views foot bytes empty begun shown ended made =
@@ -46,7 +47,8 @@ pub animated : (study program : List ℕ) (number : ℕ) (config : Configuration
     → entries ≡ entries_of config made → all ≡ entries → IsStretch page all some
     → text ≡ animate_page study program number config page total some
     → IsAnimationOf study program number config run first count text
-animated study program number config run made kept slice first count total page entries all some text run_is kept_is same
+animated study program number config run made kept slice first count total page entries all some text run_is kept_is
+    same
     total_is page_is some_first some_count entries_are all_is stretch text_is =
     let low : first ≤ total = page_is.0 in
     let total_of_run : total ≡ total_of (times_in config run) =

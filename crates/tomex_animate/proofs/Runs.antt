@@ -52,7 +52,8 @@ entries_are_the_history config steps =
     ∙ (ap reverse (zipped r (waits_in config steps) 1 1 count) ∙ reverse-reverse h)
 
 -- the number of a station that is held
-held_number : (config : Configuration) (h : List Done) (d : Done) (tag : Tag) (pool : Option PoolId) (station : Option ℕ)
+held_number : (config : Configuration) (h : List Done) (d : Done) (tag : Tag) (pool : Option PoolId) (station :
+    Option ℕ)
     → AreTimed config (d ∷ h) → step_pool d.step ≡ pool → d.at.station ≡ station
     → (is_in tag.pool pool && is_number station tag.number) ≡ true → tag.number < stations_of config tag.pool
 held_number config h d tag None station timed p s is = absurd (cc)

@@ -68,7 +68,11 @@ field_same s mid old (Some o) past = rw (producer_same s mid old o.register past
 
 busy_same : (s : ℕ) (tag : Tag) (d : Done) (mid old : List Done) → ArePast s old
     → busy_of s tag d (mid ++ old) ≡ busy_of s tag d mid
-busy_same s tag d mid old past = rw (field_same s mid old (j_of d.step) past, field_same s mid old (k_of d.step) past) refl
+busy_same s tag d mid old past = rw (
+  field_same s mid old (j_of d.step) past,
+  field_same s mid old (k_of d.step)
+      past,
+) refl
 
 held_past : (s t : ℕ) (h : List Done) (tag : Tag) → ArePast t h → held s t h tag ≡ None
 held_past s t [] tag past = refl
@@ -202,7 +206,8 @@ past_bounds first t e low past =
 
 later_bounds : (last t : ℕ) (e : Entry) → t ≤ last → Later last e → Bounds e.at t
 later_bounds last t e high later =
-    let l : last < min e.at.issue (min (unwrap_or e.at.address e.at.issue) (min e.at.start (min e.at.finish e.at.end))) =
+    let l : last < min e.at.issue (min (unwrap_or e.at.address e.at.issue) (min e.at.start (min e.at.finish
+    e.at.end))) =
     ltb-true last (earliest e.at) (and_parts (nat_lt last e.from) (nat_lt last (earliest e.at)) later).1 in
     record {
       issue = λ same. let f : e.at.issue ≡ t = same in absurd (omega (arith, l, f, high));
@@ -244,7 +249,8 @@ yet-append t (d ∷ a) b p q = (p.0, yet-append t a b p.1 q)
 history-cons : (e : Entry) (es : List Entry) → history_of (e ∷ es) ≡ history_of es ++ (done_of e ∷ [])
 history-cons e es = reverse-append (done_of e ∷ []) (map done_of es)
 
-history_past : (first t : ℕ) (es : List Entry) → first ≤ t + 2 → AllByRecursion (Past first) es → ArePast t (history_of es)
+history_past : (first t : ℕ) (es : List Entry) → first ≤ t + 2 → AllByRecursion (Past first) es → ArePast t
+    (history_of es)
 history_past first t [] low all = tt
 history_past first t (e ∷ es) low all =
     let l : max e.at.issue (max (cycle_of e.at.address) (max e.at.start (max e.at.finish e.at.end))) + 2 < first =
@@ -256,7 +262,8 @@ history_later : (last t : ℕ) (es : List Entry) → t ≤ last → AllByRecursi
     → AreYetToIssue t (history_of es)
 history_later last t [] high all = tt
 history_later last t (e ∷ es) high all =
-    let l : last < min e.at.issue (min (unwrap_or e.at.address e.at.issue) (min e.at.start (min e.at.finish e.at.end))) =
+    let l : last < min e.at.issue (min (unwrap_or e.at.address e.at.issue) (min e.at.start (min e.at.finish
+    e.at.end))) =
     ltb-true last (earliest e.at) (and_parts (nat_lt last e.from) (nat_lt last (earliest e.at)) all.0).1 in
     rw (history-cons e es) (yet-append t (history_of es) (done_of e ∷ []) (history_later last t es high all.1)
     (omega (arith, l, high), tt))
@@ -356,7 +363,8 @@ module _ (first last t : ℕ) (front some rest : List Entry) (low : first ≤ t)
   items_same event =
       let all = front ++ (some ++ rest) in
       ap₂ (λ (b : Bool) (x : List ℕ). if b then x else codes "<dd>-</dd>")
-      (any_mid (happens event t) (Past first) (Later last) (quiet_past event) (quiet_later event) front some rest past later)
+      (any_mid (happens event t) (Past first) (Later last) (quiet_past event) (quiet_later event) front some rest
+      past later)
       (flat_map_same (item_if t all event) (item_if t some event) (λ e. item_if_same t all some event e same_here) all
       ∙ flat_mid (item_if t some event) (Past first) (Later last)
       (λ e p. no_item t some event e (quiet_past event e p)) (λ e q. no_item t some event e (quiet_later event e q))
@@ -368,7 +376,8 @@ module _ (first last t : ℕ) (front some rest : List Entry) (low : first ≤ t)
 
   events_same : events t (front ++ (some ++ rest)) ≡ events t some
   unfolding events
-  events_same = rw (flat_map_same (event_text t (front ++ (some ++ rest))) (event_text t some) event_same all_events) refl
+  events_same = rw (flat_map_same (event_text t (front ++ (some ++ rest))) (event_text t some) event_same all_events)
+      refl
 
   row_past : (span : Span) (e : Entry) → first ≤ span.from + 2 → Past first e → row_if span t e ≡ []
   row_past span e l p = rw (gone first span e l p) refl
@@ -457,4 +466,5 @@ frames_same config page total all some low stretch =
     ap (λ (es : List Entry). flat_map (frame config page total es) (range_with_len page.from (page.to + 1 - page.from)))
     stretch.is
     ∙ frames_from config page total page.from (page.to + 1 - page.from) stretch.front some stretch.rest (omega arith)
-    (omega (arith, low)) (recursion_from_All _ stretch.front stretch.past) (recursion_from_All _ stretch.rest stretch.later)
+    (omega (arith, low)) (recursion_from_All _ stretch.front stretch.past) (recursion_from_All _ stretch.rest
+    stretch.later)

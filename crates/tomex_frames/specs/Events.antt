@@ -1,5 +1,6 @@
 -- What happens in a cycle: five entries, always all five, so that nothing below them moves.
-use Rattle.std.specs.Prelude.{ℕ, ◌==◌, Bool, ◌&&◌, if◌then◌else◌, List, [], ◌∷◌, ◌++◌, codes, is_some, Option, Some, None}
+use Rattle.std.specs.Prelude.{ℕ, ◌==◌, Bool, ◌&&◌, if◌then◌else◌, List, [], ◌∷◌, ◌++◌, codes, is_some, Option}
+use Rattle.std.specs.Prelude.{Some, None}
 use Rattle.std.specs.List.{flat_map, list_any}
 use Rattle.tomex_rvdec.specs.Text.{instr_text}
 use Rattle.tomex_steps.specs.Steps.{address_of, is_number, step_dest}

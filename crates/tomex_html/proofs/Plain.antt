@@ -16,13 +16,16 @@ plain_if : (b : ℕ) → b ≢ 38 → b ≢ 60 → b ≢ 62 → b ≢ 34 → is_
 plain_if b n38 n60 n62 n34 = rw (ne_eqb b 38 n38, ne_eqb b 60 n60, ne_eqb b 62 n62, ne_eqb b 34 n34) refl
 
 high : (b : ℕ) → 63 ≤ b → is_plain b ≡ true
-high b l = plain_if b (λ e. let f : b ≡ 38 = e in absurd (omega (arith, l, f))) (λ e. let f : b ≡ 60 = e in absurd (omega (arith, l, f)))
+high b l = plain_if b (λ e. let f : b ≡ 38 = e in absurd (omega (arith, l, f))) (λ e. let f : b ≡ 60 = e in absurd
+    (omega (arith, l, f)))
     (λ e. let f : b ≡ 62 = e in absurd (omega (arith, l, f))) (λ e. let f : b ≡ 34 = e in absurd (omega (arith, l, f)))
 
 glyph : (n : ℕ) → n < 16 → is_plain (digit_glyph false n) ≡ true
 glyph n l = elim (cases_Bool (nat_lt n 10)) [
-  | inl e ↦ let low : n < 10 = ltb-true n 10 e in rw e (plain_if (48 + n) (λ f. let g : 48 + n ≡ 38 = f in absurd (omega (arith, g)))
-      (λ f. let g : 48 + n ≡ 60 = f in absurd (omega (arith, g, low))) (λ f. let g : 48 + n ≡ 62 = f in absurd (omega (arith, g, low)))
+  | inl e ↦ let low : n < 10 = ltb-true n 10 e in rw e (plain_if (48 + n) (λ f. let g : 48 + n ≡ 38 = f in absurd
+      (omega (arith, g)))
+      (λ f. let g : 48 + n ≡ 60 = f in absurd (omega (arith, g, low))) (λ f. let g : 48 + n ≡ 62 = f in absurd (omega
+      (arith, g, low)))
       (λ f. let g : 48 + n ≡ 34 = f in absurd (omega (arith, g))))
   | inr e ↦ rw e (high (87 + n) (omega arith))
 ]
@@ -31,7 +34,8 @@ code_plain : (c : ℕ) → c < 256 → list_all is_plain (digits 16 false c) ≡
 code_plain c l = elim (cases_Bool (nat_lt c 16)) [
   | inl e ↦ rw (hex_one_digit false c (ltb-true c 16 e)) (and_from _ _ (glyph c (ltb-true c 16 e)) refl)
   | inr e ↦ let big : 16 ≤ c = ltb-false c 16 e in
-      rw (hex_two_digits false c big l) (and_from _ _ (glyph (c / 16) (omega (arith, l))) (and_from _ _ (glyph (c % 16) (omega arith)) refl))
+      rw (hex_two_digits false c big l) (and_from _ _ (glyph (c / 16) (omega (arith, l))) (and_from _ _ (glyph (c %
+      16) (omega arith)) refl))
 ]
 
 control_low : (c : ℕ) → is_control c ≡ true → c < 256

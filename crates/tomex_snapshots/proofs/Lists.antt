@@ -1,5 +1,6 @@
 -- Lists that are made of functions, and pieces of text that some elements don't have.
-use Rattle.std.proofs.Common.{◌≡◌, ◌∙◌, ◌<◌, ◌≤◌, ◌+◌, ◌-◌, ℕ, zero, suc, arith, refl, ap, sym, List, [], ◌∷◌, ◌++◌, append_assoc, length}
+use Rattle.std.proofs.Common.{◌≡◌, ◌∙◌, ◌<◌, ◌≤◌, ◌+◌, ◌-◌, ℕ, zero, suc, arith, refl, ap, sym, List, [], ◌∷◌}
+use Rattle.std.proofs.Common.{◌++◌, append_assoc, length}
 use Rattle.std.proofs.Common.{map, inl, inr}
 use Rattle.std.specs.Prelude.{◌≢◌, slice_set}
 use Rattle.std.specs.List.{flat_map, range_with_len}
@@ -20,7 +21,11 @@ map_from : {A : Type 0} (a n : ℕ) (f g : ℕ → A) → ((k : ℕ) → a ≤ k
     → map f (range_with_len a n) ≡ map g (range_with_len a n)
 map_from a zero f g same = refl
 map_from a (suc n) f g same =
-    rw (same a (omega arith) (omega arith), map_from (a + 1) n f g (λ k low high. same k (omega (arith, low)) (omega (arith, high)))) refl
+    rw (
+      same a (omega arith) (omega arith),
+      map_from (a + 1) n f g (λ k low high. same k (omega (arith, low)) (omega
+          (arith, high))),
+    ) refl
 
 -- a list of the values of a function, in which one is set
 pub set_is : {A : Type 0} (n : ℕ) (f g : ℕ → A) (i : ℕ) (v d : A) → g i ≡ v
@@ -60,21 +65,24 @@ four_pieces s0 s1 s2 s3 s4 a b c d e1 e2 e3 e4 =
     (three_pieces s1 s2 s3 s4 b c d e2 e3 e4)
 
 -- five pieces, one after the other
-pub five_pieces : (s0 s1 s2 s3 s4 s5 a b c d e : List ℕ) → s1 ≡ s0 ++ a → s2 ≡ s1 ++ b → s3 ≡ s2 ++ c → s4 ≡ s3 ++ d → s5 ≡ s4 ++ e
+pub five_pieces : (s0 s1 s2 s3 s4 s5 a b c d e : List ℕ) → s1 ≡ s0 ++ a → s2 ≡ s1 ++ b → s3 ≡ s2 ++ c → s4 ≡ s3 ++ d
+    → s5 ≡ s4 ++ e
     → s5 ≡ s0 ++ (a ++ (b ++ (c ++ (d ++ e))))
 five_pieces s0 s1 s2 s3 s4 s5 a b c d e e1 e2 e3 e4 e5 =
     two_pieces s0 s1 s5 a (b ++ (c ++ (d ++ e))) e1
     (four_pieces s1 s2 s3 s4 s5 b c d e e2 e3 e4 e5)
 
 -- six pieces, one after the other
-pub six_pieces : (s0 s1 s2 s3 s4 s5 s6 a b c d e f : List ℕ) → s1 ≡ s0 ++ a → s2 ≡ s1 ++ b → s3 ≡ s2 ++ c → s4 ≡ s3 ++ d → s5 ≡ s4 ++ e → s6 ≡ s5 ++ f
+pub six_pieces : (s0 s1 s2 s3 s4 s5 s6 a b c d e f : List ℕ) → s1 ≡ s0 ++ a → s2 ≡ s1 ++ b → s3 ≡ s2 ++ c → s4 ≡ s3
+    ++ d → s5 ≡ s4 ++ e → s6 ≡ s5 ++ f
     → s6 ≡ s0 ++ (a ++ (b ++ (c ++ (d ++ (e ++ f)))))
 six_pieces s0 s1 s2 s3 s4 s5 s6 a b c d e f e1 e2 e3 e4 e5 e6 =
     two_pieces s0 s1 s6 a (b ++ (c ++ (d ++ (e ++ f)))) e1
     (five_pieces s1 s2 s3 s4 s5 s6 b c d e f e2 e3 e4 e5 e6)
 
 -- seven pieces, one after the other
-pub seven_pieces : (s0 s1 s2 s3 s4 s5 s6 s7 a b c d e f g : List ℕ) → s1 ≡ s0 ++ a → s2 ≡ s1 ++ b → s3 ≡ s2 ++ c → s4 ≡ s3 ++ d → s5 ≡ s4 ++ e → s6 ≡ s5 ++ f → s7 ≡ s6 ++ g
+pub seven_pieces : (s0 s1 s2 s3 s4 s5 s6 s7 a b c d e f g : List ℕ) → s1 ≡ s0 ++ a → s2 ≡ s1 ++ b → s3 ≡ s2 ++ c → s4
+    ≡ s3 ++ d → s5 ≡ s4 ++ e → s6 ≡ s5 ++ f → s7 ≡ s6 ++ g
     → s7 ≡ s0 ++ (a ++ (b ++ (c ++ (d ++ (e ++ (f ++ g))))))
 seven_pieces s0 s1 s2 s3 s4 s5 s6 s7 a b c d e f g e1 e2 e3 e4 e5 e6 e7 =
     two_pieces s0 s1 s7 a (b ++ (c ++ (d ++ (e ++ (f ++ g))))) e1

@@ -1,6 +1,7 @@
 -- What stations and registers show, by one step more.
 use Rattle.std.proofs.Common.{◌≡◌, ◌∙◌, ◌<◌, ◌≤◌, ◌+◌, ◌*◌, ◌/◌, ◌%◌, ℕ, zero, suc, arith, refl, ap, sym, List, [], ◌∷◌}
-use Rattle.std.proofs.Common.{ap₂, get_or, Bool, Option, Some, None, map, reverse, take, true, false, inl, inr, length, replicate}
+use Rattle.std.proofs.Common.{ap₂, get_or, Bool, Option, Some, None, map, reverse, take, true, false, inl}
+use Rattle.std.proofs.Common.{inr, length, replicate}
 use Rattle.std.specs.Prelude.{◌≢◌, ◌==◌, ◌&&◌, nat_lt, nat_le, if◌then◌else◌, slice_index_or, IfSome}
 use Rattle.std.specs.List.{range_with_len}
 use Rattle.std.proofs.lemmas.Bool.{and_right, cases_Bool, eq-eqb, ltb-false, ltb-true, ne_eqb}
@@ -13,7 +14,8 @@ use Rattle.tomex_rvdec.specs.declared.pool.PoolId.{PoolId}
 use Rattle.tomex_rvdec.specs.declared.pool.PoolId.TheVariants as pools
 use Rattle.tomex_steps.specs.Steps.{is_in, is_number, j_of, k_of, step_dest, step_pool}
 use Rattle.tomex_steps.specs.declared.step.Operand.{Operand}
-use Rattle.tomex_timing.specs.Tables.{a_of, all_tags, busy_of, field_from, field_of, is_under_way, producer, qi_of, shown}
+use Rattle.tomex_timing.specs.Tables.{a_of, all_tags, busy_of, field_from, field_of, is_under_way, producer}
+use Rattle.tomex_timing.specs.Tables.{qi_of, shown}
 use Rattle.tomex_timing.specs.Tables.{tag_at, unsent_tag}
 use Rattle.tomex_timing.specs.declared.tables.Busy.{Busy}
 use Rattle.tomex_timing.specs.declared.tables.Field.{Field}
@@ -114,7 +116,8 @@ operand_is : (by : ℕ) (h : List Done) (producers : List (Option Tag)) (o : Opt
     → field_in producers o ≡ field_of by h o
 operand_is by h producers None is low = refl
 operand_is by h producers (Some o) is low = ap (field_from o.value)
-    (ap (λ (xs : List (Option Tag)). slice_index_or xs o.register None) is ∙ at_register (producer by h) o.register None low)
+    (ap (λ (xs : List (Option Tag)). slice_index_or xs o.register None) is ∙ at_register (producer by h) o.register
+    None low)
 
 busy_is : (by : ℕ) (h : List Done) (producers : List (Option Tag)) (tag : Tag) (e : Entry)
     → producers ≡ map (producer by h) (range_with_len 0 32) → IfSome (j_of e.step) (λ o. o.register < 32)
@@ -171,7 +174,8 @@ module _ (count : ℕ) (few : count ≤ 96) (by at : ℕ) (e : Entry) (h : List 
       let r : x % 16 ≡ n = omega (arith, l) in
       let present : (is_in (pool_at (x / 16)) (Some p) && is_number (Some n) (x % 16)) ≡ true =
       rw (q, r, pool_back p) (and_from _ _ (eq-eqb (place_of_pool p) (place_of_pool p) refl) (eq-eqb n n refl)) in
-      within by at (done_of e) h x (in_station (is_under_way at (done_of e)) true (step_pool e.step) (Some p) e.at.station
+      within by at (done_of e) h x (in_station (is_under_way at (done_of e)) true (step_pool e.step) (Some p)
+      e.at.station
       (Some n) (pool_at (x / 16)) (x % 16) same_pool same_station going present)
       ∙ (ap (λ (t : Tag). Some (busy_of by t (done_of e) h)) (same_place p n l)
       ∙ ap (λ (b : Busy). Some b) (sym (busy_is by h producers tag e made low_j low_k)))

@@ -17,13 +17,15 @@ use Rattle.tomex_snapshots.specs.declared.takers.Taker.{Taker}
 use Rattle.tomex_snapshots.proofs.Noted.{at_register, at_station, held_is}
 
 -- Qi of a register
-pub register_is : (by at : ℕ) (h : List Done) (snapshot : Snapshot) (r : ℕ) (d : Option Tag) → IsSnapshot by at h snapshot → r < 32
+pub register_is : (by at : ℕ) (h : List Done) (snapshot : Snapshot) (r : ℕ) (d : Option Tag) → IsSnapshot by at h
+    snapshot → r < 32
     → slice_index_or snapshot.registers r d ≡ qi_of by h r
 register_is by at h snapshot r d is low =
     ap (λ (xs : List (Option Tag)). slice_index_or xs r d) is.registers ∙ at_register (qi_of by h) r d low
 
 -- a station, as tables show it
-pub station_is : (t : ℕ) (h : List Done) (snapshot : Snapshot) (pool : PoolId) (n : ℕ) (d : Option Busy) → IsSnapshot t t h snapshot
+pub station_is : (t : ℕ) (h : List Done) (snapshot : Snapshot) (pool : PoolId) (n : ℕ) (d : Option Busy) → IsSnapshot
+    t t h snapshot
     → n < 16
     → slice_index_or snapshot.stations (16 * place_of_pool pool + n) d ≡ shown t h (record { pool = pool; number = n })
 station_is t h snapshot pool n d is low =

@@ -50,8 +50,8 @@ abbrev pub register_takers : Tag → ℕ → Option Tag → Option Tag → List 
 register_takers tag r (Some qi) None = if same_tag qi tag then Register r ∷ [] else []
 register_takers tag r _ _ = []
 
--- The takers of what a station sends to a register in cycle t: what is in a station after the cycle, and waited for it up
--- to the cycle before; one that issues in the cycle takes what it would have waited for. Then the register.
+-- The takers of what a station sends to a register in cycle t: what is in a station after the cycle, and waited for it
+-- up to the cycle before; one that issues in the cycle takes what it would have waited for. Then the register.
 unfoldable pub takers_to : ℕ → List Done → Tag → ℕ → List Taker
 takers_to t h tag r =
     flat_map (λ station. operand_takers tag (held (t - 1) t h station)) all_tags

@@ -4,7 +4,8 @@ ghost use Rattle.std.specs.Prelude.{◌≡◌, ◌-◌, ◌<◌, ◌^◌, length
 ghost use Rattle.tomex_steps.specs.Steps.{j_of, k_of};
 ghost use Rattle.tomex_timing.specs.Tables.{a_of, is_under_way, unsent_tag};
 ghost use Rattle.tomex_snapshots.specs.Entries.{done_of, history_of};
-ghost use Rattle.tomex_snapshots.specs.Kept.{AreSnapshots, IsSnapshot, snapshot_after, busy_in, field_in, registers_after};
+ghost use Rattle.tomex_snapshots.specs.Kept.{AreSnapshots, IsSnapshot, snapshot_after, busy_in, field_in};
+ghost use Rattle.tomex_snapshots.specs.Kept.{registers_after};
 ghost use Rattle.tomex_snapshots.specs.Kept.{set_in, stations_after};
 
 use crate::entries::Entry;

@@ -1,4 +1,4 @@
-//! Views of the product on two alu stations and a multiplier of latency 3, as an independent implementation writes them.
+//! Views of the product on two alu stations and a multiplier of latency 3, by an independent implementation.
 
 /// Cycle 1 of a page of cycles 1 to 3.
 pub const VIEW_1: &str = "\

@@ -7,5 +7,7 @@ use Rattle.tomex_animate.proofs.view.push_views.Given as goal
 
 abbrev pub invariant-loop-cycle : goal.invariant-loop-cycle
 invariant-loop-cycle g l =
-    string_bytes l.text ++ flat_map (frame l.views.config.now l.views.page l.views.total l.views.entries.now) (range_with_len l.cycle (l.to + 1 - l.cycle))
-    ≡ string_bytes l.fn.text ++ flat_map (frame l.views.config.now l.views.page l.views.total l.views.entries.now) (range_with_len l.from (l.to + 1 - l.from))
+    string_bytes l.text ++ flat_map (frame l.views.config.now l.views.page l.views.total l.views.entries.now)
+    (range_with_len l.cycle (l.to + 1 - l.cycle))
+    ≡ string_bytes l.fn.text ++ flat_map (frame l.views.config.now l.views.page l.views.total l.views.entries.now)
+    (range_with_len l.from (l.to + 1 - l.from))

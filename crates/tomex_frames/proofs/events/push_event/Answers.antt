@@ -7,5 +7,6 @@ use Rattle.tomex_frames.proofs.events.push_event.Goals as goal
 pub returns : goal.returns
 unfolding event_text
 returns g c =
-    on_ok_weaker c.write-2.result (λ last. three_pieces _ _ _ _ _ _ _ (rw c.name-name.ensures at c.in_ok-write.ensures.bytes)
+    on_ok_weaker c.write-2.result (λ last. three_pieces _ _ _ _ _ _ _ (rw c.name-name.ensures at
+    c.in_ok-write.ensures.bytes)
     c.in_ok-push_items.ensures last) c.write-2.ensures.bytes

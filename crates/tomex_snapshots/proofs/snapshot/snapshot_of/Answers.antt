@@ -11,6 +11,7 @@ loop-entry-preserved c =
     let more = history_more c.args.entries.now c.loop-entry.entry-index c.entry-item.result c.entry-item.result
     c.loop-entry-test.true c.entry-item.is in
     subst (λ (h : List Done). IsSnapshot c.args.by c.args.at h c.note.new.self) (sym more)
-    (snapshot_more c.args.by c.args.at c.entry-item.result (history_of (take c.loop-entry.entry-index c.args.entries.now))
+    (snapshot_more c.args.by c.args.at c.entry-item.result (history_of (take c.loop-entry.entry-index
+    c.args.entries.now))
     c.loop-entry.snapshot c.note.new.self c.loop-entry.invariant c.operands_are_registers.ensures.j
     c.operands_are_registers.ensures.k c.note.ensures)
