@@ -21,6 +21,8 @@ mod konata;
 #[cfg(test)]
 mod line_faults;
 #[cfg(test)]
+mod page;
+#[cfg(test)]
 mod pipeline;
 #[cfg(test)]
 mod refused_memory;

@@ -52,7 +52,7 @@ fn command_in<R: AllocGlobal + Threads + Wait + Sync>(
     files: &[(&str, &[u8])],
     output: &str,
 ) -> Result<Try, AllocError> {
-    let outcome = outcome_of(rt, heap, files, words, &NoMeter, 10_000)?;
+    let outcome = outcome_of(rt, heap, files, words, &NoMeter, 200_000)?;
     let told = outcome.err.as_slice() == b"tomex: out of memory\n".as_slice();
     match outcome.status {
         0 => Ok(Try::right_if(outcome.out.as_slice() == output.as_bytes())),
@@ -172,6 +172,24 @@ fn of_all_rows_of_a_study(rt: HostRuntime) -> Result<(), Fail> {
         ("mul.bin", PRODUCT.as_slice()),
     ];
     each_is_granted(&rt, files.as_slice(), OF_TWELVE.as_slice())
+}
+
+/// Pages, over the files of the twelve machines: what they print with ample memory they print with enough, and with
+/// less nothing.
+#[test]
+fn of_pages(rt: HostRuntime) -> Result<(), Fail> {
+    let files = [
+        ("study", TWELVE.as_bytes()),
+        ("mul.bin", PRODUCT.as_slice()),
+    ];
+    for line in ["tomex animate study 4 mul --cycles 2", "tomex page study"] {
+        let words = words_of(rt.alloc(), line)?;
+        let whole = outcome_of(&rt, rt.alloc(), &files, words.as_slice(), &NoMeter, 200_000)?;
+        let page = String::from_utf8(whole.out)?;
+        let granted = granted(&rt, words.as_slice(), &files, page.as_str())?;
+        assert!(rt; granted >= Some(14), "{line}: {granted:?}");
+    }
+    Ok(())
 }
 
 /// How many blocks a line is granted that makes the report of the study.
