@@ -3,14 +3,14 @@
 #
 #   docs/check.sh [--slow] [PAGE..]
 #
-# A block that is fenced as `console` is run: each line behind `$ ` in one shell, which begins at the
+# A block that is fenced as `console` is run: each line after `$ ` in one shell, which begins at the
 # top of a copy of the repository, with the examples as they are there. What follows a command is what
 # it prints, on standard output and standard error: a line `..` stands for any lines, and `..` in a line
-# for any part of it. A command with no lines behind it has to succeed, and may print anything. `console
+# for any part of it. A command with no lines after it has to succeed, and may print anything. `console
 # slow` is run only with --slow, and in the repository itself: it proves and builds. A `toml` block is a
 # study, of which `tomex all` makes a report. No other block is run. The examples in the help texts are
 # run too, in the folder examples. What needs a program that isn't installed is skipped, and reported;
-# so are the slow blocks without --slow.
+# so are the slow blocks without --slow. The pages in examples are opened in a browser, if there is one.
 #
 # TOMEX names the program, a path or a name on PATH, by default crates/tomex/out/tomex, which `rt run`
 # leaves there.
@@ -147,6 +147,17 @@ for command in [""] + [name for name in re.findall(r"^  (\w+)", listed, re.M) if
         if not line.startswith("tomex "):
             begins = line[:-2] if line.endswith("..") else line + "\n"
             report("passed" if "\n" + begins in "\n" + printed else "failed", f"help {command}: {line}")
+
+# The pages that the program printed, in a browser: TOMEX_BROWSER names a script that opens a file and says what is wrong.
+browser = os.environ.get("TOMEX_BROWSER", os.path.join(os.environ["TOP"], "..", "shared", "tools", "browser"))
+fresh_examples()
+for made in sorted(glob.glob("examples/*.html")):
+    if not (shutil.which("chromium") and os.path.exists(browser)):
+        report("skipped", made, ": no browser to open it")
+        continue
+    looked = subprocess.run([browser, made], stdout=subprocess.PIPE, stderr=subprocess.STDOUT, text=True)
+    shown = "" if looked.returncode == 0 else f"\n{looked.stdout[:2000]}"
+    report("passed" if looked.returncode == 0 else "failed", made, shown)
 
 print(", ".join(f"{count} {outcome}" for outcome, count in counts.items()))
 sys.exit(1 if counts["failed"] else 0)
