@@ -57,7 +57,8 @@ parts_are : (config : Configuration) (h : List Done) (stations us : List Need) (
       last_issue = last_issue;
       total = total;
     } ≡ needs_in config h
-parts_are config h stations us buses width branch operand address memory last_issue total e0 e1 e2 e3 e4 e5 e6 e7 e8 e9 =
+parts_are config h stations us buses width branch operand address memory last_issue total e0 e1 e2 e3 e4 e5 e6 e7 e8
+    e9 =
     rw (e0, e1, e2, e3, e4, e5, e6, e7, e8, e9) refl
 
 needs_are : (config : Configuration) (h : List Done) (n : Needs) → AreNeeds config h n → n ≡ needs_in config h

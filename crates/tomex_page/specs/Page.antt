@@ -91,13 +91,15 @@ all_in_picture front =
 unfoldable pub left_out : ℕ → List ℕ
 left_out front = if nat_le front most_rows then [] else all_in_picture front
 
--- the study's name may have any characters; in its element it turns nothing else round
+-- how many rows there are, and how many of them are on the front
 unfoldable pub counts_text : ℕ → ℕ → List ℕ
-counts_text front rows = codes ": " ++ (decimal front ++ (codes " of " ++ (decimal rows ++ codes " rows are on the front")))
+counts_text front rows =
+    codes ": " ++ (decimal front ++ (codes " of " ++ (decimal rows ++ codes " rows are on the front")))
 
 unfoldable pub title_of : List ℕ → ℕ → ℕ → List ℕ
 title_of name front rows = html_name name ++ counts_text front rows
 
+-- the study's name may have any characters; in its element it turns nothing else round
 unfoldable pub page_head : List ℕ → ℕ → ℕ → List ℕ
 page_head name front rows =
     page_start (title_of name front rows) page_css ++ (codes "<header><h1><bdi>" ++ (html_name name

@@ -6,3 +6,4 @@ pub mod Front
 pub mod Parts
 pub mod Changed
 pub mod Stays
+pub mod Laws

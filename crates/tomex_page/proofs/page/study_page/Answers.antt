@@ -32,6 +32,7 @@ returns g c =
     ∙ ap shown_of (c.front.ensures.value ∙ c.requires.front)) in
     ap (λ v. v.items) c.into_bytes.ensures.value
     ∙ (c.in_ok-push_page.ensures
-    ∙ (ap (λ (z : List ℕ). z ++ page_over c.args.name.now c.args.study.now c.args.survey.now.front c.as_slice.result.now)
+    ∙ (ap (λ (z : List ℕ). z ++ page_over c.args.name.now c.args.study.now c.args.survey.now.front
+    c.as_slice.result.now)
     c.new-text.ensures.bytes
     ∙ ap₂ (page_over c.args.name.now c.args.study.now) c.requires.front are))

@@ -7,5 +7,6 @@ use Rattle.tomex_page_tables.proofs.asked.push_programs_table.Goals as goal
 pub returns : goal.returns
 unfolding programs_table
 returns g c =
-    on_ok_weaker c.push_table_end.result (λ last. three_pieces _ _ _ _ _ _ _ c.in_ok-push_table_head.ensures (rw c.programs.ensures.value at c.in_ok-push_program_rows.ensures) last)
+    on_ok_weaker c.push_table_end.result (λ last. three_pieces _ _ _ _ _ _ _ c.in_ok-push_table_head.ensures (rw
+    c.programs.ensures.value at c.in_ok-push_program_rows.ensures) last)
     c.push_table_end.ensures

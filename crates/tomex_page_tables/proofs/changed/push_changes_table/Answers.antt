@@ -19,7 +19,8 @@ changes_of-requires-clause-within g c =
 pub push_change_rows-requires : goal.push_change_rows-requires
 push_change_rows-requires g c =
     let IsRow : Change → Type 0 = λ x. x.row.row < length c.args.study.now.rows in
-    let are = c.first_lines.ensures ∙ ap (take most_lines) (c.as_slice-lines.ensures.value ∙ c.in_ok-changes.ensures.changes) in
+    let are = c.first_lines.ensures ∙ ap (take most_lines) (c.as_slice-lines.ensures.value ∙
+    c.in_ok-changes.ensures.changes) in
     λ k d within. All-get_or IsRow _ k d within
     (subst (All IsRow) (sym are)
     (All-take IsRow most_lines _ (changes_within c.args.study.now c.args.own c.keeps_limits.ensures)))

@@ -15,11 +15,13 @@ loop-place-preserved c =
     elim c.if-not-has_entry.branch [
       | then-not-has_entry+in_ok-push w ↦
           rw w.firsts-is (unseen c.args.part c.args.rows.now c.loop-place.place c.index-rows-place.result
-          c.has_entry.result _ _ c.loop-place-test.true c.index-rows-place.is c.has_entry.ensures c.loop-place.invariant
+          c.has_entry.result _ _ c.loop-place-test.true c.index-rows-place.is c.has_entry.ensures
+          c.loop-place.invariant
           w.if-not-has_entry.true _ w.in_ok-push.ensures.items)
       | else-not-has_entry w ↦
           rw w.firsts-is (seen c.args.part c.args.rows.now c.loop-place.place c.index-rows-place.result
-          c.has_entry.result _ _ c.loop-place-test.true c.index-rows-place.is c.has_entry.ensures c.loop-place.invariant
+          c.has_entry.result _ _ c.loop-place-test.true c.index-rows-place.is c.has_entry.ensures
+          c.loop-place.invariant
           w.if-not-has_entry.false)
     ]
 

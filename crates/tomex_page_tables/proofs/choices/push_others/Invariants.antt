@@ -8,5 +8,6 @@ use Rattle.tomex_page_tables.proofs.choices.push_others.Given as goal
 
 abbrev pub invariant-loop-config : goal.invariant-loop-config
 invariant-loop-config g l =
-    string_bytes l.text ++ flat_map (λ c. codes ", " ++ facet_text l.prices l.facet l.part c) (drop l.config-index l.configs)
+    string_bytes l.text ++ flat_map (λ c. codes ", " ++ facet_text l.prices l.facet l.part c) (drop l.config-index
+    l.configs)
     ≡ string_bytes l.fn.text ++ flat_map (λ c. codes ", " ++ facet_text l.prices l.facet l.part c) l.configs

@@ -7,5 +7,6 @@ use Rattle.tomex_page_tables.proofs.front.push_link_head.Goals as goal
 pub returns : goal.returns
 unfolding row_start
 returns g c =
-    on_ok_weaker c.write.result (λ last. three_pieces _ _ _ _ _ _ _ c.in_ok-push_str.ensures.bytes c.in_ok-push_row_link.ensures last)
+    on_ok_weaker c.write.result (λ last. three_pieces _ _ _ _ _ _ _ c.in_ok-push_str.ensures.bytes
+    c.in_ok-push_row_link.ensures last)
     c.write.ensures.bytes

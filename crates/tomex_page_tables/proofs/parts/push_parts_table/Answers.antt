@@ -7,5 +7,6 @@ use Rattle.tomex_page_tables.proofs.parts.push_parts_table.Goals as goal
 pub returns : goal.returns
 unfolding parts_table
 returns g c =
-    on_ok_weaker c.push_table_end.result (λ last. four_pieces _ _ _ _ _ _ _ _ _ c.in_ok-push_table_head.ensures (rw c.all_parts.ensures at c.in_ok-push_part_rows.ensures) c.in_ok-push_cost_row.ensures last)
+    on_ok_weaker c.push_table_end.result (λ last. four_pieces _ _ _ _ _ _ _ _ _ c.in_ok-push_table_head.ensures (rw
+    c.all_parts.ensures at c.in_ok-push_part_rows.ensures) c.in_ok-push_cost_row.ensures last)
     c.push_table_end.ensures

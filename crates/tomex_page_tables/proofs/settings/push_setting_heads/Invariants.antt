@@ -8,5 +8,6 @@ use Rattle.tomex_page_tables.proofs.settings.push_setting_heads.Given as goal
 
 abbrev pub invariant-loop-setting : goal.invariant-loop-setting
 invariant-loop-setting g l =
-    string_bytes l.text ++ flat_map (λ setting. column_head (name_of_setting setting)) (drop l.setting-index l.settings)
+    string_bytes l.text ++ flat_map (λ setting. column_head (name_of_setting setting)) (drop l.setting-index
+    l.settings)
     ≡ string_bytes l.fn.text ++ flat_map (λ setting. column_head (name_of_setting setting)) l.settings

@@ -1,0 +1,127 @@
+//! Pages of small studies: a worked one to the byte, one whose front has more rows than are shown, and one without
+//! enough memory.
+
+ghost use Rattle.std.specs.Prelude.{◌≡◌, IfOk};
+ghost use Rattle.tomex_row_runs.specs.StudyFront.{all_rows, front_of_study};
+ghost use Rattle.tomex_survey.specs.Totals.{totals_of};
+
+use std::alloc::{AllocError, Allocator, Global};
+use std::test::Fail;
+use std::thread::Threads;
+use tomex_config::{Config, Prices};
+use tomex_image::{Window, load};
+use tomex_page::study_page;
+use tomex_study::{Program, Study};
+use tomex_survey::{Survey, survey};
+use tomex_tests_fixtures::machines::{PLAIN, config_of};
+use tomex_tests_fixtures::programs::PRODUCT;
+use tomex_tests_fixtures::{Heap, Try, ample, refusals_of};
+use tomex_workers::OpenGate;
+
+mod one_row;
+
+use one_row::ONE_ROW;
+
+/// The product on so many machines, all of them alike, at no price.
+fn study_in<A: Allocator + Clone>(alloc: A, rows: usize) -> Result<Study<A>, Fail> {
+    let config = config_of(
+        [1, 1, 1, 1, 1, 1],
+        [PLAIN, PLAIN, PLAIN, PLAIN, PLAIN],
+        1,
+        1,
+    )?;
+    let window = Window::new(0, 4096).ok_or("no window")?;
+    let image = load(alloc.clone()?, PRODUCT.as_slice(), window)?;
+    let name = String::from_str(alloc.clone()?, "mul")?;
+    let watch = Vec::new(alloc.clone()?);
+    let program = Program::new(alloc.clone()?, name, image, 262_144, watch, 1)?;
+    let mut programs = Vec::new(alloc.clone()?);
+    programs.push(program)?;
+    let mut configs = Vec::new(alloc.clone()?);
+    for _row in 0..rows {
+        configs.push(config)?;
+    }
+    if configs.is_empty() || configs.len() > 16_384 || programs.is_empty() || programs.len() > 8 {
+        return Err("too few or too many")?;
+    }
+    let prices = Prices::new([0, 0, 0, 0, 0, 0], 0, 0);
+    Ok(Study::new(alloc, programs, configs, prices, false)?)
+}
+
+/// The survey of a study.
+fn surveyed<R: Threads + Sync, A: Allocator + Clone + Send + Sync + Drop>(
+    rt: &R,
+    alloc: A,
+    study: &Study<A>,
+) -> Result<Survey<A>, Fail>
+    ensures totals { IfOk result (λ v. v.totals ≡ totals_of study.now) }
+    ensures rows { IfOk result (λ v. v.rows ≡ all_rows study.now) }
+    ensures front { IfOk result (λ v. v.front ≡ front_of_study study.now) }
+{
+    Ok(survey(rt, alloc, study, 1, &OpenGate)?)
+}
+
+/// The page of a study of that name.
+fn page_of<R: Threads + Sync>(
+    rt: &R,
+    alloc: Global,
+    name: &str,
+    rows: usize,
+) -> Result<String, Fail> {
+    let study = study_in(alloc, rows)?;
+    let survey = surveyed(rt, alloc, &study)?;
+    let text = study_page(alloc, alloc, name, &study, &survey)?;
+    Ok(String::from_utf8(text)?)
+}
+
+#[test]
+fn page_is_that_of_the_independent_implementation(rt: HostRuntime) -> Result<(), Fail> {
+    let page = page_of(&rt, rt.alloc(), "one.toml", 1)?;
+    assert!(rt; page.as_str() == ONE_ROW);
+    Ok(())
+}
+
+#[test]
+fn name_is_no_markup(rt: HostRuntime) -> Result<(), Fail> {
+    let page = page_of(&rt, rt.alloc(), "<b> & \"c\"\n", 1)?;
+    let shown = "<bdi>&lt;b&gt; &amp; &quot;c&quot;\\n</bdi>: 1 of 1 rows";
+    assert!(rt; page.contains(shown));
+    Ok(())
+}
+
+/// True if a page has a view of that row.
+fn has_view(alloc: Global, page: &str, row: usize) -> Result<bool, AllocError> {
+    let start = format!(in alloc; "<section id=\"r{row}\">")?;
+    Ok(page.contains(start.as_str()))
+}
+
+#[test]
+fn sixty_four_rows_of_a_longer_front_are_shown(rt: HostRuntime) -> Result<(), Fail> {
+    let page = page_of(&rt, rt.alloc(), "alike", 65)?;
+    assert!(rt; page.contains("<p>The picture has all 65 rows of the front."));
+    for row in [0, 1, 62, 64] {
+        assert!(rt; has_view(rt.alloc(), page.as_str(), row)?, "row {row}");
+    }
+    // The 64 places are spread over the front, and the last but one goes to the row before this one.
+    assert!(rt; !has_view(rt.alloc(), page.as_str(), 63)?);
+    assert!(rt; page.contains("<circle cx=\"392\" cy=\"220\" r=\"2\"><title>row 63:"));
+    assert!(rt; !page.contains("href=\"#r63\""));
+    Ok(())
+}
+
+/// Makes the page in that memory, of what was found out in ample memory.
+fn tried<R: Threads + Sync>(rt: &R, heap: Heap, other: Global) -> Result<Try, Fail> {
+    let study = study_in(ample(other)?, 1)?;
+    let survey = surveyed(rt, ample(other)?, &study)?;
+    Ok(match study_page(heap, other, "one.toml", &study, &survey) {
+        Ok(text) => Try::right_if(text.as_slice() == ONE_ROW.as_bytes()),
+        Err(_) => Try::Refused,
+    })
+}
+
+#[test]
+fn refused_memory_is_reported(rt: HostRuntime) -> Result<(), Fail> {
+    let refused = refusals_of!(rt.alloc(), heap => tried(&rt, heap, rt.alloc())?);
+    assert!(rt; refused > Some(8));
+    Ok(())
+}
