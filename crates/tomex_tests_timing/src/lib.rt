@@ -1,6 +1,8 @@
-//! Tests of the recurrence: times, waits and needs of worked examples; and of what steps reserve.
+//! Tests of the recurrence: times, waits and needs of worked examples; of what steps reserve; and of floors.
 #![tactic(auto)]
 
+#[cfg(test)]
+mod floors;
 #[cfg(test)]
 mod needs;
 #[cfg(test)]

@@ -1,0 +1,298 @@
+//! Floors of small runs, beside those of another implementation of the rules, and beside totals.
+
+ghost use Rattle.std.specs.Prelude.{◌<◌, ◌≤◌};
+
+use std::alloc::{AllocError, Global};
+use std::test::Fail;
+use tomex_config::{Config, UnitOption};
+use tomex_floor::floors;
+use tomex_rvexec::{Step, trace};
+use tomex_tests_fixtures::machines::{config_of, one_unit_each};
+use tomex_tests_fixtures::programs::{LOOP_WORDS, PRODUCT_WORDS};
+use tomex_tests_fixtures::{Attempt, Heap, Try, image_of, refusals};
+use tomex_timing::evaluate::needs;
+use tomex_timing::{Needs, Part};
+
+/// A program, loaded at a base into memory of this size.
+struct Program {
+    base: u32,
+    size: u32,
+    words: &'static [u32],
+}
+
+/// The steps of a program's run.
+fn trace_of(alloc: Global, program: &Program) -> Result<Vec<Step>, Fail> {
+    let image = image_of(alloc, program.base, program.size, program.words)?;
+    Ok(trace(alloc, &image, 2000)?)
+}
+
+/// The floors of a program's run for these latencies.
+fn floors_of(alloc: Global, program: &Program, latencies: [u8; 5]) -> Result<[u64; 4], Fail> {
+    let steps = trace_of(alloc, program)?;
+    let config = one_unit_each([1; 6], latencies, 1)?;
+    if steps.len() > 2000 {
+        return Err("a long trace".into());
+    }
+    Ok(floors(alloc, steps.as_slice(), &config)?)
+}
+
+const PRODUCT: Program = Program {
+    base: 0,
+    size: 4096,
+    words: &PRODUCT_WORDS,
+};
+
+const LOOP: Program = Program {
+    base: 0,
+    size: 4096,
+    words: &LOOP_WORDS,
+};
+
+/// `addi x8,x0,256; addi x1,x0,768; mul x3,x1,x1; sw x1,0(x8); lb x2,1(x8); add x4,x3,x2; ebreak`
+const FOLLOWED: Program = Program {
+    base: 0,
+    size: 4096,
+    words: &[
+        0x10000413, 0x30000093, 0x021081b3, 0x00142023, 0x00140103, 0x00218233, 0x00100073,
+    ],
+};
+
+/// Loads and stores of all sizes to the same bytes, some of them across words.
+const ACCESSES: Program = Program {
+    base: 4074479616,
+    size: 65536,
+    words: &[
+        0xf2dc7437, 0x8cc40413, 0x00040493, 0x4c8177b7, 0x2e7d0337, 0x00844003, 0x00448683,
+        0x00049383, 0x00140223, 0x00541023, 0x00848703, 0x00f42023, 0x00042003, 0x01101693,
+        0x00a4a023, 0x00c4d783, 0x00040703, 0x00740623, 0x00541423, 0x00c45283, 0x00341023,
+        0x0004c383, 0x00408533, 0xfeb41fa3, 0x00100073,
+    ],
+};
+
+/// Products whose loads and stores take long.
+const SLOW_MEMORY: Program = Program {
+    base: 65536,
+    size: 172,
+    words: &[
+        0x00010437, 0x05c40413, 0x00d40493, 0x4c4165b7, 0x7ec00693, 0x00140783, 0x02470233,
+        0x007420a3, 0x02742ca3, 0x00d40023, 0x00521693, 0x00244683, 0x0014a783, 0x00000073,
+    ],
+};
+
+/// Multiplications and divisions that depend on one another, with slow branches.
+const QUOTIENTS: Program = Program {
+    base: 4294901760,
+    size: 65536,
+    words: &[
+        0xffff0437, 0x06040413, 0x00a40493, 0xf5c495b7, 0x363706b7, 0x08500093, 0x028035b3,
+        0x0251b1b3, 0x02b29533, 0x02e58633, 0x02e20533, 0x02a586b3, 0x02136733, 0x02b2b6b3,
+        0x00240503, 0x00100073,
+    ],
+};
+
+/// A jump to a register, and accesses between sums.
+const JUMP: Program = Program {
+    base: 0,
+    size: 4096,
+    words: &[
+        0x84010413, 0x00d40493, 0xc4100393, 0x0c400613, 0x9f4982b7, 0x00351313, 0x00600533,
+        0x40f5d693, 0x00c481a3, 0x00c29633, 0x00102793, 0x00d52233, 0x00000f17, 0x014f0f13,
+        0x000f0fe7, 0x0087d693, 0x00100073, 0xfff2f293, 0x000f8067,
+    ],
+};
+
+#[test]
+fn floors_are_those_of_another_implementation(rt: HostRuntime) -> Result<(), Fail> {
+    let alloc = rt.alloc();
+    assert!(rt; floors_of(alloc, &PRODUCT, [1, 3, 1, 1, 1])? == [8, 7, 7, 7]);
+    assert!(rt; floors_of(alloc, &FOLLOWED, [1, 5, 1, 2, 1])? == [12, 11, 11, 11]);
+    assert!(rt; floors_of(alloc, &LOOP, [1, 3, 1, 1, 1])? == [1999; 4]);
+    assert!(rt; floors_of(alloc, &ACCESSES, [1, 3, 5, 1, 2])? == [26, 24, 24, 24]);
+    assert!(rt; floors_of(alloc, &SLOW_MEMORY, [1, 1, 5, 64, 3])? == [200, 199, 199, 199]);
+    assert!(rt; floors_of(alloc, &QUOTIENTS, [1, 2, 3, 1, 64])? == [18, 12, 11, 11]);
+    assert!(rt; floors_of(alloc, &JUMP, [1, 1, 23, 3, 3])? == [28, 21, 19, 18]);
+    Ok(())
+}
+
+#[test]
+fn the_floor_of_no_steps_is_0(rt: HostRuntime) -> Result<(), Fail> {
+    let config = one_unit_each([1; 6], [1; 5], 1)?;
+    let none: Vec<Step> = Vec::new(rt.alloc());
+    assert!(rt; floors(rt.alloc(), none.as_slice(), &config)? == [0; 4]);
+    Ok(())
+}
+
+/// Numbers that look random, by a linear congruence.
+#[derive(Drop)]
+struct Random {
+    state: u32,
+}
+
+impl Random {
+    /// A number below a bound, which isn't 0.
+    fn below(&mut self, bound: u32) -> u32
+        requires { 0 < bound }
+        ensures { result < bound }
+    {
+        self.state = self.state.wrapping_mul(1664525).wrapping_add(1013904223);
+        (self.state >> 8) % bound
+    }
+}
+
+impl Random {
+    /// One of the registers x1 to x7.
+    fn register(&mut self) -> u32
+        ensures { result < 8 }
+    {
+        self.below(7) + 1
+    }
+
+    /// An instruction: a sum, a product, a quotient, a load or a store of 16 bytes, or a branch past the next one.
+    fn word(&mut self) -> u32 {
+        let rd = self.register() * 0x80;
+        let rs1 = self.register() * 0x8000;
+        let rs2 = self.register() * 0x100000;
+        let place = self.below(16);
+        let loaded = (0x400 + place) * 0x100000;
+        let stored = 0x40000000 + place * 0x80;
+        match self.below(9) {
+            0 => 0x00000013 | rd | place * 0x100000,
+            1 => 0x00000033 | rd | rs1 | rs2,
+            2 => 0x02000033 | rd | rs1 | rs2,
+            3 => 0x02004033 | rd | rs1 | rs2,
+            4 => 0x00002003 | rd | loaded,
+            5 => 0x00000003 | rd | loaded,
+            6 => 0x00002023 | stored | rs2,
+            7 => 0x00000023 | stored | rs2,
+            _ => 0x00001463 | rs1 | rs2,
+        }
+    }
+
+    /// The steps of a program of 30 such instructions.
+    fn steps(&mut self, alloc: Global) -> Result<Vec<Step>, Fail> {
+        let mut words = Vec::new(alloc);
+        for _ in 0..30 {
+            words.push(self.word())?;
+        }
+        words.extend_from_slice(&[0x00100073, 0x00100073])?;
+        let image = image_of(alloc, 0, 4096, words.as_slice())?;
+        Ok(trace(alloc, &image, 2000)?)
+    }
+
+    /// A number of parts, or of cycles.
+    fn count(&mut self, most: u32) -> u8
+        requires { (0 < most) × (most < 256) }
+    {
+        (self.below(most) + 1) as u8
+    }
+
+    /// At most two units of the kind, of a latency of at most 8.
+    fn option(&mut self) -> UnitOption {
+        UnitOption {
+            units: self.count(2),
+            latency: self.count(8),
+            price: 0,
+        }
+    }
+
+    /// A configuration of few parts, or of many.
+    fn config(&mut self, most: u32) -> Result<Config, Fail>
+        requires { (0 < most) × (most < 256) }
+    {
+        let mut stations = [1; 6];
+        for pool in 0..6usize {
+            stations[pool] = self.count(most);
+        }
+        let branch = UnitOption {
+            units: 1,
+            latency: self.count(8),
+            price: 0,
+        };
+        let units = [
+            self.option(),
+            self.option(),
+            self.option(),
+            self.option(),
+            branch,
+        ];
+        let buses = self.count(4);
+        let width = self.count(4);
+        config_of(stations, units, buses, width)
+    }
+}
+
+/// True if no floor is below that of the next width.
+fn do_fall(floors: &[u64; 4]) -> bool {
+    floors[0] >= floors[1] && floors[1] >= floors[2] && floors[2] >= floors[3]
+}
+
+/// True if the floor of a width is at most the total, and equal to it if no step waits for a station, a unit or a bus.
+fn bounds(floors: &[u64; 4], width: u8, needs: &Needs) -> bool
+    requires { 1 ≤ width }
+{
+    let floor = floors
+        .get(usize::from(width) - 1)
+        .copied()
+        .unwrap_or(u64::MAX);
+    let waits = Part::ALL.iter().any(|part| {
+        *part != Part::Width && needs.need(*part).stalls > 0
+    });
+    if waits {
+        floor <= needs.total
+    } else {
+        floor == needs.total
+    }
+}
+
+/// Whether the floors of a random program's runs on random configurations are as they should be.
+fn are_floors(alloc: Global, random: &mut Random, most: u32) -> Result<bool, Fail>
+    requires { (0 < most) × (most < 256) }
+{
+    let steps = random.steps(alloc)?;
+    let config = random.config(most)?;
+    if steps.len() > 2000 {
+        return Err("a long trace".into());
+    }
+    let needs = needs(alloc, steps.as_slice(), &config)?;
+    let floors = floors(alloc, steps.as_slice(), &config)?;
+    Ok(do_fall(&floors) && bounds(&floors, config.width(), &needs))
+}
+
+#[test]
+fn no_random_machine_is_faster(rt: HostRuntime) -> Result<(), Fail> {
+    let mut random = Random { state: 1 };
+    for _ in 0..60 {
+        assert!(rt; are_floors(rt.alloc(), &mut random, 3)?);
+        assert!(rt; are_floors(rt.alloc(), &mut random, 16)?);
+    }
+    Ok(())
+}
+
+/// Evaluates the floors of a program with accesses.
+#[derive(Clone, Copy)]
+struct Evaluation<'a> {
+    steps: &'a [Step],
+    config: Config,
+}
+
+impl<'a> Attempt for Evaluation<'a> {
+    fn attempt(&self, heap: Heap) -> Result<Try, AllocError> {
+        if self.steps.len() > 2000 {
+            return Ok(Try::Wrong);
+        }
+        let floors = floors(heap, self.steps, &self.config);
+        let is_right = floors.map(|floors| floors == [26, 24, 24, 24]);
+        Ok(is_right.map_or(Try::Refused, Try::right_if))
+    }
+}
+
+#[test]
+fn memory_is_refused(rt: HostRuntime) -> Result<(), Fail> {
+    let steps = trace_of(rt.alloc(), &ACCESSES)?;
+    let evaluation = Evaluation {
+        steps: steps.as_slice(),
+        config: one_unit_each([1; 6], [1, 3, 5, 1, 2], 1)?,
+    };
+    assert!(rt; refusals(rt.alloc(), &evaluation)? > Some(0));
+    Ok(())
+}
