@@ -1,0 +1,5 @@
+-- Lemmas of the crate.
+pub mod Tables
+pub mod Rising
+pub mod Best
+pub mod Swept
