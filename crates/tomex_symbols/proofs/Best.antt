@@ -1,11 +1,11 @@
 -- The symbol that goes before all others, among lists and their parts.
 use Rattle.std.proofs.Common.{◌≡◌, ◌≢◌, ℕ, ◌<◌, ◌⊎◌, ⊎_elim, inl, inr, arith, refl, sym, ap, subst, ◌∙◌}
 use Rattle.std.proofs.Common.{Bool, true, false, cond, not, ◌&&◌, ◌==◌, nat_eq, nat_le, List, [], ◌∷◌, ◌++◌, length, get_or, All}
-use Rattle.std.proofs.Common.{Option, Some, None}
+use Rattle.std.proofs.Common.{Option, Some, None, ◌+◌, map, take}
 use Rattle.std.specs.List.{Contains}
 use Rattle.std.specs.List.Sorted.{IsPermutation}
 use Rattle.std.proofs.lemmas.Bool.{cases_Bool, cases_eq, cases_order, eq-eqb, ne_eqb, true≢false}
-use Rattle.std.proofs.lemmas.List.{get_or_default}
+use Rattle.std.proofs.lemmas.List.{get_or_default, map-append, take_more}
 use Rattle.std.proofs.lemmas.List.Elements.{All-contains, Contains-append_cases, Contains-append_left}
 use Rattle.std.proofs.lemmas.List.Elements.{Contains-append_right, Contains-push, Contains-push_cases}
 use Rattle.std.proofs.lemmas.List.Sorted.{Contains-permutation, IsPermutation-sym, list_any-IsPermutation}
@@ -196,3 +196,13 @@ function_moved ss ts pc n m =
     ∙ best_same (reaches ts pc) (reaches ss pc) ss
     (λ s. ap (λ (b : Bool). nat_eq s.size 0 && nat_le s.address pc && not b)
     (sym (list_any-IsPermutation (λ t. begins_after s.address pc t) ss ts m))))
+
+-- the function of one address more
+pub functions_more : (ss ts : List Symbol) (xs : List ℕ) (i : ℕ) (os : List (Option Symbol)) (o : Option Symbol)
+    → AreNumbered ts → IsPermutation ss ts → i < length xs → os ≡ map (function_at ss) (take i xs)
+    → o ≡ function_at ts (get_or xs i 0) → os ++ o ∷ [] ≡ map (function_at ss) (take (i + 1) xs)
+functions_more ss ts xs i os o n m l e f =
+    ap (λ (z : Option Symbol). os ++ z ∷ []) (f ∙ function_moved ss ts (get_or xs i 0) n m)
+    ∙ (ap (λ (z : List (Option Symbol)). z ++ function_at ss (get_or xs i 0) ∷ []) e
+    ∙ (sym (map-append (function_at ss) (take i xs) (get_or xs i 0 ∷ []))
+    ∙ ap (map (function_at ss)) (sym (take_more xs i 0 l))))

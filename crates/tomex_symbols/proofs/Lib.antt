@@ -3,3 +3,4 @@ pub mod Tables
 pub mod Rising
 pub mod Best
 pub mod Swept
+pub mod Rows
