@@ -1,5 +1,6 @@
 -- Lemmas of the crate.
 pub mod Tables
+pub mod Strings
 pub mod Rising
 pub mod Best
 pub mod Swept

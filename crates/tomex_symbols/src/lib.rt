@@ -2,6 +2,7 @@
 #![tactic(auto)]
 
 mod functions;
+mod naming;
 mod order;
 mod reading;
 mod sections;
@@ -10,5 +11,6 @@ mod symbol;
 mod words;
 
 pub use functions::functions_at;
+pub use naming::name_of;
 pub use reading::symbols;
 pub use symbol::{Binding, Kind, Symbol};

@@ -3,7 +3,7 @@
 use std::alloc::Global;
 use std::process::Abort;
 use std::test::Fail;
-use tomex_symbols::{Binding, Kind, Symbol, symbols};
+use tomex_symbols::{Binding, Kind, Symbol, name_of, symbols};
 
 /// An executable of 44 bytes of code, linked by other means: the functions `_start`, `work` and `last`. Its names begin at
 /// 128, its symbols at 148, its five section headers at 212.
@@ -79,6 +79,21 @@ fn whole_file(rt: HostRuntime) -> Result<(), Fail> {
         function(3, 0x1020, 12, Binding::Other, 141),
     ];
     assert!(rt; found.as_slice() == known.as_slice());
+    Ok(())
+}
+
+#[test]
+fn names(rt: HostRuntime) -> Result<(), Fail> {
+    let bytes = WHOLE.as_slice();
+    let start = function(1, 0x1000, 16, Binding::Global, 129);
+    assert!(rt; name_of(bytes, &start, 257) == b"_start");
+    assert!(rt; name_of(bytes, &start, 6) == b"_start");
+    assert!(rt; name_of(bytes, &start, 2) == b"_s");
+    // names that overlap, that end where the names end, and of another file
+    assert!(rt; name_of(bytes, &Symbol { name: 131, ..start }, 257) == b"tart");
+    assert!(rt; name_of(bytes, &Symbol { names_end: 132, ..start }, 257) == b"_st");
+    assert!(rt; name_of(&bytes[..130], &start, 257) == b"_");
+    assert!(rt; name_of(&bytes[..84], &start, 257) == b"");
     Ok(())
 }
 
