@@ -1,0 +1,24 @@
+-- One address more.
+use Rattle.std.proofs.Common.{◌+◌, ◌∙◌, arith, get_or}
+use Rattle.tomex_symbols.proofs.Best.{functions_more, numbered_moved}
+use Rattle.tomex_symbols.proofs.Swept.{swept_later}
+use Rattle.tomex_symbols.proofs.functions.functions_at.Goals as goal
+
+pub function_at-requires-clause-numbered : goal.function_at-requires-clause-numbered
+function_at-requires-clause-numbered g c =
+    rw c.as_slice.ensures.value
+    (numbered_moved c.args.symbols.items c.sort_symbols.new.symbols.items c.requires.numbered c.sort_symbols.ensures.moved)
+
+pub loop-pc-preserved : goal.loop-pc-preserved
+loop-pc-preserved g c = record {
+  swept = λ l. swept_later _ _ _ _ _ _ (get_or c.args.addresses.now (c.loop-pc.pc-index + 1) 0)
+      (rw c.as_slice.ensures.value at c.in_ok-function_at.ensures.swept)
+      (c.requires.rise c.loop-pc.pc-index (c.loop-pc.pc-index + 1) 0 (omega arith) l);
+  items = c.in_ok-push.ensures.items
+      ∙ functions_more c.args.symbols.items c.sort_symbols.new.symbols.items c.args.addresses.now c.loop-pc.pc-index
+      c.loop-pc.functions.items c.in_ok-function_at.field-0
+      (numbered_moved c.args.symbols.items c.sort_symbols.new.symbols.items c.requires.numbered
+      c.sort_symbols.ensures.moved)
+      c.sort_symbols.ensures.moved c.loop-pc-test.true c.loop-pc.invariant.items
+      (rw c.as_slice.ensures.value at c.in_ok-function_at.ensures.value);
+}

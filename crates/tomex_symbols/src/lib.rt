@@ -1,0 +1,16 @@
+//! The symbols of an ELF file, and which of them has an address: the function of a pc.
+#![tactic(auto)]
+
+mod functions;
+mod naming;
+mod order;
+mod reading;
+mod sections;
+mod sweep;
+mod symbol;
+mod words;
+
+pub use functions::functions_at;
+pub use naming::name_of;
+pub use reading::symbols;
+pub use symbol::{Binding, Kind, Symbol};

@@ -1,0 +1,166 @@
+//! A file with three functions, and the same with bytes of its tables changed.
+
+use std::alloc::Global;
+use std::process::Abort;
+use std::test::Fail;
+use tomex_symbols::{Binding, Kind, Symbol, name_of, symbols};
+
+/// An executable of 44 bytes of code, linked by other means: the functions `_start`, `work` and `last`. Its names begin at
+/// 128, its symbols at 148, its five section headers at 212.
+pub const WHOLE: &[u8; 412] = b"\x7f\x45\x4c\x46\x01\x01\x01\x00\x00\x00\x00\x00\x00\x00\x00\x00\
+      \x02\x00\xf3\x00\x01\x00\x00\x00\x00\x10\x00\x00\x34\x00\x00\x00\
+      \xd4\x00\x00\x00\x00\x00\x00\x00\x34\x00\x20\x00\x01\x00\x28\x00\
+      \x05\x00\x00\x00\x01\x00\x00\x00\x54\x00\x00\x00\x00\x10\x00\x00\
+      \x00\x10\x00\x00\x2c\x00\x00\x00\x2c\x00\x00\x00\x05\x00\x00\x00\
+      \x04\x00\x00\x00\x13\x04\x30\x00\xef\x00\xc0\x00\xef\x00\x80\x01\
+      \x73\x00\x10\x00\x13\x05\x35\x00\xb3\x05\xa5\x02\x63\x92\x05\x00\
+      \x67\x80\x00\x00\x13\x04\xf4\xff\xe3\x1e\x04\xfe\x67\x80\x00\x00\
+      \x00\x5f\x73\x74\x61\x72\x74\x00\x77\x6f\x72\x6b\x00\x6c\x61\x73\
+      \x74\x00\x00\x00\x00\x00\x00\x00\x00\x00\x00\x00\x00\x00\x00\x00\
+      \x00\x00\x00\x00\x01\x00\x00\x00\x00\x10\x00\x00\x10\x00\x00\x00\
+      \x12\x00\x01\x00\x08\x00\x00\x00\x10\x10\x00\x00\x10\x00\x00\x00\
+      \x12\x00\x01\x00\x0d\x00\x00\x00\x20\x10\x00\x00\x0c\x00\x00\x00\
+      \x02\x00\x01\x00\x00\x00\x00\x00\x00\x00\x00\x00\x00\x00\x00\x00\
+      \x00\x00\x00\x00\x00\x00\x00\x00\x00\x00\x00\x00\x00\x00\x00\x00\
+      \x00\x00\x00\x00\x00\x00\x00\x00\x00\x00\x00\x00\x01\x00\x00\x00\
+      \x01\x00\x00\x00\x06\x00\x00\x00\x00\x00\x00\x00\x00\x00\x00\x00\
+      \x00\x00\x00\x00\x00\x00\x00\x00\x00\x00\x00\x00\x04\x00\x00\x00\
+      \x00\x00\x00\x00\x02\x00\x00\x00\x01\x00\x00\x00\x03\x00\x00\x00\
+      \x00\x00\x00\x00\x00\x00\x00\x00\x00\x00\x00\x00\x00\x00\x00\x00\
+      \x00\x00\x00\x00\x04\x00\x00\x00\x00\x00\x00\x00\x03\x00\x00\x00\
+      \x03\x00\x00\x00\x00\x00\x00\x00\x00\x00\x00\x00\x80\x00\x00\x00\
+      \x12\x00\x00\x00\x00\x00\x00\x00\x00\x00\x00\x00\x01\x00\x00\x00\
+      \x00\x00\x00\x00\x04\x00\x00\x00\x02\x00\x00\x00\x00\x00\x00\x00\
+      \x00\x00\x00\x00\x94\x00\x00\x00\x40\x00\x00\x00\x03\x00\x00\x00\
+      \x01\x00\x00\x00\x04\x00\x00\x00\x10\x00\x00\x00";
+
+/// How many symbols the file has with these bytes, at their places, changed.
+fn count_of(alloc: Global, changes: &[(usize, u8)]) -> Result<usize, Fail> {
+    let mut bytes = Vec::from_slice(alloc, WHOLE.as_slice())?;
+    for (place, byte) in changes {
+        match bytes.get_mut(*place) {
+            Some(old) => *old = *byte,
+            None => return Err("no such place")?,
+        }
+    }
+    Ok(symbols(alloc, bytes.as_slice())?.len())
+}
+
+/// The file has so many symbols if these bytes are changed.
+fn counts<R: Abort + AllocGlobal>(
+    rt: &R,
+    changes: &[(usize, u8)],
+    count: usize,
+) -> Result<(), Fail> {
+    let found = count_of(rt.alloc(), changes)?;
+    assert!(rt; found == count, "{found} and not {count}");
+    Ok(())
+}
+
+/// A function of the file.
+fn function(number: u32, address: u32, size: u32, binding: Binding, name: usize) -> Symbol {
+    Symbol {
+        number,
+        address,
+        size,
+        kind: Kind::Function,
+        binding,
+        name,
+        names_end: 146,
+    }
+}
+
+#[test]
+fn whole_file(rt: HostRuntime) -> Result<(), Fail> {
+    let found = symbols(rt.alloc(), WHOLE.as_slice())?;
+    let known = [
+        function(1, 0x1000, 16, Binding::Global, 129),
+        function(2, 0x1010, 16, Binding::Global, 136),
+        function(3, 0x1020, 12, Binding::Other, 141),
+    ];
+    assert!(rt; found.as_slice() == known.as_slice());
+    Ok(())
+}
+
+#[test]
+fn names(rt: HostRuntime) -> Result<(), Fail> {
+    let bytes = WHOLE.as_slice();
+    let start = function(1, 0x1000, 16, Binding::Global, 129);
+    assert!(rt; name_of(bytes, &start, 257) == b"_start");
+    assert!(rt; name_of(bytes, &start, 6) == b"_start");
+    assert!(rt; name_of(bytes, &start, 2) == b"_s");
+    // names that overlap, that end where the names end, and of another file
+    assert!(rt; name_of(bytes, &Symbol { name: 131, ..start }, 257) == b"tart");
+    assert!(rt; name_of(bytes, &Symbol { names_end: 132, ..start }, 257) == b"_st");
+    assert!(rt; name_of(&bytes[..130], &start, 257) == b"_");
+    assert!(rt; name_of(&bytes[..84], &start, 257) == b"");
+    Ok(())
+}
+
+#[test]
+fn flat_file(rt: HostRuntime) -> Result<(), Fail> {
+    assert!(rt; symbols(rt.alloc(), &WHOLE.as_slice()[84..])?.is_empty());
+    assert!(rt; symbols(rt.alloc(), &[])?.is_empty());
+    Ok(())
+}
+
+#[test]
+fn every_beginning(rt: HostRuntime) -> Result<(), Fail> {
+    for length in 0..WHOLE.len() {
+        assert!(rt; symbols(rt.alloc(), &WHOLE.as_slice()[..length])?.is_empty());
+    }
+    Ok(())
+}
+
+#[test]
+fn section_headers(rt: HostRuntime) -> Result<(), Fail> {
+    // of another size; more than the file has; beyond its end
+    counts(&rt, &[(46, 41)], 0)?;
+    counts(&rt, &[(48, 6)], 0)?;
+    counts(&rt, &[(32, 0xff), (33, 0xff), (34, 0xff), (35, 0xff)], 0)?;
+    // the symbol table isn't one of them
+    counts(&rt, &[(48, 4)], 0)
+}
+
+#[test]
+fn symbol_tables(rt: HostRuntime) -> Result<(), Fail> {
+    // the table of a dynamic linker, entries of another size, a part of an entry
+    counts(&rt, &[(376, 11)], 0)?;
+    counts(&rt, &[(408, 24)], 0)?;
+    counts(&rt, &[(392, 63)], 2)?;
+    // outside of the file, also if the sum of offset and size wrapped
+    counts(&rt, &[(393, 1)], 0)?;
+    counts(&rt, &[(388, 0xf0), (389, 0xff), (390, 0xff), (391, 0xff)], 0)?;
+    // a second table after the first one, and before it
+    counts(&rt, &[(296, 2)], 0)?;
+    counts(&rt, &[(336, 2)], 0)
+}
+
+#[test]
+fn tables_of_names(rt: HostRuntime) -> Result<(), Fail> {
+    // in no section, in one of code, outside of the file, cut in a name, and before one
+    counts(&rt, &[(396, 5)], 0)?;
+    counts(&rt, &[(396, 1)], 0)?;
+    counts(&rt, &[(353, 2)], 0)?;
+    counts(&rt, &[(352, 14)], 3)?;
+    counts(&rt, &[(352, 13)], 2)
+}
+
+#[test]
+fn kinds_of_symbols(rt: HostRuntime) -> Result<(), Fail> {
+    // an undefined function, an object, an indirect function, one without a name
+    counts(&rt, &[(178, 0)], 2)?;
+    counts(&rt, &[(176, 0x11)], 2)?;
+    counts(&rt, &[(176, 0x1a)], 2)?;
+    counts(&rt, &[(164, 0)], 2)?;
+    // labels: in code, in data, in no section
+    counts(&rt, &[(176, 0x10)], 3)?;
+    counts(&rt, &[(176, 0x10), (178, 2)], 2)?;
+    counts(&rt, &[(176, 0x10), (178, 0)], 2)?;
+    counts(&rt, &[(176, 0x10), (178, 5)], 2)?;
+    // names that are not for people, of labels and of functions
+    counts(&rt, &[(176, 0x10), (129, b'$')], 2)?;
+    counts(&rt, &[(176, 0x10), (129, b'.'), (130, b'L')], 2)?;
+    counts(&rt, &[(176, 0x10), (129, b'.'), (130, b'l')], 3)?;
+    counts(&rt, &[(129, b'.'), (130, b'L')], 3)
+}

@@ -1,0 +1,10 @@
+//! Tests of the symbols of files, and of the functions of addresses: with a file made by other means, spoiled byte by byte,
+//! and with memory refused.
+#![tactic(auto)]
+
+#[cfg(test)]
+mod files;
+#[cfg(test)]
+mod functions;
+#[cfg(test)]
+mod refused_memory;
