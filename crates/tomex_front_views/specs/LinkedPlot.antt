@@ -1,5 +1,5 @@
--- The picture of a study's front over all of its rows, in a page that has a view for each of some rows: their circles
--- are links to these.
+-- The picture of a study's front over all of its rows, in a page whose views are rows: the circles of these rows are links
+-- to them.
 -- Source: the HTML Living Standard, 4.8.16 (SVG in HTML); Scalable Vector Graphics 1.1, section 17.1 (links).
 use Rattle.std.specs.Prelude.{ℕ, ◌==◌, Bool, if◌then◌else◌, List, ◌++◌, codes, length, None}
 use Rattle.std.specs.Fmt.{decimal}
