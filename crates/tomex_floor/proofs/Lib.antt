@@ -3,3 +3,4 @@ pub mod Above
 pub mod Reached
 pub mod Touching
 pub mod Turns
+mod Rows
