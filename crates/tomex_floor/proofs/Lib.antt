@@ -1,5 +1,6 @@
 -- Lemmas of this crate.
 pub mod Above
+pub mod Falling
 pub mod Reached
 pub mod Touching
 pub mod Turns

@@ -26,7 +26,8 @@ use Rattle.tomex_timing.specs.Recurrence.{are_branches_finished, can_address, ca
 use Rattle.tomex_timing.specs.Search.{station_at}
 use Rattle.tomex_timing.specs.Station.{has_station, is_held}
 use Rattle.tomex_timing.proofs.Bound.{end_low}
-use Rattle.tomex_floor.proofs.Above.{AreInOrder, address_low, from_issue, in_order, issue_above, issue_next, start_above}
+use Rattle.tomex_floor.proofs.Above.{AreInOrder, address_low, in_order, issue_above, start_above}
+use Rattle.tomex_floor.proofs.Falling.{from_issue, issue_next}
 use Rattle.tomex_timing.proofs.Search.{station_is}
 
 -- the floor's times with the least free stations
@@ -235,7 +236,7 @@ reached_timed latency w n (s ∷ steps) some room =
       rest,
     )
 
--- and they are the floor's but for the stations
+-- and they are the floor's, except for the stations
 
 finish_without : (p : Step → Bool) (h : List Done) → last_finish p (all_without_station h) ≡ last_finish p h
 finish_without p [] = refl

@@ -151,6 +151,10 @@ AreTouched h m = (n b : ℕ) → n < 4 → touched_from n m b ≡ touched_in (h 
 abbrev pub below : (from to t : ℕ) → ℕ
 below from to t = min to (max from t)
 
+-- what an access to these bytes waits for at those below a byte
+abbrev pub conflict_below : ByteRange → ℕ → Bool → List Done → ℕ
+conflict_below r t store h = last_finish (shares_some r.from (below r.from r.to t) store) h
+
 -- what was touched after an access to the bytes from one up to another
 abbrev pub touched_after : (from to : ℕ) → Bool → ℕ → ℕ → Touched → Touched
 touched_after from to store finish b t =
