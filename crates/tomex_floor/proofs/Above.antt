@@ -5,7 +5,8 @@ use Rattle.std.proofs.Common.{max, inl, inr, List, [], ◌∷◌, Option, Some, 
 use Rattle.std.specs.Prelude.{nat_lt, nat_le, ◌==◌, ◌||◌, not, count_by, is_some, if◌then◌else◌, MatchOption}
 use Rattle.std.specs.Bool.{MatchBool}
 use Rattle.std.specs.List.{list_all}
-use Rattle.std.proofs.lemmas.Bool.{cases_Bool, and_parts, ltb-true, ltb-false, eq-eqb, MatchBool-at_true, MatchBool-at_false}
+use Rattle.std.proofs.lemmas.Bool.{cases_Bool, and_parts, ltb-true, ltb-false, eq-eqb, MatchBool-at_true}
+use Rattle.std.proofs.lemmas.Bool.{MatchBool-at_false}
 use Rattle.std.proofs.lemmas.List.Sums.{sum_by-cons}
 use Rattle.tomex_rvdec.specs.declared.pool.UnitId.{UnitId}
 use Rattle.tomex_steps.specs.Steps.{step_unit, step_dest, j_of, k_of, is_branch, is_number}
@@ -22,7 +23,8 @@ use Rattle.tomex_timing.specs.History.{greatest_end}
 use Rattle.tomex_floor.specs.Laws.{AreNoFaster, FloorIsBound, FloorsAreNoLater}
 use Rattle.tomex_timing.specs.Needs.{peak}
 use Rattle.tomex_timing.specs.Recurrence.{IsLeast, IsTimed, AreTimed, EndsAfter, can_issue, can_issue_another}
-use Rattle.tomex_timing.specs.Recurrence.{are_branches_finished, can_address, can_start, can_end, conflicts, has_operands}
+use Rattle.tomex_timing.specs.Recurrence.{are_branches_finished, can_address, can_start, can_end, conflicts}
+use Rattle.tomex_timing.specs.Recurrence.{has_operands}
 use Rattle.tomex_timing.specs.Recurrence.{are_conflicts_finished}
 use Rattle.tomex_timing.specs.Search.{history, timed_of}
 use Rattle.tomex_timing.proofs.Bound.{end_low, start_low}
@@ -48,7 +50,8 @@ steps_of h = map (λ d. d.step) h
 -- each function of what is older rises with it
 
 finish_rises : (p : Step → Bool) (latency : UnitId → ℕ) (w : ℕ) (h : List Done)
-    → AreNoLater (floors_of latency w (steps_of h)) h → last_finish p (floors_of latency w (steps_of h)) ≤ last_finish p h
+    → AreNoLater (floors_of latency w (steps_of h)) h → last_finish p (floors_of latency w
+    (steps_of h)) ≤ last_finish p h
 finish_rises p latency w [] l = omega arith
 finish_rises p latency w (d ∷ h) l =
     let rest = finish_rises p latency w h l.1 in
@@ -109,7 +112,8 @@ step_above : (latency : UnitId → ℕ) (w : ℕ) (h : List Done) (s : Step) (at
     → MatchOption unit (at.issue ≤ at.start) (λ u. floor_start h s at.issue (cycle_of at.address) ≤ at.start)
     → MatchOption unit (at.issue ≤ at.finish) (λ u. at.start + latency u - 1 ≤ at.finish)
     → MatchOption unit (at.issue ≤ at.end) (λ u. floor_end s at.finish ≤ at.end)
-    → IsNoLater (floor_from latency (floors_of latency w (steps_of h)) s (floor_issue w (floors_of latency w (steps_of h)))
+    → IsNoLater (floor_from latency (floors_of latency w (steps_of h)) s (floor_issue w (floors_of latency w
+    (steps_of h)))
     (floor_address (floors_of latency w (steps_of h)) s (floor_issue w (floors_of latency w (steps_of h)))) unit) at
 step_above latency w h s at unit l issue address start finish end =
     let b = finish_rises is_branch latency w h l in
@@ -118,7 +122,8 @@ step_above latency w h s at unit l issue address start finish end =
     let j = source_rises latency w h (j_of s) l in
     let k = source_rises latency w h (k_of s) l in
     let c = finish_rises (λ x. conflicts x s) latency w h l in
-    let m = address_step (floors_of latency w (steps_of h)) h s (floor_issue w (floors_of latency w (steps_of h))) at.issue
+    let m = address_step (floors_of latency w (steps_of h)) h s (floor_issue w (floors_of latency w
+    (steps_of h))) at.issue
     i j (address_rises latency w h l) in
     by_unit unit (floors_of latency w (steps_of h)) (floor_issue w (floors_of latency w (steps_of h)))
     (floor_address (floors_of latency w (steps_of h)) s (floor_issue w (floors_of latency w (steps_of h)))) i

@@ -67,7 +67,8 @@ floors_above latency slower w narrower [] slow narrow = tt
 floors_above latency slower w narrower (s ∷ xs) slow narrow =
     let k = back_fall (floors_of slower narrower xs) (narrower - 1) (w - 1) (floors_in_order slower narrower xs)
     (omega arith) in (
-      floor_above latency slower w (floors_of slower narrower xs) s (floor_issue narrower (floors_of slower narrower xs))
+      floor_above latency slower w (floors_of slower narrower xs) s (floor_issue narrower
+          (floors_of slower narrower xs))
           (step_unit s) refl slow (omega (arith, k)),
       floors_above latency slower w narrower xs slow narrow,
     )

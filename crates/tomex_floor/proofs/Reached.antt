@@ -167,7 +167,8 @@ start_least latency w n older s u issue address room =
     let j = lt-ltb (source_end older (j_of s)) (floor_start older s issue address) (omega arith) in
     let k = lt-ltb (source_end older (k_of s)) (floor_start older s issue address) (omega arith) in
     let c = finished_all (λ x. conflicts x s) older (floor_start older s issue address) (omega arith) in
-    let left = fewer (λ d. is_of u (step_unit d.step) && d.at.start == floor_start older s issue address) older n room in
+    let left = fewer (λ d. is_of u (step_unit d.step) && d.at.start == floor_start older s issue address) older
+    n room in
     least_from (can_start (unlimited latency w n) older s u issue address) (floor_start older s issue address)
     (and_from _ _ (and_from _ _ (and_from _ _ (and_from _ _
     (lt-ltb issue (floor_start older s issue address) (omega arith))
@@ -212,7 +213,8 @@ step_is latency w n older s (Some u) e some room timed after = record {
       (station_left latency w n older (step_pool s) (floor_issue w older) room);
 }
 
-length_reached : (latency : UnitId → ℕ) (w n : ℕ) (steps : List Step) → length (reached latency w n steps) ≡ length steps
+length_reached : (latency : UnitId → ℕ) (w n : ℕ) (steps : List Step)
+    → length (reached latency w n steps) ≡ length steps
 length_reached latency w n [] = refl
 length_reached latency w n (s ∷ steps) = ap suc (length_reached latency w n steps)
 

@@ -1,5 +1,6 @@
 -- What an access waits for, byte by byte.
-use Rattle.std.proofs.Common.{ℕ, ◌+◌, ◌<◌, ◌≤◌, ◌≡◌, ◌∙◌, ◌⊎◌, Bool, true, false, arith, refl, ap, sym, inl, inr, List, [], ◌∷◌}
+use Rattle.std.proofs.Common.{ℕ, ◌+◌, ◌<◌, ◌≤◌, ◌≡◌, ◌∙◌, ◌⊎◌, Bool, true, false, arith, refl, ap, sym, inl, inr}
+use Rattle.std.proofs.Common.{List, [], ◌∷◌}
 use Rattle.std.proofs.Common.{Option, Some, None, max}
 use Rattle.std.specs.Prelude.{◌*◌, ◌/◌, ◌%◌, unwrap_or, nat_lt, nat_le, nat_eq, ◌&&◌, ◌||◌, if◌then◌else◌}
 use Rattle.std.proofs.lemmas.Bool.{cases_Bool, leb-false, leb-true, ltb-false, ltb-true}
@@ -98,7 +99,8 @@ waited_is : (b : ℕ) (store : Bool) (h : List Done)
     → waited_for store (touched_in h b) ≡ last_finish (at_byte b store) h
 waited_is b true h =
     finish_same (λ x. has_byte b (bytes_of x)) (at_byte b true)
-    (λ x. sym (ap (λ (t : Bool). has_byte b (bytes_of x) && t) (or_true (is_store x)) ∙ and_true (has_byte b (bytes_of x))))
+    (λ x. sym (ap (λ (t : Bool). has_byte b (bytes_of x) && t) (or_true (is_store x))
+    ∙ and_true (has_byte b (bytes_of x))))
     h
 waited_is b false h =
     finish_same (λ x. has_byte b (bytes_of x) && is_store x) (at_byte b false)

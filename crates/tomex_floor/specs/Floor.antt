@@ -1,7 +1,8 @@
 -- The floor of a run: its times if nothing ever waits for a station, a unit or a bus. Each is one more than the
 -- greatest of finitely many older ones, so no machine with these latencies and this width is faster.
 -- Sources: those of the recurrence, whose words it uses. That it is a bound, and the greatest one, is this project's.
-use Rattle.std.specs.Prelude.{ℕ, zero, suc, ◌+◌, ◌-◌, ◌≤◌, Bool, false, IsTrue, if◌then◌else◌, List, [], ◌∷◌, Option, Some}
+use Rattle.std.specs.Prelude.{ℕ, zero, suc, ◌+◌, ◌-◌, ◌≤◌, Bool, false, IsTrue, if◌then◌else◌, List, [], ◌∷◌}
+use Rattle.std.specs.Prelude.{Option, Some}
 use Rattle.std.specs.Prelude.{None, is_some, map, max, reverse}
 use Rattle.tomex_rvdec.specs.declared.pool.UnitId.{UnitId}
 use Rattle.tomex_rvdec.specs.declared.pool.UnitId.TheVariants.{Alu, Mul, Div, Mem, Bru}

@@ -1,7 +1,9 @@
 -- What the evaluator keeps of the steps so far, for each issue width: what is latest, and when each byte of memory was
 -- last accessed.
-use Rattle.std.specs.Prelude.{ℕ, ◌+◌, ◌/◌, ◌%◌, ◌^◌, ◌<◌, ◌≤◌, ◌≡◌, nat_lt, nat_le, Bool, false, ◌&&◌, ◌||◌, if◌then◌else◌}
-use Rattle.std.specs.Prelude.{min, max, List, [], ◌∷◌, Option, Some, None, nat_eq, replicate, slice_index, slice_index_or}
+use Rattle.std.specs.Prelude.{ℕ, ◌+◌, ◌/◌, ◌%◌, ◌^◌, ◌<◌, ◌≤◌, ◌≡◌, nat_lt, nat_le, Bool, false, ◌&&◌, ◌||◌}
+use Rattle.std.specs.Prelude.{if◌then◌else◌}
+use Rattle.std.specs.Prelude.{min, max, List, [], ◌∷◌, Option, Some, None, nat_eq, replicate, slice_index}
+use Rattle.std.specs.Prelude.{slice_index_or}
 use Rattle.std.specs.Prelude.{length, unwrap_or, IfSome}
 use Rattle.std.specs.HashMap.{HashMap, get}
 use Rattle.tomex_rvdec.specs.declared.pool.UnitId.{UnitId}
