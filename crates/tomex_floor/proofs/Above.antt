@@ -1,11 +1,12 @@
--- Times that stand above the floor's equations, each over its own history, stand above the floor: those of a
--- configuration do, and those of a floor of longer latencies or a smaller width.
+-- Times that are above the floor's equations, each over its own history, are above the floor: those of a
+-- configuration are.
 use Rattle.std.proofs.Common.{ℕ, zero, suc, ◌+◌, ◌-◌, ◌<◌, ◌≤◌, ◌≡◌, ◌⊎◌, Bool, true, false, arith, refl, ap}
 use Rattle.std.proofs.Common.{max, inl, inr, List, [], ◌∷◌, Option, Some, None, map, reverse}
 use Rattle.std.specs.Prelude.{nat_lt, nat_le, ◌==◌, ◌||◌, not, count_by, is_some, if◌then◌else◌, MatchOption}
 use Rattle.std.specs.Bool.{MatchBool}
 use Rattle.std.specs.List.{list_all}
-use Rattle.std.proofs.lemmas.Bool.{cases_Bool, and_parts, ltb-true, ltb-false, eq-eqb, MatchBool-at_true, MatchBool-at_false}
+use Rattle.std.proofs.lemmas.Bool.{cases_Bool, and_parts, ltb-true, ltb-false, eq-eqb, MatchBool-at_true}
+use Rattle.std.proofs.lemmas.Bool.{MatchBool-at_false}
 use Rattle.std.proofs.lemmas.List.Sums.{sum_by-cons}
 use Rattle.tomex_rvdec.specs.declared.pool.UnitId.{UnitId}
 use Rattle.tomex_steps.specs.Steps.{step_unit, step_dest, j_of, k_of, is_branch, is_number}
@@ -16,13 +17,14 @@ use Rattle.tomex_timing.specs.declared.part.Part.TheVariants.{Units}
 use Rattle.tomex_timing.specs.declared.times.Done.{Done}
 use Rattle.tomex_timing.specs.declared.times.Times.{Times}
 use Rattle.tomex_floor.specs.Floor.{AreNoLater, IsNoLater, floor_address, floor_end, floor_from, floor_issue, floor_of}
-use Rattle.tomex_floor.specs.Floor.{floor_start, floor_times, floors_of, issue_back, last_finish}
+use Rattle.tomex_floor.specs.Floor.{floor_start, floors_of, issue_back, last_finish}
 use Rattle.tomex_timing.specs.History.{is_of, is_memory, cycle_of, writer_end, source_end, last_issue, last_address}
 use Rattle.tomex_timing.specs.History.{greatest_end}
-use Rattle.tomex_floor.specs.Laws.{AreNoFaster, FloorIsBound, FloorsAreNoLater, FloorsFall}
+use Rattle.tomex_floor.specs.Laws.{AreNoFaster, FloorIsBound, FloorsAreNoLater}
 use Rattle.tomex_timing.specs.Needs.{peak}
 use Rattle.tomex_timing.specs.Recurrence.{IsLeast, IsTimed, AreTimed, EndsAfter, can_issue, can_issue_another}
-use Rattle.tomex_timing.specs.Recurrence.{are_branches_finished, can_address, can_start, can_end, conflicts, has_operands}
+use Rattle.tomex_timing.specs.Recurrence.{are_branches_finished, can_address, can_start, can_end, conflicts}
+use Rattle.tomex_timing.specs.Recurrence.{has_operands}
 use Rattle.tomex_timing.specs.Recurrence.{are_conflicts_finished}
 use Rattle.tomex_timing.specs.Search.{history, timed_of}
 use Rattle.tomex_timing.proofs.Bound.{end_low, start_low}
@@ -30,25 +32,26 @@ use Rattle.tomex_timing.proofs.Histories.{are_timed, total_is}
 use Rattle.tomex_timing.proofs.Width.{issue_from}
 
 -- a step's times are at least what the floor's equations say over its own history
-record IsAbove (latency : UnitId → ℕ) (w : ℕ) (older : List Done) (s : Step) (at : Times) : Type 0 where
-  issue : floor_issue w older ≤ at.issue
-  address : cycle_of (floor_address older s at.issue) ≤ cycle_of at.address
-  start : MatchOption (step_unit s) (at.issue ≤ at.start)
+pub record IsAbove (latency : UnitId → ℕ) (w : ℕ) (older : List Done) (s : Step) (at : Times) : Type 0 where
+  pub issue : floor_issue w older ≤ at.issue
+  pub address : cycle_of (floor_address older s at.issue) ≤ cycle_of at.address
+  pub start : MatchOption (step_unit s) (at.issue ≤ at.start)
       (λ u. floor_start older s at.issue (cycle_of at.address) ≤ at.start)
-  finish : MatchOption (step_unit s) (at.issue ≤ at.finish) (λ u. at.start + latency u - 1 ≤ at.finish)
-  end : MatchOption (step_unit s) (at.issue ≤ at.end) (λ u. floor_end s at.finish ≤ at.end)
+  pub finish : MatchOption (step_unit s) (at.issue ≤ at.finish) (λ u. at.start + latency u - 1 ≤ at.finish)
+  pub end : MatchOption (step_unit s) (at.issue ≤ at.end) (λ u. floor_end s at.finish ≤ at.end)
 
-abbrev AreAbove : (UnitId → ℕ) → ℕ → List Done → Type 0
+abbrev pub AreAbove : (UnitId → ℕ) → ℕ → List Done → Type 0
 AreAbove latency w [] = Unit {0}
 AreAbove latency w (d ∷ older) = IsAbove latency w older d.step d.at × AreAbove latency w older
 
-abbrev steps_of : List Done → List Step
+abbrev pub steps_of : List Done → List Step
 steps_of h = map (λ d. d.step) h
 
 -- each function of what is older rises with it
 
 finish_rises : (p : Step → Bool) (latency : UnitId → ℕ) (w : ℕ) (h : List Done)
-    → AreNoLater (floors_of latency w (steps_of h)) h → last_finish p (floors_of latency w (steps_of h)) ≤ last_finish p h
+    → AreNoLater (floors_of latency w (steps_of h)) h → last_finish p (floors_of latency w
+    (steps_of h)) ≤ last_finish p h
 finish_rises p latency w [] l = omega arith
 finish_rises p latency w (d ∷ h) l =
     let rest = finish_rises p latency w h l.1 in
@@ -87,7 +90,7 @@ address_rises : (latency : UnitId → ℕ) (w : ℕ) (h : List Done) → AreNoLa
 address_rises latency w [] l = omega arith
 address_rises latency w (d ∷ h) l = choice (is_memory d.step) _ _ _ _ l.0.address (address_rises latency w h l.1)
 
--- so what stands above the equations stands above the floor
+-- so what is above the equations is above the floor
 
 address_step : (f h : List Done) (s : Step) (i j : ℕ) → i ≤ j → source_end f (j_of s) ≤ source_end h (j_of s)
     → last_address f ≤ last_address h → cycle_of (floor_address f s i) ≤ cycle_of (floor_address h s j)
@@ -109,7 +112,8 @@ step_above : (latency : UnitId → ℕ) (w : ℕ) (h : List Done) (s : Step) (at
     → MatchOption unit (at.issue ≤ at.start) (λ u. floor_start h s at.issue (cycle_of at.address) ≤ at.start)
     → MatchOption unit (at.issue ≤ at.finish) (λ u. at.start + latency u - 1 ≤ at.finish)
     → MatchOption unit (at.issue ≤ at.end) (λ u. floor_end s at.finish ≤ at.end)
-    → IsNoLater (floor_from latency (floors_of latency w (steps_of h)) s (floor_issue w (floors_of latency w (steps_of h)))
+    → IsNoLater (floor_from latency (floors_of latency w (steps_of h)) s (floor_issue w (floors_of latency w
+    (steps_of h)))
     (floor_address (floors_of latency w (steps_of h)) s (floor_issue w (floors_of latency w (steps_of h)))) unit) at
 step_above latency w h s at unit l issue address start finish end =
     let b = finish_rises is_branch latency w h l in
@@ -118,7 +122,8 @@ step_above latency w h s at unit l issue address start finish end =
     let j = source_rises latency w h (j_of s) l in
     let k = source_rises latency w h (k_of s) l in
     let c = finish_rises (λ x. conflicts x s) latency w h l in
-    let m = address_step (floors_of latency w (steps_of h)) h s (floor_issue w (floors_of latency w (steps_of h))) at.issue
+    let m = address_step (floors_of latency w (steps_of h)) h s (floor_issue w (floors_of latency w
+    (steps_of h))) at.issue
     i j (address_rises latency w h l) in
     by_unit unit (floors_of latency w (steps_of h)) (floor_issue w (floors_of latency w (steps_of h)))
     (floor_address (floors_of latency w (steps_of h)) s (floor_issue w (floors_of latency w (steps_of h)))) i
@@ -151,7 +156,7 @@ step_above latency w h s at unit l issue address start finish end =
           end = omega (arith, en, end);
         }
 
-above_floor : (latency : UnitId → ℕ) (w : ℕ) (h : List Done) → AreAbove latency w h
+pub above_floor : (latency : UnitId → ℕ) (w : ℕ) (h : List Done) → AreAbove latency w h
     → AreNoLater (floors_of latency w (steps_of h)) h
 above_floor latency w [] above = tt
 above_floor latency w (d ∷ h) above =
@@ -165,7 +170,7 @@ abbrev pub AreInOrder : List Done → Type 0
 AreInOrder [] = Unit {0}
 AreInOrder (d ∷ older) = (last_issue older ≤ d.at.issue) × AreInOrder older
 
-back_low : (h : List Done) (n : ℕ) → AreInOrder h → issue_back h n ≤ last_issue h
+pub back_low : (h : List Done) (n : ℕ) → AreInOrder h → issue_back h n ≤ last_issue h
 back_low [] n o = omega arith
 back_low (d ∷ h) zero o = omega arith
 back_low (d ∷ h) (suc n) o = let k = back_low h n o.1 in let l = o.0 in omega arith
@@ -186,7 +191,7 @@ back_fall (d ∷ h) zero n o l = back_low (d ∷ h) n o
 back_fall (d ∷ h) (suc m) zero o l = absurd (omega arith)
 back_fall (d ∷ h) (suc m) (suc n) o l = back_fall h m n o.1 (omega arith)
 
--- a configuration's times stand above the equations
+-- a configuration's times are above the equations
 
 pub in_order : (config : Configuration) (h : List Done) → AreTimed config h → AreInOrder h
 in_order config [] timed = tt
@@ -341,77 +346,3 @@ floor_is_bound config latency w steps good narrow slow =
     let same : steps_of (history config steps) ≡ reverse steps = steps_of-timed config (reverse steps) in
     let f : floor_of latency w steps ≤ greatest_end (history config steps) = rw same at e in
     rw (← total_is config steps) f
-
--- a floor stands above the equations of another whose latencies are smaller, or whose width is greater
-
-pub issue_next : (w : ℕ) (d : Done) (h : List Done) → AreInOrder (d ∷ h) → d.at.issue ≡ floor_issue w h
-    → d.at.issue ≤ floor_issue w (d ∷ h)
-issue_next w d h o e =
-    let b : last_finish is_branch h ≤ last_finish is_branch (d ∷ h) = omega arith in
-    let k : issue_back h (w - 1) ≤ issue_back (d ∷ h) (w - 1) = more (w - 1) in
-    omega (arith, b, k, e)
-  where
-    more : (n : ℕ) → issue_back h n ≤ issue_back (d ∷ h) n
-    more zero = let l = back_low h 0 o.1 in let m = o.0 in omega (arith, l, m)
-    more (suc n) = back_fall h n (suc n) o.1 (omega arith)
-
-pub from_issue : (latency : UnitId → ℕ) (older : List Done) (s : Step) (issue : ℕ) (address : Option ℕ)
-    (unit : Option UnitId) → (floor_from latency older s issue address unit).issue ≡ issue
-from_issue latency older s issue address None = refl
-from_issue latency older s issue address (Some u) = refl
-
-floors_in_order : (latency : UnitId → ℕ) (w : ℕ) (steps : List Step) → AreInOrder (floors_of latency w steps)
-floors_in_order latency w [] = tt
-floors_in_order latency w (s ∷ []) = (omega arith, tt)
-floors_in_order latency w (s ∷ (x ∷ xs)) =
-    let rest = floors_in_order latency w (x ∷ xs) in
-    let f = floors_of latency w xs in
-    let d : Done = record { step = x; at = floor_times latency w (floors_of latency w xs) x } in
-    let e : d.at.issue ≡ floor_issue w (floors_of latency w xs) =
-    from_issue latency (floors_of latency w xs) x _ _ (step_unit x) in
-    let g = from_issue latency (floors_of latency w (x ∷ xs)) s (floor_issue w (floors_of latency w (x ∷ xs)))
-    (floor_address (floors_of latency w (x ∷ xs)) s (floor_issue w (floors_of latency w (x ∷ xs)))) (step_unit s) in
-    let n = issue_next w d (floors_of latency w xs) rest e in
-    (omega (arith, n, g), rest)
-
--- times that a floor gives, by their unit
-floor_above : (latency slower : UnitId → ℕ) (w : ℕ) (older : List Done) (s : Step) (issue : ℕ) (unit : Option UnitId)
-    → step_unit s ≡ unit → ((u : UnitId) → latency u ≤ slower u) → floor_issue w older ≤ issue
-    → IsAbove latency w older s (floor_from slower older s issue (floor_address older s issue) unit)
-floor_above latency slower w older s issue None e slow low = record {
-  issue = low;
-  address = omega arith;
-  start = rw e (omega arith);
-  finish = rw e (omega arith);
-  end = rw e (omega arith);
-}
-floor_above latency slower w older s issue (Some u) e slow low =
-    let l = slow u in
-    record {
-      issue = low;
-      address = omega arith;
-      start = rw e (omega arith);
-      finish = rw e (omega (arith, l));
-      end = rw e (omega arith);
-    }
-
-floors_above : (latency slower : UnitId → ℕ) (w narrower : ℕ) (steps : List Step)
-    → ((u : UnitId) → latency u ≤ slower u) → narrower ≤ w → AreAbove latency w (floors_of slower narrower steps)
-floors_above latency slower w narrower [] slow narrow = tt
-floors_above latency slower w narrower (s ∷ xs) slow narrow =
-    let k = back_fall (floors_of slower narrower xs) (narrower - 1) (w - 1) (floors_in_order slower narrower xs)
-    (omega arith) in (
-      floor_above latency slower w (floors_of slower narrower xs) s (floor_issue narrower (floors_of slower narrower xs))
-          (step_unit s) refl slow (omega (arith, k)),
-      floors_above latency slower w narrower xs slow narrow,
-    )
-
-steps_of-floors : (latency : UnitId → ℕ) (w : ℕ) (ys : List Step) → steps_of (floors_of latency w ys) ≡ ys
-steps_of-floors latency w [] = refl
-steps_of-floors latency w (y ∷ ys) = ap (λ zs. y ∷ zs) (steps_of-floors latency w ys)
-
-pub floors_fall : FloorsFall
-floors_fall latency slower w narrower steps slow narrow =
-    let l = above_floor latency w (floors_of slower narrower steps)
-    (floors_above latency slower w narrower steps slow narrow) in
-    rw (steps_of-floors slower narrower steps) at l

@@ -1,5 +1,7 @@
 -- Lemmas of this crate.
 pub mod Above
+pub mod Falling
 pub mod Reached
 pub mod Touching
 pub mod Turns
+mod Rows

@@ -26,7 +26,8 @@ use Rattle.tomex_timing.specs.Recurrence.{are_branches_finished, can_address, ca
 use Rattle.tomex_timing.specs.Search.{station_at}
 use Rattle.tomex_timing.specs.Station.{has_station, is_free, is_held}
 use Rattle.tomex_timing.proofs.Bound.{end_low}
-use Rattle.tomex_floor.proofs.Above.{AreInOrder, address_low, from_issue, in_order, issue_above, issue_next, start_above}
+use Rattle.tomex_floor.proofs.Above.{AreInOrder, address_low, in_order, issue_above, start_above}
+use Rattle.tomex_floor.proofs.Falling.{from_issue, issue_next}
 use Rattle.tomex_timing.proofs.Stations.{number_is}
 
 -- a pool with a free station gives the least one
@@ -174,7 +175,8 @@ start_least latency w n older s u issue address room =
     let j = lt-ltb (source_end older (j_of s)) (floor_start older s issue address) (omega arith) in
     let k = lt-ltb (source_end older (k_of s)) (floor_start older s issue address) (omega arith) in
     let c = finished_all (λ x. conflicts x s) older (floor_start older s issue address) (omega arith) in
-    let left = fewer (λ d. is_of u (step_unit d.step) && d.at.start == floor_start older s issue address) older n room in
+    let left = fewer (λ d. is_of u (step_unit d.step) && d.at.start == floor_start older s issue address) older
+    n room in
     least_from (can_start (unlimited latency w n) older s u issue address) (floor_start older s issue address)
     (and_from _ _ (and_from _ _ (and_from _ _ (and_from _ _
     (lt-ltb issue (floor_start older s issue address) (omega arith))
@@ -219,7 +221,8 @@ step_is latency w n older s (Some u) e some room timed after = record {
       (station_left latency w n older (step_pool s) (floor_issue w older) room);
 }
 
-length_reached : (latency : UnitId → ℕ) (w n : ℕ) (steps : List Step) → length (reached latency w n steps) ≡ length steps
+length_reached : (latency : UnitId → ℕ) (w n : ℕ) (steps : List Step)
+    → length (reached latency w n steps) ≡ length steps
 length_reached latency w n [] = refl
 length_reached latency w n (s ∷ steps) = ap suc (length_reached latency w n steps)
 
@@ -243,7 +246,7 @@ reached_timed latency w n (s ∷ steps) some room =
       rest,
     )
 
--- and they are the floor's but for the stations
+-- and they are the floor's, except for the stations
 
 finish_without : (p : Step → Bool) (h : List Done) → last_finish p (all_without_station h) ≡ last_finish p h
 finish_without p [] = refl

@@ -1,10 +1,10 @@
 -- What an access waits for, byte by byte.
-use Rattle.std.proofs.Common.{ℕ, ◌+◌, ◌<◌, ◌≤◌, ◌≡◌, ◌∙◌, ◌⊎◌, Bool, true, false, arith, refl, ap, sym, inl, inr, List, [], ◌∷◌}
+use Rattle.std.proofs.Common.{ℕ, ◌+◌, ◌<◌, ◌≤◌, ◌≡◌, ◌∙◌, ◌⊎◌, Bool, true, false, arith, refl, ap, sym, inl, inr}
+use Rattle.std.proofs.Common.{List, [], ◌∷◌}
 use Rattle.std.proofs.Common.{Option, Some, None, max}
 use Rattle.std.specs.Prelude.{◌*◌, ◌/◌, ◌%◌, unwrap_or, nat_lt, nat_le, nat_eq, ◌&&◌, ◌||◌, if◌then◌else◌}
 use Rattle.std.proofs.lemmas.Bool.{cases_Bool, leb-false, leb-true, ltb-false, ltb-true}
 use Rattle.std.proofs.lemmas.Bool.Decides.{nat_tests}
-use native.Mathlib.Numerals.{unary_clauses}
 use Rattle.tomex_rvdec.specs.declared.op.Op.{Op}
 use Rattle.tomex_steps.specs.Steps.{access_size, bytes_at, bytes_of, is_store, address_of}
 use Rattle.tomex_steps.specs.declared.step.ByteRange.{ByteRange}
@@ -12,7 +12,7 @@ use Rattle.tomex_steps.specs.declared.step.Step.{Step}
 use Rattle.tomex_timing.specs.declared.times.Done.{Done}
 use Rattle.tomex_timing.specs.Recurrence.{conflicts, shares_byte}
 use Rattle.tomex_floor.specs.Floor.{last_finish}
-use Rattle.tomex_floor.specs.Kept.{Touched, below, has_byte, has_some, shares_some, touched_after, touched_in}
+use Rattle.tomex_floor.specs.Kept.{Touched, below, has_byte, has_some, shares_some, touched_in}
 use Rattle.tomex_floor.specs.Kept.{no_word, touched_from, touched_of, waited_for}
 use Rattle.tomex_floor.specs.declared.accesses.Word.{Word}
 use Rattle.std.specs.HashMap.{HashMap, get}
@@ -99,7 +99,8 @@ waited_is : (b : ℕ) (store : Bool) (h : List Done)
     → waited_for store (touched_in h b) ≡ last_finish (at_byte b store) h
 waited_is b true h =
     finish_same (λ x. has_byte b (bytes_of x)) (at_byte b true)
-    (λ x. sym (ap (λ (t : Bool). has_byte b (bytes_of x) && t) (or_true (is_store x)) ∙ and_true (has_byte b (bytes_of x))))
+    (λ x. sym (ap (λ (t : Bool). has_byte b (bytes_of x) && t) (or_true (is_store x))
+    ∙ and_true (has_byte b (bytes_of x))))
     h
 waited_is b false h =
     finish_same (λ x. has_byte b (bytes_of x) && is_store x) (at_byte b false)
@@ -146,21 +147,6 @@ no_conflict s h is =
     finish_same (λ x. conflicts x s) (λ x. false)
     (λ x. ap (λ (o : Option ByteRange). shares_byte (bytes_of x) o && (is_store x || is_store s)) is
     ∙ ap (λ (t : Bool). t && (is_store x || is_store s)) (shares_none (bytes_of x))) h ∙ none_finished h
-
--- what was touched after one more step
-
-pub touched_more : (b : ℕ) (d : Done) (h : List Done) (r : ByteRange) → bytes_of d.step ≡ Some r
-    → touched_in (d ∷ h) b ≡ touched_after r.from r.to (is_store d.step) d.at.finish b (touched_in h b)
-touched_more b d h r is = elim (cases_Bool (nat_le r.from b && nat_lt b r.to)) [
-  | inl e ↦ elim (cases_Bool (is_store d.step)) [
-    | inl f ↦ rw (is, e, f) refl
-    | inr f ↦ rw (is, e, f) (simp unary_clauses)
-  ]
-  | inr e ↦ rw (is, e) (simp unary_clauses)
-]
-
-pub touched_same : (b : ℕ) (d : Done) (h : List Done) → bytes_of d.step ≡ None → touched_in (d ∷ h) b ≡ touched_in h b
-touched_same b d h is = rw is (simp unary_clauses)
 
 -- a range up to a byte, and with the byte
 

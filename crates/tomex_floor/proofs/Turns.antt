@@ -1,5 +1,6 @@
 -- The floors of a run grow by one step at a time, and none of their times is late.
-use Rattle.std.proofs.Common.{ℕ, ◌+◌, ◌*◌, ◌-◌, ◌≤◌, ◌≡◌, Bool, true, false, arith, refl, ap, inl, inr, List, [], ◌∷◌, ◌++◌}
+use Rattle.std.proofs.Common.{ℕ, ◌+◌, ◌*◌, ◌-◌, ◌≤◌, ◌≡◌, Bool, true, false, arith, refl, ap, inl, inr, List, []}
+use Rattle.std.proofs.Common.{◌∷◌, ◌++◌}
 use Rattle.std.proofs.Common.{◌<◌, max, sym, subst, Option, Some, None, zero, suc, length, reverse}
 use Rattle.std.specs.Prelude.{IfSome, if◌then◌else◌, is_some, slice_index, slice_index_or, slice_set}
 use Rattle.std.proofs.lemmas.Bool.{cases_Bool, cases_order}
@@ -18,7 +19,8 @@ use Rattle.tomex_timing.specs.Window.{written_by}
 use Rattle.tomex_timing.proofs.Limits.{latency_high}
 use Rattle.tomex_timing.proofs.Settled.{AllBy, IsDoneBy, last_address_by, source_end_by, writer_end_by}
 use Rattle.tomex_floor.specs.declared.latest.Latest.{Latest}
-use Rattle.tomex_floor.specs.Floor.{floor_address, floor_end, floor_from, floor_issue, floor_start, floor_times, floors_of}
+use Rattle.tomex_floor.specs.Floor.{floor_address, floor_end, floor_from, floor_issue, floor_start, floor_times}
+use Rattle.tomex_floor.specs.Floor.{floors_of}
 use Rattle.tomex_floor.specs.Floor.{issue_back, last_finish, latency_of}
 use Rattle.tomex_floor.specs.Kept.{IsLatest, IsLatestBy, facts_of, latest_after}
 
@@ -182,7 +184,8 @@ pub set_up_to : {X : Type 0} (P : ℕ → X → Type 0) (xs : List X) (n : ℕ) 
     → ((i : ℕ) (d : X) → i < n → P i (slice_index_or xs i d)) → (i : ℕ) (d : X) → i < n + 1
     → P i (slice_index_or (slice_set xs n x) i d)
 set_up_to P xs n x within here before i d l = elim (cases_order i n) [
-  | inl e ↦ subst (λ (y : ℕ). P y (slice_index_or (slice_set xs n x) y d)) (sym e) (rw (get_or-set_same xs n x d within) here)
+  | inl e ↦ subst (λ (y : ℕ). P y (slice_index_or (slice_set xs n x) y d)) (sym e) (rw
+      (get_or-set_same xs n x d within) here)
   | inr (inl k) ↦ rw (get_or-set_other xs n i x d (λ (e : i ≡ n). absurd (omega arith))) (before i d k)
   | inr (inr k) ↦ absurd (omega arith)
 ]

@@ -1,6 +1,8 @@
--- The floor of a run: its times where nobody ever waits for a station, a unit or a bus. Each is one more than
--- the greatest of finitely many older ones, so no machine of these latencies and this width is faster.
-use Rattle.std.specs.Prelude.{ℕ, zero, suc, ◌+◌, ◌-◌, ◌≤◌, Bool, false, IsTrue, if◌then◌else◌, List, [], ◌∷◌, Option, Some}
+-- The floor of a run: its times if nothing ever waits for a station, a unit or a bus. Each is one more than the
+-- greatest of finitely many older ones, so no machine with these latencies and this width is faster.
+-- Sources: those of the recurrence, whose words it uses. That it is a bound, and the greatest one, is this project's.
+use Rattle.std.specs.Prelude.{ℕ, zero, suc, ◌+◌, ◌-◌, ◌≤◌, Bool, false, IsTrue, if◌then◌else◌, List, [], ◌∷◌}
+use Rattle.std.specs.Prelude.{Option, Some}
 use Rattle.std.specs.Prelude.{None, is_some, map, max, reverse}
 use Rattle.tomex_rvdec.specs.declared.pool.UnitId.{UnitId}
 use Rattle.tomex_rvdec.specs.declared.pool.UnitId.TheVariants.{Alu, Mul, Div, Mem, Bru}
@@ -13,12 +15,12 @@ use Rattle.tomex_timing.specs.declared.times.Times.{Times}
 use Rattle.tomex_timing.specs.History.{is_memory, cycle_of, source_end, last_address, greatest_end}
 use Rattle.tomex_timing.specs.Recurrence.{conflicts}
 
--- the greatest finish of the older steps that pass a test, 0 where there is none
+-- the greatest finish of the older steps that pass a test, 0 if there is none
 abbrev pub last_finish : (Step → Bool) → List Done → ℕ
 last_finish p [] = 0
 last_finish p (d ∷ older) = max (if p d.step then d.at.finish else 0) (last_finish p older)
 
--- the issue of an older step, the youngest being number 0; 0 where there is none
+-- the issue of an older step, the youngest being number 0; 0 if there is none
 abbrev pub issue_back : List Done → ℕ → ℕ
 issue_back [] n = 0
 issue_back (d ∷ older) zero = d.at.issue
@@ -28,7 +30,7 @@ issue_back (d ∷ older) (suc n) = issue_back older n
 abbrev pub floor_issue : ℕ → List Done → ℕ
 floor_issue w older = 1 + max (last_finish is_branch older) (issue_back older (w - 1))
 
--- of a load or store: later than its issue, the end of its base's producer, and the address before
+-- of a load or store: later than its issue, the end of its base's producer, and the address of the one before
 abbrev pub floor_address : List Done → Step → ℕ → Option ℕ
 floor_address older s issue =
     if is_memory s then Some (1 + max issue (max (source_end older (j_of s)) (last_address older))) else None
@@ -76,7 +78,7 @@ floors_of latency w [] = []
 floors_of latency w (s ∷ older) =
     record { step = s; at = floor_times latency w (floors_of latency w older) s } ∷ floors_of latency w older
 
--- the floor of a run, whose steps stand in program order
+-- the floor of a run, whose steps are in program order
 abbrev pub floor_of : (UnitId → ℕ) → ℕ → List Step → ℕ
 floor_of latency w steps = greatest_end (floors_of latency w (reverse steps))
 

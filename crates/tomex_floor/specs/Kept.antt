@@ -1,7 +1,9 @@
 -- What the evaluator keeps of the steps so far, for each issue width: what is latest, and when each byte of memory was
 -- last accessed.
-use Rattle.std.specs.Prelude.{ℕ, ◌+◌, ◌/◌, ◌%◌, ◌^◌, ◌<◌, ◌≤◌, ◌≡◌, nat_lt, nat_le, Bool, false, ◌&&◌, ◌||◌, if◌then◌else◌}
-use Rattle.std.specs.Prelude.{min, max, List, [], ◌∷◌, Option, Some, None, nat_eq, replicate, slice_index, slice_index_or}
+use Rattle.std.specs.Prelude.{ℕ, ◌+◌, ◌/◌, ◌%◌, ◌^◌, ◌<◌, ◌≤◌, ◌≡◌, nat_lt, nat_le, Bool, false, ◌&&◌, ◌||◌}
+use Rattle.std.specs.Prelude.{if◌then◌else◌}
+use Rattle.std.specs.Prelude.{min, max, List, [], ◌∷◌, Option, Some, None, nat_eq, replicate, slice_index}
+use Rattle.std.specs.Prelude.{slice_index_or}
 use Rattle.std.specs.Prelude.{length, unwrap_or, IfSome}
 use Rattle.std.specs.HashMap.{HashMap, get}
 use Rattle.tomex_rvdec.specs.declared.pool.UnitId.{UnitId}
@@ -150,6 +152,10 @@ AreTouched h m = (n b : ℕ) → n < 4 → touched_from n m b ≡ touched_in (h 
 -- where the bytes of a range that are below a byte end
 abbrev pub below : (from to t : ℕ) → ℕ
 below from to t = min to (max from t)
+
+-- what an access to these bytes waits for at those below a byte
+abbrev pub conflict_below : ByteRange → ℕ → Bool → List Done → ℕ
+conflict_below r t store h = last_finish (shares_some r.from (below r.from r.to t) store) h
 
 -- what was touched after an access to the bytes from one up to another
 abbrev pub touched_after : (from to : ℕ) → Bool → ℕ → ℕ → Touched → Touched

@@ -1,15 +1,16 @@
 //! When each byte of memory was last accessed.
 
-ghost use Rattle.std.specs.Prelude.{◌≡◌, ◌≢◌, ◌<◌, ◌≤◌, ◌+◌, ◌^◌, ◌&&◌, if◌then◌else◌, nat_le, nat_lt, ℕ, List, ◌∷◌, IfOk, IfSome, max, slice_index, slice_index_or};
+ghost use Rattle.std.specs.Prelude.{◌≡◌, ◌≢◌, ◌<◌, ◌+◌, ◌^◌, ◌&&◌, ℕ, nat_le, nat_lt, if◌then◌else◌, List, IfOk, max};
+ghost use Rattle.std.specs.Prelude.{slice_index};
 ghost use Rattle.std.specs.HashMap.{IsEmpty};
+ghost use Rattle.tomex_rvdec.specs.declared.pool.UnitId.{UnitId};
 ghost use Rattle.tomex_steps.specs.declared.step.Step.{Step};
 ghost use Rattle.tomex_timing.specs.declared.times.Done.{Done};
 ghost use Rattle.tomex_timing.specs.Recurrence.{conflicts};
 ghost use Rattle.tomex_floor.specs.Floor.{last_finish};
-ghost use Rattle.tomex_floor.specs.Kept.{AreAfter, AreInRange, AreTouched, below, facts_of, finish_of, history_after};
-ghost use Rattle.tomex_floor.specs.Kept.{no_finishes, no_word, shares_some};
-ghost use Rattle.tomex_rvdec.specs.declared.pool.UnitId.{UnitId};
-ghost use Rattle.tomex_floor.specs.Kept.{touched_after, touched_at, touched_by, touched_in, touched_of, waited_for};
+ghost use Rattle.tomex_floor.specs.Kept.{AreAfter, AreInRange, AreTouched, conflict_below, facts_of, finish_of};
+ghost use Rattle.tomex_floor.specs.Kept.{history_after, no_finishes, no_word, shares_some, touched_after, touched_at};
+ghost use Rattle.tomex_floor.specs.Kept.{touched_by, touched_in, touched_of, waited_for};
 
 use crate::facts::Facts;
 use std::alloc::{AllocError, Allocator};
@@ -121,9 +122,8 @@ impl Word {
         requires bytes { bytes.from < bytes.to }
         ensures { (n : ℕ) (h : List Done) → n < 4
             → ((lane : ℕ) → lane < 4 → touched_of n self.now lane ≡ touched_in h (first + lane))
-            → slice_index latest.old n ≡ last_finish (shares_some bytes.from (below bytes.from bytes.to first) is_store) h
-            → slice_index latest.new n
-            ≡ last_finish (shares_some bytes.from (below bytes.from bytes.to (first + 4)) is_store) h }
+            → slice_index latest.old n ≡ conflict_below bytes first is_store h
+            → slice_index latest.new n ≡ conflict_below bytes (first + 4) is_store h }
     {
         for lane in 0..4usize {
             self.raise_byte(lane, first + lane as u64, bytes, is_store, latest);
@@ -141,8 +141,9 @@ impl Word {
         finishes: &[u64; 4],
     )
         requires { lane < 4 }
-        ensures noted { (n : ℕ) → n < 4 → touched_of n self.new lane
-            ≡ touched_after bytes.from bytes.to is_store (slice_index finishes.now n) byte (touched_of n self.old lane) }
+        ensures noted { (n : ℕ) → n < 4
+            → touched_of n self.new lane ≡ touched_after bytes.from bytes.to is_store
+            (slice_index finishes.now n) byte (touched_of n self.old lane) }
         ensures rest { (n i : ℕ) → i ≢ lane → touched_of n self.new i ≡ touched_of n self.old i }
     {
         if bytes.from <= byte && byte < bytes.to {

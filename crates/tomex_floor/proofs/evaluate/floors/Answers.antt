@@ -36,7 +36,8 @@ more_so_far config steps i n x l is =
     ∙ floors_more (latency_of config) (n + 1) (take i steps) x
 
 width_high : (config : Configuration) → IsWithinLimits config → config.width ≤ 4
-width_high config good = leb-true config.width 4 (and_parts (nat_le 1 config.width) (nat_le config.width 4) good.width).1
+width_high config good = leb-true config.width 4 (and_parts (nat_le 1 config.width)
+    (nat_le config.width 4) good.width).1
 
 abbrev none : Latest
 none = record { ends = []; issues = []; branch = 0; address = 0; end = 0 }

@@ -20,7 +20,8 @@ loop-n-preserved c =
       count = length-set c.loop-n.latest c.loop-n.n _ ∙ c.loop-n.invariant.count;
       finish_count = length-set c.loop-n.finishes c.loop-n.n _ ∙ c.loop-n.invariant.finish_count;
       passed = λ s h i d facts are conflicts l.
-          set_up_to (λ i x. IsLatest (history_after (latency_of c.args.config.now) s h i) x) c.loop-n.latest c.loop-n.n _
+          set_up_to (λ i x. IsLatest (history_after (latency_of c.args.config.now) s h i) x) c.loop-n.latest
+          c.loop-n.n _
           within
           (c.pass.ensures.latest (h c.loop-n.n) s facts (rw was (are c.loop-n.n none c.loop-n-test.true))
           (conflicts c.loop-n.n c.loop-n-test.true))

@@ -1,5 +1,6 @@
--- What stands above the floor's equations stands above the floor.
-use Rattle.tomex_floor.proofs.Above.{floors_no_later, floor_is_bound, floors_fall}
+-- What is above the floor's equations is above the floor.
+use Rattle.tomex_floor.proofs.Above.{floors_no_later, floor_is_bound}
+use Rattle.tomex_floor.proofs.Falling.{floors_fall}
 use Rattle.tomex_floor.proofs.Reached.{floors_reached}
 use Rattle.tomex_floor.proofs.laws.no_machine_is_faster.Goals as goal
 

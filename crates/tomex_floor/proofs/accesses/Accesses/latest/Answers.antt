@@ -10,7 +10,8 @@ use Rattle.tomex_floor.proofs.accesses.Accesses.latest.Goals as goal
 
 pub loop-word-init : goal.loop-word-init
 loop-word-init g c = λ h n l are.
-    let none : below c.args.bytes.from c.args.bytes.to (4 * (c.args.bytes.from / 4)) ≡ c.args.bytes.from = omega arith in
+    let none : below c.args.bytes.from c.args.bytes.to (4 * (c.args.bytes.from / 4))
+    ≡ c.args.bytes.from = omega arith in
     get_or-replicate {A = ℕ} 4 n 0 0 l
     ∙ sym (rw none (latest_none c.args.bytes.from c.args.is_store (h n)))
 
