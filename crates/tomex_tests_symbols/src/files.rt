@@ -86,14 +86,23 @@ fn whole_file(rt: HostRuntime) -> Result<(), Fail> {
 fn names(rt: HostRuntime) -> Result<(), Fail> {
     let bytes = WHOLE.as_slice();
     let start = function(1, 0x1000, 16, Binding::Global, 129);
-    assert!(rt; name_of(bytes, &start, 257) == b"_start");
-    assert!(rt; name_of(bytes, &start, 6) == b"_start");
-    assert!(rt; name_of(bytes, &start, 2) == b"_s");
+    assert!(rt; name_of(bytes, &start, 257) == b"_start".as_slice());
+    assert!(rt; name_of(bytes, &start, 6) == b"_start".as_slice());
+    assert!(rt; name_of(bytes, &start, 2) == b"_s".as_slice());
     // names that overlap, that end where the names end, and of another file
-    assert!(rt; name_of(bytes, &Symbol { name: 131, ..start }, 257) == b"tart");
-    assert!(rt; name_of(bytes, &Symbol { names_end: 132, ..start }, 257) == b"_st");
-    assert!(rt; name_of(&bytes[..130], &start, 257) == b"_");
-    assert!(rt; name_of(&bytes[..84], &start, 257) == b"");
+    assert!(rt; name_of(bytes, &Symbol { name: 131, ..start }, 257) == b"tart".as_slice());
+    assert!(rt;
+        name_of(
+            bytes,
+            &Symbol {
+                names_end: 132,
+                ..start
+            },
+            257
+        ) == b"_st".as_slice()
+    );
+    assert!(rt; name_of(&bytes[..130], &start, 257) == b"_".as_slice());
+    assert!(rt; name_of(&bytes[..84], &start, 257) == b"".as_slice());
     Ok(())
 }
 
@@ -130,7 +139,11 @@ fn symbol_tables(rt: HostRuntime) -> Result<(), Fail> {
     counts(&rt, &[(392, 63)], 2)?;
     // outside of the file, also if the sum of offset and size wrapped
     counts(&rt, &[(393, 1)], 0)?;
-    counts(&rt, &[(388, 0xf0), (389, 0xff), (390, 0xff), (391, 0xff)], 0)?;
+    counts(
+        &rt,
+        &[(388, 0xf0), (389, 0xff), (390, 0xff), (391, 0xff)],
+        0,
+    )?;
     // a second table after the first one, and before it
     counts(&rt, &[(296, 2)], 0)?;
     counts(&rt, &[(336, 2)], 0)

@@ -48,7 +48,15 @@ const ADDRESSES: [u32; 9] = [
 fn sized_functions(rt: HostRuntime) -> Result<(), Fail> {
     let numbers = numbers_at(rt.alloc(), WHOLE.as_slice(), &ADDRESSES)?;
     let known = [
-        None, Some(1), Some(1), Some(2), Some(2), Some(2), Some(3), Some(3), None,
+        None,
+        Some(1),
+        Some(1),
+        Some(2),
+        Some(2),
+        Some(2),
+        Some(3),
+        Some(3),
+        None,
     ];
     assert!(rt; numbers.as_slice() == known.as_slice());
     Ok(())
@@ -60,7 +68,15 @@ fn labels(rt: HostRuntime) -> Result<(), Fail> {
     let bytes = changed(rt.alloc(), &[(172, 0), (204, 0)])?;
     let numbers = numbers_at(rt.alloc(), bytes.as_slice(), &ADDRESSES)?;
     let known = [
-        None, Some(1), Some(1), Some(2), Some(2), Some(2), Some(3), Some(3), Some(3),
+        None,
+        Some(1),
+        Some(1),
+        Some(2),
+        Some(2),
+        Some(2),
+        Some(3),
+        Some(3),
+        Some(3),
     ];
     assert!(rt; numbers.as_slice() == known.as_slice());
     Ok(())
@@ -72,14 +88,30 @@ fn inner_and_outer(rt: HostRuntime) -> Result<(), Fail> {
     let bytes = changed(rt.alloc(), &[(172, 255), (184, 0), (200, 0)])?;
     let numbers = numbers_at(rt.alloc(), bytes.as_slice(), &ADDRESSES)?;
     let known = [
-        None, Some(1), Some(1), Some(1), Some(1), Some(1), Some(1), Some(1), Some(1),
+        None,
+        Some(1),
+        Some(1),
+        Some(1),
+        Some(1),
+        Some(1),
+        Some(1),
+        Some(1),
+        Some(1),
     ];
     assert!(rt; numbers.as_slice() == known.as_slice());
     // `_start` has 255 bytes, and the others lie in it
     let bytes = changed(rt.alloc(), &[(172, 255)])?;
     let numbers = numbers_at(rt.alloc(), bytes.as_slice(), &ADDRESSES)?;
     let known = [
-        None, Some(1), Some(1), Some(2), Some(2), Some(2), Some(3), Some(3), Some(1),
+        None,
+        Some(1),
+        Some(1),
+        Some(2),
+        Some(2),
+        Some(2),
+        Some(3),
+        Some(3),
+        Some(1),
     ];
     assert!(rt; numbers.as_slice() == known.as_slice());
     Ok(())
