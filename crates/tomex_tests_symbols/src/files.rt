@@ -86,11 +86,11 @@ fn whole_file(rt: HostRuntime) -> Result<(), Fail> {
 fn names(rt: HostRuntime) -> Result<(), Fail> {
     let bytes = WHOLE.as_slice();
     let start = function(1, 0x1000, 16, Binding::Global, 129);
-    assert!(rt; name_of(bytes, &start, 257) == b"_start");
-    assert!(rt; name_of(bytes, &start, 6) == b"_start");
-    assert!(rt; name_of(bytes, &start, 2) == b"_s");
+    assert!(rt; name_of(bytes, &start, 257) == b"_start".as_slice());
+    assert!(rt; name_of(bytes, &start, 6) == b"_start".as_slice());
+    assert!(rt; name_of(bytes, &start, 2) == b"_s".as_slice());
     // names that overlap, that end where the names end, and of another file
-    assert!(rt; name_of(bytes, &Symbol { name: 131, ..start }, 257) == b"tart");
+    assert!(rt; name_of(bytes, &Symbol { name: 131, ..start }, 257) == b"tart".as_slice());
     assert!(rt;
         name_of(
             bytes,
@@ -99,10 +99,10 @@ fn names(rt: HostRuntime) -> Result<(), Fail> {
                 ..start
             },
             257
-        ) == b"_st"
+        ) == b"_st".as_slice()
     );
-    assert!(rt; name_of(&bytes[..130], &start, 257) == b"_");
-    assert!(rt; name_of(&bytes[..84], &start, 257) == b"");
+    assert!(rt; name_of(&bytes[..130], &start, 257) == b"_".as_slice());
+    assert!(rt; name_of(&bytes[..84], &start, 257) == b"".as_slice());
     Ok(())
 }
 

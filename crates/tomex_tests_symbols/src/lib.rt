@@ -8,3 +8,5 @@ mod files;
 mod functions;
 #[cfg(test)]
 mod refused_memory;
+#[cfg(test)]
+mod shown_names;
