@@ -8,7 +8,7 @@ use Rattle.tomex_study.specs.Study.{DesignSpace}
 use Rattle.tomex_sweep.specs.Marks.{AreJudged}
 
 -- a mark for each row, the front of all rows, and how many rows were run after the workers: none
-pub record IsExploration (s : DesignSpace) (marks : List Mark) (front : List FrontRow) (gathered : ℕ) : Type 0 where
-  pub marks : AreJudged s.costs (cycles_of s) marks
-  pub front : front ≡ front_of_study s
-  pub gathered : gathered ≡ 0
+pub record IsExploration (s : DesignSpace) (given : List Mark) (found : List FrontRow) (late : ℕ) : Type 0 where
+  pub marks : AreJudged s.costs (cycles_of s) given
+  pub front : found ≡ front_of_study s
+  pub gathered : late ≡ 0
