@@ -1,5 +1,5 @@
-//! Pages of small studies: a worked one to the byte, one whose front has more rows than are shown, and one without
-//! enough memory.
+//! Pages of small studies: a worked one to the byte, one with a name of markup, and one whose front has more rows than
+//! are shown.
 
 ghost use Rattle.std.specs.Prelude.{◌≡◌, IfOk};
 ghost use Rattle.tomex_row_runs.specs.StudyFront.{all_rows, front_of_study};
@@ -15,7 +15,6 @@ use tomex_study::{Program, Study};
 use tomex_survey::{Survey, survey};
 use tomex_tests_fixtures::machines::{PLAIN, config_of};
 use tomex_tests_fixtures::programs::PRODUCT;
-use tomex_tests_fixtures::{Heap, Try, ample, refusals_of};
 use tomex_workers::OpenGate;
 
 mod one_row;
@@ -106,22 +105,5 @@ fn sixty_four_rows_of_a_longer_front_are_shown(rt: HostRuntime) -> Result<(), Fa
     assert!(rt; !has_view(rt.alloc(), page.as_str(), 63)?);
     assert!(rt; page.contains("<circle cx=\"392\" cy=\"220\" r=\"2\"><title>row 63:"));
     assert!(rt; !page.contains("href=\"#r63\""));
-    Ok(())
-}
-
-/// Makes the page in that memory, of what was found out in ample memory.
-fn tried<R: Threads + Sync>(rt: &R, heap: Heap, other: Global) -> Result<Try, Fail> {
-    let study = study_in(ample(other)?, 1)?;
-    let survey = surveyed(rt, ample(other)?, &study)?;
-    Ok(match study_page(heap, other, "one.toml", &study, &survey) {
-        Ok(text) => Try::right_if(text.as_slice() == ONE_ROW.as_bytes()),
-        Err(_) => Try::Refused,
-    })
-}
-
-#[test]
-fn refused_memory_is_reported(rt: HostRuntime) -> Result<(), Fail> {
-    let refused = refusals_of!(rt.alloc(), heap => tried(&rt, heap, rt.alloc())?);
-    assert!(rt; refused > Some(8));
     Ok(())
 }
