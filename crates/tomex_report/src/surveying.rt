@@ -47,8 +47,8 @@ fn text_of<A: Allocator + Clone>(
     requires rows { survey.now.rows ≡ all_rows study.now }
     requires front { survey.now.front ≡ front_of_study study.now }
     requires row { lacks_row view study.now ≡ false }
-    ensures text { IfOk result (λ text. IsTextOf view study.now text.items) }
-    ensures refused { IfErr result (IsWithoutText view study.now) }
+    ensures text { IfOk result (λ text. IsTextOf view.entry study.now text.items) }
+    ensures refused { IfErr result (IsWithoutText view.entry study.now) }
 {
     let (rows, front) = (survey.rows(), survey.front());
     match view {
@@ -62,7 +62,7 @@ fn text_of<A: Allocator + Clone>(
 
 /// True if the view is of a configuration that the study doesn't have.
 fn lacks_row<A: Allocator>(study: &Study<A>, view: SurveyView<'_>) -> bool
-    ensures { result ≡ lacks_row view study.now }
+    ensures { result ≡ lacks_row view.entry study.now }
 {
     match view {
         SurveyView::Worth(row) => study.rows().len() <= row,
@@ -87,9 +87,9 @@ pub fn answer_survey<R: Threads + Sync, A: Allocator + Clone + Send + Sync + Dro
     requires some_workers { 1 ≤ crew.workers }
     requires few_workers { crew.workers ≤ 32 }
     ensures text { IfOk result
-        (λ text. IsSurveyed view study.now (map (λ f. f.items) files.now) text.items) }
+        (λ text. IsSurveyed view.entry study.now (map (λ f. f.items) files.now) text.items) }
     ensures refused { IfErr result
-        (λ e. IsSurveyRefusal view study.now (map (λ f. f.items) files.now) e) }
+        (λ e. IsSurveyRefusal view.entry study.now (map (λ f. f.items) files.now) e) }
 {
     let study = studied(&alloc, heap, study, files)?;
     if lacks_row(&study, view) {

@@ -151,7 +151,7 @@ fn has_product(study: &Study) -> bool {
 #[test]
 fn costs_of_two_rows(rt: HostRuntime) -> Result<(), Fail> {
     let study = study_of_product(rt.alloc())?;
-    assert!(rt; has_two_rows(&study));
+    assert!(rt; has_two_rows(&study)?);
     assert!(rt; has_product(&study));
     Ok(())
 }

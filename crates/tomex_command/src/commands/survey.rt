@@ -27,9 +27,9 @@ pub fn text_of_survey<
     view: SurveyView<'_>,
 ) -> Result<Vec<u8, A>, Failure>
     ensures text { IfOk result
-        (λ text. IsSurveyOf view (F.file files.now) line.entry.study.now text.items) }
+        (λ text. IsSurveyOf view.entry (F.file files.now) line.entry.study.now text.items) }
     ensures failure { IfErr result
-        (λ failure. IsSurveyFailure view (F.file files.now) line.entry.study.now failure) }
+        (λ failure. IsSurveyFailure view.entry (F.file files.now) line.entry.study.now failure) }
 {
     let sources = sources_in(alloc.clone()?, heap, files, line.study)?;
     let (study, contents) = (sources.study.as_slice(), sources.files.as_slice());
