@@ -3,6 +3,7 @@
 
 #[cfg(test)]
 mod animate;
+#[cfg(test)]
 mod commands;
 #[cfg(test)]
 mod compiled;
