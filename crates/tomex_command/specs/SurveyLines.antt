@@ -1,4 +1,4 @@
--- What a line that asks for all rows of a study comes to: `rows`, `worth`, `prices`, `page`, and `plot` with all rows.
+-- What a line that asks for all rows of a study does: `rows`, `worth`, `prices`, `page`, and `plot` with all rows.
 use Rattle.std.specs.Prelude.{ℕ, Bool, true, false, List}
 use Rattle.tomex_report.specs.Surveyed.{IsSurveyed, IsUnsurveyed}
 use Rattle.tomex_report.specs.declared.front_view.FrontView.TheVariants as fronts

@@ -5,7 +5,7 @@ use Rattle.tomex_steps.specs.declared.step.Step.{Step}
 use Rattle.tomex_run_views.specs.Chart.{picture_of, signs_of}
 use Rattle.tomex_run_views.specs.Excerpt.{TimedSteps, excerpt_of}
 
--- so many instructions have a chart at most
+-- the most instructions that a chart shows
 abbrev pub chart_steps : ℕ
 chart_steps = 32
 

@@ -28,7 +28,7 @@ up_to percent = codes "<p>It stays if every price is off by up to " ++ (decimal 
 unfoldable pub whatever : List ℕ
 whatever = codes "<p>It stays whatever the prices are.</p></div>\n"
 
--- by how many percent all prices may be off at once; 100 stands for any
+-- by how many percent all prices may be off at once; 100 means any percentage
 unfoldable pub off_text : ℕ → List ℕ
 off_text percent = if nat_lt percent 100 then up_to percent else whatever
 

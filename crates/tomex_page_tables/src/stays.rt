@@ -221,7 +221,7 @@ fn push_range_rows<A: Allocator>(
     Ok(())
 }
 
-/// Adds that all prices may be off by so many percent.
+/// Adds by how many percent all prices may be off.
 #[tactic(auto, unfolding(crate::specs::Stays::up_to))]
 fn push_up_to<A: Allocator>(text: &mut String<A>, percent: u64) -> Result<(), AllocError>
     ensures { OnOk result (string_bytes text.new ≡ string_bytes text.old ++ up_to percent) }

@@ -12,7 +12,7 @@ use std::fmt::Write;
 /// No more lines of a table, or entries of a list, than this are shown.
 pub const MOST_LINES: usize = 64;
 
-/// The first of some lines, at most so many.
+/// The first lines, up to a given number.
 fn first_of<T>(lines: &[T], count: usize) -> &[T]
     ensures { result.now ≡ take count lines.now }
 {

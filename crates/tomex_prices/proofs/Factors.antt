@@ -51,7 +51,7 @@ least_set s r (x ∷ xs) few = elim (cases_lt (least_percent s r xs) (percent_fo
 abbrev apart_of : DesignSpace → FrontRow → FrontRow → ℕ
 apart_of s r j = difference s.prices (prices_of s) (config_of s r) (config_of s j)
 
--- so many percent of what they differ by are no more than what the rival is dearer
+-- a percentage of what they differ by is no more than what the rival is dearer
 rival_within : (s : DesignSpace) (r j : FrontRow) (e : ℕ) → e ≤ percent_for s r j → j.cycles ≤ r.cycles
     → r.cost + premium r j ≤ j.cost → e * apart_of s r j + premium r j ≤ 100 * (j.cost - r.cost)
 rival_within s r j e low fast dear = elim (cases_lt 0 (apart_of s r j)) [

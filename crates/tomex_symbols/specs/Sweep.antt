@@ -30,7 +30,7 @@ abbrev pub if_at : ℕ → Option Symbol → Option Symbol
 if_at address None = None
 if_at address (Some s) = if nat_eq s.address address then Some s else None
 
--- what a sweep knows at an address: so many symbols begin by then; from there on those that are nested hold what
+-- what a sweep knows at an address: how many symbols begin by then; from there on those that are nested hold what
 -- these hold; the last one without a size, and where the last one begins
 pub record IsSwept (sorted : List Symbol) (begun : ℕ) (nested : List Symbol) (label : Option Symbol) (latest pc : ℕ)
     : Type 0 where

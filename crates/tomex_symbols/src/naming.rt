@@ -16,7 +16,7 @@ fn before_zero(bytes: &[u8]) -> &[u8]
     bytes
 }
 
-/// The first bytes of a symbol's name, at most so many: names may lie in names, and none is gone through further than that.
+/// The first bytes of a symbol's name, up to a given number: names may lie in names, so none is read further.
 /// The bytes are those of the file that the symbol was read from.
 pub fn name_of<'a>(bytes: &'a [u8], symbol: &Symbol, most: usize) -> &'a [u8]
     ensures { result.now ≡ take most (name_of bytes.now symbol.now) }

@@ -21,7 +21,7 @@ mod one_row;
 
 use one_row::ONE_ROW;
 
-/// The product on so many machines, all of them alike, at no price.
+/// The product on a given number of machines, all of them alike, at no price.
 fn study_in<A: Allocator + Clone>(alloc: A, rows: usize) -> Result<Study<A>, Fail> {
     let config = config_of(
         [1, 1, 1, 1, 1, 1],

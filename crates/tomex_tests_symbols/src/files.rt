@@ -46,7 +46,7 @@ fn count_of(alloc: Global, changes: &[(usize, u8)]) -> Result<usize, Fail> {
     Ok(symbols(alloc, bytes.as_slice())?.len())
 }
 
-/// The file has so many symbols if these bytes are changed.
+/// Fails unless the file with these bytes changed has this number of symbols.
 fn counts<R: Abort + AllocGlobal>(
     rt: &R,
     changes: &[(usize, u8)],

@@ -19,7 +19,7 @@ fn cycles_of(alloc: Global, program: &Program, config: &Config) -> Result<u64, F
     Ok(total(times(alloc, steps, config)?.as_slice()))
 }
 
-/// What a row's cycles come to when so many are made, given its programs' totals and their weights.
+/// A row's cycles after a given number of them, from its programs' totals and their weights.
 fn weighed(totals: &[(u64, u64)], made: u64) -> u64 {
     let mut left = made;
     let mut sum = 0u64;
