@@ -1,4 +1,4 @@
--- Where the segments of an accepted ELF file stand in its image.
+-- Where the segments of an accepted ELF file are in its image.
 use Rattle.std.proofs.Common.{◌≡◌, ℕ, ◌+◌, ◌-◌, ◌<◌, ◌≤◌, List, [], length, Bool, true, false, cond, arith, None, ap}
 use Rattle.std.proofs.Common.{◌∙◌}
 use Rattle.std.specs.Prelude.{IsTrue, MatchBool, slice_index}

@@ -1,4 +1,4 @@
--- A run has one state after so many steps, one end, and one list of steps.
+-- A run has one state after a number of steps, one end, and one list of steps.
 use Rattle.std.proofs.Common.{◌≡◌, ℕ, zero, suc, ◌+◌, ◌-◌, ◌<◌, ◌≤◌, ◌⊎◌, inl, inr, List, [], ◌∷◌, ◌++◌, None, Some}
 use Rattle.std.proofs.Common.{refl, sym, ap, ◌∙◌, subst, arith, append_assoc, add-one}
 use Rattle.std.specs.Prelude.{IsSome, reverse}
@@ -30,7 +30,7 @@ leads_is i (suc k) s l =
     let there : step_of (state_after i k) ≡ Goes s = subst (λ (z : State). step_of z ≡ Goes s) mid l.2 in
     rw there refl
 
--- a state before others goes on
+-- a state before others continues
 pub record GoesOn (s : State) : Type 0 where
   pub next : State
   pub goes : step_of s ≡ Goes next
@@ -58,7 +58,7 @@ leads_before (suc k) i s j h l = at (cases_eq j (suc k)) (λ (less : j ≤ k). l
         subst (λ n. Leads (start_of i) n (state_after i n)) (sym e) here
     at (inr other) earlier = earlier (omega arith)
 
--- where two runs stop, they are one
+-- at their ends two runs are one
 record Same (k j : ℕ) (s t : State) : Type 0 where
   steps : k ≡ j
   state : s ≡ t

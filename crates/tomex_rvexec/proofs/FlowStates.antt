@@ -1,4 +1,4 @@
--- What steps ask of a state, and what they keep of it.
+-- What steps need of a state, and what they keep of it.
 use Rattle.std.proofs.Common.{◌≡◌, ℕ, ◌+◌, ◌-◌, ◌%◌, ◌<◌, ◌≤◌, List, Option, Some, None, Bool, true, false, refl, sym}
 use Rattle.std.proofs.Common.{◌∙◌, subst, arith}
 use Rattle.std.specs.Prelude.{IsTrue, IfSome, IsSome, nat_eq, if◌then◌else◌, option_map}
@@ -32,7 +32,7 @@ use Rattle.tomex_steps.proofs.Bytes.{length-bytes}
 use Rattle.tomex_rvexec.proofs.FlowEffects.{Carried, carried, stored_size}
 use Rattle.tomex_rvexec.proofs.FlowSteps.{comes, inside, length-dest, never_zero, register_set}
 
--- where a step goes on or ends, it is the step of an instruction
+-- a step that continues or ends is the step of an instruction
 pub record Coming (s : State) : Type 0 where
   pub step : Step
   pub is : coming_of s ≡ Some step

@@ -25,8 +25,8 @@ end_at _ = None
 abbrev pub end_of : Step → Option EndKind
 end_of x = end_at x.instr.op
 
--- what holds of the machine at every step: 32 registers, x0 zero, the pc a multiple of 4, and a byte
--- of memory for each byte of the window
+-- what holds for the machine at every step: 32 registers, x0 zero, the pc a multiple of 4, and a byte of memory for
+-- each byte of the window
 pub record IsState (s : State) : Type 0 where
   pub registers : length s.regs ≡ 32
   pub zero : slice_index s.regs 0 ≡ 0

@@ -30,7 +30,7 @@ abbrev pub Leads : State → ℕ → State → Type 0
 Leads old zero new = new ≡ old
 Leads old (suc n) new = (mid : State) × Leads old n mid × (step_of mid ≡ Goes new)
 
--- what a step answers, and what it leaves
+-- what a step returns, and the state that it leaves
 abbrev pub Answers : Outcome → State → Result Stepped Fault → State → Type 0
 Answers (Goes s) old answer new = (answer ≡ Ok Next) × (new ≡ s)
 Answers (Ends k) old answer new = (answer ≡ Ok (Ended k)) × (new ≡ old)

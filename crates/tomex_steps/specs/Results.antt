@@ -22,7 +22,7 @@ abbrev pub second_at : Form → Step → ℕ
 second_at forms.Register x = x.vk
 second_at _ x = x.instr.imm
 
--- what a load makes of the bytes from an address on
+-- the value of a load, from the bytes at its address
 abbrev pub loaded : Op → (ℕ → ℕ) → ℕ → ℕ
 loaded Lb byte a = from_byte (byte a)
 loaded Lh byte a = from_half (byte a + 256 * byte (a + 1))
@@ -46,8 +46,8 @@ result_at Jal x byte = sum x.pc 4
 result_at Jalr x byte = sum x.pc 4
 result_at op x byte = computed (pool_of op) op x byte
 
--- the result of a step: what its destination gets. A load's is made of the bytes that it reads, by
--- address; no other depends on memory
+-- the result of a step, for its destination. A load's depends on the bytes that it reads, by address; no other
+-- depends on memory
 abbrev pub result_of : Step → (ℕ → ℕ) → ℕ
 result_of x byte = result_at x.instr.op x byte
 
@@ -65,11 +65,11 @@ abbrev pub is_among : Option ByteRange → ℕ → Bool
 is_among None a = false
 is_among (Some bytes) a = nat_le bytes.from a && nat_lt a bytes.to
 
--- whether a load or store touches the byte at an address
+-- a load or store touches the byte at an address
 abbrev pub covers : Step → ℕ → Bool
 covers x a = is_among (bytes_of x) a
 
--- whether a step writes the byte at an address
+-- a step writes the byte at an address
 abbrev pub overwrites : Step → ℕ → Bool
 overwrites x a = is_store x && covers x a
 

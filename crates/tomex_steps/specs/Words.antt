@@ -21,7 +21,7 @@ sum a b = (a + b) % 2 ^ 32
 abbrev pub difference : ℕ → ℕ → ℕ
 difference a b = (a + (2 ^ 32 - b)) % 2 ^ 32
 
--- 1 where the test is true, else 0
+-- 1 if the test is true, else 0
 abbrev pub flag : Bool → ℕ
 flag t = if t then 1 else 0
 
@@ -89,7 +89,7 @@ muldiv_of Rem a b = remainder a b
 muldiv_of Remu a b = remainder_unsigned a b
 muldiv_of _ a b = 0
 
--- whether the branch's comparison holds
+-- the branch's comparison holds
 abbrev pub is_taken : Op → ℕ → ℕ → Bool
 is_taken Beq a b = nat_eq a b
 is_taken Bne a b = not (nat_eq a b)

@@ -16,7 +16,7 @@ use Rattle.tomex_symbols.specs.Sweep.{InOrder, IsSwept, IsUpTo, if_at, is_unsize
 use Rattle.tomex_symbols.proofs.Best.{IsBest, IsLast, best_is, cons_cases, extended, here, last_is, nothing, only_one, there}
 use Rattle.tomex_symbols.proofs.Rising.{Rises, rises, rises_take}
 
--- one symbol more
+-- one more symbol
 
 or_cond : (b : Bool) (s : Symbol) (o c : Option Symbol) → or_else (cond b (Some s) o) c ≡ cond b (Some s) (or_else o c)
 or_cond true s o c = refl
@@ -197,7 +197,7 @@ none_after pc ss ts s r h e =
     (All-weaker (λ t. pc < t.address) (λ t. begins_after s.address pc t ≡ false)
     (λ t l. begins_beyond s.address t.address pc l) ts h))
 
--- a symbol does that begins after s
+-- a symbol does, if it begins after s
 one_after : (pc : ℕ) (ss : List Symbol) (s t : Symbol) → Contains ss t → s.address < t.address → t.address ≤ pc
     → list_any (λ u. begins_after s.address pc u) ss ≡ true
 one_after pc ss s t c l m =

@@ -68,7 +68,7 @@ apart_in bytes (Some t) = apart_from bytes t 0 _
 pub symbols_numbered : (bytes : List ℕ) → AreNumbered (symbols_of bytes)
 symbols_numbered bytes = apart_in bytes (tables_of bytes)
 
--- the next section is the symbol table, or is passed
+-- the next section is the symbol table, or is skipped
 
 pub table_found : (bytes : List ℕ) (n k : ℕ) (s : Section) (r : Option Section) → k < n → s ≡ section bytes k
     → is_symbol_table s ≡ true → r ≡ first_symbol_table (sections_from bytes k (n - k)) → Some s ≡ r

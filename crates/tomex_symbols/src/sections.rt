@@ -30,7 +30,8 @@ const SHT_STRTAB: u32 = 3;
 
 const SHF_EXECINSTR: u32 = 4;
 
-/// The fields of a section header that count here. The size and the offset in the file are in bytes.
+/// The fields of a section header that matter here. The size and the offset in the file are in
+/// bytes.
 #[derive(Clone, Copy, Debug, PartialEq, Eq)]
 pub struct Section {
     /// `sh_type`
@@ -95,7 +96,7 @@ fn read_section_at(bytes: &[u8], offset: usize) -> Section
     }
 }
 
-/// How many sections the file has: `e_shnum`.
+/// The number of sections: `e_shnum`.
 pub fn read_section_count(bytes: &[u8]) -> usize
     requires { has_sections bytes.now ≡ true }
     ensures { result ≡ section_count bytes.now }

@@ -37,7 +37,7 @@ pub struct Symbol {
 }
 
 impl Symbol {
-    /// The symbol's place among those of its address, the first to be chosen having 0.
+    /// The symbol's rank among those at its address; the first to be chosen has 0.
     pub fn rank(&self) -> u8
         ensures { result ≡ rank_of self.now }
     {

@@ -28,8 +28,8 @@ fn place(memory: &mut [u8], bytes: &[u8], window: Window, header: &ProgramHeader
 
 /// The memory of the window with the segments in it, and zeros elsewhere.
 ///
-/// The last segment is copied first: where two of them filled one byte, the earlier one would hold
-/// it, as in the definition. Files of which that is true are refused, so the order is no matter.
+/// The last segment is copied first: if two of them filled one byte, the earlier one's would stay,
+/// as in the definition. Such files are refused, so the order doesn't matter.
 pub fn memory_of<A: Allocator>(
     alloc: A,
     bytes: &[u8],

@@ -38,8 +38,8 @@ impl<'a, A: Allocator> Cpu<'a, A> {
         Ok(self.go_on())
     }
 
-    /// The target of a jump, which has to be a multiple of 4. Whether it is in memory is for
-    /// the next fetch to say.
+    /// The target of a jump, which must be a multiple of 4. The next fetch tests that it is in
+    /// memory.
     fn aligned(&self, target: u32) -> Result<u32, Fault>
         ensures ok { IfOk result (λ t. (t ≡ target) × (nat_eq (target % 4) 0 ≡ true)) }
         ensures err { IfErr result (λ e. (nat_eq (target % 4) 0 ≡ false)
@@ -64,7 +64,7 @@ impl<'a, A: Allocator> Cpu<'a, A> {
         Ok(Stepped::Next)
     }
 
-    /// Goes to the target where the branch is taken. A branch that isn't never faults.
+    /// Goes to the target if the branch is taken. A branch that isn't never faults.
     pub(super) fn branch(&mut self, taken: bool, target: u32) -> Result<Stepped, Fault>
         ensures { Answers (branches self.old taken target) self.old result self.new }
     {
