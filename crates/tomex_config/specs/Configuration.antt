@@ -23,11 +23,11 @@ config_of stations units buses width =
 abbrev pub is_between : ℕ → ℕ → ℕ → Bool
 is_between low high n = nat_le low n && nat_le n high
 
--- an option of at most so many units
+-- an option of at most most units, within the limits
 abbrev pub is_option : ℕ → UnitOption → Bool
 is_option most o = is_between 1 most o.units && is_between 1 64 o.latency && nat_le o.price 1000000
 
--- of branch units there is one
+-- there is only one branch unit
 abbrev pub most_units : UnitId → ℕ
 most_units Bru = 1
 most_units unit = 8
