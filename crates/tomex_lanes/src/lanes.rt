@@ -25,8 +25,8 @@ fn connect<A: Allocator>(
 }
 
 /// A lane for each worker. Row i goes to the worker that is left when i is divided by their number,
-/// and each worker can steal from all others, the next one first. All memory that lanes use is taken
-/// here.
+/// and each worker can steal from all others, the next one first. All memory that lanes use is
+/// allocated here.
 pub fn deal<A: Allocator + Clone + Drop>(
     alloc: A,
     workers: usize,

@@ -34,7 +34,7 @@ found_one P p (y ∷ ys) x all is = elim (cases_Bool (p y)) [
   | inr fails ↦ found_one P p ys x (All-tail P y ys all) (rw fails at is)
 ]
 
--- where none is found none passes
+-- if none is found, none passes
 none_found : {X : Type 0} (p : X → Bool) (xs : List X) → find p xs ≡ None → All (λ x. p x ≡ false) xs
 none_found p [] is = All-nil (λ x. p x ≡ false)
 none_found p (y ∷ ys) is = elim (cases_Bool (p y)) [
@@ -53,7 +53,7 @@ total_in config steps found (Some p) n good all at is =
     at in
     w.0 config good w.1 ∙ e
 
--- a total that is known is the program's
+-- a known total is the program's
 total_is : (config : Configuration) (steps : List Step) (found : List Plateau) (n : ℕ) → IsWithinLimits config
     → All (IsPlateauOf steps) found → total_known config found ≡ Some n → total_of (times_in config steps) ≡ n
 total_is config steps found n good all is =
@@ -82,7 +82,7 @@ known_in config steps found (Some p) k d good all low on at =
     at in
     ap (λ (n : ℕ). Some n) (sym (w.0 config good w.1))
 
--- and that of a configuration on one of the plateaus is known
+-- the total of a configuration on one of the plateaus is known
 pub is_known : (config : Configuration) (steps : List Step) (found : List Plateau) (k : ℕ) (d : Plateau)
     → IsWithinLimits config → All (IsPlateauOf steps) found → k < length found
     → lies_on config (get_or found k d) ≡ true → total_known config found ≡ Some (total_of (times_in config steps))
