@@ -1,4 +1,4 @@
-//! Texts that are aligned, at their right or at their left.
+//! Texts that are aligned, to the right or to the left.
 
 ghost use Rattle.std.specs.Prelude.{◌≡◌, ◌++◌, codes, OnOk, string_bytes};
 ghost use Rattle.std.specs.Fmt.{decimal};

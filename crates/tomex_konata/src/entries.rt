@@ -20,7 +20,7 @@ pub struct Producer {
 /// A step of the log.
 #[derive(Clone, Copy)]
 pub struct Entry {
-    /// How many steps of the log are older.
+    /// The number of older steps in the log.
     pub id: usize,
     pub step: Step,
     pub at: Times,

@@ -17,7 +17,7 @@ text_after cycle config steps = tables_text_of (tables_of cycle (history config 
 abbrev product_after : ℕ → List ℕ
 product_after cycle = text_after cycle (with_latency units.Mul two_alu_stations 3) product
 
--- an operand that came, one that is awaited, and two registers that wait
+-- an operand that is there, one that is awaited, and two registers that wait
 product_after_3 : product_after 3
     ≡ codes "cycle 3\n"
     ++ codes "alu1 addi Vj=00000000 Vk=- Qj=- Qk=- A=-\n"

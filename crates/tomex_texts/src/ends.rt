@@ -1,4 +1,4 @@
-//! What the programs of a front row come to.
+//! The ends of programs on a front row.
 
 use std::alloc::{Allocator, Global};
 use tomex_rvexec::EndKind;

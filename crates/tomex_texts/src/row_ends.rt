@@ -1,4 +1,4 @@
-//! What a front row comes to.
+//! The ends of all programs on a front row.
 
 use crate::ends::ProgramEnd;
 use std::alloc::{Allocator, Global};

@@ -74,7 +74,7 @@ changes_within s own is =
     (All-filter (λ r. differ_at place (config_at s own.row) (config_at s r.row)) (λ r. r.row < length s.rows)
     (all_rows s) (rows_within s is)))
 
--- as many rows are known as there are
+-- the list has as many rows as the study
 pub rows_long : (s : DesignSpace) (rows : List FrontRow) → IsStudy s → rows ≡ all_rows s
     → length rows ≡ length s.rows
 unfolding cycles_of
