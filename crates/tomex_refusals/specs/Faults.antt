@@ -1,4 +1,4 @@
--- Faults of a program's run.
+-- Refusals of programs whose runs fault.
 use Rattle.std.specs.Prelude.{ℕ, List, ◌++◌, codes}
 use Rattle.tomex_refusals.specs.declared.faults.FaultRefusal.{FaultRefusal}
 use Rattle.tomex_refusals.specs.declared.faults.FaultRefusal.TheVariants as those
@@ -43,7 +43,7 @@ access =
     ++ (codes "a program of GNU ld whose start code loads no `gp` (link examples/start.s, or\n"
     ++ codes "use -Wl,--no-relax). `llvm-objdump -d FILE` shows the instruction.\n"))
 
--- what is said of each
+-- what each means, its causes, and what to do
 abbrev pub advice_of : FaultRefusal → List ℕ
 advice_of those.Fetch = fetch
 advice_of those.Illegal = illegal

@@ -1,4 +1,4 @@
--- Studies that are refused.
+-- Refusals of studies.
 use Rattle.std.specs.Prelude.{ℕ, List, ◌++◌, codes}
 use Rattle.tomex_refusals.specs.declared.studies.StudyRefusal.{StudyRefusal}
 use Rattle.tomex_refusals.specs.declared.studies.StudyRefusal.TheVariants as those
@@ -77,7 +77,7 @@ number_of_files =
     codes "There aren't as many files as the study has programs. No command of this\n"
     ++ codes "program says it: it names each program's file itself.\n"
 
--- what is said of each
+-- what each means, its causes, and what to do
 abbrev pub advice_of : StudyRefusal → List ℕ
 advice_of those.NotToml = not_toml
 advice_of those.UnknownKey = unknown_key

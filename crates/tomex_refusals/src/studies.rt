@@ -1,18 +1,18 @@
-//! Studies that are refused.
+//! Refusals of studies.
 
 ghost use Rattle.std.specs.Prelude.{◌≡◌};
 ghost use Rattle.tomex_refusals.specs.Studies.{advice_of, form_of, words_of};
 
-/// Studies that are refused.
+/// A refusal of a study.
 #[derive(Clone, Copy)]
 pub enum StudyRefusal {
-    /// The study's file is no TOML document.
+    /// The study's file is not a TOML document.
     NotToml,
     /// A table has a key that isn't known.
     UnknownKey,
-    /// A table lacks a key that it needs.
+    /// A table has no key that it needs.
     Missing,
-    /// A value isn't of the kind that is wanted.
+    /// A value has the wrong kind.
     WrongKind,
     /// A value is too small or too large.
     OutOfRange,
