@@ -1,4 +1,4 @@
--- A call that asks the budget: it is lent the budget, and answers yes or no.
+-- A call that asks the budget: it is lent the budget, and returns yes or no.
 use Rattle.tomex_tests_allocator.proofs.Steps.{◌≡◌, List, [], ◌∷◌, refl, Bor, Lft, Share, ftrue, fsep, flft, shr_vals, nothing}
 use Rattle.tomex_tests_allocator.proofs.Steps.{Val, vptr, ‵, raw, ◌⊛◌, later, some, ◌$◌, ◌∵◌, !, qed, done, move, keep, use1}
 use Rattle.tomex_tests_allocator.proofs.Steps.{split, join, fjoin, feq_i, feq_l, await, id⊢, Ura, Bool, ap, vbool, SProp, ent}

@@ -5,7 +5,7 @@ use Rattle.tomex_tests_allocator.proofs.Steps.{fsplit, id⊢, use1, Fml, Ura, en
 use Rattle.tomex_tests_allocator.specs.contracts.refusing.Refusing as refusing
 use Rattle.tomex_tests_allocator.specs.contracts.budget.Budget as budget
 
--- where a `&Refusing` points, and where its fields lie
+-- where a `&Refusing` points, and where its fields are
 abbrev pub Lent : Al → Type 0
 Lent Z = Bor (refusing.the_row Z.row).Denot
 
@@ -18,7 +18,7 @@ budget_of Z r = record {
   now = r.now.budget;
 }
 
--- what the holder of a `&Budget` has
+-- the resources of a holder of a `&Budget`
 abbrev pub sees : Lft → Bor (budget.the_row).Denot → Fml
 sees κ b = hidden_shr budget.the_row κ b.now b.ref_ptr.0 b.ref_ptr.1
 

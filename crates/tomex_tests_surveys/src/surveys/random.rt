@@ -147,7 +147,7 @@ impl Random {
         }
     }
 
-    /// 40 instructions with no branch.
+    /// 40 instructions without a branch.
     fn straight(&mut self, alloc: Global) -> Result<Vec<u32>, Fail> {
         let mut words = Vec::new(alloc);
         for _ in 0..40u32 {
@@ -157,7 +157,7 @@ impl Random {
         Ok(words)
     }
 
-    /// A loop of products, a loop of accesses, and instructions with no branch.
+    /// A loop of products, a loop of accesses, and instructions without a branch.
     fn programs(&mut self, alloc: Global) -> Result<Vec<Program>, Fail> {
         let weights = [u32::from(self.few()), u32::from(self.few())];
         let straight = self.straight(alloc)?;

@@ -1,4 +1,4 @@
--- The budget is asked first. Where it refuses, so does the call; else the inner allocator is asked.
+-- The budget is asked first. If it refuses, so does the call; else the inner allocator is asked.
 use Rattle.tomex_tests_allocator.proofs.Steps.{◌≡◌, Ok, Err, [], ◌∷◌, refl, w64, proved, Al, seen, token, Takes, at_takes}
 use Rattle.tomex_tests_allocator.proofs.Steps.{Takes-goes, Takes-gives, Answered, Answer, answer_val, Answer-typed, Answer-Ok}
 use Rattle.tomex_tests_allocator.proofs.Steps.{Answer-err, answers, ftrue, fsep, flft, ◌⊑◌, ⊑_trans, fact, tables, usize, yes}
