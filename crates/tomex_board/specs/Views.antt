@@ -49,7 +49,7 @@ IsWhole share = (x : ℕ) → x < 32 → Has share x
 abbrev pub HasTwo : List ℕ → Type 0
 HasTwo share = (x : ℕ) × (y : ℕ) × Has share x × Has share y × (x ≢ y)
 
--- what the first seat of a board knows: nothing, and it has all numbers
+-- the first seat of a board: it knows nothing, and has all numbers
 abbrev pub first_view : View
 first_view = record { hand = []; seen = []; marks = []; bests = []; share = range_with_len 0 32 }
 

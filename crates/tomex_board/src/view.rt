@@ -1,4 +1,4 @@
-//! What a seat knows of its board.
+//! What a seat knows about its board.
 
 use crate::mark::Mark;
 use std::collections::LinkedList;

@@ -57,7 +57,7 @@ abbrev pub elf_tests : List ℕ → Span → List Test
 elf_tests bytes window =
     file_tests bytes ++ table_tests window bytes (entry_of bytes) (header_offset bytes) (header_count bytes)
 
--- what the tests guarantee of the entry: a word of the window
+-- the tests guarantee of the entry that it is a word of the window
 abbrev pub IsEntry : Span → ℕ → Type 0
 IsEntry window entry = (entry % 4 ≡ 0) × (window.base ≤ entry) × (entry + 4 ≤ window.base + window.size)
 

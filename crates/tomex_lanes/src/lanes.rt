@@ -1,4 +1,4 @@
-//! How rows are dealt.
+//! Dealing rows to workers.
 
 ghost use Rattle.std.specs.Prelude.{◌≡◌, ◌<◌, ◌≤◌, length, slice_get, slice_set, IfOk, OnOk, Some, All};
 ghost use Rattle.tomex_lanes.specs.Lanes.{Dealt, dealt, with_other};

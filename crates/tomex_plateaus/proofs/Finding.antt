@@ -1,4 +1,4 @@
--- What a search among plateaus finds.
+-- The results of a search among plateaus.
 use Rattle.std.proofs.Common.{◌≡◌, ℕ, ◌-◌, ◌<◌, ◌≤◌, ◌++◌, ◌+◌, arith, ap, sym, ◌∙◌, refl, subst, Bool, true, false}
 use Rattle.std.proofs.Common.{List, [], ◌∷◌, length, get_or, Option, Some, None, All, reverse, inl, inr, ⊎_elim}
 use Rattle.std.specs.Prelude.{option_map, IfSome}
@@ -22,7 +22,7 @@ all_reverse P xs all k d low =
     let below : k < length xs = rw length-reverse at low in
     subst P (sym (get_or-reverse xs k d below)) (all (length xs - 1 - k) d (omega arith))
 
--- what is found passes, and is one of them
+-- the item that is found passes, and is one of them
 found_one : {X : Type 0} (P : X → Type 0) (p : X → Bool) (xs : List X) (x : X) → All P xs → find p xs ≡ Some x → P x
     × (p x ≡ true)
 found_one P p [] x all is = absurd (cc)

@@ -1,6 +1,6 @@
 -- The demands of a run give a plateau: a configuration that lies on it gives the run the same cycles as its own.
-use Rattle.std.proofs.Common.{ℕ, zero, suc, ◌<◌, ◌≤◌, ◌≡◌, ◌∙◌, ◌⊎◌, Bool, true, false, ap, arith, refl, sym, inl, inr, List, []}
-use Rattle.std.proofs.Common.{◌∷◌, Some, length}
+use Rattle.std.proofs.Common.{ℕ, zero, suc, ◌<◌, ◌≤◌, ◌≡◌, ◌∙◌, ◌⊎◌, Bool, true, false, ap, arith, refl, sym, inl}
+use Rattle.std.proofs.Common.{inr, List, [], ◌∷◌, Some, length}
 use Rattle.std.specs.Prelude.{min, nat_le, ◌==◌, not, slice_get}
 use Rattle.std.specs.List.{list_all}
 use Rattle.std.proofs.lemmas.Bool.{and_from, and_parts, cases_Bool, eqb-true, leb-true, le-leb}
@@ -44,7 +44,7 @@ count_high config (Units unit) good = let h = units_high config unit good in ome
 count_high config Buses good = let h = between 1 8 config.buses good.buses in omega arith
 count_high config Width good = let h = between 1 4 config.width good.width in omega arith
 
--- what follows for a count and a latency in an interval, and that a configuration's own is in it
+-- consequences for a count and a latency in an interval; a configuration's own is in it
 
 count_in : (demand : Demand) (count n : ℕ) → n ≤ 16 → is_within (counts_for demand count) n ≡ true → (n ≡ count)
     ⊎ ((demand.waits ≡ false) × (demand.peak ≤ n))

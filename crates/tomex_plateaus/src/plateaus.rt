@@ -11,7 +11,7 @@ use std::marker::Model;
 use tomex_config::Config;
 use tomex_timing::Run;
 
-/// How many plateaus are kept.
+/// The most plateaus that are kept.
 const MOST: usize = 1024;
 
 /// Plateaus of a program, from the demands of its runs.

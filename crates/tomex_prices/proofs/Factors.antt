@@ -23,7 +23,8 @@ use Rattle.tomex_prices.specs.Studies.{config_of}
 use Rattle.tomex_prices.proofs.AllCosts.{share}
 use Rattle.tomex_prices.proofs.FactorSums.{all_no_further, differs, never_cheaper, paid_times, sums_apart, worst}
 use Rattle.tomex_prices.proofs.FactorSums.{worst_sums, worst_within}
-use Rattle.tomex_prices.proofs.NewCosts.{front_free, free_keeps, off_costed, on_costed, premium, premium_few, row_shares}
+use Rattle.tomex_prices.proofs.NewCosts.{front_free, free_keeps, off_costed, on_costed, premium, premium_few}
+use Rattle.tomex_prices.proofs.NewCosts.{row_shares}
 
 -- the percentage for one rival
 

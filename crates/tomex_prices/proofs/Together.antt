@@ -5,7 +5,8 @@ use Rattle.std.specs.Prelude.{max, min, sum_by}
 use Rattle.std.specs.List.{Contains}
 use Rattle.std.proofs.lemmas.Bool.{cases_lt, le-leb, lt-ltb}
 use Rattle.std.proofs.lemmas.List.Sums.{sum_by-cons}
-use Rattle.std.proofs.Math.Nat.{add-mul, div-mul-le_self, le_of_mul-le-mul_right, mul-add, mul-le-mul_left, mul-le-mul_right, mul_assoc, mul_comm}
+use Rattle.std.proofs.Math.Nat.{add-mul, div-mul-le_self, le_of_mul-le-mul_right, mul-add, mul-le-mul_left}
+use Rattle.std.proofs.Math.Nat.{mul-le-mul_right, mul_assoc, mul_comm}
 use Rattle.tomex_config.specs.Configuration.{plain}
 use Rattle.tomex_pareto.specs.declared.front_row.FrontRow.{FrontRow}
 use Rattle.tomex_pareto.proofs.Finished.{row_at}

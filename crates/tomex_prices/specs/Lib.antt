@@ -1,5 +1,5 @@
--- What contracts cite: the values of a price for which a row stays on the front, how wrong all prices may be, the
--- laws of both, and the table of a study's prices.
+-- Definitions that contracts cite: the values of a price for which a row stays on the front, how wrong all prices may
+-- be, the laws of both, and the table of a study's prices.
 pub mod Price
 pub mod Interval
 pub mod Laws

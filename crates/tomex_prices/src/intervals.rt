@@ -54,14 +54,14 @@ fn cost_at(price: u64, row: PricedRow) -> u64
     row.rest + price * row.times
 }
 
-/// How much dearer than the row a rival must be for the row to stay.
+/// The least amount by which a rival must be dearer than the row for the row to stay.
 fn premium(row: PricedRow, rival: PricedRow) -> u64
     ensures { result ≡ premium row rival }
 {
     if rival.cycles < row.cycles { 1 } else { 0 }
 }
 
-/// How much cheaper a rival may get, relative to the row.
+/// The amount by which a rival may get cheaper, relative to the row.
 fn slack(now: u64, row: PricedRow, rival: PricedRow) -> u64
     requires now { now < 2 ^ 32 }
     requires row { IsSmall row }

@@ -37,14 +37,14 @@ words_of (Image refusal) = of_images.words_of refusal
 words_of (Fault refusal) = of_faults.words_of refusal
 words_of (Study refusal) = of_studies.words_of refusal
 
--- how it looks, with names in place of what differs
+-- its form, with names in place of the parts that vary
 abbrev pub form_of : Refusal → List ℕ
 form_of (Command refusal) = of_commands.form_of refusal
 form_of (Image refusal) = of_images.words_of refusal
 form_of (Fault refusal) = of_faults.form_of refusal
 form_of (Study refusal) = of_studies.form_of refusal
 
--- what it means, the usual causes, and what to do
+-- the advice on it: its meaning, the usual causes, and what to do
 abbrev pub advice_of : Refusal → List ℕ
 advice_of (Command refusal) = of_commands.advice_of refusal
 advice_of (Image refusal) = of_images.advice_of refusal
@@ -61,7 +61,7 @@ IsFirstIn text [] found = found ≡ None
 IsFirstIn text (refusal ∷ refusals) found =
     (IsIn text refusal × (found ≡ Some refusal)) ⊎ ((IsIn text refusal → ⊥) × IsFirstIn text refusals found)
 
--- how it looks, and then its advice
+-- its form, and then the advice on it
 abbrev pub explanation_of : Refusal → List ℕ
 explanation_of refusal = form_of refusal ++ (codes "\n" ++ advice_of refusal)
 

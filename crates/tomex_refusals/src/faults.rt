@@ -52,7 +52,7 @@ impl FaultRefusal {
         }
     }
 
-    /// How it looks, with names in place of what differs.
+    /// Its form, with names in place of the parts that vary.
     pub fn form(self) -> &'static str
         ensures { result.now ≡ form_of self }
     {
@@ -64,7 +64,7 @@ impl FaultRefusal {
         }
     }
 
-    /// What it means, the usual causes, and what to do.
+    /// The advice on it: its meaning, the usual causes, and what to do.
     pub fn advice(self) -> &'static str
         ensures { result.now ≡ advice_of self }
     {

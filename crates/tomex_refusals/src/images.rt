@@ -110,7 +110,7 @@ impl ImageRefusal {
         }
     }
 
-    /// What it means, the usual causes, and what to do.
+    /// The advice on it: its meaning, the usual causes, and what to do.
     pub fn advice(self) -> &'static str
         ensures { result.now ≡ advice_of self }
     {

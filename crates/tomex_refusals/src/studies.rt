@@ -91,7 +91,7 @@ impl StudyRefusal {
         }
     }
 
-    /// How it looks, with names in place of what differs.
+    /// Its form, with names in place of the parts that vary.
     pub fn form(self) -> &'static str
         ensures { result.now ≡ form_of self }
     {
@@ -104,7 +104,7 @@ impl StudyRefusal {
         }
     }
 
-    /// What it means, the usual causes, and what to do.
+    /// The advice on it: its meaning, the usual causes, and what to do.
     pub fn advice(self) -> &'static str
         ensures { result.now ≡ advice_of self }
     {

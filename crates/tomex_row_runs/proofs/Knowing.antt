@@ -17,8 +17,8 @@ use Rattle.tomex_plateaus.specs.Kept.{Kept, HasLearnt}
 use Rattle.tomex_plateaus.specs.Plateaus.{total_known}
 use Rattle.tomex_cycle.specs.Run.{total}
 use Rattle.tomex_row_runs.specs.Cycles.{totals_on}
-use Rattle.tomex_row_runs.specs.Knowledge.{AreLearnt, AreTotals, IsKnowledge, IsLearnt, IsLearntAt, IsTotalAt, KnowledgeOf}
-use Rattle.tomex_row_runs.specs.Knowledge.{OnlyAt, known_on, nothing_known}
+use Rattle.tomex_row_runs.specs.Knowledge.{AreLearnt, AreTotals, IsKnowledge, IsLearnt, IsLearntAt, IsTotalAt}
+use Rattle.tomex_row_runs.specs.Knowledge.{KnowledgeOf, OnlyAt, known_on, nothing_known}
 use Rattle.tomex_study.specs.Program.{Workload, IsProgram}
 use Rattle.tomex_row_runs.proofs.Totals.{total_within}
 
@@ -249,7 +249,7 @@ learnt_here config known old now new place k here same learnt = λ l m was is.
     subst (λ (j : ℕ). IsLearnt config (slice_index_or known j None) l m) (sym here)
     (learnt l m (same ∙ (ap (slice_get old) (sym here) ∙ was)) (ap (slice_get new) (sym here) ∙ is))
 
--- what is learnt so far
+-- the knowledge that is learnt so far
 pub record IsLearning (all : List Workload) (config : Configuration) (known : List (Option ℕ))
     (old now : KnowledgeOf) (place : ℕ) (totals : List ℕ) : Type 0 where
   pub programs : now.programs ≡ all

@@ -3,7 +3,8 @@
 ghost use Rattle.std.specs.Prelude.{◌≡◌, ◌<◌, ◌≤◌, ℕ, length, take, slice_get, IfOk, OnOk, OnErr, All, Some, None};
 ghost use Rattle.tomex_cycle.specs.Run.{total};
 ghost use Rattle.tomex_row_runs.specs.Cycles.{totals_on};
-ghost use Rattle.tomex_row_runs.specs.Knowledge.{AreLearnt, AreTotals, IsLearntAt, IsTotalAt, OnlyAt, known_on, nothing_known};
+ghost use Rattle.tomex_row_runs.specs.Knowledge.{AreLearnt, AreTotals, IsLearntAt, IsTotalAt, OnlyAt, known_on};
+ghost use Rattle.tomex_row_runs.specs.Knowledge.{nothing_known};
 ghost use Rattle.tomex_study.specs.Program.{IsProgram, Workload};
 
 use std::alloc::{AllocError, Allocator};

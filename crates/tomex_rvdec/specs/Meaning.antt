@@ -174,6 +174,6 @@ operations =
 unfoldable pub selected : ℕ → Option Op
 selected w = find (λ op. selects op w) operations
 
--- what a word means, if anything
+-- the meaning of a word, if it has one
 abbrev pub meaning : ℕ → Option Instruction
 meaning w = option_map (λ op. operands_at (form_of op) w op) (selected w)

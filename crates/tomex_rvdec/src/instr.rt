@@ -1,4 +1,4 @@
-//! An instruction, and what it asks of a machine: a station, a unit, operands.
+//! An instruction, and the parts of a machine that it uses: a station, a unit, operands.
 
 ghost use Rattle.std.specs.Prelude.{◌≡◌, ◌<◌};
 

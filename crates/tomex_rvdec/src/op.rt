@@ -57,7 +57,7 @@ pub enum Op {
     Ebreak,
 }
 
-/// How a word holds an operation's operands: the manual's instruction formats, with the I format
+/// The forms in which words hold operands: the manual's instruction formats, with the I format
 /// split by what its immediate means.
 #[derive(Clone, Copy, Debug, PartialEq, Eq)]
 pub enum Form {
@@ -84,7 +84,7 @@ pub enum Form {
 }
 
 impl Op {
-    /// How a word holds the operation's operands.
+    /// The form in which a word holds the operation's operands.
     pub fn form(self) -> Form
         ensures { result ≡ form_of self }
     {

@@ -202,7 +202,7 @@ pub end_is : (i : Loaded) (n : ℕ) (s : State) (kind : EndKind) → IsLoaded i.
     → Leaves i (history i n) s
 end_is i n s kind loaded r = run_leaves i n s loaded r.leads
 
--- what doesn't end the program is allowed, also of the last step
+-- a step that doesn't end the program is allowed, including the last one
 pub step_allowed : (i : Loaded) (n k : ℕ) (s : State) (kind : EndKind) (x : Step) → IsLoaded i.window i.memory i.entry
     → RunEnds i n s kind → k ≤ n → step_after i k ≡ Some x → end_of x ≡ None → IsAllowed i x
 step_allowed i n k s kind x loaded r h c none = elim (cases_order k n) [

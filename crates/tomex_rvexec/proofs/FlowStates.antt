@@ -227,7 +227,7 @@ by_end s x kind c e =
     let k : end_at o.instr.op ≡ Some kind = subst (λ (z : Step). end_of z ≡ Some kind) (sym o.step) e in
     sym o.outcome ∙ as_ends o.instr.op (step_at s o.instr) s kind k
 
--- what ends a program writes nothing
+-- an instruction that ends a program writes nothing
 no_dest : (op : Op) (rd : ℕ) (kind : EndKind) → end_at op ≡ Some kind → dest_at (form_of op) rd ≡ None
 no_dest Ecall rd kind e = refl
 no_dest Ebreak rd kind e = refl

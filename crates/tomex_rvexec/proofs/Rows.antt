@@ -121,7 +121,7 @@ pub away : run_of 9 0 (start_of (image_at 0 (0xffdff06f ∷ []))) ≡ seen (faul
 unfolding selected step_of
 away = refl
 
--- what `trace` may answer with Ok: a run that is too long, and one that faults
+-- the steps of a run that is too long, and of one that faults
 abbrev pub pcs : List Step → List ℕ
 pcs steps = map (λ (x : Step). x.pc) steps
 

@@ -71,7 +71,7 @@ pub record Follows (i : Loaded) (older : List Step) (x : Step) : Type 0 where
   pub vj : x.vj ≡ register_after i older x.instr.rs1
   pub vk : x.vk ≡ register_after i older x.instr.rs2
 
--- each of these steps, the youngest first, follows those older than it, and the program goes on after it
+-- each of these steps, the youngest first, follows those older than it, and the program continues after it
 abbrev pub IsFlow : Loaded → List Step → Type 0
 IsFlow i [] = ⊤
 IsFlow i (x ∷ older) = Follows i older x × IsAllowed i x × IsFlow i older

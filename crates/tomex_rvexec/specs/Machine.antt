@@ -1,6 +1,6 @@
--- The in-order step: what one instruction of RV32IM does to pc, registers and memory
--- (the manual's chapters RV32I and M), in this project's environment: memory is one window,
--- instructions are fetched from the image as it was loaded, ECALL and EBREAK end the program.
+-- The in-order step: the effect of one instruction of RV32IM on pc, registers and memory (the manual's chapters RV32I
+-- and M), in this project's environment: memory is one window, instructions are fetched from the image as it was
+-- loaded, ECALL and EBREAK end the program.
 use Rattle.std.specs.Prelude.{ℕ, ◌*◌, ◌/◌, ◌%◌, ◌-◌, List, slice_index, slice_set, Bool}
 use Rattle.std.specs.Prelude.{nat_eq, if◌then◌else◌, Option, Some, None, option_map}
 use Rattle.tomex_rvdec.specs.declared.op.Op.{Op}
@@ -77,7 +77,7 @@ stores s address count written =
     then Goes (record s { pc = next_pc s; memory = written s.memory (address - base_of s) })
     else Faults Access
 
--- what an operation does, given its step: a row for each of them
+-- the effect of each operation, given its step: a row for each
 abbrev pub executes : Op → Step → State → Outcome
 executes Lui x s = writes s x.instr.rd x.instr.imm
 executes Auipc x s = writes s x.instr.rd (sum s.pc x.instr.imm)

@@ -6,7 +6,7 @@ ghost use Rattle.tomex_rvexec.specs.declared.end.RunError.TheVariants.{Memory};
 use crate::outcome::{EndKind, Fault};
 use std::alloc::{AllocError, AllocFailed, Allocator, Global};
 
-/// How a program ended.
+/// The end of a program.
 ///
 /// `pc` is the address of the ECALL or EBREAK; `steps` counts it too.
 #[derive(Drop)]

@@ -156,7 +156,7 @@ pub fn limit_changes_no_run_that_ends()
         → steps_from limit (start_of i) ≡ reverse (history i (k + 1)) }
 {}
 
-/// Each step of a run that ends: it follows those before it, it joins the history, and it goes on
+/// Each step of a run that ends: it follows those before it, it joins the history, and it continues
 /// or, after all others, ends the run in the state that its history leaves.
 pub fn run_that_ends_is_a_flow_of_steps()
     ensures comes { (i : Loaded) (n k : ℕ) (s : State) (kind : EndKind)

@@ -19,11 +19,11 @@ pub record IsWithout (set number new : ℕ) : Type 0 where
 abbrev pub IsSingle : ℕ → Type 0
 IsSingle set = (a b : ℕ) → a < 128 → b < 128 → has set a ≡ true → has set b ≡ true → a ≡ b
 
--- how many numbers below n pass a test
+-- the number of numbers below n that pass a test
 unfoldable pub count_below : (ℕ → Bool) → ℕ → ℕ
 count_below test zero = 0
 count_below test (suc n) = (if test n then 1 else 0) + count_below test n
 
--- how many members a set has
+-- the number of members of a set
 abbrev pub size_of : ℕ → ℕ
 size_of set = count_below (has set) 128

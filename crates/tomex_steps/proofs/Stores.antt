@@ -1,4 +1,4 @@
--- What a store leaves in memory, byte by byte.
+-- Memory after a store, byte by byte.
 use Rattle.std.proofs.Common.{ℕ, ◌+◌, ◌-◌, ◌≡◌, ◌∙◌, List, length, false, refl, ap}
 use Rattle.std.specs.Prelude.{slice_index}
 use Rattle.std.proofs.lemmas.Bool.{le-leb, both_ways}

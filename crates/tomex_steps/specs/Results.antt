@@ -1,6 +1,5 @@
--- What a step computes from its operands (RV32I, sections 2.4 to 2.6; M, chapter 7): its result, the
--- pc that follows it, and the bytes that a store leaves. All of it is a function of the step, and of
--- the bytes that a load reads.
+-- The results of a step from its operands (RV32I, sections 2.4 to 2.6; M, chapter 7): its result, the pc that follows
+-- it, and the bytes that a store leaves. All of it is a function of the step, and of the bytes that a load reads.
 use Rattle.std.specs.Prelude.{ℕ, ◌+◌, ◌-◌, ◌*◌, ◌/◌, ◌%◌, ◌^◌, Bool, false, ◌&&◌, nat_le, nat_lt, if◌then◌else◌}
 use Rattle.std.specs.Prelude.{Option, Some, None, slice_index}
 use Rattle.tomex_rvdec.specs.declared.op.Op.{Op}
@@ -31,7 +30,7 @@ loaded Lbu byte a = byte a
 loaded Lhu byte a = byte a + 256 * byte (a + 1)
 loaded _ byte a = 0
 
--- what the unit of a pool computes
+-- the result of the unit of a pool
 abbrev pub computed : Option PoolId → Op → Step → (ℕ → ℕ) → ℕ
 computed (Some pools.Alu) op x byte = alu_of op x.vj (second_at (form_of op) x)
 computed (Some pools.Mul) op x byte = muldiv_of op x.vj x.vk

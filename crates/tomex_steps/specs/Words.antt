@@ -1,6 +1,6 @@
--- What the operations compute on words of 32 bits, signed values in two's complement
--- (RV32I, sections 2.4 "Integer Computational Instructions" and 2.5 "Control Transfer
--- Instructions"; M, sections 7.1 "Multiplication Operations" and 7.2 "Division Operations").
+-- The results of operations on words of 32 bits, signed values in two's complement (RV32I, sections 2.4 "Integer
+-- Computational Instructions" and 2.5 "Control Transfer Instructions"; M, sections 7.1 "Multiplication Operations"
+-- and 7.2 "Division Operations").
 use Rattle.std.specs.Prelude.{ℕ, ◌+◌, ◌-◌, ◌*◌, ◌/◌, ◌%◌, ◌^◌, ℤ, pos, ◌*ℤ◌, int_lt, int_div, int_rem, bit_and}
 use Rattle.std.specs.Prelude.{bit_or, bit_xor, if◌then◌else◌, nat_lt, nat_eq, Bool, false, not}
 use Rattle.std.specs.Int.{cast_signed, cast_unsigned, int_shr, w32, w64}

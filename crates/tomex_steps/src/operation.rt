@@ -1,5 +1,5 @@
-//! What the operation of one step computes and does, once its operands are there: its result, its
-//! store, and the pc that follows it. For machines that carry values outside registers.
+//! The operation of one step, once its operands are there: its result, its store, and the next pc.
+//! For machines that carry values outside registers.
 
 ghost use Rattle.std.specs.Prelude.{ℕ, ◌≡◌, IfSome, IsSome, IsTrue, Some, true};
 ghost use Rattle.tomex_rvdec.specs.Meaning.{form_of};

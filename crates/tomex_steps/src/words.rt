@@ -1,4 +1,4 @@
-//! What the operations compute on words of 32 bits.
+//! The results of operations on words of 32 bits.
 
 ghost use Rattle.std.specs.Prelude.{◌≡◌, ◌/◌, ◌^◌, ◌*ℤ◌, pos, FitsSigned};
 ghost use Rattle.std.specs.Int.{w32};

@@ -15,8 +15,8 @@ use Rattle.tomex_study.specs.declared.program.ProgramError.{ProgramError}
 use Rattle.tomex_study.specs.declared.program.ProgramError.TheVariants as programs
 use Rattle.tomex_study.specs.Study.{DesignSpace, costs_of}
 use Rattle.tomex_document.specs.Program.{ProgramEntry}
-use Rattle.tomex_study_reader.specs.Study.{AreProgramsOf, FailsToEnd, IsFileRefusal, IsFirstRefusal, IsProgramOf, IsStudyRefusal}
-use Rattle.tomex_study_reader.specs.Study.{IsRefusalOfFiles, IsStudyOf}
+use Rattle.tomex_study_reader.specs.Study.{AreProgramsOf, FailsToEnd, IsFileRefusal, IsFirstRefusal, IsProgramOf}
+use Rattle.tomex_study_reader.specs.Study.{IsStudyRefusal, IsRefusalOfFiles, IsStudyOf}
 use Rattle.tomex_study_reader.specs.declared.error.StudyError.{StudyError}
 use Rattle.tomex_study_reader.specs.declared.error.StudyError.TheVariants.{Memory}
 use Rattle.tomex_values.specs.declared.error.DocumentError.{DocumentError}
@@ -102,7 +102,7 @@ all_programs seen place entries files programs long past here =
     let count = length-map files seen in
     rw (take_all place entries past, take_all place (map seen files) (omega arith)) at here
 
--- what is read at a place
+-- the item that is read at a place
 pub item_is : {X : Type 0} (xs : List X) (place : ℕ) (x : X) → place < length xs → x ≡ get_or xs place x
     → slice_get xs place ≡ Some x
 item_is xs place x within read = slice_get_read xs (length xs) place x refl within read

@@ -133,7 +133,7 @@ one_in_stretch f g ys before after first row x d low high grown made so_far =
     ∙ (ap (λ (zs : List _). zs ++ f x ∷ []) so_far
     ∙ (ap (λ (z : _). map g (take (row - first) (drop first ys)) ++ z ∷ []) made ∙ sym more)))
 
--- what is mapped alike is alike at each place
+-- two lists with equal images have equal images at each place
 pub same_at : {X Y Z : Type 0} (f : X → Z) (g : Y → Z) (xs : List X) (ys : List Y) (k : ℕ) (x : X) (y : Y)
     → map f xs ≡ map g ys → k < length xs → f (get_or xs k x) ≡ g (get_or ys k y)
 same_at f g xs ys k x y same low =

@@ -30,8 +30,8 @@ impl<J: Plan, A: Allocator> Promise<Result<Part<J, A>, AllocError>> for PartOf<J
 
 type Running<J, A> = PromisedHandle<Result<Part<J, A>, AllocError>, PartOf<J, A>>;
 
-/// What all workers share: the study, the board, the gate to which they report their runs, and the
-/// sizes of their threads' stacks.
+/// The things that all workers share: the study, the board, the gate to which they report their
+/// runs, and the sizes of their threads' stacks.
 #[derive(Drop)]
 struct Workshop<'s, J: Plan, A: Allocator, G: Gate, S: Stacks> {
     study: &'s Study<A>,

@@ -1,7 +1,7 @@
 -- The symbol that goes before all others, among lists and their parts.
 use Rattle.std.proofs.Common.{◌≡◌, ◌≢◌, ℕ, ◌<◌, ◌⊎◌, ⊎_elim, inl, inr, arith, refl, sym, ap, subst, ◌∙◌}
-use Rattle.std.proofs.Common.{Bool, true, false, cond, not, ◌&&◌, ◌==◌, nat_eq, nat_le, List, [], ◌∷◌, ◌++◌, length, get_or, All}
-use Rattle.std.proofs.Common.{Option, Some, None, ◌+◌, map, take}
+use Rattle.std.proofs.Common.{Bool, true, false, cond, not, ◌&&◌, ◌==◌, nat_eq, nat_le, List, [], ◌∷◌, ◌++◌, length}
+use Rattle.std.proofs.Common.{get_or, All, Option, Some, None, ◌+◌, map, take}
 use Rattle.std.specs.List.{Contains}
 use Rattle.std.specs.List.Sorted.{IsPermutation}
 use Rattle.std.proofs.lemmas.Bool.{cases_Bool, cases_eq, cases_order, eq-eqb, ne_eqb, true≢false}

@@ -31,8 +31,8 @@ names = 0 ∷ 0x6d ∷ 0x61 ∷ 0x69 ∷ 0x6e ∷ 0 ∷ 0x6c ∷ 0x6f ∷ 0x6f �
 abbrev entry : ℕ → ℕ → ℕ → ℕ → ℕ → List ℕ
 entry name value size info section = words (name ∷ value ∷ size ∷ (info + 65536 * section) ∷ [])
 
--- a global function, a local label, a mapping symbol, a compiler's label, an undefined function, an object, a label that
--- isn't in code
+-- a global function, a local label, a mapping symbol, a compiler's label, an undefined function, an object, and a
+-- label outside code
 abbrev entries : List ℕ
 entries = entry 1 0x100 16 0x12 1 ++ entry 6 0x108 0 0x00 1 ++ entry 11 0x100 0 0x00 1 ++ entry 14 0x104 0 0x00 1
     ++ entry 1 0 0 0x12 0 ++ entry 1 0x100 4 0x11 1 ++ entry 6 0x108 0 0x00 2

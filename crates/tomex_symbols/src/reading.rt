@@ -67,7 +67,7 @@ fn is_in_code(bytes: &[u8], info: u8, section: u16) -> bool
         && read_section(bytes, usize::from(section)).has_code()
 }
 
-/// What a symbol names, if it counts.
+/// The kind of a symbol, if it counts.
 fn kind_of(bytes: &[u8], names: &Section, name: u32, info: u8, section: u16) -> Option<Kind>
     requires sections { has_sections bytes.now ≡ true }
     requires file { names.now.offset + names.now.size ≤ length bytes.now }

@@ -1,9 +1,9 @@
 //! The section headers of an ELF file (System V ABI, "Sections"), and the tables of symbols and names among them.
 ghost use Rattle.std.specs.Prelude.{◌≡◌, ◌≤◌, ◌<◌, ◌+◌, ◌*◌, IfSome, length, true, Some, None, if◌then◌else◌};
 ghost use Rattle.tomex_image.specs.Loading.{is_elf};
-ghost use Rattle.tomex_symbols.specs.Sections.{can_be_read, first_symbol_table, has_code, has_sections, is_string_table};
-ghost use Rattle.tomex_symbols.specs.Sections.{is_symbol_table, lies_in_file, section, section_at, section_count};
-ghost use Rattle.tomex_symbols.specs.Sections.{sections_from, tables_of};
+ghost use Rattle.tomex_symbols.specs.Sections.{can_be_read, first_symbol_table, has_code, has_sections};
+ghost use Rattle.tomex_symbols.specs.Sections.{is_string_table, is_symbol_table, lies_in_file, section, section_at};
+ghost use Rattle.tomex_symbols.specs.Sections.{section_count, sections_from, tables_of};
 
 use crate::words::{read_half, read_word};
 

@@ -1,5 +1,6 @@
 //! A sweep over addresses in rising order, and over symbols in theirs.
-ghost use Rattle.std.specs.Prelude.{◌≡◌, ◌≤◌, ◌<◌, ◌+◌, ◌++◌, [], ◌∷◌, length, ℕ, ◌-◌, ◌^◌, if◌then◌else◌, All, OnOk, IfOk, take, drop, Some, None};
+ghost use Rattle.std.specs.Prelude.{◌≡◌, ◌≤◌, ◌<◌, ◌+◌, ◌++◌, [], ◌∷◌, length, ℕ, ◌-◌, ◌^◌, if◌then◌else◌, All, OnOk};
+ghost use Rattle.std.specs.Prelude.{IfOk, take, drop, Some, None};
 ghost use Rattle.tomex_symbols.specs.Functions.{AreNumbered, function_at, holds};
 ghost use Rattle.tomex_symbols.specs.Sweep.{InOrder, IsSwept, if_at, is_unsized, last_of};
 

@@ -1,4 +1,4 @@
--- How wide columns are.
+-- The widths of columns.
 use Rattle.std.proofs.Common.{◌≡◌, arith, ℕ, max, List, [], ◌∷◌, ◌++◌, length}
 use Rattle.tomex_tables.specs.Table.{longest, width_of}
 

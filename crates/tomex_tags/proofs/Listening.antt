@@ -152,7 +152,7 @@ forgotten slots sets from so l none = record {
   ];
 }
 
--- what waits for a place is busy
+-- a station that waits for a place is busy
 pub awaits_some : (y : ℕ) (o : Option Station) → awaits y o ≡ true → is_some o ≡ true
 awaits_some y None e = absurd (cc)
 awaits_some y (Some s) e = refl

@@ -77,7 +77,7 @@ a_from false address imm = None
 a_from true None imm = Some imm
 a_from true (Some a) imm = Some a
 
--- what the tables show for a station
+-- the tables' entry for a station
 abbrev pub busy_from : Tag → Station → Busy
 busy_from tag s = record {
   tag = tag;
@@ -87,7 +87,7 @@ busy_from tag s = record {
   a = a_from (is_memory_op s.instr.op) s.address s.instr.imm;
 }
 
--- what the tables show for a place: none if it is free
+-- the tables' entry for a place: none if it is free
 abbrev pub shown_at : List (Option Station) → ℕ → Option Busy
 shown_at slots place = option_map (busy_from (tag_at_place place)) (slot slots place)
 

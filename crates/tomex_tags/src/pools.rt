@@ -245,7 +245,7 @@ impl Pools {
         if number < count { Some(number) } else { None }
     }
 
-    /// What the tables show for each place.
+    /// The tables' entry for each place.
     pub fn shown(&self) -> [Option<Busy>; 96]
         ensures count { length result ≡ 96 }
         ensures each { (x : ℕ) → x < 96 → slice_index_or result x None ≡ shown_at self.now.slots x }

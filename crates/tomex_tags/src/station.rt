@@ -135,7 +135,7 @@ impl Station {
         is_there(self.k)
     }
 
-    /// What the tables show for it.
+    /// The tables' entry for it.
     pub fn shown(&self, tag: Tag) -> Busy
         ensures { result ≡ busy_from tag self.now }
     {

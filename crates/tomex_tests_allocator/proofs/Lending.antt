@@ -1,7 +1,8 @@
 -- A `&Refusing` lends a `&` to each of its fields, the inner allocator and the budget.
-use Rattle.tomex_tests_allocator.proofs.Steps.{ℕ, ◌+◌, [], ◌∷◌, Bor, Al, α, seen, Lft, hidden_shr, unhide, param, shr_vals, Slot}
-use Rattle.tomex_tests_allocator.proofs.Steps.{plain, RefOf, size, align, up, ‵, ◌$◌, ◌∵◌, !, qed, done, move, keep, drop, join}
-use Rattle.tomex_tests_allocator.proofs.Steps.{fsplit, id⊢, use1, Fml, Ura, ent, sep, Logic, sem}
+use Rattle.tomex_tests_allocator.proofs.Steps.{ℕ, ◌+◌, [], ◌∷◌, Bor, Al, α, seen, Lft, hidden_shr, unhide, param}
+use Rattle.tomex_tests_allocator.proofs.Steps.{shr_vals, Slot, plain, RefOf, size, align, up, ‵, ◌$◌, ◌∵◌, !, qed}
+use Rattle.tomex_tests_allocator.proofs.Steps.{done, move, keep, drop, join, fsplit, id⊢, use1, Fml, Ura, ent, sep}
+use Rattle.tomex_tests_allocator.proofs.Steps.{Logic, sem}
 use Rattle.tomex_tests_allocator.specs.contracts.refusing.Refusing as refusing
 use Rattle.tomex_tests_allocator.specs.contracts.budget.Budget as budget
 

@@ -4,7 +4,7 @@ use std::sync::atomic::{AtomicU64, Ordering};
 
 /// The number of blocks that may still be granted. A clone is the same count, not a copy of it.
 ///
-/// The count changes behind a `&`, so no contract can name it. Only the crate's tests show that it
+/// The count changes through a `&`, so no contract can name it. Only the crate's tests show that it
 /// starts at the given number, falls by one for each block, stops at 0 and is shared by clones.
 #[derive(Drop)]
 pub struct Budget {

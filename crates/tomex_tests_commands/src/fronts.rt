@@ -16,7 +16,7 @@ const WEIGHED_TABLE: &str =
 const TABLE_OF_TWO: &str =
     "row  cost  cycles  rate  mul  loop\n  0     0    2008     -    8  2000\n";
 
-/// Rows that aren't on the front count where columns are chosen.
+/// Rows that aren't on the front count when columns are chosen.
 pub const DROPPED_TABLE: &str =
     "row  cost  cycles  rate  alu_latency\n  0     5    2000     -            1\n";
 

@@ -1,5 +1,4 @@
-//! How a line that asks for no command is reported, and failures that no test of a whole run
-//! reaches.
+//! Reports of lines that ask for no command, and failures that no test of a whole run reaches.
 
 use std::alloc::{AllocError, Global};
 use std::test::Fail;

@@ -20,7 +20,7 @@ const TWO_OF_THEM: &str = "cycles 2 to 8\n\
 /// Its last.
 const THE_LAST: &str = "cycles 4 to 4\n4 0000000c ebreak I\n";
 
-/// And all of them on the second row, where the second sum waits for the first one's station.
+/// And all of them on the second row, on which the second sum waits for the first one's station.
 pub const ON_ONE_STATION: &str = "cycles 1 to 10\n\
     1 00000000 addi x1,x0,5 IEW\n\
     2 00000004 addi x2,x0,7    IEW\n\

@@ -5,8 +5,8 @@ use std::process::Abort;
 use std::test::Fail;
 use tomex_symbols::{Binding, Kind, Symbol, name_of, symbols};
 
-/// An executable of 44 bytes of code, linked by other means: the functions `_start`, `work` and `last`. Its names begin at
-/// 128, its symbols at 148, its five section headers at 212.
+/// An executable of 44 bytes of code, made by another linker: the functions `_start`, `work` and
+/// `last`. Its names begin at 128, its symbols at 148, its five section headers at 212.
 pub const WHOLE: &[u8; 412] = b"\x7f\x45\x4c\x46\x01\x01\x01\x00\x00\x00\x00\x00\x00\x00\x00\x00\
       \x02\x00\xf3\x00\x01\x00\x00\x00\x00\x10\x00\x00\x34\x00\x00\x00\
       \xd4\x00\x00\x00\x00\x00\x00\x00\x34\x00\x20\x00\x01\x00\x28\x00\

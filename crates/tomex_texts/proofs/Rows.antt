@@ -42,7 +42,7 @@ overwritten_after_4 = refl
 abbrev accesses_after : ℕ → List ℕ
 accesses_after cycle = text_after cycle (with_latency units.Mem two_alu_stations 2) (stored_and_loaded 1)
 
--- loads stand before stores; A is an address
+-- loads are listed before stores; A is an address
 accesses_after_5 : accesses_after 5
     ≡ codes "cycle 5\n"
     ++ codes "load0 lb Vj=00000100 Vk=- Qj=- Qk=- A=00000101\n"

@@ -1,4 +1,4 @@
--- How the programs of a configuration end.
+-- The ends of programs on a configuration.
 use Rattle.std.specs.Prelude.{◌≡◌, ℕ, ◌-◌, List, length, take, drop}
 use Rattle.std.specs.List.{flat_map}
 use Rattle.tomex_image.specs.Image.{Loaded}

@@ -63,7 +63,7 @@ row_fields wide r config =
     ++ (station_fields config
     ++ (flat_map (unit_fields config) all_units ++ (decimal config.buses ∷ if_wide wide (decimal config.width))))
 
--- texts joined by one space, or `-` where there is none
+-- texts joined by one space, or `-` if there is none
 abbrev pub joined : List (List ℕ) → List ℕ
 joined [] = codes "-"
 joined (x ∷ xs) = x ++ flat_map (λ y. 32 ∷ y) xs

@@ -3,7 +3,7 @@
 use std::alloc::{Allocator, Global};
 use tomex_rvexec::EndKind;
 
-/// How a program ends on a row.
+/// The end of a program on a row.
 #[derive(Drop)]
 pub struct ProgramEnd<A: Allocator = Global> {
     /// The cycles that its run takes.

@@ -1,4 +1,4 @@
--- What a worker does with a row that it has in hand.
+-- A worker's steps on a row that it has in hand.
 use Rattle.std.proofs.Common.{◌≡◌, ℕ, ◌+◌, ◌<◌, ◌≤◌, List, [], ◌∷◌, Option, Some, None, slice_get, length, get_or}
 use Rattle.std.proofs.Common.{ap, cond, Bool, true, false}
 use Rattle.std.specs.Prelude.{IfSome, nat_lt}

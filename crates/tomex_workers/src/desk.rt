@@ -1,4 +1,4 @@
-//! What a worker does with a row: claims it, finds its cycles, and closes it.
+//! A worker's steps on a row: it claims it, finds its cycles, and closes it.
 
 ghost use Rattle.std.specs.Prelude.{◌≡◌, ◌<◌, ◌≤◌, ◌∷◌, [], length, count_by, take, is_some, not, IfSome, OnOk, All};
 ghost use Rattle.std.specs.Prelude.{slice_get, slice_index, Some};
@@ -17,8 +17,8 @@ use tomex_lanes::Lane;
 use tomex_row_runs::{Knowledge, KnownRow, the_last_look_sees_most};
 use tomex_study::Study;
 
-/// What a worker uses: the study, the board that it shares with the others, the gate to which it
-/// reports its rows, and its number.
+/// The things that a worker uses: the study, the board that it shares with the others, the gate to
+/// which it reports its rows, and its number.
 #[derive(Drop)]
 pub(crate) struct Desk<'s, J: Plan, A: Allocator, G: Gate> {
     pub study: &'s Study<A>,

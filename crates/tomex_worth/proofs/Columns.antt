@@ -1,4 +1,4 @@
--- How long columns are: a line for the machine, and one for each change.
+-- The lengths of columns: a line for the machine, and one for each change.
 use Rattle.std.proofs.Common.{◌≡◌, ap, cond, refl, sym, suc, ◌<◌, ◌≤◌, List, [], ◌∷◌, ◌++◌, length, map, All}
 use Rattle.std.specs.Prelude.{Bool, true, false, if◌then◌else◌, nat_lt}
 use Rattle.std.proofs.lemmas.Bool.{le-ltb, lt-ltb}

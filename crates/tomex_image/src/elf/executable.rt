@@ -13,7 +13,7 @@ use crate::elf::segments::Segments;
 use crate::error::ImageError;
 use crate::window::Window;
 
-/// What a file that passes all tests asks for: its segments and the address of its first
+/// The executable in a file that passes all tests: its segments and the address of its first
 /// instruction.
 #[derive(Drop)]
 pub struct Executable {

@@ -1,4 +1,4 @@
-//! The file header (System V ABI, "ELF Header"): 52 bytes, and what is asked of them.
+//! The file header (System V ABI, "ELF Header"): 52 bytes, and their tests.
 ghost use Rattle.std.specs.Prelude.{◌≡◌, ◌+◌, ◌*◌, ◌<◌, ◌≤◌, IfNone, length};
 ghost use Rattle.tomex_image.specs.ElfTests.{file_tests};
 ghost use Rattle.tomex_image.specs.FileHeader.{entry_of, header_count, header_offset, is_riscv};

@@ -1,4 +1,4 @@
-//! The tests of a program header, given the segments of the headers before it.
+//! The tests of a program header, given the segments of the earlier headers.
 ghost use Rattle.std.specs.Prelude.{◌≡◌};
 ghost use Rattle.std.specs.List.{list_any};
 ghost use Rattle.tomex_image.specs.ElfTests.{header_tests};

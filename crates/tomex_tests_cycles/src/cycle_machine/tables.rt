@@ -13,7 +13,7 @@ use tomex_rvdec::{PoolId, decode};
 use tomex_tests_fixtures::programs::PRODUCT_WORDS;
 use tomex_timing::{Busy, Field, Tables, Tag};
 
-/// What a station shows: its tag, the word of its instruction, both operands, and an address.
+/// The entry of a station: its tag, the word of its instruction, both operands, and an address.
 type Station = (Tag, u32, Field, Field, Option<u32>);
 
 /// True if a busy station shows this.

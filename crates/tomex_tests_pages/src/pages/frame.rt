@@ -1,4 +1,5 @@
-//! What all pages of the product have in common, as an independent implementation writes them.
+//! The parts that all pages of the product have in common, as an independent implementation writes
+//! them.
 
 /// The page up to the title.
 pub const HEAD: &str = "\
