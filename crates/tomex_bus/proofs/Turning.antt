@@ -275,7 +275,7 @@ next_round sets filled head n ring none low some least =
       | inr e ↦ let far : 64 ≤ head + a = ltb-false _ _ e in least ((head + a) % 64) (omega arith)
     ])
 
--- The same of a wheel as it is seen.
+-- The same for a wheel as contracts see it.
 
 pub passed_on : (w : List ℕ) (sets : List ℕ) (filled head from cycles : ℕ) → turned sets head ≡ w
     → IsRing sets filled head → from ≡ head → IsClearTo w cycles

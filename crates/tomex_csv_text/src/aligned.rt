@@ -8,7 +8,6 @@ ghost use Rattle.tomex_csv_text.specs.Aligned.{left_aligned, right_aligned};
 use std::alloc::{AllocError, Allocator};
 use std::fmt::Write;
 
-/// Adds spaces.
 fn push_spaces<A: Allocator>(text: &mut String<A>, count: usize) -> Result<(), AllocError>
     ensures { OnOk result (string_bytes text.new
         ≡ string_bytes text.old ++ repeat count (codes " ")) }

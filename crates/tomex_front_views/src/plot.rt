@@ -23,7 +23,6 @@ use std::fmt::Write;
 use tomex_pareto::FrontRow;
 use tomex_study::Study;
 
-/// Adds a piece of text.
 fn push<A: Allocator>(text: &mut String<A>, piece: &str) -> Result<(), AllocError>
     ensures { OnOk result (string_bytes text.new ≡ string_bytes text.old ++ piece.now) }
 {

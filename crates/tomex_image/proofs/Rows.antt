@@ -41,7 +41,7 @@ other_header kind address file_size memory_size =
 abbrev pub elf : List ℕ
 elf = file_header 1 ++ header 0x54 0x00010000 ++ program
 
--- headers of segments one after the other
+-- headers of segments one after another
 abbrev pub rising : ℕ → ℕ → ℕ → List ℕ
 rising offset address zero = []
 rising offset address (suc n) = header offset address ++ rising offset (address + 0x20) n

@@ -18,7 +18,7 @@ has_base (Some s) = is_value s.j
 abbrev pub NoneLacks : List (Option Station) → Type 0
 NoneLacks slots = (x : ℕ) → x < 128 → lacks_address (slot slots x) ≡ false
 
--- the station in a place has no address yet, and no such one issued before it
+-- the load or store in a place has no address yet, and no other one without an address issued before it
 pub record IsOldestLacking (slots : List (Option Station)) (issue_numbers : List ℕ) (x : ℕ) : Type 0 where
   pub low : x < 128
   pub lacks : lacks_address (slot slots x) ≡ true

@@ -32,7 +32,6 @@ enum Heading {
 }
 
 impl Heading {
-    /// Its name.
     fn name(self) -> &'static str
         ensures { result.now ≡ name_of_heading self }
     {
@@ -65,7 +64,6 @@ impl Heading {
     }
 }
 
-/// The column of a heading.
 #[tactic(auto, unfolding(crate::specs::PricesTable::heading_column))]
 fn heading_column(heap: Global, front: &[FrontRow], heading: Heading) -> Result<Column, AllocError>
     ensures { IfOk result (λ c. c ≡ heading_column front.now heading) }
@@ -80,7 +78,6 @@ fn heading_column(heap: Global, front: &[FrontRow], heading: Heading) -> Result<
     Ok(column)
 }
 
-/// The text of a percentage.
 fn percent_text(heap: Global, percent: u64) -> Result<String, AllocError>
     ensures { IfOk result (λ text. string_bytes text ≡ percent_text percent) }
 {
@@ -114,7 +111,6 @@ fn percent_column<A: Allocator>(
     Ok(column)
 }
 
-/// The column of a price.
 #[tactic(auto, unfolding(crate::specs::PricesTable::price_column))]
 fn price_column<A: Allocator>(
     heap: Global,
@@ -158,7 +154,6 @@ fn push_prices<A: Allocator>(
     Ok(())
 }
 
-/// Adds all columns.
 fn push_columns<A: Allocator>(
     columns: &mut Vec<Column>,
     heap: Global,

@@ -51,7 +51,6 @@ pub fn explain<A: Allocator>(alloc: A, words: &str) -> Result<Vec<u8, A>, Explai
     }
 }
 
-/// Adds a refusal's line.
 fn push_line<A: Allocator>(text: &mut String<A>, refusal: Refusal) -> Result<(), AllocError>
     ensures { OnOk result (string_bytes text.new ≡ string_bytes text.old ++ line_of refusal) }
 {

@@ -42,7 +42,6 @@ fn weighed<A: Allocator>(programs: &[Program<A>], totals: &[u64], made: u64) -> 
     cycles
 }
 
-/// The sum of totals.
 fn sum_of(totals: &[u64]) -> u64
     requires { sum totals.now < 2 ^ 64 }
     ensures { result ≡ sum totals.now }

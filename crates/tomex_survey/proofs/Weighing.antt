@@ -115,7 +115,7 @@ finished_rows n (c ∷ cs) (y ∷ ys) same =
     ap (λ (rs : List FrontRow). let r : FrontRow = record { row = n; cost = c; cycles = y } in r ∷ rs)
     (finished_rows (suc n) cs ys (omega arith))
 
--- marks that are read as they were made, for rows that were read as they were made
+-- marks that are read back as they were made, for rows that are read back likewise
 pub same_marks : (slice marks : List Mark) (given rows : List FrontRow) → slice ≡ marks
     → marks ≡ map (λ r. Finished r.cycles) given → given ≡ rows → slice ≡ map (λ r. Finished r.cycles) rows
 same_marks slice marks given rows same are is = same ∙ (are ∙ ap (map (λ (r : FrontRow). Finished r.cycles)) is)

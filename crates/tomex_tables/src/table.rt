@@ -25,7 +25,6 @@ fn push_spaced<A: Allocator>(
     Ok(())
 }
 
-/// Adds a line.
 #[tactic(auto, unfolding(crate::specs::Table::table_line))]
 fn push_line<A: Allocator>(
     text: &mut String<A>,

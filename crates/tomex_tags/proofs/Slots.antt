@@ -1,4 +1,4 @@
--- The places of six pools of 16 stations, one after the other.
+-- The places of six pools of 16 stations, one after another.
 use Rattle.std.proofs.Common.{ℕ, zero, suc, ◌+◌, ◌*◌, ◌-◌, ◌/◌, ◌%◌, ◌^◌, ◌<◌, ◌≡◌, ◌∙◌, true, arith, refl, ap, sym}
 use Rattle.std.proofs.Common.{inl, inr, List, [], ◌∷◌, ◌++◌, Option, None, length, slice_index_or, slice_set, replicate}
 use Rattle.std.proofs.Common.{get_or}

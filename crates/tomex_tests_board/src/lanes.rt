@@ -15,7 +15,7 @@ static TURNS: [[(usize, usize); 7]; 4] = [
     // One worker takes its own rows, then those of the next one, and so on around all.
     [(1, 1), (1, 4), (1, 2), (1, 5), (1, 0), (1, 3), (1, 6)],
     [(2, 2), (2, 5), (2, 0), (2, 3), (2, 6), (2, 1), (2, 4)],
-    // If the next one has none left, the one after it is asked.
+    // If the next one has none left, the worker steals from the one after it.
     [(2, 2), (2, 5), (1, 1), (1, 4), (1, 0), (1, 3), (1, 6)],
     [(0, 0), (1, 1), (2, 2), (0, 3), (1, 4), (2, 5), (2, 6)],
 ];

@@ -17,7 +17,7 @@ const TWO_OF_THEM: &str = "cycles 2 to 8\n\
     2 00000004 addi x2,x0,7 IEW\n\
     3 00000008 mul x3,x1,x2  I=EEEW\n";
 
-/// Its last.
+/// Its last instruction there.
 const THE_LAST: &str = "cycles 4 to 4\n4 0000000c ebreak I\n";
 
 /// And all of them on the second row, on which the second sum waits for the first one's station.

@@ -128,7 +128,6 @@ const TWO_LOADS: [u32; 4] = [0x10000413, 0x00040083, 0x00040103, 0x00100073];
 /// `addi x0,x0,0; ebreak`
 const NOTHING: [u32; 2] = [0x00000013, 0x00100073];
 
-/// `ebreak`
 const EBREAK: [u32; 1] = [0x00100073];
 
 /// `mul x3,x0,x0; addi x4,x3,0; ebreak`

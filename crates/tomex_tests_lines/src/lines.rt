@@ -256,7 +256,6 @@ fn help_is_whole(rt: HostRuntime) -> Result<(), Fail> {
     Ok(())
 }
 
-/// Lines that are refused.
 static REFUSED: [&str; 37] = [
     "run a --base 4294967293",
     "run a --base -4",

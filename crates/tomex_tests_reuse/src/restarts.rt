@@ -75,7 +75,6 @@ fn is_new<A: Allocator>(machine: &Machine<A>) -> bool {
     machine.cycle() == 0 && machine.worked() == 0
 }
 
-/// Advances up to a cycle.
 fn advance<A: Allocator>(machine: &mut Machine<A>, to: u32) {
     machine.advance(u64::from(to));
 }

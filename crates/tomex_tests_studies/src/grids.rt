@@ -123,7 +123,6 @@ fn is_refused(alloc: Global, axes: &Axes, error: GridError) -> bool {
     grid(alloc, axes).err() == Some(error)
 }
 
-/// The rows of these axes.
 fn rows_of(alloc: Global, axes: &Axes) -> Result<Vec<Config>, GridError> {
     grid(alloc, axes)
 }

@@ -174,8 +174,9 @@ fn a_look_is_told_by_the_weight(rt: HostRuntime) -> Result<(), Fail> {
     Ok(())
 }
 
-/// Weights of the product beside the loop, each with the cycles of two rows and with the front: of a fast alu unit,
-/// 2,000 cycles of the loop and 71 of the product, and of a fast multiplier, 6,500 and 26.
+/// Weights of the product, next to the loop of weight 1, each with the cycles of two rows and the
+/// front. The row with a fast alu unit takes 2,000 cycles for the loop and 71 for the product, the
+/// one with a fast multiplier 6,500 and 26.
 static WEIGHED: [(u32, [u64; 2], &[usize]); 5] = [
     (1, [2_071, 6_526], &[0]),
     (99, [9_029, 9_074], &[0]),

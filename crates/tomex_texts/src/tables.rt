@@ -8,7 +8,7 @@ use std::alloc::{AllocError, Allocator};
 use std::fmt::{self, Write};
 use tomex_timing::{Busy, Field, Tables, Tag};
 
-/// A station's name.
+/// Shows a station's name.
 #[derive(Clone, Copy)]
 struct Station(Tag);
 
@@ -24,7 +24,7 @@ impl fmt::Display for Station {
     }
 }
 
-/// V of an operand.
+/// Shows V of an operand.
 #[derive(Clone, Copy)]
 struct V(Field);
 
@@ -42,7 +42,7 @@ impl fmt::Display for V {
     }
 }
 
-/// Q of an operand.
+/// Shows Q of an operand.
 #[derive(Clone, Copy)]
 struct Q(Field);
 
@@ -63,7 +63,7 @@ impl fmt::Display for Q {
     }
 }
 
-/// A of a load or store.
+/// Shows A of a load or store.
 #[derive(Clone, Copy)]
 struct Address(Option<u32>);
 

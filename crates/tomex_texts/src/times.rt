@@ -19,7 +19,6 @@ use tomex_study::Program;
 use tomex_timing::Times;
 use tomex_timing::evaluate::{times, total};
 
-/// The names of the columns.
 const COLUMNS: [&str; 9] = [
     "step", "pc", "instr", "issue", "addr", "start", "finish", "end", "station",
 ];
@@ -36,7 +35,6 @@ fn header_of(heap: Global) -> Result<ByteRecord, AllocError>
 /// The fields before the total's cycles.
 const TOTAL: [&str; 7] = ["total", "-", "-", "-", "-", "-", "-"];
 
-/// The record of the total.
 fn total_record(heap: Global, total: u64) -> Result<ByteRecord, AllocError>
     ensures { IfOk result (λ made. fields_of made ≡ total_fields total) }
 {

@@ -96,7 +96,6 @@ fn text_under<A: Allocator>(
     }
 }
 
-/// The column of a heading.
 #[tactic(auto, unfolding(crate::specs::Worth::heading_column))]
 fn heading_column<A: Allocator>(
     heap: Global,

@@ -18,7 +18,6 @@ pub struct Named {
     pub digits: usize,
 }
 
-/// Adds a circle.
 #[tactic(auto, unfolding(crate::specs::Plot::circle_at))]
 fn push_circle_at<A: Allocator>(
     text: &mut String<A>,

@@ -29,7 +29,6 @@ fn number_under<A: Allocator>(study: &Study<A>, heading: Heading, row: FrontRow)
     }
 }
 
-/// The column of a heading.
 #[tactic(auto, unfolding(crate::specs::FrontTable::heading_column))]
 fn heading_column<A: Allocator>(
     heap: Global,

@@ -74,7 +74,6 @@ impl Setting {
         }
     }
 
-    /// Its name.
     fn name(self, heap: Global) -> Result<String, AllocError>
         ensures { IfOk result (λ name. string_bytes name ≡ name_of_setting self) }
     {

@@ -309,7 +309,6 @@ static ROWS: [Row; 10] = [
     ([16; 6], MANY, OF_MANY, 8, 4),
 ];
 
-/// The configuration of a row.
 fn config_of_row(row: &Row) -> Result<Config, Fail> {
     let (stations, units, latencies, buses, width) = *row;
     let mut kinds = latencies.map(unit);

@@ -49,7 +49,6 @@ fn stations_cost(config: &Config, prices: &Prices, replaced: Option<(Price, u64)
     cost
 }
 
-/// The cost of its options.
 fn options_cost(config: &Config, replaced: Option<(Price, u64)>) -> u64 {
     let mut cost = 0u64;
     for unit in UnitId::ALL {

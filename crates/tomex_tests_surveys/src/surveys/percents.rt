@@ -36,7 +36,6 @@ impl Worst {
             .wrapping_add(price.wrapping_mul(u64::from(rival)));
     }
 
-    /// Adds all options.
     fn pay_options(&mut self, own: &Config, rival: &Config) {
         for unit in UnitId::ALL {
             let (a, b) = (own.option(unit), rival.option(unit));

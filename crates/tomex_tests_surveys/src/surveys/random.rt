@@ -14,7 +14,6 @@ const ACCESSES: [u32; 6] = [
     0x01000193, 0x01802083, 0x00302c23, 0xfff18193, 0xfe019ae3, 0x00100073,
 ];
 
-/// `ebreak`
 const EBREAK: u32 = 0x00100073;
 
 /// Units, latencies and prices of options: some differ in their price only, and some cost nothing.

@@ -48,7 +48,6 @@ impl Random {
         }
     }
 
-    /// The stations of each pool.
     fn stations(&mut self) -> [u8; 6] {
         [
             self.few(),
@@ -78,7 +77,6 @@ impl Random {
         config_of(stations, units, self.few(), self.few())
     }
 
-    /// `count` rows.
     fn rows(&mut self, alloc: Global, count: u32) -> Result<Vec<Config>, Fail> {
         let mut rows = Vec::new(alloc);
         for _ in 0..count {
