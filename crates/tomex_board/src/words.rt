@@ -1,5 +1,5 @@
-//! The words of a board: marks, and what is published in bands, as numbers of 64 bits. No other
-//! module depends on their bits.
+//! The words of a board: marks, and entries of bands, as numbers of 64 bits. No other module
+//! depends on their bits.
 
 ghost use Rattle.std.specs.Prelude.{◌≡◌, ◌≤◌, ◌<◌, ◌^◌, [], map, take};
 ghost use Rattle.std.specs.Mem.Slots.{slots_items, slots_len, IsFull};

@@ -10,7 +10,7 @@ use std::marker::Model;
 use tomex_rvdec::{PoolId, UnitId};
 
 /// A choice for one kind of functional unit: how many there are, the cycles that each takes for an
-/// operation, and what the choice costs as a whole. It may be out of a configuration's limits.
+/// operation, and the cost of the whole choice. It may be out of a configuration's limits.
 #[derive(Clone, Copy, Debug, PartialEq, Eq)]
 pub struct UnitOption {
     pub units: u8,

@@ -7,7 +7,7 @@ ghost use Rattle.tomex_csv_text.specs.Csv.{IsReady, record_text, written};
 use csv::{ByteRecord, Writer};
 use std::alloc::{AllocError, Allocator};
 
-/// Writes a record. When writing to a list of bytes, only running out of memory can fail.
+/// Writes a record. Writing to a list of bytes can fail only by running out of memory.
 pub fn put_record<A: Allocator>(
     writer: &mut Writer<Vec<u8, A>>,
     fields: &ByteRecord,

@@ -83,7 +83,7 @@ circle axes radius r = circle_at (point_of axes r) radius ++ row_title r
 unfoldable pub circle_line : Axes → ℕ → FrontRow → List ℕ
 circle_line axes radius r = circle axes radius r ++ codes "\n"
 
--- a row's number is beside its point unless it would overlap the last one
+-- a row's number is shown beside its point unless it would overlap the last one
 abbrev pub has_room : Option Named → Point → Bool
 has_room None at = true
 has_room (Some last) at = nat_le (last.at.x + 4 + 7 * last.digits) at.x || nat_le (last.at.y + 12) at.y

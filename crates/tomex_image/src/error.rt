@@ -17,7 +17,7 @@ pub enum ImageError {
     /// The file ends before something that a header says is in it.
     #[error("truncated")]
     Truncated,
-    /// An ELF file, but none of 32 bits, low byte first, for RISC-V.
+    /// An ELF file that isn't of 32 bits, low byte first, for RISC-V.
     #[error("not RISC-V")]
     NotRiscv,
     /// An ELF file of another type than executable.
@@ -38,7 +38,7 @@ pub enum ImageError {
     /// More segments than the limit.
     #[error("too many segments")]
     TooManySegments,
-    /// The entry is no multiple of 4, or its word leaves the window.
+    /// The entry is not a multiple of 4, or its word leaves the window.
     #[error("entry")]
     Entry,
     /// Out of memory for the window.

@@ -8,7 +8,7 @@ use crate::entries::{Entry, Producer};
 use std::alloc::{AllocError, Allocator};
 use tomex_timing::Times;
 
-/// The kinds of events.
+/// The kind of an event.
 #[derive(Clone, Copy, Debug, PartialEq, Eq)]
 pub enum Kind {
     /// It issues, begins a stage or gets an operand.

@@ -109,7 +109,7 @@ fn push_turn(
     }
 }
 
-/// Adds the line of a step that gets a value, if it does in this cycle.
+/// Adds the line of a value that a step gets, if it gets it in this cycle.
 fn push_wake(
     text: &mut String,
     entry: &Entry,

@@ -11,8 +11,8 @@ use tomex_rvdec::PoolId;
 use tomex_rvexec::{Memory, result_in, store};
 use tomex_tags::Station;
 
-/// The result of the operation of a station of this pool, a load's being read from its bytes;
-/// `None` if a byte of its access lies outside memory.
+/// The result of the operation of a station of this pool; a load reads its bytes for it. `None` if
+/// a byte of its access lies outside memory.
 #[inline(always)]
 pub fn read<A: Allocator>(pool: PoolId, station: &Station, memory: &Memory<A>) -> Option<u32>
     requires { pool_of station.now.instr.op ≡ Some pool }

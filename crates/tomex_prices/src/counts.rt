@@ -1,4 +1,4 @@
-//! The number of relevant prices of a study, without allocating.
+//! The number of relevant prices of a study, computed without allocating.
 
 ghost use Rattle.std.specs.Prelude.{◌≡◌, ◌*◌, ◌≤◌, ◌∷◌, [], length, map};
 ghost use Rattle.std.specs.List.{filter, flat_map};

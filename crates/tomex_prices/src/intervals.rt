@@ -102,8 +102,8 @@ fn fall(now: u64, row: PricedRow, rival: PricedRow) -> u64
     }
 }
 
-/// The prices, and no others, at which a row stays that stays at the stated price, `now`. The row
-/// may be one of `rows`.
+/// The prices, and no others, at which a row stays on the front, if it stays at the stated price,
+/// `now`. The row may be one of `rows`.
 pub fn interval(now: u64, row: PricedRow, rows: &[PricedRow]) -> PriceRange
     requires now { now < 2 ^ 32 }
     requires row { IsSmall row }

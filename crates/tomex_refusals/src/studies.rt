@@ -10,7 +10,7 @@ pub enum StudyRefusal {
     NotToml,
     /// A table has a key that isn't known.
     UnknownKey,
-    /// A table has no key that it needs.
+    /// A table is missing a key that it needs.
     Missing,
     /// A value has the wrong kind.
     WrongKind,

@@ -12,7 +12,7 @@ use tomex_cycle::Machine;
 use tomex_image::Image;
 use tomex_study::Program;
 
-/// No program takes more cycles: 67 for each of 262,144 steps.
+/// The most cycles that a program can take: 67 for each of 262,144 steps.
 pub const MOST_CYCLES: u64 = 17_563_648;
 
 /// Runs that share memory: the machine of one run is kept, and the next one is made in its memory.

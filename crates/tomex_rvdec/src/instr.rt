@@ -10,7 +10,7 @@ use std::marker::Model;
 /// An instruction that some word of 32 bits means.
 ///
 /// Registers are numbers from 0 to 31. The immediate is kept modulo 2^32, its sign extended; it
-/// also holds a shift's amount and FENCE's 12 bits. What the operation doesn't use is zero.
+/// also holds a shift's amount and FENCE's 12 bits. Fields that the operation doesn't use are zero.
 #[derive(Clone, Copy, Debug, PartialEq, Eq)]
 pub struct Instr {
     pub(crate) op: Op,

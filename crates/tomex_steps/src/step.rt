@@ -33,7 +33,7 @@ fn access_size(op: Op) -> u64
 }
 
 impl ByteRange {
-    /// The bytes that a load or store touches at its address; None for every other operation.
+    /// The bytes that a load or store touches at its address; `None` for every other operation.
     pub fn at(op: Op, address: u32) -> Option<ByteRange>
         ensures { result ≡ bytes_at op address }
     {
@@ -122,7 +122,7 @@ impl Step {
         }
     }
 
-    /// The bytes that a load or store touches; None for every other instruction.
+    /// The bytes that a load or store touches; `None` for every other instruction.
     pub fn bytes(&self) -> Option<ByteRange>
         ensures { result ≡ bytes_of self.now }
     {

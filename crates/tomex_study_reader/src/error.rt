@@ -21,7 +21,7 @@ pub enum StudyError {
     /// The place has a key that no study has there.
     #[error("study: {0}: unknown key")]
     UnknownKey(Place),
-    /// The place has no key that every study has there.
+    /// The place is missing a key that every study has there.
     #[error("study: {0}: {1} missing")]
     MissingKey(Place, Key),
     /// The value of the key is of another kind than a study has there.

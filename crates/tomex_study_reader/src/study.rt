@@ -134,7 +134,7 @@ fn study_from<A: Allocator + Clone>(
     }
     let entries = outline.programs.as_slice();
     let programs = programs_of(alloc.clone()?, heap, entries, files)?;
-    // The axes of a document span a grid, so only running out of memory can fail.
+    // The axes of a document span a grid, so this can fail only by running out of memory.
     let Ok(rows) = grid(alloc.clone()?, &outline.axes) else {
         return Err(StudyError::Memory);
     };

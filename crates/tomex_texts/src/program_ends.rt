@@ -14,7 +14,7 @@ use tomex_cycle::Machine;
 use tomex_image::Window;
 use tomex_study::{Program, WatchRange};
 
-/// No program takes more cycles: 67 for each of 262,144 steps.
+/// The most cycles that a program can take: 67 for each of 262,144 steps.
 const MOST_CYCLES: u64 = 17_563_648;
 
 /// The bytes of a range in the memory of a window.

@@ -13,7 +13,7 @@ pub enum DocumentError {
     Syntax,
     /// The place has a key that no study has there.
     UnknownKey(Place),
-    /// The place has no key that every study has there.
+    /// The place is missing a key that every study has there.
     MissingKey(Place, Key),
     /// The value of the key is of another kind than a study has there.
     Kind(Place, Key),

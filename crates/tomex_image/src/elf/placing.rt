@@ -8,7 +8,7 @@ use crate::elf::program_header::ProgramHeader;
 use crate::window::Window;
 use std::alloc::{AllocError, Allocator};
 
-/// Copies what the file holds of a segment into the memory of the window.
+/// Copies the file's part of a segment into the memory of the window.
 fn place(memory: &mut [u8], bytes: &[u8], window: Window, header: &ProgramHeader)
     requires filled { length memory.old ≡ window.size }
     requires fits { Fits window (length bytes.now) header.now }
