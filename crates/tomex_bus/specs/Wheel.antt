@@ -29,7 +29,7 @@ abbrev pub IsNext : List ℕ → Option ℕ → Type 0
 IsNext pairs None = IsEmpty pairs
 IsNext pairs (Some ahead) = ((number : ℕ) × (is_due pairs ahead number ≡ true)) × IsClearTo pairs ahead
 
--- each pair is due by that many cycles sooner
+-- each pair is due that many cycles sooner
 abbrev pub HasPassed : ℕ → List ℕ → List ℕ → Type 0
 HasPassed cycles old new = (a x : ℕ) → is_due new a x ≡ is_due old (a + cycles) x
 

@@ -28,7 +28,7 @@ product_positive (n ∷ ns) h =
     let one : 1 ≤ n = omega (arith, some) in
     omega (arith, mul-le-mul one (product_positive ns rest))
 
--- what is known about the i-th length and those after it, with rows configurations from the lengths before
+-- what is known about the i-th length and those after it, with `rows` configurations from the lengths before
 pub record Splits (rows i : ℕ) (ns : List ℕ) : Type 0 where
   pub positive : 1 ≤ get_or ns i 0
   pub rest : has_zero (drop (i + 1) ns) ≡ false

@@ -43,7 +43,7 @@ unit_tables members = do
   bru ← tables_at place.Unit key.Bru members
   Ok (record { alu = alu; mul = mul; div = div; mem = mem; bru = bru })
 
--- an option of at most most units
+-- an option with at most `most` units
 unfoldable pub option_of : Place → ℕ → Members → Reading UnitOption
 option_of place most members = do
   _ ← known_keys place (key.Units ∷ key.Latency ∷ key.Price ∷ []) members

@@ -24,7 +24,7 @@ abbrev pub axes_of : List FrontRow → Axes
 axes_of [] = record { costs = only 0; cycles = only 0 }
 axes_of (r ∷ rows) = fold with_row (record { costs = only r.cost; cycles = only r.cycles }) rows
 
--- a value's position on an axis of length far; the middle if all values are equal
+-- a value's position on an axis of length `far`; the middle if all values are equal
 unfoldable pub along : Span → ℕ → ℕ → ℕ
 along span far value =
     if nat_le span.greatest span.least then far / 2
@@ -49,7 +49,7 @@ round_in k = 10 ^ k ∷ 2 * 10 ^ k ∷ 5 * 10 ^ k ∷ []
 abbrev pub round_numbers : List ℕ
 round_numbers = flat_map round_in (range_with_len 0 19)
 
--- the first of these steps for which six are at least as long as the distance far
+-- the first of these steps for which six are at least as long as the distance `far`
 abbrev pub first_enough : ℕ → List ℕ → ℕ
 first_enough far [] = 10 ^ 19
 first_enough far (step ∷ steps) = if nat_le far (6 * step) then step else first_enough far steps

@@ -42,7 +42,7 @@ abbrev pub setting_of : Configuration → Setting → ℕ
 setting_of config (Count part) = count_of config part
 setting_of config (Latency unit) = (option_of config unit).latency
 
--- two of the rows differ in it: another row than the first
+-- two of the rows differ in it: some row and the first one
 unfoldable pub differs : List Configuration → Setting → Bool
 differs [] setting = false
 differs (first ∷ rows) setting = list_any (λ config. not (setting_of config setting == setting_of first setting)) rows

@@ -1,6 +1,6 @@
 -- The picture of a study's front over all of its rows, in a page whose views are rows: the circles of these rows link
--- to them. Source: the HTML Living Standard, 4.8.16 (SVG in HTML); Scalable Vector Graphics 1.1, section 17.1
--- (links).
+-- to them.
+-- Source: the HTML Living Standard, 4.8.16 (SVG in HTML); Scalable Vector Graphics 1.1, section 17.1 (links).
 use Rattle.std.specs.Prelude.{ℕ, ◌==◌, Bool, if◌then◌else◌, List, ◌++◌, codes, length, None}
 use Rattle.std.specs.Fmt.{decimal}
 use Rattle.std.specs.List.{flat_map, list_any}

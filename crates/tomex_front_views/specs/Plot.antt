@@ -1,6 +1,6 @@
 -- The front as a picture: cost from left to right, cycles from bottom to top, a point for each row, and the staircase
--- above which all rows lie. Source: Scalable Vector Graphics 1.1, sections 9.3 (paths), 9.2 and 9.4 (basic shapes),
--- 10.5 (text).
+-- above which all rows lie.
+-- Source: Scalable Vector Graphics 1.1, sections 9.3 (paths), 9.2 and 9.4 (basic shapes), 10.5 (text).
 use Rattle.std.specs.Prelude.{ℕ, ◌+◌, ◌-◌, ◌*◌, ◌==◌, nat_le, Bool, true, ◌||◌, if◌then◌else◌}
 use Rattle.std.specs.Prelude.{List, [], ◌∷◌, ◌++◌, codes, length, Option, Some, None}
 use Rattle.std.specs.List.{flat_map}
@@ -168,7 +168,7 @@ rows_text axes stairs rows =
     ++ (codes "<g fill=\"#1f5fa8\">\n" ++ (flat_map (circle_line axes (radius_of (length rows))) rows
     ++ (codes "</g>\n<g font-size=\"11\">\n" ++ (numbers_of axes None rows ++ codes "</g>\n</svg>\n"))))))
 
--- the picture of these rows, out of all
+-- the picture of these rows, out of `all`
 unfoldable pub picture_of_rows : ℕ → List FrontRow → List ℕ
 picture_of_rows all rows =
     let axes = axes_of rows in

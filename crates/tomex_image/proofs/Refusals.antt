@@ -75,7 +75,7 @@ all_fit window len entry segments (h ∷ hs) passed fit =
     at_header true e p = All-push (Fits window len) segments h fit (fits_of window len segments h p e)
     at_header false e p = fit
 
--- a header h that was read and fails after the segments held, with count - k headers of the table left
+-- a header h that was read and fails after the segments held, with `count - k` headers of the table left
 pub fails_next : (window : Span) (bytes : List ℕ) (entry place count k : ℕ) (segments held : List ProgramHeader)
     (h : ProgramHeader) (e : ImageError) → k < count
     → held ≡ segments → h ≡ header_at bytes place → first_failing (header_tests window (length bytes) held h) ≡ Some e

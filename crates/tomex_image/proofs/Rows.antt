@@ -23,7 +23,7 @@ words (n ∷ ns) = word n ++ words ns
 abbrev pub program : List ℕ
 program = words (0x00500093 ∷ 0x00700113 ∷ 0x022081b3 ∷ 0x00100073 ∷ [])
 
--- an executable for RISC-V with count program headers, entered at 0x10000
+-- an executable for RISC-V with `count` program headers, entered at 0x10000
 abbrev pub file_header : ℕ → List ℕ
 file_header count = words (0x464c457f ∷ 0x00010101 ∷ 0 ∷ 0 ∷ 0x00f30002 ∷ 1 ∷ 0x00010000 ∷ 0x00000034 ∷ 0 ∷ 0
     ∷ 0x00200034 ∷ count ∷ 0 ∷ [])

@@ -1,4 +1,4 @@
--- The image of a file's bytes in a window, and when they are refused.
+-- The image of a file's bytes in a window, and when the bytes are refused.
 use Rattle.std.specs.Prelude.{◌≡◌, ℕ, ◌+◌, ◌-◌, ◌<◌, List, [], ◌∷◌, ◌++◌, length, replicate, Option}
 use Rattle.std.specs.Prelude.{Bool, nat_eq, nat_lt, ◌&&◌, if◌then◌else◌, slice_index, MatchBool}
 use Rattle.tomex_image.specs.declared.error.ImageError.{ImageError}

@@ -2,7 +2,7 @@
 use Rattle.std.specs.Prelude.{List, [], ◌∷◌, Option, Some, None, Bool, if◌then◌else◌}
 use Rattle.tomex_image.specs.declared.error.ImageError.{ImageError}
 
--- a test: true if it fails, and the refusal that it then gives
+-- a test: if `fails`, the file fails it, and is refused with `answer`
 pub record Test : Type 0 where
   pub fails : Bool
   pub answer : ImageError

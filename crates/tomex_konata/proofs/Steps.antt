@@ -67,7 +67,7 @@ more_writers older d (Some n) writers are is = record {
   ];
 }
 
--- the entries that are gathered after count steps
+-- the entries that are gathered after `count` steps
 pub record AreGathered (steps : List Step) (times : List Times) (count : ℕ) (entries : List Entry)
     (writers : List (Option Producer)) : Type 0 where
   pub older : List Done

@@ -64,7 +64,7 @@ pub record ArePut (before after : List Event) : Type 0 where
   pub rise : IsNonDecreasingBy (λ v. v.cycle) after
   pub keep : (t : ℕ) → filter (λ v. v.cycle == t) after ≡ filter (λ v. v.cycle == t) before
 
--- the lines of an event, after gone steps have gone out
+-- the lines of an event, after `gone` steps have gone out
 abbrev pub event_lines : ℕ → ℕ → ℕ → Kind → Entry → List ℕ
 event_lines number gone t Change e = step_lines number t e
 event_lines number gone t Out e = out_lines gone e
@@ -77,7 +77,7 @@ abbrev pub gone_after : ℕ → Kind → ℕ
 gone_after gone Change = gone
 gone_after gone Out = gone + 1
 
--- the text of some events, after gone steps have gone out; the last cycle with lines was `since`
+-- the text of some events, after `gone` steps have gone out; the last cycle with lines was `since`
 abbrev pub written : ℕ → List Entry → ℕ → ℕ → List Event → List ℕ
 written number es since gone [] = []
 written number es since gone (v ∷ vs) =

@@ -116,13 +116,13 @@ is_shared _ _ = false
 abbrev pub wake_lines : ℕ → Entry → List ℕ
 wake_lines t e = wake_line e.id e.at t e.j ++ (if is_shared e.j e.k then [] else wake_line e.id e.at t e.k)
 
--- the lines of a step in a cycle; number is that of the first step shown
+-- the lines of a step in a cycle; `number` is that of the first step shown
 unfoldable pub step_lines : ℕ → ℕ → Entry → List ℕ
 step_lines number t e =
     (if t == e.at.issue then issue_lines (number + e.id) e else [])
     ++ (turn_lines e.id (stage_in e.at (t - 1)) (stage_in e.at t) ++ wake_lines t e)
 
--- `R`: a step goes out in the cycle after its end, after gone others
+-- `R`: a step goes out in the cycle after its end, after `gone` others
 abbrev pub leave_lines : ℕ → ℕ → Option Stage → List ℕ
 leave_lines gone id None = []
 leave_lines gone id (Some stage) =
@@ -134,7 +134,7 @@ out_lines gone e = leave_lines gone e.id (stage_in e.at e.at.end)
 abbrev pub goes_out : ℕ → Entry → Bool
 goes_out t e = e.at.end + 1 == t
 
--- the lines of the steps that go out in a cycle, after gone others
+-- the lines of the steps that go out in a cycle, after `gone` others
 abbrev pub outs_in : ℕ → ℕ → List Entry → List ℕ
 outs_in t gone [] = []
 outs_in t gone (e ∷ es) = if goes_out t e then out_lines gone e ++ outs_in t (gone + 1) es else outs_in t gone es

@@ -47,7 +47,7 @@ rest_kept a n =
 two_in : (a n : ℕ) → HasTwo (range_with_len a (suc (suc n)))
 two_in a n = (a, a + 1, inl refl, inr (inl refl), λ e. absurd (omega arith))
 
--- The first next workers have a lane and a seat with one number each; the current seat has the other numbers.
+-- The first `next` workers have a lane and a seat with one number each; the current seat has the other numbers.
 pub record IsDealing (board : TableId) (all : List Dealt) (own : Known) (workers : List Equipped) (lanes : List Dealt)
     (next : ℕ) : Type 0 where
   pub board_of : own.board ≡ board

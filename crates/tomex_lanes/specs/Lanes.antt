@@ -11,7 +11,7 @@ pub record Dealt : Type 0 where
   pub rows : List ℕ
   pub others : List (List ℕ)
 
--- the numbers of count rows
+-- the numbers of `count` rows
 abbrev pub AreBelow : ℕ → List ℕ → Type 0
 AreBelow count rows = All (λ row. row < count) rows
 

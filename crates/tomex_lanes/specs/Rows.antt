@@ -1,4 +1,4 @@
--- Which rows are a worker's.
+-- The rows of a worker.
 use Rattle.std.specs.Prelude.{ℕ, zero, suc, ◌%◌, ◌==◌, if◌then◌else◌, List, [], ◌∷◌, ◌++◌}
 
 -- the rows whose remainder by the number of workers is the worker's number, rising

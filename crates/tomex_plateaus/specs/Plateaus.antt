@@ -1,4 +1,4 @@
--- Plateaus: configurations on which a program takes the same cycles, as the demands of one run give them.
+-- Plateaus: configurations on which a program takes the same cycles, derived from the demands of one run.
 use Rattle.std.specs.Prelude.{◌≡◌, ℕ, min, ◌==◌, nat_le, Bool, true, ◌&&◌, if◌then◌else◌, List}
 use Rattle.std.specs.Prelude.{[], ◌∷◌, map, reverse, Option, option_map, slice_index_or}
 use Rattle.std.specs.List.{find, list_all}

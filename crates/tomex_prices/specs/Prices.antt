@@ -25,7 +25,7 @@ choices_of rows unit = map (Choice unit) (options_of unit rows)
 unfoldable pub prices_of : DesignSpace → List Price
 prices_of s = map Station all_pools ++ (flat_map (choices_of s.rows) all_units ++ Bus ∷ Width ∷ [])
 
--- two of the rows pay a price differently often: another row than the first
+-- two of the rows pay a price differently often: some row and the first one
 unfoldable pub is_relevant : List Configuration → Price → Bool
 is_relevant [] price = false
 is_relevant (first ∷ rows) price = list_any (λ config. not (paid price config == paid price first)) rows

@@ -27,7 +27,7 @@ free_slot = replicate 8 0
 abbrev pub taken_at : Reserved → ℕ → ℕ → ℕ
 taken_at table line t = slice_index (slice_index_or table.slots (t - table.base) free_slot) line
 
--- one of most is left
+-- one of `most` is left
 abbrev pub is_left : Reserved → ℕ → ℕ → ℕ → Bool
 is_left table line most t = nat_lt (taken_at table line t) most
 

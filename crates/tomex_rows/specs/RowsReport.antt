@@ -24,7 +24,7 @@ columns_of s = row_columns s.wide ++ (map cycles_column s.programs ++ codes "fro
 unfoldable pub is_on_front : List FrontRow → ℕ → Bool
 is_on_front front row = list_any (λ r. r.row == row) front
 
--- one if it is, else zero
+-- 1 if it is, else 0
 abbrev pub flag : Bool → ℕ
 flag on_front = if on_front then 1 else 0
 

@@ -32,7 +32,8 @@ abbrev pub with_dest : Option ℕ → ℕ → List ℕ → List ℕ
 with_dest None v regs = regs
 with_dest (Some r) v regs = slice_set regs r v
 
--- from s to t: the next pc, the destination with its result, and the bytes of an access, of which stored are written
+-- from s to t: the next pc, the destination with its result, and the bytes of an access, of which `stored` are
+-- written
 pub record Effect (s : State) (next : ℕ) (dest : Option ℕ) (result from count stored value : ℕ) (t : State) : Type 0
   where
     pub image : t.image ≡ s.image

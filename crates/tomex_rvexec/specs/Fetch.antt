@@ -27,16 +27,16 @@ instruction_at i pc =
     then legal (meaning (word_at i pc))
     else Err Fetch
 
--- the line of a decode cache that an address falls to
+-- the line of an address in a decode cache
 abbrev pub line_of : ℕ → ℕ
 line_of pc = pc / 4 % 1024
 
--- the instruction of an address that a line holds; the line must name the address
+-- the instruction that a line holds for an address, if the line names that address
 abbrev pub instruction_in : Option Line → ℕ → Option Instruction
 instruction_in None pc = None
 instruction_in (Some line) pc = if line.pc == pc then Some line.instr else None
 
--- the instruction that a decode cache keeps of an address
+-- the instruction that a decode cache keeps for an address
 abbrev pub kept_at : DecodeCache → ℕ → Option Instruction
 kept_at cache pc = instruction_in (slice_index_or cache.lines (line_of pc) None) pc
 

@@ -38,7 +38,7 @@ pub data Outcome : Type 0 where
 abbrev pub base_of : State → ℕ
 base_of s = s.image.window.base
 
--- count bytes from an address on lie in memory
+-- `count` bytes from an address on lie in memory
 abbrev pub holds : State → ℕ → ℕ → Bool
 holds s address count = is_inside s.image.window.base s.image.window.size address count
 
@@ -66,7 +66,7 @@ branches s taken target =
     then (if nat_eq (target % 4) 0 then Goes (record s { pc = target }) else Faults MisalignedTarget)
     else Goes (record s { pc = next_pc s })
 
--- a load of count bytes, by a function of the memory and the place in it
+-- a load of `count` bytes, by a function of the memory and the place in it
 abbrev pub loads : State → ℕ → ℕ → ℕ → (List ℕ → ℕ → ℕ) → Outcome
 loads s r address count read =
     if holds s address count then writes s r (read s.memory (address - base_of s)) else Faults Access

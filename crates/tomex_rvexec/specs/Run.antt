@@ -16,7 +16,7 @@ use Rattle.tomex_rvexec.specs.Machine.{State, Outcome, Goes, Ends, Faults, step_
 abbrev pub initial_sp : Span → ℕ
 initial_sp window = (window.base + window.size) / 16 * 16 % 2 ^ 32
 
--- before the first step: all registers zero but the stack pointer
+-- before the first step: all registers zero except the stack pointer
 abbrev pub start_of : Loaded → State
 start_of i = record {
   image = i;

@@ -40,11 +40,11 @@ shifted_signed a b = cast_unsigned w32 (int_shr (signed a) (b % 32))
 abbrev pub high_half : ℤ → ℕ
 high_half z = cast_unsigned w64 z / 2 ^ 32
 
--- rounded toward zero; all ones by zero
+-- the quotient, rounded toward zero; all ones if the divisor is 0
 abbrev pub quotient : ℕ → ℕ → ℕ
 quotient a b = if nat_eq b 0 then 2 ^ 32 - 1 else cast_unsigned w32 (int_div (signed a) (signed b))
 
--- of the dividend's sign; the dividend by zero
+-- the remainder, with the dividend's sign; the dividend if the divisor is 0
 abbrev pub remainder : ℕ → ℕ → ℕ
 remainder a b = if nat_eq b 0 then a else cast_unsigned w32 (int_rem (signed a) (signed b))
 

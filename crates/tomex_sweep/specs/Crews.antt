@@ -5,7 +5,7 @@ use Rattle.tomex_lanes.specs.Parts.{Equipped, Returned}
 use Rattle.tomex_study.specs.Study.{DesignSpace}
 use Rattle.tomex_workers.specs.Plans.{IsPlanOf}
 
--- its seat is of the board, with nothing in hand, and its lane was dealt from count rows of all workers
+-- its seat is of the board, with nothing in hand, and its lane was dealt from `count` rows of all workers
 abbrev pub CanStart : TableId → ℕ → Equipped → Type 0
 CanStart board count w = (w.seat.board ≡ board) × (w.seat.view.hand ≡ []) × (w.lane.count ≡ count)
 
