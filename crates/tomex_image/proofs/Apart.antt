@@ -12,7 +12,7 @@ use Rattle.tomex_image.specs.ProgramHeader.{shares_byte, segments_from, with_seg
 use Rattle.tomex_image.specs.Tests.{first_failing}
 use Rattle.tomex_image.proofs.Refusals.{none_parts}
 
--- the first of the list shares_byte nothing with the others, and so on
+-- the first of the list shares no byte with the others, and so on
 abbrev ApartFrom : ProgramHeader → List ProgramHeader → Type 0
 ApartFrom h [] = Unit {0}
 ApartFrom h (x ∷ xs) = (shares_byte h x ≡ false) × ApartFrom h xs

@@ -1,4 +1,4 @@
--- The places and the cycles of a log's steps and events, and that its events in their order are written as the log.
+-- The places and the cycles of a log's steps and events; its events, in their order, are written as the log.
 use Rattle.std.proofs.Common.{◌≡◌, ◌∙◌, ap, sym, subst, refl, arith, inl, inr, ℕ, zero, suc, ◌+◌, ◌<◌, ◌≤◌, ◌==◌}
 use Rattle.std.proofs.Common.{Bool, false, cond, List, [], ◌∷◌, ◌++◌, append_assoc, length, map, Some, Ok, Err, Vec}
 use Rattle.std.specs.Prelude.{All, IfOk, Result, nat_lt, not, ◌&&◌}

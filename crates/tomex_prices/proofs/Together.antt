@@ -45,7 +45,7 @@ moved n d b e w x low =
     add-mul ((n + d) * b + n * (b + e)) (d * e) w in
     rw whole (omega (arith, parts, low))
 
--- it moves k parts of w of a way of at most m, and each step of the way is worth e
+-- it moves `k` parts out of `w` of a way of at most m, each step of which is worth e
 bounded : (d e w k m g : ℕ) → d * w ≤ k * m → m * e ≤ g → d * e * w ≤ k * g
 bounded d e w k m g part few =
     let turned : d * e * w ≡ d * w * e = mul_assoc d e w ∙ (ap (λ (z : ℕ). d * z) (mul_comm e w) ∙ sym (mul_assoc d w e)) in

@@ -136,7 +136,7 @@ weighed_none (p ∷ ps) config =
     let least : min 0 (total config p.image) ≡ 0 = omega arith in
     rw (least, few, rest) (omega arith)
 
--- is no more than all of them
+-- are no more than all of them
 pub weighed_within : (programs : List Workload) (config : Configuration) (n : ℕ)
     → weighed programs config n ≤ cycles_on programs config
 unfolding weighed cycles_on
@@ -148,7 +148,7 @@ weighed_within (p ∷ ps) config n =
     weighed_within ps config (n - total config p.image) in
     rw sum_by-cons (omega arith)
 
--- at the end of the runs it is all of them
+-- at the end of the runs they are all of them
 pub weighed_all : (programs : List Workload) (config : Configuration)
     → weighed programs config (plain_on programs config) ≡ cycles_on programs config
 unfolding weighed plain_on cycles_on
@@ -162,7 +162,7 @@ weighed_all (p ∷ ps) config =
     let left : plain_on (p ∷ ps) config - total config p.image ≡ plain_on ps config = omega (arith, all) in
     rw (least, left, weighed_all ps config) (sym weights)
 
--- and it grows with the cycles that are made
+-- and they grow with the cycles that are made
 weighed_grows : (programs : List Workload) (config : Configuration) (m n : ℕ) → m ≤ n
     → weighed programs config m ≤ weighed programs config n
 unfolding weighed

@@ -80,7 +80,7 @@ skip_to P set k x l none skip so =
     let e : k + (x - k) ≡ x = omega arith in
     rw e at (up_to P set k (x - k) (λ j from to. none j from (omega arith)) skip so)
 
--- the least member of a set, and that no other is less
+-- the least member of a set: no other is less
 pub record IsLowest (set x : ℕ) : Type 0 where
   pub member : has set x ≡ true
   pub least : (i : ℕ) → i < x → has set i ≡ false

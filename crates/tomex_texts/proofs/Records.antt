@@ -80,7 +80,7 @@ record_is wide config p e r f0 f1 f2 f3 f4 part name weight ranges program loade
     ∙ (ap (λ (x : List (List ℕ)). x ++ (p.name ∷ (if_wide wide (decimal p.weight) ++ end_fields p.watch e))) first
     ∙ ap (λ (x : List (List ℕ)). row_fields wide r config ++ x) (fields_are wide config p e program loaded is))
 
--- a fact that holds place by place holds for the items that are read at one
+-- a fact that holds place by place holds for the items that are read at a place
 pub at_read : {A B : Type 0} (Q : A → B → Type 0) (xs : List A) (ys : List B) (k : ℕ) (d : A) (y : B) → AllZip Q xs ys
     → k < length xs → y ≡ get_or ys k y → Q (get_or xs k d) y
 at_read Q [] ys k d y h less f = absurd (omega (arith, less))

@@ -1,4 +1,4 @@
--- The rows of a study: what each of them is, and that changes are among them.
+-- The rows of a study, and the changes among them.
 use Rattle.std.proofs.Common.{◌≡◌, ◌∙◌, ap, ap₂, arith, refl, subst, sym, ℕ, zero, suc, ◌+◌, ◌<◌, List, [], ◌∷◌}
 use Rattle.std.proofs.Common.{length, get_or, All}
 use Rattle.std.specs.List.{flat_map, range_with_len}
