@@ -9,7 +9,7 @@ ghost use Rattle.tomex_floor.specs.Kept.{AreInRange, facts_of};
 use tomex_rvdec::{PoolId, UnitId};
 use tomex_rvexec::{ByteRange, Operand, Step};
 
-/// What the floor reads of a step, taken from its instruction once for all widths.
+/// What the floor reads of a step, taken from its instruction only once for all widths.
 #[derive(Clone, Copy)]
 pub(crate) struct Facts {
     pub unit: Option<UnitId>,
