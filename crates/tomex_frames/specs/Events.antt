@@ -34,7 +34,7 @@ abbrev pub issued_to : Option Tag → List ℕ
 issued_to None = []
 issued_to (Some tag) = codes " &#8594; " ++ name_text (Some tag)
 
--- what is said of a step to which it happens
+-- the text of a step to which it happens
 unfoldable pub item : ℕ → List Entry → Event → Entry → List ℕ
 item t es Issue e = instr_text e.step.instr ++ issued_to (station_of e)
 item t es Address e = name_text (station_of e) ++ (codes " A=" ++ hex8 (address_of e.step))

@@ -8,8 +8,8 @@ use tomex_run_views::{Stage, stage_in};
 use tomex_snapshots::Entry;
 use tomex_timing::Waits;
 
-/// What a step waits for: to issue an older branch, the issue width or a station, to start an operand, its address, an
-/// older access or a unit, and in the end a bus.
+/// The reason for which a step waits: to issue, an older branch, the issue width or a station; to start, an operand,
+/// its address, an older access or a unit; at the end, a bus.
 #[derive(Clone, Copy)]
 pub enum Cause {
     Branch,
@@ -42,18 +42,18 @@ impl fmt::Display for Cause {
     }
 }
 
-/// What a step does in a cycle.
+/// The activity of a step in a cycle.
 #[derive(Clone, Copy)]
 pub enum Doing {
     Issues,
-    /// It computes its address.
+    /// The step computes its address.
     Computes,
     Executes,
     Writes,
     Waits(Cause),
 }
 
-/// What a step does, in words, or nothing.
+/// The activity of a step, in words; nothing for `None`.
 #[derive(Clone, Copy)]
 pub struct Words(pub Option<Doing>);
 
@@ -75,7 +75,8 @@ impl fmt::Display for Words {
     }
 }
 
-/// What a cycle of a step's waits to start is charged to; `waited` others come before it.
+/// The cause that a cycle of a step's waits to start is charged to; `waited` other cycles come
+/// before it.
 fn start_cause(waits: &Waits, waited: u64) -> Cause
     ensures { result ≡ start_cause waits.now waited }
 {
@@ -91,7 +92,8 @@ fn start_cause(waits: &Waits, waited: u64) -> Cause
     }
 }
 
-/// What a cycle of a step's waits to issue is charged to; `waited` others come before it.
+/// The cause that a cycle of a step's waits to issue is charged to; `waited` other cycles come
+/// before it.
 fn issue_cause(waits: &Waits, waited: u64) -> Cause
     ensures { result ≡ issue_cause waits.now waited }
 {
