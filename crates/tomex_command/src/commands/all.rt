@@ -12,7 +12,7 @@ use tomex_command_line::AllLine;
 use tomex_report::answer_all_under;
 use tomex_streams::{Files, Meter};
 
-/// The text that `all` prints. It never tells that a thread was refused.
+/// The text that `all` prints. It never reports a refused thread.
 pub fn text_of_all<
     R: Threads + Sync,
     F: Files,
