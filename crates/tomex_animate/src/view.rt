@@ -59,7 +59,7 @@ fn push_head<A: Allocator>(
     write!(text, "</header>\n")
 }
 
-/// What all views of a page share.
+/// The data that all views of a page share.
 #[derive(Clone, Copy)]
 pub struct Views<'a> {
     pub config: &'a Config,

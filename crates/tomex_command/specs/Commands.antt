@@ -101,7 +101,7 @@ pub record HasFailed (words : List (List ℕ)) (file : List ℕ → Told) (statu
   pub left : IsLeft file line failure out-old out
   pub told : IsFailureTold failure status err-old err
 
--- how a run of the program ends
+-- the end of a run of the program
 abbrev pub IsEnd : List (List ℕ) → (List ℕ → Told) → ℕ → Seen → Seen → Seen → Seen → Type 0
 IsEnd words file status out-old out err-old err =
     IsToldOnly words status out-old out err-old err

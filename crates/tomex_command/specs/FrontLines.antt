@@ -15,11 +15,11 @@ pub record IsFrontOf (view : FrontView) (file : List ℕ → Told) (name : List 
   pub sources : AreSources file name bytes contents
   pub shown : IsShown view bytes contents text
 
--- when each failure of an exploration comes: those of the study, and a refused thread if the study is fine
+-- the failures of an exploration: those of the study, and a refused thread if the study is fine
 abbrev pub IsExploreFailure : (List ℕ → Told) → List ℕ → Failure → Type 0
 IsExploreFailure file name Worker = (study : DesignSpace) × IsStudyIn file name study
 IsExploreFailure file name failure = IsStudyFailure file name failure
 
--- when each failure of `all` comes: those of the study, but no refused thread
+-- the failures of `all`: those of the study, but no refused thread
 abbrev pub IsAllFailure : (List ℕ → Told) → List ℕ → Failure → Type 0
 IsAllFailure file name failure = IsStudyFailure file name failure

@@ -16,7 +16,7 @@ pub record IsTextAfter (config : Configuration) (program : Workload) (cycle : �
   pub reached : cycle ≤ total config program.image
   pub tables : text ≡ tables_text_of (tables_of cycle (run_of config program.image))
 
--- why a run's tables are not shown: it ends before the cycle, or out of memory
+-- the failure if a run's tables are not shown: it ends before the cycle, or out of memory
 abbrev pub IsUnshown : Configuration → Workload → ℕ → Failure → Type 0
 IsUnshown config program cycle CyclePastEnd = total config program.image < cycle
 IsUnshown config program cycle Memory = Unit {0}

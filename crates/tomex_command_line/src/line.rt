@@ -44,7 +44,7 @@ use tables::TablesLine;
 use tomex_arguments::{LineFault, fault_of, refused};
 use worth::WorthLine;
 
-/// What a command line asks for.
+/// A request, as read from the command line.
 #[derive(Drop)]
 pub enum Line<'a> {
     Run(RunLine<'a>),

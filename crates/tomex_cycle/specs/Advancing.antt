@@ -1,4 +1,4 @@
--- How a machine advances.
+-- A machine's advance to a cycle.
 use Rattle.std.specs.Prelude.{ℕ, ◌≡◌, ◌≢◌, ◌≤◌, max}
 use Rattle.tomex_cycle.specs.declared.progress.Progress.TheVariants.{Running}
 use Rattle.tomex_cycle.specs.Events.{IsCounted}

@@ -1,4 +1,4 @@
--- What the end of a cycle does to stations, registers and the next pc, stated over the state itself.
+-- The effect of a cycle's end on stations, registers and the next pc, stated over the state itself.
 use Rattle.std.specs.Prelude.{◌≡◌, ◌≤◌, ℕ, ◌<◌, nat_le, nat_lt, Bool, true, false, ◌&&◌, ◌||◌, if◌then◌else◌, not}
 use Rattle.std.specs.Prelude.{List, Option, Some, None, is_some, length, slice_index, slice_index_or, option_map}
 use Rattle.tomex_rvdec.specs.Operands.{dest_of}
@@ -43,12 +43,12 @@ pub record AreEnding (st : Pools) (buses cycle ending : ℕ) : Type 0 where
 abbrev pub after_ends : Bool → (ℕ → Option ℕ) → Option Station → Option Station
 after_ends ended sent s = if ended then None else option_map (hears sent) s
 
--- what a station sends as it ends
+-- the value that a station sends as it ends
 abbrev pub sends_of : Option Station → Option ℕ
 sends_of None = None
 sends_of (Some s) = if is_some (dest_of s.instr) then Some s.value else None
 
--- what the picked places below n send
+-- the values that the picked places below n send
 abbrev pub sent_below : List (Option Station) → ℕ → ℕ → ℕ → Option ℕ
 sent_below slots picked n y = if nat_lt y n && has picked y then sends_of (slot slots y) else None
 

@@ -1,4 +1,4 @@
--- What happens in a cycle: an instruction's issue, address, start, finish and end are one event each, even if they fall
+-- The events of a cycle: an instruction's issue, address, start, finish and end are one event each, even if they fall
 -- in the same cycle.
 use Rattle.std.specs.Prelude.{ℕ, zero, suc, ◌+◌, ◌*◌, ◌≤◌, ◌<◌, ◌≡◌, ◌⊎◌, ◌==◌, if◌then◌else◌, List, [], ◌∷◌}
 use Rattle.tomex_timing.specs.declared.times.Done.{Done}
@@ -30,7 +30,7 @@ abbrev pub eventful_by : List Done → ℕ → ℕ
 eventful_by h zero = 0
 eventful_by h (suc t) = eventful_by h t + (if events_in (suc t) h == 0 then 0 else 1)
 
--- How far a count of made cycles rises from one cycle to another: by at least the number of those in which anything
+-- The rise of a count of made cycles from one cycle to another: by at least the number of those in which anything
 -- happens, and by at most one more than twice the events. Both without subtraction.
 pub record IsCounted (h : List Done) (from reached before after : ℕ) : Type 0 where
   pub least : eventful_by h reached + before ≤ after + eventful_by h from

@@ -1,4 +1,4 @@
--- What each phase of a cycle does, and the snapshot between two cycles.
+-- The effect of each phase of a cycle, and the snapshot between two cycles.
 use Rattle.std.specs.Prelude.{◌≡◌, ℕ, ◌+◌, ◌≤◌, ◌<◌, false, List, Option, Some}
 use Rattle.std.specs.Prelude.{None, Result, Ok, Bool, true, ◌&&◌, ◌==◌, nat_lt}
 use Rattle.tomex_image.specs.Image.{Loaded}

@@ -54,7 +54,7 @@ ArePast i [] = ⊤
 ArePast i (d ∷ older) =
     Follows i (steps_in older) d.step × (end_of d.step ≡ None → IsAllowed i d.step) × ArePast i older
 
--- what is known about the issued steps
+-- the facts known about the issued steps
 pub record IsHistory (i : Loaded) (config : Configuration) (h : List Done) : Type 0 where
   pub lawful : IsWithinLimits config
   pub timed : AreTimed config h

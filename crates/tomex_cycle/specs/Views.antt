@@ -1,4 +1,4 @@
--- What a history says about the machine's state after a cycle; a state that agrees shows that history.
+-- The machine's state after a cycle according to a history; a state that agrees shows that history.
 use Rattle.std.specs.Prelude.{◌≡◌, ℕ, ◌+◌, ◌≤◌, ◌<◌, nat_le, nat_lt, Bool, ◌&&◌, if◌then◌else◌, List, [], ◌∷◌}
 use Rattle.std.specs.Prelude.{◌++◌, Option, Some, None, slice_index, slice_index_or, length, ◌==◌, is_some}
 use Rattle.tomex_image.specs.Image.{Loaded}
@@ -103,7 +103,7 @@ stop_of (from.At pc) = (Ebreak, 0)
 stop_of from.Waits = (Ebreak, 0)
 stop_of (from.Stopped kind pc) = (kind, pc)
 
--- what is sent in a cycle from a place: the result of the step that ends in it, if that has a destination
+-- the value sent in a cycle from a place: the result of the step that ends in it, if that has a destination
 abbrev pub sent_at : Loaded → ℕ → List Done → ℕ → Option ℕ
 sent_at i u [] x = None
 sent_at i u (d ∷ older) x =

@@ -1,11 +1,11 @@
-//! What has happened in a cycle, which decides whether the cycles after it can be skipped.
+//! The activity of a cycle, which decides whether the cycles after it can be skipped.
 
 ghost use Rattle.std.specs.Prelude.{◌≡◌, ◌≢◌, ◌⊎◌, true, false, if◌then◌else◌};
 ghost use Rattle.tomex_cycle.specs.Starts.{NoneWaits};
 
 use tomex_tags::Pools;
 
-/// What has happened in the cycle that is being made, before anything ends in it.
+/// The activity of the cycle that is being made, before anything ends in it.
 #[derive(Clone, Copy)]
 pub(crate) enum Activity {
     Nothing,

@@ -18,7 +18,7 @@ use tomex_rvexec::next_pc;
 use tomex_sets::{both, difference, lowest, union, without_lowest};
 use tomex_tags::{Pools, RegStatus, Station, broadcast, served_by};
 
-/// What finishes and what ends in a cycle.
+/// The operations that finish and the instructions that end in a cycle.
 #[derive(Clone, Copy)]
 pub struct Ending {
     /// The places whose operations finish.

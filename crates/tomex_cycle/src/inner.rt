@@ -25,7 +25,7 @@ use tomex_rvexec::{End, Fetcher, Memory, initial_sp};
 use tomex_tags::{Pools, RegStatus};
 use tomex_timing::Tables;
 
-/// How a cycle is made.
+/// The way in which a cycle is made.
 #[derive(Clone, Copy)]
 pub(crate) enum Making {
     /// By its phases.
@@ -42,11 +42,11 @@ pub struct Inner<A: Allocator = Global> {
     registers: RegStatus,
     memory: Memory<A>,
     fetch: Fetch,
-    /// How many instructions have issued.
+    /// The number of instructions that have issued.
     issued: u32,
-    /// How many cycles were made.
+    /// The number of cycles that were made.
     cycles_made: u64,
-    /// What has happened in the cycle that is being made.
+    /// The activity of the cycle that is being made.
     ///
     /// A field and not a local, so that a cycle doesn't carry a flag of each phase to its end.
     activity: Activity,
@@ -185,7 +185,7 @@ impl<A: Allocator> Inner<A> {
         })
     }
 
-    /// How many cycles were made.
+    /// The number of cycles that were made.
     pub fn cycles_made(&self) -> u64
         ensures { result ≡ self.now.cycles_made }
     {

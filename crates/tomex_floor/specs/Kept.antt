@@ -1,4 +1,4 @@
--- What the evaluator keeps of the steps so far, for each issue width: the latest of each kind of cycle, and when each
+-- The evaluator's record of the steps so far, for each issue width: the latest of each kind of cycle, and when each
 -- byte of memory was last accessed.
 use Rattle.std.specs.Prelude.{ℕ, ◌+◌, ◌/◌, ◌%◌, ◌^◌, ◌<◌, ◌≤◌, ◌≡◌, nat_lt, nat_le, Bool, false, ◌&&◌, ◌||◌}
 use Rattle.std.specs.Prelude.{if◌then◌else◌}
@@ -21,7 +21,7 @@ use Rattle.tomex_floor.specs.declared.accesses.Finishes.{Finishes}
 use Rattle.tomex_floor.specs.declared.accesses.Word.{Word}
 use Rattle.tomex_floor.specs.Floor.{floor_times, floors_of, issue_back, last_finish}
 
--- what the floor reads of a step
+-- the facts that the floor reads of a step
 abbrev pub facts_of : Step → Facts
 facts_of s = record {
   unit = step_unit s;

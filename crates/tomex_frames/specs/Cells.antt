@@ -101,7 +101,7 @@ doing_of t e (Some stages.Wait) = Some (WaitsFor (start_cause e.waits (t - (e.at
 doing_of t e None =
     if nat_le e.from t && nat_lt t e.at.issue then Some (WaitsFor (issue_cause e.waits (t - e.from))) else None
 
--- what a step does in a cycle, if anything
+-- the activity of a step in a cycle, if any
 unfoldable pub doing_in : ℕ → Entry → Option Doing
 doing_in t e = doing_of t e (stage_in e.at t)
 

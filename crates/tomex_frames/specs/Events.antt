@@ -1,4 +1,4 @@
--- What happens in a cycle: five entries, always all five, so that nothing below them moves.
+-- The events of a cycle: five entries, always all five, so that nothing below them moves.
 use Rattle.std.specs.Prelude.{ℕ, ◌==◌, Bool, ◌&&◌, if◌then◌else◌, List, [], ◌∷◌, ◌++◌, codes, is_some, Option}
 use Rattle.std.specs.Prelude.{Some, None}
 use Rattle.std.specs.List.{flat_map, list_any}

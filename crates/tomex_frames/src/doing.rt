@@ -1,4 +1,4 @@
-//! What a step does in a cycle, or waits for.
+//! The activity of a step in a cycle, or what it waits for.
 
 ghost use Rattle.std.specs.Prelude.{◌≡◌};
 ghost use Rattle.tomex_frames.specs.Cells.{doing_in, issue_cause, start_cause};
@@ -106,7 +106,7 @@ fn issue_cause(waits: &Waits, waited: u64) -> Cause
     }
 }
 
-/// What a step does in a cycle, if anything.
+/// The activity of a step in a cycle, if any.
 #[tactic(auto, unfolding(crate::specs::Cells::doing_in))]
 pub fn doing_in(cycle: u64, entry: &Entry) -> Option<Doing>
     ensures { result ≡ doing_in cycle entry.now }

@@ -1,4 +1,4 @@
-//! What happens in a cycle.
+//! The events of a cycle.
 
 ghost use Rattle.std.specs.Prelude.{◌≡◌, ◌++◌, OnOk, string_bytes};
 ghost use Rattle.std.specs.List.{flat_map, list_any};

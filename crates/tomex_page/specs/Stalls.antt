@@ -53,15 +53,14 @@ pool_parts = map Stations all_pools
 unfoldable pub unit_parts : List Part
 unit_parts = map Units all_units
 
--- what instructions wait for before they issue, one at a time: together with the first cycle these are all cycles of
--- the run
+-- the causes of waits before the issue, one at a time: together with the first cycle these are all cycles of the run
 unfoldable pub before_issue : Configuration → Needs → List ℕ
 before_issue config needs =
     group (codes "Before an issue: these and 1 add up to all cycles") ++ (cause_row needs (codes "branch") needs.branch
     ++ (stall_row config needs Width ++ (flat_map (stall_row config needs) pool_parts
     ++ cause_row needs (codes "drain") (needs.total - needs.last_issue))))
 
--- what instructions wait for in their stations
+-- the causes of waits in stations
 unfoldable pub after_issue : Configuration → Needs → List ℕ
 after_issue config needs =
     group (codes "After it: of all instructions together") ++ (cause_row needs (codes "operand") needs.operand

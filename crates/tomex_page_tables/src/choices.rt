@@ -15,7 +15,7 @@ use tomex_study::Study;
 use tomex_timing::Part;
 use tomex_worth::{push_entry, same_entry};
 
-/// What is shown of an entry of a list.
+/// The facet of an entry of a list that is shown.
 #[derive(Clone, Copy)]
 pub enum Facet {
     /// The entry itself.

@@ -14,7 +14,7 @@ use Rattle.tomex_report.specs.declared.survey_error.SurveyError.TheVariants.{Stu
 use Rattle.tomex_report.specs.declared.surveying.SurveyView.{SurveyView}
 use Rattle.tomex_report.specs.declared.surveying.SurveyView.TheVariants.{Rows, Picture, Worth, Prices, Page}
 
--- what is printed of all rows of a study
+-- the text for all rows of a study
 abbrev pub surveyed_as : SurveyView → DesignSpace → List ℕ
 surveyed_as Rows s = rows_text_of s
 surveyed_as Picture s = rows_picture_of s

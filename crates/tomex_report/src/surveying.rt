@@ -70,7 +70,7 @@ fn lacks_row<A: Allocator>(study: &Study<A>, view: SurveyView<'_>) -> bool
     }
 }
 
-/// What is printed of all rows of the study in the bytes and the files. The number of workers doesn't change it.
+/// The text for all rows of the study in the bytes and the files. The number of workers doesn't change it.
 ///
 /// A study is refused as `read_study` refuses it; a missing row is found before any row is evaluated. `toml` and `csv`
 /// allocate from `heap`, and so do small temporary texts.

@@ -20,8 +20,8 @@ use Rattle.tomex_run_views.specs.declared.picture_error.PictureError.TheVariants
 use Rattle.tomex_run_views.specs.declared.stage.Stage.{Stage}
 use Rattle.tomex_run_views.specs.declared.stage.Stage.TheVariants.{Issue, Address, Execute, Write, BusWait, Wait}
 
--- what a step does in a cycle, if anything: the first row that fits. A step without a destination ends as it
--- finishes, in its unit; those without a unit start as they issue.
+-- the activity of a step in a cycle, if any: the first row that fits. A step without a destination ends as it finishes,
+-- in its unit; those without a unit start as they issue.
 abbrev pub stage_in : Times → ℕ → Option Stage
 stage_in at t =
     if nat_lt t at.issue then None

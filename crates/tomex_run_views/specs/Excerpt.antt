@@ -25,7 +25,7 @@ excerpt_of config steps number count = record {
   times = shown number count (times_in config steps);
 }
 
--- what each excerpt of a program's run has: its numbers are those of a run, and its cycles too
+-- the limits of each excerpt of a program's run: its numbers are those of a run, and its cycles too
 pub record IsExcerpt (e : TimedSteps) : Type 0 where
   pub number : 0 < e.number
   pub pairs : length e.times ≡ length e.steps

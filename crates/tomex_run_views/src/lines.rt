@@ -13,7 +13,7 @@ use tomex_csv_text::{push_aligned_number, push_left_aligned};
 use tomex_rvexec::Step;
 use tomex_timing::Times;
 
-/// What all lines have in common.
+/// The layout that all lines share.
 #[derive(Clone, Copy)]
 pub struct Frame {
     /// The width of the numbers.

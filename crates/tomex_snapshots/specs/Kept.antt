@@ -1,4 +1,4 @@
--- What is kept while a view is made: what stations and registers show after the steps so far.
+-- The state kept while a view is made: the content of stations and registers after the steps so far.
 use Rattle.std.specs.Prelude.{◌≡◌, ℕ, ◌+◌, ◌-◌, ◌*◌, nat_le, nat_lt, if◌then◌else◌, List}
 use Rattle.std.specs.Prelude.{Option, Some, None, map, slice_index_or, slice_set}
 use Rattle.std.specs.List.{range_with_len}

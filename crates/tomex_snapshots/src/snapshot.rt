@@ -1,4 +1,4 @@
-//! What stations and registers show after a cycle.
+//! The content of stations and registers after a cycle.
 
 ghost use Rattle.std.specs.Prelude.{◌≡◌, ◌-◌, ◌<◌, ◌^◌, length, List, [], None, replicate, IfSome};
 ghost use Rattle.tomex_steps.specs.Steps.{j_of, k_of};
@@ -84,7 +84,7 @@ fn field_in(producers: &[Option<Tag>; 32], operand: Option<Operand>) -> Field
     }
 }
 
-/// What a station shows of the step in it.
+/// The fields of a station, given the step in it.
 fn busy_in(by: u64, tag: Tag, entry: &Entry, producers: &[Option<Tag>; 32]) -> Busy
     ensures { result ≡ busy_in by tag entry.now producers.now }
 {

@@ -1,4 +1,4 @@
--- What the evaluator holds of the earlier steps, in place of a list of them: the reservation table of later cycles, the
+-- The evaluator's record of the earlier steps, in place of a list of them: the reservation table of later cycles, the
 -- ends of the stations' steps, and the accesses under way; and the times that these give a next step.
 use Rattle.std.specs.Prelude.{ℕ, ◌+◌, ◌-◌, ◌^◌, ◌<◌, ◌≤◌, ◌≡◌, ◌==◌, nat_lt, nat_le, Bool, not, ◌&&◌}
 use Rattle.std.specs.Prelude.{◌||◌, if◌then◌else◌, List, [], ◌∷◌, ◌++◌, Option, Some, None, is_some, IfSome}
@@ -80,7 +80,7 @@ TakesStation config ends pool from issue station =
     ((issue ≡ from) × (station ≡ None))
     (λ p. (n : ℕ) × (station ≡ Some n) × IsFreeFirst ends p (stations_of config p) from issue n)
 
--- what is taken of a line including one's own: one more than others take of it
+-- the amount taken of a line including one's own: one more than others take of it
 abbrev pub with_own : Reserved → ℕ → ℕ → ℕ
 with_own table line t = taken_at table line t + 1
 

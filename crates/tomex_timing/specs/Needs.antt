@@ -1,6 +1,7 @@
--- What a run takes of a machine's parts, and how long its steps wait for each of them. Every cycle in which a step
--- waits is charged to one thing: the first that is missing, in the order below. This order is the project's choice; the
--- last thing is charged with what is left, since a step with nothing missing would have continued.
+-- The needs of a run: what it takes of a machine's parts, and how long its steps wait for each of them. Every cycle in
+-- which a step waits is charged to one thing: the first that is missing, in the order below. This order is the
+-- project's choice; the last thing is charged with what is left, since a step with nothing missing would have
+-- continued.
 use Rattle.std.specs.Prelude.{ℕ, ◌+◌, ◌-◌, ◌≤◌, ◌≡◌, ◌⊎◌, ◌==◌, nat_lt, nat_le, Bool, not, ◌&&◌, ◌||◌}
 use Rattle.std.specs.Prelude.{if◌then◌else◌, List, [], ◌∷◌, Option, Some, None, count_by, is_some, max, length}
 use Rattle.std.specs.Prelude.{reverse, slice_index_or}
@@ -130,8 +131,8 @@ abbrev pub stations_up_to : Option ℕ → ℕ
 stations_up_to None = 0
 stations_up_to (Some n) = n + 1
 
--- What a step takes of a part, including what older steps take of it at the same time: the stations up to its own, the
--- operations of its kind that start with it, the results that end with it, the steps that issue with it.
+-- The amount of a part that a step takes, including what older steps take of it at the same time: the stations up to
+-- its own, the operations of its kind that start with it, the results that end with it, the steps that issue with it.
 abbrev pub taken_by : Part → List Done → Done → ℕ
 taken_by (Stations pool) older d = if is_in pool (step_pool d.step) then stations_up_to d.at.station else 0
 taken_by (Units unit) older d =

@@ -1,7 +1,7 @@
--- When each step of a run issues, gets its address, starts, finishes and ends: the least cycle that passes a test over
--- what is older. Sources: R. M. Tomasulo, "An Efficient Algorithm for Exploiting Multiple Arithmetic Units", 1967;
--- Hennessy and Patterson, "Computer Architecture: A Quantitative Approach", the chapter on Tomasulo's algorithm. What
--- they leave open this project chooses, and says so.
+-- The cycles in which each step of a run issues, gets its address, starts, finishes and ends: the least cycle that
+-- passes a test over what is older. Sources: R. M. Tomasulo, "An Efficient Algorithm for Exploiting Multiple Arithmetic
+-- Units", 1967; Hennessy and Patterson, "Computer Architecture: A Quantitative Approach", the chapter on Tomasulo's
+-- algorithm. What they leave open this project chooses, and says so.
 use Rattle.std.specs.Prelude.{ℕ, ◌+◌, ◌-◌, ◌<◌, ◌≡◌, ◌==◌, nat_lt, nat_le, Bool, false, not, ◌&&◌, ◌||◌}
 use Rattle.std.specs.Prelude.{IsTrue, List, [], ◌∷◌, Option, Some, None, count_by, is_some, MatchOption}
 use Rattle.std.specs.Bool.{MatchBool}

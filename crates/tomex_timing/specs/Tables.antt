@@ -14,7 +14,7 @@ use Rattle.tomex_timing.specs.declared.tables.Tag.{Tag}
 use Rattle.tomex_timing.specs.declared.times.Done.{Done}
 use Rattle.tomex_timing.specs.History.{is_memory, cycle_of}
 
--- what tables show of a machine after a cycle: the busy stations, and Qi of each register
+-- the content of tables after a cycle: the busy stations, and Qi of each register
 pub record Tables : Type 0 where
   pub cycle : ℕ
   pub busy : List Busy
@@ -64,7 +64,7 @@ busy_of t tag d older = record {
   a = a_of t d;
 }
 
--- what a station shows, if it is busy
+-- the fields of a station, if it is busy
 abbrev pub shown : ℕ → List Done → Tag → Option Busy
 shown t [] tag = None
 shown t (d ∷ older) tag =

@@ -23,8 +23,8 @@ use tomex_config::Config;
 use tomex_reservations::{BUSES, ReservationTable, Room};
 use tomex_rvdec::{PoolId, UnitId};
 
-/// What an operation takes in later cycles: a unit as it starts, and a bus as its result ends. Without a result it ends
-/// as it finishes.
+/// The slots that an operation takes in later cycles: a unit as it starts, and a bus as its result ends. Without a
+/// result it ends as it finishes.
 #[derive(Clone, Copy)]
 struct Slots {
     start: Room,

@@ -1,4 +1,4 @@
-//! What a run asks of a configuration's parts: how much at once, and whether that was enough.
+//! The demands of a run on a configuration's parts: how much at once, and whether that was enough.
 
 ghost use Rattle.std.specs.Prelude.{◌≡◌};
 ghost use Rattle.tomex_timing.specs.Demands.{demand_after, demand_of, demands_after, nothing_asked};
@@ -16,7 +16,7 @@ pub struct Demand {
     pub waits: bool,
 }
 
-/// What a run on a configuration asks of its parts, and the cycles that it takes.
+/// The demands of a run on a configuration's parts, and the cycles that it takes.
 #[derive(Clone, Copy, Debug, PartialEq, Eq)]
 pub struct Demands {
     /// In the order of `PoolId::ALL` and of `UnitId::ALL`.

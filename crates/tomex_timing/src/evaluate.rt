@@ -74,10 +74,10 @@ pub fn waits<A: Allocator + Clone>(
     Ok(result)
 }
 
-/// What a run's steps take of a configuration's parts, and how long they wait for them.
+/// The needs of a run's steps: what they take of a configuration's parts, and how long they wait for them.
 ///
-/// The work is that of `times`. Stalls grow with the square of the steps: fewer than 2^28 of them, of
-/// at most 67 cycles each, keep every sum within 64 bits.
+/// The work is that of `times`. Stalls grow with the square of the steps: fewer than 2^28 of them, of at most 67 cycles
+/// each, keep every sum within 64 bits.
 pub fn needs<A: Allocator>(alloc: A, steps: &[Step], config: &Config) -> Result<Needs, AllocError>
     requires few { length steps.now < 2 ^ 28 }
     ensures exact { IfOk result (λ n. AreNeeds config.now (history config.now steps.now) n) }

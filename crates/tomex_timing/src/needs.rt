@@ -1,4 +1,5 @@
-//! What a run takes of a configuration's parts, and how long its steps wait for each of them.
+//! The needs of a run: what it takes of a configuration's parts, and how long its steps wait for
+//! each of them.
 
 ghost use Rattle.std.specs.Prelude.{◌≡◌, ◌+◌, ◌-◌, ◌^◌, ◌<◌, ◌≤◌, slice_index_or};
 ghost use Rattle.tomex_rvdec.specs.Parts.{place_of_pool, place_of_unit};
@@ -15,7 +16,7 @@ use crate::window::Facts;
 use tomex_config::Config;
 use tomex_rvdec::{PoolId, UnitId};
 
-/// What a run on a configuration takes of its parts, and how long its steps wait for them, in cycles.
+/// The needs of a run on a configuration: what it takes of the parts, and how long its steps wait for them, in cycles.
 #[derive(Clone, Copy, Debug, PartialEq, Eq)]
 pub struct Needs {
     /// In the order of `PoolId::ALL` and of `UnitId::ALL`.

@@ -49,8 +49,7 @@ impl<A: Allocator> Run<A> {
         self.steps.as_slice()
     }
 
-    /// What the run's steps take of a configuration's parts, and how long they wait for them: `evaluate::needs` of
-    /// these steps.
+    /// The needs of the run's steps on a configuration: `evaluate::needs` of these steps.
     pub fn needs(&self, alloc: &A, config: &Config) -> Result<Needs, AllocError>
         requires few { length self.now < 2 ^ 28 }
         ensures exact { IfOk result (λ n. AreNeeds config.now (history config.now self.now) n) }
@@ -58,8 +57,8 @@ impl<A: Allocator> Run<A> {
         needs_of(alloc, &self.facts, config)
     }
 
-    /// What the run's steps ask of a configuration's parts: of its needs only which parts are waited for, and the
-    /// peaks. This takes less work.
+    /// The demands of the run's steps on a configuration: of its needs only which parts are waited for, and the peaks.
+    /// This takes less work.
     pub fn demands(&self, alloc: &A, config: &Config) -> Result<Demands, AllocError>
         requires few { length self.now < 2 ^ 28 }
         ensures exact { IfOk result (λ d. AreDemands config.now (history config.now self.now) d) }

@@ -12,7 +12,7 @@ pub struct Tag {
     pub number: u8,
 }
 
-/// What a station shows of an operand: V, or Q, or neither if the instruction doesn't read it.
+/// A station's field for an operand: V, or Q, or neither if the instruction doesn't read it.
 #[derive(Clone, Copy, Debug, PartialEq, Eq)]
 pub enum Field {
     Value(u32),
@@ -20,7 +20,7 @@ pub enum Field {
     Unread,
 }
 
-/// What a busy station shows. Only loads and stores have A.
+/// The fields of a busy station. Only loads and stores have A.
 #[derive(Clone, Copy, Debug, PartialEq, Eq)]
 pub struct Busy {
     pub tag: Tag,

@@ -7,8 +7,8 @@ use crate::next::Next;
 use crate::part::Waits;
 use crate::window::Latest;
 
-/// What one step takes of each part, including what others take of it at the same time: the stations up to its own, the
-/// operations that start with it, the results that end with it, the steps that issue with it.
+/// The amount of each part that one step takes, including what others take of it at the same time: the stations up to
+/// its own, the operations that start with it, the results that end with it, the steps that issue with it.
 #[derive(Clone, Copy)]
 pub(crate) struct Taken {
     pub station: u64,
@@ -38,7 +38,7 @@ pub(crate) fn waits_of(latest: &Latest, next: &Next) -> Waits
     }
 }
 
-/// What a next step takes of each part.
+/// The amount of each part that a next step takes.
 pub(crate) fn taken_by(latest: &Latest, next: &Next) -> Taken
     requires few { latest.now.issued < 2 ^ 63 }
     ensures { result ≡ taken_from latest.now next.now }

@@ -1,5 +1,5 @@
-//! What the evaluator keeps of the earlier steps: the latest of each kind of cycle, and what may still block a next
-//! step.
+//! The evaluator's record of the earlier steps: the latest of each kind of cycle, and everything that may still block a
+//! next step.
 
 ghost use Rattle.std.specs.Prelude.{◌≡◌, ◌<◌, ◌≤◌, ◌^◌, ◌+◌, ◌==◌, if◌then◌else◌, [], replicate, IfOk, IfSome};
 ghost use Rattle.std.specs.Option.{ForSome};
@@ -13,7 +13,7 @@ use tomex_reservations::{BUSES, ReservationTable, Stations};
 use tomex_rvdec::{PoolId, UnitId};
 use tomex_rvexec::{ByteRange, Operand, Step};
 
-/// What the recurrence reads of a step, taken from its instruction only once.
+/// The facts that the recurrence reads of a step, taken from its instruction only once.
 #[derive(Clone, Copy, Debug)]
 pub(crate) struct Facts {
     pub pool: Option<PoolId>,

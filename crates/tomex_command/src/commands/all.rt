@@ -1,4 +1,4 @@
-//! What `all` prints.
+//! The command `all`.
 ghost use Rattle.std.specs.Prelude.{IfOk, IfErr};
 ghost use Rattle.tomex_command.specs.FrontLines.{IsFrontOf, IsAllFailure};
 ghost use Rattle.tomex_report.specs.declared.front_view.FrontView.TheVariants.{Report};

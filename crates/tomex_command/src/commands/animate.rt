@@ -1,4 +1,4 @@
-//! What `animate` prints.
+//! The command `animate`.
 ghost use Rattle.std.specs.Prelude.{IfOk, IfErr};
 ghost use Rattle.tomex_command.specs.AnimateLines.{IsAnimateOf, IsAnimateFailure};
 

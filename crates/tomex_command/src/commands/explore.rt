@@ -1,4 +1,4 @@
-//! What the commands that explore a study print: its front, as a report, as a table or as a picture.
+//! The commands that explore a study: its front, as a report, as a table or as a picture.
 ghost use Rattle.std.specs.Prelude.{◌≤◌, map, IfOk, IfErr};
 ghost use Rattle.tomex_report.specs.Answer.{IsAnswerRefusal, IsShown};
 ghost use Rattle.tomex_command.specs.FrontLines.{IsFrontOf, IsExploreFailure};

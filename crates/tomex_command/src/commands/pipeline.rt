@@ -1,4 +1,4 @@
-//! What `pipeline` prints.
+//! The command `pipeline`.
 ghost use Rattle.std.specs.Prelude.{IfOk, IfErr};
 ghost use Rattle.tomex_command.specs.PipelineLines.{IsPipelineOf, IsPipelineFailure};
 

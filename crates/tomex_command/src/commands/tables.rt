@@ -1,4 +1,4 @@
-//! What `tables` prints.
+//! The command `tables`.
 ghost use Rattle.std.specs.Prelude.{◌≡◌, ◌<◌, IfOk, IfErr};
 ghost use Rattle.tomex_cycle.specs.Run.{total};
 ghost use Rattle.tomex_command.specs.TablesLines.{IsTablesOf, IsTablesFailure, IsTextAfter, IsUnshown};
