@@ -1,7 +1,8 @@
 -- The cycles in which each step of a run issues, gets its address, starts, finishes and ends: the least cycle that
--- passes a test over what is older. Sources: R. M. Tomasulo, "An Efficient Algorithm for Exploiting Multiple Arithmetic
--- Units", 1967; Hennessy and Patterson, "Computer Architecture: A Quantitative Approach", the chapter on Tomasulo's
--- algorithm. What they leave open this project chooses, and says so.
+-- passes a test over what is older.
+-- Sources: R. M. Tomasulo, "An Efficient Algorithm for Exploiting Multiple Arithmetic Units", 1967; Hennessy and
+-- Patterson, "Computer Architecture: A Quantitative Approach", the chapter on Tomasulo's algorithm.
+-- What they leave open this project chooses, and says so.
 use Rattle.std.specs.Prelude.{ℕ, ◌+◌, ◌-◌, ◌<◌, ◌≡◌, ◌==◌, nat_lt, nat_le, Bool, false, not, ◌&&◌, ◌||◌}
 use Rattle.std.specs.Prelude.{IsTrue, List, [], ◌∷◌, Option, Some, None, count_by, is_some, MatchOption}
 use Rattle.std.specs.Bool.{MatchBool}
@@ -29,8 +30,9 @@ can_issue_another config older t =
 abbrev pub are_branches_finished : List Done → ℕ → Bool
 are_branches_finished older t = list_all (λ d. not (is_branch d.step) || nat_lt d.at.finish t) older
 
--- Issue. Hennessy and Patterson: in program order, if a reservation station is free. This project: as many in a cycle
--- as the configuration's width; nothing is speculated, so later than the finish of each older branch.
+-- Issue. Hennessy and Patterson: in program order, if a reservation station is free.
+-- This project: as many in a cycle as the configuration's width; nothing is speculated, so later than the finish of
+-- each older branch.
 abbrev pub can_issue : Configuration → List Done → Step → ℕ → Bool
 can_issue config older s t =
     nat_lt 0 t && can_issue_another config older t && are_branches_finished older t
@@ -62,9 +64,9 @@ abbrev pub has_unit : Configuration → List Done → UnitId → ℕ → Bool
 has_unit config older unit t =
     nat_lt (count_by (λ d. is_of unit (step_unit d.step) && d.at.start == t) older) (option_of config unit).units
 
--- Start. Tomasulo: after the operands have arrived on the common data bus, if a unit is free. Hennessy and Patterson:
--- an access waits for older ones to its bytes, unless both are loads. This project: units are pipelined, and the oldest
--- operations are served first.
+-- Start. Tomasulo: after the operands have arrived on the common data bus, if a unit is free.
+-- Hennessy and Patterson: an access waits for older ones to its bytes, unless both are loads.
+-- This project: units are pipelined, and the oldest operations are served first.
 abbrev pub can_start : Configuration → List Done → Step → UnitId → ℕ → ℕ → ℕ → Bool
 can_start config older s unit issue address t =
     nat_lt issue t && nat_lt address t && has_operands older s t && are_conflicts_finished older s t
