@@ -1,4 +1,4 @@
--- No step waits longer than until its end, so the stalls of a run are at most its steps times its cycles.
+-- No step waits longer than until its end, so the stalls of a run are no more than its steps times its cycles.
 use Rattle.std.proofs.Common.{ℕ, ◌+◌, ◌-◌, ◌*◌, ◌^◌, ◌<◌, ◌≤◌, ◌≡◌, Bool, arith, inl, inr, List, [], ◌∷◌, max}
 use Rattle.std.specs.Prelude.{count_by, length}
 use Rattle.std.specs.List.{range_with_len}
@@ -60,7 +60,7 @@ part_within (Units unit) d waits n w =
 part_within Buses d waits n w = w.bus
 part_within Width d waits n w = w.width
 
--- sums of numbers of waits that are no longer than the cycles
+-- numbers of waits that are no longer than them
 sum_within : (config : Configuration) (f : Done → Waits → ℕ) (h : List Done)
     → ((d : Done) (waits : Waits) (n : ℕ) → AreWithin n waits → f d waits ≤ n) → IsWithinLimits config
     → AreTimed config h → greatest_end h ≤ 2 ^ 35 → sum_over (λ older d. f d (waits_of config older d)) h ≤ 2 ^ 35
