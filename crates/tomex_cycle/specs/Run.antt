@@ -23,7 +23,7 @@ run_of config i = history config (steps_from 262144 (start_of i))
 abbrev pub total : Configuration → Loaded → ℕ
 total config i = greatest_end (run_of config i)
 
--- contracts about a machine are about programs that end within this number of steps
+-- what contracts say about a machine holds for programs that end within this number of steps
 abbrev pub most_steps : ℕ
 most_steps = 262144
 

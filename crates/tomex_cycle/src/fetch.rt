@@ -21,7 +21,7 @@ pub enum Fetch {
 }
 
 impl Fetch {
-    /// The source of the next instruction after `instr` at `pc`.
+    /// The source of the next instruction after `instr` has issued at `pc`.
     pub fn after(instr: Instr, pc: u32) -> Fetch
         ensures { (x : Step) → x.instr ≡ instr → x.pc ≡ pc
             → result ≡ fetch_after x (is_branch x) (end_of x) }

@@ -54,7 +54,7 @@ pub fn issue_next<A: Allocator>(
 }
 
 /// Issues more instructions in a cycle in which one has issued, as many as the configuration's width leaves, up to the
-/// first that can't, and counts each. A fault of fetching is left to the next cycle, as its first issue.
+/// first that can't, and counts each. A fault of fetching is left to the next cycle, in which it comes first.
 ///
 /// Out of line, and returns nothing, so that cycles of width 1, which never call it, pay neither registers nor a place
 /// for the result.

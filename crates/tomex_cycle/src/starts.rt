@@ -36,7 +36,7 @@ fn is_clear(pools: &Pools, place: usize, cycle: u64) -> bool
     may_access(pools, place, cycle)
 }
 
-/// Those of these loads and stores that no older access blocks; otherwise they wait only for a port.
+/// The members of `waiting` that no older access blocks; otherwise they wait only for a port.
 ///
 /// Usually at most one has its address, and this isn't called; it is kept out of line so that it costs its caller no
 /// registers.

@@ -136,7 +136,7 @@ fn explored_whole<R: Threads + Sync, A: Allocator + Clone + Send + Sync + Drop, 
     )?)
 }
 
-/// `answer_all` with a gate, which only hears of worker 0.
+/// `answer_all` with a gate, which hears only of worker 0.
 pub fn answer_all_under<R: Threads + Sync, A: Allocator + Clone + Send + Sync + Drop, G: Gate>(
     rt: &R,
     alloc: A,

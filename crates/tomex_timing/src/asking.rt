@@ -1,4 +1,4 @@
-//! The time of a run's next step, which is noted and kept in one walk, for the demands of a run.
+//! One walk that times, notes and keeps a run's next step, for the demands of the run.
 
 ghost use Rattle.std.specs.Prelude.{◌≡◌, ℕ, ◌+◌, ◌-◌, ◌^◌, ◌<◌, ◌≤◌, ◌&&◌, ◌==◌, Some, IfOk, is_some, max};
 ghost use Rattle.std.specs.Prelude.{if◌then◌else◌};
@@ -266,7 +266,7 @@ pub(crate) fn ask_operation<A: Allocator>(
         address: None,
     };
     note_issue(demands, latest, pool, &issued);
-    // Two calls, so that an operation without an access reads nothing of accesses.
+    // Two calls, so that an operation without an access reads no accesses.
     let Some(_) = facts.bytes else {
         return run_issued(window, demands, config, facts, pool, unit, issued);
     };

@@ -24,7 +24,7 @@ pub struct Needs {
     pub units: [Need; 5],
     pub buses: Need,
     pub width: Need,
-    /// The cycles in which steps wait for something that is no part: to issue, for older branches; to start, for an
+    /// The cycles in which steps wait for something other than a part: to issue, for older branches; to start, for an
     /// operand, for an address and for older accesses.
     pub branch: u64,
     pub operand: u64,

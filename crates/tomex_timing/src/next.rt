@@ -24,7 +24,7 @@ pub(crate) struct Marks {
     pub operands: u64,
     /// With its address too.
     pub ready: u64,
-    /// With no older access blocking it, too.
+    /// Also with no older access that blocks it.
     pub clear: u64,
 }
 
