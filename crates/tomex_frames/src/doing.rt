@@ -8,7 +8,7 @@ use tomex_run_views::{Stage, stage_in};
 use tomex_snapshots::Entry;
 use tomex_timing::Waits;
 
-/// The reason for which a step waits: to issue, an older branch, the issue width or a station; to start, an operand,
+/// The cause of a wait: to issue, an older branch, the issue width or a station; to start, an operand,
 /// its address, an older access or a unit; at the end, a bus.
 #[derive(Clone, Copy)]
 pub enum Cause {

@@ -115,7 +115,7 @@ fn push_was<A: Allocator>(
     }
 }
 
-/// Adds a row's entry of a part, that of the row before, and what it costs.
+/// Adds a row's entry for a part, that of the row before, and what it costs.
 #[tactic(auto, unfolding(crate::specs::Parts::part_cells))]
 fn push_part_cells<A: Allocator>(
     text: &mut String<A>,

@@ -20,7 +20,7 @@ pub struct Span {
 pub struct Entry {
     /// The step's number, from 1.
     pub number: usize,
-    /// The issue of the step before it, after which it waits to issue; for the first step cycle 1.
+    /// The issue of the step before it, from which on it waits to issue; for the first step cycle 1.
     pub from: u64,
     pub step: Step,
     pub at: Times,
