@@ -131,6 +131,14 @@ filter_has p (x ∷ xs) r (inl i) t = cond_both (p x) (x ∷ filter p xs) (filte
 filter_has p (x ∷ xs) r (inr h) t = let k = filter_has p xs r h t in
     cond_both (p x) (x ∷ filter p xs) (filter p xs) (λ l. Has l r) (λ e. inr k) (λ e. k)
 
+pub kept_only : (rows : List FrontRow) (r : FrontRow) → Has (filter (is_undominated rows) rows) r
+    → Has rows r × IsFree rows r
+kept_only rows r h = let w = has_filter (is_undominated rows) rows r h in (w.0, undominated_free rows r w.1)
+
+pub kept_all : (rows : List FrontRow) (r : FrontRow) → Has rows r → IsFree rows r
+    → Has (filter (is_undominated rows) rows) r
+kept_all rows r h f = filter_has (is_undominated rows) rows r h (free_undominated rows r f)
+
 -- the order by cost, then number
 
 pub before_chain : (a b c : FrontRow) → ComesBefore a b → ComesBefore b c → ComesBefore a c
@@ -218,11 +226,9 @@ front_is rows apart =
       rises = rises_ordered kept (pairs_rise (λ a b. a.row ≢ b.row) kept
           (AllPairs-filter (λ a b. a.row ≢ b.row) (is_undominated rows) rows
           (rises_pairs (λ a b. a.row ≢ b.row) rows apart)));
-      only = λ r h. let w = has_filter (is_undominated rows) rows r
-          (has_moved (ordered kept) kept r (IsPermutation-sym kept (ordered kept) moves) h) in
-          (w.0, undominated_free rows r w.1);
-      all = λ r h f. has_moved kept (ordered kept) r moves
-          (filter_has (is_undominated rows) rows r h (free_undominated rows r f));
+      only = λ r h. kept_only rows r
+          (has_moved (ordered kept) kept r (IsPermutation-sym kept (ordered kept) moves) h);
+      all = λ r h f. has_moved kept (ordered kept) r moves (kept_all rows r h f);
     }
 
 pub only_front : (rows front : List FrontRow) → AreApart rows → IsSortedFront rows front → front ≡ front_of rows

@@ -1,17 +1,20 @@
 -- One pass over rows in the order of cost, cycles and number keeps their front.
-use Rattle.std.proofs.Common.{◌≡◌, ◌≢◌, ⊎_elim, inl, inr, arith, sym, refl, subst, List, [], ◌∷◌, true, false}
-use Rattle.std.proofs.Common.{cond, Option, Some, None, ◌==◌}
+use Rattle.std.proofs.Common.{◌≡◌, ◌≢◌, ◌∙◌, ap, arith, inl, inr, refl, subst, sym, List, [], ◌∷◌, Bool, true, false, cond}
+use Rattle.std.proofs.Common.{not, ◌||◌, ◌==◌, get_or, Option, Some, None}
+use Rattle.std.specs.List.{filter}
 use Rattle.std.specs.List.Sorted.{IsPermutation}
-use Rattle.std.proofs.lemmas.Bool.{cond_both}
+use Rattle.std.proofs.lemmas.Bool.{cond-true, cond-false, cond_both, false_from_ne_true, false≢true, or_left}
 use Rattle.std.proofs.lemmas.Bool.Decides.{nat_tests}
+use Rattle.std.proofs.lemmas.List.Elements.{filter_agree}
+use Rattle.std.proofs.lemmas.List.Kept.{AllPairs-filter}
 use Rattle.std.proofs.lemmas.List.Sorted.{IsPermutation-sym}
 use Rattle.std.proofs.lemmas.Map.Keys.{IsDistinct-IsPermutation}
 use Rattle.tomex_pareto.specs.declared.front_row.FrontRow.{FrontRow}
-use Rattle.tomex_pareto.specs.Front.{front_of}
+use Rattle.tomex_pareto.specs.Front.{dominates, front_of, is_undominated}
 use Rattle.tomex_pareto.specs.Pareto.{AreNumbered, ComesBefore, Dominates}
 use Rattle.tomex_pareto.specs.Passing.{IsUpTo, InOrder, stays_after}
-use Rattle.tomex_pareto.proofs.Pareto.{Has, AllOf, IsFree, IsSortedFront, Rises, all_from, all_has, apart, before_chain}
-use Rattle.tomex_pareto.proofs.Pareto.{has_moved, only_front, pairs_rise, rises_pairs}
+use Rattle.tomex_pareto.proofs.Pareto.{AllOf, IsFree, Rises, all_from, all_has, apart, beats, free_undominated, has_at}
+use Rattle.tomex_pareto.proofs.Pareto.{has_moved, kept_all, kept_only, only_front, pairs_rise, rises_pairs}
 
 -- those of the rows that stay after this one
 abbrev pub passing : Option FrontRow → List FrontRow → List FrontRow
@@ -30,86 +33,77 @@ never_beats b r f w = grind arith
 never_itself : (r : FrontRow) → Dominates r r → ⊥
 never_itself r w = grind arith
 
-beats_chain : (b r s : FrontRow) → Dominates b r → Dominates r s → Dominates b s
-beats_chain b r s v w = grind arith
-
-left_beaten : (b r : FrontRow) → IsFollowed b r → stays_after (Some b) r ≡ false → Dominates b r
+left_beaten : (b r : FrontRow) → IsFollowed b r → stays_after (Some b) r ≡ false → dominates b r ≡ true
 left_beaten b r f e = grind (arith, nat_tests)
+
+left_beats : (b r s : FrontRow) → dominates b r ≡ true → dominates r s ≡ true → dominates b s ≡ true
+left_beats b r s v w = grind (arith, nat_tests)
 
 kept_free : (b r : FrontRow) → stays_after (Some b) r ≡ true → Dominates b r → ⊥
 kept_free b r e w = grind (arith, nat_tests)
 
-kept_before : (b r : FrontRow) → IsFollowed b r → stays_after (Some b) r ≡ true → ComesBefore b r
-kept_before b r f e = grind (arith, nat_tests)
-
-kept_beats : (b r s : FrontRow) → stays_after (Some b) r ≡ true → ComesBefore r s → Dominates b s → Dominates r s
+kept_beats : (b r s : FrontRow) → stays_after (Some b) r ≡ true → IsFollowed r s → dominates b s ≡ true
+    → dominates r s ≡ true
 kept_beats b r s e f w = grind (arith, nat_tests)
+
+free_before : (b r : FrontRow) → IsFollowed b r → dominates b r ≡ false → ComesBefore b r
+free_before b r f e = grind (arith, nat_tests)
+
+-- a row that beats nothing by itself says nothing of the others
+
+absorbed_first : (x y z : Bool) → (x ≡ true → y ≡ true) → not (y || z) ≡ not (x || (y || z))
+absorbed_first false y z f = refl
+absorbed_first true y z f = ap (λ (t : Bool). not (t || z)) (f refl)
+
+absorbed_next : (x y z : Bool) → (y ≡ true → x ≡ true) → not (x || z) ≡ not (x || (y || z))
+absorbed_next true y z f = refl
+absorbed_next false false z f = refl
+absorbed_next false true z f = absurd (false≢true (f refl))
+
+filter_same : (p q : FrontRow → Bool) (rows : List FrontRow) → AllOf (λ s. p s ≡ q s) rows → filter p rows ≡ filter q rows
+filter_same p q [] same = refl
+filter_same p q (r ∷ rs) same = rw (same.0, filter_same p q rs same.1)
 
 free_cons : (b s : FrontRow) (rows : List FrontRow) → (Dominates b s → ⊥) → IsFree rows s → IsFree (b ∷ rows) s
 free_cons b s rows never free q (inl i) w = never (subst (λ (x : FrontRow). Dominates x s) (sym i) w)
 free_cons b s rows never free q (inr t) w = free q t w
 
--- a row more at the head, which stays
-passes_kept : (b : FrontRow) (rows front : List FrontRow) → AllOf (IsFollowed b) rows
-    → AllOf (λ s. ComesBefore b s × (Dominates b s → ⊥)) front → IsSortedFront rows front
-    → IsSortedFront (b ∷ rows) (b ∷ front)
-passes_kept b rows front after kept is =
-    let both = all_has (λ s. ComesBefore b s × (Dominates b s → ⊥)) front in
-    record {
-      rises = (all_from (ComesBefore b) front (λ s h. (both s kept h).0), is.rises);
-      only = λ s h. ⊎_elim
-          (λ (i : b ≡ s). subst (λ (x : FrontRow). Has (b ∷ rows) x × IsFree (b ∷ rows) x) i (
-            inl refl,
-            free_cons b b rows (never_itself b) (λ q t. never_beats b q (all_has (IsFollowed b) rows q after t)),
-          ))
-          (λ (t : Has front s). let o = is.only s t in (inr o.0, free_cons b s rows (both s kept t).1 o.1)) h;
-      all = λ s h f. ⊎_elim (λ (i : b ≡ s). inl i)
-          (λ (t : Has rows s). inr (is.all s t (λ q j w. f q (inr j) w))) h;
-    }
+first_free : (r : FrontRow) (rs : List FrontRow) → AllOf (IsFollowed r) rs → IsFree (r ∷ rs) r
+first_free r rs after = free_cons r r rs (never_itself r) (λ q t. never_beats r q (all_has (IsFollowed r) rs q after t))
 
-has_between : (b r s : FrontRow) (rs : List FrontRow) → Has (b ∷ rs) s → Has (b ∷ r ∷ rs) s
-has_between b r s rs (inl i) = inl i
-has_between b r s rs (inr t) = inr (inr t)
+-- those that stay are those that are undominated
 
-has_others : (b r s : FrontRow) (rs : List FrontRow) → (r ≡ s → ⊥) → Has (b ∷ r ∷ rs) s → Has (b ∷ rs) s
-has_others b r s rs other (inl i) = inl i
-has_others b r s rs other (inr (inl i)) = absurd (other i)
-has_others b r s rs other (inr (inr t)) = inr t
-
--- a row more after the head, which doesn't
-passes_left : (b r : FrontRow) (rs front : List FrontRow) → Dominates b r → IsSortedFront (b ∷ rs) (b ∷ front)
-    → IsSortedFront (b ∷ r ∷ rs) (b ∷ front)
-passes_left b r rs front v is = record {
-  rises = is.rises;
-  only = λ s h. let o = is.only s h in let no = o.1 b (inl refl) in (
-    has_between b r s rs o.0,
-    free_cons b s (r ∷ rs) no (free_cons r s rs (λ w. no (beats_chain b r s v w)) (λ q t. o.1 q (inr t))),
-  );
-  all = λ s h f. is.all s (has_others b r s rs (λ i. f b (inl refl) (subst (Dominates b) i v)) h)
-      (λ q j w. f q (has_between b r q rs j) w);
-}
-
-passes_none : IsSortedFront [] []
-passes_none = record { rises = tt; only = λ r h. absurd h; all = λ r h f. h }
-
-passes : (b : FrontRow) (rs : List FrontRow) → Rises IsFollowed (b ∷ rs)
-    → IsSortedFront (b ∷ rs) (b ∷ passing (Some b) rs)
-passes b [] up = passes_kept b [] [] tt tt passes_none
-passes b (r ∷ rs) up =
+passing_some : (b : FrontRow) (rs : List FrontRow) → Rises IsFollowed (b ∷ rs)
+    → passing (Some b) rs ≡ filter (is_undominated (b ∷ rs)) rs
+passing_some b [] up = refl
+passing_some b (r ∷ rs) up =
+    let test = is_undominated (b ∷ r ∷ rs) in
+    let rest = filter test rs in
     cond_both (stays_after (Some b) r) (r ∷ passing (Some r) rs) (passing (Some b) rs)
-    (λ l. IsSortedFront (b ∷ r ∷ rs) (b ∷ l))
-    (λ e. let is = passes r rs up.1 in let before = kept_before b r up.0.0 e in
-    passes_kept b (r ∷ rs) (r ∷ passing (Some r) rs) up.0 (
-      (before, kept_free b r e),
-      all_from (λ s. ComesBefore b s × (Dominates b s → ⊥)) (passing (Some r) rs)
-          (λ s h. let later = all_has (ComesBefore r) (passing (Some r) rs) s is.rises.0 h in
-          (before_chain b r s before later, λ w. (is.only s (inr h)).1 r (inl refl) (kept_beats b r s e later w))),
-    ) is)
-    (λ e. passes_left b r rs (passing (Some b) rs) (left_beaten b r up.0.0 e) (passes b rs (up.0.1, up.1.1)))
+    (λ l. l ≡ cond (test r) (r ∷ rest) rest)
+    (λ e. ap (λ (l : List FrontRow). r ∷ l) (passing_some r rs up.1
+    ∙ filter_same (is_undominated (r ∷ rs)) test rs (all_from _ rs (λ s h. absorbed_first (dominates b s) _ _
+    (kept_beats b r s e (all_has (IsFollowed r) rs s up.1.0 h)))))
+    ∙ sym (cond-true (test r) (r ∷ rest) rest
+    (free_undominated (b ∷ r ∷ rs) r (free_cons b r (r ∷ rs) (kept_free b r e) (first_free r rs up.1.0)))))
+    (λ e. let v = left_beaten b r up.0.0 e in
+    passing_some b rs (up.0.1, up.1.1)
+    ∙ (filter_agree (is_undominated (b ∷ rs)) test (λ s. absorbed_next (dominates b s) _ _ (left_beats b r s v)) rs
+    ∙ sym (cond-false (test r) (r ∷ rest) rest (ap not (or_left (dominates b r) _ v)))))
 
-passes_all : (rows : List FrontRow) → Rises IsFollowed rows → IsSortedFront rows (passing None rows)
-passes_all [] up = passes_none
-passes_all (r ∷ rs) up = passes r rs up
+passing_all : (rows : List FrontRow) → Rises IsFollowed rows → passing None rows ≡ filter (is_undominated rows) rows
+passing_all [] up = refl
+passing_all (r ∷ rs) up = ap (λ (l : List FrontRow). r ∷ l) (passing_some r rs up)
+    ∙ sym (cond-true (is_undominated (r ∷ rs) r) _ _ (free_undominated (r ∷ rs) r (first_free r rs up.0)))
+
+kept_rises : (rows : List FrontRow) → Rises IsFollowed rows → Rises ComesBefore (filter (is_undominated rows) rows)
+kept_rises rows up = pairs_rise ComesBefore (filter (is_undominated rows) rows) (λ j k d l m.
+    let kept = filter (is_undominated rows) rows in
+    let one = kept_only rows (get_or kept j d) (has_at kept j d (omega arith)) in
+    let other = kept_only rows (get_or kept k d) (has_at kept k d m) in
+    free_before (get_or kept j d) (get_or kept k d)
+    (AllPairs-filter IsFollowed (is_undominated rows) rows (rises_pairs IsFollowed rows up) j k d l m)
+    (false_from_ne_true _ (λ e. other.1 (get_or kept j d) one.0 (beats _ _ e))))
 
 -- rows that are numbered, in order: those that stay are the front of the rows in whatever order
 pub passed : (rows sorted : List FrontRow) → AreNumbered rows → IsPermutation rows sorted → InOrder sorted
@@ -118,11 +112,12 @@ passed rows sorted numbered moved order =
     let back = IsPermutation-sym rows sorted moved in
     let far = rises_pairs (λ a b. a.row ≢ b.row) sorted (apart sorted (IsDistinct-IsPermutation
     (λ a b. a.row == b.row) (λ a b. grind (arith, nat_tests)) rows sorted moved numbered)) in
-    let is = passes_all sorted (pairs_rise IsFollowed sorted (λ j k d l m. (order j k d l m, far j k d l m))) in
-    only_front rows (passing None sorted) (apart rows numbered) (record {
-      rises = is.rises;
-      only = λ r h. let w = is.only r h in
+    let up = pairs_rise IsFollowed sorted (λ j k d l m. (order j k d l m, far j k d l m)) in
+    passing_all sorted up
+    ∙ only_front rows (filter (is_undominated sorted) sorted) (apart rows numbered) (record {
+      rises = kept_rises sorted up;
+      only = λ r h. let w = kept_only sorted r h in
           (has_moved sorted rows r back w.0, λ q i b. w.1 q (has_moved rows sorted q moved i) b);
-      all = λ r h f. is.all r (has_moved rows sorted r moved h)
+      all = λ r h f. kept_all sorted r (has_moved rows sorted r moved h)
           (λ q i b. f q (has_moved sorted rows q back i) b);
     })
