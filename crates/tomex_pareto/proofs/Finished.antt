@@ -39,10 +39,6 @@ finished_of n (c ∷ cs) (Finished y ∷ ms) r (inl e) = record {
 finished_of n (c ∷ cs) (Finished y ∷ ms) r (inr t) = of_later n c (Finished y) cs ms r (finished_of (suc n) cs ms r t)
 finished_of n (c ∷ cs) (m ∷ ms) r h = of_later n c m cs ms r (finished_of (suc n) cs ms r h)
 
-has_later : (n c : ℕ) (m : Mark) (rows : List FrontRow) (r : FrontRow) → Has rows r → Has (finished_one n c m ++ rows) r
-has_later n c (Finished y) rows r h = inr h
-has_later n c m rows r h = h
-
 pub of_finished : (n : ℕ) (cs : List ℕ) (ms : List Mark) (k m y : ℕ) → m ≡ n + k → k < length cs
     → slice_get ms k ≡ Some (Finished y)
     → Has (finished_from n cs ms) (record { row = m; cost = get_or cs k 0; cycles = y })
@@ -52,9 +48,9 @@ of_finished n (c ∷ cs) (Finished x ∷ xs) zero m y e l at = let i : n ≡ m =
     let j : Some (Finished x) ≡ Some (Finished y) = at in
     inl (same_row n c x (record { row = m; cost = c; cycles = y }) i refl cc)
 of_finished n (c ∷ cs) (x ∷ xs) zero m y e l at = absurd (let z : Some x ≡ Some (Finished y) = at in cc)
-of_finished n (c ∷ cs) (x ∷ xs) (suc k) m y e l at =
-    has_later n c x (finished_from (suc n) cs xs) (record { row = m; cost = get_or cs k 0; cycles = y })
-    (of_finished (suc n) cs xs k m y (omega arith) (omega arith) at)
+of_finished n (c ∷ cs) (Finished x ∷ xs) (suc k) m y e l at =
+    inr (of_finished (suc n) cs xs k m y (omega arith) (omega arith) at)
+of_finished n (c ∷ cs) (x ∷ xs) (suc k) m y e l at = of_finished (suc n) cs xs k m y (omega arith) (omega arith) at
 
 -- from a number on, no two have one number
 
@@ -117,9 +113,9 @@ at_row n (c ∷ cs) (y ∷ ys) (suc k) r l m e f g =
 -- the front's rows are rows
 pub front_within : (costs cycles : List ℕ) → All (λ r. r.row < length costs) (front_of (rows_from 0 costs cycles))
 front_within costs cycles k d l =
-    let h = (front_is (rows_from 0 costs cycles) (rows_apart 0 costs cycles)).only _
-    (has_at (front_of (rows_from 0 costs cycles)) k d l) in
-    let w = row_at 0 costs cycles _ h.0 in
+    let rows = rows_from 0 costs cycles in
+    let w = row_at 0 costs cycles _ ((front_is rows (rows_apart 0 costs cycles)).only _ (has_at (front_of rows) k d l)).0
+    in
     let n = w.number in
     let m = w.within in
     omega arith

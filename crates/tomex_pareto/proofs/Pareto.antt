@@ -2,18 +2,19 @@
 use Rattle.std.proofs.Common.{◌≡◌, ◌≢◌, ℕ, zero, suc, ◌<◌, ◌⊎◌, ⊎_elim, inl, inr, arith, ap, sym, refl, subst, ◌∙◌}
 use Rattle.std.proofs.Common.{List, [], ◌∷◌, length, Bool, true, false, get_or, ◌==◌}
 use Rattle.std.specs.Bool.{Decides}
-use Rattle.std.specs.List.{filter, list_any, AllPairs, Contains, IsDistinct}
+use Rattle.std.specs.List.{filter, list_any, AllByRecursion, AllPairs, Contains, IsDistinct}
 use Rattle.std.specs.List.Sorted.{IsPermutation}
 use Rattle.std.proofs.lemmas.Bool.{both_ways, cond_both, eq-eqb, ne_eqb}
 use Rattle.std.proofs.lemmas.Bool.Decides.{Decides-by_or, Decides-like, Decides-not, nat_tests}
-use Rattle.std.proofs.lemmas.List.Elements.{All-contains, All-filter, at_read, filter_passes}
-use Rattle.std.proofs.lemmas.List.Kept.{AllPairs-filter}
-use Rattle.std.proofs.lemmas.List.Sorted.{Contains-permutation, IsPermutation-cons, IsPermutation-middle}
-use Rattle.std.proofs.lemmas.List.Sorted.{IsPermutation-refl, IsPermutation-sym, IsPermutation-trans}
+use Rattle.std.proofs.lemmas.List.Elements.{All-contains, All-filter, All-from_recursion, at_read, filter_passes}
+use Rattle.std.proofs.lemmas.List.Elements.{recursion_from_All}
+use Rattle.std.proofs.lemmas.List.Kept.{AllPairs-cons, AllPairs-filter}
+use Rattle.std.proofs.lemmas.List.Sorted.{All-permutation, Contains-permutation, IsPermutation-cons}
+use Rattle.std.proofs.lemmas.List.Sorted.{IsPermutation-middle, IsPermutation-refl, IsPermutation-sym, IsPermutation-trans}
 use Rattle.std.proofs.lemmas.Map.Keys.{IsDistinct-from_apart, apart_from_distinct}
 use Rattle.tomex_pareto.specs.declared.front_row.FrontRow.{FrontRow}
 use Rattle.tomex_pareto.specs.Front.{dominates, is_undominated, comes_before, put, ordered, front_of}
-use Rattle.tomex_pareto.specs.Pareto.{ComesBefore, Dominates}
+use Rattle.tomex_pareto.specs.Pareto.{AreNumbered, ComesBefore, Dominates, IsFront}
 
 -- r is one of them
 abbrev pub Has : List FrontRow → FrontRow → Type 0
@@ -21,17 +22,7 @@ Has [] r = ⊥
 Has (q ∷ qs) r = (q ≡ r) ⊎ Has qs r
 
 abbrev pub AllOf : (FrontRow → Type 0) → List FrontRow → Type 0
-AllOf P [] = Unit {0}
-AllOf P (q ∷ qs) = P q × AllOf P qs
-
-pub all_has : (P : FrontRow → Type 0) (qs : List FrontRow) (r : FrontRow) → AllOf P qs → Has qs r → P r
-all_has P [] r all h = absurd h
-all_has P (q ∷ qs) r all (inl e) = subst P e all.0
-all_has P (q ∷ qs) r all (inr t) = all_has P qs r all.1 t
-
-pub all_from : (P : FrontRow → Type 0) (qs : List FrontRow) → ((r : FrontRow) → Has qs r → P r) → AllOf P qs
-all_from P [] f = tt
-all_from P (q ∷ qs) f = (f q (inl refl), all_from P qs (λ r h. f r (inr h)))
+AllOf P rows = AllByRecursion P rows
 
 pub has_at : (rows : List FrontRow) (k : ℕ) (d : FrontRow) → k < length rows → Has rows (get_or rows k d)
 has_at [] k d l = absurd (omega arith)
@@ -41,21 +32,28 @@ has_at (r ∷ rs) (suc k) d l = inr (has_at rs k d (omega arith))
 pub contains_has : (rows : List FrontRow) (k : ℕ) (r : FrontRow) → k < length rows → get_or rows k r ≡ r → Has rows r
 contains_has rows k r l e = subst (Has rows) e (has_at rows k r l)
 
-pub has_contains : (rows : List FrontRow) (r : FrontRow) → Has rows r → Contains rows r
+among : (rows : List FrontRow) (r : FrontRow) → Contains rows r → Has rows r
+among rows r c = contains_has rows c.0 r c.1 c.2
+
+has_contains : (rows : List FrontRow) (r : FrontRow) → Has rows r → Contains rows r
 has_contains [] r h = absurd h
 has_contains (q ∷ qs) r (inl e) = (0, omega arith, e)
 has_contains (q ∷ qs) r (inr t) = let w = has_contains qs r t in let l : w.0 < length qs = w.1 in
     (suc w.0, omega arith, w.2)
 
+pub all_has : (P : FrontRow → Type 0) (qs : List FrontRow) (r : FrontRow) → AllOf P qs → Has qs r → P r
+all_has P qs r all h = All-contains P qs r (All-from_recursion P qs all) (has_contains qs r h)
+
+pub all_from : (P : FrontRow → Type 0) (qs : List FrontRow) → ((r : FrontRow) → Has qs r → P r) → AllOf P qs
+all_from P qs f = recursion_from_All P qs (λ k d l. f (get_or qs k d) (has_at qs k d l))
+
 -- the same rows in another order
 
 pub has_moved : (xs ys : List FrontRow) (r : FrontRow) → IsPermutation xs ys → Has xs r → Has ys r
-has_moved xs ys r moved h = let w = Contains-permutation xs ys r moved (has_contains xs r h) in
-    contains_has ys w.0 r w.1 w.2
+has_moved xs ys r moved h = among ys r (Contains-permutation xs ys r moved (has_contains xs r h))
 
 all_moved : (P : FrontRow → Type 0) (xs ys : List FrontRow) → IsPermutation xs ys → AllOf P xs → AllOf P ys
-all_moved P xs ys moved all = all_from P ys
-    (λ r h. all_has P xs r all (has_moved ys xs r (IsPermutation-sym xs ys moved) h))
+all_moved P xs ys moved all = recursion_from_All P ys (All-permutation P xs ys moved (All-from_recursion P xs all))
 
 -- R holds of each row and each later one
 abbrev pub Rises : (FrontRow → FrontRow → Type 0) → List FrontRow → Type 0
@@ -63,16 +61,13 @@ Rises R [] = Unit {0}
 Rises R (r ∷ rs) = AllOf (R r) rs × Rises R rs
 
 pub rises_pairs : (R : FrontRow → FrontRow → Type 0) (xs : List FrontRow) → Rises R xs → AllPairs R xs
-rises_pairs R [] up j k d l m = absurd (omega arith)
-rises_pairs R (x ∷ xs) up j zero d l m = absurd (omega arith)
-rises_pairs R (x ∷ xs) up zero (suc k) d l m = all_has (R x) xs (get_or xs k d) up.0 (has_at xs k d (omega arith))
-rises_pairs R (x ∷ xs) up (suc j) (suc k) d l m = rises_pairs R xs up.1 j k d (omega arith) (omega arith)
+rises_pairs R [] up = λ j k d l m. absurd (omega arith)
+rises_pairs R (x ∷ xs) up = AllPairs-cons R x xs (All-from_recursion (R x) xs up.0) (rises_pairs R xs up.1)
 
 pub pairs_rise : (R : FrontRow → FrontRow → Type 0) (xs : List FrontRow) → AllPairs R xs → Rises R xs
 pairs_rise R [] f = tt
 pairs_rise R (x ∷ xs) f = (
-  all_from (R x) xs (λ r h. let w = has_contains xs r h in let l : w.0 < length xs = w.1 in
-      subst (R x) w.2 (f 0 (suc w.0) r (omega arith) (omega arith))),
+  recursion_from_All (R x) xs (λ k d l. f 0 (suc k) d (omega arith) (omega arith)),
   pairs_rise R xs (λ j k d l m. f (suc j) (suc k) d (omega arith) (omega arith)),
 )
 
@@ -116,12 +111,13 @@ undominated_free rows r = (undominated_decides rows r).0
 pub free_undominated : (rows : List FrontRow) (r : FrontRow) → IsFree rows r → is_undominated rows r ≡ true
 free_undominated rows r = (undominated_decides rows r).1
 
--- what a filter keeps
+-- what the filter of undominated rows keeps
 
-has_filter : (p : FrontRow → Bool) (xs : List FrontRow) (r : FrontRow) → Has (filter p xs) r → Has xs r × (p r ≡ true)
-has_filter p xs r h = let c = has_contains (filter p xs) r h in (
-  All-contains (Has xs) (filter p xs) r (All-filter p (Has xs) xs (has_at xs)) c,
-  All-contains (λ x. p x ≡ true) (filter p xs) r (filter_passes p xs) c,
+pub kept_only : (rows : List FrontRow) (r : FrontRow) → Has (filter (is_undominated rows) rows) r
+    → Has rows r × IsFree rows r
+kept_only rows r h = let p = is_undominated rows in let c = has_contains (filter p rows) r h in (
+  All-contains (Has rows) (filter p rows) r (All-filter p (Has rows) rows (has_at rows)) c,
+  undominated_free rows r (All-contains (λ x. p x ≡ true) (filter p rows) r (filter_passes p rows) c),
 )
 
 filter_has : (p : FrontRow → Bool) (xs : List FrontRow) (r : FrontRow) → Has xs r → p r ≡ true → Has (filter p xs) r
@@ -130,10 +126,6 @@ filter_has p (x ∷ xs) r (inl i) t = cond_both (p x) (x ∷ filter p xs) (filte
     (λ e. absurd (both_ways (p x) e (ap p i ∙ t)))
 filter_has p (x ∷ xs) r (inr h) t = let k = filter_has p xs r h t in
     cond_both (p x) (x ∷ filter p xs) (filter p xs) (λ l. Has l r) (λ e. inr k) (λ e. k)
-
-pub kept_only : (rows : List FrontRow) (r : FrontRow) → Has (filter (is_undominated rows) rows) r
-    → Has rows r × IsFree rows r
-kept_only rows r h = let w = has_filter (is_undominated rows) rows r h in (w.0, undominated_free rows r w.1)
 
 pub kept_all : (rows : List FrontRow) (r : FrontRow) → Has rows r → IsFree rows r
     → Has (filter (is_undominated rows) rows) r
@@ -236,3 +228,26 @@ only_front rows front apart is =
     let it = front_is rows apart in
     same_rows front (front_of rows) is.rises it.rises (λ r h. let w = is.only r h in
     it.all r w.0 w.1) (λ r h. let w = it.only r h in is.all r w.0 w.1)
+
+-- the same by places in the lists
+
+pub front_is_front : (rows : List FrontRow) → AreNumbered rows → IsFront rows (front_of rows)
+front_is_front rows numbered =
+    let it = front_is rows (apart rows numbered) in
+    record {
+      order = rises_pairs ComesBefore (front_of rows) it.rises;
+      only = λ r c. let w = it.only r (among (front_of rows) r c) in
+          record { one = has_contains rows r w.0; free = λ q h b. w.1 q (among rows q h) b };
+      all = λ r u. has_contains (front_of rows) r
+          (it.all r (among rows r u.one) (λ q h b. u.free q (has_contains rows q h) b));
+    }
+
+pub front_is_one : (rows front : List FrontRow) → AreNumbered rows → IsFront rows front → front ≡ front_of rows
+front_is_one rows front numbered is =
+    only_front rows front (apart rows numbered) (record {
+      rises = pairs_rise ComesBefore front is.order;
+      only = λ r h. let w = is.only r (has_contains front r h) in
+          (among rows r w.one, λ q i b. w.free q (has_contains rows q i) b);
+      all = λ r h f. among front r (is.all r
+          (record { one = has_contains rows r h; free = λ q c b. f q (among rows q c) b }));
+    })

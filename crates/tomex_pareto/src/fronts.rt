@@ -86,6 +86,7 @@ fn undominated<A: Allocator>(
 }
 
 /// The front of the finished rows.
+#[tactic(auto, using(crate::proofs::Finished::finished_numbered))]
 pub fn front<A: Allocator + Clone>(
     alloc: A,
     costs: &[u64],
