@@ -94,13 +94,7 @@ marked (x ∷ ys) (suc k) y e = marked ys k y e
 pub row_at : (n : ℕ) (cs ys : List ℕ) (r : FrontRow) → Has (rows_from n cs ys) r → IsAt n cs ys r
 row_at n cs ys r h =
     let w = finished_of n cs (map Finished ys) r (subst (λ (rs : List FrontRow). Has rs r) (rows_finished n cs ys) h) in
-    record {
-      k = w.k;
-      within = w.within;
-      number = w.number;
-      cost = w.cost;
-      cycles_are = marked ys w.k r.cycles w.mark;
-    }
+    record { k = w.k; within = w.within; number = w.number; cost = w.cost; cycles_are = marked ys w.k r.cycles w.mark }
 
 pub at_row : (n : ℕ) (cs ys : List ℕ) (k : ℕ) (r : FrontRow) → k < length cs → k < length ys → r.row ≡ n + k
     → r.cost ≡ get_or cs k 0 → r.cycles ≡ get_or ys k 0 → Has (rows_from n cs ys) r

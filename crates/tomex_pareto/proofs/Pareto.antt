@@ -14,7 +14,7 @@ use Rattle.std.proofs.lemmas.List.Sorted.{IsPermutation-middle, IsPermutation-re
 use Rattle.std.proofs.lemmas.Map.Keys.{IsDistinct-from_apart, apart_from_distinct}
 use Rattle.tomex_pareto.specs.declared.front_row.FrontRow.{FrontRow}
 use Rattle.tomex_pareto.specs.Front.{dominates, is_undominated, comes_before, put, ordered, front_of}
-use Rattle.tomex_pareto.specs.Pareto.{AreNumbered, ComesBefore, Dominates, IsFront}
+use Rattle.tomex_pareto.specs.Pareto.{ComesBefore, Dominates}
 
 -- r is one of them
 abbrev pub Has : List FrontRow → FrontRow → Type 0
@@ -32,10 +32,10 @@ has_at (r ∷ rs) (suc k) d l = inr (has_at rs k d (omega arith))
 pub contains_has : (rows : List FrontRow) (k : ℕ) (r : FrontRow) → k < length rows → get_or rows k r ≡ r → Has rows r
 contains_has rows k r l e = subst (Has rows) e (has_at rows k r l)
 
-among : (rows : List FrontRow) (r : FrontRow) → Contains rows r → Has rows r
+pub among : (rows : List FrontRow) (r : FrontRow) → Contains rows r → Has rows r
 among rows r c = contains_has rows c.0 r c.1 c.2
 
-has_contains : (rows : List FrontRow) (r : FrontRow) → Has rows r → Contains rows r
+pub has_contains : (rows : List FrontRow) (r : FrontRow) → Has rows r → Contains rows r
 has_contains [] r h = absurd h
 has_contains (q ∷ qs) r (inl e) = (0, omega arith, e)
 has_contains (q ∷ qs) r (inr t) = let w = has_contains qs r t in let l : w.0 < length qs = w.1 in
@@ -95,31 +95,6 @@ dominates_so a b w = grind (arith, nat_tests)
 abbrev pub IsFree : List FrontRow → FrontRow → Type 0
 IsFree rows r = (q : FrontRow) → Has rows q → Dominates q r → ⊥
 
-undominated_decides : (rows : List FrontRow) (r : FrontRow) → Decides (is_undominated rows r) (IsFree rows r)
-undominated_decides rows r =
-    Decides-like (is_undominated rows r)
-    (λ none q h w. let c = has_contains rows q h in
-    none (c.0, c.1, at_read rows (λ x. Dominates x r) c.0 q c.1 (sym c.2) w))
-    (λ f some. f (get_or rows some.0 r) (has_at rows some.0 r some.1) (some.2 r))
-    (Decides-not (list_any (λ q. dominates q r) rows)
-    (Decides-by_or (λ q. dominates q r) (λ q. Dominates q r) (list_any (λ q. dominates q r))
-    (λ q. (beats q r, dominates_so q r)) refl (λ _ _. refl) rows))
-
-pub undominated_free : (rows : List FrontRow) (r : FrontRow) → is_undominated rows r ≡ true → IsFree rows r
-undominated_free rows r = (undominated_decides rows r).0
-
-pub free_undominated : (rows : List FrontRow) (r : FrontRow) → IsFree rows r → is_undominated rows r ≡ true
-free_undominated rows r = (undominated_decides rows r).1
-
--- what the filter of undominated rows keeps
-
-pub kept_only : (rows : List FrontRow) (r : FrontRow) → Has (filter (is_undominated rows) rows) r
-    → Has rows r × IsFree rows r
-kept_only rows r h = let p = is_undominated rows in let c = has_contains (filter p rows) r h in (
-  All-contains (Has rows) (filter p rows) r (All-filter p (Has rows) rows (has_at rows)) c,
-  undominated_free rows r (All-contains (λ x. p x ≡ true) (filter p rows) r (filter_passes p rows) c),
-)
-
 filter_has : (p : FrontRow → Bool) (xs : List FrontRow) (r : FrontRow) → Has xs r → p r ≡ true → Has (filter p xs) r
 filter_has p [] r h t = h
 filter_has p (x ∷ xs) r (inl i) t = cond_both (p x) (x ∷ filter p xs) (filter p xs) (λ l. Has l r) (λ e. inl i)
@@ -127,23 +102,46 @@ filter_has p (x ∷ xs) r (inl i) t = cond_both (p x) (x ∷ filter p xs) (filte
 filter_has p (x ∷ xs) r (inr h) t = let k = filter_has p xs r h t in
     cond_both (p x) (x ∷ filter p xs) (filter p xs) (λ l. Has l r) (λ e. inr k) (λ e. k)
 
-pub kept_all : (rows : List FrontRow) (r : FrontRow) → Has rows r → IsFree rows r
-    → Has (filter (is_undominated rows) rows) r
-kept_all rows r h f = filter_has (is_undominated rows) rows r h (free_undominated rows r f)
+module _ (rows : List FrontRow) where
+  decides : (r : FrontRow) → Decides (is_undominated rows r) (IsFree rows r)
+  decides r =
+      Decides-like (is_undominated rows r)
+      (λ none q h w. let c = has_contains rows q h in
+      none (c.0, c.1, at_read rows (λ x. Dominates x r) c.0 q c.1 (sym c.2) w))
+      (λ f some. f (get_or rows some.0 r) (has_at rows some.0 r some.1) (some.2 r))
+      (Decides-not (list_any (λ q. dominates q r) rows)
+      (Decides-by_or (λ q. dominates q r) (λ q. Dominates q r) (list_any (λ q. dominates q r))
+      (λ q. (beats q r, dominates_so q r)) refl (λ _ _. refl) rows))
+
+  pub undominated_free : (r : FrontRow) → is_undominated rows r ≡ true → IsFree rows r
+  undominated_free r = (decides r).0
+
+  pub free_undominated : (r : FrontRow) → IsFree rows r → is_undominated rows r ≡ true
+  free_undominated r = (decides r).1
+
+  -- the undominated ones of the rows, in the rows' order
+  abbrev pub kept : List FrontRow
+  kept = filter (is_undominated rows) rows
+
+  pub kept_only : (r : FrontRow) → Has kept r → Has rows r × IsFree rows r
+  kept_only r h = let c = has_contains kept r h in (
+    All-contains (Has rows) kept r (All-filter (is_undominated rows) (Has rows) rows (has_at rows)) c,
+    undominated_free r (All-contains (λ x. is_undominated rows x ≡ true) kept r (filter_passes _ rows) c),
+  )
+
+  pub kept_all : (r : FrontRow) → Has rows r → IsFree rows r → Has kept r
+  kept_all r h f = filter_has (is_undominated rows) rows r h (free_undominated r f)
 
 -- the order by cost, then number
 
-pub before_chain : (a b c : FrontRow) → ComesBefore a b → ComesBefore b c → ComesBefore a c
-before_chain a b c h k = grind arith
+before_chain : (a b c : FrontRow) → ComesBefore a b → ComesBefore b c → ComesBefore a c
+before_chain a b c h k = grind (arith, nat_tests)
 
 never_both : (a b : FrontRow) → ComesBefore a b → ComesBefore b a → ⊥
-never_both a b h k = grind arith
+never_both a b h k = grind (arith, nat_tests)
 
-before_put : (a b : FrontRow) → comes_before a b ≡ true → ComesBefore a b
-before_put a b e = grind (arith, nat_tests)
-
-after_put : (a b : FrontRow) → comes_before a b ≡ false → a.row ≢ b.row → ComesBefore b a
-after_put a b e f = grind (arith, nat_tests)
+before_or_after : (a b : FrontRow) → comes_before a b ≡ false → a.row ≢ b.row → ComesBefore b a
+before_or_after a b e f = grind (arith, nat_tests)
 
 put_moves : (r : FrontRow) (qs : List FrontRow) → IsPermutation (r ∷ qs) (put r qs)
 put_moves r [] = IsPermutation-refl (r ∷ [])
@@ -163,10 +161,9 @@ rises_put : (r : FrontRow) (qs : List FrontRow) → Rises ComesBefore qs → All
 rises_put r [] up apart = (tt, tt)
 rises_put r (q ∷ qs) up apart =
     cond_both (comes_before r q) (r ∷ q ∷ qs) (q ∷ put r qs) (Rises ComesBefore)
-    (λ e. let b = before_put r q e in
-    ((b, all_from (ComesBefore r) qs (λ s h. before_chain r q s b (all_has (ComesBefore q) qs s up.0 h))), up))
+    (λ e. ((e, all_from (ComesBefore r) qs (λ s h. before_chain r q s e (all_has (ComesBefore q) qs s up.0 h))), up))
     (λ e. (
-      all_moved (ComesBefore q) (r ∷ qs) (put r qs) (put_moves r qs) (after_put r q e apart.0, up.0),
+      all_moved (ComesBefore q) (r ∷ qs) (put r qs) (put_moves r qs) (before_or_after r q e apart.0, up.0),
       rises_put r qs up.1 apart.1,
     ))
 
@@ -212,15 +209,14 @@ pub record IsSortedFront (rows front : List FrontRow) : Type 0 where
 pub front_is : (rows : List FrontRow) → AreApart rows → IsSortedFront rows (front_of rows)
 unfolding front_of
 front_is rows apart =
-    let kept = filter (is_undominated rows) rows in
-    let moves = ordered_moves kept in
+    let those = kept rows in
+    let moves = ordered_moves those in
     record {
-      rises = rises_ordered kept (pairs_rise (λ a b. a.row ≢ b.row) kept
+      rises = rises_ordered those (pairs_rise (λ a b. a.row ≢ b.row) those
           (AllPairs-filter (λ a b. a.row ≢ b.row) (is_undominated rows) rows
           (rises_pairs (λ a b. a.row ≢ b.row) rows apart)));
-      only = λ r h. kept_only rows r
-          (has_moved (ordered kept) kept r (IsPermutation-sym kept (ordered kept) moves) h);
-      all = λ r h f. has_moved kept (ordered kept) r moves (kept_all rows r h f);
+      only = λ r h. kept_only rows r (has_moved (ordered those) those r (IsPermutation-sym _ _ moves) h);
+      all = λ r h f. has_moved those (ordered those) r moves (kept_all rows r h f);
     }
 
 pub only_front : (rows front : List FrontRow) → AreApart rows → IsSortedFront rows front → front ≡ front_of rows
@@ -228,26 +224,3 @@ only_front rows front apart is =
     let it = front_is rows apart in
     same_rows front (front_of rows) is.rises it.rises (λ r h. let w = is.only r h in
     it.all r w.0 w.1) (λ r h. let w = it.only r h in is.all r w.0 w.1)
-
--- the same by places in the lists
-
-pub front_is_front : (rows : List FrontRow) → AreNumbered rows → IsFront rows (front_of rows)
-front_is_front rows numbered =
-    let it = front_is rows (apart rows numbered) in
-    record {
-      order = rises_pairs ComesBefore (front_of rows) it.rises;
-      only = λ r c. let w = it.only r (among (front_of rows) r c) in
-          record { one = has_contains rows r w.0; free = λ q h b. w.1 q (among rows q h) b };
-      all = λ r u. has_contains (front_of rows) r
-          (it.all r (among rows r u.one) (λ q h b. u.free q (has_contains rows q h) b));
-    }
-
-pub front_is_one : (rows front : List FrontRow) → AreNumbered rows → IsFront rows front → front ≡ front_of rows
-front_is_one rows front numbered is =
-    only_front rows front (apart rows numbered) (record {
-      rises = pairs_rise ComesBefore front is.order;
-      only = λ r h. let w = is.only r (has_contains front r h) in
-          (among rows r w.one, λ q i b. w.free q (has_contains rows q i) b);
-      all = λ r h f. among front r (is.all r
-          (record { one = has_contains rows r h; free = λ q c b. f q (among rows q c) b }));
-    })

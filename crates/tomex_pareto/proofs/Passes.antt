@@ -1,7 +1,7 @@
 -- One pass over rows in the order of cost, cycles and number keeps their front.
 use Rattle.std.proofs.Common.{◌≡◌, ◌≢◌, ◌∙◌, ap, arith, inl, inr, refl, subst, sym, List, [], ◌∷◌, Bool, true, false, cond}
 use Rattle.std.proofs.Common.{not, ◌||◌, ◌==◌, get_or, Option, Some, None}
-use Rattle.std.specs.List.{filter}
+use Rattle.std.specs.List.{AllPairs, filter}
 use Rattle.std.specs.List.Sorted.{IsPermutation}
 use Rattle.std.proofs.lemmas.Bool.{cond-true, cond-false, cond_both, false_from_ne_true, false≢true, or_left}
 use Rattle.std.proofs.lemmas.Bool.Decides.{nat_tests}
@@ -12,9 +12,9 @@ use Rattle.std.proofs.lemmas.Map.Keys.{IsDistinct-IsPermutation}
 use Rattle.tomex_pareto.specs.declared.front_row.FrontRow.{FrontRow}
 use Rattle.tomex_pareto.specs.Front.{dominates, front_of, is_undominated}
 use Rattle.tomex_pareto.specs.Pareto.{AreNumbered, ComesBefore, Dominates}
-use Rattle.tomex_pareto.specs.Passing.{IsUpTo, InOrder, stays_after}
+use Rattle.tomex_pareto.specs.Passing.{IsUpTo, stays_after}
 use Rattle.tomex_pareto.proofs.Pareto.{AllOf, IsFree, Rises, all_from, all_has, apart, beats, free_undominated, has_at}
-use Rattle.tomex_pareto.proofs.Pareto.{has_moved, kept_all, kept_only, only_front, pairs_rise, rises_pairs}
+use Rattle.tomex_pareto.proofs.Pareto.{has_moved, kept, kept_all, kept_only, only_front, pairs_rise, rises_pairs}
 
 -- those of the rows that stay after this one
 abbrev pub passing : Option FrontRow → List FrontRow → List FrontRow
@@ -91,22 +91,21 @@ passing_some b (r ∷ rs) up =
     ∙ (filter_agree (is_undominated (b ∷ rs)) test (λ s. absorbed_next (dominates b s) _ _ (left_beats b r s v)) rs
     ∙ sym (cond-false (test r) (r ∷ rest) rest (ap not (or_left (dominates b r) _ v)))))
 
-passing_all : (rows : List FrontRow) → Rises IsFollowed rows → passing None rows ≡ filter (is_undominated rows) rows
+passing_all : (rows : List FrontRow) → Rises IsFollowed rows → passing None rows ≡ kept rows
 passing_all [] up = refl
 passing_all (r ∷ rs) up = ap (λ (l : List FrontRow). r ∷ l) (passing_some r rs up)
     ∙ sym (cond-true (is_undominated (r ∷ rs) r) _ _ (free_undominated (r ∷ rs) r (first_free r rs up.0)))
 
-kept_rises : (rows : List FrontRow) → Rises IsFollowed rows → Rises ComesBefore (filter (is_undominated rows) rows)
-kept_rises rows up = pairs_rise ComesBefore (filter (is_undominated rows) rows) (λ j k d l m.
-    let kept = filter (is_undominated rows) rows in
-    let one = kept_only rows (get_or kept j d) (has_at kept j d (omega arith)) in
-    let other = kept_only rows (get_or kept k d) (has_at kept k d m) in
-    free_before (get_or kept j d) (get_or kept k d)
+kept_rises : (rows : List FrontRow) → Rises IsFollowed rows → Rises ComesBefore (kept rows)
+kept_rises rows up = pairs_rise ComesBefore (kept rows) (λ j k d l m.
+    let one = kept_only rows (get_or (kept rows) j d) (has_at (kept rows) j d (omega arith)) in
+    let other = kept_only rows (get_or (kept rows) k d) (has_at (kept rows) k d m) in
+    free_before (get_or (kept rows) j d) (get_or (kept rows) k d)
     (AllPairs-filter IsFollowed (is_undominated rows) rows (rises_pairs IsFollowed rows up) j k d l m)
-    (false_from_ne_true _ (λ e. other.1 (get_or kept j d) one.0 (beats _ _ e))))
+    (false_from_ne_true _ (λ e. other.1 (get_or (kept rows) j d) one.0 (beats _ _ e))))
 
 -- rows that are numbered, in order: those that stay are the front of the rows in whatever order
-pub passed : (rows sorted : List FrontRow) → AreNumbered rows → IsPermutation rows sorted → InOrder sorted
+pub passed : (rows sorted : List FrontRow) → AreNumbered rows → IsPermutation rows sorted → AllPairs IsUpTo sorted
     → passing None sorted ≡ front_of rows
 passed rows sorted numbered moved order =
     let back = IsPermutation-sym rows sorted moved in
@@ -114,7 +113,7 @@ passed rows sorted numbered moved order =
     (λ a b. a.row == b.row) (λ a b. grind (arith, nat_tests)) rows sorted moved numbered)) in
     let up = pairs_rise IsFollowed sorted (λ j k d l m. (order j k d l m, far j k d l m)) in
     passing_all sorted up
-    ∙ only_front rows (filter (is_undominated sorted) sorted) (apart rows numbered) (record {
+    ∙ only_front rows (kept sorted) (apart rows numbered) (record {
       rises = kept_rises sorted up;
       only = λ r h. let w = kept_only sorted r h in
           (has_moved sorted rows r back w.0, λ q i b. w.1 q (has_moved rows sorted q moved i) b);

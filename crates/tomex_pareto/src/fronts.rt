@@ -1,9 +1,10 @@
 //! The front of finished rows.
 
 ghost use Rattle.std.specs.Prelude.{◌≡◌, ◌<◌, ◌≤◌, ◌^◌, ◌++◌, length, IfOk, OnOk, IsPermutation};
+ghost use Rattle.std.specs.List.{AllPairs};
 ghost use Rattle.tomex_pareto.specs.Front.{front_of};
 ghost use Rattle.tomex_pareto.specs.Pareto.{AreNumbered};
-ghost use Rattle.tomex_pareto.specs.Passing.{stays_after, InOrder};
+ghost use Rattle.tomex_pareto.specs.Passing.{IsUpTo, stays_after};
 ghost use Rattle.tomex_pareto.specs.Finished.{finished_from, finished_one};
 
 use crate::front_row::FrontRow;
@@ -44,7 +45,7 @@ fn finished_rows<A: Allocator>(
 /// Puts rows in the order of cost, then cycles, then number.
 fn sort_rows<A: Allocator>(rows: &mut Vec<FrontRow, A>)
     ensures moved { IsPermutation rows.old.items rows.new.items }
-    ensures order { InOrder rows.new.items }
+    ensures order { AllPairs IsUpTo rows.new.items }
 {
     rows.sort_unstable_by_key(|row| (row.cost, row.cycles, row.row));
 }

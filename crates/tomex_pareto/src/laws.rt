@@ -7,7 +7,6 @@ ghost use Rattle.tomex_pareto.specs.declared.front_row.FrontRow.{FrontRow};
 
 /// The front of numbered configurations is the configurations that none of them dominates, by cost, then number, and no
 /// other list of configurations is.
-#[tactic(auto, using(crate::proofs::Pareto::front_is_front, crate::proofs::Pareto::front_is_one))]
 pub fn front_is_the_undominated_rows()
     ensures is { (rows : List FrontRow) → AreNumbered rows → IsFront rows (front_of rows) }
     ensures only { (rows front : List FrontRow) → AreNumbered rows → IsFront rows front
