@@ -1,10 +1,10 @@
--- Rows by their numbers: the finished ones among them, and that no two have one number.
-use Rattle.std.proofs.Common.{◌≡◌, ◌≢◌, ℕ, zero, suc, ◌+◌, ◌<◌, ◌≤◌, ◌⊎◌, inl, inr, arith, ap, sym, refl, subst, ◌∙◌, map}
-use Rattle.std.proofs.Common.{List, [], ◌∷◌, ◌++◌, length, get_or, Option, Some, None, slice_get, All}
+-- Rows by their numbers: which of them are finished, and that no two have the same number.
+use Rattle.std.proofs.Common.{◌≡◌, ◌≢◌, ℕ, zero, suc, ◌+◌, ◌<◌, inl, inr, arith, ap, sym, refl, subst, map}
+use Rattle.std.proofs.Common.{List, [], ◌∷◌, length, get_or, Some, None, slice_get, All}
 use Rattle.tomex_board.specs.declared.mark.Mark.{Mark}
-use Rattle.tomex_board.specs.declared.mark.Mark.TheVariants.{Open, Taken, Finished, Dropped}
+use Rattle.tomex_board.specs.declared.mark.Mark.TheVariants.{Finished}
 use Rattle.tomex_pareto.specs.declared.front_row.FrontRow.{FrontRow}
-use Rattle.tomex_pareto.specs.Finished.{finished_from, finished_one}
+use Rattle.tomex_pareto.specs.Finished.{finished_from}
 use Rattle.tomex_pareto.specs.Front.{front_of, rows_from}
 use Rattle.tomex_pareto.specs.Pareto.{AreNumbered}
 use Rattle.tomex_pareto.proofs.Pareto.{Has, AreApart, all_from, distinct, front_is, has_at}
@@ -52,7 +52,7 @@ of_finished n (c ∷ cs) (Finished x ∷ xs) (suc k) m y e l at =
     inr (of_finished (suc n) cs xs k m y (omega arith) (omega arith) at)
 of_finished n (c ∷ cs) (x ∷ xs) (suc k) m y e l at = of_finished (suc n) cs xs k m y (omega arith) (omega arith) at
 
--- from a number on, no two have one number
+-- no two of them have the same number
 
 pub finished_apart : (n : ℕ) (cs : List ℕ) (ms : List Mark) → AreApart (finished_from n cs ms)
 finished_apart n [] ms = tt
@@ -67,7 +67,7 @@ finished_apart n (c ∷ cs) (m ∷ ms) = finished_apart (suc n) cs ms
 pub finished_numbered : (costs : List ℕ) (marks : List Mark) → AreNumbered (finished_from 0 costs marks)
 finished_numbered costs marks = distinct (finished_from 0 costs marks) (finished_apart 0 costs marks)
 
--- all rows are those that are finished if all are
+-- all rows are the finished rows if every mark is finished
 
 rows_finished : (n : ℕ) (cs ys : List ℕ) → rows_from n cs ys ≡ finished_from n cs (map Finished ys)
 rows_finished n [] ys = refl

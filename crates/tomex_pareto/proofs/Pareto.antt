@@ -71,7 +71,7 @@ pairs_rise R (x ∷ xs) f = (
   pairs_rise R xs (λ j k d l m. f (suc j) (suc k) d (omega arith) (omega arith)),
 )
 
--- no two have one number
+-- no two have the same number
 abbrev pub AreApart : List FrontRow → Type 0
 AreApart rows = Rises (λ a b. a.row ≢ b.row) rows
 
@@ -119,7 +119,7 @@ module _ (rows : List FrontRow) where
   pub free_undominated : (r : FrontRow) → IsFree rows r → is_undominated rows r ≡ true
   free_undominated r = (decides r).1
 
-  -- the undominated ones of the rows, in the rows' order
+  -- the undominated rows, in the order of all rows
   abbrev pub kept : List FrontRow
   kept = filter (is_undominated rows) rows
 
@@ -172,7 +172,7 @@ rises_ordered [] apart = tt
 rises_ordered (r ∷ rs) apart = rises_put r (ordered rs) (rises_ordered rs apart.1)
     (all_moved (λ q. r.row ≢ q.row) rs (ordered rs) (ordered_moves rs) apart.0)
 
--- two rising lists of the same rows are one
+-- two rising lists of the same rows are equal
 
 same_head : (x y : FrontRow) (xs ys : List FrontRow) → AllOf (ComesBefore x) xs → AllOf (ComesBefore y) ys
     → Has (y ∷ ys) x → Has (x ∷ xs) y → y ≡ x

@@ -1,4 +1,4 @@
--- One pass over rows in the order of cost, cycles and number keeps their front.
+-- One pass over rows that are sorted by cost, cycles and number keeps their front.
 use Rattle.std.proofs.Common.{◌≡◌, ◌≢◌, ◌∙◌, ap, arith, inl, inr, refl, subst, sym, List, [], ◌∷◌, Bool, true, false, cond}
 use Rattle.std.proofs.Common.{not, ◌||◌, ◌==◌, get_or, Option, Some, None}
 use Rattle.std.specs.List.{AllPairs, filter}
@@ -16,7 +16,7 @@ use Rattle.tomex_pareto.specs.Passing.{IsUpTo, stays_after}
 use Rattle.tomex_pareto.proofs.Pareto.{AllOf, IsFree, Rises, all_from, all_has, apart, beats, free_undominated, has_at}
 use Rattle.tomex_pareto.proofs.Pareto.{has_moved, kept, kept_all, kept_only, only_front, pairs_rise, rises_pairs}
 
--- those of the rows that stay after this one
+-- the rows that stay, given the last row before them that did
 abbrev pub passing : Option FrontRow → List FrontRow → List FrontRow
 passing last [] = []
 passing last (r ∷ rs) = cond (stays_after last r) (r ∷ passing (Some r) rs) (passing last rs)
@@ -25,7 +25,7 @@ passing last (r ∷ rs) = cond (stays_after last r) (r ∷ passing (Some r) rs) 
 abbrev pub IsFollowed : FrontRow → FrontRow → Type 0
 IsFollowed a b = IsUpTo a b × (a.row ≢ b.row)
 
--- numbers of a row b, one r after it, and one s after both
+-- a row b, a row r after it, and a row s after both: their costs, cycles and numbers
 
 never_beats : (b r : FrontRow) → IsFollowed b r → Dominates r b → ⊥
 never_beats b r f w = grind arith
@@ -49,7 +49,7 @@ kept_beats b r s e f w = grind (arith, nat_tests)
 free_before : (b r : FrontRow) → IsFollowed b r → dominates b r ≡ false → ComesBefore b r
 free_before b r f e = grind (arith, nat_tests)
 
--- a row that beats nothing by itself says nothing of the others
+-- in a chain of tests, one that implies its neighbour adds nothing
 
 absorbed_first : (x y z : Bool) → (x ≡ true → y ≡ true) → not (y || z) ≡ not (x || (y || z))
 absorbed_first false y z f = refl
@@ -71,7 +71,7 @@ free_cons b s rows never free q (inr t) w = free q t w
 first_free : (r : FrontRow) (rs : List FrontRow) → AllOf (IsFollowed r) rs → IsFree (r ∷ rs) r
 first_free r rs after = free_cons r r rs (never_itself r) (λ q t. never_beats r q (all_has (IsFollowed r) rs q after t))
 
--- those that stay are those that are undominated
+-- the rows that stay are the undominated ones
 
 passing_some : (b : FrontRow) (rs : List FrontRow) → Rises IsFollowed (b ∷ rs)
     → passing (Some b) rs ≡ filter (is_undominated (b ∷ rs)) rs
@@ -104,7 +104,7 @@ kept_rises rows up = pairs_rise ComesBefore (kept rows) (λ j k d l m.
     (AllPairs-filter IsFollowed (is_undominated rows) rows (rises_pairs IsFollowed rows up) j k d l m)
     (false_from_ne_true _ (λ e. other.1 (get_or (kept rows) j d) one.0 (beats _ _ e))))
 
--- rows that are numbered, in order: those that stay are the front of the rows in whatever order
+-- of sorted rows with different numbers those that stay are the front, in whatever order the rows were
 pub passed : (rows sorted : List FrontRow) → AreNumbered rows → IsPermutation rows sorted → AllPairs IsUpTo sorted
     → passing None sorted ≡ front_of rows
 passed rows sorted numbered moved order =

@@ -15,15 +15,15 @@ pub record IsUndominated (rows : List FrontRow) (r : FrontRow) : Type 0 where
   pub one : Contains rows r
   pub free : (q : FrontRow) → Contains rows q → Dominates q r → ⊥
 
--- by cost, then number
+-- a stands before b: by cost, then number
 abbrev pub ComesBefore : FrontRow → FrontRow → Type 0
 ComesBefore a b = comes_before a b ≡ true
 
--- no two have one number
+-- no two rows have the same number
 abbrev pub AreNumbered : List FrontRow → Type 0
 AreNumbered rows = IsDistinct (λ a b. a.row == b.row) rows
 
--- the rows that none of them dominates, and nothing else, by cost, then number
+-- exactly the rows that none of them dominates, by cost, then number
 pub record IsFront (rows front : List FrontRow) : Type 0 where
   pub order : AllPairs ComesBefore front
   pub only : (r : FrontRow) → Contains front r → IsUndominated rows r

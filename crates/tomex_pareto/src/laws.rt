@@ -1,4 +1,4 @@
-//! A law of the definition of the front. It does nothing.
+//! A law of the definition of the front, as a function that does nothing.
 
 ghost use Rattle.std.specs.Prelude.{◌≡◌, List};
 ghost use Rattle.tomex_pareto.specs.Front.{front_of};
