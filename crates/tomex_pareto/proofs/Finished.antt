@@ -108,8 +108,8 @@ at_row n (c ∷ cs) (y ∷ ys) (suc k) r l m e f g =
 pub front_within : (costs cycles : List ℕ) → All (λ r. r.row < length costs) (front_of (rows_from 0 costs cycles))
 front_within costs cycles k d l =
     let rows = rows_from 0 costs cycles in
-    let w = row_at 0 costs cycles _ ((front_is rows (rows_apart 0 costs cycles)).only _ (has_at (front_of rows) k d l)).0
-    in
+    let o = (front_is rows (rows_apart 0 costs cycles)).only _ (has_at (front_of rows) k d l) in
+    let w = row_at 0 costs cycles _ o.0 in
     let n = w.number in
     let m = w.within in
     omega arith

@@ -1,6 +1,6 @@
 -- One pass over rows that are sorted by cost, cycles and number keeps their front.
-use Rattle.std.proofs.Common.{◌≡◌, ◌≢◌, ◌∙◌, ap, arith, inl, inr, refl, subst, sym, List, [], ◌∷◌, Bool, true, false, cond}
-use Rattle.std.proofs.Common.{not, ◌||◌, ◌==◌, get_or, Option, Some, None}
+use Rattle.std.proofs.Common.{◌≡◌, ◌≢◌, ◌∙◌, ap, arith, inl, inr, refl, subst, sym, List, [], ◌∷◌, Bool, true, false}
+use Rattle.std.proofs.Common.{cond, not, ◌||◌, ◌==◌, get_or, Option, Some, None}
 use Rattle.std.specs.List.{AllPairs, filter}
 use Rattle.std.specs.List.Sorted.{IsPermutation}
 use Rattle.std.proofs.lemmas.Bool.{cond-true, cond-false, cond_both, false_from_ne_true, false≢true, or_left}
@@ -60,7 +60,8 @@ absorbed_next true y z f = refl
 absorbed_next false false z f = refl
 absorbed_next false true z f = absurd (false≢true (f refl))
 
-filter_same : (p q : FrontRow → Bool) (rows : List FrontRow) → AllOf (λ s. p s ≡ q s) rows → filter p rows ≡ filter q rows
+filter_same : (p q : FrontRow → Bool) (rows : List FrontRow) → AllOf (λ s. p s ≡ q s) rows
+    → filter p rows ≡ filter q rows
 filter_same p q [] same = refl
 filter_same p q (r ∷ rs) same = rw (same.0, filter_same p q rs same.1)
 

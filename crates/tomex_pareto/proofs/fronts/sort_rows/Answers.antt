@@ -25,4 +25,5 @@ up_to a b f = grind (arith, nat_tests)
 
 pub returns-clause-order : goal.returns-clause-order
 returns-clause-order g c = λ j k d l m. up_to _ _ (sorted_far _ (ranks_by total key) _
-    (c.sort_unstable_by_key.ensures.sorted key (answers_always _ _ _ (λ f a r g h. search rules))) j k d (omega arith) m)
+    (c.sort_unstable_by_key.ensures.sorted key (answers_always _ _ _ (λ f a r g h. search rules)))
+    j k d (omega arith) m)
