@@ -1,13 +1,13 @@
 -- The front as a function: which rows are on it, in which order, and that no other list is so.
 use Rattle.std.proofs.Common.{◌≡◌, ◌≢◌, ℕ, zero, suc, ◌<◌, ◌⊎◌, ⊎_elim, inl, inr, arith, ap, sym, refl, subst, ◌∙◌}
-use Rattle.std.proofs.Common.{List, [], ◌∷◌, length, Bool, true, false, get_or, ◌==◌}
-use Rattle.std.specs.Bool.{Decides}
+use Rattle.std.proofs.Common.{List, [], ◌∷◌, length, Bool, true, false, not, get_or, ◌==◌}
 use Rattle.std.specs.List.{filter, list_any, AllByRecursion, AllPairs, Contains, IsDistinct}
 use Rattle.std.specs.List.Sorted.{IsPermutation}
-use Rattle.std.proofs.lemmas.Bool.{both_ways, cond_both, eq-eqb, ne_eqb}
-use Rattle.std.proofs.lemmas.Bool.Decides.{Decides-by_or, Decides-like, Decides-not, nat_tests}
-use Rattle.std.proofs.lemmas.List.Elements.{All-contains, All-filter, All-from_recursion, at_read, filter_passes}
+use Rattle.std.proofs.lemmas.Bool.{both_ways, cond_both, eq-eqb, false_from_ne_true, ne_eqb, not-true}
+use Rattle.std.proofs.lemmas.Bool.Decides.{nat_tests}
+use Rattle.std.proofs.lemmas.List.Elements.{All-contains, All-filter, All-from_recursion, filter_passes}
 use Rattle.std.proofs.lemmas.List.Elements.{recursion_from_All}
+use Rattle.std.proofs.lemmas.List.Folds.{list_any-from_Any, list_any_none}
 use Rattle.std.proofs.lemmas.List.Kept.{AllPairs-cons, AllPairs-filter}
 use Rattle.std.proofs.lemmas.List.Sorted.{All-permutation, Contains-permutation, IsPermutation-cons}
 use Rattle.std.proofs.lemmas.List.Sorted.{IsPermutation-middle, IsPermutation-refl, IsPermutation-sym}
@@ -103,22 +103,18 @@ filter_has p (x ∷ xs) r (inl i) t = cond_both (p x) (x ∷ filter p xs) (filte
 filter_has p (x ∷ xs) r (inr h) t = let k = filter_has p xs r h t in
     cond_both (p x) (x ∷ filter p xs) (filter p xs) (λ l. Has l r) (λ e. inr k) (λ e. k)
 
-module _ (rows : List FrontRow) where
-  decides : (r : FrontRow) → Decides (is_undominated rows r) (IsFree rows r)
-  decides r =
-      Decides-like (is_undominated rows r)
-      (λ none q h w. let c = has_contains rows q h in
-      none (c.0, c.1, at_read rows (λ x. Dominates x r) c.0 q c.1 (sym c.2) w))
-      (λ f some. f (get_or rows some.0 r) (has_at rows some.0 r some.1) (some.2 r))
-      (Decides-not (list_any (λ q. dominates q r) rows)
-      (Decides-by_or (λ q. dominates q r) (λ q. Dominates q r) (list_any (λ q. dominates q r))
-      (λ q. (beats q r, dominates_so q r)) refl (λ _ _. refl) rows))
+pub undominated : (rows : List FrontRow) (r : FrontRow) → AllOf (λ q. dominates q r ≡ false) rows
+    → is_undominated rows r ≡ true
+undominated rows r all = ap not (list_any_none (λ q. dominates q r) rows (All-from_recursion _ rows all))
 
+module _ (rows : List FrontRow) where
   pub undominated_free : (r : FrontRow) → is_undominated rows r ≡ true → IsFree rows r
-  undominated_free r = (decides r).0
+  undominated_free r e q h w = let c = has_contains rows q h in both_ways _ (not-true _ e)
+      (list_any-from_Any (λ q. dominates q r) rows (c.0, q, c.1, c.2, dominates_so q r w))
 
   pub free_undominated : (r : FrontRow) → IsFree rows r → is_undominated rows r ≡ true
-  free_undominated r = (decides r).1
+  free_undominated r f = undominated rows r
+      (all_from _ rows (λ q h. false_from_ne_true _ (λ e. f q h (beats q r e))))
 
   -- the undominated rows, in the order of all rows
   abbrev pub kept : List FrontRow
@@ -177,10 +173,8 @@ rises_ordered (r ∷ rs) apart = rises_put r (ordered rs) (rises_ordered rs apar
 
 same_head : (x y : FrontRow) (xs ys : List FrontRow) → AllOf (ComesBefore x) xs → AllOf (ComesBefore y) ys
     → Has (y ∷ ys) x → Has (x ∷ xs) y → y ≡ x
-same_head x y xs ys ux uy (inl i) k = i
-same_head x y xs ys ux uy (inr t) (inl i) = sym i
-same_head x y xs ys ux uy (inr t) (inr u) = absurd
-    (never_both x y (all_has (ComesBefore x) xs y ux u) (all_has (ComesBefore y) ys x uy t))
+same_head x y xs ys ux uy h k =
+    grind (arith, never_both x y, all_has (ComesBefore x) xs y ux, all_has (ComesBefore y) ys x uy)
 
 same_tail : (x : FrontRow) (xs ys : List FrontRow) → AllOf (ComesBefore x) xs
     → ((r : FrontRow) → Has (x ∷ xs) r → Has (x ∷ ys) r) → (r : FrontRow) → Has xs r → Has ys r

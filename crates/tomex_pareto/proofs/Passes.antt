@@ -11,10 +11,10 @@ use Rattle.std.proofs.lemmas.List.Sorted.{IsPermutation-sym}
 use Rattle.std.proofs.lemmas.Map.Keys.{IsDistinct-IsPermutation}
 use Rattle.tomex_pareto.specs.declared.front_row.FrontRow.{FrontRow}
 use Rattle.tomex_pareto.specs.Front.{dominates, front_of, is_undominated}
-use Rattle.tomex_pareto.specs.Pareto.{AreNumbered, ComesBefore, Dominates}
+use Rattle.tomex_pareto.specs.Pareto.{AreNumbered, ComesBefore}
 use Rattle.tomex_pareto.specs.Passing.{IsUpTo, stays_after}
-use Rattle.tomex_pareto.proofs.Pareto.{AllOf, IsFree, Rises, all_from, all_has, apart, beats, free_undominated, has_at}
-use Rattle.tomex_pareto.proofs.Pareto.{has_moved, kept, kept_all, kept_only, only_front, pairs_rise, rises_pairs}
+use Rattle.tomex_pareto.proofs.Pareto.{AllOf, Rises, all_from, all_has, apart, beats, has_at, has_moved, kept}
+use Rattle.tomex_pareto.proofs.Pareto.{kept_all, kept_only, only_front, pairs_rise, rises_pairs, undominated}
 
 -- the rows that stay, given the last row before them that did
 abbrev pub passing : Option FrontRow → List FrontRow → List FrontRow
@@ -27,11 +27,11 @@ IsFollowed a b = IsUpTo a b × (a.row ≢ b.row)
 
 -- a row b, a row r after it, and a row s after both: their costs, cycles and numbers
 
-never_beats : (b r : FrontRow) → IsFollowed b r → Dominates r b → ⊥
-never_beats b r f w = grind arith
+never_beats : (b r : FrontRow) → IsFollowed b r → dominates r b ≡ false
+never_beats b r f = grind (arith, nat_tests)
 
-never_itself : (r : FrontRow) → Dominates r r → ⊥
-never_itself r w = grind arith
+never_itself : (r : FrontRow) → dominates r r ≡ false
+never_itself r = grind (arith, nat_tests)
 
 left_beaten : (b r : FrontRow) → IsFollowed b r → stays_after (Some b) r ≡ false → dominates b r ≡ true
 left_beaten b r f e = grind (arith, nat_tests)
@@ -39,8 +39,8 @@ left_beaten b r f e = grind (arith, nat_tests)
 left_beats : (b r s : FrontRow) → dominates b r ≡ true → dominates r s ≡ true → dominates b s ≡ true
 left_beats b r s v w = grind (arith, nat_tests)
 
-kept_free : (b r : FrontRow) → stays_after (Some b) r ≡ true → Dominates b r → ⊥
-kept_free b r e w = grind (arith, nat_tests)
+kept_free : (b r : FrontRow) → stays_after (Some b) r ≡ true → dominates b r ≡ false
+kept_free b r e = grind (arith, nat_tests)
 
 kept_beats : (b r s : FrontRow) → stays_after (Some b) r ≡ true → IsFollowed r s → dominates b s ≡ true
     → dominates r s ≡ true
@@ -65,12 +65,8 @@ filter_same : (p q : FrontRow → Bool) (rows : List FrontRow) → AllOf (λ s. 
 filter_same p q [] same = refl
 filter_same p q (r ∷ rs) same = rw (same.0, filter_same p q rs same.1)
 
-free_cons : (b s : FrontRow) (rows : List FrontRow) → (Dominates b s → ⊥) → IsFree rows s → IsFree (b ∷ rows) s
-free_cons b s rows never free q (inl i) w = never (subst (λ (x : FrontRow). Dominates x s) (sym i) w)
-free_cons b s rows never free q (inr t) w = free q t w
-
-first_free : (r : FrontRow) (rs : List FrontRow) → AllOf (IsFollowed r) rs → IsFree (r ∷ rs) r
-first_free r rs after = free_cons r r rs (never_itself r) (λ q t. never_beats r q (all_has (IsFollowed r) rs q after t))
+none_beats : (r : FrontRow) (rs : List FrontRow) → AllOf (IsFollowed r) rs → AllOf (λ q. dominates q r ≡ false) (r ∷ rs)
+none_beats r rs after = (never_itself r, all_from _ rs (λ q h. never_beats r q (all_has (IsFollowed r) rs q after h)))
 
 -- the rows that stay are the undominated ones
 
@@ -86,7 +82,7 @@ passing_some b (r ∷ rs) up =
     ∙ filter_same (is_undominated (r ∷ rs)) test rs (all_from _ rs (λ s h. absorbed_first (dominates b s) _ _
     (kept_beats b r s e (all_has (IsFollowed r) rs s up.1.0 h)))))
     ∙ sym (cond-true (test r) (r ∷ rest) rest
-    (free_undominated (b ∷ r ∷ rs) r (free_cons b r (r ∷ rs) (kept_free b r e) (first_free r rs up.1.0)))))
+    (undominated (b ∷ r ∷ rs) r (kept_free b r e, none_beats r rs up.1.0))))
     (λ e. let v = left_beaten b r up.0.0 e in
     passing_some b rs (up.0.1, up.1.1)
     ∙ (filter_agree (is_undominated (b ∷ rs)) test (λ s. absorbed_next (dominates b s) _ _ (left_beats b r s v)) rs
@@ -95,7 +91,7 @@ passing_some b (r ∷ rs) up =
 passing_all : (rows : List FrontRow) → Rises IsFollowed rows → passing None rows ≡ kept rows
 passing_all [] up = refl
 passing_all (r ∷ rs) up = ap (λ (l : List FrontRow). r ∷ l) (passing_some r rs up)
-    ∙ sym (cond-true (is_undominated (r ∷ rs) r) _ _ (free_undominated (r ∷ rs) r (first_free r rs up.0)))
+    ∙ sym (cond-true (is_undominated (r ∷ rs) r) _ _ (undominated (r ∷ rs) r (none_beats r rs up.0)))
 
 kept_rises : (rows : List FrontRow) → Rises IsFollowed rows → Rises ComesBefore (kept rows)
 kept_rises rows up = pairs_rise ComesBefore (kept rows) (λ j k d l m.
