@@ -1,7 +1,7 @@
 -- The front as a function: which rows are on it, in which order, and that no other list is so.
 use Rattle.std.proofs.Common.{◌≡◌, ◌≢◌, ℕ, zero, suc, ◌<◌, ◌⊎◌, ⊎_elim, inl, inr, arith, ap, sym, refl, subst, ◌∙◌}
 use Rattle.std.proofs.Common.{List, [], ◌∷◌, length, Bool, true, false, not, get_or, ◌==◌}
-use Rattle.std.specs.List.{filter, list_any, AllByRecursion, AllPairs, Contains, IsDistinct}
+use Rattle.std.specs.List.{filter, AllByRecursion, AllPairs, Contains, IsDistinct}
 use Rattle.std.specs.List.Sorted.{IsPermutation}
 use Rattle.std.proofs.lemmas.Bool.{both_ways, cond_both, eq-eqb, false_from_ne_true, ne_eqb, not-true}
 use Rattle.std.proofs.lemmas.Bool.Decides.{nat_tests}

@@ -1,5 +1,5 @@
 -- One pass over rows that are sorted by cost, cycles and number keeps their front.
-use Rattle.std.proofs.Common.{◌≡◌, ◌≢◌, ◌∙◌, ap, arith, inl, inr, refl, subst, sym, List, [], ◌∷◌, Bool, true, false}
+use Rattle.std.proofs.Common.{◌≡◌, ◌≢◌, ◌∙◌, ap, arith, refl, sym, List, [], ◌∷◌, Bool, true, false}
 use Rattle.std.proofs.Common.{cond, not, ◌||◌, ◌==◌, get_or, Option, Some, None}
 use Rattle.std.specs.List.{AllPairs, filter}
 use Rattle.std.specs.List.Sorted.{IsPermutation}
