@@ -1,7 +1,7 @@
 -- What a step waits for before it issues: branches, the width, a station.
-use Rattle.std.proofs.Common.{ℕ, ◌+◌, ◌-◌, ◌<◌, ◌≤◌, ◌≡◌, ◌∙◌, Bool, true, false, cond, arith, refl, ap, sym, inl, inr}
+use Rattle.std.proofs.Common.{ℕ, ◌+◌, ◌-◌, ◌<◌, ◌≤◌, ◌≡◌, ◌∙◌, Bool, true, false, arith, refl, ap, sym, inl, inr}
 use Rattle.std.proofs.Common.{List, max}
-use Rattle.std.specs.Prelude.{nat_lt, nat_le, ◌==◌, not, ◌&&◌, count_by}
+use Rattle.std.specs.Prelude.{nat_lt, nat_le, not, ◌&&◌}
 use Rattle.std.proofs.lemmas.Bool.{cases_Bool, cases_order, le-leb, lt-leb, leb-true, leb-false}
 use Rattle.std.proofs.lemmas.Bool.{lt-ltb}
 use Rattle.tomex_config.specs.Configuration.{Configuration, IsWithinLimits}
@@ -11,9 +11,8 @@ use Rattle.tomex_timing.specs.History.{last_issue}
 use Rattle.tomex_timing.specs.Needs.{lacks_branch, lacks_width, lacks_station}
 use Rattle.tomex_timing.specs.Needs.{issue_waits}
 use Rattle.tomex_timing.specs.Recurrence.{AreTimed, are_branches_finished}
-use Rattle.tomex_timing.specs.Window.{branch_finish}
 use Rattle.tomex_timing.proofs.Bands.{band, is_in_band}
-use Rattle.tomex_timing.proofs.WindowTests.{max_split, slot_split, branch_split}
+use Rattle.tomex_timing.proofs.Splits.{branch_finish, slot_from, slot_range, from_of, max_split, slot_split, branch_split}
 
 abbrev waits_made : (branch width station operand address memory unit bus : ℕ) → Waits
 waits_made branch width station operand address memory unit bus = record {
@@ -37,28 +36,11 @@ same_waits a b e1 e2 e3 e4 e5 e6 e7 e8 =
 
 -- issue
 
--- the first cycle in program order with room for an issue
-abbrev slot_from : Configuration → List Done → ℕ
-slot_from config h = cond (nat_lt (count_by (λ d. d.at.issue == last_issue h) h) config.width) (last_issue h)
-    (last_issue h + 1)
-
 abbrev pub low_of : List Done → ℕ
 low_of h = max 1 (last_issue h)
 
 abbrev pub branches_of : List Done → ℕ
 branches_of h = max (low_of h) (branch_finish h + 1)
-
-abbrev pub from_of : Configuration → List Done → ℕ
-from_of config h = max (slot_from config h) (branch_finish h + 1)
-
-slot_range : (config : Configuration) (h : List Done) → (last_issue h ≤ slot_from config h)
-    × (slot_from config h ≤ last_issue h + 1)
-slot_range config h = by (nat_lt (count_by (λ d. d.at.issue == last_issue h) h) config.width)
-  where
-    by : (b : Bool) → (last_issue h ≤ cond b (last_issue h) (last_issue h + 1))
-        × (cond b (last_issue h) (last_issue h + 1) ≤ last_issue h + 1)
-    by true = (omega arith, omega arith)
-    by false = (omega arith, omega arith)
 
 branches_at : (h : List Done) (t : ℕ) → low_of h ≤ t → are_branches_finished h t ≡ nat_le (branch_finish h + 1) t
 branches_at h t l = sym (let p : nat_lt 0 t ≡ true = lt-ltb 0 t (omega arith) in

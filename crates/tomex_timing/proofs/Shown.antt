@@ -3,7 +3,7 @@
 use Rattle.std.proofs.Common.{ℕ, ◌+◌, ◌<◌, ◌≤◌, ◌≡◌, ◌∙◌, true, false, arith, refl, sym, List, [], length, take}
 use Rattle.std.specs.Prelude.{nat_lt, nat_le, ◌==◌, not, ◌&&◌, is_some, count_by, replicate}
 use Rattle.std.specs.List.{list_all, AllByRecursion}
-use Rattle.std.proofs.lemmas.Bool.{and_right, or_right, lt-ltb, lt-leb, ltb-true, ne_eqb}
+use Rattle.std.proofs.lemmas.Bool.{and_right, lt-ltb, lt-leb, ltb-true}
 use Rattle.std.proofs.lemmas.List.{get_or-replicate}
 use Rattle.std.proofs.lemmas.List.Elements.{All-from_recursion}
 use Rattle.tomex_rvdec.specs.Parts.{place_of_unit}
@@ -14,35 +14,34 @@ use Rattle.tomex_steps.specs.declared.step.Step.{Step}
 use Rattle.tomex_config.specs.Configuration.{Configuration, IsWithinLimits}
 use Rattle.tomex_timing.specs.declared.accesses.Access.{Access}
 use Rattle.tomex_timing.specs.declared.times.Done.{Done}
-use Rattle.tomex_timing.specs.declared.window.Facts.{Facts}
 use Rattle.tomex_timing.specs.declared.window.Latest.{Latest}
 use Rattle.tomex_timing.specs.Ahead.{IsSettledBy, is_past}
 use Rattle.tomex_reservations.specs.Reservations.{Reserved, bus_line, end_at, station_place, taken_at}
 use Rattle.tomex_timing.specs.History.{is_of, last_issue, greatest_end}
-use Rattle.tomex_timing.specs.Recurrence.{AreTimed}
+use Rattle.tomex_timing.specs.Recurrence.{AreTimed, are_conflicts_finished}
 use Rattle.tomex_timing.specs.Search.{history}
 use Rattle.tomex_timing.specs.Station.{is_held, is_free}
-use Rattle.tomex_timing.specs.Window.{live_of, recent, starts_in, sends_in, is_finished_conflict, nothing_yet, IsKept}
-use Rattle.tomex_timing.specs.Window.{IsSettled}
+use Rattle.tomex_timing.specs.Window.{facts_of, nothing_yet}
 use Rattle.tomex_timing.proofs.Bound.{timed_by}
 use Rattle.tomex_timing.proofs.Histories.{are_timed}
+use Rattle.tomex_timing.proofs.Kept.{IsKept, branch_finish_by, start_kept}
 use Rattle.tomex_timing.proofs.Limits.{pool_in, unit_in}
-use Rattle.tomex_timing.proofs.Settled.{IsDoneBy, AllBy, count_none, all_pass, last_issue_by, writer_of_zero}
-use Rattle.tomex_timing.proofs.Turns.{settled, start_kept}
-use Rattle.tomex_timing.proofs.WindowTests.{AreClosed, count_recent, all_recent}
+use Rattle.tomex_timing.proofs.Settled.{IsDoneBy, AllBy, all_pass, starts_none, results_none, last_address_by}
+use Rattle.tomex_timing.proofs.Settled.{last_issue_by, writer_end_by, writer_of_zero}
 
 pub record IsShown (h : List Done) (latest : Latest) (table : Reserved) (taken : List ℕ) (accesses : List Access) : Type
     0 where
-  pub kept : IsKept h (recent (last_issue h) h) latest
+  pub kept : IsKept h latest
   pub base : table.base ≤ last_issue h
   pub starts : (unit : UnitId) (t : ℕ) → last_issue h < t
-      → taken_at table (place_of_unit unit) t ≡ count_by (λ d. starts_in unit t (live_of d)) h
-  pub results : (t : ℕ) → last_issue h < t → taken_at table bus_line t ≡ count_by (λ d. sends_in t (live_of d)) h
+      → taken_at table (place_of_unit unit) t ≡ count_by (λ d. is_of unit (step_unit d.step) && d.at.start == t) h
+  pub results : (t : ℕ) → last_issue h < t
+      → taken_at table bus_line t ≡ count_by (λ d. is_some (step_dest d.step) && d.at.end == t) h
   -- a station is free in a cycle if all steps that had it ended before
   pub stations : (pool : PoolId) (t n : ℕ) → 0 < t → n < 16 → is_free pool h t n ≡ nat_lt (end_at taken pool n) t
   pub size : length taken ≡ 96
-  pub conflicts : (f : Facts) (t : ℕ) → last_issue h < t
-      → list_all (is_past f t) accesses ≡ list_all (λ d. is_finished_conflict f t (live_of d)) h
+  pub conflicts : (s : Step) (t : ℕ) → last_issue h < t
+      → list_all (is_past (facts_of s) t) accesses ≡ are_conflicts_finished h s t
   pub finishes : AllByRecursion (λ a. a.finish ≤ greatest_end h) accesses
 
 nothing_at : (line t : ℕ) → line < 6 → taken_at (record { base = 0; slots = [] }) line t ≡ 0
@@ -55,30 +54,16 @@ place_low pool n l = omega (arith, pool_in pool)
 pub start_shown : (config : Configuration) → IsShown (history config []) nothing_yet (record { base = 0; slots = [] })
     (replicate 96 0) []
 start_shown config = record {
-  kept = start_kept config;
+  kept = start_kept;
   base = omega arith;
   starts = λ unit t l. nothing_at (place_of_unit unit) t (omega (arith, unit_in unit));
   results = λ t l. nothing_at 5 t (omega arith);
   stations = λ pool t n pos l. sym (rw (get_or-replicate {A = ℕ} 96 (station_place pool n) 0 0 (place_low pool n l))
       (lt-ltb 0 t pos));
   size = refl;
-  conflicts = λ f t l. refl;
+  conflicts = λ s t l. refl;
   finishes = tt;
 }
-
--- no time of a history lies past its greatest end
-starts_none : (unit : UnitId) (g t : ℕ) (h : List Done) → AllBy g h → g < t
-    → count_by (λ d. starts_in unit t (live_of d)) h ≡ 0
-starts_none unit g t h by l =
-    count_none (λ (d : Done). starts_in unit t (live_of d)) (IsDoneBy g)
-    (λ d k. and_right (is_of unit (step_unit d.step)) (d.at.start == t)
-    (ne_eqb d.at.start t (λ (e : d.at.start ≡ t). absurd (omega (arith, k.start))))) h by
-
-results_none : (g t : ℕ) (h : List Done) → AllBy g h → g < t → count_by (λ d. sends_in t (live_of d)) h ≡ 0
-results_none g t h by l =
-    count_none (λ (d : Done). sends_in t (live_of d)) (IsDoneBy g)
-    (λ d k. and_right (is_some (step_dest d.step)) (d.at.end == t)
-    (ne_eqb d.at.end t (λ (e : d.at.end ≡ t). absurd (omega (arith, k.end))))) h by
 
 free_after : (pool : PoolId) (g t n : ℕ) (h : List Done) → AllBy g h → g < t → is_free pool h t n ≡ true
 free_after pool g t n h by l =
@@ -95,12 +80,11 @@ settled_by config h latest table taken accesses good timed shown =
     let by : AllBy (greatest_end h) h = timed_by config h good timed in
     let e : latest.end ≡ greatest_end h = shown.kept.end in
     let i : last_issue h ≤ greatest_end h = last_issue_by (greatest_end h) h by in
-    let s : IsSettled (recent (last_issue h) h) latest =
-    settled config h (recent (last_issue h) h) latest good timed shown.kept in
+    let kept : IsKept h latest = shown.kept in
     record {
       base = rw shown.kept.issue shown.base;
-      starts = λ unit t l. shown.starts unit t (omega arith) ∙ starts_none unit (greatest_end h) t h by (omega arith);
-      results = λ t l. shown.results t (omega arith) ∙ results_none (greatest_end h) t h by (omega arith);
+      starts = λ unit t l. shown.starts unit t (omega arith) ∙ starts_none h unit (greatest_end h) t by (omega arith);
+      results = λ t l. shown.results t (omega arith) ∙ results_none h (greatest_end h) t by (omega arith);
       stations = λ pool n l.
           let free : nat_lt (end_at taken pool n) (greatest_end h + 1) ≡ true =
           sym (shown.stations pool (greatest_end h + 1) n (omega arith) l)
@@ -109,37 +93,12 @@ settled_by config h latest table taken accesses good timed shown =
           ltb-true (end_at taken pool n) (greatest_end h + 1) free in
           omega arith;
       finishes = rw e (All-from_recursion (λ a. a.finish ≤ greatest_end h) accesses shown.finishes);
-      ends = s.ends;
+      ends = λ r l. rw (kept.ends r l, e) (writer_end_by (greatest_end h) h r by);
       zero = shown.kept.ends 0 (omega arith) ∙ writer_of_zero h;
-      issue = s.issue;
-      branch = s.branch;
-      address = s.address;
+      issue = rw (kept.issue, e) i;
+      branch = rw (kept.branch, e) (branch_finish_by (greatest_end h) h by);
+      address = rw (kept.address, e) (last_address_by (greatest_end h) h by);
     }
-
--- what is held answers as what is kept does
-pub starts_among : (h : List Done) (latest : Latest) (table : Reserved) (taken : List ℕ) (accesses : List Access)
-    (unit : UnitId) (t : ℕ) → AreClosed h → IsShown h latest table taken accesses → last_issue h < t
-    → count_by (starts_in unit t) (recent (last_issue h) h) ≡ taken_at table (place_of_unit unit) t
-starts_among h latest table taken accesses unit t close shown l =
-    count_recent (starts_in unit t) (last_issue h)
-    (λ x k m. and_right (is_of unit x.facts.unit) (x.start == t)
-    (ne_eqb x.start t (λ (e : x.start ≡ t). absurd (omega (arith, k.start))))) h close ∙ sym (shown.starts unit t l)
-
-pub results_among : (h : List Done) (latest : Latest) (table : Reserved) (taken : List ℕ) (accesses : List Access)
-    (t : ℕ) → AreClosed h → IsShown h latest table taken accesses → last_issue h < t
-    → count_by (sends_in t) (recent (last_issue h) h) ≡ taken_at table bus_line t
-results_among h latest table taken accesses t close shown l =
-    count_recent (sends_in t) (last_issue h)
-    (λ x k m. and_right (is_some x.facts.dest) (x.end == t)
-    (ne_eqb x.end t (λ (e : x.end ≡ t). absurd (omega arith)))) h close ∙ sym (shown.results t l)
-
-pub conflicts_among : (h : List Done) (latest : Latest) (table : Reserved) (taken : List ℕ) (accesses : List Access)
-    (f : Facts) (t : ℕ) → AreClosed h → IsShown h latest table taken accesses → last_issue h < t
-    → list_all (is_finished_conflict f t) (recent (last_issue h) h) ≡ list_all (is_past f t) accesses
-conflicts_among h latest table taken accesses f t close shown l =
-    all_recent (is_finished_conflict f t) (last_issue h)
-    (λ x k m. or_right _ (nat_lt x.finish t) (lt-ltb x.finish t (omega (arith, k.finish)))) h close
-    ∙ sym (shown.conflicts f t l)
 
 pub settled_there : (config : Configuration) (steps : List Step) (i : ℕ) (latest : Latest) (table : Reserved)
     (taken : List ℕ) (accesses : List Access) → IsWithinLimits config

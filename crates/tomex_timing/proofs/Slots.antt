@@ -9,8 +9,8 @@ use Rattle.tomex_config.specs.Configuration.{Configuration}
 use Rattle.tomex_reservations.specs.Reservations.{Reserved, bus_line, is_left, taken_at, taken_with}
 use Rattle.tomex_timing.specs.Ahead.{TakesBus, one}
 use Rattle.tomex_timing.specs.History.{is_of}
+use Rattle.tomex_timing.proofs.Least.{first_agree, first_from_le}
 use Rattle.tomex_timing.proofs.Limits.{unit_in}
-use Rattle.tomex_timing.proofs.NextShown.{first_agree, first_from}
 
 -- equal either way round
 eqb_turned : (a b : ℕ) → (a == b) ≡ (b == a)
@@ -55,5 +55,5 @@ takes_bus config before after (Some r) finish end buses same takes = (
       (λ t l. rw (same t (omega arith)) refl) takes.0,
   takes.1
       ∙ ap (λ n. n + 1)
-      (same end (omega (arith, first_from (is_left after bus_line config.buses) (finish + 1) end takes.0))),
+      (same end (omega (arith, first_from_le (is_left after bus_line config.buses) (finish + 1) end takes.0))),
 )

@@ -1,11 +1,10 @@
 -- Each turn of the loop keeps what is held, and adds the step's needs.
 use Rattle.std.proofs.Common.{◌≡◌, ◌≤◌, ◌*◌, length, arith}
-use Rattle.tomex_timing.proofs.HeldNeeds.{held_needs, held_small, length_facts, step_of}
+use Rattle.tomex_timing.proofs.Facts.{length_facts, step_of}
 use Rattle.tomex_timing.proofs.Needed.{needs_none}
-use Rattle.tomex_timing.proofs.NeedTurns.{needs_small}
 use Rattle.tomex_timing.proofs.Shown.{settled_there, start_shown}
-use Rattle.tomex_timing.proofs.ShownTurns.{can_keep, held_turn}
-use Rattle.tomex_timing.proofs.Turns.{end_bound, issued_bound}
+use Rattle.tomex_timing.proofs.Turns.{can_keep, end_bound, held_turn, issued_bound, needs_small, needs_turn}
+use Rattle.tomex_timing.proofs.Turns.{next_turn, waits_small}
 use Rattle.tomex_timing.proofs.evaluate.needs_of.Goals as goal
 
 pub loop-step-init : goal.loop-step-init
@@ -32,7 +31,7 @@ next_step-next-requires-clause-small g c =
     let n : length c.args.facts.now ≡ length c.requires.run.0 =
     length_facts c.requires.run.0 c.args.facts.now c.requires.run.1 in
     let by : c.loop-step.window.latest.end ≤ 67 * c.loop-step.step-index =
-    end_bound c.args.config.now c.requires.run.0 c.loop-step.step-index _ c.loop-step.window.latest
+    end_bound c.args.config.now c.requires.run.0 c.loop-step.step-index c.loop-step.window.latest
     c.keeps_limits.ensures (omega arith) (c.loop-step.invariant c.requires.run.0 c.requires.run.1).shown.kept in
     omega arith
 
@@ -45,7 +44,7 @@ waits_of-waits-requires g c =
     in
     let b : c.loop-step.window.latest.branch ≤ c.loop-step.window.latest.end = s.branch in
     let by : c.loop-step.window.latest.end ≤ 67 * c.loop-step.step-index =
-    end_bound c.args.config.now c.requires.run.0 c.loop-step.step-index _ c.loop-step.window.latest
+    end_bound c.args.config.now c.requires.run.0 c.loop-step.step-index c.loop-step.window.latest
     c.keeps_limits.ensures (omega arith) shown.kept in
     record { branch = omega arith }
 
@@ -54,7 +53,7 @@ taken_by-taken-requires g c =
     let n : length c.args.facts.now ≡ length c.requires.run.0 =
     length_facts c.requires.run.0 c.args.facts.now c.requires.run.1 in
     let by : c.loop-step.window.latest.issued ≤ c.loop-step.step-index =
-    issued_bound c.args.config.now c.requires.run.0 c.loop-step.step-index _ c.loop-step.window.latest (omega arith)
+    issued_bound c.args.config.now c.requires.run.0 c.loop-step.step-index c.loop-step.window.latest (omega arith)
     (c.loop-step.invariant c.requires.run.0 c.requires.run.1).shown.kept in
     record { few = omega arith }
 
@@ -71,9 +70,8 @@ note-requires-clause-waits g c =
     length_facts c.requires.run.0 c.args.facts.now c.requires.run.1 in
     let at = step_of c.args.config.now c.requires.run.0 c.args.facts.now c.loop-step.step-index _ c.keeps_limits.ensures
     c.requires.run.1 c.loop-step-test.true in
-    held_small c.args.config.now c.requires.run.0 c.loop-step.step-index at.0 _ _ _ _ _ c.next_step-next.result
-    c.waits_of-waits.result (omega arith) at.1 (c.loop-step.invariant c.requires.run.0 c.requires.run.1).shown
-    c.next_step-next.ensures c.waits_of-waits.ensures
+    waits_small (next_turn at.1 (c.loop-step.invariant c.requires.run.0 c.requires.run.1).shown c.next_step-next.ensures)
+    (omega arith) c.waits_of-waits.ensures
 
 pub keep-requires : goal.keep-requires
 keep-requires g c =
@@ -81,19 +79,17 @@ keep-requires g c =
     length_facts c.requires.run.0 c.args.facts.now c.requires.run.1 in
     let at = step_of c.args.config.now c.requires.run.0 c.args.facts.now c.loop-step.step-index _ c.keeps_limits.ensures
     c.requires.run.1 c.loop-step-test.true in
-    can_keep c.args.config.now c.requires.run.0 c.loop-step.step-index at.0 _ _ _ _ _ c.next_step-next.result
-    (omega arith) at.1 (c.loop-step.invariant c.requires.run.0 c.requires.run.1).shown c.next_step-next.ensures
+    can_keep (next_turn at.1 (c.loop-step.invariant c.requires.run.0 c.requires.run.1).shown c.next_step-next.ensures)
+    (omega arith)
 
 pub loop-step-preserved : goal.loop-step-preserved
 loop-step-preserved g c = λ steps are.
     let at = step_of c.args.config.now steps c.args.facts.now c.loop-step.step-index _ c.keeps_limits.ensures are
     c.loop-step-test.true in
     let before = c.loop-step.invariant steps are in
-    let turn = held_turn c.args.config.now steps c.loop-step.step-index at.0 _ _ _ _ _ _ c.next_step-next.result at.1
-    before.shown c.next_step-next.ensures c.in_ok-keep.ensures.table in
+    let turn = next_turn at.1 before.shown c.next_step-next.ensures in
     record {
-      shown = rw (c.in_ok-keep.ensures.latest, c.in_ok-keep.ensures.stations, c.in_ok-keep.ensures.accesses) turn.0;
-      needs = rw c.note.ensures (held_needs c.args.config.now steps c.loop-step.step-index at.0 _ _ _ _ _
-          c.next_step-next.result c.loop-step.needs c.waits_of-waits.result c.taken_by-taken.result at.1 before.shown
-          c.next_step-next.ensures c.waits_of-waits.ensures c.taken_by-taken.ensures before.needs);
+      shown = rw (c.in_ok-keep.ensures.latest, c.in_ok-keep.ensures.stations, c.in_ok-keep.ensures.accesses)
+          (held_turn turn c.in_ok-keep.ensures.table);
+      needs = rw c.note.ensures (needs_turn turn c.waits_of-waits.ensures c.taken_by-taken.ensures before.needs);
     }
