@@ -28,15 +28,7 @@ use Rattle.tomex_timing.specs.Station.{has_station, is_free, is_held}
 use Rattle.tomex_timing.proofs.Bound.{end_low}
 use Rattle.tomex_floor.proofs.Above.{AreInOrder, address_low, in_order, issue_above, start_above}
 use Rattle.tomex_floor.proofs.Falling.{from_issue, issue_next}
-use Rattle.tomex_timing.proofs.Stations.{number_is}
-
--- a pool with a free station gives the least one
-station_is : (config : Configuration) (older : List Done) (pool : Option PoolId) (t : ℕ)
-    → has_station config older pool t ≡ true
-    → MatchOption pool (station_at config older pool t ≡ None) (λ p. (n : ℕ) × (station_at config older pool t ≡ Some n)
-    × IsLeast (is_free p older t) n)
-station_is config older None t h = refl
-station_is config older (Some p) t h = (_, refl, (number_is config older p t h).0)
+use Rattle.tomex_timing.proofs.Search.{station_is}
 
 -- the floor's times with the least free stations
 

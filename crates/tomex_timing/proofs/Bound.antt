@@ -18,21 +18,22 @@ pub use Rattle.tomex_timing.specs.Laws.{InReach}
 use Rattle.tomex_timing.specs.Recurrence.{IsLeast, IsTimed, AreTimed, can_issue, can_address, can_start, can_end}
 use Rattle.tomex_timing.proofs.Least.{least_le}
 use Rattle.tomex_timing.proofs.Limits.{latency_low, latency_high}
+use Rattle.tomex_timing.proofs.Tests.{can_end_is, can_issue_is, can_start_is}
 use Rattle.tomex_timing.proofs.Settled.{AllBy, can_issue_after, can_address_after, can_start_after, can_end_after}
 
 pub issue_low : (config : Configuration) (older : List Done) (s : Step) (t : ℕ) → can_issue config older s t ≡ true
     → 0 < t
-issue_low config older s t h = ltb-true 0 t (and_parts _ _ (and_parts _ _ (and_parts _ _ h).0).0).0
+issue_low config older s t h = (can_issue_is config older s t h).first
 
 pub start_low : (config : Configuration) (older : List Done) (s : Step) (unit : UnitId) (issue address t : ℕ)
     → can_start config older s unit issue address t ≡ true → (issue < t) × (address < t)
 start_low config older s unit issue address t h =
-    let two = and_parts (nat_lt issue t) (nat_lt address t) (and_parts _ _ (and_parts _ _ (and_parts _ _ h).0).0).0 in
-    (ltb-true issue t two.0, ltb-true address t two.1)
+    let can = can_start_is config older s unit issue address t h in
+    (can.after_issue, can.after_address)
 
 pub end_low : (config : Configuration) (older : List Done) (finish t : ℕ) → can_end config older finish t ≡ true
     → finish < t
-end_low config older finish t h = ltb-true finish t (and_parts _ _ h).0
+end_low config older finish t h = (can_end_is config older finish t h).after_finish
 
 -- a load or store uses a unit
 pub memory_unit : (pool : Option PoolId) → (is_in Load pool || is_in Store pool) ≡ true → is_some (unit_at pool) ≡ true

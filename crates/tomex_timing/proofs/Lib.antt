@@ -3,6 +3,7 @@ pub mod Rows
 pub mod TablesRows
 pub mod Limits
 pub mod Least
+pub mod Tests
 pub mod Settled
 pub mod Bound
 pub mod Stations

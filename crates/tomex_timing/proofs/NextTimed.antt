@@ -31,7 +31,8 @@ use Rattle.tomex_timing.proofs.Limits.{latency_low, stations_high}
 use Rattle.tomex_timing.proofs.Pigeons.{stations_fit}
 use Rattle.tomex_reservations.proofs.Searching.{first_here}
 use Rattle.tomex_timing.proofs.Shown.{IsShown}
-use Rattle.tomex_timing.proofs.Splits.{slot_from, slot_range, from_of, issue_split, ready_split, after_split, address_agree}
+use Rattle.tomex_timing.proofs.Splits.{slot_from, slot_range, from_of, issue_split, ready_split, after_split}
+use Rattle.tomex_timing.proofs.Splits.{address_agree}
 use Rattle.tomex_timing.proofs.Stations.{number_is}
 use Rattle.tomex_timing.proofs.Taken.{peak_within}
 use Rattle.tomex_timing.proofs.Width.{issue_from as issue_after}

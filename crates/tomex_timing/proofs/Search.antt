@@ -21,6 +21,7 @@ use Rattle.tomex_timing.proofs.Least.{least_is, least_le, least_same}
 use Rattle.tomex_timing.proofs.Limits.{latency_high}
 use Rattle.tomex_timing.proofs.Settled.{AllBy, can_issue_after, can_address_after, can_start_after, can_end_after}
 use Rattle.tomex_timing.proofs.Stations.{number_is}
+use Rattle.tomex_timing.proofs.Tests.{can_address_is}
 
 issue_is : (config : Configuration) (older : List Done) (s : Step) (g : ℕ) → IsWithinLimits config → AllBy g older
     → IsLeast (can_issue config older s) (issue_of config older s g)
@@ -52,7 +53,7 @@ address_low older s issue g h i = elim (cases_Bool (is_memory s)) [
   | inr e ↦ rw e (omega arith)
 ]
 
-station_is : (config : Configuration) (older : List Done) (pool : Option PoolId) (t : ℕ)
+pub station_is : (config : Configuration) (older : List Done) (pool : Option PoolId) (t : ℕ)
     → has_station config older pool t ≡ true
     → MatchOption pool (station_at config older pool t ≡ None) (λ p. (n : ℕ) × (station_at config older pool t ≡ Some n)
     × IsLeast (is_free p older t) n)
@@ -152,7 +153,7 @@ same_cycle (Some m) None x y e = absurd (omega arith)
 same_cycle (Some m) (Some n) x y e = ap Some e
 
 pub address_pos : (older : List Done) (s : Step) (i t : ℕ) → can_address older s i t ≡ true → 0 < t
-address_pos older s i t h = let l : i < t = ltb-true i t (and_parts _ _ (and_parts _ _ h).0).0 in omega arith
+address_pos older s i t h = omega (arith, (can_address_is older s i t h).after_issue)
 
 same_address : (older : List Done) (s : Step) (i : ℕ) (a b : Option ℕ)
     → MatchBool (is_memory s) (IsLeast (can_address older s i) (cycle_of a)) (a ≡ None)

@@ -3,7 +3,7 @@ use Rattle.std.proofs.Common.{ℕ, ◌+◌, ◌<◌, ◌≤◌, ◌≡◌, ◌�
 use Rattle.std.proofs.Common.{inl, inr, sym, max}
 use Rattle.std.specs.Prelude.{nat_lt, nat_le, ◌==◌, ◌&&◌, count_by}
 use Rattle.std.proofs.lemmas.Bool.{cases_Bool, cases_order, ltb-true, leb-true, leb-false, lt-ltb}
-use Rattle.std.proofs.lemmas.Bool.{le-leb, lt-leb, and_parts, and_from}
+use Rattle.std.proofs.lemmas.Bool.{le-leb, lt-leb}
 use Rattle.tomex_steps.specs.Steps.{j_of, is_branch}
 use Rattle.tomex_steps.specs.declared.step.Step.{Step}
 use Rattle.tomex_config.specs.Configuration.{Configuration, IsWithinLimits}
@@ -12,6 +12,7 @@ use Rattle.tomex_timing.specs.History.{source_end, last_issue, last_address}
 use Rattle.tomex_timing.specs.Recurrence.{IsLeast, AreTimed, can_address}
 use Rattle.tomex_timing.specs.Recurrence.{can_issue_another, are_branches_finished}
 use Rattle.tomex_timing.proofs.Limits.{width_low}
+use Rattle.tomex_timing.proofs.Tests.{can_address_from, can_address_is}
 use Rattle.tomex_timing.proofs.Width.{none_later}
 
 -- the latest finish of a branch, 0 where there is none
@@ -143,17 +144,10 @@ ready_split issue address j k t =
 pub address_agree : (h : List Done) (s : Step) (issue : ℕ)
     → IsLeast (can_address h s issue) (max (max issue (source_end h (j_of s))) (last_address h) + 1)
 address_agree h s issue = (
-  and_from _ _ (and_from _ _ (lt-ltb issue (max (max issue (source_end h (j_of s))) (last_address h) + 1) (omega arith))
-      (lt-ltb (source_end h (j_of s)) (max (max issue (source_end h (j_of s))) (last_address h) + 1) (omega arith)))
-      (lt-ltb (last_address h) (max (max issue (source_end h (j_of s))) (last_address h) + 1) (omega arith)),
+  can_address_from h s issue (max (max issue (source_end h (j_of s))) (last_address h) + 1)
+      (record { after_issue = omega arith; after_base = omega arith; in_order = omega arith }),
   λ t l. elim (cases_Bool (can_address h s issue t)) [
-    | inl e ↦
-        let three = and_parts (nat_lt issue t && nat_lt (source_end h (j_of s)) t) (nat_lt (last_address h) t) e in
-        let two = and_parts (nat_lt issue t) (nat_lt (source_end h (j_of s)) t) three.0 in
-        let a : issue < t = ltb-true issue t two.0 in
-        let b : source_end h (j_of s) < t = ltb-true (source_end h (j_of s)) t two.1 in
-        let c : last_address h < t = ltb-true (last_address h) t three.1 in
-        absurd (omega arith)
+    | inl e ↦ let can = can_address_is h s issue t e in absurd (omega arith)
     | inr e ↦ e
   ],
 )

@@ -21,6 +21,7 @@ use Rattle.tomex_timing.specs.Station.{has_station, is_free}
 use Rattle.tomex_timing.proofs.Holders.{number_low}
 use Rattle.tomex_timing.proofs.Orders.{dest_unit}
 use Rattle.tomex_timing.proofs.Places.{same_pool, same_unit}
+use Rattle.tomex_timing.proofs.Tests.{can_end_is, can_issue_is, can_start_is}
 
 station_within : (config : Configuration) (older : List Done) (d : Done) (pool : PoolId) (x : Option PoolId)
     (station : Option ℕ) (R : PoolId → ℕ → Type 0) → step_pool d.step ≡ x → d.at.station ≡ station
@@ -47,14 +48,9 @@ unit_within config older d unit None is = omega arith
 unit_within config older d unit (Some u) is = elim (cases_Bool (place_of_unit u == place_of_unit unit)) [
   | inl y ↦
       let same : u ≡ unit = same_unit u unit y in
-      let can : can_start config older d.step unit d.at.issue (cycle_of d.at.address) d.at.start ≡ true =
-      rw same at is.0 in
-      let left : has_unit config older unit d.at.start ≡ true =
-      (and_parts _ (has_unit config older unit d.at.start) can).1 in
+      let can = can_start_is config older d.step unit d.at.issue (cycle_of d.at.address) d.at.start (rw same at is.0) in
       let l : count_by (λ y. is_of unit (step_unit y.step) && y.at.start == d.at.start) older <
-      (option_of config unit).units =
-      ltb-true (count_by (λ y. is_of unit (step_unit y.step) && y.at.start == d.at.start) older)
-      (option_of config unit).units left in
+      (option_of config unit).units = can.unit_left in
       rw y (omega arith)
   | inr y ↦ rw y (omega arith)
 ]
@@ -69,9 +65,8 @@ bus_within config older d x e is = elim (cases_Bool (is_some (step_dest d.step))
   | inl y ↦
       let least : IsLeast (can_end config older d.at.finish) d.at.end =
       unit_end x (rw e at (dest_unit d.step y)) y is in
-      let left : has_bus config older d.at.end ≡ true = (and_parts (nat_lt d.at.finish d.at.end) _ least.0).1 in
       let l : count_by (λ y. is_some (step_dest y.step) && y.at.end == d.at.end) older < config.buses =
-      ltb-true (count_by (λ y. is_some (step_dest y.step) && y.at.end == d.at.end) older) config.buses left in
+      (can_end_is config older d.at.finish d.at.end least.0).bus_left in
       rw y (omega arith)
   | inr y ↦ rw y (omega arith)
 ]
@@ -91,17 +86,8 @@ taken_within config older d (Stations pool) is =
 taken_within config older d (Units unit) is = unit_within config older d unit (step_unit d.step) is.start
 taken_within config older d Buses is = bus_within config older d (step_unit d.step) refl is.end
 taken_within config older d Width is =
-    let most = and_parts (nat_lt 0 d.at.issue && can_issue_another config older d.at.issue && are_branches_finished
-    older d.at.issue) (has_station config older (step_pool d.step) d.at.issue) is.issue.0 in
-    let first = and_parts (nat_lt 0 d.at.issue && can_issue_another config older d.at.issue)
-    (are_branches_finished older d.at.issue) most.0 in
-    let slot : can_issue_another config older d.at.issue ≡ true =
-    (and_parts (nat_lt 0 d.at.issue) (can_issue_another config older d.at.issue) first.0).1 in
-    let l : count_by (λ x. x.at.issue == d.at.issue) older < config.width =
-    ltb-true (count_by (λ x. x.at.issue == d.at.issue) older) config.width
-    (and_parts (nat_le (last_issue older) d.at.issue)
-    (nat_lt (count_by (λ x. x.at.issue == d.at.issue) older) config.width) slot).1 in
-    omega arith
+    let can = can_issue_is config older d.step d.at.issue is.issue.0 in
+    omega (arith, can.slot_left)
 
 pub peak_within : PeakIsWithin
 peak_within config [] part timed = omega arith
