@@ -4,8 +4,8 @@ use Rattle.std.proofs.Common.{ℕ, zero, suc, ◌+◌, ◌-◌, ◌<◌, ◌≤�
 use Rattle.std.proofs.Common.{List, [], ◌∷◌, Option, Some, None, max}
 use Rattle.std.specs.Prelude.{nat_lt, nat_le, not, ◌==◌, ◌&&◌, count_by, is_some, MatchOption}
 use Rattle.std.specs.List.{range_with_len}
-use Rattle.std.proofs.lemmas.Bool.{cases_Bool, cases_order, and_parts, eqb-true, le-leb, lt-ltb, ltb-false}
-use Rattle.std.proofs.lemmas.Bool.{MatchBool-at_true, MatchBool-at_false}
+use Rattle.std.proofs.lemmas.Bool.{cases_Bool, cases_order, and_from, and_parts, eqb-true, le-leb, lt-ltb, ltb-false}
+use Rattle.std.proofs.lemmas.Bool.{MatchBool-at_true, MatchBool-at_false, not-true}
 use Rattle.std.proofs.lemmas.List.Sums.{sum_by-cons}
 use Rattle.tomex_rvdec.specs.Parts.{place_of_pool, place_of_unit}
 use Rattle.tomex_rvdec.specs.declared.pool.PoolId.{PoolId}
@@ -23,6 +23,7 @@ use Rattle.tomex_timing.specs.Recurrence.{IsLeast, IsTimed, AreTimed, EndsAfter,
 use Rattle.tomex_timing.specs.Recurrence.{are_branches_finished, can_issue, has_operands, are_conflicts_finished}
 use Rattle.tomex_timing.specs.Recurrence.{has_unit, can_start, has_bus, can_end}
 use Rattle.tomex_timing.specs.Station.{has_station, is_held}
+use Rattle.tomex_timing.proofs.Bools.{last_fails}
 use Rattle.tomex_timing.proofs.Pigeons.{stations_held}
 use Rattle.tomex_timing.proofs.Places.{same_pool, same_unit}
 use Rattle.tomex_timing.proofs.Taken.{peak_within}
@@ -91,16 +92,12 @@ width_full config older d waits =
     let fails : not (can_issue_another config older c.0) ≡ true =
     (and_parts (are_branches_finished older c.0) (not (can_issue_another config older c.0)) c.3).1 in
     let order : nat_le (last_issue older) c.0 ≡ true = le-leb (last_issue older) c.0 (omega arith) in
-    let none : nat_lt (count_by (λ x. x.at.issue == c.0) older) config.width ≡ false = last _ _ order fails in
+    let none : nat_lt (count_by (λ x. x.at.issue == c.0) older) config.width ≡ false =
+    last_fails _ _ order (not-true (can_issue_another config older c.0) fails) in
     let most : count_by (λ x. x.at.issue == c.0) older ≤ peak Width older = issues_most older c.0 in
     let full : config.width ≤ count_by (λ x. x.at.issue == c.0) older =
     ltb-false (count_by (λ x. x.at.issue == c.0) older) config.width none in
     omega arith
-  where
-    last : (a b : Bool) → a ≡ true → not (a && b) ≡ true → b ≡ false
-    last true false e h = refl
-    last true true e h = absurd (cc)
-    last false b e h = absurd (cc)
 
 station_full : (config : Configuration) (older : List Done) (d : Done) (pool : PoolId) (x : Option PoolId)
     → step_pool d.step ≡ x → AreTimed config older → IsTimed config older d.step d.at
@@ -116,7 +113,7 @@ station_full config older d pool (Some p) e timed is waits = elim (cases_Bool (p
       let both = and_parts (are_branches_finished older c.0) (can_issue_another config older c.0) c.3 in
       let cannot : can_issue config older d.step c.0 ≡ false = is.issue.1 c.0 c.2 in
       let none : has_station config older (step_pool d.step) c.0 ≡ false =
-      last _ _ _ _ (lt-ltb 0 c.0 (omega arith)) both.1 both.0 cannot in
+      last_fails _ _ (and_from _ _ (and_from _ _ (lt-ltb 0 c.0 (omega arith)) both.1) both.0) cannot in
       let left : nat_lt (count_by (is_held pool c.0) older) (stations_of config pool) ≡ false = rw (e, same) at none in
       let full : stations_of config pool ≤ count_by (is_held pool c.0) older =
       ltb-false (count_by (is_held pool c.0) older) (stations_of config pool) left in
@@ -124,9 +121,6 @@ station_full config older d pool (Some p) e timed is waits = elim (cases_Bool (p
       stations_held config older pool c.0 timed (omega arith) in
       omega arith
 ]
-  where
-    last : (a b c d : Bool) → a ≡ true → b ≡ true → c ≡ true → (((a && b) && c) && d) ≡ false → d ≡ false
-    last a b c d e f g h = rw (e, f, g) at h
 
 unit_full : (config : Configuration) (older : List Done) (d : Done) (unit : UnitId) (x : Option UnitId)
     → step_unit d.step ≡ x → IsTimed config older d.step d.at
@@ -146,7 +140,8 @@ unit_full config older d unit (Some u) e is waits = elim (cases_Bool (place_of_u
       (are_conflicts_finished older d.step c.0) c.3 in
       let operands = and_parts (has_operands older d.step c.0) (nat_lt (cycle_of d.at.address) c.0) conflicts.0 in
       let none : has_unit config older u c.0 ≡ false =
-      last _ _ _ _ _ (lt-ltb d.at.issue c.0 (omega arith)) operands.1 operands.0 conflicts.1 cannot in
+      last_fails _ _ (and_from _ _ (and_from _ _ (and_from _ _ (lt-ltb d.at.issue c.0 (omega arith)) operands.1)
+      operands.0) conflicts.1) cannot in
       let left : has_unit config older unit c.0 ≡ false = rw same at none in
       let full : (option_of config unit).units ≤ count_by (λ x. is_of unit (step_unit x.step) && x.at.start == c.0)
       older = ltb-false (count_by (λ x. is_of unit (step_unit x.step) && x.at.start == c.0) older)
@@ -155,10 +150,6 @@ unit_full config older d unit (Some u) e is waits = elim (cases_Bool (place_of_u
       starts_most older unit c.0 in
       omega arith
 ]
-  where
-    last : (a b c d f : Bool) → a ≡ true → b ≡ true → c ≡ true → d ≡ true → ((((a && b) && c) && d) && f) ≡ false
-        → f ≡ false
-    last a b c d f e g h i k = rw (e, g, h, i) at k
 
 bus_full : (config : Configuration) (older : List Done) (d : Done) (x : Option UnitId)
     → MatchOption x (d.at.finish ≡ d.at.issue) (λ u. d.at.finish ≡ d.at.start + (option_of config u).latency - 1)
