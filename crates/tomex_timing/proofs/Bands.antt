@@ -49,7 +49,6 @@ pub none_pass : (p : ℕ → Bool) (from to : ℕ) → ((t : ℕ) → from ≤ t
 none_pass p from to none = elim (cases_lt to from) [
   | inl l ↦ none_of p from to (omega arith)
   | inr l ↦
-      let k = band p from from from to (omega arith) (omega arith) l
-      (λ t a b. rw (none t a b, le-leb from t a) refl) in
+      let k = band p from from from to (omega arith) (omega arith) l (λ t a b. rw (none t a b, le-leb from t a) refl) in
       omega arith
 ]

@@ -69,8 +69,7 @@ in_reach_from : (config : Configuration) (older : List Done) (s : Step) (at : Ti
     → IsWithinLimits config → AllBy g older → (is_memory s ≡ true → is_some unit ≡ true)
     → IsLeast (can_issue config older s) at.issue
     → MatchBool (is_memory s) (IsLeast (can_address older s at.issue) (cycle_of at.address)) (at.address ≡ None)
-    → at.issue ≤ g + 1 → cycle_of at.address ≤ g + 2
-    → MatchOption unit (at.start ≡ at.issue)
+    → at.issue ≤ g + 1 → cycle_of at.address ≤ g + 2 → MatchOption unit (at.start ≡ at.issue)
     (λ u. IsLeast (can_start config older s u at.issue (cycle_of at.address)) at.start)
     → MatchOption unit (at.finish ≡ at.issue) (λ u. at.finish ≡ at.start + (option_of config u).latency - 1)
     → MatchOption unit (at.end ≡ at.issue)

@@ -26,104 +26,99 @@ use Rattle.tomex_timing.proofs.NextTimed.{ComesNext, HasMarks, Runs, from_is, ha
 use Rattle.tomex_timing.proofs.Splits.{from_of, issue_split, max_split, after_split, ready_split}
 use Rattle.tomex_timing.proofs.Width.{issue_from as issue_after}
 
--- the first cycles in which the operands are there, the address too, and no older access in the way
-abbrev operands_at : List Done → Done → ℕ
-operands_at h d = operands_from d.at.issue (source_end h (j_of d.step)) (source_end h (k_of d.step))
+module _ (h : List Done) (d : Done) where
+  -- the first cycles in which the operands are there, the address too, and no older access in the way
+  abbrev operands_at : ℕ
+  operands_at = operands_from d.at.issue (source_end h (j_of d.step)) (source_end h (k_of d.step))
 
-abbrev ready_at : List Done → Done → ℕ
-ready_at h d = ready_from d.at.issue d.at.address (source_end h (j_of d.step)) (source_end h (k_of d.step))
+  abbrev ready_at : ℕ
+  ready_at = ready_from d.at.issue d.at.address (source_end h (j_of d.step)) (source_end h (k_of d.step))
 
-operands_split : (h : List Done) (d : Done) (t : ℕ) → d.at.issue + 1 ≤ t
-    → has_operands h d.step t ≡ nat_le (operands_at h d) t
-operands_split h d t l =
-    let j = source_end h (j_of d.step) in
-    let k = source_end h (k_of d.step) in
-    let e : operands_at h d ≡ max (d.at.issue + 1) (max (j + 1) (k + 1)) = omega arith in
-    sym (rw (
-      e,
-      max_split (d.at.issue + 1) (max (j + 1) (k + 1)) t,
-      max_split (j + 1) (k + 1) t,
-      after_split j t,
-      after_split k t,
-      le-leb (d.at.issue + 1) t l,
-    ) refl)
+  operands_split : (t : ℕ) → d.at.issue + 1 ≤ t → has_operands h d.step t ≡ nat_le operands_at t
+  operands_split t l =
+      let j = source_end h (j_of d.step) in
+      let k = source_end h (k_of d.step) in
+      let e : operands_at ≡ max (d.at.issue + 1) (max (j + 1) (k + 1)) = omega arith in
+      sym (rw (
+        e,
+        max_split (d.at.issue + 1) (max (j + 1) (k + 1)) t,
+        max_split (j + 1) (k + 1) t,
+        after_split j t,
+        after_split k t,
+        le-leb (d.at.issue + 1) t l,
+      ) refl)
 
-ready_with : (h : List Done) (d : Done) (t : ℕ) → d.at.issue + 1 ≤ t
-    → (has_operands h d.step t && nat_lt (cycle_of d.at.address) t) ≡ nat_le (ready_at h d) t
-ready_with h d t l = sym (ready_split d.at.issue (cycle_of d.at.address) (source_end h (j_of d.step))
-    (source_end h (k_of d.step)) t ∙ rw (lt-ltb d.at.issue t (omega arith))
-    (and_swap (nat_lt (cycle_of d.at.address) t) (has_operands h d.step t)))
+  ready_with : (t : ℕ) → d.at.issue + 1 ≤ t
+      → (has_operands h d.step t && nat_lt (cycle_of d.at.address) t) ≡ nat_le ready_at t
+  ready_with t l = sym (ready_split d.at.issue (cycle_of d.at.address) (source_end h (j_of d.step))
+      (source_end h (k_of d.step)) t ∙ rw (lt-ltb d.at.issue t (omega arith))
+      (and_swap (nat_lt (cycle_of d.at.address) t) (has_operands h d.step t)))
 
--- the first cycle c without a conflict, from r on
-abbrev IsClear : List Done → Done → ℕ → Type 0
-IsClear h d c = (t : ℕ) → nat_le c t ≡ (nat_le (ready_at h d) t && are_conflicts_finished h d.step t)
+  -- the first cycle c without a conflict, from r on
+  abbrev IsClear : ℕ → Type 0
+  IsClear c = (t : ℕ) → nat_le c t ≡ (nat_le ready_at t && are_conflicts_finished h d.step t)
 
-operand_waits : (h : List Done) (d : Done) → operands_at h d ≤ d.at.start
-    → start_waits d (lacks_operand h d) ≡ operands_at h d - (d.at.issue + 1)
-operand_waits h d l =
-    band (lacks_operand h d) (d.at.issue + 1) (operands_at h d) (d.at.issue + 1) d.at.start (omega arith) (omega arith)
-    l
-    (λ t a b. rw (operands_split h d t a, le-leb (d.at.issue + 1) t a) refl)
+  operand_waits : operands_at ≤ d.at.start → start_waits d (lacks_operand h d) ≡ operands_at - (d.at.issue + 1)
+  operand_waits l =
+      band (lacks_operand h d) (d.at.issue + 1) operands_at (d.at.issue + 1) d.at.start (omega arith) (omega arith)
+      l (λ t a b. rw (operands_split t a, le-leb (d.at.issue + 1) t a) refl)
 
-address_waits : (h : List Done) (d : Done) → ready_at h d ≤ d.at.start
-    → start_waits d (lacks_address h d) ≡ ready_at h d - operands_at h d
-address_waits h d l =
-    band (lacks_address h d) (operands_at h d) (ready_at h d) (d.at.issue + 1) d.at.start (omega arith) (omega arith) l
-    (λ t a b. rw (← ready_with h d t a, ← operands_split h d t a)
-    (and_but (has_operands h d.step t) (nat_lt (cycle_of d.at.address) t)))
+  address_waits : ready_at ≤ d.at.start → start_waits d (lacks_address h d) ≡ ready_at - operands_at
+  address_waits l =
+      band (lacks_address h d) operands_at ready_at (d.at.issue + 1) d.at.start (omega arith) (omega arith) l
+      (λ t a b. rw (← ready_with t a, ← operands_split t a)
+      (and_but (has_operands h d.step t) (nat_lt (cycle_of d.at.address) t)))
 
-memory_waits : (h : List Done) (d : Done) (c : ℕ) → IsClear h d c → ready_at h d ≤ c → c ≤ d.at.start
-    → start_waits d (lacks_memory h d) ≡ c - ready_at h d
-memory_waits h d c clear r l =
-    band (lacks_memory h d) (ready_at h d) c (d.at.issue + 1) d.at.start (omega arith) r l
-    (λ t a b. rw (clear t, ← ready_with h d t a)
-    (and_but (has_operands h d.step t && nat_lt (cycle_of d.at.address) t) (are_conflicts_finished h d.step t)))
+  memory_waits : (c : ℕ) → IsClear c → ready_at ≤ c → c ≤ d.at.start → start_waits d (lacks_memory h d) ≡ c - ready_at
+  memory_waits c clear r l =
+      band (lacks_memory h d) ready_at c (d.at.issue + 1) d.at.start (omega arith) r l
+      (λ t a b. rw (clear t, ← ready_with t a)
+      (and_but (has_operands h d.step t && nat_lt (cycle_of d.at.address) t) (are_conflicts_finished h d.step t)))
 
-unit_waits : (h : List Done) (d : Done) (c : ℕ) → IsClear h d c → ready_at h d ≤ c → c ≤ d.at.start
-    → start_waits d (lacks_unit h d) ≡ d.at.start - c
-unit_waits h d c clear r l =
-    band (lacks_unit h d) c d.at.start (d.at.issue + 1) d.at.start (omega arith) l (omega arith)
-    (λ t a b. rw (clear t, ← ready_with h d t a, lt-leb d.at.start t b)
-    (and_true ((has_operands h d.step t && nat_lt (cycle_of d.at.address) t) && are_conflicts_finished h d.step t)))
+  unit_waits : (c : ℕ) → IsClear c → ready_at ≤ c → c ≤ d.at.start → start_waits d (lacks_unit h d) ≡ d.at.start - c
+  unit_waits c clear r l =
+      band (lacks_unit h d) c d.at.start (d.at.issue + 1) d.at.start (omega arith) l (omega arith)
+      (λ t a b. rw (clear t, ← ready_with t a, lt-leb d.at.start t b)
+      (and_true ((has_operands h d.step t && nat_lt (cycle_of d.at.address) t) && are_conflicts_finished h d.step t)))
 
--- the waits between the marks
-abbrev waits_at : List Done → Done → Marks → Waits
-waits_at h d marks = record {
-  branch = branches_of h - low_of h;
-  width = marks.from - branches_of h;
-  station = d.at.issue - marks.from;
-  operand = marks.operands - d.at.issue - 1;
-  address = marks.ready - marks.operands;
-  memory = marks.clear - marks.ready;
-  unit = d.at.start - marks.clear;
-  bus = d.at.end - d.at.finish - 1;
-}
+  -- the waits between the marks
+  abbrev waits_at : Marks → Waits
+  waits_at marks = record {
+    branch = branches_of h - low_of h;
+    width = marks.from - branches_of h;
+    station = d.at.issue - marks.from;
+    operand = marks.operands - d.at.issue - 1;
+    address = marks.ready - marks.operands;
+    memory = marks.clear - marks.ready;
+    unit = d.at.start - marks.clear;
+    bus = d.at.end - d.at.finish - 1;
+  }
 
--- of a step that starts as it issues
-waits_idle : (config : Configuration) (h : List Done) (d : Done) (marks : Marks) → IsWithinLimits config
-    → AreTimed config h → from_of config h ≤ d.at.issue → marks.from ≡ from_of config h → d.at.start ≡ d.at.issue
-    → marks.operands ≡ d.at.issue → marks.ready ≡ d.at.issue → marks.clear ≡ d.at.issue
-    → waits_at h d marks ≡ waits_of config h d
-waits_idle config h d marks good timed l from start operands ready clear =
-    let w1 = none_of (lacks_operand h d) (d.at.issue + 1) d.at.start (omega arith) in
-    let w2 = none_of (lacks_address h d) (d.at.issue + 1) d.at.start (omega arith) in
-    let w3 = none_of (lacks_memory h d) (d.at.issue + 1) d.at.start (omega arith) in
-    let w4 = none_of (lacks_unit h d) (d.at.issue + 1) d.at.start (omega arith) in
-    same_waits _ _ (sym (branch_waits config h d l)) (rw from (sym (width_waits config h d good timed l)))
-    (rw from (sym (station_waits config h d good timed l)))
-    (omega arith) (omega arith) (omega arith) (omega arith) (omega arith)
+  -- of a step that starts as it issues
+  waits_idle : (config : Configuration) (marks : Marks) → IsWithinLimits config
+      → AreTimed config h → from_of config h ≤ d.at.issue → marks.from ≡ from_of config h → d.at.start ≡ d.at.issue
+      → marks.operands ≡ d.at.issue → marks.ready ≡ d.at.issue → marks.clear ≡ d.at.issue
+      → waits_at marks ≡ waits_of config h d
+  waits_idle config marks good timed l from start operands ready clear =
+      let w1 = none_of (lacks_operand h d) (d.at.issue + 1) d.at.start (omega arith) in
+      let w2 = none_of (lacks_address h d) (d.at.issue + 1) d.at.start (omega arith) in
+      let w3 = none_of (lacks_memory h d) (d.at.issue + 1) d.at.start (omega arith) in
+      let w4 = none_of (lacks_unit h d) (d.at.issue + 1) d.at.start (omega arith) in
+      same_waits _ _ (sym (branch_waits config h d l)) (rw from (sym (width_waits config h d good timed l)))
+      (rw from (sym (station_waits config h d good timed l)))
+      (omega arith) (omega arith) (omega arith) (omega arith) (omega arith)
 
--- and of an operation
-waits_run : (config : Configuration) (h : List Done) (d : Done) (marks : Marks) → IsWithinLimits config
-    → AreTimed config h → from_of config h ≤ d.at.issue → marks.from ≡ from_of config h
-    → marks.operands ≡ operands_at h d → marks.ready ≡ ready_at h d → IsClear h d marks.clear
-    → ready_at h d ≤ marks.clear → marks.clear ≤ d.at.start → waits_at h d marks ≡ waits_of config h d
-waits_run config h d marks good timed l from operands ready clear r s =
-    let w1 = operand_waits h d (omega arith) in
-    same_waits _ _ (sym (branch_waits config h d l)) (rw from (sym (width_waits config h d good timed l)))
-    (rw from (sym (station_waits config h d good timed l)))
-    (omega arith) (rw (ready, operands) (sym (address_waits h d (omega arith))))
-    (rw ready (sym (memory_waits h d marks.clear clear r s))) (sym (unit_waits h d marks.clear clear r s)) (omega arith)
+  -- and of an operation
+  waits_run : (config : Configuration) (marks : Marks) → IsWithinLimits config
+      → AreTimed config h → from_of config h ≤ d.at.issue → marks.from ≡ from_of config h
+      → marks.operands ≡ operands_at → marks.ready ≡ ready_at → IsClear marks.clear
+      → ready_at ≤ marks.clear → marks.clear ≤ d.at.start → waits_at marks ≡ waits_of config h d
+  waits_run config marks good timed l from operands ready clear r s =
+      let w1 = operand_waits (omega arith) in
+      same_waits _ _ (sym (branch_waits config h d l)) (rw from (sym (width_waits config h d good timed l)))
+      (rw from (sym (station_waits config h d good timed l)))
+      (omega arith) (rw (ready, operands) (sym (address_waits (omega arith))))
+      (rw ready (sym (memory_waits marks.clear clear r s))) (sym (unit_waits marks.clear clear r s)) (omega arith)
 
 module _ {config : Configuration} {h : List Done} {latest : Latest} {table : Reserved} {taken : List ℕ}
     {accesses : List Access} {s : Step} {next : Next} (c : ComesNext config h latest table taken accesses s next) where
@@ -131,11 +126,11 @@ module _ {config : Configuration} {h : List Done} {latest : Latest} {table : Res
       → waits_at h (record { step = s; at = next.at }) next.marks
       ≡ waits_of config h (record { step = s; at = next.at })
   waits_unit None run late l =
-      waits_idle config h (record { step = s; at = next.at }) next.marks c.good c.timed l (from_is c) run.start
+      waits_idle h (record { step = s; at = next.at }) config next.marks c.good c.timed l (from_is c) run.start
       run.operands run.ready run.clear
   waits_unit (Some u) run late l =
       let marks : HasMarks h s next = has_marks c u run late in
-      waits_run config h (record { step = s; at = next.at }) next.marks c.good c.timed l (from_is c) marks.operands
+      waits_run h (record { step = s; at = next.at }) config next.marks c.good c.timed l (from_is c) marks.operands
       marks.ready (λ t. rw marks.ready at (marks.clear t)) (rw marks.ready at marks.order) (start_marked c u run)
 
   -- what is counted of the next step's waits is what the definition says

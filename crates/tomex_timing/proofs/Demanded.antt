@@ -68,8 +68,7 @@ part_asked : (needs : List Need) (place taken waited : ℕ)
     (demand_after (slice_index_or (map demand_from needs) place no_demand) taken waited)
 part_asked needs place taken waited =
     map-set demand_from needs place (need_after (slice_index_or needs place no_need) taken waited)
-    ∙ ap (set (map demand_from needs) place)
-    (demand_more (slice_index_or needs place no_need) taken waited
+    ∙ ap (set (map demand_from needs) place) (demand_more (slice_index_or needs place no_need) taken waited
     ∙ ap (λ d. demand_after d taken waited) (sym (get_or-map demand_from needs place no_need)))
 
 stations_more : (pool : Option PoolId) (taken waited : ℕ) (needs : List Need)
@@ -147,8 +146,7 @@ few_more config steps facts i latest table taken accesses good are few l shown =
     (e, k)
 
 -- the demand for a part is its peak, and whether it has stalls
-pub demand_is : {config : Configuration} {h : List Done} {demands : Demands} (part : Part)
-    → AreDemands config h demands
+pub demand_is : {config : Configuration} {h : List Done} {demands : Demands} (part : Part) → AreDemands config h demands
     → demand_of demands part ≡ record { peak = peak part h; waits = not (stalls config part h == 0) }
 demand_is (Stations pool) is =
     rw is.same (get_or-map demand_from is.needs.stations (place_of_pool pool) no_need

@@ -83,109 +83,108 @@ ends_most (d ∷ h) t = let k = ends_most h t in elim (cases_Bool (is_some (step
 
 -- in a cycle in which a step waits for a part as many are in use as the configuration has
 
-width_full : (config : Configuration) (older : List Done) (d : Done) → 0 < (waits_of config older d).width
-    → config.width ≤ peak Width older
-width_full config older d waits =
-    let c = some_that (lacks_width config older) (max 1 (last_issue older)) d.at.issue waits in
-    let t : ℕ = c.0 in
-    let low : max 1 (last_issue older) ≤ c.0 = c.1 in
-    let fails : not (can_issue_another config older c.0) ≡ true =
-    (and_parts (are_branches_finished older c.0) (not (can_issue_another config older c.0)) c.3).1 in
-    let order : nat_le (last_issue older) c.0 ≡ true = le-leb (last_issue older) c.0 (omega arith) in
-    let none : nat_lt (count_by (λ x. x.at.issue == c.0) older) config.width ≡ false =
-    last_fails _ _ order (not-true (can_issue_another config older c.0) fails) in
-    let most : count_by (λ x. x.at.issue == c.0) older ≤ peak Width older = issues_most older c.0 in
-    let full : config.width ≤ count_by (λ x. x.at.issue == c.0) older =
-    ltb-false (count_by (λ x. x.at.issue == c.0) older) config.width none in
-    omega arith
-
-station_full : (config : Configuration) (older : List Done) (d : Done) (pool : PoolId) (x : Option PoolId)
-    → step_pool d.step ≡ x → AreTimed config older → IsTimed config older d.step d.at
-    → 0 < cond (is_in pool x) (waits_of config older d).station 0 → stations_of config pool ≤ peak (Stations pool) older
-station_full config older d pool None e timed is waits = absurd (omega arith)
-station_full config older d pool (Some p) e timed is waits = elim (cases_Bool (place_of_pool p == place_of_pool pool)) [
-  | inr f ↦ let z : 0 < 0 = rw f at waits in absurd (omega arith)
-  | inl f ↦
-      let same : p ≡ pool = same_pool p pool f in
-      let w : 0 < (waits_of config older d).station = rw f at waits in
-      let c = some_that (lacks_station config older) (max 1 (last_issue older)) d.at.issue w in
+module _ (config : Configuration) (older : List Done) (d : Done) where
+  width_full : 0 < (waits_of config older d).width → config.width ≤ peak Width older
+  width_full waits =
+      let c = some_that (lacks_width config older) (max 1 (last_issue older)) d.at.issue waits in
+      let t : ℕ = c.0 in
       let low : max 1 (last_issue older) ≤ c.0 = c.1 in
-      let both = and_parts (are_branches_finished older c.0) (can_issue_another config older c.0) c.3 in
-      let cannot : can_issue config older d.step c.0 ≡ false = is.issue.1 c.0 c.2 in
-      let none : has_station config older (step_pool d.step) c.0 ≡ false =
-      last_fails _ _ (and_from _ _ (and_from _ _ (lt-ltb 0 c.0 (omega arith)) both.1) both.0) cannot in
-      let left : nat_lt (count_by (is_held pool c.0) older) (stations_of config pool) ≡ false = rw (e, same) at none in
-      let full : stations_of config pool ≤ count_by (is_held pool c.0) older =
-      ltb-false (count_by (is_held pool c.0) older) (stations_of config pool) left in
-      let most : count_by (is_held pool c.0) older ≤ peak (Stations pool) older =
-      stations_held config older pool c.0 timed (omega arith) in
+      let fails : not (can_issue_another config older c.0) ≡ true =
+      (and_parts (are_branches_finished older c.0) (not (can_issue_another config older c.0)) c.3).1 in
+      let order : nat_le (last_issue older) c.0 ≡ true = le-leb (last_issue older) c.0 (omega arith) in
+      let none : nat_lt (count_by (λ x. x.at.issue == c.0) older) config.width ≡ false =
+      last_fails _ _ order (not-true (can_issue_another config older c.0) fails) in
+      let most : count_by (λ x. x.at.issue == c.0) older ≤ peak Width older = issues_most older c.0 in
+      let full : config.width ≤ count_by (λ x. x.at.issue == c.0) older =
+      ltb-false (count_by (λ x. x.at.issue == c.0) older) config.width none in
       omega arith
-]
 
-unit_full : (config : Configuration) (older : List Done) (d : Done) (unit : UnitId) (x : Option UnitId)
-    → step_unit d.step ≡ x → IsTimed config older d.step d.at
-    → 0 < cond (is_of unit x) (waits_of config older d).unit 0 → (option_of config unit).units ≤ peak (Units unit) older
-unit_full config older d unit None e is waits = absurd (omega arith)
-unit_full config older d unit (Some u) e is waits = elim (cases_Bool (place_of_unit u == place_of_unit unit)) [
-  | inr f ↦ let z : 0 < 0 = rw f at waits in absurd (omega arith)
-  | inl f ↦
-      let same : u ≡ unit = same_unit u unit f in
-      let w : 0 < (waits_of config older d).unit = rw f at waits in
-      let c = some_that (lacks_unit older d) (d.at.issue + 1) d.at.start w in
-      let low : d.at.issue + 1 ≤ c.0 = c.1 in
-      let least : IsLeast (can_start config older d.step u d.at.issue (cycle_of d.at.address)) d.at.start =
-      rw e at is.start in
-      let cannot : can_start config older d.step u d.at.issue (cycle_of d.at.address) c.0 ≡ false = least.1 c.0 c.2 in
-      let conflicts = and_parts (has_operands older d.step c.0 && nat_lt (cycle_of d.at.address) c.0)
-      (are_conflicts_finished older d.step c.0) c.3 in
-      let operands = and_parts (has_operands older d.step c.0) (nat_lt (cycle_of d.at.address) c.0) conflicts.0 in
-      let none : has_unit config older u c.0 ≡ false =
-      last_fails _ _ (and_from _ _ (and_from _ _ (and_from _ _ (lt-ltb d.at.issue c.0 (omega arith)) operands.1)
-      operands.0) conflicts.1) cannot in
-      let left : has_unit config older unit c.0 ≡ false = rw same at none in
-      let full : (option_of config unit).units ≤ count_by (λ x. is_of unit (step_unit x.step) && x.at.start == c.0)
-      older = ltb-false (count_by (λ x. is_of unit (step_unit x.step) && x.at.start == c.0) older)
-      (option_of config unit).units left in
-      let most : count_by (λ x. is_of unit (step_unit x.step) && x.at.start == c.0) older ≤ peak (Units unit) older =
-      starts_most older unit c.0 in
-      omega arith
-]
+  station_full : (pool : PoolId) (x : Option PoolId)
+      → step_pool d.step ≡ x → AreTimed config older → IsTimed config older d.step d.at
+      → 0 < cond (is_in pool x) (waits_of config older d).station 0 → stations_of config pool ≤ peak (Stations pool) older
+  station_full pool None e timed is waits = absurd (omega arith)
+  station_full pool (Some p) e timed is waits = elim (cases_Bool (place_of_pool p == place_of_pool pool)) [
+    | inr f ↦ let z : 0 < 0 = rw f at waits in absurd (omega arith)
+    | inl f ↦
+        let same : p ≡ pool = same_pool p pool f in
+        let w : 0 < (waits_of config older d).station = rw f at waits in
+        let c = some_that (lacks_station config older) (max 1 (last_issue older)) d.at.issue w in
+        let low : max 1 (last_issue older) ≤ c.0 = c.1 in
+        let both = and_parts (are_branches_finished older c.0) (can_issue_another config older c.0) c.3 in
+        let cannot : can_issue config older d.step c.0 ≡ false = is.issue.1 c.0 c.2 in
+        let none : has_station config older (step_pool d.step) c.0 ≡ false =
+        last_fails _ _ (and_from _ _ (and_from _ _ (lt-ltb 0 c.0 (omega arith)) both.1) both.0) cannot in
+        let left : nat_lt (count_by (is_held pool c.0) older) (stations_of config pool) ≡ false = rw (e, same) at none in
+        let full : stations_of config pool ≤ count_by (is_held pool c.0) older =
+        ltb-false (count_by (is_held pool c.0) older) (stations_of config pool) left in
+        let most : count_by (is_held pool c.0) older ≤ peak (Stations pool) older =
+        stations_held config older pool c.0 timed (omega arith) in
+        omega arith
+  ]
 
-bus_full : (config : Configuration) (older : List Done) (d : Done) (x : Option UnitId)
-    → MatchOption x (d.at.finish ≡ d.at.issue) (λ u. d.at.finish ≡ d.at.start + (option_of config u).latency - 1)
-    → MatchOption x (d.at.end ≡ d.at.issue) (λ u. EndsAfter config older d.step d.at.finish d.at.end)
-    → 0 < d.at.end - (d.at.finish + 1) → config.buses ≤ peak Buses older
-bus_full config older d None finish end waits =
-    let f : d.at.finish ≡ d.at.issue = finish in
-    let e : d.at.end ≡ d.at.issue = end in
-    absurd (omega arith)
-bus_full config older d (Some u) finish end waits = elim (cases_Bool (is_some (step_dest d.step))) [
-  | inr y ↦ let same : d.at.end ≡ d.at.finish =
-      MatchBool-at_false (IsLeast (can_end config older d.at.finish) d.at.end) (d.at.end ≡ d.at.finish) y end in
+  unit_full : (unit : UnitId) (x : Option UnitId) → step_unit d.step ≡ x → IsTimed config older d.step d.at
+      → 0 < cond (is_of unit x) (waits_of config older d).unit 0 → (option_of config unit).units ≤ peak (Units unit) older
+  unit_full unit None e is waits = absurd (omega arith)
+  unit_full unit (Some u) e is waits = elim (cases_Bool (place_of_unit u == place_of_unit unit)) [
+    | inr f ↦ let z : 0 < 0 = rw f at waits in absurd (omega arith)
+    | inl f ↦
+        let same : u ≡ unit = same_unit u unit f in
+        let w : 0 < (waits_of config older d).unit = rw f at waits in
+        let c = some_that (lacks_unit older d) (d.at.issue + 1) d.at.start w in
+        let low : d.at.issue + 1 ≤ c.0 = c.1 in
+        let least : IsLeast (can_start config older d.step u d.at.issue (cycle_of d.at.address)) d.at.start =
+        rw e at is.start in
+        let cannot : can_start config older d.step u d.at.issue (cycle_of d.at.address) c.0 ≡ false = least.1 c.0 c.2 in
+        let conflicts = and_parts (has_operands older d.step c.0 && nat_lt (cycle_of d.at.address) c.0)
+        (are_conflicts_finished older d.step c.0) c.3 in
+        let operands = and_parts (has_operands older d.step c.0) (nat_lt (cycle_of d.at.address) c.0) conflicts.0 in
+        let none : has_unit config older u c.0 ≡ false =
+        last_fails _ _ (and_from _ _ (and_from _ _ (and_from _ _ (lt-ltb d.at.issue c.0 (omega arith)) operands.1)
+        operands.0) conflicts.1) cannot in
+        let left : has_unit config older unit c.0 ≡ false = rw same at none in
+        let full : (option_of config unit).units ≤ count_by (λ x. is_of unit (step_unit x.step) && x.at.start == c.0)
+        older = ltb-false (count_by (λ x. is_of unit (step_unit x.step) && x.at.start == c.0) older)
+        (option_of config unit).units left in
+        let most : count_by (λ x. is_of unit (step_unit x.step) && x.at.start == c.0) older ≤ peak (Units unit) older =
+        starts_most older unit c.0 in
+        omega arith
+  ]
+
+  bus_full : (x : Option UnitId)
+      → MatchOption x (d.at.finish ≡ d.at.issue) (λ u. d.at.finish ≡ d.at.start + (option_of config u).latency - 1)
+      → MatchOption x (d.at.end ≡ d.at.issue) (λ u. EndsAfter config older d.step d.at.finish d.at.end)
+      → 0 < d.at.end - (d.at.finish + 1) → config.buses ≤ peak Buses older
+  bus_full None finish end waits =
+      let f : d.at.finish ≡ d.at.issue = finish in
+      let e : d.at.end ≡ d.at.issue = end in
       absurd (omega arith)
-  | inl y ↦
-      let least : IsLeast (can_end config older d.at.finish) d.at.end =
-      MatchBool-at_true (IsLeast (can_end config older d.at.finish) d.at.end) (d.at.end ≡ d.at.finish) y end in
-      let cannot : can_end config older d.at.finish (d.at.finish + 1) ≡ false =
-      least.1 (d.at.finish + 1) (omega arith) in
-      let none : has_bus config older (d.at.finish + 1) ≡ false =
-      rw (lt-ltb d.at.finish (d.at.finish + 1) (omega arith)) at cannot in
-      let full : config.buses ≤ count_by (λ x. is_some (step_dest x.step) && x.at.end == d.at.finish + 1) older =
-      ltb-false (count_by (λ x. is_some (step_dest x.step) && x.at.end == d.at.finish + 1) older) config.buses none
-      in
-      let most : count_by (λ x. is_some (step_dest x.step) && x.at.end == d.at.finish + 1) older ≤ peak Buses older =
-      ends_most older (d.at.finish + 1) in
-      omega arith
-]
+  bus_full (Some u) finish end waits = elim (cases_Bool (is_some (step_dest d.step))) [
+    | inr y ↦ let same : d.at.end ≡ d.at.finish =
+        MatchBool-at_false (IsLeast (can_end config older d.at.finish) d.at.end) (d.at.end ≡ d.at.finish) y end in
+        absurd (omega arith)
+    | inl y ↦
+        let least : IsLeast (can_end config older d.at.finish) d.at.end =
+        MatchBool-at_true (IsLeast (can_end config older d.at.finish) d.at.end) (d.at.end ≡ d.at.finish) y end in
+        let cannot : can_end config older d.at.finish (d.at.finish + 1) ≡ false =
+        least.1 (d.at.finish + 1) (omega arith) in
+        let none : has_bus config older (d.at.finish + 1) ≡ false =
+        rw (lt-ltb d.at.finish (d.at.finish + 1) (omega arith)) at cannot in
+        let full : config.buses ≤ count_by (λ x. is_some (step_dest x.step) && x.at.end == d.at.finish + 1) older =
+        ltb-false (count_by (λ x. is_some (step_dest x.step) && x.at.end == d.at.finish + 1) older) config.buses none
+        in
+        let most : count_by (λ x. is_some (step_dest x.step) && x.at.end == d.at.finish + 1) older ≤ peak Buses older =
+        ends_most older (d.at.finish + 1) in
+        omega arith
+  ]
 
-step_full : (config : Configuration) (older : List Done) (d : Done) (part : Part) → AreTimed config older
-    → IsTimed config older d.step d.at → 0 < waits_for part d (waits_of config older d)
-    → count_of config part ≤ peak part older
-step_full config older d (Stations pool) timed is waits =
-    station_full config older d pool (step_pool d.step) refl timed is waits
-step_full config older d (Units unit) timed is waits = unit_full config older d unit (step_unit d.step) refl is waits
-step_full config older d Buses timed is waits = bus_full config older d (step_unit d.step) is.finish is.end waits
-step_full config older d Width timed is waits = width_full config older d waits
+  step_full : (part : Part) → AreTimed config older
+      → IsTimed config older d.step d.at → 0 < waits_for part d (waits_of config older d)
+      → count_of config part ≤ peak part older
+  step_full (Stations pool) timed is waits =
+      station_full pool (step_pool d.step) refl timed is waits
+  step_full (Units unit) timed is waits = unit_full unit (step_unit d.step) refl is waits
+  step_full Buses timed is waits = bus_full (step_unit d.step) is.finish is.end waits
+  step_full Width timed is waits = width_full waits
 
 all_in_use : (config : Configuration) (h : List Done) (part : Part) → AreTimed config h → 0 < stalls config part h
     → count_of config part ≤ peak part h

@@ -79,8 +79,7 @@ width_waits config h d good timed l =
       | inl e ↦
           let k : branch_finish h + 1 ≤ t = leb-true (branch_finish h + 1) t e in
           rw (branches_at h t a, e, le-leb (branches_of h) t (omega arith), ← slot_split config h t good timed)
-          (ap (λ x. not x) (leb_same (slot_from config h) (from_of config h) t (λ u. omega arith)
-          (λ u. omega arith)))
+          (ap (λ x. not x) (leb_same (slot_from config h) (from_of config h) t (λ u. omega arith) (λ u. omega arith)))
       | inr e ↦
           let k : t < branch_finish h + 1 = leb-false (branch_finish h + 1) t e in
           rw (branches_at h t a, e, lt-leb (branches_of h) t (omega arith)) refl

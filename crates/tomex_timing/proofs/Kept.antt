@@ -63,8 +63,7 @@ source_agree h ends (Some o) same small = same o.register (small o refl)
 
 writer_kept : (h : List Done) (d : Done) (dest : Option ℕ) (end : ℕ) (written : List ℕ) → step_dest d.step ≡ dest
     → d.at.end ≡ end → length written ≡ 32 → ((r : ℕ) → r < 32 → slice_index written r ≡ writer_end h r)
-    → ForSome dest (λ r. r < 32)
-    → (r : ℕ) → r < 32 → slice_index (written_by dest end written) r ≡ writer_end (d ∷ h) r
+    → ForSome dest (λ r. r < 32) → (r : ℕ) → r < 32 → slice_index (written_by dest end written) r ≡ writer_end (d ∷ h) r
 writer_kept h d None end written e f len same small r l = rw e (same r l)
 writer_kept h d (Some q) end written e f len same small r l = elim (cases_eq q r) [
   | inl y ↦

@@ -60,10 +60,8 @@ part_after i p taken waited xs there = elim (cases_Bool (p == i)) [
       let same : p ≡ i = eqb-true p i e in
       rw (e, same) (get_or-set_same xs i (need_after (slice_index_or xs i no_need) taken waited) no_need there)
   | inr e ↦
-      rw e
-      (get_or-set_other xs p i (need_after (slice_index_or xs p no_need) taken waited) no_need
-      (λ (s : i ≡ p). absurd (both_ways _ e (eq-eqb p i (sym s))))
-      ∙ no_more (slice_index_or xs i no_need))
+      rw e (get_or-set_other xs p i (need_after (slice_index_or xs p no_need) taken waited) no_need
+      (λ (s : i ≡ p). absurd (both_ways _ e (eq-eqb p i (sym s)))) ∙ no_more (slice_index_or xs i no_need))
 ]
 
 pool_part : (pool : PoolId) (x : Option PoolId) (taken waited : ℕ) (xs : List Need) → length xs ≡ 6

@@ -89,9 +89,7 @@ none_left config h taken p from issue n s good shown pos first l m = elim
 record HasIssue (config : Configuration) (h : List Done) (pool : Option PoolId) (from issue : ℕ)
     (station : Option ℕ) : Type 0 where
   first : IsLeast (λ t. nat_le from t && has_station config h pool t) issue
-  takes : MatchOption pool
-      (station ≡ None)
-      (λ p. (n : ℕ) × (station ≡ Some n) × IsLeast (is_free p h issue) n)
+  takes : MatchOption pool (station ≡ None) (λ p. (n : ℕ) × (station ≡ Some n) × IsLeast (is_free p h issue) n)
 
 has_issue : (config : Configuration) (h : List Done) (taken : List ℕ) (pool : Option PoolId) (from issue : ℕ)
     (station : Option ℕ) → IsWithinLimits config → AreTimed config h
@@ -146,22 +144,17 @@ pub record HasMarks (h : List Done) (s : Step) (next : Next) : Type 0 where
 
 -- the times from the start on
 record HasRun (config : Configuration) (h : List Done) (s : Step) (unit : Option UnitId) (next : Next) : Type 0 where
-  start : MatchOption unit
-      (next.at.start ≡ next.at.issue)
+  start : MatchOption unit (next.at.start ≡ next.at.issue)
       (λ u. IsLeast (can_start config h s u next.at.issue (cycle_of next.at.address)) next.at.start)
-  finish : MatchOption unit
-      (next.at.finish ≡ next.at.issue)
+  finish : MatchOption unit (next.at.finish ≡ next.at.issue)
       (λ u. next.at.finish ≡ next.at.start + (option_of config u).latency - 1)
-  end : MatchOption unit
-      (next.at.end ≡ next.at.issue)
-      (λ u. EndsAfter config h s next.at.finish next.at.end)
+  end : MatchOption unit (next.at.end ≡ next.at.issue) (λ u. EndsAfter config h s next.at.finish next.at.end)
 
 module _ {config : Configuration} {h : List Done} {latest : Latest} {table : Reserved} {taken : List ℕ}
     {accesses : List Access} {s : Step} {next : Next} (c : ComesNext config h latest table taken accesses s next) where
   -- how the operation that comes next runs, if it is one
   abbrev pub Runs : Option UnitId → Type 0
-  Runs unit = MatchOption unit
-      (IsIdle next)
+  Runs unit = MatchOption unit (IsIdle next)
       (RunsOn config table accesses (facts_of s) (end_in latest.ends (register_of (j_of s)))
       (end_in latest.ends (register_of (k_of s))) next)
 
@@ -172,8 +165,7 @@ module _ {config : Configuration} {h : List Done} {latest : Latest} {table : Res
       let ready : next.marks.ready
       ≡ ready_from next.at.issue next.at.address (source_end h (j_of s)) (source_end h (k_of s)) =
       rw (j, k) at run.ready in
-      let clear : (t : ℕ) → nat_le next.marks.clear t
-      ≡ (nat_le next.marks.ready t && are_conflicts_finished h s t) =
+      let clear : (t : ℕ) → nat_le next.marks.clear t ≡ (nat_le next.marks.ready t && are_conflicts_finished h s t) =
       λ t. run.clear t ∙ elim (cases_Bool (nat_le next.marks.ready t)) [
         | inl e ↦ let l : next.marks.ready ≤ t = leb-true next.marks.ready t e in
             rw (e, c.shown.conflicts s t (omega arith)) refl

@@ -88,8 +88,7 @@ address_rises config d older timed memory =
     MatchBool-at_true _ _ memory timed.address in
     let two = and_parts _ (nat_lt (last_address older) (cycle_of d.at.address)) least.0 in (
       ltb-true d.at.issue (cycle_of d.at.address) (and_parts _ _ two.0).0,
-      ltb-true (last_address older)
-          (cycle_of d.at.address) two.1,
+      ltb-true (last_address older) (cycle_of d.at.address) two.1,
     )
 
 share_from : (x y : Option ByteRange) (a : ℕ) → is_among x a ≡ true → is_among y a ≡ true → shares_byte x y ≡ true

@@ -35,8 +35,7 @@ is_holder pool t n d = is_held pool t d && is_number d.at.station n
 
 -- a number that a step holds was free of what is older
 holder_free : (pool : PoolId) (older : List Done) (x : Option PoolId) (station : Option ℕ) (issue t n : ℕ) (b : Bool)
-    → issue ≤ t
-    → MatchOption x (station ≡ None) (λ p. (m : ℕ) × (station ≡ Some m) × IsLeast (is_free p older issue) m)
+    → issue ≤ t → MatchOption x (station ≡ None) (λ p. (m : ℕ) × (station ≡ Some m) × IsLeast (is_free p older issue) m)
     → ((is_in pool x && b) && is_number station n) ≡ true → is_free pool older t n ≡ true
 holder_free pool older None station issue t n b l is h = absurd (cc)
 holder_free pool older (Some p) station issue t n b l is h =
@@ -155,5 +154,4 @@ pub stations_held : (config : Configuration) (h : List Done) (pool : PoolId) (t 
     → last_issue h ≤ t → count_by (is_held pool t) h ≤ peak (Stations pool) h
 stations_held config h pool t timed l =
     rw (all_low config h pool t (peak (Stations pool) h) timed (omega arith))
-    (few (is_held pool t) (λ d. d.at.station) h (peak (Stations pool) h)
-    (λ k. one_holder config h pool t k timed l))
+    (few (is_held pool t) (λ d. d.at.station) h (peak (Stations pool) h) (λ k. one_holder config h pool t k timed l))

@@ -9,8 +9,7 @@ use Rattle.tomex_rvdec.specs.declared.pool.UnitId.{UnitId}
 use Rattle.tomex_rvdec.specs.declared.pool.UnitId.TheVariants as units
 
 abbrev pool_at : ℕ → PoolId
-pool_at n = if n == 0 then pools.Alu else
-    (if n == 1 then pools.Mul else (if n == 2 then pools.Div else
+pool_at n = if n == 0 then pools.Alu else (if n == 1 then pools.Mul else (if n == 2 then pools.Div else
     (if n == 3 then pools.Load else (if n == 4 then pools.Store else pools.Bru))))
 
 abbrev unit_at : ℕ → UnitId

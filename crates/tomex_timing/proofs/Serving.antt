@@ -83,7 +83,6 @@ by_dest false P Q R f h = h
 -- through the first's let through too.
 module _ (config other : Configuration) (older : List Done) (d : Done)
     (stands : (part : Part) → Stands config other part older d) where
-
   slot_back : (t : ℕ) → max 1 (last_issue older) ≤ t → t < d.at.issue → are_branches_finished older t ≡ true
       → can_issue_another other older t ≡ true → can_issue_another config older t ≡ true
   slot_back t low high branches there = elim (stands Width) [
@@ -239,8 +238,7 @@ pub serves_timed : (config other : Configuration) (h : List Done) → AreTimed c
 serves_timed config other [] timed serves = tt
 serves_timed config other (d ∷ older) timed serves = (
   timed_still config other older d timed.1 timed.0 serves,
-  serves_timed config other older timed.1
-      (serves_before config other older d serves),
+  serves_timed config other older timed.1 (serves_before config other older d serves),
 )
 
 steps_of-timed : (config : Configuration) (ys : List Step) → map (λ d. d.step) (timed_of config ys) ≡ ys
@@ -257,8 +255,7 @@ serves_history config other steps good good' serves =
     sym (e ∙ ap (timed_of other) (steps_of-timed config (reverse steps)))
 
 pub serves_runs : (config other : Configuration) (steps : List Step) → IsWithinLimits config → IsWithinLimits other
-    → Serves config other (history config steps)
-    → (history other steps ≡ history config steps)
+    → Serves config other (history config steps) → (history other steps ≡ history config steps)
     × (total_of (times_in other steps) ≡ total_of (times_in config steps))
 serves_runs config other steps good good' serves =
     let e = serves_history config other steps good good' serves in

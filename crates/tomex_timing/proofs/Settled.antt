@@ -121,8 +121,7 @@ has_station_after : (config : Configuration) (older : List Done) (pool : Option 
     → IsWithinLimits config → AllBy g older → g < t → has_station config older pool t ≡ true
 has_station_after config older None g t good h l = refl
 has_station_after config older (Some pool) g t good h l =
-    rw (count_none (is_held pool t) (IsDoneBy g)
-    (λ d by. and_right (is_in pool (step_pool d.step)) (nat_le t d.at.end)
+    rw (count_none (is_held pool t) (IsDoneBy g) (λ d by. and_right (is_in pool (step_pool d.step)) (nat_le t d.at.end)
     (lt-leb t d.at.end (omega (arith, by.end)))) older h)
     (lt-ltb 0 (stations_of config pool) (stations_low config pool good))
 
@@ -164,5 +163,4 @@ can_start_after config older s unit issue address g good h i a =
 pub can_end_after : (config : Configuration) (older : List Done) (finish g t : ℕ) → IsWithinLimits config
     → AllBy g older → g < t → finish < t → can_end config older finish t ≡ true
 can_end_after config older finish g t good h l f =
-    and_from _ _ (lt-ltb finish t f)
-    (rw (results_none older g t h l) (lt-ltb 0 config.buses (buses_low config good)))
+    and_from _ _ (lt-ltb finish t f) (rw (results_none older g t h l) (lt-ltb 0 config.buses (buses_low config good)))

@@ -53,8 +53,7 @@ place_in p m taken l size = omega (arith, pool_in p)
 station_turn : (pool : PoolId) (x : Option PoolId) (station : Option ℕ) (taken : List ℕ) (free : Bool)
     (issue end t n : ℕ) → issue ≤ end → n < 16 → length taken ≡ 96
     → MatchOption x (station ≡ None) (λ p. (m : ℕ) × (station ≡ Some m) × (m < 16) × (end_at taken p m < issue))
-    → free ≡ nat_lt (end_at taken pool n) t
-    → (not ((is_in pool x && nat_le t end) && is_number station n) && free)
+    → free ≡ nat_lt (end_at taken pool n) t → (not ((is_in pool x && nat_le t end) && is_number station n) && free)
     ≡ nat_lt (end_at (ends_with x station end taken) pool n) t
 station_turn pool None station taken free issue end t n later l size takes e = e
 station_turn pool (Some p) station taken free issue end t n later l size takes e =
@@ -66,8 +65,7 @@ station_turn pool (Some p) station taken free issue end t n later l size takes e
       and_assoc (place_of_pool p == place_of_pool pool) (nat_le t end) (takes.0 == n),
       and_swap (nat_le t end) (takes.0 == n),
       ← and_assoc (place_of_pool p == place_of_pool pool) (takes.0 == n) (nat_le t end),
-    )
-    (elim (cases_Bool ((place_of_pool p == place_of_pool pool) && (takes.0 == n))) [
+    ) (elim (cases_Bool ((place_of_pool p == place_of_pool pool) && (takes.0 == n))) [
       | inl y ↦
           let two = and_parts (place_of_pool p == place_of_pool pool) (takes.0 == n) y in
           let a : place_of_pool p ≡ place_of_pool pool = eqb-true (place_of_pool p) (place_of_pool pool) two.0 in
@@ -105,8 +103,7 @@ past_let_go f issue t a l e =
     or_right _ (nat_lt a.finish t) (lt-ltb a.finish t (omega arith))
 
 accesses_turn : (y s : Step) (at : Times) (h : List Done) (x : Option ByteRange) (accesses : List Access)
-    (t : ℕ) → bytes_of s ≡ x → at.issue < t
-    → list_all (is_past (facts_of y) t) accesses ≡ are_conflicts_finished h y t
+    (t : ℕ) → bytes_of s ≡ x → at.issue < t → list_all (is_past (facts_of y) t) accesses ≡ are_conflicts_finished h y t
     → list_all (is_past (facts_of y) t) (accesses_with x (facts_of s) at accesses)
     ≡ are_conflicts_finished (record { step = s; at = at } ∷ h) y t
 accesses_turn y s at h None accesses t of l e = rw of e
@@ -188,8 +185,7 @@ module _ {config : Configuration} {h : List Done} {latest : Latest} {table : Res
         results = λ t m. tabled.results t (omega arith) ∙ rw (
           bus_same s (next.at.end == t),
           shown.results t (omega arith),
-          sum_by-cons (λ d. one (is_some (step_dest d.step) && d.at.end == t))
-              (record { step = s; at = next.at }) h,
+          sum_by-cons (λ d. one (is_some (step_dest d.step) && d.at.end == t)) (record { step = s; at = next.at }) h,
         ) (omega arith);
         stations = λ pool t n pos m.
             station_turn pool (step_pool s) next.at.station taken (is_free pool h t n) next.at.issue next.at.end t n

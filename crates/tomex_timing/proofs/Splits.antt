@@ -70,15 +70,13 @@ slot_split config h t good timed = elim (cases_order (last_issue h) t) [
       ← e,
       f,
       lt-leb (last_issue h + 1) (last_issue h) (omega arith),
-      le-leb (last_issue h)
-          (last_issue h) (omega arith),
+      le-leb (last_issue h) (last_issue h) (omega arith),
     ) refl
   ]
   | inr (inl l) ↦ rw (
     none_later config h t timed l,
     lt-ltb 0 config.width (width_low config good),
-    le-leb
-        (last_issue h) t (omega arith),
+    le-leb (last_issue h) t (omega arith),
   ) (either (nat_lt (count_by (λ d. d.at.issue == last_issue h) h) config.width) l)
   | inr (inr l) ↦ rw (lt-leb (last_issue h) t l)
       (neither (nat_lt (count_by (λ d. d.at.issue == last_issue h) h) config.width) l)

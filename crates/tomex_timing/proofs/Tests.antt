@@ -29,21 +29,18 @@ finished_from : (p : Done → Bool) (t : ℕ) (older : List Done)
     → AllByRecursion (λ d. IsTrue (p d) → d.at.finish < t) older
     → list_all (λ d. not (p d) || nat_lt d.at.finish t) older ≡ true
 finished_from p t [] h = refl
-finished_from p t (d ∷ older) h = and_from _ _
-    (elim (cases_Bool (p d)) [
-      | inl e ↦ or_right _ (nat_lt d.at.finish t) (lt-ltb d.at.finish t (h.0 e))
-      | inr e ↦ or_left _ (nat_lt d.at.finish t) (rw e refl)
-    ]) (finished_from p t older h.1)
+finished_from p t (d ∷ older) h = and_from _ _ (elim (cases_Bool (p d)) [
+  | inl e ↦ or_right _ (nat_lt d.at.finish t) (lt-ltb d.at.finish t (h.0 e))
+  | inr e ↦ or_left _ (nat_lt d.at.finish t) (rw e refl)
+]) (finished_from p t older h.1)
 
 station_is_left : (config : Configuration) (older : List Done) (x : Option PoolId) (t : ℕ)
-    → has_station config older x t ≡ true
-    → IfSome x (λ pool. count_by (is_held pool t) older < stations_of config pool)
+    → has_station config older x t ≡ true → IfSome x (λ pool. count_by (is_held pool t) older < stations_of config pool)
 station_is_left config older None t h = tt
 station_is_left config older (Some pool) t h = ltb-true _ _ h
 
 has_station_from : (config : Configuration) (older : List Done) (x : Option PoolId) (t : ℕ)
-    → IfSome x (λ pool. count_by (is_held pool t) older < stations_of config pool)
-    → has_station config older x t ≡ true
+    → IfSome x (λ pool. count_by (is_held pool t) older < stations_of config pool) → has_station config older x t ≡ true
 has_station_from config older None t h = refl
 has_station_from config older (Some pool) t h = lt-ltb _ _ h
 
@@ -111,8 +108,7 @@ pub can_start_from : (config : Configuration) (older : List Done) (s : Step) (un
 can_start_from config older s unit issue address t can =
     and_from _ _ (and_from _ _ (and_from _ _
     (and_from _ _ (lt-ltb issue t can.after_issue) (lt-ltb address t can.after_address))
-    (and_from _ _ (lt-ltb _ _ can.after_j) (lt-ltb _ _ can.after_k)))
-    (finished_from (λ d. conflicts d.step s) t older
+    (and_from _ _ (lt-ltb _ _ can.after_j) (lt-ltb _ _ can.after_k))) (finished_from (λ d. conflicts d.step s) t older
     (recursion_from_All (λ d. IsTrue (conflicts d.step s) → d.at.finish < t) older can.conflicts_finished)))
     (lt-ltb _ _ can.unit_left)
 

@@ -91,8 +91,7 @@ pub turn_of : (config : Configuration) (steps : List Step) (i : ℕ) (x : Step) 
     {table : Reserved} {taken : List ℕ} {accesses : List Access} {next : Next} → IsWithinLimits config
     → i < length steps → slice_index_or steps i x ≡ x → f ≡ facts_of x → HasRegisters f
     → IsShown (history config (take i steps)) latest table taken accesses
-    → IsNextBy config latest table taken accesses f next
-    → IsTurn config steps i x f latest table taken accesses next
+    → IsNextBy config latest table taken accesses f next → IsTurn config steps i x f latest table taken accesses next
 turn_of config steps i x f good place at facts registers shown by = record {
   step = record { good = good; place = place; at = at; facts = facts; registers = registers };
   shown = shown;
@@ -102,8 +101,7 @@ turn_of config steps i x f good place at facts registers shown by = record {
 pub next_turn : {config : Configuration} {steps : List Step} {i : ℕ} {x : Step} {f : Facts} {latest : Latest}
     {table : Reserved} {taken : List ℕ} {accesses : List Access} {next : Next} → IsStep config steps i x f
     → IsShown (history config (take i steps)) latest table taken accesses
-    → IsNextBy config latest table taken accesses f next
-    → IsTurn config steps i x f latest table taken accesses next
+    → IsNextBy config latest table taken accesses f next → IsTurn config steps i x f latest table taken accesses next
 next_turn step shown by = record { step = step; shown = shown; by = by }
 
 -- a step that is next can be kept
@@ -169,8 +167,7 @@ module _ {config : Configuration} {steps : List Step} {i : ℕ} {x : Step} {f : 
   one_more : take (i + 1) steps ≡ take i steps ++ (x ∷ [])
   one_more = take_more steps i x turn.step.place ∙ ap (λ y. take i steps ++ (y ∷ [])) turn.step.at
 
-  longer : history config (take (i + 1) steps)
-      ≡ record { step = x; at = next.at } ∷ history config (take i steps)
+  longer : history config (take (i + 1) steps) ≡ record { step = x; at = next.at } ∷ history config (take i steps)
   longer = rw one_more (history_more config (take i steps) x
       ∙ ap (λ t. record { step = x; at = t } ∷ history config (take i steps)) (sym same_times))
 

@@ -44,8 +44,7 @@ none_later config (d ∷ h) t timed l =
     rw (
       sum_by-cons,
       ne_eqb d.at.issue t (λ (e : d.at.issue ≡ t). absurd (omega arith)),
-      none_later config h t timed.1
-          (omega arith),
+      none_later config h t timed.1 (omega arith),
     ) refl
 
 some_there : (d : Done) (h : List Done) (t : ℕ) → d.at.issue ≡ t → 0 < count_by (λ d. d.at.issue == t) (d ∷ h)
