@@ -36,10 +36,9 @@ use Rattle.tomex_timing.specs.History.{greatest_end}
 use Rattle.tomex_timing.specs.Search.{history}
 use Rattle.tomex_timing.specs.Waiting.{need_after, needs_after, nothing_needed, stations_after, units_after}
 use Rattle.tomex_timing.specs.Waiting.{taken_from, waits_by}
-use Rattle.tomex_timing.proofs.Facts.{length_facts}
 use Rattle.tomex_timing.proofs.Needed.{needs_none}
 use Rattle.tomex_timing.proofs.Shown.{IsShown}
-use Rattle.tomex_timing.proofs.Turns.{IsTurn, end_bound, held_turn, issued_bound, needs_turn}
+use Rattle.tomex_timing.proofs.Turns.{IsTurn, held_turn, needs_turn}
 use Rattle.tomex_timing.specs.Window.{AreFacts, facts_of, is_memory_pool, latest_after}
 
 or_none : (b : Bool) → b ≡ (b || false)
@@ -133,17 +132,6 @@ module _ {config : Configuration} {steps : List Step} {i : ℕ} {x : Step} {f : 
       × AreDemands config (history config (take (i + 1) steps)) (with_total last.end noted)
   asked_turn {demands} are last tabled ends under noted =
       (rw (last, ends, under) (held_turn turn tabled), rw (noted, last) (held_demands demands are))
-
--- cycles and issues are few
-pub few_more : (config : Configuration) (steps : List Step) (facts : List Facts) (i : ℕ) (latest : Latest)
-    (table : Reserved) (taken : List ℕ) (accesses : List Access) → IsWithinLimits config → AreFacts steps facts
-    → length facts < 2 ^ 28 → i < length facts → IsShown (history config (take i steps)) latest table taken accesses
-    → (latest.end ≤ 67 * i) × (latest.issued ≤ i)
-few_more config steps facts i latest table taken accesses good are few l shown =
-    let n : length facts ≡ length steps = length_facts steps facts are in
-    let e : latest.end ≤ 67 * i = end_bound config steps i latest good (omega arith) shown.kept in
-    let k : latest.issued ≤ i = issued_bound config steps i latest (omega arith) shown.kept in
-    (e, k)
 
 -- the demand for a part is its peak, and whether it has stalls
 pub demand_is : {config : Configuration} {h : List Done} {demands : Demands} (part : Part) → AreDemands config h demands

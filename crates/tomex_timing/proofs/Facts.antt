@@ -6,9 +6,14 @@ use Rattle.std.proofs.lemmas.List.{length-map, map-append, take_more}
 use Rattle.std.proofs.lemmas.List.Elements.{All-push}
 use Rattle.tomex_steps.specs.declared.step.Step.{Step}
 use Rattle.tomex_config.specs.Configuration.{Configuration, IsWithinLimits}
+use Rattle.tomex_reservations.specs.Reservations.{Reserved}
+use Rattle.tomex_timing.specs.declared.accesses.Access.{Access}
 use Rattle.tomex_timing.specs.declared.window.Facts.{Facts}
+use Rattle.tomex_timing.specs.declared.window.Latest.{Latest}
+use Rattle.tomex_timing.specs.Search.{history}
 use Rattle.tomex_timing.specs.Window.{AreFacts, HasRegisters, facts_of}
-use Rattle.tomex_timing.proofs.Turns.{IsStep}
+use Rattle.tomex_timing.proofs.Shown.{IsShown}
+use Rattle.tomex_timing.proofs.Turns.{IsBounded, IsStep, bounded}
 
 -- the step whose facts stand at a place
 step_at : (steps : List Step) (i : ℕ) (d : Facts) → i < length steps → (x : Step) × (slice_index_or steps i x ≡ x)
@@ -35,6 +40,14 @@ step_of config steps facts i d good are l =
         registers = are.registers i d l;
       },
     )
+
+pub bounded_facts : (config : Configuration) (steps : List Step) (facts : List Facts) (i : ℕ) {latest : Latest}
+    {table : Reserved} {taken : List ℕ} {accesses : List Access} → IsWithinLimits config → AreFacts steps facts
+    → i < length facts → IsShown (history config (take i steps)) latest table taken accesses
+    → IsBounded i latest table taken accesses
+bounded_facts config steps facts i good are l shown =
+    let n : length facts ≡ length steps = length_facts steps facts are in
+    bounded config steps i good (omega arith) shown
 
 -- one step's facts more
 pub facts_more : (steps : List Step) (facts : List Facts) (i : ℕ) (x : Step) (f : Facts) → i < length steps

@@ -1,6 +1,6 @@
 -- What the evaluator holds shows a history: each question about a cycle after its last issue is answered as over all
 -- its steps.
-use Rattle.std.proofs.Common.{ℕ, ◌+◌, ◌<◌, ◌≤◌, ◌≡◌, ◌∙◌, true, false, arith, refl, sym, List, [], length, take}
+use Rattle.std.proofs.Common.{ℕ, ◌+◌, ◌<◌, ◌≤◌, ◌≡◌, ◌∙◌, true, false, arith, refl, sym, List, [], length}
 use Rattle.std.specs.Prelude.{nat_lt, nat_le, ◌==◌, not, ◌&&◌, is_some, count_by, replicate}
 use Rattle.std.specs.List.{list_all, AllByRecursion}
 use Rattle.std.proofs.lemmas.Bool.{and_right, lt-ltb, lt-leb, ltb-true}
@@ -23,7 +23,6 @@ use Rattle.tomex_timing.specs.Search.{history}
 use Rattle.tomex_timing.specs.Station.{is_held, is_free}
 use Rattle.tomex_timing.specs.Window.{facts_of, nothing_yet}
 use Rattle.tomex_timing.proofs.Bound.{timed_by}
-use Rattle.tomex_timing.proofs.Histories.{are_timed}
 use Rattle.tomex_timing.proofs.Kept.{IsKept, branch_finish_by, start_kept}
 use Rattle.tomex_timing.proofs.Limits.{pool_in, unit_in}
 use Rattle.tomex_timing.proofs.Settled.{IsDoneBy, AllBy, all_pass, starts_none, results_none, last_address_by}
@@ -50,10 +49,9 @@ nothing_at line t l = get_or-replicate 8 line 0 0 (omega arith)
 place_low : (pool : PoolId) (n : ℕ) → n < 16 → station_place pool n < 96
 place_low pool n l = omega (arith, pool_in pool)
 
--- before the first step nothing is held
-pub start_shown : (config : Configuration) → IsShown (history config []) nothing_yet (record { base = 0; slots = [] })
+nothing_shown : (config : Configuration) → IsShown (history config []) nothing_yet (record { base = 0; slots = [] })
     (replicate 96 0) []
-start_shown config = record {
+nothing_shown config = record {
   kept = start_kept;
   base = omega arith;
   starts = λ unit t l. nothing_at (place_of_unit unit) t (omega (arith, unit_in unit));
@@ -64,6 +62,12 @@ start_shown config = record {
   conflicts = λ s t l. refl;
   finishes = tt;
 }
+
+-- before the first step nothing is held
+pub start_shown : (config : Configuration) {latest : Latest} {table : Reserved} {taken : List ℕ} {accesses : List Access}
+    → latest ≡ nothing_yet → table ≡ record { base = 0; slots = [] } → taken ≡ replicate 96 0 → accesses ≡ []
+    → IsShown (history config []) latest table taken accesses
+start_shown config a b c d = rw (a, b, c, d) (nothing_shown config)
 
 free_after : (pool : PoolId) (g t n : ℕ) (h : List Done) → AllBy g h → g < t → is_free pool h t n ≡ true
 free_after pool g t n h by l =
@@ -99,10 +103,3 @@ settled_by config h latest table taken accesses good timed shown =
       branch = rw (kept.branch, e) (branch_finish_by (greatest_end h) h by);
       address = rw (kept.address, e) (last_address_by (greatest_end h) h by);
     }
-
-pub settled_there : (config : Configuration) (steps : List Step) (i : ℕ) (latest : Latest) (table : Reserved)
-    (taken : List ℕ) (accesses : List Access) → IsWithinLimits config
-    → IsShown (history config (take i steps)) latest table taken accesses → IsSettledBy latest table taken accesses
-settled_there config steps i latest table taken accesses good shown =
-    settled_by config (history config (take i steps)) latest table taken accesses good
-    (are_timed config (take i steps) good) shown

@@ -22,7 +22,7 @@ use Rattle.tomex_timing.specs.declared.waiting.Taken.{Taken}
 use Rattle.tomex_timing.specs.declared.window.Facts.{Facts}
 use Rattle.tomex_timing.specs.declared.window.Latest.{Latest}
 use Rattle.tomex_timing.specs.Ahead.{CanKeep, IsIdle, IsNextBy, IsTableAfter, RunsOn, TakesBus, TakesStation}
-use Rattle.tomex_timing.specs.Ahead.{accesses_after, end_in, ends_after}
+use Rattle.tomex_timing.specs.Ahead.{IsSettledBy, accesses_after, end_in, ends_after}
 use Rattle.tomex_timing.specs.History.{last_issue, greatest_end}
 use Rattle.tomex_timing.specs.Laws.{InReach}
 use Rattle.tomex_timing.specs.Needs.{AreNeeds, waits_in, waits_of}
@@ -32,37 +32,42 @@ use Rattle.tomex_timing.specs.Waiting.{AreWithin, IsWithin, needs_after, taken_f
 use Rattle.tomex_timing.specs.Window.{HasRegisters, facts_of, register_of, latest_after}
 use Rattle.tomex_timing.proofs.Charges.{waits_are}
 use Rattle.tomex_timing.proofs.Histories.{are_timed, history_more, times_more, history_bound, length-history}
-use Rattle.tomex_timing.proofs.Kept.{IsKept}
 use Rattle.tomex_timing.proofs.Limits.{buses_high, stations_high, units_high}
 use Rattle.tomex_timing.proofs.Needed.{needs_more, taken_is}
 use Rattle.tomex_timing.proofs.NextTimed.{ComesNext, next_timed}
 use Rattle.tomex_timing.proofs.Orders.{reach, start_after}
 use Rattle.tomex_timing.proofs.Search.{times_are, times_same}
-use Rattle.tomex_timing.proofs.Shown.{IsShown}
+use Rattle.tomex_timing.proofs.Shown.{IsShown, settled_by}
 use Rattle.tomex_timing.proofs.ShownTurns.{shown_turn}
 use Rattle.tomex_timing.proofs.Small.{needs_within, waits_within}
 use Rattle.tomex_timing.proofs.WaitLists.{waits_more}
 use Rattle.tomex_timing.proofs.Width.{issue_from}
 
-pub end_bound : (config : Configuration) (steps : List Step) (i : ℕ) (latest : Latest)
-    → IsWithinLimits config → i ≤ length steps → IsKept (history config (take i steps)) latest → latest.end ≤ 67 * i
-end_bound config steps i latest good l kept =
+-- what is held before a step is settled, and small
+pub record IsBounded (i : ℕ) (latest : Latest) (table : Reserved) (taken : List ℕ) (accesses : List Access) : Type 0
+  where
+    pub settled : IsSettledBy latest table taken accesses
+    pub end : latest.end ≤ 67 * i
+    pub branch : latest.branch ≤ 67 * i
+    pub issued : latest.issued ≤ i
+
+pub bounded : (config : Configuration) (steps : List Step) (i : ℕ) {latest : Latest} {table : Reserved} {taken : List ℕ}
+    {accesses : List Access} → IsWithinLimits config → i ≤ length steps
+    → IsShown (history config (take i steps)) latest table taken accesses → IsBounded i latest table taken accesses
+bounded config steps i {latest} {table} {taken} {accesses} good l shown =
+    let settled = settled_by config (history config (take i steps)) latest table taken accesses good
+    (are_timed config (take i steps) good) shown in
     let b : greatest_end (history config (take i steps)) ≤ 67 * length (take i steps) =
     history_bound config (take i steps) good in
+    let n : length (history config (take i steps)) ≡ length (take i steps) = length-history config (take i steps) in
     let e : length (take i steps) ≡ i = length-take-le i steps l in
-    let k : latest.end ≡ greatest_end (history config (take i steps)) = kept.end in
-    omega arith
-
-pub issued_bound : (config : Configuration) (steps : List Step) (i : ℕ) (latest : Latest)
-    → i ≤ length steps → IsKept (history config (take i steps)) latest → latest.issued ≤ i
-issued_bound config steps i latest l kept =
-    let a = count_by-le-length (λ d. d.at.issue == last_issue (history config (take i steps)))
+    let k : latest.end ≡ greatest_end (history config (take i steps)) = shown.kept.end in
+    let m : latest.branch ≤ latest.end = settled.branch in
+    let few = count_by-le-length (λ d. d.at.issue == last_issue (history config (take i steps)))
     (history config (take i steps)) in
-    let b : length (history config (take i steps)) ≡ length (take i steps) = length-history config (take i steps) in
-    let e : length (take i steps) ≡ i = length-take-le i steps l in
-    let k : latest.issued ≡ count_by (λ d. d.at.issue == last_issue (history config (take i steps)))
-    (history config (take i steps)) = kept.issued in
-    omega arith
+    let q : latest.issued ≡ count_by (λ d. d.at.issue == last_issue (history config (take i steps)))
+    (history config (take i steps)) = shown.kept.issued in
+    record { settled = settled; end = omega arith; branch = omega arith; issued = omega arith }
 
 register_low : (o : Option Operand) → IfSome (register_of o) (λ r. r < 32) → ForSome o (λ o. o.register < 32)
 register_low None h x e = absurd (cc)
@@ -189,7 +194,7 @@ module _ {config : Configuration} {steps : List Step} {i : ℕ} {x : Step} {f : 
       let base : table.base ≤ last_issue (history config (take i steps)) = turn.shown.base in
       let issue : last_issue (history config (take i steps)) ≤ next.at.issue =
       issue_from config (history config (take i steps)) x next.at.issue is_timed.issue.0 in
-      let issued : latest.issued ≤ i = issued_bound config steps i latest (omega arith) turn.shown.kept in
+      let issued : latest.issued ≤ i = (bounded config steps i turn.step.good (omega arith) turn.shown).issued in
       record {
         register = turn.step.registers.dest;
         few = omega arith;

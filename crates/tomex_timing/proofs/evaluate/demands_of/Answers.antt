@@ -1,43 +1,36 @@
 -- Each turn of the loop keeps what is held, and adds the step's demands.
 use Rattle.std.proofs.Common.{◌≡◌, length, arith}
-use Rattle.tomex_timing.proofs.Facts.{length_facts, step_of}
-use Rattle.tomex_timing.proofs.Demanded.{asked_turn, demands_none, few_more, touches}
-use Rattle.tomex_timing.proofs.Shown.{settled_there, start_shown}
+use Rattle.tomex_timing.proofs.Facts.{bounded_facts, length_facts, step_of}
+use Rattle.tomex_timing.proofs.Demanded.{asked_turn, demands_none, touches}
+use Rattle.tomex_timing.proofs.Shown.{start_shown}
 use Rattle.tomex_timing.proofs.Turns.{can_keep, next_turn}
 use Rattle.tomex_timing.proofs.evaluate.demands_of.Goals as goal
 use Rattle.tomex_timing.proofs.evaluate.demands_of.Goals.{in-Some-Some+in_ok-ask_operation, in_default+in_ok-ask_rest}
 
 pub loop-step-init : goal.loop-step-init
 loop-step-init g c = λ steps are. record {
-  shown = rw (
-    c.new-window.ensures.latest,
-    c.new-window.ensures.table,
-    c.new-window.ensures.stations,
-    c.new-window.ensures.accesses,
-  ) (start_shown c.args.config.now);
+  shown = start_shown c.args.config.now c.new-window.ensures.latest c.new-window.ensures.table
+      c.new-window.ensures.stations c.new-window.ensures.accesses;
   demands = rw (c.none-demands.ensures, c.new-window.ensures.latest) (demands_none c.args.config.now);
 }
 
 pub ask_operation-requires-clause-settled : goal.ask_operation-requires-clause-settled
 ask_operation-requires-clause-settled g c =
-    settled_there c.args.config.now c.requires.run.0 c.loop-step.step-index _ _ _ _ c.keeps_limits.ensures
-    (c.loop-step.invariant c.requires.run.0 c.requires.run.1).shown
+    (bounded_facts c.args.config.now c.requires.run.0 c.args.facts.now c.loop-step.step-index
+    c.keeps_limits.ensures c.requires.run.1 c.loop-step-test.true
+    (c.loop-step.invariant c.requires.run.0 c.requires.run.1).shown).settled
 
 pub ask_operation-requires-clause-small : goal.ask_operation-requires-clause-small
-ask_operation-requires-clause-small g c = omega (
-  arith,
-  (few_more c.args.config.now c.requires.run.0 c.args.facts.now
-      c.loop-step.step-index _ _ _ _ c.keeps_limits.ensures c.requires.run.1 c.requires.few c.loop-step-test.true
-      (c.loop-step.invariant c.requires.run.0 c.requires.run.1).shown).0,
-)
+ask_operation-requires-clause-small g c =
+    omega (arith, (bounded_facts c.args.config.now c.requires.run.0 c.args.facts.now c.loop-step.step-index
+    c.keeps_limits.ensures c.requires.run.1 c.loop-step-test.true
+    (c.loop-step.invariant c.requires.run.0 c.requires.run.1).shown).end)
 
 pub ask_operation-requires-clause-few : goal.ask_operation-requires-clause-few
-ask_operation-requires-clause-few g c = omega (
-  arith,
-  (few_more c.args.config.now c.requires.run.0 c.args.facts.now
-      c.loop-step.step-index _ _ _ _ c.keeps_limits.ensures c.requires.run.1 c.requires.few c.loop-step-test.true
-      (c.loop-step.invariant c.requires.run.0 c.requires.run.1).shown).1,
-)
+ask_operation-requires-clause-few g c =
+    omega (arith, (bounded_facts c.args.config.now c.requires.run.0 c.args.facts.now c.loop-step.step-index
+    c.keeps_limits.ensures c.requires.run.1 c.loop-step-test.true
+    (c.loop-step.invariant c.requires.run.0 c.requires.run.1).shown).issued)
 
 pub ask_operation-requires-clause-memory : goal.ask_operation-requires-clause-memory
 ask_operation-requires-clause-memory g c =
@@ -47,24 +40,21 @@ ask_operation-requires-clause-memory g c =
 
 pub ask_rest-requires-clause-settled : goal.ask_rest-requires-clause-settled
 ask_rest-requires-clause-settled g c =
-    settled_there c.args.config.now c.requires.run.0 c.loop-step.step-index _ _ _ _ c.keeps_limits.ensures
-    (c.loop-step.invariant c.requires.run.0 c.requires.run.1).shown
+    (bounded_facts c.args.config.now c.requires.run.0 c.args.facts.now c.loop-step.step-index
+    c.keeps_limits.ensures c.requires.run.1 c.loop-step-test.true
+    (c.loop-step.invariant c.requires.run.0 c.requires.run.1).shown).settled
 
 pub ask_rest-requires-clause-small : goal.ask_rest-requires-clause-small
-ask_rest-requires-clause-small g c = omega (
-  arith,
-  (few_more c.args.config.now c.requires.run.0 c.args.facts.now
-      c.loop-step.step-index _ _ _ _ c.keeps_limits.ensures c.requires.run.1 c.requires.few c.loop-step-test.true
-      (c.loop-step.invariant c.requires.run.0 c.requires.run.1).shown).0,
-)
+ask_rest-requires-clause-small g c =
+    omega (arith, (bounded_facts c.args.config.now c.requires.run.0 c.args.facts.now c.loop-step.step-index
+    c.keeps_limits.ensures c.requires.run.1 c.loop-step-test.true
+    (c.loop-step.invariant c.requires.run.0 c.requires.run.1).shown).end)
 
 pub ask_rest-requires-clause-few : goal.ask_rest-requires-clause-few
-ask_rest-requires-clause-few g c = omega (
-  arith,
-  (few_more c.args.config.now c.requires.run.0 c.args.facts.now
-      c.loop-step.step-index _ _ _ _ c.keeps_limits.ensures c.requires.run.1 c.requires.few c.loop-step-test.true
-      (c.loop-step.invariant c.requires.run.0 c.requires.run.1).shown).1,
-)
+ask_rest-requires-clause-few g c =
+    omega (arith, (bounded_facts c.args.config.now c.requires.run.0 c.args.facts.now c.loop-step.step-index
+    c.keeps_limits.ensures c.requires.run.1 c.loop-step-test.true
+    (c.loop-step.invariant c.requires.run.0 c.requires.run.1).shown).issued)
 
 pub ask_rest-requires-clause-keeps : goal.ask_rest-requires-clause-keeps
 ask_rest-requires-clause-keeps g c =

@@ -1,20 +1,16 @@
 -- Each turn of the loop keeps what is held, and adds the step's needs.
 use Rattle.std.proofs.Common.{◌≡◌, ◌≤◌, ◌*◌, length, arith}
-use Rattle.tomex_timing.proofs.Facts.{length_facts, step_of}
+use Rattle.tomex_timing.proofs.Facts.{bounded_facts, length_facts, step_of}
 use Rattle.tomex_timing.proofs.Needed.{needs_none}
-use Rattle.tomex_timing.proofs.Shown.{settled_there, start_shown}
-use Rattle.tomex_timing.proofs.Turns.{can_keep, end_bound, held_turn, issued_bound, needs_small, needs_turn}
+use Rattle.tomex_timing.proofs.Shown.{start_shown}
+use Rattle.tomex_timing.proofs.Turns.{can_keep, held_turn, needs_small, needs_turn}
 use Rattle.tomex_timing.proofs.Turns.{next_turn, waits_small}
 use Rattle.tomex_timing.proofs.evaluate.needs_of.Goals as goal
 
 pub loop-step-init : goal.loop-step-init
 loop-step-init g c = λ steps are. record {
-  shown = rw (
-    c.new-window.ensures.latest,
-    c.new-window.ensures.table,
-    c.new-window.ensures.stations,
-    c.new-window.ensures.accesses,
-  ) (start_shown c.args.config.now);
+  shown = start_shown c.args.config.now c.new-window.ensures.latest c.new-window.ensures.table
+      c.new-window.ensures.stations c.new-window.ensures.accesses;
   needs = rw c.none-needs.ensures (needs_none c.args.config.now);
 }
 
@@ -23,39 +19,27 @@ next_step-next-requires-clause-registers g c = c.requires.run.1.registers c.loop
 
 pub next_step-next-requires-clause-settled : goal.next_step-next-requires-clause-settled
 next_step-next-requires-clause-settled g c =
-    settled_there c.args.config.now c.requires.run.0 c.loop-step.step-index _ _ _ _ c.keeps_limits.ensures
-    (c.loop-step.invariant c.requires.run.0 c.requires.run.1).shown
+    (bounded_facts c.args.config.now c.requires.run.0 c.args.facts.now c.loop-step.step-index
+    c.keeps_limits.ensures c.requires.run.1 c.loop-step-test.true
+    (c.loop-step.invariant c.requires.run.0 c.requires.run.1).shown).settled
 
 pub next_step-next-requires-clause-small : goal.next_step-next-requires-clause-small
 next_step-next-requires-clause-small g c =
-    let n : length c.args.facts.now ≡ length c.requires.run.0 =
-    length_facts c.requires.run.0 c.args.facts.now c.requires.run.1 in
-    let by : c.loop-step.window.latest.end ≤ 67 * c.loop-step.step-index =
-    end_bound c.args.config.now c.requires.run.0 c.loop-step.step-index c.loop-step.window.latest
-    c.keeps_limits.ensures (omega arith) (c.loop-step.invariant c.requires.run.0 c.requires.run.1).shown.kept in
-    omega arith
+    omega (arith, (bounded_facts c.args.config.now c.requires.run.0 c.args.facts.now c.loop-step.step-index
+    c.keeps_limits.ensures c.requires.run.1 c.loop-step-test.true
+    (c.loop-step.invariant c.requires.run.0 c.requires.run.1).shown).end)
 
 pub waits_of-waits-requires : goal.waits_of-waits-requires
 waits_of-waits-requires g c =
-    let n : length c.args.facts.now ≡ length c.requires.run.0 =
-    length_facts c.requires.run.0 c.args.facts.now c.requires.run.1 in
-    let shown = (c.loop-step.invariant c.requires.run.0 c.requires.run.1).shown in
-    let s = settled_there c.args.config.now c.requires.run.0 c.loop-step.step-index _ _ _ _ c.keeps_limits.ensures shown
-    in
-    let b : c.loop-step.window.latest.branch ≤ c.loop-step.window.latest.end = s.branch in
-    let by : c.loop-step.window.latest.end ≤ 67 * c.loop-step.step-index =
-    end_bound c.args.config.now c.requires.run.0 c.loop-step.step-index c.loop-step.window.latest
-    c.keeps_limits.ensures (omega arith) shown.kept in
-    record { branch = omega arith }
+    record { branch = omega (arith, (bounded_facts c.args.config.now c.requires.run.0 c.args.facts.now c.loop-step.step-index
+    c.keeps_limits.ensures c.requires.run.1 c.loop-step-test.true
+    (c.loop-step.invariant c.requires.run.0 c.requires.run.1).shown).branch) }
 
 pub taken_by-taken-requires : goal.taken_by-taken-requires
 taken_by-taken-requires g c =
-    let n : length c.args.facts.now ≡ length c.requires.run.0 =
-    length_facts c.requires.run.0 c.args.facts.now c.requires.run.1 in
-    let by : c.loop-step.window.latest.issued ≤ c.loop-step.step-index =
-    issued_bound c.args.config.now c.requires.run.0 c.loop-step.step-index c.loop-step.window.latest (omega arith)
-    (c.loop-step.invariant c.requires.run.0 c.requires.run.1).shown.kept in
-    record { few = omega arith }
+    record { few = omega (arith, (bounded_facts c.args.config.now c.requires.run.0 c.args.facts.now c.loop-step.step-index
+    c.keeps_limits.ensures c.requires.run.1 c.loop-step-test.true
+    (c.loop-step.invariant c.requires.run.0 c.requires.run.1).shown).issued) }
 
 pub note-requires-clause-needs : goal.note-requires-clause-needs
 note-requires-clause-needs g c =

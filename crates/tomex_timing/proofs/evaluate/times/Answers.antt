@@ -3,32 +3,26 @@ use Rattle.std.proofs.Common.{rules, ◌≡◌, ◌≤◌, ◌*◌, arith, sym}
 use Rattle.std.proofs.lemmas.Grind.{common_steps}
 use Rattle.tomex_timing.specs.Search.{times_in}
 use Rattle.tomex_timing.proofs.Histories.{are_timed, length-times_in, times_bound}
-use Rattle.tomex_timing.proofs.Shown.{settled_there, start_shown}
-use Rattle.tomex_timing.proofs.Turns.{can_keep, end_bound, held_turn, times_turn, turn_of}
+use Rattle.tomex_timing.proofs.Shown.{start_shown}
+use Rattle.tomex_timing.proofs.Turns.{bounded, can_keep, held_turn, times_turn, turn_of}
 use Rattle.tomex_timing.proofs.evaluate.times.Goals as goal
 
 pub loop-step-init : goal.loop-step-init
 loop-step-init g c = record {
-  shown = rw (
-    c.new-window.ensures.latest,
-    c.new-window.ensures.table,
-    c.new-window.ensures.stations,
-    c.new-window.ensures.accesses,
-  ) (start_shown c.args.config.now);
+  shown = start_shown c.args.config.now c.new-window.ensures.latest c.new-window.ensures.table
+      c.new-window.ensures.stations c.new-window.ensures.accesses;
   times = c.new-result.ensures.items;
 }
 
 pub next_step-requires-clause-settled : goal.next_step-requires-clause-settled
 next_step-requires-clause-settled g c =
-    settled_there c.args.config.now c.args.steps.now c.loop-step.step-index _ _ _ _ c.keeps_limits.ensures
-    c.loop-step.invariant.shown
+    (bounded c.args.config.now c.args.steps.now c.loop-step.step-index c.keeps_limits.ensures
+    (omega arith) c.loop-step.invariant.shown).settled
 
 pub next_step-requires-clause-small : goal.next_step-requires-clause-small
 next_step-requires-clause-small g c =
-    let by : c.loop-step.window.latest.end ≤ 67 * c.loop-step.step-index =
-    end_bound c.args.config.now c.args.steps.now c.loop-step.step-index c.loop-step.window.latest
-    c.keeps_limits.ensures (omega arith) c.loop-step.invariant.shown.kept in
-    omega arith
+    omega (arith, (bounded c.args.config.now c.args.steps.now c.loop-step.step-index c.keeps_limits.ensures
+    (omega arith) c.loop-step.invariant.shown).end)
 
 pub keep-requires : goal.keep-requires
 keep-requires g c =

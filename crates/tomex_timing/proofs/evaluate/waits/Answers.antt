@@ -2,33 +2,27 @@
 use Rattle.std.proofs.Common.{rules, ◌≡◌, ◌≤◌, ◌*◌, arith, sym}
 use Rattle.std.proofs.lemmas.Grind.{common_steps}
 use Rattle.tomex_timing.specs.Needs.{waits_in}
-use Rattle.tomex_timing.proofs.Shown.{settled_there, start_shown}
-use Rattle.tomex_timing.proofs.Turns.{can_keep, end_bound, held_turn, turn_of, waits_turn}
+use Rattle.tomex_timing.proofs.Shown.{start_shown}
+use Rattle.tomex_timing.proofs.Turns.{bounded, can_keep, held_turn, turn_of, waits_turn}
 use Rattle.tomex_timing.proofs.WaitLists.{length-waits_in, waits_in_within}
 use Rattle.tomex_timing.proofs.evaluate.waits.Goals as goal
 
 pub loop-step-init : goal.loop-step-init
 loop-step-init g c = record {
-  shown = rw (
-    c.new-window.ensures.latest,
-    c.new-window.ensures.table,
-    c.new-window.ensures.stations,
-    c.new-window.ensures.accesses,
-  ) (start_shown c.args.config.now);
+  shown = start_shown c.args.config.now c.new-window.ensures.latest c.new-window.ensures.table
+      c.new-window.ensures.stations c.new-window.ensures.accesses;
   waits = c.new-result.ensures.items;
 }
 
 pub next_step-next-requires-clause-settled : goal.next_step-next-requires-clause-settled
 next_step-next-requires-clause-settled g c =
-    settled_there c.args.config.now c.args.steps.now c.loop-step.step-index _ _ _ _ c.keeps_limits.ensures
-    c.loop-step.invariant.shown
+    (bounded c.args.config.now c.args.steps.now c.loop-step.step-index c.keeps_limits.ensures
+    (omega arith) c.loop-step.invariant.shown).settled
 
 pub next_step-next-requires-clause-small : goal.next_step-next-requires-clause-small
 next_step-next-requires-clause-small g c =
-    let by : c.loop-step.window.latest.end ≤ 67 * c.loop-step.step-index =
-    end_bound c.args.config.now c.args.steps.now c.loop-step.step-index c.loop-step.window.latest
-    c.keeps_limits.ensures (omega arith) c.loop-step.invariant.shown.kept in
-    omega arith
+    omega (arith, (bounded c.args.config.now c.args.steps.now c.loop-step.step-index c.keeps_limits.ensures
+    (omega arith) c.loop-step.invariant.shown).end)
 
 pub keep-requires : goal.keep-requires
 keep-requires g c =
@@ -50,13 +44,8 @@ loop-step-preserved g c =
 
 pub waits_of-waits-requires : goal.waits_of-waits-requires
 waits_of-waits-requires g c =
-    let s = settled_there c.args.config.now c.args.steps.now c.loop-step.step-index _ _ _ _ c.keeps_limits.ensures
-    c.loop-step.invariant.shown in
-    let b : c.loop-step.window.latest.branch ≤ c.loop-step.window.latest.end = s.branch in
-    let by : c.loop-step.window.latest.end ≤ 67 * c.loop-step.step-index =
-    end_bound c.args.config.now c.args.steps.now c.loop-step.step-index c.loop-step.window.latest
-    c.keeps_limits.ensures (omega arith) c.loop-step.invariant.shown.kept in
-    record { branch = omega arith }
+    record { branch = omega (arith, (bounded c.args.config.now c.args.steps.now c.loop-step.step-index c.keeps_limits.ensures
+    (omega arith) c.loop-step.invariant.shown).branch) }
 
 pub returns-clause-pairs : goal.returns-clause-pairs
 returns-clause-pairs g c =
