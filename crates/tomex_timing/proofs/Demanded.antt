@@ -1,5 +1,5 @@
 -- One step more: what is counted of its demands is what its needs say of them.
-use Rattle.std.proofs.Common.{ℕ, ◌+◌, ◌*◌, ◌^◌, ◌<◌, ◌≤◌, ◌∙◌, ◌≡◌, [], length, ap, arith, refl, sym, Bool, true, false}
+use Rattle.std.proofs.Common.{ℕ, ◌+◌, ◌∙◌, ◌≡◌, [], ap, arith, refl, sym, Bool, true, false}
 use Rattle.std.proofs.Common.{List, Option, Some, None}
 use Rattle.std.proofs.Common.{map, take, zero, suc}
 use Rattle.std.specs.Prelude.{◌==◌, is_some, max, nat_lt, not, ◌||◌, slice_index_or}
@@ -12,7 +12,7 @@ use Rattle.tomex_rvdec.specs.declared.pool.PoolId.{PoolId}
 use Rattle.tomex_rvdec.specs.declared.pool.UnitId.{UnitId}
 use Rattle.tomex_steps.specs.declared.step.Step.{Step}
 use Rattle.tomex_steps.proofs.Fields.{bytes_of_memory}
-use Rattle.tomex_config.specs.Configuration.{Configuration, IsWithinLimits}
+use Rattle.tomex_config.specs.Configuration.{Configuration}
 use Rattle.tomex_reservations.specs.Reservations.{Reserved}
 use Rattle.tomex_timing.specs.declared.accesses.Access.{Access}
 use Rattle.tomex_timing.specs.declared.demands.Demands.{Demands}
@@ -39,7 +39,7 @@ use Rattle.tomex_timing.specs.Waiting.{taken_from, waits_by}
 use Rattle.tomex_timing.proofs.Needed.{needs_none}
 use Rattle.tomex_timing.proofs.Shown.{IsShown}
 use Rattle.tomex_timing.proofs.Turns.{IsTurn, held_turn, needs_turn}
-use Rattle.tomex_timing.specs.Window.{AreFacts, facts_of, is_memory_pool, latest_after}
+use Rattle.tomex_timing.specs.Window.{facts_of, is_memory_pool, latest_after}
 
 or_none : (b : Bool) → b ≡ (b || false)
 or_none true = refl

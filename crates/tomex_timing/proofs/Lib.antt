@@ -13,17 +13,13 @@ pub mod Histories
 pub mod Orders
 pub mod Holders
 pub mod Places
-pub mod Pigeons
 pub mod Taken
-pub mod InUse
 pub mod Telling
 pub mod Serving
 pub mod UnderWay
 pub mod Bools
 pub mod Splits
-pub mod Kept
 pub mod Bands
-pub mod IssueWaits
 pub mod Small
 pub mod Accounts
 pub mod Shown

@@ -1,6 +1,6 @@
 -- One step more: the needs that are counted stay those of the history.
-use Rattle.std.proofs.Common.{ℕ, suc, ◌+◌, ◌<◌, ◌≤◌, ◌≡◌, ◌∙◌, true, false, cond, arith, refl, ap, sym, inl, inr}
-use Rattle.std.proofs.Common.{List, [], ◌∷◌, Option, Some, None}
+use Rattle.std.proofs.Common.{ℕ, suc, ◌+◌, ◌<◌, ◌≤◌, ◌≡◌, ◌∙◌, true, false, cond, arith, refl, ap, sym, inl, inr, List}
+use Rattle.std.proofs.Common.{[], ◌∷◌, Option, Some, None}
 use Rattle.std.specs.Prelude.{◌==◌, ◌&&◌, count_by, is_some, length, slice_index_or, slice_set}
 use Rattle.std.proofs.lemmas.Bool.{cases_Bool, eqb-true, both_ways, eq-eqb}
 use Rattle.std.proofs.lemmas.List.{get_or-set_same, get_or-set_other, get_or-replicate, length-set}
@@ -28,7 +28,7 @@ use Rattle.tomex_timing.specs.Laws.{InReach}
 use Rattle.tomex_timing.specs.Recurrence.{IsTimed}
 use Rattle.tomex_timing.specs.Waiting.{need_after, needs_after, nothing_needed, stations_after, taken_from, units_after}
 use Rattle.tomex_timing.specs.Window.{facts_of}
-use Rattle.tomex_timing.proofs.Kept.{issued_kept}
+use Rattle.tomex_timing.proofs.Shown.{issued_kept}
 use Rattle.tomex_timing.proofs.Limits.{pool_in, unit_in}
 use Rattle.tomex_timing.proofs.NextTimed.{ComesNext, Runs}
 use Rattle.tomex_timing.proofs.Orders.{dest_unit, reach, start_later}

@@ -25,12 +25,11 @@ use Rattle.tomex_timing.specs.Search.{least}
 use Rattle.tomex_timing.specs.Station.{is_held, has_station, is_free}
 use Rattle.tomex_timing.specs.Waiting.{operands_from}
 use Rattle.tomex_timing.specs.Window.{facts_of, ready_from, register_of}
-use Rattle.tomex_timing.proofs.Kept.{source_agree}
+use Rattle.tomex_timing.proofs.Shown.{source_agree, IsShown}
 use Rattle.tomex_timing.proofs.Least.{first_from_le, least_agree}
 use Rattle.tomex_timing.proofs.Limits.{latency_low, stations_high}
-use Rattle.tomex_timing.proofs.Pigeons.{stations_fit}
+use Rattle.tomex_timing.proofs.Holders.{stations_fit}
 use Rattle.tomex_reservations.proofs.Searching.{first_here}
-use Rattle.tomex_timing.proofs.Shown.{IsShown}
 use Rattle.tomex_timing.proofs.Splits.{slot_from, slot_range, from_of, issue_split, ready_split, after_split}
 use Rattle.tomex_timing.proofs.Splits.{address_agree}
 use Rattle.tomex_timing.proofs.Stations.{number_is}

@@ -1,7 +1,7 @@
 -- A configuration that serves a history as another does gives it the same times.
 use Rattle.std.proofs.Common.{ℕ, zero, suc, ◌+◌, ◌-◌, ◌<◌, ◌≤◌, ◌≡◌, ◌∙◌, ◌⊎◌, Bool, true, false, arith, refl, ap, sym}
 use Rattle.std.proofs.Common.{inl, inr, List, [], ◌∷◌, Option, Some, None, max, map, reverse}
-use Rattle.std.specs.Prelude.{nat_lt, nat_le, ◌==◌, ◌&&◌, count_by, is_some, MatchOption}
+use Rattle.std.specs.Prelude.{nat_lt, ◌==◌, ◌&&◌, count_by, is_some, MatchOption}
 use Rattle.std.specs.Bool.{MatchBool}
 use Rattle.std.specs.List.{range_with_len}
 use Rattle.std.proofs.lemmas.Bool.{cases_Bool, cases_order, and_parts, and_from, and_left, both_ways, eq-eqb, le-ltb}
@@ -18,13 +18,13 @@ use Rattle.tomex_timing.specs.declared.times.Done.{Done}
 use Rattle.tomex_timing.specs.History.{is_of, cycle_of, last_issue}
 use Rattle.tomex_timing.specs.Needs.{count_of, cycles_that, lacks_width, lacks_station, lacks_unit, waits_of, stalls}
 use Rattle.tomex_timing.specs.Needs.{peak, Serves}
-use Rattle.tomex_timing.specs.Recurrence.{IsLeast, IsTimed, AreTimed, can_issue_another}
-use Rattle.tomex_timing.specs.Recurrence.{are_branches_finished, can_issue, has_operands, are_conflicts_finished}
-use Rattle.tomex_timing.specs.Recurrence.{has_unit, can_start, has_bus, can_end}
+use Rattle.tomex_timing.specs.Recurrence.{IsLeast, IsTimed, AreTimed, can_issue_another, are_branches_finished}
+use Rattle.tomex_timing.specs.Recurrence.{can_issue, has_operands, are_conflicts_finished, has_unit, can_start, has_bus}
+use Rattle.tomex_timing.specs.Recurrence.{can_end}
 use Rattle.tomex_timing.specs.Search.{history, timed_of, times_in, total_of}
 use Rattle.tomex_timing.specs.Station.{has_station, is_held, is_free}
 use Rattle.tomex_timing.proofs.Histories.{are_timed}
-use Rattle.tomex_timing.proofs.Pigeons.{stations_fit}
+use Rattle.tomex_timing.proofs.Holders.{stations_fit}
 use Rattle.tomex_timing.proofs.Bound.{end_low}
 use Rattle.tomex_timing.proofs.Least.{least_agree}
 use Rattle.tomex_timing.proofs.Search.{timed_of-same}

@@ -1,11 +1,11 @@
 -- One step more: what is held then shows the longer history.
-use Rattle.std.proofs.Common.{ℕ, ◌<◌, ◌≤◌, ◌≡◌, ◌≢◌, ◌∙◌, Bool, true, false, arith, refl, inl, inr, List, []}
-use Rattle.std.proofs.Common.{◌∷◌, ◌++◌, Option, Some, None, length, max}
+use Rattle.std.proofs.Common.{ℕ, ◌<◌, ◌≤◌, ◌≡◌, ◌≢◌, ◌∙◌, Bool, true, false, arith, refl, inl, inr, List, [], ◌∷◌, ◌++◌}
+use Rattle.std.proofs.Common.{Option, Some, None, length, max}
 use Rattle.std.specs.Prelude.{nat_lt, nat_le, ◌==◌, not, ◌&&◌, is_some, slice_set, MatchOption}
 use Rattle.std.specs.Option.{ForSome}
 use Rattle.std.specs.List.{filter, list_all, AllByRecursion}
-use Rattle.std.proofs.lemmas.Bool.{and_right, cases_Bool, and_parts, eq-eqb, eqb-true, lt-ltb, le-ltb}
-use Rattle.std.proofs.lemmas.Bool.{leb-false, leb-true, or_right}
+use Rattle.std.proofs.lemmas.Bool.{and_right, cases_Bool, and_parts, eq-eqb, eqb-true, lt-ltb, le-ltb, leb-false}
+use Rattle.std.proofs.lemmas.Bool.{leb-true, or_right}
 use Rattle.std.proofs.lemmas.List.{get_or-set_same, get_or-set_other, length-set}
 use Rattle.std.proofs.lemmas.List.Folds.{list_all-append}
 use Rattle.std.proofs.lemmas.List.Sums.{sum_by-cons}
@@ -30,11 +30,10 @@ use Rattle.tomex_timing.specs.Recurrence.{IsTimed, are_conflicts_finished}
 use Rattle.tomex_timing.specs.Station.{is_free}
 use Rattle.tomex_timing.specs.Window.{facts_of, latest_after}
 use Rattle.tomex_timing.proofs.Bools.{and_assoc, and_swap, and_true}
-use Rattle.tomex_timing.proofs.Kept.{kept_on}
+use Rattle.tomex_timing.proofs.Shown.{kept_on, IsShown}
 use Rattle.tomex_timing.proofs.Limits.{pool_in, stations_high}
 use Rattle.tomex_timing.proofs.NextTimed.{ComesNext}
 use Rattle.tomex_timing.proofs.Orders.{dest_unit, reach}
-use Rattle.tomex_timing.proofs.Shown.{IsShown}
 use Rattle.tomex_timing.proofs.Width.{issue_from}
 
 -- the stations: the step takes one that had ended

@@ -1,17 +1,17 @@
 -- A step passes a test of the recurrence in a cycle just if what the test says holds.
-use Rattle.std.proofs.Common.{ℕ, ◌<◌, ◌≤◌, ◌≡◌, Bool, true, false, IsTrue, refl, inl, inr, List, [], ◌∷◌, Option, Some}
+use Rattle.std.proofs.Common.{ℕ, ◌<◌, ◌≡◌, Bool, true, IsTrue, refl, inl, inr, List, [], ◌∷◌, Option, Some}
 use Rattle.std.proofs.Common.{None}
-use Rattle.std.specs.Prelude.{nat_lt, nat_le, not, ◌==◌, ◌&&◌, ◌||◌, All, IfSome, count_by, is_some}
+use Rattle.std.specs.Prelude.{nat_lt, nat_le, not, ◌||◌, IfSome, count_by}
 use Rattle.std.specs.List.{list_all, AllByRecursion}
 use Rattle.std.proofs.lemmas.Bool.{and_from, and_parts, cases_Bool, le-leb, leb-true, lt-ltb, ltb-true, or_left, or_right}
 use Rattle.std.proofs.lemmas.List.Elements.{All-from_recursion, recursion_from_All}
 use Rattle.tomex_rvdec.specs.declared.pool.PoolId.{PoolId}
 use Rattle.tomex_rvdec.specs.declared.pool.UnitId.{UnitId}
-use Rattle.tomex_steps.specs.Steps.{step_pool, step_unit, step_dest, j_of, k_of, is_branch}
+use Rattle.tomex_steps.specs.Steps.{step_pool, j_of, k_of, is_branch}
 use Rattle.tomex_steps.specs.declared.step.Step.{Step}
-use Rattle.tomex_config.specs.Configuration.{Configuration, stations_of, option_of}
+use Rattle.tomex_config.specs.Configuration.{Configuration, stations_of}
 use Rattle.tomex_timing.specs.declared.times.Done.{Done}
-use Rattle.tomex_timing.specs.History.{is_of, source_end, last_issue, last_address}
+use Rattle.tomex_timing.specs.History.{source_end, last_issue, last_address}
 use Rattle.tomex_timing.specs.Recurrence.{are_branches_finished, are_conflicts_finished, can_address, can_end, can_issue}
 use Rattle.tomex_timing.specs.Recurrence.{can_issue_another, can_start, conflicts, has_bus, has_operands, has_unit}
 use Rattle.tomex_timing.specs.Station.{has_station, is_held}

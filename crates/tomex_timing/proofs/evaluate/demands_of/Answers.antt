@@ -22,15 +22,21 @@ ask_operation-requires-clause-settled g c =
 
 pub ask_operation-requires-clause-small : goal.ask_operation-requires-clause-small
 ask_operation-requires-clause-small g c =
-    omega (arith, (bounded_facts c.args.config.now c.requires.run.0 c.args.facts.now c.loop-step.step-index
-    c.keeps_limits.ensures c.requires.run.1 c.loop-step-test.true
-    (c.loop-step.invariant c.requires.run.0 c.requires.run.1).shown).end)
+    omega (
+      arith,
+      (bounded_facts c.args.config.now c.requires.run.0 c.args.facts.now c.loop-step.step-index
+          c.keeps_limits.ensures c.requires.run.1 c.loop-step-test.true
+          (c.loop-step.invariant c.requires.run.0 c.requires.run.1).shown).end,
+    )
 
 pub ask_operation-requires-clause-few : goal.ask_operation-requires-clause-few
 ask_operation-requires-clause-few g c =
-    omega (arith, (bounded_facts c.args.config.now c.requires.run.0 c.args.facts.now c.loop-step.step-index
-    c.keeps_limits.ensures c.requires.run.1 c.loop-step-test.true
-    (c.loop-step.invariant c.requires.run.0 c.requires.run.1).shown).issued)
+    omega (
+      arith,
+      (bounded_facts c.args.config.now c.requires.run.0 c.args.facts.now c.loop-step.step-index
+          c.keeps_limits.ensures c.requires.run.1 c.loop-step-test.true
+          (c.loop-step.invariant c.requires.run.0 c.requires.run.1).shown).issued,
+    )
 
 pub ask_operation-requires-clause-memory : goal.ask_operation-requires-clause-memory
 ask_operation-requires-clause-memory g c =
@@ -46,15 +52,21 @@ ask_rest-requires-clause-settled g c =
 
 pub ask_rest-requires-clause-small : goal.ask_rest-requires-clause-small
 ask_rest-requires-clause-small g c =
-    omega (arith, (bounded_facts c.args.config.now c.requires.run.0 c.args.facts.now c.loop-step.step-index
-    c.keeps_limits.ensures c.requires.run.1 c.loop-step-test.true
-    (c.loop-step.invariant c.requires.run.0 c.requires.run.1).shown).end)
+    omega (
+      arith,
+      (bounded_facts c.args.config.now c.requires.run.0 c.args.facts.now c.loop-step.step-index
+          c.keeps_limits.ensures c.requires.run.1 c.loop-step-test.true
+          (c.loop-step.invariant c.requires.run.0 c.requires.run.1).shown).end,
+    )
 
 pub ask_rest-requires-clause-few : goal.ask_rest-requires-clause-few
 ask_rest-requires-clause-few g c =
-    omega (arith, (bounded_facts c.args.config.now c.requires.run.0 c.args.facts.now c.loop-step.step-index
-    c.keeps_limits.ensures c.requires.run.1 c.loop-step-test.true
-    (c.loop-step.invariant c.requires.run.0 c.requires.run.1).shown).issued)
+    omega (
+      arith,
+      (bounded_facts c.args.config.now c.requires.run.0 c.args.facts.now c.loop-step.step-index
+          c.keeps_limits.ensures c.requires.run.1 c.loop-step-test.true
+          (c.loop-step.invariant c.requires.run.0 c.requires.run.1).shown).issued,
+    )
 
 pub ask_rest-requires-clause-keeps : goal.ask_rest-requires-clause-keeps
 ask_rest-requires-clause-keeps g c =

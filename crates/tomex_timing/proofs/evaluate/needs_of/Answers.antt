@@ -1,5 +1,5 @@
 -- Each turn of the loop keeps what is held, and adds the step's needs.
-use Rattle.std.proofs.Common.{◌≡◌, ◌≤◌, ◌*◌, length, arith}
+use Rattle.std.proofs.Common.{◌≡◌, length, arith}
 use Rattle.tomex_timing.proofs.Facts.{bounded_facts, length_facts, step_of}
 use Rattle.tomex_timing.proofs.Needed.{needs_none}
 use Rattle.tomex_timing.proofs.Shown.{start_shown}
@@ -25,21 +25,34 @@ next_step-next-requires-clause-settled g c =
 
 pub next_step-next-requires-clause-small : goal.next_step-next-requires-clause-small
 next_step-next-requires-clause-small g c =
-    omega (arith, (bounded_facts c.args.config.now c.requires.run.0 c.args.facts.now c.loop-step.step-index
-    c.keeps_limits.ensures c.requires.run.1 c.loop-step-test.true
-    (c.loop-step.invariant c.requires.run.0 c.requires.run.1).shown).end)
+    omega (
+      arith,
+      (bounded_facts c.args.config.now c.requires.run.0 c.args.facts.now c.loop-step.step-index
+          c.keeps_limits.ensures c.requires.run.1 c.loop-step-test.true
+          (c.loop-step.invariant c.requires.run.0 c.requires.run.1).shown).end,
+    )
 
 pub waits_of-waits-requires : goal.waits_of-waits-requires
 waits_of-waits-requires g c =
-    record { branch = omega (arith, (bounded_facts c.args.config.now c.requires.run.0 c.args.facts.now c.loop-step.step-index
-    c.keeps_limits.ensures c.requires.run.1 c.loop-step-test.true
-    (c.loop-step.invariant c.requires.run.0 c.requires.run.1).shown).branch) }
+    record {
+      branch = omega (
+        arith,
+        (bounded_facts c.args.config.now c.requires.run.0 c.args.facts.now c.loop-step.step-index
+            c.keeps_limits.ensures c.requires.run.1 c.loop-step-test.true
+            (c.loop-step.invariant c.requires.run.0 c.requires.run.1).shown).branch,
+      );
+    }
 
 pub taken_by-taken-requires : goal.taken_by-taken-requires
 taken_by-taken-requires g c =
-    record { few = omega (arith, (bounded_facts c.args.config.now c.requires.run.0 c.args.facts.now c.loop-step.step-index
-    c.keeps_limits.ensures c.requires.run.1 c.loop-step-test.true
-    (c.loop-step.invariant c.requires.run.0 c.requires.run.1).shown).issued) }
+    record {
+      few = omega (
+        arith,
+        (bounded_facts c.args.config.now c.requires.run.0 c.args.facts.now c.loop-step.step-index
+            c.keeps_limits.ensures c.requires.run.1 c.loop-step-test.true
+            (c.loop-step.invariant c.requires.run.0 c.requires.run.1).shown).issued,
+      );
+    }
 
 pub note-requires-clause-needs : goal.note-requires-clause-needs
 note-requires-clause-needs g c =

@@ -1,5 +1,5 @@
 -- Each turn of the loop keeps what is held, and adds the step's times.
-use Rattle.std.proofs.Common.{rules, ◌≡◌, ◌≤◌, ◌*◌, arith, sym}
+use Rattle.std.proofs.Common.{rules, ◌≡◌, arith, sym}
 use Rattle.std.proofs.lemmas.Grind.{common_steps}
 use Rattle.tomex_timing.specs.Search.{times_in}
 use Rattle.tomex_timing.proofs.Histories.{are_timed, length-times_in, times_bound}
@@ -21,8 +21,11 @@ next_step-requires-clause-settled g c =
 
 pub next_step-requires-clause-small : goal.next_step-requires-clause-small
 next_step-requires-clause-small g c =
-    omega (arith, (bounded c.args.config.now c.args.steps.now c.loop-step.step-index c.keeps_limits.ensures
-    (omega arith) c.loop-step.invariant.shown).end)
+    omega (
+      arith,
+      (bounded c.args.config.now c.args.steps.now c.loop-step.step-index c.keeps_limits.ensures
+          (omega arith) c.loop-step.invariant.shown).end,
+    )
 
 pub keep-requires : goal.keep-requires
 keep-requires g c =

@@ -1,5 +1,5 @@
 -- Each turn of the loop keeps what is held, and adds the step's waits.
-use Rattle.std.proofs.Common.{rules, ◌≡◌, ◌≤◌, ◌*◌, arith, sym}
+use Rattle.std.proofs.Common.{rules, ◌≡◌, arith, sym}
 use Rattle.std.proofs.lemmas.Grind.{common_steps}
 use Rattle.tomex_timing.specs.Needs.{waits_in}
 use Rattle.tomex_timing.proofs.Shown.{start_shown}
@@ -21,8 +21,11 @@ next_step-next-requires-clause-settled g c =
 
 pub next_step-next-requires-clause-small : goal.next_step-next-requires-clause-small
 next_step-next-requires-clause-small g c =
-    omega (arith, (bounded c.args.config.now c.args.steps.now c.loop-step.step-index c.keeps_limits.ensures
-    (omega arith) c.loop-step.invariant.shown).end)
+    omega (
+      arith,
+      (bounded c.args.config.now c.args.steps.now c.loop-step.step-index c.keeps_limits.ensures
+          (omega arith) c.loop-step.invariant.shown).end,
+    )
 
 pub keep-requires : goal.keep-requires
 keep-requires g c =
@@ -44,8 +47,13 @@ loop-step-preserved g c =
 
 pub waits_of-waits-requires : goal.waits_of-waits-requires
 waits_of-waits-requires g c =
-    record { branch = omega (arith, (bounded c.args.config.now c.args.steps.now c.loop-step.step-index c.keeps_limits.ensures
-    (omega arith) c.loop-step.invariant.shown).branch) }
+    record {
+      branch = omega (
+        arith,
+        (bounded c.args.config.now c.args.steps.now c.loop-step.step-index c.keeps_limits.ensures
+            (omega arith) c.loop-step.invariant.shown).branch,
+      );
+    }
 
 pub returns-clause-pairs : goal.returns-clause-pairs
 returns-clause-pairs g c =
