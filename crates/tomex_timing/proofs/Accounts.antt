@@ -26,9 +26,7 @@ use Rattle.tomex_timing.proofs.Bound.{end_low, issue_low, start_low, timed_by}
 use Rattle.tomex_timing.proofs.Limits.{latency_low}
 use Rattle.tomex_timing.proofs.Settled.{last_issue_by}
 use Rattle.tomex_timing.proofs.Width.{issue_from}
-
-abbrev one : Bool → ℕ
-one b = cond b 1 0
+use Rattle.tomex_timing.proofs.Stations.{one}
 
 -- tests of which each cycle passes one count all of them
 three_ways : (p q r : ℕ → Bool) (n a : ℕ) → ((t : ℕ) → one (p t) + one (q t) + one (r t) ≡ 1)

@@ -5,12 +5,10 @@ use Rattle.std.specs.List.{range_with_len}
 use Rattle.std.proofs.lemmas.Bool.{cases_Bool, cases_lt, le-leb, leb-true, leb-false}
 use Rattle.std.proofs.lemmas.List.Sums.{sum_by-cons}
 use Rattle.tomex_timing.specs.Needs.{cycles_that}
+use Rattle.tomex_timing.proofs.Stations.{one}
 
 abbrev pub is_in_band : ℕ → ℕ → ℕ → Bool
 is_in_band a b t = nat_le a t && not (nat_le b t)
-
-abbrev one : Bool → ℕ
-one b = cond b 1 0
 
 one_step : (a b t n : ℕ) → one (is_in_band a b t) + (min b (t + 1 + n) - max a (t + 1)) ≡ min b (t + suc n) - max a t
 one_step a b t n = elim (cases_Bool (nat_le a t)) [

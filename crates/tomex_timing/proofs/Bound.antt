@@ -65,6 +65,19 @@ end_reach config older s finish end g good h f is = elim (cases_Bool (is_some (s
       (omega arith, omega arith)
 ]
 
+reach_made : (g : ℕ) (at : Times) → 0 < at.issue → at.issue ≤ g + 1 → cycle_of at.address ≤ at.start
+    → at.issue ≤ at.start → at.start ≤ at.finish → at.finish ≤ at.end → at.end ≤ g + 67 → InReach g at
+reach_made g at low reach address start order finish end = record {
+  issue_low = low;
+  issue = omega arith;
+  issue_reach = reach;
+  address = omega arith;
+  start = omega arith;
+  finish = finish;
+  end = end;
+  order = order;
+}
+
 in_reach_from : (config : Configuration) (older : List Done) (s : Step) (at : Times) (g : ℕ) (unit : Option UnitId)
     → IsWithinLimits config → AllBy g older → (is_memory s ≡ true → is_some unit ≡ true)
     → IsLeast (can_issue config older s) at.issue
@@ -84,16 +97,7 @@ in_reach_from config older s at g None good h memory issue address i a start fin
           MatchBool-at_false (IsLeast (can_address older s at.issue) (cycle_of at.address)) _ e address in rw z refl
     ] in
     let low : 0 < at.issue = issue_low config older s at.issue issue.0 in
-    record {
-      issue_low = low;
-      issue = omega arith;
-      issue_reach = i;
-      address = omega arith;
-      start = omega arith;
-      finish = omega arith;
-      end = omega arith;
-      order = omega arith;
-    }
+    reach_made g at low i (omega arith) (omega arith) (omega arith) (omega arith) (omega arith)
 in_reach_from config older s at g (Some u) good h memory issue address i a start finish end =
     let low : 0 < at.issue = issue_low config older s at.issue issue.0 in
     let after = start_low config older s u at.issue (cycle_of at.address) at.start start.0 in
@@ -103,16 +107,7 @@ in_reach_from config older s at g (Some u) good h memory issue address i a start
     let k : (option_of config u).latency ≤ 64 = latency_high config u good in
     let fin : at.finish ≡ at.start + (option_of config u).latency - 1 = finish in
     let ends = end_reach config older s at.finish at.end g good h (omega arith) end in
-    record {
-      issue_low = low;
-      issue = omega arith;
-      issue_reach = i;
-      address = omega arith;
-      start = omega arith;
-      finish = omega arith;
-      end = omega arith;
-      order = omega arith;
-    }
+    reach_made g at low i (omega arith) (omega arith) (omega arith) (omega arith) (omega arith)
 
 pub in_reach : (config : Configuration) (older : List Done) (s : Step) (at : Times) (g : ℕ) → IsWithinLimits config
     → AllBy g older → IsTimed config older s at → InReach g at

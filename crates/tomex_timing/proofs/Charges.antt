@@ -107,19 +107,13 @@ station_waits config h d good timed l =
     band (lacks_station config h) (from_of config h) d.at.issue (low_of h) d.at.issue (omega arith) (omega arith)
     (omega arith) (λ t a b. at_cycle t a b)
   where
-    swap : (x y : Bool) → (x && y) ≡ ((y && x) && true)
-    swap true true = refl
-    swap true false = refl
-    swap false true = refl
-    swap false false = refl
-
     at_cycle : (t : ℕ) → low_of h ≤ t → t < d.at.issue
         → lacks_station config h t ≡ is_in_band (from_of config h) d.at.issue t
     at_cycle t a b =
         let m : nat_le (from_of config h) t ≡ (nat_le (slot_from config h) t && nat_le (branch_finish h + 1) t) =
         max_split (slot_from config h) (branch_finish h + 1) t in
         rw (branches_at h t a, ← slot_split config h t good timed, m, lt-leb d.at.issue t b)
-        (swap (nat_le (branch_finish h + 1) t) (nat_le (slot_from config h) t))
+        (and_swap (nat_le (branch_finish h + 1) t) (nat_le (slot_from config h) t) ∙ and_true _)
 
 module _ (h : List Done) (d : Done) where
   -- the first cycles in which the operands are there, the address too, and no older access in the way

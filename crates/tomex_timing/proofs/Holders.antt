@@ -28,6 +28,7 @@ use Rattle.tomex_timing.specs.History.{last_issue}
 use Rattle.tomex_timing.specs.Needs.{peak, stations_up_to}
 use Rattle.tomex_timing.proofs.Places.{same_pool}
 use Rattle.tomex_timing.proofs.Width.{issue_from}
+use Rattle.tomex_timing.proofs.Bools.{and_true}
 
 -- the number is the least free one
 number_least : (older : List Done) (station : Option ℕ) (issue n : ℕ) (p q : PoolId) → q ≡ p → station ≡ Some n
@@ -188,13 +189,9 @@ held_low pool (Some p) station m b R is l = elim (cases_Bool (place_of_pool p ==
   | inl e ↦
       let up : stations_up_to station ≤ m = rw e at l in
       let up_n : is.0 + 1 ≤ m = rw is.1 at up in
-      rw (e, is.1, lt-ltb is.0 m (omega arith)) (both b)
+      rw (e, is.1, lt-ltb is.0 m (omega arith)) (and_true b)
   | inr e ↦ rw e refl
 ]
-  where
-    both : (b : Bool) → b ≡ (b && true)
-    both true = refl
-    both false = refl
 
 all_low : (config : Configuration) (h : List Done) (pool : PoolId) (t m : ℕ) → AreTimed config h
     → peak (Stations pool) h ≤ m → count_by (is_held pool t) h

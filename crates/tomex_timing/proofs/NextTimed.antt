@@ -4,7 +4,7 @@ use Rattle.std.proofs.Common.{List, Option, Some, None, max}
 use Rattle.std.specs.Prelude.{nat_lt, nat_le, ◌&&◌, is_some, count_by, MatchOption}
 use Rattle.std.specs.Bool.{MatchBool}
 use Rattle.std.specs.Option.{ForSome}
-use Rattle.std.proofs.lemmas.Bool.{cases_Bool, and_from, and_parts, le-leb, lt-ltb, le-ltb, leb-true, ltb-true}
+use Rattle.std.proofs.lemmas.Bool.{cases_Bool, false_from_ne_true, and_from, and_parts, le-leb, lt-ltb, le-ltb, leb-true, ltb-true}
 use Rattle.tomex_rvdec.specs.Parts.{place_of_unit}
 use Rattle.tomex_rvdec.specs.declared.pool.PoolId.{PoolId}
 use Rattle.tomex_rvdec.specs.declared.pool.UnitId.{UnitId}
@@ -46,90 +46,17 @@ pub record ComesNext (config : Configuration) (h : List Done) (latest : Latest) 
   pub k : ForSome (k_of s) (λ o. o.register < 32)
   pub by : IsNextBy config latest table taken accesses (facts_of s) next
 
--- The issue: the station that is free first. Then one of the pool's is left, and before that none is.
-
-some_left : (config : Configuration) (h : List Done) (taken : List ℕ) (p : PoolId) (from issue n : ℕ)
-    → IsWithinLimits config → AreTimed config h
-    → ((pool : PoolId) (t n : ℕ) → 0 < t → n < 16 → is_free pool h t n ≡ nat_lt (end_at taken pool n) t)
-    → last_issue h ≤ from → 0 < from → IsFreeFirst taken p (stations_of config p) from issue n
-    → has_station config h (Some p) issue ≡ true
-some_left config h taken p from issue n good timed shown late pos first =
-    let high : stations_of config p ≤ 16 = stations_high config p good in
-    let begun : from ≤ issue = first.begun in
-    let there : n < stations_of config p = first.there in
-    let free : is_free p h issue n ≡ true = shown p issue n (omega arith) (omega arith)
-    ∙ lt-ltb (end_at taken p n) issue first.free in
-    lt-ltb (count_by (is_held p issue) h) (stations_of config p)
-    (stations_fit config h p issue n (stations_of config p) timed (omega arith) free first.there
-    (peak_within config h (Stations p) timed))
-
-none_left : (config : Configuration) (h : List Done) (taken : List ℕ) (p : PoolId) (from issue n s : ℕ)
-    → IsWithinLimits config → ((pool : PoolId) (t n : ℕ) → 0 < t → n < 16
-    → is_free pool h t n ≡ nat_lt (end_at taken pool n) t)
-    → 0 < from → IsFreeFirst taken p (stations_of config p) from issue n → from ≤ s → s < issue
-    → has_station config h (Some p) s ≡ false
-none_left config h taken p from issue n s good shown pos first l m = elim
-    (cases_Bool (has_station config h (Some p) s)) [
-      | inl y ↦
-          let k : ℕ = least (is_free p h s) (stations_of config p) in
-          let is = number_is config h p s y in
-          let high : stations_of config p ≤ 16 = stations_high config p good in
-          let low : least (is_free p h s) (stations_of config p) < stations_of config p = is.1 in
-          let free : nat_lt (end_at taken p (least (is_free p h s) (stations_of config p))) s ≡ true =
-          sym (shown p s (least (is_free p h s) (stations_of config p)) (omega arith) (omega arith)) ∙ is.0.0 in
-          let ended : end_at taken p (least (is_free p h s) (stations_of config p)) < s = ltb-true _ _ free in
-          let held : s ≤ end_at taken p (least (is_free p h s) (stations_of config p)) =
-          first.none (least (is_free p h s) (stations_of config p)) s low l m in
-          absurd (omega arith)
-      | inr n ↦ n
-    ]
-
 -- the issue and the station of a step of this pool
 record HasIssue (config : Configuration) (h : List Done) (pool : Option PoolId) (from issue : ℕ)
     (station : Option ℕ) : Type 0 where
   first : IsLeast (λ t. nat_le from t && has_station config h pool t) issue
   takes : MatchOption pool (station ≡ None) (λ p. (n : ℕ) × (station ≡ Some n) × IsLeast (is_free p h issue) n)
 
-has_issue : (config : Configuration) (h : List Done) (taken : List ℕ) (pool : Option PoolId) (from issue : ℕ)
-    (station : Option ℕ) → IsWithinLimits config → AreTimed config h
-    → ((pool : PoolId) (t n : ℕ) → 0 < t → n < 16 → is_free pool h t n ≡ nat_lt (end_at taken pool n) t)
-    → last_issue h ≤ from → 0 < from → TakesStation config taken pool from issue station
-    → HasIssue config h pool from issue station
-has_issue config h taken None from issue station good timed shown late pos takes = record {
-  first = rw takes.0 (first_here (λ t. true) from refl);
-  takes = takes.1;
-}
-has_issue config h taken (Some p) from issue station good timed shown late pos takes =
-    let first : IsFreeFirst taken p (stations_of config p) from issue takes.0 = takes.2 in
-    let begun : from ≤ issue = first.begun in
-    let high : stations_of config p ≤ 16 = stations_high config p good in
-    let there : takes.0 < stations_of config p = first.there in
-    record {
-      first = (
-        and_from (nat_le from issue) _ (le-leb from issue begun)
-            (some_left config h taken p from issue takes.0 good timed shown late pos first),
-        λ s l. elim (cases_Bool (nat_le from s)) [
-          | inl e ↦ rw e (none_left config h taken p from issue takes.0 s good shown pos first (leb-true from s e) l)
-          | inr e ↦ rw e refl
-        ],
-      );
-      takes = (
-        takes.0,
-        takes.1,
-        (
-          shown p issue takes.0 (omega arith) (omega arith) ∙ lt-ltb (end_at taken p takes.0) issue first.free,
-          λ k l. shown p issue k (omega arith) (omega arith) ∙ le-ltb (end_at taken p k) issue (first.least k l),
-        ),
-      );
-    }
-
 address_part : (memory : Bool) (h : List Done) (s : Step) (issue : ℕ) (a : Option ℕ)
     → a ≡ cond memory (Some (max (max issue (source_end h (j_of s))) (last_address h) + 1)) None
     → MatchBool memory (IsLeast (can_address h s issue) (cycle_of a)) (a ≡ None)
 address_part true h s issue a e = rw e (address_agree h s issue)
 address_part false h s issue a e = e
-
--- The start and the end.
 
 -- the marks of an operation, by the history
 pub record HasMarks (h : List Done) (s : Step) (next : Next) : Type 0 where
@@ -151,6 +78,59 @@ record HasRun (config : Configuration) (h : List Done) (s : Step) (unit : Option
 
 module _ {config : Configuration} {h : List Done} {latest : Latest} {table : Reserved} {taken : List ℕ}
     {accesses : List Access} {s : Step} {next : Next} (c : ComesNext config h latest table taken accesses s next) where
+  -- the station that is free first: then one of the pool's is left, and before that none is
+  some_left : (p : PoolId) (from issue n : ℕ) → last_issue h ≤ from → 0 < from
+      → IsFreeFirst taken p (stations_of config p) from issue n → has_station config h (Some p) issue ≡ true
+  some_left p from issue n late pos first =
+      let high : stations_of config p ≤ 16 = stations_high config p c.good in
+      let begun : from ≤ issue = first.begun in
+      let there : n < stations_of config p = first.there in
+      let free : is_free p h issue n ≡ true = c.shown.stations p issue n (omega arith) (omega arith)
+      ∙ lt-ltb (end_at taken p n) issue first.free in
+      lt-ltb (count_by (is_held p issue) h) (stations_of config p)
+      (stations_fit config h p issue n (stations_of config p) c.timed (omega arith) free first.there
+      (peak_within config h (Stations p) c.timed))
+
+  none_left : (p : PoolId) (from issue n t : ℕ) → 0 < from → IsFreeFirst taken p (stations_of config p) from issue n
+      → from ≤ t → t < issue → has_station config h (Some p) t ≡ false
+  none_left p from issue n t pos first l m = false_from_ne_true (has_station config h (Some p) t) (λ left.
+      let is = number_is config h p t left in
+      let high : stations_of config p ≤ 16 = stations_high config p c.good in
+      let low : least (is_free p h t) (stations_of config p) < stations_of config p = is.1 in
+      let ended = ltb-true _ _ (sym (c.shown.stations p t (least (is_free p h t) (stations_of config p)) (omega arith)
+      (omega arith)) ∙ is.0.0) in
+      let held = first.none (least (is_free p h t) (stations_of config p)) t low l m in
+      omega arith)
+
+  has_issue : (pool : Option PoolId) (from issue : ℕ) (station : Option ℕ) → last_issue h ≤ from → 0 < from
+      → TakesStation config taken pool from issue station → HasIssue config h pool from issue station
+  has_issue None from issue station late pos takes =
+      record { first = rw takes.0 (first_here (λ t. true) from refl); takes = takes.1 }
+  has_issue (Some p) from issue station late pos takes =
+      let first : IsFreeFirst taken p (stations_of config p) from issue takes.0 = takes.2 in
+      let begun : from ≤ issue = first.begun in
+      let high : stations_of config p ≤ 16 = stations_high config p c.good in
+      let there : takes.0 < stations_of config p = first.there in
+      record {
+        first = (
+          and_from (nat_le from issue) _ (le-leb from issue begun) (some_left p from issue takes.0 late pos first),
+          λ t l. elim (cases_Bool (nat_le from t)) [
+            | inl e ↦ rw e (none_left p from issue takes.0 t pos first (leb-true from t e) l)
+            | inr e ↦ rw e refl
+          ],
+        );
+        takes = (
+          takes.0,
+          takes.1,
+          (
+            c.shown.stations p issue takes.0 (omega arith) (omega arith)
+                ∙ lt-ltb (end_at taken p takes.0) issue first.free,
+            λ k l. c.shown.stations p issue k (omega arith) (omega arith)
+                ∙ le-ltb (end_at taken p k) issue (first.least k l),
+          ),
+        );
+      }
+
   -- how the operation that comes next runs, if it is one
   abbrev pub Runs : Option UnitId → Type 0
   Runs unit = MatchOption unit (IsIdle next)
@@ -233,8 +213,7 @@ module _ {config : Configuration} {h : List Done} {latest : Latest} {table : Res
       let from : next.marks.from ≡ from_of config h = from_is in
       let slot : last_issue h ≤ slot_from config h = (slot_range config h).0 in
       let issue : HasIssue config h (step_pool s) next.marks.from next.at.issue next.at.station =
-      has_issue config h taken (step_pool s) next.marks.from next.at.issue next.at.station c.good c.timed
-      c.shown.stations (omega arith) (omega arith) c.by.issue in
+      has_issue (step_pool s) next.marks.from next.at.issue next.at.station (omega arith) (omega arith) c.by.issue in
       let first : IsLeast (can_issue config h s) next.at.issue =
       least_agree (λ t. nat_le next.marks.from t && has_station config h (step_pool s) t) (can_issue config h s)
       next.at.issue (λ t. rw (from, issue_split config h t c.good c.timed) refl) issue.first in

@@ -1,6 +1,6 @@
 -- The tests of the recurrence, split by the first cycle in which each of their parts passes.
 use Rattle.std.proofs.Common.{ℕ, ◌+◌, ◌<◌, ◌≤◌, ◌≡◌, ◌∙◌, Bool, true, false, cond, arith, refl, List, [], ◌∷◌}
-use Rattle.std.proofs.Common.{inl, inr, sym, max}
+use Rattle.std.proofs.Common.{add-one, inl, inr, sym, max}
 use Rattle.std.specs.Prelude.{nat_lt, nat_le, ◌==◌, ◌&&◌, count_by}
 use Rattle.std.proofs.lemmas.Bool.{cases_Bool, cases_order, ltb-true, leb-true, leb-false, lt-ltb}
 use Rattle.std.proofs.lemmas.Bool.{le-leb, lt-leb}
@@ -50,14 +50,7 @@ max_split a b t = elim (cases_Bool (nat_le a t)) [
 
 -- a cycle from the next one on is later
 pub after_split : (a t : ℕ) → nat_le (a + 1) t ≡ nat_lt a t
-after_split a t = elim (cases_Bool (nat_lt a t)) [
-  | inl e ↦ let l : a < t = ltb-true a t e in rw e (le-leb (a + 1) t (omega arith))
-  | inr e ↦ elim (cases_Bool (nat_le (a + 1) t)) [
-    | inl f ↦ let l : a + 1 ≤ t = leb-true (a + 1) t f in
-        absurd (let k : nat_lt a t ≡ true = lt-ltb a t (omega arith) in cc)
-    | inr f ↦ f ∙ sym e
-  ]
-]
+after_split a t = rw add-one refl
 
 -- the room for an issue is in the cycle of the last issue, where fewer than the width have it, and in each later one
 pub slot_split : (config : Configuration) (h : List Done) (t : ℕ) → IsWithinLimits config → AreTimed config h
