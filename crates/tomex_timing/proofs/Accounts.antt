@@ -29,20 +29,6 @@ use Rattle.tomex_timing.proofs.Width.{issue_from}
 use Rattle.tomex_timing.proofs.Stations.{one}
 
 -- tests of which each cycle passes one count all of them
-three_ways : (p q r : ℕ → Bool) (n a : ℕ) → ((t : ℕ) → one (p t) + one (q t) + one (r t) ≡ 1)
-    → count_by p (range_with_len a n) + count_by q (range_with_len a n) + count_by r (range_with_len a n) ≡ n
-three_ways p q r zero a each = refl
-three_ways p q r (suc n) a each =
-    let k = three_ways p q r n (a + 1) each in
-    let h : one (p a) + one (q a) + one (r a) ≡ 1 = each a in
-    let x : count_by p (range_with_len a (suc n)) ≡ one (p a) + count_by p (range_with_len (a + 1) n) =
-    sum_by-cons (λ x. one (p x)) a (range_with_len (a + 1) n) in
-    let y : count_by q (range_with_len a (suc n)) ≡ one (q a) + count_by q (range_with_len (a + 1) n) =
-    sum_by-cons (λ x. one (q x)) a (range_with_len (a + 1) n) in
-    let z : count_by r (range_with_len a (suc n)) ≡ one (r a) + count_by r (range_with_len (a + 1) n) =
-    sum_by-cons (λ x. one (r x)) a (range_with_len (a + 1) n) in
-    omega arith
-
 four_ways : (p q r s : ℕ → Bool) (n a : ℕ) → ((t : ℕ) → one (p t) + one (q t) + one (r t) + one (s t) ≡ 1)
     → count_by p (range_with_len a n) + count_by q (range_with_len a n) + count_by r (range_with_len a n)
     + count_by s (range_with_len a n) ≡ n
@@ -50,15 +36,22 @@ four_ways p q r s zero a each = refl
 four_ways p q r s (suc n) a each =
     let k = four_ways p q r s n (a + 1) each in
     let h : one (p a) + one (q a) + one (r a) + one (s a) ≡ 1 = each a in
-    let x : count_by p (range_with_len a (suc n)) ≡ one (p a) + count_by p (range_with_len (a + 1) n) =
-    sum_by-cons (λ x. one (p x)) a (range_with_len (a + 1) n) in
-    let y : count_by q (range_with_len a (suc n)) ≡ one (q a) + count_by q (range_with_len (a + 1) n) =
-    sum_by-cons (λ x. one (q x)) a (range_with_len (a + 1) n) in
-    let z : count_by r (range_with_len a (suc n)) ≡ one (r a) + count_by r (range_with_len (a + 1) n) =
-    sum_by-cons (λ x. one (r x)) a (range_with_len (a + 1) n) in
-    let w : count_by s (range_with_len a (suc n)) ≡ one (s a) + count_by s (range_with_len (a + 1) n) =
-    sum_by-cons (λ x. one (s x)) a (range_with_len (a + 1) n) in
+    let x = sum_by-cons (λ x. one (p x)) a (range_with_len (a + 1) n) in
+    let y = sum_by-cons (λ x. one (q x)) a (range_with_len (a + 1) n) in
+    let z = sum_by-cons (λ x. one (r x)) a (range_with_len (a + 1) n) in
+    let w = sum_by-cons (λ x. one (s x)) a (range_with_len (a + 1) n) in
     omega arith
+
+three_ways : (p q r : ℕ → Bool) (n a : ℕ) → ((t : ℕ) → one (p t) + one (q t) + one (r t) ≡ 1)
+    → count_by p (range_with_len a n) + count_by q (range_with_len a n) + count_by r (range_with_len a n) ≡ n
+three_ways p q r n a each =
+    let k = four_ways p q r (λ t. false) n a (λ t. omega (arith, each t)) in
+    let z = none_of_all n a in
+    omega arith
+  where
+    none_of_all : (n a : ℕ) → count_by (λ t. false) (range_with_len a n) ≡ 0
+    none_of_all zero a = refl
+    none_of_all (suc n) a = rw (sum_by-cons, none_of_all n (a + 1)) refl
 
 issue_ways : (b w : Bool) → one (not b) + one (b && not w) + one (b && w) ≡ 1
 issue_ways true true = refl

@@ -26,7 +26,7 @@ use Rattle.tomex_rvdec.specs.Parts.{place_of_pool}
 use Rattle.tomex_timing.specs.declared.part.Part.TheVariants.{Stations}
 use Rattle.tomex_timing.specs.History.{last_issue}
 use Rattle.tomex_timing.specs.Needs.{peak, stations_up_to}
-use Rattle.tomex_timing.proofs.Places.{same_pool}
+use Rattle.tomex_timing.proofs.Limits.{same_pool}
 use Rattle.tomex_timing.proofs.Width.{issue_from}
 use Rattle.tomex_timing.proofs.Bools.{and_true}
 

@@ -12,7 +12,6 @@ pub mod Width
 pub mod Histories
 pub mod Orders
 pub mod Holders
-pub mod Places
 pub mod Taken
 pub mod Telling
 pub mod Serving
@@ -20,7 +19,6 @@ pub mod UnderWay
 pub mod Bools
 pub mod Splits
 pub mod Bands
-pub mod Small
 pub mod Accounts
 pub mod Shown
 pub mod NextTimed

@@ -29,10 +29,9 @@ use Rattle.tomex_timing.specs.Recurrence.{IsTimed}
 use Rattle.tomex_timing.specs.Waiting.{need_after, needs_after, nothing_needed, stations_after, taken_from, units_after}
 use Rattle.tomex_timing.specs.Window.{facts_of}
 use Rattle.tomex_timing.proofs.Shown.{issued_kept}
-use Rattle.tomex_timing.proofs.Limits.{pool_in, unit_in}
+use Rattle.tomex_timing.proofs.Limits.{pool_in, unit_in, same_unit}
 use Rattle.tomex_timing.proofs.NextTimed.{ComesNext, Runs}
 use Rattle.tomex_timing.proofs.Orders.{dest_unit, reach, start_later}
-use Rattle.tomex_timing.proofs.Places.{same_unit}
 use Rattle.tomex_timing.proofs.Width.{issue_from}
 
 -- of what a step takes, what it takes of a part

@@ -24,7 +24,7 @@ use Rattle.tomex_timing.specs.Recurrence.{has_unit, has_bus}
 use Rattle.tomex_timing.specs.Station.{is_free, has_station, is_held}
 use Rattle.tomex_timing.proofs.Holders.{number_low, stations_held}
 use Rattle.tomex_timing.proofs.Orders.{dest_unit}
-use Rattle.tomex_timing.proofs.Places.{same_pool, same_unit}
+use Rattle.tomex_timing.proofs.Limits.{same_pool, same_unit}
 use Rattle.tomex_timing.proofs.Tests.{can_end_is, can_issue_is, can_start_is}
 use Rattle.std.specs.List.{range_with_len}
 use Rattle.std.proofs.lemmas.List.Sums.{sum_by-cons}

@@ -1,6 +1,6 @@
 -- The turns of the evaluator's loops: what is held before a step of a run, and after it.
-use Rattle.std.proofs.Common.{ℕ, ◌+◌, ◌*◌, ◌^◌, ◌<◌, ◌≤◌, ◌≡◌, ◌∙◌, arith, List, [], ◌∷◌, ◌++◌, Option, Some, None}
-use Rattle.std.proofs.Common.{ap, refl, sym, length, take}
+use Rattle.std.proofs.Common.{ℕ, ◌+◌, ◌*◌, ◌^◌, ◌<◌, ◌≤◌, ◌≡◌, ◌∙◌, arith, List, [], ◌∷◌, ◌++◌, Option, Some, None, ap}
+use Rattle.std.proofs.Common.{refl, sym, length, take}
 use Rattle.std.specs.Prelude.{nat_le, slice_index_or, IfSome, MatchOption, ◌==◌, count_by}
 use Rattle.std.specs.Option.{ForSome}
 use Rattle.std.proofs.lemmas.Bool.{and_parts, ltb-true}
@@ -39,8 +39,7 @@ use Rattle.tomex_timing.proofs.Orders.{reach, start_after}
 use Rattle.tomex_timing.proofs.Search.{times_are, times_same}
 use Rattle.tomex_timing.proofs.Shown.{IsShown, settled_by}
 use Rattle.tomex_timing.proofs.ShownTurns.{shown_turn}
-use Rattle.tomex_timing.proofs.Small.{needs_within, waits_within}
-use Rattle.tomex_timing.proofs.WaitLists.{waits_more}
+use Rattle.tomex_timing.proofs.WaitLists.{needs_within, waits_within, waits_more}
 use Rattle.tomex_timing.proofs.Width.{issue_from}
 
 -- what is held before a step is settled, and small
