@@ -1,6 +1,6 @@
 -- What the evaluator counts of a step's waits is what the definition says: before it issues it waits for branches, the
 -- width, a station; then for its operands, its address, older accesses, a unit.
-use Rattle.std.proofs.Common.{ℕ, ◌+◌, ◌-◌, ◌<◌, ◌≤◌, ◌≡◌, ◌∙◌, Bool, true, false, arith, refl, ap, sym, inl, inr, List}
+use Rattle.std.proofs.Common.{ℕ, ◌+◌, ◌-◌, ◌<◌, ◌≤◌, ◌≡◌, ◌∙◌, true, false, arith, refl, ap, sym, inl, inr, List}
 use Rattle.std.proofs.Common.{max, Option, Some, None}
 use Rattle.std.specs.Prelude.{nat_lt, nat_le, not, ◌&&◌}
 use Rattle.std.proofs.lemmas.Bool.{cases_Bool, cases_order, le-leb, lt-leb, leb-true, leb-false, lt-ltb, and_parts}

@@ -4,7 +4,8 @@ use Rattle.std.proofs.Common.{List, Option, Some, None, max}
 use Rattle.std.specs.Prelude.{nat_lt, nat_le, ◌&&◌, is_some, count_by, MatchOption}
 use Rattle.std.specs.Bool.{MatchBool}
 use Rattle.std.specs.Option.{ForSome}
-use Rattle.std.proofs.lemmas.Bool.{cases_Bool, false_from_ne_true, and_from, and_parts, le-leb, lt-ltb, le-ltb, leb-true, ltb-true}
+use Rattle.std.proofs.lemmas.Bool.{cases_Bool, false_from_ne_true, and_from, and_parts, le-leb, lt-ltb, le-ltb}
+use Rattle.std.proofs.lemmas.Bool.{leb-true, ltb-true}
 use Rattle.tomex_rvdec.specs.Parts.{place_of_unit}
 use Rattle.tomex_rvdec.specs.declared.pool.PoolId.{PoolId}
 use Rattle.tomex_rvdec.specs.declared.pool.UnitId.{UnitId}

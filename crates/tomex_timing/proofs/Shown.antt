@@ -173,9 +173,9 @@ nothing_shown config = record {
 }
 
 -- before the first step nothing is held
-pub start_shown : (config : Configuration) {latest : Latest} {table : Reserved} {taken : List ℕ} {accesses : List Access}
-    → latest ≡ nothing_yet → table ≡ record { base = 0; slots = [] } → taken ≡ replicate 96 0 → accesses ≡ []
-    → IsShown (history config []) latest table taken accesses
+pub start_shown : (config : Configuration) {latest : Latest} {table : Reserved} {taken : List ℕ}
+    {accesses : List Access} → latest ≡ nothing_yet → table ≡ record { base = 0; slots = [] } → taken ≡ replicate 96 0
+    → accesses ≡ [] → IsShown (history config []) latest table taken accesses
 start_shown config a b c d = rw (a, b, c, d) (nothing_shown config)
 
 free_after : (pool : PoolId) (g t n : ℕ) (h : List Done) → AllBy g h → g < t → is_free pool h t n ≡ true

@@ -53,7 +53,8 @@ module _ (config : Configuration) (older : List Done) (d : Done) where
   unit_within unit (Some u) is = elim (cases_Bool (place_of_unit u == place_of_unit unit)) [
     | inl y ↦
         let same : u ≡ unit = same_unit u unit y in
-        let can = can_start_is config older d.step unit d.at.issue (cycle_of d.at.address) d.at.start (rw same at is.0) in
+        let can = can_start_is config older d.step unit d.at.issue (cycle_of d.at.address) d.at.start
+        (rw same at is.0) in
         let l : count_by (λ y. is_of unit (step_unit y.step) && y.at.start == d.at.start) older <
         (option_of config unit).units = can.unit_left in
         rw y (omega arith)
@@ -63,8 +64,8 @@ module _ (config : Configuration) (older : List Done) (d : Done) where
   bus_within : (x : Option UnitId) → step_unit d.step ≡ x → MatchOption x (d.at.end ≡ d.at.issue)
       (λ u. MatchBool (is_some (step_dest d.step)) (IsLeast (can_end config older d.at.finish) d.at.end)
       (d.at.end ≡ d.at.finish))
-      → cond (is_some (step_dest d.step)) (count_by (λ y. is_some (step_dest y.step) && y.at.end == d.at.end) older + 1) 0
-      ≤ config.buses
+      → cond (is_some (step_dest d.step))
+      (count_by (λ y. is_some (step_dest y.step) && y.at.end == d.at.end) older + 1) 0 ≤ config.buses
   bus_within x e is = elim (cases_Bool (is_some (step_dest d.step))) [
     | inl y ↦
         let least : IsLeast (can_end config older d.at.finish) d.at.end =
@@ -172,7 +173,8 @@ module _ (config : Configuration) (older : List Done) (d : Done) where
 
   station_full : (pool : PoolId) (x : Option PoolId)
       → step_pool d.step ≡ x → AreTimed config older → IsTimed config older d.step d.at
-      → 0 < cond (is_in pool x) (waits_of config older d).station 0 → stations_of config pool ≤ peak (Stations pool) older
+      → 0 < cond (is_in pool x) (waits_of config older d).station 0
+      → stations_of config pool ≤ peak (Stations pool) older
   station_full pool None e timed is waits = absurd (omega arith)
   station_full pool (Some p) e timed is waits = elim (cases_Bool (place_of_pool p == place_of_pool pool)) [
     | inr f ↦ let z : 0 < 0 = rw f at waits in absurd (omega arith)
@@ -185,7 +187,8 @@ module _ (config : Configuration) (older : List Done) (d : Done) where
         let cannot : can_issue config older d.step c.0 ≡ false = is.issue.1 c.0 c.2 in
         let none : has_station config older (step_pool d.step) c.0 ≡ false =
         last_fails _ _ (and_from _ _ (and_from _ _ (lt-ltb 0 c.0 (omega arith)) both.1) both.0) cannot in
-        let left : nat_lt (count_by (is_held pool c.0) older) (stations_of config pool) ≡ false = rw (e, same) at none in
+        let left : nat_lt (count_by (is_held pool c.0) older) (stations_of config pool) ≡ false =
+        rw (e, same) at none in
         let full : stations_of config pool ≤ count_by (is_held pool c.0) older =
         ltb-false (count_by (is_held pool c.0) older) (stations_of config pool) left in
         let most : count_by (is_held pool c.0) older ≤ peak (Stations pool) older =
@@ -194,7 +197,8 @@ module _ (config : Configuration) (older : List Done) (d : Done) where
   ]
 
   unit_full : (unit : UnitId) (x : Option UnitId) → step_unit d.step ≡ x → IsTimed config older d.step d.at
-      → 0 < cond (is_of unit x) (waits_of config older d).unit 0 → (option_of config unit).units ≤ peak (Units unit) older
+      → 0 < cond (is_of unit x) (waits_of config older d).unit 0
+      → (option_of config unit).units ≤ peak (Units unit) older
   unit_full unit None e is waits = absurd (omega arith)
   unit_full unit (Some u) e is waits = elim (cases_Bool (place_of_unit u == place_of_unit unit)) [
     | inr f ↦ let z : 0 < 0 = rw f at waits in absurd (omega arith)

@@ -1,6 +1,6 @@
 -- What needs tell of another configuration.
-use Rattle.std.proofs.Common.{ℕ, zero, suc, ◌≤◌, ◌≡◌, ◌⊎◌, Bool, true, false, refl, sym, inl, inr, List, [], ◌∷◌, Some}
-use Rattle.std.specs.Prelude.{nat_le, ◌==◌, ◌&&◌, ◌||◌, slice_get}
+use Rattle.std.proofs.Common.{ℕ, zero, suc, ◌≤◌, ◌≡◌, ◌⊎◌, Bool, true, refl, sym, inl, inr, List, [], ◌∷◌, Some}
+use Rattle.std.specs.Prelude.{nat_le, ◌==◌, ◌&&◌, slice_get}
 use Rattle.std.specs.List.{list_all}
 use Rattle.std.proofs.lemmas.Bool.{and_parts, eqb-true, leb-true, or_cases}
 use Rattle.tomex_rvdec.specs.declared.pool.PoolId.TheVariants as pools

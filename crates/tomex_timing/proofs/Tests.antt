@@ -1,9 +1,10 @@
--- A step passes a test of the recurrence in a cycle just if what the test says holds.
+-- A step passes a test of the recurrence in a cycle exactly if what the test says holds.
 use Rattle.std.proofs.Common.{ℕ, ◌<◌, ◌≡◌, Bool, true, IsTrue, refl, inl, inr, List, [], ◌∷◌, Option, Some}
 use Rattle.std.proofs.Common.{None}
 use Rattle.std.specs.Prelude.{nat_lt, nat_le, not, ◌||◌, IfSome, count_by}
 use Rattle.std.specs.List.{list_all, AllByRecursion}
-use Rattle.std.proofs.lemmas.Bool.{and_from, and_parts, cases_Bool, le-leb, leb-true, lt-ltb, ltb-true, or_left, or_right}
+use Rattle.std.proofs.lemmas.Bool.{and_from, and_parts, cases_Bool, le-leb, leb-true, lt-ltb, ltb-true, or_left}
+use Rattle.std.proofs.lemmas.Bool.{or_right}
 use Rattle.std.proofs.lemmas.List.Elements.{All-from_recursion, recursion_from_All}
 use Rattle.tomex_rvdec.specs.declared.pool.PoolId.{PoolId}
 use Rattle.tomex_rvdec.specs.declared.pool.UnitId.{UnitId}
@@ -12,8 +13,9 @@ use Rattle.tomex_steps.specs.declared.step.Step.{Step}
 use Rattle.tomex_config.specs.Configuration.{Configuration, stations_of}
 use Rattle.tomex_timing.specs.declared.times.Done.{Done}
 use Rattle.tomex_timing.specs.History.{source_end, last_issue, last_address}
-use Rattle.tomex_timing.specs.Recurrence.{are_branches_finished, are_conflicts_finished, can_address, can_end, can_issue}
-use Rattle.tomex_timing.specs.Recurrence.{can_issue_another, can_start, conflicts, has_bus, has_operands, has_unit}
+use Rattle.tomex_timing.specs.Recurrence.{are_branches_finished, are_conflicts_finished, can_address, can_end}
+use Rattle.tomex_timing.specs.Recurrence.{can_issue, can_issue_another, can_start, conflicts, has_bus, has_operands}
+use Rattle.tomex_timing.specs.Recurrence.{has_unit}
 use Rattle.tomex_timing.specs.Station.{has_station, is_held}
 use Rattle.tomex_timing.specs.Tests.{CanAddress, CanEnd, CanIssue, CanStart}
 
@@ -22,7 +24,7 @@ finished_each : (p : Done → Bool) (t : ℕ) (older : List Done)
     → AllByRecursion (λ d. IsTrue (p d) → d.at.finish < t) older
 finished_each p t [] h = tt
 finished_each p t (d ∷ older) h =
-    let two = and_parts (not (p d) || nat_lt d.at.finish t) (list_all (λ d. not (p d) || nat_lt d.at.finish t) older) h in
+    let two = and_parts (not (p d) || nat_lt d.at.finish t) _ h in
     (λ is. ltb-true d.at.finish t (rw is at two.0), finished_each p t older two.1)
 
 finished_from : (p : Done → Bool) (t : ℕ) (older : List Done)

@@ -1,5 +1,5 @@
--- The waits of a run's steps, in program order, grow by one step at a time, and add up to its stalls. No step waits longer
--- than until its end, so the stalls of a run are no more than its steps times its cycles.
+-- The waits of a run's steps, in program order, grow by one step at a time, and add up to its stalls. No step waits
+-- longer than until its end, so the stalls of a run are no more than its steps times its cycles.
 use Rattle.std.proofs.Common.{ℕ, ◌+◌, ◌-◌, ◌*◌, ◌^◌, ◌<◌, ◌≤◌, ◌≡◌, Bool, arith, inl, inr, List, [], ◌∷◌, max, suc, ◌∙◌}
 use Rattle.std.proofs.Common.{refl, ◌++◌, ap, length, reverse}
 use Rattle.std.specs.Prelude.{count_by, length, All, sum_by}

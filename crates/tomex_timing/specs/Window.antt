@@ -1,5 +1,5 @@
--- What the evaluator reads of a step, what it keeps of the latest cycles of the steps before, and what of these the next
--- step's issue, address and operands depend on.
+-- What the evaluator reads of a step, what it keeps of the latest cycles of the steps before, and on which of these the
+-- next step's issue, address and operands depend.
 use Rattle.std.specs.Prelude.{ℕ, ◌+◌, ◌<◌, ◌≡◌, ◌==◌, nat_lt, Bool, ◌||◌, if◌then◌else◌, List, Option, Some, None}
 use Rattle.std.specs.Prelude.{slice_set, replicate, map, max, IfSome, All}
 use Rattle.tomex_rvdec.specs.declared.pool.PoolId.{PoolId}

@@ -74,7 +74,8 @@ ask_rest-requires-clause-keeps g c =
     length_facts c.requires.run.0 c.args.facts.now c.requires.run.1 in
     let at = step_of c.args.config.now c.requires.run.0 c.args.facts.now c.loop-step.step-index _ c.keeps_limits.ensures
     c.requires.run.1 c.loop-step-test.true in
-    λ next by. can_keep (next_turn at.1 (c.loop-step.invariant c.requires.run.0 c.requires.run.1).shown by) (omega arith)
+    let shown = (c.loop-step.invariant c.requires.run.0 c.requires.run.1).shown in
+    λ next by. can_keep (next_turn at.1 shown by) (omega arith)
 
 pub loop-step-preserved : goal.loop-step-preserved
 loop-step-preserved g c = λ steps are.

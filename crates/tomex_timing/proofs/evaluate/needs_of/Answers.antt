@@ -67,8 +67,8 @@ note-requires-clause-waits g c =
     length_facts c.requires.run.0 c.args.facts.now c.requires.run.1 in
     let at = step_of c.args.config.now c.requires.run.0 c.args.facts.now c.loop-step.step-index _ c.keeps_limits.ensures
     c.requires.run.1 c.loop-step-test.true in
-    waits_small (next_turn at.1 (c.loop-step.invariant c.requires.run.0 c.requires.run.1).shown c.next_step-next.ensures)
-    (omega arith) c.waits_of-waits.ensures
+    let shown = (c.loop-step.invariant c.requires.run.0 c.requires.run.1).shown in
+    waits_small (next_turn at.1 shown c.next_step-next.ensures) (omega arith) c.waits_of-waits.ensures
 
 pub keep-requires : goal.keep-requires
 keep-requires g c =
