@@ -47,15 +47,15 @@ address_least : (d : Done) (older : List Done) (memory : Bool) → memory ≡ tr
 address_least d older true e h = h
 address_least d older false e h = absurd (cc)
 
-pub address_is : (config : Configuration) (d : Done) (older : List Done) → IsTimed config older d.step d.at
+pub address_is : {config : Configuration} (d : Done) {older : List Done} → IsTimed config older d.step d.at
     → is_memory d.step ≡ true → IsLeast (can_address older d.step d.at.issue) (cycle_of d.at.address)
-address_is config d older timed e = address_least d older (is_memory d.step) e timed.address
+address_is d {older} timed e = address_least d older (is_memory d.step) e timed.address
 
 -- addresses are computed in program order
-pub address_rises : (config : Configuration) (d : Done) (older : List Done) → IsTimed config older d.step d.at
+pub address_rises : {config : Configuration} (d : Done) {older : List Done} → IsTimed config older d.step d.at
     → is_memory d.step ≡ true → last_address older < cycle_of d.at.address
-address_rises config d older timed e =
-    let l = address_is config d older timed e in
+address_rises d {older} timed e =
+    let l = address_is d timed e in
     let two = and_parts _ (nat_lt (last_address older) (cycle_of d.at.address)) l.0 in
     ltb-true _ _ two.1
 
@@ -68,22 +68,22 @@ or_none None b e = (refl, e)
 or_none (Some x) b e = absurd (cc)
 
 -- where none waits all addresses are made
-pub none_waits : (config : Configuration) (t : ℕ) (h : List Done) → IsWithinLimits config → AreTimed config h
+pub none_waits : {config : Configuration} (t : ℕ) (h : List Done) → IsWithinLimits config → AreTimed config h
     → AreIssuedBy t h → chosen t h ≡ None → last_address h ≤ t
-none_waits config t [] good timed issued e = omega arith
-none_waits config t (d ∷ older) good timed issued e =
+none_waits t [] good timed issued e = omega arith
+none_waits t (d ∷ older) good timed issued e =
     let two = or_none (chosen t older) (if waits_for_address t d then place_of d else None) e in
     elim (cases_Bool (is_memory d.step)) [
-      | inr m ↦ rw m (none_waits config t older good timed.1 issued.1 two.0)
+      | inr m ↦ rw m (none_waits t older good timed.1 issued.1 two.0)
       | inl m ↦ rw m (elim (cases_Bool (nat_le (cycle_of d.at.address) t)) [
         | inl l ↦ leb-true _ _ l
         | inr l ↦
             let k : t < cycle_of d.at.address = leb-false _ _ l in
-            let r : cycle_of d.at.address ≤ d.at.end = (reach config d older good timed).address in
+            let r : cycle_of d.at.address ≤ d.at.end = (reach d older good timed).address in
             let busy : waits_for_address t d ≡ true = rw (lt-ltb t d.at.end (omega arith), m, l) refl in
             let f : place_of d ≡ None = rw busy at two.1 in
             absurd (some_none_of 0 (place_of d)
-            (place_there config d older timed.0 (let i : d.at.issue ≤ t = issued.0 in omega arith)) f)
+            (place_there d timed.0 (let i : d.at.issue ≤ t = issued.0 in omega arith)) f)
       ])
     ]
 
@@ -101,18 +101,18 @@ and_true : (a : Bool) → a ≡ ((true && a) && true)
 and_true true = refl
 and_true false = refl
 
-some_waits_by : (config : Configuration) (t y : ℕ) (d : Done) (older : List Done) (o : Option ℕ)
+some_waits_by : {config : Configuration} (t y : ℕ) (d : Done) {older : List Done} (o : Option ℕ)
     → IsTimed config older d.step d.at → chosen t older ≡ o
     → ((z : ℕ) → chosen t older ≡ Some z → t < last_address older)
     → or_else o (if waits_for_address t d then place_of d else None) ≡ Some y → t < last_address (d ∷ older)
-some_waits_by config t y d older (Some z) timed e before f =
+some_waits_by t y d {older} (Some z) timed e before f =
     let l : t < last_address older = before z e in
     elim (cases_Bool (is_memory d.step)) [
       | inr m ↦ rw m l
-      | inl m ↦ let k : last_address older < cycle_of d.at.address = address_rises config d older timed m in
+      | inl m ↦ let k : last_address older < cycle_of d.at.address = address_rises d timed m in
           rw m (omega arith)
     ]
-some_waits_by config t y d older None timed e before f = elim (cases_Bool (waits_for_address t d)) [
+some_waits_by t y d None timed e before f = elim (cases_Bool (waits_for_address t d)) [
   | inr w ↦ let g : None ≡ Some y = rw w at f in absurd (cc)
   | inl w ↦
       let a = and_parts (nat_lt t d.at.end) (is_memory d.step && not (nat_le (cycle_of d.at.address) t)) w in
@@ -126,7 +126,7 @@ pub some_waits : (config : Configuration) (t y : ℕ) (h : List Done) → AreTim
     → t < last_address h
 some_waits config t y [] timed e = absurd (cc)
 some_waits config t y (d ∷ older) timed e =
-    some_waits_by config t y d older (chosen t older) timed.0 refl (λ z f. some_waits config t z older timed.1 f) e
+    some_waits_by t y d (chosen t older) timed.0 refl (λ z f. some_waits config t z older timed.1 f) e
 
 pub holds_by : (t y : ℕ) (d : Done) → place_of d ≡ Some y → waits_for_address t d ≡ true → holds_place t y d ≡ true
 holds_by t y d e w =
@@ -170,14 +170,12 @@ pub memory_j : (x : Step) → is_memory x ≡ true → j_of x ≡ Some (operand 
 memory_j x e = ap (option_map (operand x.vj)) (memory_j_op x.instr.op x.instr.rs1 x.instr.rs2 e)
 
 -- the address test of the next cycle, where no older address is to come
-pub test_is : (config : Configuration) (t u : ℕ) (d : Done) (older : List Done) → IsTimed config older d.step d.at
+pub test_is : {config : Configuration} (t u : ℕ) (d : Done) {older : List Done} → IsTimed config older d.step d.at
     → AreTimed config older → AreIssuedBy t (d ∷ older) → u ≡ t + 1 → is_memory d.step ≡ true → last_address older ≤ t
-    → t < cycle_of d.at.address
-    → is_there (field_of t older (j_of d.step)) ≡ (cycle_of d.at.address == u)
-test_is config t u d older timed before issued e m last late =
+    → t < cycle_of d.at.address → is_there (field_of t older (j_of d.step)) ≡ (cycle_of d.at.address == u)
+test_is {config} t u d {older} timed before issued e m last late =
     let test : can_address older d.step d.at.issue u ≡ (cycle_of d.at.address == u) =
-    least_test (can_address older d.step d.at.issue) (cycle_of d.at.address) u (address_is config d older timed m)
-    (omega arith) in
+    least_test (can_address older d.step d.at.issue) (cycle_of d.at.address) u (address_is d timed m) (omega arith) in
     let there : is_there (field_of t older (j_of d.step)) ≡ nat_lt (source_end older (j_of d.step)) (t + 1) =
     there_test config t older (j_of d.step) before issued.1 in
     let i : d.at.issue ≤ t = issued.0 in

@@ -78,44 +78,43 @@ free_by t x d None s free = elim (cases_Bool (waits_for_address t d)) [
 ]
 
 -- a busy step's station, where an older step waits or none does
-held_by : (i : Loaded) (config : Configuration) (t u x : ℕ) (d : Done) (older : List Done) (o : Option ℕ)
+held_by : (i : Loaded) {config : Configuration} (t u x : ℕ) (d : Done) (older : List Done) (o : Option ℕ)
     → IsWithinLimits config → AreTimed config (d ∷ older) → AreIssuedBy t (d ∷ older) → u ≡ t + 1
     → holds_place t x d ≡ true → chosen t older ≡ o
-    → Some (station_of i (clocks u u t) d older)
-    ≡ given_at (or_else o (if waits_for_address t d then place_of d else None)) x
-    (Some (station_of i (clocks u t t) d older))
-held_by i config t u x d older (Some y) good timed issued e held c =
-    let free : is_vacant t x older ≡ true = vacant config d older t x good timed (let l : d.at.issue ≤ t = issued.0 in
+    → Some (station_of i (clocks u u t) d older) ≡ given_at (or_else o (if waits_for_address t d then place_of d else
+    None)) x (Some (station_of i (clocks u t t) d older))
+held_by i {config} t u x d older (Some y) good timed issued e held c =
+    let free : is_vacant t x older ≡ true = vacant d older t x good timed (let l : d.at.issue ≤ t = issued.0 in
     omega arith) (and_parts (is_number (place_of d) x) (nat_lt t d.at.end) held).0 in
     let other : Some y ≡ Some x → ⊥ = λ z. chosen_held t x older (c ∙ z) free in
     let last : t < last_address older = some_waits config t y older timed.1 c in
     let same : a_by u d ≡ a_by t d = elim (cases_Bool (is_memory d.step)) [
       | inr m ↦ rw m refl
-      | inl m ↦ let k : last_address older < cycle_of d.at.address = address_rises config d older timed.0 m in
+      | inl m ↦ let k : last_address older < cycle_of d.at.address = address_rises d timed.0 m in
           a_none u d (omega arith) ∙ sym (a_none t d (omega arith))
     ] in
     ap (λ (k : Station). Some k) (with_a i u t d older same)
     ∙ sym (given_other (Some y) x (Some (station_of i (clocks u t t) d older)) other)
-held_by i config t u x d older None good timed issued e held c = elim (cases_Bool (waits_for_address t d)) [
+held_by i t u x d older None good timed issued e held c = elim (cases_Bool (waits_for_address t d)) [
   | inr w ↦ rw w (ap (λ (k : Station). Some k) (with_a i u t d older (idle_same t u d x held e w)))
   | inl w ↦
       let a = and_parts (nat_lt t d.at.end) (is_memory d.step && not (nat_le (cycle_of d.at.address) t)) w in
       let b = and_parts (is_memory d.step) (not (nat_le (cycle_of d.at.address) t)) a.1 in
       let late : t < cycle_of d.at.address = not_le (cycle_of d.at.address) t b.1 in
-      let last : last_address older ≤ t = none_waits config t older good timed.1 issued.1 c in
-      let there = test_is config t u d older timed.0 timed.1 issued e b.0 last late in
+      let last : last_address older ≤ t = none_waits t older good timed.1 issued.1 c in
+      let there = test_is t u d timed.0 timed.1 issued e b.0 last late in
       rw (w, given_here (place_of d) x (Some (station_of i (clocks u t t) d older)) (place_by d t x held))
       (ap (λ (k : Station). Some k) (given i u t d older there late e b.0))
 ]
 
 -- the chosen place gets its address, and no other
-pub addresses_at : (i : Loaded) (config : Configuration) (t u x : ℕ) (h : List Done) → IsWithinLimits config
+pub addresses_at : (i : Loaded) {config : Configuration} (t u x : ℕ) (h : List Done) → IsWithinLimits config
     → AreTimed config h → AreIssuedBy t h → u ≡ t + 1
     → station_at i (clocks u u t) h x ≡ given_at (chosen t h) x (station_at i (clocks u t t) h x)
-addresses_at i config t u x [] good timed issued e = refl
-addresses_at i config t u x (d ∷ older) good timed issued e = elim (cases_Bool (holds_place t x d)) [
-  | inl held ↦ rw held (held_by i config t u x d older (chosen t older) good timed issued e held refl)
-  | inr free ↦ rw free (addresses_at i config t u x older good timed.1 issued.1 e
+addresses_at i t u x [] good timed issued e = refl
+addresses_at i t u x (d ∷ older) good timed issued e = elim (cases_Bool (holds_place t x d)) [
+  | inl held ↦ rw held (held_by i t u x d older (chosen t older) good timed issued e held refl)
+  | inr free ↦ rw free (addresses_at i t u x older good timed.1 issued.1 e
       ∙ free_by t x d (chosen t older) (station_at i (clocks u t t) older x) free)
 ]
 
@@ -144,9 +143,8 @@ pub waiting_is : (i : Loaded) (config : Configuration) (t u : ℕ) (st : Pools) 
     ++ part → first_waiting st.slots (order_of t part) ≡ chosen t part
 waiting_is i config t u st h newer [] good timed issued shown e = refl
 waiting_is i config t u st h newer (d ∷ older) good timed issued shown e =
-    let before : first_waiting st.slots (order_of t older) ≡ chosen t older =
-    waiting_is i config t u st h (newer ++ (d ∷ [])) older good timed issued shown
-    (e ∙ sym (append_assoc newer (d ∷ []) older)) in
+    let before : first_waiting st.slots (order_of t older) ≡ chosen t older = waiting_is i config t u st h
+    (newer ++ (d ∷ [])) older good timed issued shown (e ∙ sym (append_assoc newer (d ∷ []) older)) in
     let here : AreTimed config (newer ++ (d ∷ older)) = rw e at timed in
     let by : AreIssuedBy t (newer ++ (d ∷ older)) = rw e at issued in
     elim (cases_Bool (nat_lt t d.at.end)) [
@@ -155,16 +153,15 @@ waiting_is i config t u st h newer (d ∷ older) good timed issued shown e =
           let k : t < d.at.end = ltb-true _ _ l in
           let part : AreTimed config (d ∷ older) = timed_part config newer (d ∷ older) here in
           let at : d.at.issue ≤ t = (issued_part t newer (d ∷ older) by).0 in
-          let tag = tag_there config d older t part.0 at k in
+          let tag = tag_there d t part.0 at k in
           let place : place_of d ≡ Some (place_of_tag tag.0) = ap place_at tag.1 in
           let held : holds_place t (place_of_tag tag.0) d ≡ true =
           rw (place, l, eq-eqb (place_of_tag tag.0) (place_of_tag tag.0) refl) refl in
           let small : place_of_tag tag.0 < 96 =
-          place_low (step_pool d.step) d.at.station (place_of_tag tag.0) (low config (d ∷ older) good part).0 place
-          in
+          place_low (step_pool d.step) d.at.station (place_of_tag tag.0) (low config (d ∷ older) good part).0 place in
           let there : station_at i (clocks u t t) (newer ++ (d ∷ older)) (place_of_tag tag.0)
           ≡ Some (station_of i (clocks u t t) d older) =
-          station_here i config (clocks u t t) newer d older (place_of_tag tag.0) good here
+          station_here i (clocks u t t) newer d older (place_of_tag tag.0) good here
           (issued_more t (t + 1) (newer ++ (d ∷ older)) (omega arith) by) held in
           let slot : slice_index_or st.slots (place_of_tag tag.0) None ≡ Some (station_of i (clocks u t t) d older) =
           shown.slots (place_of_tag tag.0) small
@@ -206,13 +203,12 @@ pub made_none : (next : ℕ) (old : Pools) → AreBusy old.slots old.busy old.is
     → MakesAddress next old old
 made_none next old filled none i config h t e past issued shown =
     let by : IsInIssueOrder old.busy old.issue_numbers (order_of t h) =
-    order_is i config (clocks next t t) h old past.lawful past.timed (issued_more t (t + 1) h (omega arith) issued)
-    shown filled in
+    order_is past.lawful past.timed (issued_more t (t + 1) h (omega arith) issued) shown filled in
     let waits : first_waiting old.slots (order_of t h) ≡ chosen t h =
     waiting_is i config t next old h [] h past.lawful past.timed issued shown refl in
     record {
       places = shown.places;
-      slots = λ x l. shown.slots x l ∙ sym (addresses_at i config t next x h past.lawful past.timed issued e
+      slots = λ x l. shown.slots x l ∙ sym (addresses_at i t next x h past.lawful past.timed issued e
           ∙ sym (unmoved i t next x h old (chosen t h) (rw waits at (none (order_of t h) by)) (shown.slots x l)));
       order_count = shown.order_count;
       issue_numbers = shown.issue_numbers;
@@ -227,21 +223,21 @@ made_none next old filled none i config h t e past issued shown =
       | inr k ↦ rw (← same) (given_none y x old.slots k)
     ]
 
-low_by : (config : Configuration) (t x : ℕ) (d : Done) (older : List Done) (o : Option ℕ) → IsWithinLimits config
+low_by : {config : Configuration} (t x : ℕ) (d : Done) (older : List Done) (o : Option ℕ) → IsWithinLimits config
     → AreTimed config (d ∷ older) → ((y : ℕ) → o ≡ Some y → y < 96)
     → or_else o (if waits_for_address t d then place_of d else None) ≡ Some x → x < 96
-low_by config t x d older (Some y) good timed before e = let f : y ≡ x = cc in rw (← f) (before y refl)
-low_by config t x d older None good timed before e = elim (cases_Bool (waits_for_address t d)) [
+low_by t x d older (Some y) good timed before e = let f : y ≡ x = cc in rw (← f) (before y refl)
+low_by {config} t x d older None good timed before e = elim (cases_Bool (waits_for_address t d)) [
   | inr w ↦ let z : None ≡ Some x = rw w at e in absurd (cc)
   | inl w ↦ let f : place_of d ≡ Some x = rw w at e in
       place_low (step_pool d.step) d.at.station x (low config (d ∷ older) good timed).0 f
 ]
 
-chosen_low : (config : Configuration) (t x : ℕ) (h : List Done) → IsWithinLimits config → AreTimed config h
+chosen_low : {config : Configuration} (t x : ℕ) (h : List Done) → IsWithinLimits config → AreTimed config h
     → chosen t h ≡ Some x → x < 96
-chosen_low config t x [] good timed e = absurd (cc)
-chosen_low config t x (d ∷ older) good timed e =
-    low_by config t x d older (chosen t older) good timed (λ y f. chosen_low config t y older good timed.1 f) e
+chosen_low t x [] good timed e = absurd (cc)
+chosen_low t x (d ∷ older) good timed e =
+    low_by t x d older (chosen t older) good timed (λ y f. chosen_low t y older good timed.1 f) e
 
 pub made_some : (next x : ℕ) (old new : Pools) (o : Option Station) → AreBusy old.slots old.busy old.issue_numbers
     → ((order : List ℕ) → IsInIssueOrder old.busy old.issue_numbers order → Some x ≡ next_address old.slots order)
@@ -249,19 +245,17 @@ pub made_some : (next x : ℕ) (old new : Pools) (o : Option Station) → AreBus
     → new.issue_numbers ≡ old.issue_numbers → MakesAddress next old new
 made_some next x old new o filled some same slots issue_numbers i config h t e past issued shown =
     let by : IsInIssueOrder old.busy old.issue_numbers (order_of t h) =
-    order_is i config (clocks next t t) h old past.lawful past.timed (issued_more t (t + 1) h (omega arith) issued)
-    shown filled in
+    order_is past.lawful past.timed (issued_more t (t + 1) h (omega arith) issued) shown filled in
     let waits : first_waiting old.slots (order_of t h) ≡ chosen t h =
     waiting_is i config t next old h [] h past.lawful past.timed issued shown refl in
     let c : chosen t h ≡ Some x = found x old.slots (chosen t h) (rw waits at (some (order_of t h) by)) in
     let count : length old.slots ≡ 96 = shown.places in
-    let small : x < 96 = chosen_low config t x h past.lawful past.timed c in
+    let small : x < 96 = chosen_low t x h past.lawful past.timed c in
     record {
       places = ap length slots ∙ (length-set old.slots x o ∙ shown.places);
-      slots = λ y l. ap (λ xs. slice_index_or xs y None) slots
-          ∙ (set_at_place old.slots x y o (omega arith) same
-          ∙ (ap (given_at (Some x) y) (shown.slots y l)
-          ∙ sym (addresses_at i config t next y h past.lawful past.timed issued e ∙ rw c refl)));
+      slots = λ y l. ap (λ xs. slice_index_or xs y None) slots ∙ (set_at_place old.slots x y o (omega arith) same ∙ (ap
+          (given_at (Some x) y) (shown.slots y l) ∙ sym
+          (addresses_at i t next y h past.lawful past.timed issued e ∙ rw c refl)));
       order_count = ap length issue_numbers ∙ shown.order_count;
       issue_numbers = λ y l. ap (λ xs. slice_index xs y) issue_numbers ∙ shown.issue_numbers y l;
     }

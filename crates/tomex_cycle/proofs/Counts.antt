@@ -48,9 +48,9 @@ pub record IsPaid (h : List Done) (to from now before after : ℕ) : Type 0 wher
 pub paid_first : (h : List Done) (to from before : ℕ) → IsPaid h to from from before before
 paid_first h to from before = record { least = omega arith; most = inl (omega arith) }
 
-paid_next : (h : List Done) (to from c w before after : ℕ) → c < to → IsPaid h to from c before after → SkipsTo h to c w
+paid_next : {h : List Done} {to from c w before after : ℕ} → c < to → IsPaid h to from c before after → SkipsTo h to c w
     → IsPaid h to from w before (after + 1)
-paid_next h to from c w before after ahead paid passes =
+paid_next {h} {from} {c} {w} {before} {after} ahead paid passes =
     let on : c + 1 ≤ w = passes.on in
     let at : c + 1 + (w - (c + 1)) ≡ w = omega arith in
     let same = subst (λ (x : ℕ). (eventful_by h x ≡ eventful_by h (c + 1)) × (events_by h x ≡ events_by h (c + 1))) at
@@ -75,20 +75,19 @@ paid_next h to from c w before after ahead paid passes =
       ];
     }
 
-pub paid_on : (h : List Done) (to from c w before after more : ℕ) → c < to → IsPaid h to from c before after
-    → GoesOn h to c w after more → IsPaid h to from w before more
-paid_on h to from c w before after more ahead paid goes = elim goes [
-  | inl one ↦ let e : more ≡ after + 1 = one.0 in rw e (paid_next h to from c w before after ahead paid one.1)
+pub paid_on : {h : List Done} {to from c : ℕ} (w : ℕ) {before after : ℕ} (more : ℕ) → c < to
+    → IsPaid h to from c before after → GoesOn h to c w after more → IsPaid h to from w before more
+paid_on w {after} more ahead paid goes = elim goes [
+  | inl one ↦ let e : more ≡ after + 1 = one.0 in rw e (paid_next ahead paid one.1)
   | inr two ↦
       let a : more ≡ after + 2 = two.2 in
       let e : more ≡ after + 1 + 1 = omega arith in
-      rw e (paid_next h to from two.0 w before (after + 1) two.1
-      (paid_next h to from c two.0 before after ahead paid two.3) two.4)
+      rw e (paid_next two.1 (paid_next ahead paid two.3) two.4)
 ]
 
-pub paid_counts : (h : List Done) (to from now before after : ℕ) → IsPaid h to from now before after
+pub paid_counts : {h : List Done} {to from now before after : ℕ} → IsPaid h to from now before after
     → IsCounted h from now before after
-paid_counts h to from now before after paid = record {
+paid_counts paid = record {
   least = paid.least;
   most = elim paid.most [
     | inl even ↦ omega arith

@@ -59,7 +59,7 @@ heard_then f g k Unread e = refl
 heard_then f g k (Waits tag) e =
     then_by g (place_of_tag tag) (f (place_of_tag tag)) (k (place_of_tag tag)) tag refl (e (place_of_tag tag))
 
-heard_same : (f k : ℕ → Option ℕ) (field : Field) → ((y : ℕ) → k y ≡ f y) → heard f field ≡ heard k field
+pub heard_same : (f k : ℕ → Option ℕ) (field : Field) → ((y : ℕ) → k y ≡ f y) → heard f field ≡ heard k field
 heard_same f k (Value v) e = refl
 heard_same f k Unread e = refl
 heard_same f k (Waits tag) e = ap (λ o. taken o tag) (sym (e (place_of_tag tag)))
@@ -94,10 +94,6 @@ or_none : (a : Option ℕ) → a ≡ or_else a None
 or_none None = refl
 or_none (Some x) = refl
 
-and_false : (a : Bool) → (a && false) ≡ false
-and_false true = refl
-and_false false = refl
-
 -- what is sent below the next place
 sent_yes : (slots : List (Option Station)) (picked : ℕ) (n y : ℕ) (s : Option ℕ) → has picked n ≡ true
     → s ≡ sends_of (slice_index_or slots n None)
@@ -127,8 +123,7 @@ below_yes picked n x e = elim (cases_order x n) [
       refl
 ]
 
-below_no : (picked : ℕ) (n x : ℕ) → has picked n ≡ false
-    → (nat_lt x n && has picked x) ≡ (nat_lt x (n + 1) && has picked x)
+below_no : (picked n x : ℕ) → has picked n ≡ false → (nat_lt x n && has picked x) ≡ (nat_lt x (n + 1) && has picked x)
 below_no picked n x e = elim (cases_order x n) [
   | inl z ↦ rw (z, e, lt-ltb n (n + 1) (omega arith), le-ltb n n (omega arith)) refl
   | inr (inl l) ↦ rw (lt-ltb x (n + 1) (omega arith), lt-ltb x n l) refl
@@ -140,35 +135,33 @@ sends_after f None = refl
 sends_after f (Some s) = refl
 
 -- what the next place sends is what it had at first
-sends_still : (picked : ℕ) (n : ℕ) (old s : Pools) → n < 96 → AreEndedBelow picked n old s
+sends_still : {picked n : ℕ} {old s : Pools} → n < 96 → AreEndedBelow picked n old s
     → sends_of (slice_index_or s.slots n None) ≡ sends_of (slice_index_or old.slots n None)
-sends_still picked n old s l so =
-    ap sends_of (so.slots n l) ∙ rw (le-ltb n n (omega arith))
+sends_still {picked} {n} {old} l so = ap sends_of (so.slots n l) ∙ rw (le-ltb n n (omega arith))
     (sends_after (sent_below old.slots picked n) (slice_index_or old.slots n None))
 
-pub apply_yes : (picked : ℕ) (n : ℕ) (old s new : Pools) → n < 96 → has picked n ≡ true → AreEndedBelow picked n old s
-    → EndsIn (λ x. n == x) (only n (sends_of (slice_index_or s.slots n None))) s new
+pub apply_yes : {picked n : ℕ} {old s : Pools} (new : Pools) → n < 96 → has picked n ≡ true
+    → AreEndedBelow picked n old s → EndsIn (λ x. n == x) (only n (sends_of (slice_index_or s.slots n None))) s new
     → AreEndedBelow picked (n + 1) old new
-apply_yes picked n old s new l e so made =
+apply_yes {picked} {n} {old} {s} new l e so made =
     let m = made so.places in
     let sent : sends_of (slice_index_or s.slots n None) ≡ sends_of (slice_index_or old.slots n None) =
-    sends_still picked n old s l so in
+    sends_still l so in
     record {
       places = m.places;
       slots = λ x k. m.slots x k ∙ (ap (after_ends (n == x) (only n (sends_of (slice_index_or s.slots n None))))
-          (so.slots x k)
-          ∙ (ends_then (nat_lt x n && has picked x) (n == x) (sent_below old.slots picked n)
+          (so.slots x k) ∙ (ends_then (nat_lt x n && has picked x) (n == x) (sent_below old.slots picked n)
           (only n (sends_of (slice_index_or s.slots n None))) (sent_below old.slots picked (n + 1))
           (slice_index_or old.slots x None)
-          (λ y. sent_yes old.slots picked n y (sends_of (slice_index_or s.slots n None)) e sent)
-          ∙ ap (λ b. after_ends b (sent_below old.slots picked (n + 1)) (slice_index_or old.slots x None))
+          (λ y. sent_yes old.slots picked n y (sends_of (slice_index_or s.slots n None)) e sent) ∙ ap
+          (λ b. after_ends b (sent_below old.slots picked (n + 1)) (slice_index_or old.slots x None))
           (below_yes picked n x e)));
       issue_numbers = m.issue_numbers ∙ so.issue_numbers;
     }
 
-pub apply_no : (picked : ℕ) (n : ℕ) (old s : Pools) → has picked n ≡ false → AreEndedBelow picked n old s
+pub apply_no : {picked n : ℕ} {old s : Pools} → has picked n ≡ false → AreEndedBelow picked n old s
     → AreEndedBelow picked (n + 1) old s
-apply_no picked n old s e so = record {
+apply_no {picked} {n} {old} e so = record {
   places = so.places;
   slots = λ x k. so.slots x k ∙ (ends_same (nat_lt x n && has picked x) (sent_below old.slots picked n)
       (sent_below old.slots picked (n + 1)) (slice_index_or old.slots x None) (λ y. sent_no old.slots picked n y e)
@@ -177,15 +170,15 @@ apply_no picked n old s e so = record {
   issue_numbers = so.issue_numbers;
 }
 
-pub hear_yes : (picked : ℕ) (n : ℕ) (old s : Pools) (first r new : RegStatus) → n < 96 → has picked n ≡ true
+pub hear_yes : {picked n : ℕ} {old s : Pools} (first r new : RegStatus) → n < 96 → has picked n ≡ true
     → AreEndedBelow picked n old s → Hears (sent_below old.slots picked n) first r
     → Hears (only n (sends_of (slice_index_or s.slots n None))) r new
     → Hears (sent_below old.slots picked (n + 1)) first new
-hear_yes picked n old s first r new l e so before made count status =
+hear_yes {picked} {n} {old} {s} first r new l e so before made count status =
     let b = before count status in
     let m = made b.count b.status in
     let sent : sends_of (slice_index_or s.slots n None) ≡ sends_of (slice_index_or old.slots n None) =
-    sends_still picked n old s l so in
+    sends_still l so in
     record {
       count = m.count;
       status = m.status;

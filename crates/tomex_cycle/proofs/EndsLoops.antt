@@ -14,7 +14,7 @@ use Rattle.tomex_cycle.specs.Ends.{EndsIn, Hears, after_ends, sends_of, sent_bel
 use Rattle.tomex_tags.specs.Contents.{hears}
 use Rattle.tomex_tags.specs.Operands.{heard, only, taken}
 use Rattle.tomex_tags.specs.Places.{place_at, place_of_tag}
-use Rattle.tomex_tags.specs.Pools.{Pools, HaveHeard}
+use Rattle.tomex_tags.specs.Pools.{Pools}
 use Rattle.tomex_tags.specs.declared.register_status.RegStatus.{RegStatus}
 use Rattle.tomex_tags.specs.declared.station.Station.{Station}
 use Rattle.tomex_sets.specs.Sets.{has, IsWithout}
@@ -44,18 +44,6 @@ none_hears p (Some s) =
     let b : Field → Station = λ x. record s { k = x } in
     ap (λ (z : Station). Some z) (ap a (none_heard p s.j) ∙ ap b (none_heard p s.k))
 
--- nothing stands in the place
-pub ends_nothing : (p : ℕ) (st : Pools) → p < 96 → slice_index_or st.slots p None ≡ None
-    → EndsIn (λ x. p == x) (only p (sends_of (slice_index_or st.slots p None))) st st
-ends_nothing p st l none count = record {
-  places = count;
-  slots = λ x k. elim (cases_Bool (p == x)) [
-    | inl e ↦ let same : p ≡ x = eqb-true p x e in rw (e, ← same) none
-    | inr e ↦ rw (e, none) (sym (none_hears p (slice_index_or st.slots x None)))
-  ];
-  issue_numbers = refl;
-}
-
 released_at : (xs : List (Option Station)) (p x : ℕ) → p < length xs → slice_index_or (slice_set xs p None) x None
     ≡ (if p == x then None else slice_index_or xs x None)
 released_at xs p x l = elim (cases_Bool (p == x)) [
@@ -77,35 +65,7 @@ ends_silent p old new s l here dest slots issue_numbers count = record {
   issue_numbers = issue_numbers;
 }
 
--- what has a destination is released and heard
-pub ends_sending : (p r : ℕ) (old middle new : Pools) (s : Station) → p < 96 → slice_index_or old.slots p None ≡ Some s
-    → dest_of s.instr ≡ Some r → middle.slots ≡ slice_set old.slots p None → middle.issue_numbers ≡ old.issue_numbers
-    → HaveHeard (only p (Some s.value)) middle new
-    → EndsIn (λ x. p == x) (only p (sends_of (slice_index_or old.slots p None))) old new
-ends_sending p r old middle new s l here dest slots issue_numbers heard_ count = record {
-  places = heard_.places;
-  slots = λ x k. heard_.slots x k
-      ∙ (ap (λ xs. option_map (hears (only p (Some s.value))) (slice_index_or xs x None)) slots
-      ∙ (ap (option_map (hears (only p (Some s.value)))) (released_at old.slots p x (omega arith))
-      ∙ elim (cases_Bool (p == x)) [
-        | inl e ↦ rw e refl
-        | inr e ↦ rw (e, here, dest) refl
-      ]));
-  issue_numbers = heard_.issue_numbers ∙ issue_numbers;
-}
-
 -- The register of its destination, where its Qi still names the place.
-
-none_received : (p : ℕ) (rg : RegStatus) → Hears (only p None) rg rg
-none_received p rg count status =
-    record { count = count; status = status; fields = λ r l. sym (none_heard p (reg_field rg.values rg.tags r)) }
-
-pub hears_nothing : (p : ℕ) (o : Option Station) (rg : RegStatus) → o ≡ None → Hears (only p (sends_of o)) rg rg
-hears_nothing p o rg e = rw e (none_received p rg)
-
-pub hears_silent : (p : ℕ) (o : Option Station) (s : Station) (rg : RegStatus) → o ≡ Some s → dest_of s.instr ≡ None
-    → Hears (only p (sends_of o)) rg rg
-hears_silent p o s rg e dest = rw (e, dest) (none_received p rg)
 
 received_hears : (p r v : ℕ) (rg : RegStatus) → r < 32 → ((q : ℕ) → q < 32 → names rg q p ≡ true → q ≡ r)
     → Hears (only p (Some v)) rg (received rg r p v)
@@ -177,10 +137,10 @@ same_tag None u t x e f = let g : t ≡ u = cc in rw (← g) f
 same_tag (Some v) u t x e f = absurd (cc)
 
 -- registers still name who they named
-named_still : (picked k : ℕ) (old s : Pools) (first r : RegStatus) → AreNamed old.slots first
+named_still : {picked k : ℕ} {old s : Pools} {first r : RegStatus} → AreNamed old.slots first
     → AreEndedBelow picked k old s → length s.slots ≡ 96 → HaveReceived (sent_below old.slots picked k) first r
     → AreNamed s.slots r
-named_still picked k old s first r named so count heard_ q x l e station here =
+named_still {picked} {k} {old} {s} {first} {r} named so count heard_ q x l e station here =
     let low : x < 96 = wait_sets s.slots x station count here in
     let before : names first q x ≡ true =
     named_by (sent_below old.slots picked k) (slice_index first.values q) (slice_index r.values q)
@@ -219,66 +179,62 @@ first_applied picked st rg count = record {
   high = omega arith;
   stations = record {
     places = count;
-    slots =
-        λ x l. none_ended (sent_below st.slots picked 0) (slice_index_or st.slots x None)
-        (λ y. rw (le-ltb y 0 (omega arith)) refl)
-        ∙ sym (ap (λ b. after_ends (b && has picked x) (sent_below st.slots picked 0) (slice_index_or st.slots x None))
+    slots = λ x l. none_ended (sent_below st.slots picked 0) (slice_index_or st.slots x None)
+        (λ y. rw (le-ltb y 0 (omega arith)) refl) ∙ sym (ap
+        (λ b. after_ends (b && has picked x) (sent_below st.slots picked 0) (slice_index_or st.slots x None))
         (le-ltb x 0 (omega arith)));
     issue_numbers = refl;
   };
   registers = λ named n m. record {
     count = n;
     status = m;
-    fields =
-        λ r l. none_sent (sent_below st.slots picked 0) (reg_field rg.values rg.tags r)
+    fields = λ r l. none_sent (sent_below st.slots picked 0) (reg_field rg.values rg.tags r)
         (λ y. rw (le-ltb y 0 (omega arith)) refl);
   };
 }
 
 -- one place more
-pub one_applied : (picked rest left x : ℕ) (old s new : Pools) (first r status : RegStatus) → AreLow picked
-    → AreApplied picked rest old s first r → x < 128 → has rest x ≡ true → ((i : ℕ) → i < x → has rest i ≡ false)
-    → IsWithout rest x left
+pub one_applied : {picked rest left x : ℕ} {old s : Pools} (new : Pools) {first r : RegStatus} (status : RegStatus)
+    → AreLow picked → AreApplied picked rest old s first r → x < 128 → has rest x ≡ true
+    → ((i : ℕ) → i < x → has rest i ≡ false) → IsWithout rest x left
     → EndsIn (λ y. x == y) (only x (sends_of (slice_index_or s.slots x None))) s new
     → (AreNamed s.slots r → Hears (only x (sends_of (slice_index_or s.slots x None))) r status)
     → AreApplied picked left old new first status
-one_applied picked rest left x old s new first r status low so small member least without ends hears_ =
+one_applied {picked} {rest} {left} {x} {old} {s} new {first} {r} status low so small member least without ends hears_ =
     let from : so.k ≤ x = least_from picked rest so.k x so.from small member in
     let pick : has picked x ≡ true = least_in picked rest so.k x so.from small member in
     let below : x < 96 = low x small pick in
     let none : (j : ℕ) → so.k ≤ j → j < x → has picked j ≡ false =
     none_between picked rest so.k x so.from small least in
     let here : AreEndedBelow picked x old s =
-    skip_to (λ j. AreEndedBelow picked j old s) picked so.k x from none (λ j e b. apply_no picked j old s e b)
-    so.stations in
+    skip_to (λ j. AreEndedBelow picked j old s) picked so.k x from none (λ j e b. apply_no e b) so.stations in
     record {
       k = x + 1;
       from = left_from picked rest left so.k x so.from small member least without;
       high = omega arith;
-      stations = apply_yes picked x old s new below pick here ends;
+      stations = apply_yes new below pick here ends;
       registers = λ named count tags.
           let heard_ : Hears (sent_below old.slots picked x) first r =
           skip_to (λ j. Hears (sent_below old.slots picked j) first r) picked so.k x from none
           (λ j e b. hear_no picked j old first r e b) (so.registers named) in
-          hear_yes picked x old s first r status below pick here heard_
-          (hears_ (named_still picked x old s first r named here here.places (heard_ count tags))) count tags;
+          hear_yes first r status below pick here heard_
+          (hears_ (named_still named here here.places (heard_ count tags))) count tags;
     }
 
-pub all_applied : (picked rest : ℕ) (old s : Pools) (first r : RegStatus) → AreLow picked
-    → AreApplied picked rest old s first r → rest ≡ 0 → AreEndedBelow picked 96 old s
-    × (AreNamed old.slots first → Hears (sent_below old.slots picked 96) first r)
-all_applied picked rest old s first r low so empty =
+pub all_applied : {picked rest : ℕ} {old s : Pools} {first r : RegStatus} → AreLow picked
+    → AreApplied picked rest old s first r → rest ≡ 0
+    → AreEndedBelow picked 96 old s × (AreNamed old.slots first → Hears (sent_below old.slots picked 96) first r)
+all_applied {picked} {rest} {old} {s} {first} {r} low so empty =
     let none : (j : ℕ) → so.k ≤ j → j < 96 → has picked j ≡ false =
     λ j from to. none_after picked rest so.k so.from empty j from (omega arith) in (
-      skip_to (λ j. AreEndedBelow picked j old s) picked so.k 96 so.high none (λ j e b. apply_no picked j old s e b)
-          so.stations,
+      skip_to (λ j. AreEndedBelow picked j old s) picked so.k 96 so.high none (λ j e b. apply_no e b) so.stations,
       λ named. skip_to (λ j. Hears (sent_below old.slots picked j) first r) picked so.k 96 so.high none
           (λ j e b. hear_no picked j old first r e b) (so.registers named),
     )
 
-pub ended_below : (picked : ℕ) (old new : Pools) → AreEndedBelow picked 96 old new
+pub ended_below : {picked : ℕ} {old new : Pools} → AreEndedBelow picked 96 old new
     → AreEnded (λ x. has picked x) (sent_below old.slots picked 96) old new
-ended_below picked old new so = record {
+ended_below {picked} {old} so = record {
   places = so.places;
   slots = λ x l. so.slots x l ∙ ap
       (λ b. after_ends (b && has picked x) (sent_below old.slots picked 96) (slice_index_or old.slots x None))

@@ -49,27 +49,23 @@ none_ended old count = record {
 
 none_received : (slots : List (Option Station)) (registers : RegStatus)
     → Hears (sent_below slots 0 96) registers registers
-none_received slots registers count status =
-    record {
-      count = count;
-      status = status;
-      fields =
-          λ r l. heard_none (sent_below slots 0 96)
-          (field_from (slice_index registers.values r) (slice_index_or registers.tags r None)) (none_sent slots 96);
-    }
+none_received slots registers count status = record {
+  count = count;
+  status = status;
+  fields = λ r l. heard_none (sent_below slots 0 96)
+      (field_from (slice_index registers.values r) (slice_index_or registers.tags r None)) (none_sent slots 96);
+}
 
-pub ends_none : (config : Configuration) (next ending : ℕ) (old : Pools) (registers : RegStatus) (fetch result : Fetch)
-    → AreEnding old config.buses next ending → AreBusy old.slots old.busy old.issue_numbers
+pub ends_none : (config : Configuration) {next : ℕ} (ending : ℕ) (old : Pools) (registers : RegStatus)
+    {fetch result : Fetch} → AreEnding old config.buses next ending → AreBusy old.slots old.busy old.issue_numbers
     → Follows next old.slots fetch result → ending ≡ 0 → MakesEnds config next old registers fetch old registers result
-ends_none config next ending old registers fetch result ends filled follows e =
-    made_ends config next old old registers registers fetch result 0 (rw e at ends) filled follows
-    (λ low. none_ended old) (λ count low named. none_received old.slots registers)
+ends_none config ending old registers ends filled follows e = made_ends config old old registers registers 0
+    (rw e at ends) filled follows (λ low. none_ended old) (λ count low named. none_received old.slots registers)
 
 pub none_over : (slots : List (Option Station)) (next ending : ℕ) (f : Finishes) → length slots ≡ 96
     → LeavesTimetable slots next ending f → ending ≡ 0 → IsTimetableOf slots (next + 1) f
-none_over slots next ending f count leaves e =
-    leaves slots (λ y. None) count (λ x l. rw (e, none_in x)
-    (hears_none (λ y. None) (slice_index_or slots x None) (λ y. refl)))
+none_over slots next ending f count leaves e = leaves slots (λ y. None) count
+    (λ x l. rw (e, none_in x) (hears_none (λ y. None) (slice_index_or slots x None) (λ y. refl)))
 
 -- where nothing finishes, no branch is followed
 pub none_followed : (next due : ℕ) (slots : List (Option Station)) (fetch : Fetch) → AreDone slots next due → due ≡ 0

@@ -6,11 +6,8 @@ use Rattle.std.specs.Int.{w128, trailing_zeros}
 use Rattle.std.proofs.lemmas.Nat.Bits.{bit_at-trailing_zeros, bit_at_above}
 use Rattle.std.proofs.lemmas.List.{get_or_past}
 use Rattle.std.proofs.lemmas.Bool.{cases_Bool, both_ways, and_parts, eq-eqb, eqb-true, ne_eqb, ltb-true, ltb-false}
-use Rattle.tomex_image.specs.Image.{Loaded, IsLoaded}
+use Rattle.tomex_image.specs.Image.{Loaded}
 use Rattle.tomex_config.specs.Configuration.{Configuration, IsWithinLimits}
-use Rattle.tomex_rvexec.specs.declared.outcome.EndKind.{EndKind}
-use Rattle.tomex_rvexec.specs.Machine.{State}
-use Rattle.tomex_rvexec.specs.Run.{RunEnds}
 use Rattle.tomex_steps.specs.Steps.{is_number, j_of, step_pool, step_unit}
 use Rattle.tomex_timing.specs.declared.tables.Field.{Field}
 use Rattle.tomex_timing.specs.declared.tables.Field.TheVariants.{Value, Waits, Unread}
@@ -34,7 +31,7 @@ use Rattle.tomex_cycle.specs.declared.fetch.Fetch.{Fetch}
 use Rattle.tomex_steps.specs.Memory.{Bytes}
 use Rattle.tomex_rvexec.specs.declared.outcome.Fault.{Fault}
 use Rattle.tomex_tags.specs.declared.register_status.RegStatus.{RegStatus}
-use Rattle.tomex_cycle.specs.Run.{AreIssuedBy, IsHistory, first_timed}
+use Rattle.tomex_cycle.specs.Run.{AreIssuedBy, IsHistory, first_timed, RunEndsAfter}
 use Rattle.tomex_cycle.specs.Starts.{IsStarting}
 use Rattle.tomex_cycle.specs.Views.{Clocks, clocks, holds_place, order_of, place_of, station_at, station_of}
 use Rattle.tomex_cycle.specs.Views.{ShowsStations}
@@ -77,8 +74,7 @@ quiet_none u (d ∷ h) quiet = rw (
   ne_eqb d.at.start u quiet.0.start,
   ne_eqb d.at.finish u quiet.0.finish,
   ne_eqb d.at.end u quiet.0.end,
-)
-    (let z : events_in u h ≡ 0 = quiet_none u h quiet.1 in omega arith)
+) (let z : events_in u h ≡ 0 = quiet_none u h quiet.1 in omega arith)
 
 pub events_older : (u : ℕ) (newer h : List Done) → events_in u h ≤ events_in u (newer ++ h)
 events_older u [] h = omega arith
@@ -120,20 +116,18 @@ member_of set fits some =
     let here : has set (trailing_zeros w128 set) ≡ true = has_one set (trailing_zeros w128 set) one.1 in
     let small : trailing_zeros w128 set < 128 = elim (cases_Bool (nat_lt (trailing_zeros w128 set) 128)) [
       | inl l ↦ ltb-true _ _ l
-      | inr l ↦ absurd (both_ways (has set (trailing_zeros w128 set))
-          (has_none set (trailing_zeros w128 set)
+      | inr l ↦ absurd (both_ways (has set (trailing_zeros w128 set)) (has_none set (trailing_zeros w128 set)
           (bit_at_above set 128 (trailing_zeros w128 set) fits (ltb-false _ _ l))) here)
     ] in
     (trailing_zeros w128 set, small, here)
 
-pub start_happens : (i : Loaded) (config : Configuration) (t u : ℕ) (st : Pools) (h : List Done) (starting : ℕ)
+pub start_happens : {i : Loaded} {config : Configuration} (t : ℕ) {u : ℕ} {st : Pools} {h : List Done} {starting : ℕ}
     → IsHistory i config h → AreIssuedBy t h → ShowsStations i (clocks t t t) h st
     → AreBusy st.slots st.busy st.issue_numbers → IsStarting config st u starting → u ≡ t + 1 → starting < 2 ^ 128
     → starting ≢ 0 → 0 < events_in u h
-start_happens i config t u st h starting past issued shown filled begins e fits some =
+start_happens t {u} {h} {starting} past issued shown filled begins e fits some =
     let x = member_of starting fits some in
-    starts_happen t u x.0 h (sym (starting_is i config t u x.0 st h starting past.lawful past.timed issued shown filled
-    begins e x.1) ∙ x.2)
+    starts_happen t u x.0 h (sym (starting_is t x.0 past.lawful past.timed issued shown filled begins e x.1) ∙ x.2)
 
 -- Ends.
 
@@ -147,13 +141,13 @@ ends_happen u x (d ∷ h) e = elim (cases_Bool (is_number (place_of d) x && (d.a
   | inr k ↦ let more : 0 < events_in u h = ends_happen u x h (rw k at e) in omega arith
 ]
 
-pub end_happens : (i : Loaded) (config : Configuration) (t u : ℕ) (st : Pools) (h : List Done) (ending : ℕ)
+pub end_happens : {i : Loaded} {config : Configuration} (t u : ℕ) {st : Pools} {h : List Done} (ending : ℕ)
     → IsHistory i config h → AreIssuedBy u h → ShowsStations i (clocks u u t) h st
     → AreBusy st.slots st.busy st.issue_numbers → AreEnding st config.buses u ending → u ≡ t + 1 → ending < 2 ^ 128
     → ending ≢ 0 → 0 < events_in u h
-end_happens i config t u st h ending past issued shown filled ends e fits some =
+end_happens {config} t u {st} {h} ending past issued shown filled ends e fits some =
     let x = member_of ending fits some in
-    ends_happen u x.0 h (sym (ending_is i config t u x.0 st h ending past.lawful past.timed issued e shown filled ends
+    ends_happen u x.0 h (sym (ending_is t x.0 past.lawful past.timed issued e shown filled ends
     (ending_low st config.buses u ending ends filled x.0 x.1 x.2)) ∙ x.2)
 
 -- Finishes.
@@ -178,9 +172,9 @@ finish_happens i c v x (d ∷ h) e = elim (cases_Bool (holds_place c.end x d)) [
 pub not_zero : (n : ℕ) → not (n == 0) ≡ true → n ≢ 0
 not_zero n e z = let f : false ≡ true = rw (eq-eqb n 0 z) at e in absurd (cc)
 
-pub due_happens : (i : Loaded) (t u : ℕ) (st : Pools) (h : List Done) (due : ℕ) → ShowsStations i (clocks u u t) h st
+pub due_happens : {i : Loaded} (t u : ℕ) {st : Pools} {h : List Done} (due : ℕ) → ShowsStations i (clocks u u t) h st
     → AreDone st.slots u due → due < 2 ^ 128 → due ≢ 0 → 0 < events_in u h
-due_happens i t u st h due shown done fits some =
+due_happens {i} t u {st} {h} due shown done fits some =
     let x = member_of due fits some in
     let finishes_now : finishes u (slice_index_or st.slots x.0 None) ≡ true = sym (done x.0 x.1) ∙ x.2 in
     let low : x.0 < 96 = elim (cases_Bool (nat_lt x.0 96)) [
@@ -192,12 +186,11 @@ due_happens i t u st h due shown done fits some =
 
 -- Issues.
 
-pub issue_happens : (i : Loaded) (config : Configuration) (n t u count more : ℕ) (s : State) (kind : EndKind)
-    → IsWithinLimits config → RunEnds i n s kind → u ≡ t + 1 → (count ≤ n → IsYetToIssue i config count t)
-    → count ≤ more → more ≤ n + 1 → more ≢ count → AreIssuedBy u (first_timed config i more)
-    → 0 < events_in u (first_timed config i more)
-issue_happens i config n t u count more s kind good ends e yet l few apart issued =
-    let rest = rest_to config i n count more t s kind good ends yet l few in
+pub issue_happens : {i : Loaded} {config : Configuration} {n : ℕ} (t u count more : ℕ) → RunEndsAfter i config n
+    → u ≡ t + 1 → (count ≤ n → IsYetToIssue i config count t) → count ≤ more → more ≤ n + 1 → more ≢ count
+    → AreIssuedBy u (first_timed config i more) → 0 < events_in u (first_timed config i more)
+issue_happens {i} {config} t u count more run e yet l few apart issued =
+    let rest = rest_to count more t run yet l few in
     rw rest.1.same (some_issue t u rest.0 (first_timed config i count) e rest.1.later (rw rest.1.same at issued)
     (let c : more ≡ length rest.0 + count = rest.1.count in omega arith))
   where
@@ -244,12 +237,12 @@ chosen_happens i config t u x st h newer (d ∷ older) good timed issued e shown
           let by : AreIssuedBy t (newer ++ (d ∷ older)) = rw split at issued in
           let part : AreTimed config (d ∷ older) = timed_part config newer (d ∷ older) here in
           let mine : AreIssuedBy t (d ∷ older) = issued_part t newer (d ∷ older) by in
-          let last : last_address older ≤ t = none_waits config t older good part.1 mine.1 f in
-          let test = test_is config t u d older part.0 part.1 mine e b.0 last late in
+          let last : last_address older ≤ t = none_waits t older good part.1 mine.1 f in
+          let test = test_is t u d part.0 part.1 mine e b.0 last late in
           let held : holds_place t x d ≡ true = holds_by t x d place w in
           let small : x < 96 = place_low (step_pool d.step) d.at.station x (low config (d ∷ older) good part).0 place in
           let there : station_at i (clocks u t t) (newer ++ (d ∷ older)) x ≡ Some (station_of i (clocks u t t) d older)
-          = station_here i config (clocks u t t) newer d older x good here
+          = station_here i (clocks u t t) newer d older x good here
           (issued_more t (t + 1) (newer ++ (d ∷ older)) (omega arith) by) held in
           let slot : slice_index_or st.slots x None ≡ Some (station_of i (clocks u t t) d older) =
           shown.slots x small ∙ (ap (λ xs. station_at i (clocks u t t) xs x) split ∙ there) in
@@ -266,8 +259,7 @@ pub address_happens : (next x : ℕ) (old : Pools) → AreBusy old.slots old.bus
     → AddressHappens next old
 address_happens next x old filled some i config h t e past issued shown =
     let by : IsInIssueOrder old.busy old.issue_numbers (order_of t h) =
-    order_is i config (clocks next t t) h old past.lawful past.timed (issued_more t (t + 1) h (omega arith) issued)
-    shown filled in
+    order_is past.lawful past.timed (issued_more t (t + 1) h (omega arith) issued) shown filled in
     let waits : first_waiting old.slots (order_of t h) ≡ chosen t h =
     waiting_is i config t next old h [] h past.lawful past.timed issued shown refl in
     let found = here old.slots (chosen t h) (rw waits at (some (order_of t h) by)) in
@@ -285,44 +277,36 @@ address_happens next x old filled some i config h t e past issued shown =
     ]
 
 -- what happens in a part of a run happens in the run
-pub run_happens : (config : Configuration) (i : Loaded) (n k u : ℕ) (s : State) (kind : EndKind) → RunEnds i n s kind
-    → k ≤ n + 1 → 0 < events_in u (first_timed config i k) → 0 < events_in u (first_timed config i (n + 1))
-run_happens config i n k u s kind ends l some =
-    let part = run_split config i n k (n + 1) s kind ends l (omega arith) in
+pub run_happens : {config : Configuration} {i : Loaded} {n : ℕ} (k u : ℕ) → RunEndsAfter i config n → k ≤ n + 1
+    → 0 < events_in u (first_timed config i k) → 0 < events_in u (first_timed config i (n + 1))
+run_happens {config} {i} {n} k u run l some =
+    let part = run_split k (n + 1) run l (omega arith) in
     let more : events_in u (first_timed config i k) ≤ events_in u (part.0 ++ first_timed config i k) =
     events_older u part.0 (first_timed config i k) in
     rw part.1 (omega arith)
 
 -- a cycle whose phases tell of something has an event
-pub cycle_happens : (i : Loaded) (config : Configuration) (n t next count c : ℕ) (s : State) (kind : EndKind)
-    (fault : Option Fault) (any addressed ended : Bool)
-    (st0 st1 st3 : Pools) (rg0 rg1 : RegStatus) (ft0 ft1 : Fetch) (m0 m1 : Bytes)
-    → MakesStarts config next st0 m0 fault st1 m1 → (any ≡ true → StartsHappen config next st0)
+pub cycle_happens : {i : Loaded} {config : Configuration} {n t next count c : ℕ} {fault : Option Fault}
+    (any addressed ended : Bool) {st0 : Pools} (st1 : Pools) {st3 : Pools} {rg0 rg1 : RegStatus} {ft0 ft1 : Fetch}
+    {m0 m1 : Bytes} → MakesStarts config next st0 m0 fault st1 m1 → (any ≡ true → StartsHappen config next st0)
     → (addressed ≡ true → AddressHappens next st1) → (ended ≡ true → EndsHappen config next st3)
-    → IsUnderWay i config n t next count c fault st3 rg1 ft1 m1 → RunEnds i n s kind → next ≡ t + 1
-    → IsWithinLimits config → IsLoaded i.window i.memory i.entry → IsSnapshot i config n t count st0 rg0 ft0 m0
+    → IsUnderWay i config n t next count c fault st3 rg1 ft1 m1 → RunEndsAfter i config n → next ≡ t + 1
+    → IsSnapshot i config n t count st0 rg0 ft0 m0
     → (any ≡ true) ⊎ ((addressed ≡ true) ⊎ ((c ≢ count) ⊎ (ended ≡ true)))
     → 0 < events_in next (first_timed config i (n + 1))
-cycle_happens i config n t next count c s kind fault any addressed ended st0 st1 st3 rg0 rg1 ft0 ft1 m0 m1 starts a b d
-    on ends e good loaded old which =
+cycle_happens {i} {config} {n} {t} {next} {count} {c} any addressed ended st1 starts a b d on run e old which =
     let few : count ≤ n + 1 = old.issue.few in
-    let h0 : IsHistory i config (first_timed config i count) =
-    run_history config i n count s kind good loaded ends few in
+    let h0 : IsHistory i config (first_timed config i count) = run_history count run few in
     elim which [
-      | inl k ↦ run_happens config i n count next s kind ends few
-          (a k i (first_timed config i count) t e h0 old.issue.issued old.issue.slots)
+      | inl k ↦ run_happens count next run few (a k i (first_timed config i count) t e h0 old.issue.issued old.issue.slots)
       | inr other ↦ elim other [
         | inl k ↦
             let made = starts i (first_timed config i count) t e h0 old.issue.issued old.issue.slots old.bytes in
-            run_happens config i n count next s kind ends few
-            (b k i config (first_timed config i count) t e h0 old.issue.issued made.1)
+            run_happens count next run few (b k i config (first_timed config i count) t e h0 old.issue.issued made.1)
         | inr other ↦ elim other [
-          | inl k ↦ run_happens config i n c next s kind ends on.after.few
-              (issue_happens i config n t next count c s kind good ends e old.issue.next on.low on.after.few k
-              on.after.issued)
-          | inr k ↦ run_happens config i n c next s kind ends on.after.few
-              (d k i (first_timed config i c) t e (run_history config i n c s kind good loaded ends on.after.few)
-              on.after.issued on.after.slots)
+          | inl k ↦ run_happens c next run on.after.few (issue_happens t next count c run e old.issue.next on.low on.after.few k on.after.issued)
+          | inr k ↦ run_happens c next run on.after.few (d k i (first_timed config i c) t e
+              (run_history c run on.after.few) on.after.issued on.after.slots)
         ]
       ]
     ]

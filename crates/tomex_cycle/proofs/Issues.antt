@@ -53,18 +53,16 @@ starts_from : (pool : Option PoolId) (issue start : ℕ) (p : PoolId) (P : UnitI
 starts_from None issue start p P e later timed = absurd (cc)
 starts_from (Some q) issue start p P e later timed = later _ start timed.0
 
-starts_after : (config : Configuration) (d : Done) (older : List Done) (p : PoolId) → IsTimed config older d.step d.at
+starts_after : {config : Configuration} (d : Done) {older : List Done} (p : PoolId) → IsTimed config older d.step d.at
     → step_pool d.step ≡ Some p → d.at.issue < d.at.start
-starts_after config d older p timed e =
-    starts_from (step_pool d.step) d.at.issue d.at.start p
+starts_after {config} d {older} p timed e = starts_from (step_pool d.step) d.at.issue d.at.start p
     (λ u. can_start config older d.step u d.at.issue (cycle_of d.at.address)) e (can_start_later config d older)
     timed.start
 
-address_after : (config : Configuration) (d : Done) (older : List Done) → IsTimed config older d.step d.at
+address_after : {config : Configuration} (d : Done) {older : List Done} → IsTimed config older d.step d.at
     → is_memory d.step ≡ true → d.at.issue < cycle_of d.at.address
-address_after config d older timed e =
-    ltb-true d.at.issue (cycle_of d.at.address)
-    (and_parts _ _ (and_parts _ _ (address_is config d older timed e).0).0).0
+address_after d timed e =
+    ltb-true d.at.issue (cycle_of d.at.address) (and_parts _ _ (and_parts _ _ (address_is d timed e).0).0).0
 
 -- Operands.
 
@@ -97,27 +95,25 @@ field_same a b None e = ap (λ (v : ℕ). Value v) (e refl)
 field_same a b (Some tag) e = refl
 
 -- an operand that is read from the registers
-read_is : (i : Loaded) (t v : ℕ) (h : List Done) (rg : RegStatus) (source : Option ℕ) → ShowsRegisters i t h rg
+read_is : {i : Loaded} {t : ℕ} (v : ℕ) {h : List Done} {rg : RegStatus} (source : Option ℕ) → ShowsRegisters i t h rg
     → IfSome source (λ r. r < 32) → ((r : ℕ) → source ≡ Some r → v ≡ register_after i (steps_in h) r)
     → operand_in rg source ≡ field_of t h (option_map (operand v) source)
-read_is i t v h rg None shown low value = refl
-read_is i t v h rg (Some r) shown low value =
+read_is v None shown low value = refl
+read_is {t} v {h} {rg} (Some r) shown low value =
     let tag : slice_index_or rg.tags r None ≡ producer t h r = shown.tags r low in
     rw tag (field_same (slice_index rg.values r) v (producer t h r) (λ none. shown.values r low none
     ∙ sym (value r refl)))
 
-pub read_j : (i : Loaded) (t : ℕ) (h : List Done) (rg : RegStatus) (x : Step) → ShowsRegisters i t h rg
+pub read_j : {i : Loaded} {t : ℕ} {h : List Done} {rg : RegStatus} {x : Step} → ShowsRegisters i t h rg
     → Follows i (steps_in h) x → IfSome (sources_of x.instr).j (λ r. r < 32)
     → operand_in rg (sources_of x.instr).j ≡ field_of t h (j_of x)
-read_j i t h rg x shown follows low =
-    read_is i t x.vj h rg (sources_of x.instr).j shown low
+read_j {x} shown follows low = read_is x.vj (sources_of x.instr).j shown low
     (λ r e. rw (source_j (form_of x.instr.op) x.instr.rs1 x.instr.rs2 r e) follows.vj)
 
-pub read_k : (i : Loaded) (t : ℕ) (h : List Done) (rg : RegStatus) (x : Step) → ShowsRegisters i t h rg
+pub read_k : {i : Loaded} {t : ℕ} {h : List Done} {rg : RegStatus} {x : Step} → ShowsRegisters i t h rg
     → Follows i (steps_in h) x → IfSome (sources_of x.instr).k (λ r. r < 32)
     → operand_in rg (sources_of x.instr).k ≡ field_of t h (k_of x)
-read_k i t h rg x shown follows low =
-    read_is i t x.vk h rg (sources_of x.instr).k shown low
+read_k {x} shown follows low = read_is x.vk (sources_of x.instr).k shown low
     (λ r e. rw (source_k (form_of x.instr.op) x.instr.rs1 x.instr.rs2 r e) follows.vk)
 
 -- The station of what issues.
@@ -135,22 +131,23 @@ made_from : (instr : Instruction) (pc : ℕ) (j k : Field) (start u finish value
       j = j;
       k = k;
       address = address;
-      finish = if nat_le start u then Some finish else None;
+      finish = if nat_le start u
+          then Some finish else None;
       value = if nat_le start u then value else 0;
     }) (issued instr pc j k)
 made_from instr pc j k start u finish value address l e = rw (lt-leb start u l, e) refl
 
-pub station_made : (i : Loaded) (config : Configuration) (t u : ℕ) (d : Done) (h : List Done) (p : PoolId)
+pub station_made : (i : Loaded) {config : Configuration} (t u : ℕ) (d : Done) {h : List Done} (p : PoolId)
     → IsTimed config h d.step d.at → d.at.issue ≡ u → step_pool d.step ≡ Some p
-    → station_of i (clocks u u t) d h ≡ issued d.step.instr d.step.pc (field_of t h (j_of d.step))
-    (field_of t h (k_of d.step))
-station_made i config t u d h p timed at pool =
-    let after : d.at.issue < d.at.start = starts_after config d h p timed pool in
+    → station_of i (clocks u u t) d h ≡ issued d.step.instr d.step.pc (field_of t h (j_of d.step)) (field_of t h (k_of
+    d.step))
+station_made i t u d {h} p timed at pool =
+    let after : d.at.issue < d.at.start = starts_after d p timed pool in
     made_from d.step.instr d.step.pc (field_of t h (j_of d.step)) (field_of t h (k_of d.step)) d.at.start u d.at.finish
     (result_of d.step (byte_after i (steps_in h)))
     (if is_memory d.step && nat_le (cycle_of d.at.address) u then Some (address_of d.step) else None) (omega arith)
     (none_yet (is_memory d.step) (cycle_of d.at.address) u (address_of d.step)
-    (λ m. let k : d.at.issue < cycle_of d.at.address = address_after config d h timed m in omega arith))
+    (λ m. let k : d.at.issue < cycle_of d.at.address = address_after d timed m in omega arith))
 
 -- its tag
 tag_from : (pool : Option PoolId) (station : Option ℕ) (p : PoolId) (n issue : ℕ) (older : List Done) → pool ≡ Some p
@@ -165,10 +162,10 @@ tag_from (Some q) station p n issue older e least is =
     let f : station ≡ Some is.0 = is.1 in
     rw (f, s, same) refl
 
-pub tag_made : (config : Configuration) (d : Done) (h : List Done) (p : PoolId) (n u : ℕ) → IsTimed config h d.step d.at
+pub tag_made : {config : Configuration} (d : Done) {h : List Done} (p : PoolId) (n u : ℕ) → IsTimed config h d.step d.at
     → d.at.issue ≡ u → step_pool d.step ≡ Some p → IsLeast (is_free p h u) n
     → tag_of d ≡ Some (record { pool = p; number = n })
-tag_made config d h p n u timed at pool least =
+tag_made d {h} p n u timed at pool least =
     tag_from (step_pool d.step) d.at.station p n d.at.issue h pool (rw at least) timed.station
 
 -- The stations.
@@ -198,17 +195,16 @@ number_with x y n d h issue_numbers place small count same before = elim (cases_
   | inr e ↦ rw (place, e) (get_or-set_other issue_numbers x y n 0 (λ z. eqb-false x y e (sym z)) ∙ before)
 ]
 
-pub stations_with : (i : Loaded) (c : Clocks) (x n : ℕ) (d : Done) (h : List Done) (old new : Pools) (s : Station)
-    → ShowsStations i c h old → place_of d ≡ Some x → x < 96 → c.end < d.at.end → n ≡ length h → s ≡ station_of i c d h
-    → new.slots ≡ slice_set old.slots x (Some s) → new.issue_numbers ≡ slice_set old.issue_numbers x n
-    → ShowsStations i c (d ∷ h) new
-stations_with i c x n d h old new s shown place small late count_is same slots issue_numbers =
+pub stations_with : {i : Loaded} {c : Clocks} (x n : ℕ) (d : Done) {h : List Done} {old : Pools} (new : Pools)
+    (s : Station) → ShowsStations i c h old → place_of d ≡ Some x → x < 96 → c.end < d.at.end → n ≡ length h
+    → s ≡ station_of i c d h → new.slots ≡ slice_set old.slots x (Some s)
+    → new.issue_numbers ≡ slice_set old.issue_numbers x n → ShowsStations i c (d ∷ h) new
+stations_with {i} {c} x n d {h} {old} new s shown place small late count_is same slots issue_numbers =
     let count : length old.slots ≡ 96 = shown.places in
     record {
       places = ap length slots ∙ (length-set old.slots x (Some s) ∙ shown.places);
-      slots = λ y l. ap (λ xs. slice_index_or xs y None) slots
-          ∙ (set_slot old.slots x y s (omega arith)
-          ∙ (rw (same, shown.slots y l) refl ∙ sym (slot_with i c x y d h place late)));
+      slots = λ y l. ap (λ xs. slice_index_or xs y None) slots ∙ (set_slot old.slots x y s (omega arith) ∙
+          (rw (same, shown.slots y l) refl ∙ sym (slot_with i c x y d h place late)));
       order_count = ap length issue_numbers ∙ (length-set old.issue_numbers x n ∙ shown.order_count);
       issue_numbers = λ y l. ap (λ xs. slice_index xs y) issue_numbers
           ∙ number_with x y n d h old.issue_numbers place small shown.order_count count_is (shown.issue_numbers y l);
@@ -219,9 +215,9 @@ none_place None station e = refl
 none_place (Some p) station e = absurd (cc)
 
 -- what takes no station changes none
-pub stations_same : (i : Loaded) (c : Clocks) (d : Done) (h : List Done) (st : Pools) → ShowsStations i c h st
+pub stations_same : {i : Loaded} {c : Clocks} (d : Done) {h : List Done} {st : Pools} → ShowsStations i c h st
     → step_pool d.step ≡ None → ShowsStations i c (d ∷ h) st
-stations_same i c d h st shown none =
+stations_same d shown none =
     let place : place_of d ≡ None = ap place_at (none_place (step_pool d.step) d.at.station none) in
     record {
       places = shown.places;
@@ -248,10 +244,10 @@ tags_count tags (Some q) tag = length-set tags q (Some tag)
 some_none_tag : (tag : Tag) → Some tag ≡ None → ⊥
 some_none_tag tag e = cc
 
-pub registers_with : (i : Loaded) (t : ℕ) (tag : Tag) (d : Done) (h : List Done) (old new : RegStatus)
+pub registers_with : {i : Loaded} {t : ℕ} (tag : Tag) (d : Done) {h : List Done} {old : RegStatus} (new : RegStatus)
     → ShowsRegisters i t h old → tag_of d ≡ Some tag → t < d.at.end → IfSome (step_dest d.step) (λ q. q < 32)
     → new.values ≡ old.values → new.tags ≡ tags_with old.tags (step_dest d.step) tag → ShowsRegisters i t (d ∷ h) new
-registers_with i t tag d h old new shown is late low values tags =
+registers_with {t} tag d {old} new shown is late low values tags =
     let sent : unsent_tag t d ≡ Some tag = rw (lt-ltb t d.at.end late) is in
     record {
       count = ap length values ∙ shown.count;
@@ -264,9 +260,9 @@ registers_with i t tag d h old new shown is late low values tags =
       ];
     }
 
-pub registers_same : (i : Loaded) (t : ℕ) (d : Done) (h : List Done) (rg : RegStatus) → ShowsRegisters i t h rg
+pub registers_same : {i : Loaded} {t : ℕ} (d : Done) {h : List Done} {rg : RegStatus} → ShowsRegisters i t h rg
     → step_pool d.step ≡ None → ShowsRegisters i t (d ∷ h) rg
-registers_same i t d h rg shown none =
+registers_same d shown none =
     let dest : step_dest d.step ≡ None = dest_needs_pool d.step none in
     record {
       count = shown.count;
@@ -285,14 +281,14 @@ branch_late : (b : Bool) (t finish : ℕ) → (b ≡ true → t < finish) → b 
 branch_late false t finish l = refl
 branch_late true t finish l = rw (lt-ltb t finish (l refl)) refl
 
-pub fetch_made : (i : Loaded) (config : Configuration) (t u : ℕ) (d : Done) (h : List Done) (ft : Fetch)
+pub fetch_made : (i : Loaded) {config : Configuration} (t u : ℕ) (d : Done) (h : List Done) (ft : Fetch)
     → IsWithinLimits config → AreTimed config (d ∷ h) → d.at.issue ≡ u → u ≡ t + 1
     → ft ≡ fetch_after d.step (is_branch d.step) (end_of d.step) → ft ≡ fetch_of i t (d ∷ h)
-fetch_made i config t u d h ft good timed at e is =
+fetch_made i t u d h ft good timed at e is =
     let late : is_branch d.step ≡ true → t < d.at.finish = λ b. (
     let q = branch_pool (step_pool d.step) pools.Bru b in
-    let after : d.at.issue < d.at.start = starts_after config d h q.0 timed.0 q.1 in
-    let r : d.at.start ≤ d.at.finish = (reach config d h good timed).order in
+    let after : d.at.issue < d.at.start = starts_after d q.0 timed.0 q.1 in
+    let r : d.at.start ≤ d.at.finish = (reach d h good timed).order in
     omega arith) in
     is ∙ ap (λ (w : Bool). fetch_after d.step w (end_of d.step)) (branch_late (is_branch d.step) t d.at.finish late)
 

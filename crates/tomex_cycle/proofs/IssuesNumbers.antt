@@ -1,7 +1,7 @@
 -- The numbers of a pool's stations: which are free, and how many are held.
 use Rattle.std.proofs.Common.{ℕ, zero, suc, ◌+◌, ◌*◌, ◌<◌, ◌≤◌, ◌≡◌, ◌∙◌, Bool, true, false, arith, refl, List}
 use Rattle.std.proofs.Common.{[], ◌∷◌, Option, Some, None, ap, sym, inl, inr}
-use Rattle.std.specs.Prelude.{nat_lt, nat_le, ◌&&◌, ◌==◌, not, count_by, is_none, MatchOption}
+use Rattle.std.specs.Prelude.{nat_lt, nat_le, ◌&&◌, not, count_by, is_none, MatchOption}
 use Rattle.std.specs.List.{list_all}
 use Rattle.std.proofs.lemmas.Bool.{cases_Bool, cases_order, ltb-true, lt-ltb, le-ltb, leb-true, leb-false, le-leb}
 use Rattle.std.proofs.lemmas.Bool.{lt-leb, and_parts, eqb-true, both_ways}
@@ -21,11 +21,7 @@ use Rattle.tomex_timing.proofs.Stations.{lower, number_is, one, split_count}
 use Rattle.tomex_cycle.specs.Run.{AreIssuedBy}
 use Rattle.tomex_cycle.specs.Views.{clocks, holds_place, station_at}
 use Rattle.tomex_cycle.proofs.Places.{AreLow, same_place}
-use Rattle.tomex_tags.specs.Places.{pool_at}
-use Rattle.tomex_tags.proofs.Serving.{pool_place}
-
-same_pool : (p q : PoolId) → (place_of_pool q == place_of_pool p) ≡ true → q ≡ p
-same_pool p q e = sym (pool_place q) ∙ (ap pool_at (eqb-true (place_of_pool q) (place_of_pool p) e) ∙ pool_place p)
+use Rattle.tomex_timing.proofs.Places.{same_pool}
 
 -- what isn't held isn't held later
 held_later : (p : PoolId) (t u : ℕ) (d : Done) → t ≤ u → is_held p t d ≡ false → is_held p u d ≡ false
@@ -35,43 +31,6 @@ held_later p t u d l e = elim (cases_Bool (is_in p (step_pool d.step))) [
       let f : nat_le t d.at.end ≡ false = rw k at e in
       let g : d.at.end < t = leb-false _ _ f in
       rw (k, lt-leb u d.at.end (omega arith)) refl
-]
-
-one_le : (a b : Bool) → (b ≡ false → a ≡ false) → one a ≤ one b
-one_le false b f = omega arith
-one_le true true f = omega arith
-one_le true false f = absurd (let g : true ≡ false = f refl in cc)
-
-count_later : (p : PoolId) (t u : ℕ) (h : List Done) → t ≤ u → count_by (is_held p u) h ≤ count_by (is_held p t) h
-count_later p t u [] l = omega arith
-count_later p t u (d ∷ h) l =
-    let a : count_by (is_held p u) h ≤ count_by (is_held p t) h = count_later p t u h l in
-    let b : one (is_held p u d) ≤ one (is_held p t d) = one_le (is_held p u d) (is_held p t d) (held_later p t u d l) in
-    rw (sum_by-cons, sum_by-cons) (omega arith)
-
-room_of : (config : Configuration) (older : List Done) (p : PoolId) (pool : Option PoolId) (t : ℕ) → is_in p pool ≡ true
-    → has_station config older pool t ≡ true → count_by (is_held p t) older < stations_of config p
-room_of config older p None t e has = absurd (cc)
-room_of config older p (Some q) t e has =
-    rw (same_pool p q e) at (ltb-true (count_by (is_held q t) older) (stations_of config q) has)
-
--- a pool's stations are enough for those that are held
-pub held_most : (config : Configuration) (p : PoolId) (u : ℕ) (h : List Done) → AreTimed config h → AreIssuedBy u h
-    → count_by (is_held p u) h ≤ stations_of config p
-held_most config p u [] timed issued = omega arith
-held_most config p u (d ∷ older) timed issued = elim (cases_Bool (is_held p u d)) [
-  | inr e ↦
-      let k : count_by (is_held p u) older ≤ stations_of config p = held_most config p u older timed.1 issued.1 in
-      rw (sum_by-cons, e) (omega arith)
-  | inl e ↦
-      let has : has_station config older (step_pool d.step) d.at.issue ≡ true =
-      issue_station config older d.step d.at.issue timed.0.issue.0 in
-      let f : count_by (is_held p d.at.issue) older < stations_of config p =
-      room_of config older p (step_pool d.step) d.at.issue
-      (and_parts (is_in p (step_pool d.step)) (nat_le u d.at.end) e).0 has in
-      let m : count_by (is_held p u) older ≤ count_by (is_held p d.at.issue) older =
-      count_later p d.at.issue u older issued.0 in
-      rw (sum_by-cons, e) (omega arith)
 ]
 
 -- Where a number is free, a station is left.
@@ -138,8 +97,7 @@ free_later p t u k (d ∷ h) l e =
     let two = and_parts (not (is_held p t d && is_number d.at.station k)) (is_free p h t k) e in
     rw (
       free_one (is_held p t d) (is_held p u d) (is_number d.at.station k) (held_later p t u d l) two.0,
-      free_later p t
-          u k h l two.1,
+      free_later p t u k h l two.1,
     ) refl
 
 number_same : (station : Option ℕ) (n k : ℕ) → station ≡ Some n → is_number station k ≡ true → n ≡ k
@@ -152,7 +110,7 @@ taken_free : (older : List Done) (pool : Option PoolId) (station : Option ℕ) (
     → MatchOption pool (station ≡ None) (λ p. (n : ℕ) × (station ≡ Some n) × IsLeast (is_free p older issue) n)
     → is_free p older issue k ≡ true
 taken_free older None station issue k p e f is = absurd (cc)
-taken_free older (Some q) station issue k p e f is = rw (same_pool p q e, number_same station is.0 k is.1 f) at is.2.0
+taken_free older (Some q) station issue k p e f is = rw (same_pool q p e, number_same station is.0 k is.1 f) at is.2.0
 
 taken_low : (config : Configuration) (older : List Done) (pool : Option PoolId) (station : Option ℕ) (issue : ℕ)
     (p : PoolId) → is_in p pool ≡ true → has_station config older pool issue ≡ true
@@ -164,7 +122,7 @@ taken_low config older (Some q) station issue p e has is =
     let same : is.0 ≡ least (is_free q older issue) (stations_of config q) =
     least_same (is_free q older issue) _ _ is.2 found.0 in
     let few : least (is_free q older issue) (stations_of config q) < stations_of config q = found.1 in
-    let f : stations_of config q ≡ stations_of config p = ap (stations_of config) (same_pool p q e) in
+    let f : stations_of config q ≡ stations_of config p = ap (stations_of config) (same_pool q p e) in
     let s : station ≡ Some is.0 = is.1 in
     rw (s, lt-ltb is.0 (stations_of config p) (omega arith)) refl
 
@@ -207,9 +165,8 @@ pub room : (config : Configuration) (p : PoolId) (u n : ℕ) (h : List Done) →
     → n < stations_of config p → is_free p h u n ≡ true → count_by (is_held p u) h < stations_of config p
 room config p u n h timed issued l free =
     let a : count_by (is_held p u) h ≤ count_by (below p u (stations_of config p)) h = all_below config p u h timed in
-    let b : count_by (below p u (stations_of config p)) h < stations_of config p =
-    less_below p u (stations_of config p) n h (λ k. one_each config p u k h timed issued) l
-    (none_counted (numbered p u n) h free) in
+    let b : count_by (below p u (stations_of config p)) h < stations_of config p = less_below p u (stations_of config p)
+    n h (λ k. one_each config p u k h timed issued) l (none_counted (numbered p u n) h free) in
     omega arith
 
 -- A number is free just where no station stands in its place.
@@ -232,8 +189,7 @@ swap_and true false false = refl
 
 holds_is : (p : PoolId) (t u n : ℕ) (d : Done) → u ≡ t + 1 → n < 16 → ((m : ℕ) → d.at.station ≡ Some m → m < 16)
     → (is_held p u d && is_number d.at.station n) ≡ holds_place t (16 * place_of_pool p + n) d
-holds_is p t u n d e l low =
-    rw (same_place p n (step_pool d.step) d.at.station l low, still t u d.at.end e)
+holds_is p t u n d e l low = rw (same_place p n (step_pool d.step) d.at.station l low, still t u d.at.end e)
     (swap_and (is_in p (step_pool d.step)) (nat_lt t d.at.end) (is_number d.at.station n))
 
 pub free_is : (i : Loaded) (p : PoolId) (t u n : ℕ) (h : List Done) → u ≡ t + 1 → n < 16 → AreLow h

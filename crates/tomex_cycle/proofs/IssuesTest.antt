@@ -3,7 +3,7 @@ use Rattle.std.proofs.Common.{ℕ, ◌+◌, ◌<◌, ◌≤◌, ◌≡◌, ◌�
 use Rattle.std.proofs.Common.{None, sym, inl, inr}
 use Rattle.std.specs.Prelude.{nat_lt, ◌&&◌, ◌||◌, not, Ok}
 use Rattle.std.proofs.lemmas.Bool.{cases_Bool, cases_order, ltb-true, ltb-false, lt-ltb, le-ltb, and_parts}
-use Rattle.tomex_image.specs.Image.{Loaded, IsLoaded}
+use Rattle.tomex_image.specs.Image.{Loaded}
 use Rattle.tomex_config.specs.Configuration.{Configuration, IsWithinLimits}
 use Rattle.tomex_rvexec.specs.declared.outcome.EndKind.{EndKind}
 use Rattle.tomex_steps.specs.declared.step.Step.{Step}
@@ -11,8 +11,6 @@ use Rattle.tomex_rvexec.specs.Fetch.{instruction_at}
 use Rattle.tomex_rvexec.specs.Flow.{end_of}
 use Rattle.tomex_steps.specs.Results.{next_pc_of}
 use Rattle.tomex_rvexec.specs.History.{Follows, pc_after, step_after}
-use Rattle.tomex_rvexec.specs.Machine.{State}
-use Rattle.tomex_rvexec.specs.Run.{RunEnds}
 use Rattle.tomex_steps.specs.Steps.{is_branch, step_pool}
 use Rattle.tomex_rvexec.proofs.FlowEnds.{step_follows}
 use Rattle.tomex_timing.specs.declared.times.Done.{Done}
@@ -24,7 +22,7 @@ use Rattle.tomex_timing.proofs.Search.{times_are}
 use Rattle.tomex_cycle.specs.declared.fetch.Fetch.{Fetch}
 use Rattle.tomex_cycle.specs.declared.fetch.Fetch.TheVariants.{At, Waits, Stopped}
 use Rattle.tomex_cycle.specs.Phases.{IsYetToIssue}
-use Rattle.tomex_cycle.specs.Run.{AreIssuedBy, first_timed, steps_in}
+use Rattle.tomex_cycle.specs.Run.{AreIssuedBy, first_timed, steps_in, RunEndsAfter}
 use Rattle.tomex_cycle.specs.Views.{fetch_after, fetch_of}
 use Rattle.tomex_cycle.proofs.Runs.{step_is, steps_are}
 use Rattle.tomex_cycle.proofs.Totals.{stops}
@@ -78,10 +76,10 @@ can_is config h x t u timed issued e slot =
     can_from config h x u _ _ (omega arith) slot (branches_is config t u h timed issued e) refl
 
 -- what couldn't issue by t and can in the next cycle issues then
-pub issues_at : (config : Configuration) (h : List Done) (x : Step) (t u : ℕ) → IsWithinLimits config
+pub issues_at : {config : Configuration} (h : List Done) (x : Step) (t u : ℕ) → IsWithinLimits config
     → AreTimed config h → u ≡ t + 1 → ((s : ℕ) → s ≤ t → can_issue config h x s ≡ false) → can_issue config h x u ≡ true
     → (times_of config h x).issue ≡ u
-issues_at config h x t u good timed e never can =
+issues_at {config} h x t u good timed e never can =
     least_same (can_issue config h x) _ u (times_are config h x good timed).issue (can, λ s l. never s (omega arith))
 
 -- and what can't doesn't by then
@@ -120,20 +118,20 @@ at_stopped : (f : Fetch) (pc p : ℕ) (kind : EndKind) → f ≡ At pc → f ≡
 at_stopped f pc p kind e g = cc
 
 -- while fetch has an address steps are left
-pub left : (config : Configuration) (i : Loaded) (n t count pc : ℕ) (s : State) (kind : EndKind) → RunEnds i n s kind
-    → count ≤ n + 1 → fetch_of i t (first_timed config i count) ≡ At pc → count ≤ n
-left config i n t count pc s kind ends few e = elim (cases_order count (n + 1)) [
+pub left : {config : Configuration} {i : Loaded} {n : ℕ} (t count pc : ℕ) → RunEndsAfter i config n → count ≤ n + 1
+    → fetch_of i t (first_timed config i count) ≡ At pc → count ≤ n
+left {config} {i} {n} t count pc run few e = elim (cases_order count (n + 1)) [
   | inl k ↦
-      let z = stops config i n t s kind ends in
-      let f : fetch_of i t (first_timed config i count) ≡ Stopped kind z.0.pc = rw k z.2 in
-      absurd (at_stopped (fetch_of i t (first_timed config i count)) pc z.0.pc kind e f)
+      let z = stops t run in
+      let f : fetch_of i t (first_timed config i count) ≡ Stopped run.kind z.0.pc = rw k z.2 in
+      absurd (at_stopped (fetch_of i t (first_timed config i count)) pc z.0.pc run.kind e f)
   | inr (inl less) ↦ omega arith
   | inr (inr more) ↦ absurd (omega arith)
 ]
 
-fetched_by : (i : Loaded) (older : List Step) (x : Step) (pc : ℕ) → Follows i older x → pc ≡ pc_after i older
+fetched_by : {i : Loaded} {older : List Step} {x : Step} (pc : ℕ) → Follows i older x → pc ≡ pc_after i older
     → (pc ≡ x.pc) × (instruction_at i pc ≡ Ok x.instr)
-fetched_by i older x pc follows e =
+fetched_by {x} pc follows e =
     let same : pc ≡ x.pc = e ∙ sym follows.pc in
     (same, rw same (rw (follows.fetch, follows.instr) refl))
 
@@ -146,14 +144,13 @@ pub record IsComing (i : Loaded) (config : Configuration) (n t count pc : ℕ) (
   pub fetched : instruction_at i pc ≡ Ok x.instr
   pub goes : is_waiting t (first_timed config i count) ≡ false
 
-pub coming : (config : Configuration) (i : Loaded) (n t count pc : ℕ) (s : State) (kind : EndKind)
-    → IsLoaded i.window i.memory i.entry → RunEnds i n s kind → count ≤ n + 1
+pub coming : {config : Configuration} {i : Loaded} {n : ℕ} (t count pc : ℕ) → RunEndsAfter i config n → count ≤ n + 1
     → fetch_of i t (first_timed config i count) ≡ At pc → (x : Step) × IsComing i config n t count pc x
-coming config i n t count pc s kind loaded ends few e =
-    let less : count ≤ n = left config i n t count pc s kind ends few e in
-    let x = step_is i n count s kind ends less in
+coming {config} {i} {n} t count pc run few e =
+    let less : count ≤ n = left t count pc run few e in
+    let x = step_is count run less in
     let follows : Follows i (steps_in (first_timed config i count)) x.0 =
-    rw (steps_are config i count) (step_follows i n count s kind x.0 loaded ends less x.1) in
+    rw (steps_are config i count) (step_follows i n count run.state run.kind x.0 run.loaded run.ends less x.1) in
     let at = at_is i t pc (first_timed config i count) e in
-    let f = fetched_by i (steps_in (first_timed config i count)) x.0 pc follows at.0 in
+    let f = fetched_by pc follows at.0 in
     (x.0, record { less = less; is = x.1; follows = follows; at = f.0; fetched = f.1; goes = at.1 })

@@ -34,12 +34,12 @@ kept_test test slots x y o l same = elim (cases_Bool (x == y)) [
   | inr e ↦ ap test (get_or-set_other slots x y o None (λ z. eqb-false x y e (sym z)))
 ]
 
-pub known_same : (slots : List (Option Station)) (x next : ℕ) (o : Option Station) (f : Finishes) → x < length slots
-    → IsTimetableOf slots next f → ((v : ℕ) → finishes v o ≡ finishes v (slice_index_or slots x None))
+pub known_same : {slots : List (Option Station)} (x : ℕ) {next : ℕ} (o : Option Station) {f : Finishes}
+    → x < length slots → IsTimetableOf slots next f
+    → ((v : ℕ) → finishes v o ≡ finishes v (slice_index_or slots x None))
     → can_send next o ≡ can_send next (slice_index_or slots x None)
-    → has_stayed next o ≡ has_stayed next (slice_index_or slots x None)
-    → IsTimetableOf (slice_set slots x o) next f
-known_same slots x next o f l known fin send stay = record {
+    → has_stayed next o ≡ has_stayed next (slice_index_or slots x None) → IsTimetableOf (slice_set slots x o) next f
+known_same {slots} x {next} o l known fin send stay = record {
   places = length-set slots x o ∙ known.places;
   ahead = λ a y m k. known.ahead a y m k ∙ sym (kept_test (finishes (next + a)) slots x y o l (fin (next + a)));
   near = λ y v m e. known.near y v m (sym (kept_test (finishes v) slots x y o l (fin v)) ∙ e);
@@ -70,10 +70,10 @@ none_stays next s e = ap (λ (z : Option ℕ). not (is_some (dest_of s.instr)) &
     ∙ and_right (not (is_some (dest_of s.instr))) false refl
 
 -- an instruction issues to a place in which nothing stands
-pub known_issued : (slots : List (Option Station)) (x next : ℕ) (s : Station) (f : Finishes) → x < length slots
+pub known_issued : {slots : List (Option Station)} (x : ℕ) {next : ℕ} (s : Station) {f : Finishes} → x < length slots
     → IsTimetableOf slots next f → slice_index_or slots x None ≡ None → s.finish ≡ None
     → IsTimetableOf (slice_set slots x (Some s)) next f
-known_issued slots x next s f l known empty idle = known_same slots x next (Some s) f l known
+known_issued x {next} s l known empty idle = known_same x (Some s) l known
     (λ v. none_finishes v s idle ∙ sym (ap (finishes v) empty))
     (none_sends next s idle ∙ sym (ap (can_send next) empty))
     (none_stays next s idle ∙ sym (ap (has_stayed next) empty))
@@ -82,14 +82,14 @@ none_of : (o : Option Station) → is_none o ≡ true → o ≡ None
 none_of None e = refl
 none_of (Some s) e = let z : false ≡ true = e in absurd (cc)
 
-pub known_taken : (slots new : List (Option Station)) (next number count : ℕ) (pool : PoolId) (s : Station)
-    (f : Finishes) → new ≡ slice_set slots (16 * place_of_pool pool + number) (Some s)
+pub known_taken : {slots : List (Option Station)} (new : List (Option Station)) {next : ℕ} (number count : ℕ)
+    (pool : PoolId) (s : Station) {f : Finishes} → new ≡ slice_set slots (16 * place_of_pool pool + number) (Some s)
     → is_open slots pool number ≡ true → number < count → count ≤ 16 → s.finish ≡ None → IsTimetableOf slots next f
     → IsTimetableOf new next f
-known_taken slots new next number count pool s f made empty less few idle known =
+known_taken {slots} new number count pool s made empty less few idle known =
     let low : place_of_pool pool < 6 = pool_low pool in
     let places : length slots ≡ 96 = known.places in
-    rw made (known_issued slots (16 * place_of_pool pool + number) next s f (omega arith) known
+    rw made (known_issued (16 * place_of_pool pool + number) s (omega arith) known
     (none_of (slice_index_or slots (16 * place_of_pool pool + number) None) empty) idle)
 
 address_keeps : (s : Station) → ((with_address s).finish ≡ s.finish)
@@ -103,27 +103,26 @@ address_keeps s = of s.j refl
     of Unread e = rw e (refl, refl)
 
 -- an address is computed
-pub known_addressed : (slots new : List (Option Station)) (x next : ℕ) (f : Finishes)
+pub known_addressed : {slots : List (Option Station)} (new : List (Option Station)) (x : ℕ) {next : ℕ} {f : Finishes}
     → IsSome (slice_index_or slots x None)
     → new ≡ slice_set slots x (option_map with_address (slice_index_or slots x None)) → IsTimetableOf slots next f
     → IsTimetableOf new next f
-known_addressed slots new x next f some made known = rw made (of (slice_index_or slots x None) refl)
+known_addressed {slots} new x {next} {f} some made known = rw made (of (slice_index_or slots x None) refl)
   where
     of : (o : Option Station) → slice_index_or slots x None ≡ o
         → IsTimetableOf (slice_set slots x (option_map with_address o)) next f
     of None e = let z : false ≡ true = rw e at some in absurd (cc)
     of (Some s) e =
         let keeps = address_keeps s in
-        known_same slots x next (Some (with_address s)) f (inside_of slots x s e) known
+        known_same x (Some (with_address s)) (inside_of slots x s e) known
         (λ v. ap (λ (z : Option ℕ). is_number z v) keeps.0 ∙ sym (ap (finishes v) e))
-        (rw (keeps.0, keeps.1) (sym (ap (can_send next) e)))
-        (rw (keeps.0, keeps.1) (sym (ap (has_stayed next) e)))
+        (rw (keeps.0, keeps.1) (sym (ap (can_send next) e))) (rw (keeps.0, keeps.1) (sym (ap (has_stayed next) e)))
 
 -- An operation starts.
 
-pub lacks_idle : (slots : List (Option Station)) (x next : ℕ) (s : Station) (f : Finishes) → x < 96
+pub lacks_idle : {slots : List (Option Station)} (x : ℕ) {next : ℕ} (s : Station) {f : Finishes} → x < 96
     → IsTimetableOf slots next f → slice_index_or slots x None ≡ Some s → s.finish ≡ None → Lacks f.wheel x
-lacks_idle slots x next s f l known at idle a = elim (cases_Bool (nat_lt a 64)) [
+lacks_idle x {next} s l known at idle a = elim (cases_Bool (nat_lt a 64)) [
   | inl k ↦ known.ahead a x (ltb-true a 64 k) l ∙ (ap (finishes (next + a)) at ∙ none_finishes (next + a) s idle)
   | inr k ↦ rw k refl
 ]
@@ -136,32 +135,30 @@ shift_test next a latency some = elim (cases_Bool (a == latency - 1)) [
       e ∙ sym (ne_eqb (next + latency - 1) (next + a) (λ z. f (omega arith)))
 ]
 
-pub known_started : (slots : List (Option Station)) (x next latency : ℕ) (s t : Station) (f g : Finishes)
-    → x < length slots → x < 96 → IsTimetableOf slots next f → slice_index_or slots x None ≡ Some s → s.finish ≡ None
-    → t.finish ≡ Some (next + latency - 1) → 1 ≤ latency → latency ≤ 64
+pub known_started : {slots : List (Option Station)} (x : ℕ) {next : ℕ} (latency : ℕ) (s t : Station) {f : Finishes}
+    (g : Finishes) → x < length slots → x < 96 → IsTimetableOf slots next f → slice_index_or slots x None ≡ Some s
+    → s.finish ≡ None → t.finish ≡ Some (next + latency - 1) → 1 ≤ latency → latency ≤ 64
     → HasPut (latency - 1) x f.wheel g.wheel → g.unsent ≡ f.unsent → IsTimetableOf (slice_set slots x (Some t)) next g
-known_started slots x next latency s t f g l m known at idle fin some few put unsent = record {
+known_started {slots} x {next} latency s t {f} g l m known at idle fin some few put unsent = record {
   places = length-set slots x (Some t) ∙ known.places;
   ahead = λ a y k n. put a y ∙ elim (cases_Bool (x == y)) [
     | inl e ↦
         let same : x ≡ y = eqb-true x y e in
-        let none : is_due f.wheel a x ≡ false = lacks_idle slots x next s f m known at idle a in
+        let none : is_due f.wheel a x ≡ false = lacks_idle x s m known at idle a in
         rw (
           ← same,
           none,
           eq-eqb x x refl,
           get_or-set_same slots x (Some t) None l,
           fin,
-          ← shift_test next a latency
-              some,
+          ← shift_test next a latency some,
         ) (and_true (a == latency - 1))
     | inr e ↦
         let apart : (y == x) ≡ false = ne_eqb y x (λ z. eqb-false x y e (sym z)) in
         rw (
           apart,
           and_right (a == latency - 1) false refl,
-          get_or-set_other slots x y (Some t) None
-              (λ z. eqb-false x y e (sym z)),
+          get_or-set_other slots x y (Some t) None (λ z. eqb-false x y e (sym z)),
         ) (or_false (is_due f.wheel a y) ∙ known.ahead a y k n)
   ];
   near = λ y v n e. elim (cases_Bool (x == y)) [
@@ -181,9 +178,8 @@ known_started slots x next latency s t f g l m known at idle fin some few put un
         known.low a y (sym (put a y ∙ rw (apart, and_right (a == latency - 1) false refl)
         (or_false (is_due f.wheel a y))) ∙ e)
   ];
-  unsent = λ y n. ap (λ z. has z y) unsent
-      ∙ (known.unsent y n ∙ sym (kept_test (can_send next) slots x y (Some t) l (late (is_some (dest_of t.instr))
-      ∙ sym (ap (can_send next) at ∙ none_sends next s idle))));
+  unsent = λ y n. ap (λ z. has z y) unsent ∙ (known.unsent y n ∙ sym (kept_test (can_send next) slots x y (Some t) l
+      (late (is_some (dest_of t.instr)) ∙ sym (ap (can_send next) at ∙ none_sends next s idle))));
   gone = λ y n. kept_test (has_stayed next) slots x y (Some t) l (late (not (is_some (dest_of t.instr)))
       ∙ sym (ap (has_stayed next) at ∙ none_stays next s idle)) ∙ known.gone y n;
 }
@@ -219,9 +215,9 @@ known_first slots f e empty unsent = rw e (record {
 })
 
 -- Beyond the wheel nothing finishes.
-pub all_ahead : (slots : List (Option Station)) (next a x : ℕ) (f : Finishes) → IsTimetableOf slots next f → x < 96
-    → is_due f.wheel a x ≡ finishes (next + a) (slice_index_or slots x None)
-all_ahead slots next a x f known l = elim (cases_Bool (nat_lt a 64)) [
+pub all_ahead : {slots : List (Option Station)} {next : ℕ} (a x : ℕ) {f : Finishes} → IsTimetableOf slots next f
+    → x < 96 → is_due f.wheel a x ≡ finishes (next + a) (slice_index_or slots x None)
+all_ahead {slots} {next} a x known l = elim (cases_Bool (nat_lt a 64)) [
   | inl k ↦ known.ahead a x (ltb-true a 64 k) l
   | inr k ↦ rw k (sym (elim (cases_Bool (finishes (next + a) (slice_index_or slots x None))) [
     | inr e ↦ e

@@ -1,7 +1,7 @@
 -- What is known of the finishes ahead once a cycle has ended: what was due is over or waits for a bus.
 use Rattle.std.proofs.Common.{ℕ, ◌+◌, ◌^◌, ◌<◌, ◌≤◌, ◌≡◌, ◌∙◌, Bool, true, false, arith, refl, ap, sym, inl, inr, List}
 use Rattle.std.proofs.Common.{Option, Some, None, length, slice_index_or, option_map}
-use Rattle.std.specs.Prelude.{nat_le, nat_lt, ◌==◌, ◌≢◌, ◌&&◌, ◌||◌, ◌⊎◌, not, is_some}
+use Rattle.std.specs.Prelude.{nat_le, nat_lt, ◌==◌, ◌≢◌, ◌&&◌, ◌||◌, not, is_some}
 use Rattle.std.proofs.lemmas.Bool.{and_parts, and_right, both_ways, cases_Bool, eqb-true, eqb-false, le-leb, le-ltb}
 use Rattle.std.proofs.lemmas.Bool.{leb-true, lt-leb, lt-ltb, ltb-true, ltb-false, ne_eqb}
 use Rattle.std.proofs.lemmas.List.{get_or_past}
@@ -26,13 +26,13 @@ use Rattle.tomex_cycle.specs.Finishes.{IsTimetableOf, HaveTurned, LeavesTimetabl
 use Rattle.tomex_cycle.specs.declared.finishes.Finishes.{Finishes}
 use Rattle.tomex_cycle.proofs.Happens.{member_of}
 use Rattle.tomex_cycle.proofs.Known.{all_ahead}
+use Rattle.tomex_cycle.proofs.Truth.{or_cases}
 
-pub all_due : (slots : List (Option Station)) (next due : ℕ) (f g : Finishes) → IsTimetableOf slots next f
+pub all_due : {slots : List (Option Station)} {next due : ℕ} {f g : Finishes} → IsTimetableOf slots next f
     → HaveTurned f g due → AreDone slots next due
-all_due slots next due f g known turned x l = turned.due x ∙ elim (cases_Bool (nat_lt x 96)) [
+all_due {slots} {next} {f} known turned x l = turned.due x ∙ elim (cases_Bool (nat_lt x 96)) [
   | inl k ↦ let now : next + 0 ≡ next = omega arith in
-      all_ahead slots next 0 x f known (ltb-true x 96 k)
-      ∙ ap (λ (v : ℕ). finishes v (slice_index_or slots x None)) now
+      all_ahead 0 x known (ltb-true x 96 k) ∙ ap (λ (v : ℕ). finishes v (slice_index_or slots x None)) now
   | inr k ↦
       let high : 96 ≤ x = ltb-false x 96 k in
       let count : length slots ≡ 96 = known.places in
@@ -66,9 +66,9 @@ alone_is : (next : ℕ) (o : Option Station) → has_stayed next o ≡ false
 alone_is next None e = refl
 alone_is next (Some s) e = alone_test next s.finish (is_some (dest_of s.instr)) e
 
-stayed_past : (slots : List (Option Station)) (next x : ℕ) (f : Finishes) → IsTimetableOf slots next f
+stayed_past : {slots : List (Option Station)} {next : ℕ} (x : ℕ) {f : Finishes} → IsTimetableOf slots next f
     → has_stayed next (slice_index_or slots x None) ≡ false
-stayed_past slots next x f known = elim (cases_Bool (nat_lt x 96)) [
+stayed_past {slots} x known = elim (cases_Bool (nat_lt x 96)) [
   | inl k ↦ known.gone x (ltb-true x 96 k)
   | inr k ↦ let high : 96 ≤ x = ltb-false x 96 k in let count : length slots ≡ 96 = known.places in
       let past : slice_index_or slots x None ≡ None = get_or_past slots x None (omega arith) in rw past refl
@@ -81,22 +81,21 @@ pub with_results : (slots : List (Option Station)) (due writing found : ℕ) →
 with_results slots due writing found of both x l = both x ∙ ap (λ b. has due x && b) (of x l)
 
 -- what ends of what is due has nothing to send
-pub are_ending : (st : Pools) (buses next due found sending silent ending : ℕ) (f g : Finishes)
+pub are_ending : (st : Pools) (buses : ℕ) {next due : ℕ} (found sending silent ending : ℕ) {f g : Finishes}
     → AreBusy st.slots st.busy st.issue_numbers → IsTimetableOf st.slots next f → HaveTurned f g due
     → ((x : ℕ) → x < 128 → has found x ≡ (has due x && writes (slice_index_or st.slots x None)))
     → IsPicked f.unsent st.issue_numbers buses sending
     → ((x : ℕ) → x < 128 → has silent x ≡ (has due x && not (has found x)))
     → ((x : ℕ) → has ending x ≡ (has sending x || has silent x)) → AreEnding st buses next ending
-are_ending st buses next due found sending silent ending f g filled known turned with_result picked but either
-    = record {
-      unsent = f.unsent;
-      sending = sending;
-      are_unsent = of_busy (can_send next) st.slots st.busy st.issue_numbers f.unsent refl filled known.unsent;
-      sent = picked;
-      all = λ x l. either x ∙ ap (λ b. has sending x || b)
-          (but x l ∙ rw (with_result x l, all_due st.slots next due f g known turned x l, filled.each x l)
-          (alone_is next (slice_index_or st.slots x None) (stayed_past st.slots next x f known)));
-    }
+are_ending st buses {next} found sending silent ending {f} filled known turned with_result picked but either = record {
+  unsent = f.unsent;
+  sending = sending;
+  are_unsent = of_busy (can_send next) st.slots st.busy st.issue_numbers f.unsent refl filled known.unsent;
+  sent = picked;
+  all = λ x l. either x ∙ ap (λ b. has sending x || b)
+      (but x l ∙ rw (with_result x l, all_due known turned x l, filled.each x l)
+      (alone_is next (slice_index_or st.slots x None) (stayed_past x known)));
+}
 
 heard_same : (test : Option Station → Bool) (sent : ℕ → Option ℕ) (o : Option Station)
     → ((s : Station) → test (Some (hears sent s)) ≡ test (Some s)) → test (option_map (hears sent) o) ≡ test o
@@ -129,10 +128,6 @@ done_once next a (Some s) e = of s.finish e
     of : (finish : Option ℕ) → is_number finish next ≡ true → is_number finish (next + 1 + a) ≡ false
     of None e = refl
     of (Some v) e = let f : v ≡ next = eqb-true v next e in ne_eqb v (next + 1 + a) (λ z. absurd (omega arith))
-
-or_parts : (a b : Bool) → (a || b) ≡ true → (a ≡ true) ⊎ (b ≡ true)
-or_parts true b e = inl refl
-or_parts false b e = inr e
 
 before_next : (next : ℕ) (finish : Option ℕ)
     → is_finished_before finish (next + 1) ≡ (is_finished_before finish next || is_number finish next)
@@ -170,9 +165,8 @@ unsent_is : (next : ℕ) (o : Option Station) (sending : Bool) → (sending ≡ 
     ≡ (not (sending || (finishes next o && not (finishes next o && writes o))) && can_send (next + 1) o)
 unsent_is next None true inside = let z : false ≡ true = inside refl in absurd (cc)
 unsent_is next None false inside = refl
-unsent_is next (Some s) sending inside =
-    rw (before_next next s.finish) (ready_test (is_some (dest_of s.instr)) (is_finished_before s.finish next)
-    (is_number s.finish next) sending inside (apart_test next s.finish))
+unsent_is next (Some s) sending inside = rw (before_next next s.finish) (ready_test (is_some (dest_of s.instr))
+    (is_finished_before s.finish next) (is_number s.finish next) sending inside (apart_test next s.finish))
 
 gone_test : (r before done sending : Bool) → (not r && before) ≡ false
     → (not (sending || (done && not (done && r))) && (not r && (before || done))) ≡ false
@@ -186,48 +180,43 @@ gone_test false false false false e = refl
 gone_is : (next : ℕ) (o : Option Station) (sending : Bool) → has_stayed next o ≡ false
     → (not (sending || (finishes next o && not (finishes next o && writes o))) && has_stayed (next + 1) o) ≡ false
 gone_is next None sending e = and_right (not (sending || false)) false refl
-gone_is next (Some s) sending e =
-    rw (before_next next s.finish) (gone_test (is_some (dest_of s.instr)) (is_finished_before s.finish next)
-    (is_number s.finish next) sending e)
+gone_is next (Some s) sending e = rw (before_next next s.finish) (gone_test (is_some (dest_of s.instr))
+    (is_finished_before s.finish next) (is_number s.finish next) sending e)
 
 -- what ends doesn't finish later
 ended_later : (next a : ℕ) (o : Option Station) (sending : Bool) → (sending ≡ true → can_send next o ≡ true)
     → (sending || (finishes next o && not (finishes next o && writes o))) ≡ true → finishes (next + 1 + a) o ≡ false
-ended_later next a o sending inside e = elim (or_parts sending _ e) [
+ended_later next a o sending inside e = elim (or_cases sending _ e) [
   | inl k ↦ let on : next + (1 + a) ≡ next + 1 + a = omega arith in
       ap (λ (v : ℕ). finishes v o) (sym on) ∙ sent_before next (1 + a) o (inside k)
   | inr k ↦ done_once next a o (and_parts (finishes next o) _ k).0
 ]
 
-pub leaves_known : (st : Pools) (buses next due found sending silent ending : ℕ) (f g h : Finishes)
-    → AreBusy st.slots st.busy st.issue_numbers → IsTimetableOf st.slots next f → HaveTurned f g due
+pub leaves_known : (st : Pools) (buses : ℕ) {next due : ℕ} (found sending silent ending : ℕ) {f g : Finishes}
+    (h : Finishes) → AreBusy st.slots st.busy st.issue_numbers → IsTimetableOf st.slots next f → HaveTurned f g due
     → ((x : ℕ) → x < 128 → has found x ≡ (has due x && writes (slice_index_or st.slots x None)))
     → IsPicked f.unsent st.issue_numbers buses sending
     → ((x : ℕ) → x < 128 → has silent x ≡ (has due x && not (has found x)))
-    → ((x : ℕ) → has ending x ≡ (has sending x || has silent x))
-    → h.wheel ≡ g.wheel → ((x : ℕ) → x < 128 → has h.unsent x ≡ (has g.unsent x && not (has sending x) || has found x))
+    → ((x : ℕ) → has ending x ≡ (has sending x || has silent x)) → h.wheel ≡ g.wheel
+    → ((x : ℕ) → x < 128 → has h.unsent x ≡ (has g.unsent x && not (has sending x) || has found x))
     → LeavesTimetable st.slots next ending h
-leaves_known st buses next due found sending silent ending f g h filled known turned with_result picked but either wheel
-    unsent new sent count after =
+leaves_known st buses {next} {due} found sending silent ending {f} h filled known turned with_result picked but either wheel unsent new sent count after =
     let on : (a x : ℕ) → is_due h.wheel a x ≡ is_due f.wheel (a + 1) x = λ a x. ap (λ (w : List ℕ). is_due w a x) wheel
     ∙ turned.wheel a x in
-    let done : AreDone st.slots next due = all_due st.slots next due f g known turned in
+    let done : AreDone st.slots next due = all_due known turned in
     let inside : (x : ℕ) → x < 128 → has sending x ≡ true → can_send next (slice_index_or st.slots x None) ≡ true =
     λ x l e. sym (known.unsent x l) ∙ picked.inside x l e in
-    let ends : (x : ℕ) → x < 128 → has ending x
-    ≡ (has sending x || (finishes next (slice_index_or st.slots x None) && not
-    (finishes next (slice_index_or st.slots x None) && writes (slice_index_or st.slots x None)))) = λ x l.
-    either x ∙ ap (λ b. has sending x || b) (but x l ∙ rw (with_result x l, done x l) refl) in
+    let ends : (x : ℕ) → x < 128 → has ending x ≡ (has sending x || (finishes next (slice_index_or st.slots x None) &&
+    not (finishes next (slice_index_or st.slots x None) && writes (slice_index_or st.slots x None)))) = λ x l. either x
+    ∙ ap (λ b. has sending x || b) (but x l ∙ rw (with_result x l, done x l) refl) in
     let test : (t : Option Station → Bool) (x : ℕ) → x < 96 → t None ≡ false
     → ((s : Station) → t (Some (hears sent s)) ≡ t (Some s))
     → t (slice_index_or new x None) ≡ (not (has ending x) && t (slice_index_or st.slots x None)) =
-    λ t x l none same.
-    ap t (after x l) ∙ after_test t sent (has ending x) (slice_index_or st.slots x None) none same in
+    λ t x l none same. ap t (after x l) ∙ after_test t sent (has ending x) (slice_index_or st.slots x None) none same in
     record {
       places = count;
-      ahead = λ a x l m. on a x ∙ (all_ahead st.slots next (a + 1) x f known m
-          ∙ sym (test (finishes (next + 1 + a)) x m refl (λ s. refl)
-          ∙ same_later a x m (inside x (omega arith)) (ends x (omega arith))));
+      ahead = λ a x l m. on a x ∙ (all_ahead (a + 1) x known m ∙ sym (test (finishes (next + 1 + a)) x m refl
+          (λ s. refl) ∙ same_later a x m (inside x (omega arith)) (ends x (omega arith))));
       near = λ x v l e. let k : v < next + 64 =
           known.near x v l (and_parts (not (has ending x)) _ (sym (test (finishes v) x l refl (λ s. refl)) ∙ e)).1 in
           omega arith;
@@ -266,18 +255,18 @@ leaves_known st buses next due found sending silent ending f g h filled known tu
         ]
 
 -- where nothing is over no result is unsent
-pub none_unsent : (due found sending silent ending buses : ℕ) (f g h : Finishes) → sending < 2 ^ 128
+pub none_unsent : {due : ℕ} (found sending silent ending buses : ℕ) {f g : Finishes} (h : Finishes) → sending < 2 ^ 128
     → h.unsent < 2 ^ 128 → HaveTurned f g due → (0 < buses → f.unsent ≢ 0 → sending ≢ 0) → 0 < buses
     → ((x : ℕ) → x < 128 → has found x ≡ true → has due x ≡ true)
     → ((x : ℕ) → has ending x ≡ (has sending x || has silent x))
     → ((x : ℕ) → x < 128 → has h.unsent x ≡ (has g.unsent x && not (has sending x) || has found x)) → ending ≡ 0
     → due ≡ 0 → h.unsent ≡ 0
-none_unsent due found sending silent ending buses f g h sending_fits fits turned some bus inside either unsent none over
-    = elim (cases_Bool (h.unsent == 0)) [
+none_unsent {due} found sending silent ending buses {f} {g} h sending_fits fits turned some bus inside either unsent
+    none over = elim (cases_Bool (h.unsent == 0)) [
       | inl e ↦ eqb-true h.unsent 0 e
       | inr e ↦
           let x = member_of h.unsent fits (eqb-false h.unsent 0 e) in
-          elim (or_parts (has g.unsent x.0 && not (has sending x.0)) (has found x.0) (sym (unsent x.0 x.1) ∙ x.2)) [
+          elim (or_cases (has g.unsent x.0 && not (has sending x.0)) (has found x.0) (sym (unsent x.0 x.1) ∙ x.2)) [
             | inr found ↦ absurd (both_ways (has due x.0) (rw over (none_in x.0)) (inside x.0 x.1 found))
             | inl was ↦
                 let there : f.unsent ≢ 0 = member_some f.unsent x.0 (sym (ap (λ z. has z x.0) turned.unsent)
@@ -335,17 +324,15 @@ nothing_sent sending g none x l = rw (none, none_in x) (stays (has g.unsent x))
     stays false = refl
 
 -- where nothing finishes and no result waits, nothing ends
-pub ending_none : (st : Pools) (buses next due : ℕ) (f g : Finishes) → AreBusy st.slots st.busy st.issue_numbers
+pub ending_none : (st : Pools) (buses : ℕ) {next due : ℕ} {f g : Finishes} → AreBusy st.slots st.busy st.issue_numbers
     → IsTimetableOf st.slots next f → HaveTurned f g due → due ≡ 0 → g.unsent ≡ 0 → AreEnding st buses next 0
-ending_none st buses next due f g filled known turned e none =
-    are_ending st buses next due 0 0 0 0 f g filled known turned (nothing_found _ due e)
-    (none_picked f.unsent buses st.issue_numbers (sym turned.unsent ∙ none)) (nothing_found _ due e)
-    (nothing_ends 0 refl)
+ending_none st buses {due} {f} filled known turned e none = are_ending st buses 0 0 0 0 filled known turned
+    (nothing_found _ due e) (none_picked f.unsent buses st.issue_numbers (sym turned.unsent ∙ none))
+    (nothing_found _ due e) (nothing_ends 0 refl)
 
 -- and what is known stays right
-pub leaves_none : (st : Pools) (buses next due : ℕ) (f g : Finishes) → AreBusy st.slots st.busy st.issue_numbers
+pub leaves_none : (st : Pools) (buses : ℕ) {next due : ℕ} {f g : Finishes} → AreBusy st.slots st.busy st.issue_numbers
     → IsTimetableOf st.slots next f → HaveTurned f g due → due ≡ 0 → g.unsent ≡ 0 → LeavesTimetable st.slots next 0 g
-leaves_none st buses next due f g filled known turned e none =
-    leaves_known st buses next due 0 0 0 0 f g g filled known turned (nothing_found _ due e)
-    (none_picked f.unsent buses st.issue_numbers (sym turned.unsent ∙ none)) (nothing_found _ due e)
-    (nothing_ends 0 refl) refl (nothing_sent 0 g refl)
+leaves_none st buses {due} {f} {g} filled known turned e none = leaves_known st buses 0 0 0 0 g filled known turned
+    (nothing_found _ due e) (none_picked f.unsent buses st.issue_numbers (sym turned.unsent ∙ none))
+    (nothing_found _ due e) (nothing_ends 0 refl) refl (nothing_sent 0 g refl)

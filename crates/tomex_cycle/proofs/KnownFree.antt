@@ -11,13 +11,13 @@ use Rattle.tomex_sets.proofs.Bits.{none_in}
 use Rattle.tomex_tags.specs.declared.station.Station.{Station}
 use Rattle.tomex_cycle.specs.Ends.{can_send, finishes}
 use Rattle.tomex_membuf.specs.Order.{is_finished_before}
-use Rattle.tomex_cycle.specs.Finishes.{IsTimetableOf, FinishesNext, IsFree, CanSkip, has_stayed}
+use Rattle.tomex_cycle.specs.Finishes.{IsTimetableOf, IsFree, CanSkip, has_stayed}
 use Rattle.tomex_cycle.specs.declared.finishes.Finishes.{Finishes}
 use Rattle.tomex_cycle.proofs.Known.{all_ahead}
 
-pub free_to : (slots : List (Option Station)) (cycle k : ℕ) (f : Finishes) → IsTimetableOf slots (cycle + 1) f
+pub free_to : {slots : List (Option Station)} (cycle k : ℕ) {f : Finishes} → IsTimetableOf slots (cycle + 1) f
     → f.unsent ≡ 0 → IsClearTo f.wheel k → IsFree slots cycle (cycle + k)
-free_to slots cycle k f known none clear x v l from to = elim (cases_Bool (finishes v (slice_index_or slots x None))) [
+free_to {slots} cycle k {f} known none clear x v l from to = elim (cases_Bool (finishes v (slice_index_or slots x None))) [
   | inr e ↦ e
   | inl e ↦ elim (cases_Bool (v == cycle)) [
     | inl h ↦
@@ -27,9 +27,8 @@ free_to slots cycle k f known none clear x v l from to = elim (cases_Bool (finis
     | inr h ↦
         let later : v ≢ cycle = eqb-false v cycle h in
         let at : cycle + 1 + (v - cycle - 1) ≡ v = omega arith in
-        absurd (both_ways (is_due f.wheel (v - cycle - 1) x) (clear (v - cycle - 1) x (omega arith))
-        (all_ahead slots (cycle + 1) (v - cycle - 1) x f known l
-        ∙ (ap (λ (u : ℕ). finishes u (slice_index_or slots x None)) at ∙ e)))
+        absurd (both_ways (is_due f.wheel (v - cycle - 1) x) (clear (v - cycle - 1) x (omega arith)) (all_ahead
+        (v - cycle - 1) x known l ∙ (ap (λ (u : ℕ). finishes u (slice_index_or slots x None)) at ∙ e)))
   ]
 ]
   where
@@ -70,17 +69,16 @@ stay_later : (cycle w : ℕ) (o : Option Station) → cycle + 1 ≤ w → has_st
 stay_later cycle w None l e free = refl
 stay_later cycle w (Some s) l e free = before_later cycle w (not (is_some (dest_of s.instr))) s.finish l e free
 
-pub known_later : (slots : List (Option Station)) (cycle k : ℕ) (f g : Finishes) → IsTimetableOf slots (cycle + 1) f
-    → f.unsent ≡ 0 → IsClearTo f.wheel k → HasPassed k f.wheel g.wheel → g.unsent ≡ f.unsent
-    → IsTimetableOf slots (cycle + k + 1) g
-known_later slots cycle k f g known none clear passed unsent =
-    let free : IsFree slots cycle (cycle + k) = free_to slots cycle k f known none clear in
+pub known_later : {slots : List (Option Station)} (cycle k : ℕ) {f : Finishes} (g : Finishes)
+    → IsTimetableOf slots (cycle + 1) f → f.unsent ≡ 0 → IsClearTo f.wheel k → HasPassed k f.wheel g.wheel
+    → g.unsent ≡ f.unsent → IsTimetableOf slots (cycle + k + 1) g
+known_later {slots} cycle k g known none clear passed unsent =
+    let free : IsFree slots cycle (cycle + k) = free_to cycle k known none clear in
     let count : length slots ≡ 96 = known.places in
     record {
       places = count;
       ahead = λ a x l m. let at : cycle + 1 + (a + k) ≡ cycle + k + 1 + a = omega arith in
-          passed a x ∙ (all_ahead slots (cycle + 1) (a + k) x f known m
-          ∙ ap (λ (v : ℕ). finishes v (slice_index_or slots x None)) at);
+          passed a x ∙ (all_ahead (a + k) x known m ∙ ap (λ (v : ℕ). finishes v (slice_index_or slots x None)) at);
       near = λ x v l e. let n : v < cycle + 1 + 64 = known.near x v l e in omega arith;
       low = λ a x e. known.low (a + k) x (sym (passed a x) ∙ e);
       unsent = λ x l. rw (unsent, none) (none_in x) ∙ sym (elim (cases_Bool (nat_lt x 96)) [
@@ -98,19 +96,3 @@ known_later slots cycle k f g known none clear passed unsent =
 pub clear_skipped : (next : Option ℕ) (w : List ℕ) (most n : ℕ) → IsNext w next → CanSkip next most n → IsClearTo w n
 clear_skipped None w most n empty skips a x l = empty a x
 clear_skipped (Some ahead) w most n is skips a x l = let few : n ≤ ahead = skips.0 in is.1 a x (omega arith)
-
--- where they aren't all passed, something finishes in the cycle after them
-pub soon : (slots : List (Option Station)) (next : Option ℕ) (cycle most n : ℕ) (f : Finishes)
-    → IsTimetableOf slots (cycle + 1) f → IsNext f.wheel next → CanSkip next most n → n < most
-    → FinishesNext slots (cycle + n)
-soon slots None cycle most n f known empty skips l = absurd (omega (arith, skips))
-soon slots (Some ahead) cycle most n f known is skips l =
-    let e : n ≡ ahead = skips.1 l in
-    let x : ℕ = is.0.0 in
-    let low : x < 96 = known.low ahead x is.0.1 in
-    let at : cycle + 1 + ahead ≡ cycle + n + 1 = omega arith in (
-      x,
-      low,
-      ap (λ (v : ℕ). finishes v (slice_index_or slots x None)) (sym at)
-          ∙ (sym (all_ahead slots (cycle + 1) ahead x f known low) ∙ is.0.1),
-    )

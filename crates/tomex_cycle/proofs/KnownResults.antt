@@ -22,16 +22,15 @@ use Rattle.tomex_cycle.proofs.KnownEnds.{all_due, branch_places, leaves_known, n
 use Rattle.tomex_bus.proofs.Picking.{none_picked}
 
 -- of what is due none is outside the results
-pub are_results : (slots : List (Option Station)) (next first writing served results others : ℕ) (f : Finishes)
+pub are_results : {slots : List (Option Station)} {next : ℕ} (first writing served results others : ℕ) {f : Finishes}
     → IsTimetableOf slots next f → AreDue f.wheel first → IsSetOf writes slots writing
     → ((x : ℕ) → x < 128 → has served x ≡ is_served units.Bru x)
     → ((x : ℕ) → x < 128 → has results x ≡ (has writing x && not (has served x)))
     → ((x : ℕ) → x < 128 → has others x ≡ (has first x && not (has results x))) → others ≡ 0 → AreResults slots next
-are_results slots next first writing served results others f known due of branches those but none x l e =
+are_results {slots} {next} first writing served results others {f} known due of branches those but none x l e =
     let now : next + 0 ≡ next = omega arith in
     let here : has first x ≡ true =
-    due x ∙ (all_ahead slots next 0 x f known l
-    ∙ (ap (λ (v : ℕ). finishes v (slice_index_or slots x None)) now ∙ e)) in
+    due x ∙ (all_ahead 0 x known l ∙ (ap (λ (v : ℕ). finishes v (slice_index_or slots x None)) now ∙ e)) in
     let inside : has results x ≡ true =
     member (has first x) (has results x) here (sym (but x (omega arith)) ∙ rw none (none_in x)) in
     let two = and_parts (has writing x) (not (has served x)) (sym (those x (omega arith)) ∙ inside) in (
@@ -41,8 +40,7 @@ are_results slots next first writing served results others f known due of branch
         | inr k ↦
             let high : 80 ≤ x = ltb-false x 80 k in
             let branch : has served x ≡ true =
-            branches x (omega arith) ∙ (branch_places x (omega arith) ∙ rw (le-leb 80 x high, lt-ltb x 96 l) refl)
-            in
+            branches x (omega arith) ∙ (branch_places x (omega arith) ∙ rw (le-leb 80 x high, lt-ltb x 96 l) refl) in
             let z : false ≡ true = rw branch at two.1 in
             absurd (cc)
       ],
@@ -54,21 +52,20 @@ are_results slots next first writing served results others f known due of branch
     member false b e f = absurd (both_ways false refl e)
 
 -- of what is due one is outside the results
-pub others_finish : (slots : List (Option Station)) (next first writing served results others : ℕ) (f : Finishes)
+pub others_finish : {slots : List (Option Station)} {next : ℕ} (first writing served results others : ℕ) {f : Finishes}
     → IsTimetableOf slots next f → AreDue f.wheel first → IsSetOf writes slots writing
     → ((x : ℕ) → x < 128 → has served x ≡ is_served units.Bru x)
     → ((x : ℕ) → x < 128 → has results x ≡ (has writing x && not (has served x)))
     → ((x : ℕ) → x < 128 → has others x ≡ (has first x && not (has results x))) → others < 2 ^ 128 → others ≢ 0
     → AreResults slots next → ⊥
-others_finish slots next first writing served results others f known due of branches those but small some are =
+others_finish {slots} {next} first writing served results others {f} known due of branches those but small some are =
     let (x, l, e) = member_of others small some in
     let two = and_parts (has first x) (not (has results x)) (sym (but x l) ∙ e) in
     let ahead : is_due f.wheel 0 x ≡ true = sym (due x) ∙ two.0 in
     let low : x < 96 = known.low 0 x ahead in
     let now : next + 0 ≡ next = omega arith in
     let over : finishes next (slice_index_or slots x None) ≡ true =
-    ap (λ (v : ℕ). finishes v (slice_index_or slots x None)) (sym now)
-    ∙ (sym (all_ahead slots next 0 x f known low) ∙ ahead) in
+    ap (λ (v : ℕ). finishes v (slice_index_or slots x None)) (sym now) ∙ (sym (all_ahead 0 x known low) ∙ ahead) in
     let (sends, near) = are x low over in
     let branch : has served x ≡ false = branches x l ∙ (branch_places x l ∙ rw (not_from x near) refl) in
     let result : has results x ≡ true = those x l ∙ rw (branch, of x l ∙ sends) refl in
@@ -96,17 +93,14 @@ due_writes slots next due x count done results l = elim (cases_Bool (has due x))
 ]
 
 -- they wait for a bus from here on
-pub known_results : (st : Pools) (next due : ℕ) (f g h : Finishes) → AreBusy st.slots st.busy st.issue_numbers
-    → IsTimetableOf st.slots next f → HaveTurned f g due → AreResults st.slots next → f.unsent ≡ 0 → h.wheel ≡ g.wheel
-    → h.unsent ≡ due → IsTimetableOf st.slots (next + 1) h
-known_results st next due f g h filled known turned results none wheel unsent =
-    none_over st.slots next 0 h known.places
-    (leaves_known st 0 next due due 0 0 0 f g h filled known turned
-    (λ x l. due_writes st.slots next due x known.places (all_due st.slots next due f g known turned) results l)
+pub known_results : (st : Pools) {next due : ℕ} {f g : Finishes} (h : Finishes)
+    → AreBusy st.slots st.busy st.issue_numbers → IsTimetableOf st.slots next f → HaveTurned f g due
+    → AreResults st.slots next → f.unsent ≡ 0 → h.wheel ≡ g.wheel → h.unsent ≡ due → IsTimetableOf st.slots (next + 1) h
+known_results st {next} {due} {f} h filled known turned results none wheel unsent =
+    none_over st.slots next 0 h known.places (leaves_known st 0 due 0 0 0 h filled known turned
+    (λ x l. due_writes st.slots next due x known.places (all_due known turned) results l)
     (none_picked f.unsent 0 st.issue_numbers none) (λ x l. rw (none_in x) (silent (has due x))) (nothing_ends 0 refl)
-    wheel
-    (λ x l. rw (unsent, turned.unsent, none, none_in x) refl))
-    refl
+    wheel (λ x l. rw (unsent, turned.unsent, none, none_in x) refl)) refl
   where
     silent : (b : Bool) → false ≡ (b && not b)
     silent true = refl

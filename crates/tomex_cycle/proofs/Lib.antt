@@ -1,5 +1,6 @@
 pub mod Runs
 pub mod Totals
+pub mod Truth
 pub mod Cycles
 pub mod Ticks
 pub mod Outer

@@ -1,6 +1,6 @@
 -- A place is held by one step at a time, and the order of the busy places is that of the history.
 use Rattle.std.proofs.Common.{ℕ, ◌+◌, ◌*◌, ◌<◌, ◌≤◌, ◌≡◌, ◌∙◌, Bool, true, false, arith, refl, List, [], ◌∷◌, ◌++◌}
-use Rattle.std.proofs.Common.{Option, Some, None, ap, sym, inl, inr, append_assoc}
+use Rattle.std.proofs.Common.{Option, Some, None, sym, inl, inr, append_assoc}
 use Rattle.std.specs.Prelude.{nat_lt, nat_le, ◌&&◌, ◌==◌, not, MatchOption, ⊤}
 use Rattle.std.specs.List.{list_all}
 use Rattle.std.proofs.lemmas.Bool.{cases_Bool, cases_order, ltb-true, le-leb, both_ways, and_parts, eqb-true, eq-eqb}
@@ -24,6 +24,7 @@ use Rattle.tomex_timing.proofs.Stations.{number_is}
 use Rattle.tomex_cycle.specs.Run.{AreIssuedBy}
 use Rattle.tomex_cycle.specs.Views.{Clocks, holds_place, onto_end, order_of, place_of, station_at, station_of}
 use Rattle.tomex_tags.specs.Places.{place_at}
+use Rattle.tomex_cycle.proofs.Truth.{some_not_none}
 
 -- a step's place, taken apart
 pub record IsPlace (pool : Option PoolId) (station : Option ℕ) (x : ℕ) : Type 0 where
@@ -47,12 +48,12 @@ abbrev pub AreLow : List Done → Type 0
 AreLow [] = ⊤
 AreLow (d ∷ older) = IsLow d × AreLow older
 
-station_low : (config : Configuration) (older : List Done) (pool : Option PoolId) (station : Option ℕ) (issue : ℕ)
+station_low : {config : Configuration} (older : List Done) (pool : Option PoolId) (station : Option ℕ) (issue : ℕ)
     → IsWithinLimits config → has_station config older pool issue ≡ true
     → MatchOption pool (station ≡ None) (λ p. (n : ℕ) × (station ≡ Some n) × IsLeast (is_free p older issue) n)
     → (n : ℕ) → station ≡ Some n → n < 16
-station_low config older None station issue good has is n e = let f : station ≡ None = is in absurd (cc)
-station_low config older (Some p) station issue good has is n e =
+station_low older None station issue good has is n e = let f : station ≡ None = is in absurd (cc)
+station_low {config} older (Some p) station issue good has is n e =
     let found = number_is config older p issue has in
     let same : is.0 ≡ least (is_free p older issue) (stations_of config p) =
     least_same (is_free p older issue) _ _ is.2 found.0 in
@@ -65,7 +66,7 @@ station_low config older (Some p) station issue good has is n e =
 pub low : (config : Configuration) (h : List Done) → IsWithinLimits config → AreTimed config h → AreLow h
 low config [] good timed = tt
 low config (d ∷ older) good timed = (
-  station_low config older (step_pool d.step) d.at.station d.at.issue good
+  station_low older (step_pool d.step) d.at.station d.at.issue good
       (issue_station config older d.step d.at.issue timed.0.issue.0) timed.0.station,
   low config older good timed.1,
 )
@@ -139,10 +140,10 @@ free_here older (Some q) station issue n p a b is =
     rw (← s, ← g) is.2.0
 
 -- a step's place is vacant of older ones as long as it is the step's
-pub vacant : (config : Configuration) (d : Done) (older : List Done) (end x : ℕ) → IsWithinLimits config
+pub vacant : {config : Configuration} (d : Done) (older : List Done) (end x : ℕ) → IsWithinLimits config
     → AreTimed config (d ∷ older) → d.at.issue ≤ end + 1 → is_number (place_of d) x ≡ true
     → is_vacant end x older ≡ true
-vacant config d older end x good timed l e =
+vacant {config} d older end x good timed l e =
     let at : IsPlace (step_pool d.step) d.at.station x = place_parts (step_pool d.step) d.at.station x e in
     let all = low config (d ∷ older) good timed in
     vacant_all at.p at.n x d.at.issue end older all.1 (all.0 at.n at.station_is) at.sum l
@@ -163,24 +164,21 @@ pub holds_here : (i : Loaded) (c : Clocks) (d : Done) (older : List Done) (x : �
     → station_at i c (d ∷ older) x ≡ Some (station_of i c d older)
 holds_here i c d older x e = rw e refl
 
-some_is_none : {A : Type 0} (x : A) → Some x ≡ None → ⊥
-some_is_none x e = cc
-
 -- the station of a step that holds a place stands there, whatever is younger
-pub station_here : (i : Loaded) (config : Configuration) (c : Clocks) (newer : List Done) (d : Done) (older : List Done)
+pub station_here : (i : Loaded) {config : Configuration} (c : Clocks) (newer : List Done) (d : Done) (older : List Done)
     (x : ℕ) → IsWithinLimits config → AreTimed config (newer ++ (d ∷ older))
     → AreIssuedBy (c.end + 1) (newer ++ (d ∷ older)) → holds_place c.end x d ≡ true
     → station_at i c (newer ++ (d ∷ older)) x ≡ Some (station_of i c d older)
-station_here i config c [] d older x good timed issued e = holds_here i c d older x e
-station_here i config c (n ∷ newer) d older x good timed issued e = elim (cases_Bool (holds_place c.end x n)) [
-  | inr h ↦ rw h (station_here i config c newer d older x good timed.1 issued.1 e)
+station_here i c [] d older x good timed issued e = holds_here i c d older x e
+station_here i c (n ∷ newer) d older x good timed issued e = elim (cases_Bool (holds_place c.end x n)) [
+  | inr h ↦ rw h (station_here i c newer d older x good timed.1 issued.1 e)
   | inl h ↦
       let two = and_parts (is_number (place_of n) x) (nat_lt c.end n.at.end) h in
       let free : is_vacant c.end x (newer ++ (d ∷ older)) ≡ true =
-      vacant config n (newer ++ (d ∷ older)) c.end x good timed issued.0 two.0 in
+      vacant n (newer ++ (d ∷ older)) c.end x good timed issued.0 two.0 in
       let z : station_at i c (newer ++ (d ∷ older)) x ≡ None = vacant_none i c (newer ++ (d ∷ older)) x free in
-      let f = station_here i config c newer d older x good timed.1 issued.1 e in
-      absurd (some_is_none (station_of i c d older) (sym f ∙ z))
+      let f = station_here i c newer d older x good timed.1 issued.1 e in
+      absurd (some_not_none (station_of i c d older) (sym f ∙ z))
 ]
 
 -- The order.
@@ -195,85 +193,6 @@ order-append end (d ∷ newer) h = elim (cases_Bool (nat_lt end d.at.end)) [
   | inl e ↦ rw (e, order-append end newer h) (onto-append (order_of end h) (order_of end newer) (place_of d))
   | inr e ↦ rw e (order-append end newer h)
 ]
-
--- the oldest busy step of a part of a history, whose place is the first of the order
-pub record IsFirstBusy (end : ℕ) (part : List Done) (x : ℕ) (rest : List ℕ) : Type 0 where
-  pub after : List Done
-  pub d : Done
-  pub skipped : List Done
-  pub split : part ≡ after ++ (d ∷ skipped)
-  pub idle : order_of end skipped ≡ []
-  pub holds : holds_place end x d ≡ true
-  pub left : order_of end after ≡ rest
-
--- a step at the head of a part is busy or not
-data Head (end : ℕ) (d : Done) (older : List Done) : Type 0 where
-  stays : order_of end (d ∷ older) ≡ order_of end older
-      → ((after : List Done) → order_of end (d ∷ after) ≡ order_of end after) → Head end d older
-  adds : (x : ℕ) → holds_place end x d ≡ true → order_of end (d ∷ older) ≡ order_of end older ++ (x ∷ [])
-      → ((after : List Done) → order_of end (d ∷ after) ≡ order_of end after ++ (x ∷ [])) → Head end d older
-
-head_with : (end : ℕ) (d : Done) (older : List Done) (o : Option ℕ) → place_of d ≡ o → nat_lt end d.at.end ≡ true
-    → Head end d older
-head_with end d older None e l = stays (rw (l, e) refl) (λ after. rw (l, e) refl)
-head_with end d older (Some x) e l = adds x (rw (l, e, eq-eqb x x refl) refl) (rw (l, e) refl) (λ after. rw (l, e) refl)
-
-head_is : (end : ℕ) (d : Done) (older : List Done) → Head end d older
-head_is end d older = elim (cases_Bool (nat_lt end d.at.end)) [
-  | inl l ↦ head_with end d older (place_of d) refl l
-  | inr l ↦ stays (rw l refl) (λ after. rw l refl)
-]
-
-busy_more : (end : ℕ) (d : Done) (older : List Done) (x : ℕ) (rest : List ℕ)
-    → order_of end (d ∷ older) ≡ order_of end older
-    → ((after : List Done) → order_of end (d ∷ after) ≡ order_of end after) → IsFirstBusy end older x rest
-    → IsFirstBusy end (d ∷ older) x rest
-busy_more end d older x rest same more r =
-    record {
-      after = d ∷ r.after;
-      d = r.d;
-      skipped = r.skipped;
-      split = ap (λ xs. d ∷ xs) r.split;
-      idle = r.idle;
-      holds = r.holds;
-      left = more r.after ∙ r.left;
-    }
-
-busy_last : (end : ℕ) (d : Done) (older : List Done) (p x : ℕ) (rest ys : List ℕ) → holds_place end p d ≡ true
-    → ((after : List Done) → order_of end (d ∷ after) ≡ order_of end after ++ (p ∷ []))
-    → ((y : ℕ) (zs : List ℕ) → order_of end older ≡ y ∷ zs → IsFirstBusy end older y zs) → order_of end older ≡ ys → ys
-    ++ (p ∷ []) ≡ x ∷ rest → IsFirstBusy end (d ∷ older) x rest
-busy_last end d older p x rest [] holds more before idle e =
-    let same : p ≡ x = cc in
-    let none : [] ≡ rest = cc in
-    record { after = []; d = d; skipped = older; split = refl; idle = idle; holds = rw (← same) holds; left = none }
-busy_last end d older p x rest (y ∷ zs) holds more before busy e =
-    let same : y ≡ x = cc in
-    let tail : zs ++ (p ∷ []) ≡ rest = cc in
-    let r : IsFirstBusy end older y zs = before y zs busy in
-    record {
-      after = d ∷ r.after;
-      d = r.d;
-      skipped = r.skipped;
-      split = ap (λ xs. d ∷ xs) r.split;
-      idle = r.idle;
-      holds = rw (← same) r.holds;
-      left = more r.after ∙ (ap (λ xs. xs ++ (p ∷ [])) r.left ∙ tail);
-    }
-
-eventful_by : (end : ℕ) (d : Done) (older : List Done) (x : ℕ) (rest : List ℕ) → Head end d older
-    → ((y : ℕ) (zs : List ℕ) → order_of end older ≡ y ∷ zs → IsFirstBusy end older y zs) → order_of end (d ∷ older) ≡ x
-    ∷ rest → IsFirstBusy end (d ∷ older) x rest
-eventful_by end d older x rest (stays same more) before e =
-    busy_more end d older x rest same more (before x rest (sym same ∙ e))
-eventful_by end d older x rest (adds p holds same more) before e =
-    busy_last end d older p x rest (order_of end older) holds more before refl (sym same ∙ e)
-
--- the next step of a pass over the order
-pub first_busy : (end : ℕ) (part : List Done) (x : ℕ) (rest : List ℕ) → order_of end part ≡ x ∷ rest
-    → IsFirstBusy end part x rest
-first_busy end [] x rest e = absurd (cc)
-first_busy end (d ∷ older) x rest e = eventful_by end d older x rest (head_is end d older) (first_busy end older) e
 
 -- the least number that passes is this one
 pub least_test : (p : ℕ → Bool) (a u : ℕ) → IsLeast p a → u ≤ a → p u ≡ (a == u)

@@ -69,9 +69,6 @@ qi_is t (d ∷ older) r issued = elim (cases_Bool (is_number (step_dest d.step) 
   | inr e ↦ rw (le-leb d.at.issue t issued.0, e) (qi_is t older r issued.1)
 ]
 
-pub tags_are_places : all_tags ≡ map tag_at_place (range_with_len 0 96)
-tags_are_places = refl
-
 place_by : (x q : ℕ) → q ≡ x / 16 → x < 96 → 16 * place_of_pool (pool_at q) + x % 16 ≡ x
 place_by x q e l = elim (cases_order q 0) [
   | inl a0 ↦ rw a0 (omega arith)
@@ -117,13 +114,13 @@ list_by n xs f count each = ext_get_or None xs (map f (range_with_len 0 n))
     (count ∙ sym (length-map-range_with_len f 0 n)) (λ x l. let k : x < n = omega arith in
     each x k ∙ sym (get_or-map-range_with_len f 0 n x x None k (omega arith)))
 
-pub tables_is : (i : Loaded) (config : Configuration) (t : ℕ) (h : List Done) (st : Pools) (rg : RegStatus)
+pub tables_is : {i : Loaded} {config : Configuration} {t : ℕ} {h : List Done} {st : Pools} {rg : RegStatus}
     (busy : List (Option Busy)) (tables : Tables) → IsHistory i config h → AreIssuedBy t h
-    → ShowsStations i (clocks t t t) h st → ShowsRegisters i t h rg
-    → length busy ≡ 96 → ((x : ℕ) → x < 96 → slice_index_or busy x None ≡ option_map (busy_from (tag_at_place x))
-    (slice_index_or st.slots x None))
-    → tables.cycle ≡ t → tables.busy ≡ filter_map (λ b. b) busy → tables.registers ≡ rg.tags → tables ≡ tables_of t h
-tables_is i config t h st rg busy tables past issued slots status count each cycle shows registers =
+    → ShowsStations i (clocks t t t) h st → ShowsRegisters i t h rg → length busy ≡ 96
+    → ((x : ℕ) → x < 96 → slice_index_or busy x None ≡ option_map (busy_from (tag_at_place x)) (slice_index_or st.slots
+    x None)) → tables.cycle ≡ t → tables.busy ≡ filter_map (λ b. b) busy → tables.registers ≡ rg.tags
+    → tables ≡ tables_of t h
+tables_is {i} {config} {t} {h} {rg} busy tables past issued slots status count each cycle shows registers =
     let f : ℕ → Option Busy = λ x. shown t h (tag_at_place x) in
     let a : busy ≡ map f (range_with_len 0 96) = list_by 96 busy f count (λ x l.
     let p : place_of_tag (tag_at_place x) ≡ x = place_back x l in
@@ -132,9 +129,8 @@ tables_is i config t h st rg busy tables past issued slots status count each cyc
     shown_is i t (tag_at_place x) h (omega arith) (low config h past.lawful past.timed) issued in
     each x l ∙ (ap (option_map (busy_from (tag_at_place x))) (slots.slots x l) ∙ sym (rw p at s))) in
     let b : tables.busy ≡ filter_map (shown t h) all_tags =
-    shows ∙ (ap (filter_map (λ (x : Option Busy). x)) a
-    ∙ (filter_map-map f (λ x. x) (range_with_len 0 96)
-    ∙ sym (filter_map-map tag_at_place (shown t h) (range_with_len 0 96)))) in
+    shows ∙ (ap (filter_map (λ (x : Option Busy). x)) a ∙ (filter_map-map f (λ x. x) (range_with_len 0 96) ∙ sym
+    (filter_map-map tag_at_place (shown t h) (range_with_len 0 96)))) in
     let c : tables.registers ≡ map (qi_of t h) (range_with_len 0 32) =
     registers ∙ list_by 32 rg.tags (qi_of t h) status.status (λ r l. status.tags r l ∙ sym (qi_is t h r issued)) in
     same_tables tables t (filter_map (shown t h) all_tags) (map (qi_of t h) (range_with_len 0 32)) cycle b c

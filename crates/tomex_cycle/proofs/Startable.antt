@@ -77,13 +77,13 @@ first_cleared st next waiting of = record {
   later = λ x l e. none_in x;
 }
 
-left_other : (rest left p x : ℕ) → x < 128 → IsWithout rest p left → (p == x) ≡ false → has left x ≡ has rest x
-left_other rest left p x l without e = without.others x l (λ z. eqb-false p x e (sym z))
+left_other : {rest left p : ℕ} (x : ℕ) → x < 128 → IsWithout rest p left → (p == x) ≡ false → has left x ≡ has rest x
+left_other {p} x l without e = without.others x l (λ z. eqb-false p x e (sym z))
 
-pub one_clear : (st : Pools) (next waiting rest left p clear more : ℕ) → AreCleared st next waiting rest clear → p < 128
+pub one_clear : {st : Pools} {next waiting rest left p clear more : ℕ} → AreCleared st next waiting rest clear → p < 128
     → has rest p ≡ true → IsWithout rest p left → IsWanted st next units.Mem p true → IsWith clear p more
     → AreCleared st next waiting left more
-one_clear st next waiting rest left p clear more so small member without wants with = record {
+one_clear {waiting} {rest} {left} {p} so small member without wants with = record {
   inside = inside_left waiting rest left p so.inside without;
   found = λ x l e. elim (cases_Bool (p == x)) [
     | inl f ↦ ap (has waiting) (sym (eqb-true p x f)) ∙ so.inside p small member
@@ -91,39 +91,37 @@ one_clear st next waiting rest left p clear more so small member without wants w
   ];
   wants = λ x l e. elim (cases_Bool (p == x)) [
     | inl f ↦ let same : p ≡ x = eqb-true p x f in rw (← same, with.same) wants
-    | inr f ↦ rw (with.others x (λ z. eqb-false p x f (sym z)))
-        (so.wants x l (sym (left_other rest left p x l without f) ∙ e))
+    | inr f ↦ rw (with.others x (λ z. eqb-false p x f (sym z))) (so.wants x l (sym (left_other x l without f) ∙ e))
   ];
   later = λ x l e. elim (cases_Bool (p == x)) [
     | inl f ↦ absurd (both_ways (has left p) without.same (ap (has left) (eqb-true p x f) ∙ e))
-    | inr f ↦ with.others x (λ z. eqb-false p x f (sym z))
-        ∙ so.later x l (sym (left_other rest left p x l without f) ∙ e)
+    | inr f ↦ with.others x (λ z. eqb-false p x f (sym z)) ∙ so.later x l (sym (left_other x l without f) ∙ e)
   ];
 }
 
-pub none_clear : (st : Pools) (next waiting rest left p clear : ℕ) → AreCleared st next waiting rest clear → p < 128
+pub none_clear : {st : Pools} {next waiting rest left p clear : ℕ} → AreCleared st next waiting rest clear → p < 128
     → has rest p ≡ true → IsWithout rest p left → IsWanted st next units.Mem p false
     → AreCleared st next waiting left clear
-none_clear st next waiting rest left p clear so small member without wants = record {
+none_clear {waiting} {rest} {left} {p} so small member without wants = record {
   inside = inside_left waiting rest left p so.inside without;
   found = so.found;
   wants = λ x l e. elim (cases_Bool (p == x)) [
     | inl f ↦ let same : p ≡ x = eqb-true p x f in rw (← same, so.later p small member) wants
-    | inr f ↦ so.wants x l (sym (left_other rest left p x l without f) ∙ e)
+    | inr f ↦ so.wants x l (sym (left_other x l without f) ∙ e)
   ];
   later = λ x l e. elim (cases_Bool (p == x)) [
     | inl f ↦ absurd (both_ways (has left p) without.same (ap (has left) (eqb-true p x f) ∙ e))
-    | inr f ↦ so.later x l (sym (left_other rest left p x l without f) ∙ e)
+    | inr f ↦ so.later x l (sym (left_other x l without f) ∙ e)
   ];
 }
 
 none_waits : (unit : UnitId) → waits_for unit None ≡ false
 none_waits unit = refl
 
-pub all_cleared : (st : Pools) (next waiting rest clear : ℕ) → AreBusy st.slots st.busy st.issue_numbers
+pub all_cleared : {st : Pools} {next waiting rest clear : ℕ} → AreBusy st.slots st.busy st.issue_numbers
     → IsSetOf (waits_for units.Mem) st.slots waiting → AreCleared st next waiting rest clear → rest ≡ 0
     → AreStartableFor st next units.Mem clear
-all_cleared st next waiting rest clear filled of so empty = record {
+all_cleared {st} {waiting} {rest} filled of so empty = record {
   inside = λ x l e. is_busy_there (waits_for units.Mem) st.slots st.busy st.issue_numbers waiting (none_waits units.Mem)
       filled of x l (so.found x l e);
   wants = λ x l. so.wants x l (none_rest rest x empty);
@@ -163,9 +161,8 @@ all_waiting st next waiting filled of clear = record {
       of;
   wants = λ x l older younger by. of x l ∙ elim (cases_Bool (waits_for units.Mem (slice_index_or st.slots x None))) [
     | inr e ↦ e ∙ sym (wants_not st.slots older next units.Mem (slice_index_or st.slots x None) e)
-    | inl e ↦ e ∙ wants_clear st.slots older next units.Mem (slice_index_or st.slots x None) true e
-        (λ s here. sym (clear x next s older younger l here
-        (addressed_one s (ap (waits_for units.Mem) (sym here) ∙ e)) by))
+    | inl e ↦ e ∙ wants_clear st.slots older next units.Mem (slice_index_or st.slots x None) true e (λ s here. sym
+        (clear x next s older younger l here (addressed_one s (ap (waits_for units.Mem) (sym here) ∙ e)) by))
   ];
 }
 
@@ -225,13 +222,13 @@ pub all_of : (unit : UnitId) (slots : List (Option Station)) (set : ℕ) → IsS
     → x < 128 → has set x ≡ true → waits_for unit (slice_index_or slots x None) ≡ true
 all_of unit slots set of x l e = sym (of x l) ∙ e
 
-pub found_waiting : (st : Pools) (next waiting rest clear : ℕ) → IsSetOf (waits_for units.Mem) st.slots waiting
+pub found_waiting : {st : Pools} {next waiting rest clear : ℕ} → IsSetOf (waits_for units.Mem) st.slots waiting
     → AreCleared st next waiting rest clear → (x : ℕ) → x < 128 → has clear x ≡ true
     → waits_for units.Mem (slice_index_or st.slots x None) ≡ true
-found_waiting st next waiting rest clear of so x l e = sym (of x l) ∙ so.found x l e
+found_waiting of so x l e = sym (of x l) ∙ so.found x l e
 
 -- the oldest of each kind together
-pub are_starting : (config : Configuration) (st : Pools) (next : ℕ) (ra rb rc rd re a b c d e all : ℕ)
+pub are_starting : (config : Configuration) {st : Pools} {next ra rb rc rd re : ℕ} (a b c d e all : ℕ)
     → AreStartableFor st next units.Alu ra → AreStartableFor st next units.Mul rb → AreStartableFor st next units.Div rc
     → AreStartableFor st next units.Mem rd → AreStartableFor st next units.Bru re
     → IsPicked ra st.issue_numbers (option_of config units.Alu).units a
@@ -241,8 +238,8 @@ pub are_starting : (config : Configuration) (st : Pools) (next : ℕ) (ra rb rc 
     → IsPicked re st.issue_numbers (option_of config units.Bru).units e
     → ((x : ℕ) → has all x ≡ (has a x || (has b x || (has c x || (has d x || has e x)))))
     → IsStarting config st next all
-are_starting config st next ra rb rc rd re a b c d e all is_alu is_mul is_div is_mem is_bru alu mul div mem bru together
-    = record {
+are_starting config {st} {next} {ra} {rb} {rc} {rd} {re} a b c d e all is_alu is_mul is_div is_mem is_bru alu mul div
+    mem bru together = record {
       startable = ra ∷ rb ∷ rc ∷ rd ∷ re ∷ [];
       kinds = a ∷ b ∷ c ∷ d ∷ e ∷ [];
       are_startable = kinds;
@@ -274,11 +271,10 @@ are_starting config st next ra rb rc rd re a b c d e all is_alu is_mul is_div is
 pub none_starts : (config : Configuration) (st : Pools) (next waiting : ℕ) → AreBusy st.slots st.busy st.issue_numbers
     → IsSetOf waits st.slots waiting → waiting ≡ 0 → IsStarting config st next 0
 none_starts config st next waiting filled of empty =
-    are_starting config st next 0 0 0 0 0 0 0 0 0 0 0
-    (ready_for st next 0 units.Alu filled (none_for units.Alu) (λ e. absurd (cc)))
+    are_starting config 0 0 0 0 0 0 (ready_for st next 0 units.Alu filled (none_for units.Alu) (λ e. absurd (cc)))
     (ready_for st next 0 units.Mul filled (none_for units.Mul) (λ e. absurd (cc)))
     (ready_for st next 0 units.Div filled (none_for units.Div) (λ e. absurd (cc)))
-    (all_cleared st next 0 0 0 filled (none_for units.Mem) (first_cleared st next 0 (none_for units.Mem)) refl)
+    (all_cleared filled (none_for units.Mem) (first_cleared st next 0 (none_for units.Mem)) refl)
     (ready_for st next 0 units.Bru filled (none_for units.Bru) (λ e. absurd (cc)))
     (none_picked 0 _ st.issue_numbers refl) (none_picked 0 _ st.issue_numbers refl)
     (none_picked 0 _ st.issue_numbers refl) (none_picked 0 _ st.issue_numbers refl)

@@ -53,13 +53,12 @@ operands_there config t u d older timed issued e starts =
     let two = and_parts (is_some (step_unit d.step)) (d.at.start == u) starts in
     let at : d.at.start ≡ u = eqb-true _ _ two.1 in
     let unit = unit_some (step_unit d.step) two.0 in
-    let least = start_least config d older unit.0 timed.0 unit.1 in
+    let least = start_least d unit.0 timed.0 unit.1 in
     let can : can_start config older d.step unit.0 d.at.issue (cycle_of d.at.address) d.at.start ≡ true = least.0 in
     let a = and_parts _ (has_unit config older unit.0 d.at.start) can in
     let b = and_parts _ (are_conflicts_finished older d.step d.at.start) a.0 in
     let ops = and_parts (nat_lt d.at.issue d.at.start && nat_lt (cycle_of d.at.address) d.at.start)
-    (nat_lt (source_end older (j_of d.step)) d.at.start && nat_lt (source_end older (k_of d.step)) d.at.start) b.0
-    in
+    (nat_lt (source_end older (j_of d.step)) d.at.start && nat_lt (source_end older (k_of d.step)) d.at.start) b.0 in
     let jk = and_parts (nat_lt (source_end older (j_of d.step)) d.at.start)
     (nat_lt (source_end older (k_of d.step)) d.at.start) ops.1 in
     let j : source_end older (j_of d.step) < d.at.start = ltb-true _ _ jk.0 in
@@ -88,9 +87,8 @@ step_is i config t u d older timed issued past e starts =
     let there = operands_there config t u d older timed issued e starts in
     let pool : is_some (step_pool d.step) ≡ true =
     sym (unit_with_pool d.step) ∙ (and_parts (is_some (step_unit d.step)) (d.at.start == u) starts).0 in
-    let j : value_in (field_of t older (j_of d.step)) ≡ d.step.vj =
-    value_is t d.step.vj older (sources_of d.step.instr).j there.0
-    (unread_j i (steps_in older) d.step past.0 (some_is (step_pool d.step) pool)) in
+    let j : value_in (field_of t older (j_of d.step)) ≡ d.step.vj = value_is t d.step.vj older
+    (sources_of d.step.instr).j there.0 (unread_j i (steps_in older) d.step past.0 (some_is (step_pool d.step) pool)) in
     let k : value_in (field_of t older (k_of d.step)) ≡ d.step.vk =
     value_is t d.step.vk older (sources_of d.step.instr).k there.1 (unread_k i (steps_in older) d.step past.0) in
     rw (j, k) refl
@@ -101,9 +99,9 @@ goes_on ops.Ebreak e = absurd (cc)
 goes_on _ e = refl
 
 -- and its access is inside memory
-pub inside_is : (i : Loaded) (t u : ℕ) (d : Done) (older h : List Done) (m : Bytes) → ArePast i (d ∷ older)
-    → starts_in u d ≡ true → ShowsMemory i t h m → IsInside m d.step
-inside_is i t u d older h m past starts shown =
+pub inside_is : {i : Loaded} {t : ℕ} (u : ℕ) (d : Done) (older : List Done) {h : List Done} {m : Bytes}
+    → ArePast i (d ∷ older) → starts_in u d ≡ true → ShowsMemory i t h m → IsInside m d.step
+inside_is {i} u d older {m} past starts shown =
     let unit : is_some (step_unit d.step) ≡ true =
     (and_parts (is_some (step_unit d.step)) (d.at.start == u) starts).0 in
     let allowed : IsAllowed i d.step = past.1 (goes_on d.step.instr.op unit) in
@@ -121,17 +119,17 @@ covered (Some r) a base size inside e =
     (omega arith, omega arith)
 
 -- its result is that of the run
-result_is : (i : Loaded) (config : Configuration) (t u : ℕ) (d : Done) (newer older : List Done) (m : Bytes)
+result_is : {i : Loaded} {config : Configuration} {t : ℕ} (u : ℕ) (d : Done) (newer older : List Done) {m : Bytes}
     → IsWithinLimits config → AreTimed config (newer ++ (d ∷ older)) → ArePast i (newer ++ (d ∷ older)) → u ≡ t + 1
     → starts_in u d ≡ true → ShowsMemory i t (newer ++ (d ∷ older)) m
     → result_of d.step (byte_in m) ≡ result_of d.step (byte_after i (steps_in older))
-result_is i config t u d newer older m good timed past e starts shown =
+result_is {i} {t} u d newer older {m} good timed past e starts shown =
     let two = and_parts (is_some (step_unit d.step)) (d.at.start == u) starts in
     let at : d.at.start ≡ u = eqb-true _ _ two.1 in
     let allowed : IsAllowed i d.step = (past_part i newer (d ∷ older) past).1 (goes_on d.step.instr.op two.0) in
     same_result d.step (byte_in m) (byte_after i (steps_in older)) (λ a c.
     let in_window = covered (bytes_of d.step) a i.window.base i.window.size allowed.access c in
-    shown.bytes a in_window.0 in_window.1 ∙ found_is i config t a d newer older good timed two.0 c (at ∙ e))
+    shown.bytes a in_window.0 in_window.1 ∙ found_is i t a d newer older good timed two.0 c (at ∙ e))
 
 finish_at : (config : Configuration) (finish start issue u : ℕ) (o : Option UnitId) → is_some o ≡ true
     → MatchOption o (finish ≡ issue) (λ unit. finish ≡ start + (option_of config unit).latency - 1) → start ≡ u
@@ -141,22 +139,21 @@ finish_at config finish start issue u (Some unit) some timed e =
     ap (λ (n : ℕ). Some n) (timed ∙ ap (λ (n : ℕ). n + (option_of config unit).latency - 1) e)
 
 -- a station as its operation starts
-pub begun_is : (i : Loaded) (config : Configuration) (t u : ℕ) (d : Done) (newer older : List Done) (m : Bytes)
+pub begun_is : (i : Loaded) {config : Configuration} (t u : ℕ) (d : Done) (newer older : List Done) (m : Bytes)
     → IsWithinLimits config → AreTimed config (newer ++ (d ∷ older)) → AreIssuedBy t (newer ++ (d ∷ older))
     → ArePast i (newer ++ (d ∷ older)) → u ≡ t + 1 → starts_in u d ≡ true → ShowsMemory i t (newer ++ (d ∷ older)) m
     → station_of i (clocks u t t) d older ≡ begun config u m (station_of i (clocks t t t) d older)
-begun_is i config t u d newer older m good timed issued past e starts shown =
+begun_is i {config} t u d newer older m good timed issued past e starts shown =
     let two = and_parts (is_some (step_unit d.step)) (d.at.start == u) starts in
     let at : d.at.start ≡ u = eqb-true _ _ two.1 in
     let here : AreTimed config (d ∷ older) = timed_part config newer (d ∷ older) timed in
-    let step : step_in (station_of i (clocks t t t) d older) ≡ d.step =
-    step_is i config t u d older here (issued_part t newer (d ∷ older) issued) (past_part i newer (d ∷ older) past)
-    e starts in
+    let step : step_in (station_of i (clocks t t t) d older) ≡ d.step = step_is i config t u d older here
+    (issued_part t newer (d ∷ older) issued) (past_part i newer (d ∷ older) past) e starts in
     let finish : Some d.at.finish ≡ finish_from config u (step_unit d.step) =
     finish_at config d.at.finish d.at.start d.at.issue u (step_unit d.step) two.0 here.0.finish at in
     let value : result_of d.step (byte_after i (steps_in older))
     ≡ result_of (step_in (station_of i (clocks t t t) d older)) (byte_in m) =
-    sym (result_is i config t u d newer older m good timed past e starts shown)
+    sym (result_is u d newer older good timed past e starts shown)
     ∙ ap (λ (x : Step). result_of x (byte_in m)) (sym step) in
     let set : Option ℕ → ℕ → Station = λ f v. record (station_of i (clocks t t t) d older) { finish = f; value = v } in
     let first : station_of i (clocks u t t) d older ≡ set (Some d.at.finish)
@@ -205,11 +202,9 @@ begins_at i config t u x h newer (d ∷ older) m good timed issued past e shown 
       | inr held ↦ rw held (begins_at i config t u x h (newer ++ (d ∷ [])) older m good timed issued past e shown
           (f ∙ sym (append_assoc newer (d ∷ []) older)))
       | inl held ↦ elim (cases_Bool (starts_in u d)) [
-        | inl starts ↦ rw (held, starts)
-            (ap (λ (s : Station). Some s) (begun_is i config t u d newer older m good (rw f at timed) (rw f at issued)
-            (rw f at past) e starts (rw f at shown)))
-        | inr starts ↦ rw (held, starts)
-            (ap (λ (s : Station). Some s) (kept_is i config t u d older
+        | inl starts ↦ rw (held, starts) (ap (λ (s : Station). Some s) (begun_is i t u d newer older m good
+            (rw f at timed) (rw f at issued) (rw f at past) e starts (rw f at shown)))
+        | inr starts ↦ rw (held, starts) (ap (λ (s : Station). Some s) (kept_is i config t u d older
             (timed_part config newer (d ∷ older) (rw f at timed)) (issued_part t newer (d ∷ older) (rw f at issued)) e
             starts))
       ]

@@ -74,19 +74,18 @@ least_from : (o : Option UnitId) (unit : UnitId) (P : Type 0) (Q : UnitId → Ty
 least_from None unit P Q e h = absurd (cc)
 least_from (Some v) unit P Q e h = let f : v ≡ unit = cc in rw (← f) h
 
-pub start_least : (config : Configuration) (d : Done) (older : List Done) (unit : UnitId)
+pub start_least : {config : Configuration} (d : Done) {older : List Done} (unit : UnitId)
     → IsTimed config older d.step d.at → step_unit d.step ≡ Some unit
     → IsLeast (can_start config older d.step unit d.at.issue (cycle_of d.at.address)) d.at.start
-start_least config d older unit timed e =
-    least_from (step_unit d.step) unit (d.at.start ≡ d.at.issue)
+start_least {config} d {older} unit timed e = least_from (step_unit d.step) unit (d.at.start ≡ d.at.issue)
     (λ v. IsLeast (can_start config older d.step v d.at.issue (cycle_of d.at.address)) d.at.start) e timed.start
 
-clear_here : (i : Loaded) (config : Configuration) (t u : ℕ) (st : Pools) (h newer : List Done) (d : Done)
+clear_here : {i : Loaded} {config : Configuration} (t u : ℕ) {st : Pools} {h : List Done} (newer : List Done) (d : Done)
     (older : List Done) → IsWithinLimits config → AreTimed config h → AreIssuedBy t h
     → ShowsStations i (clocks t t t) h st → h ≡ newer ++ (d ∷ older) → u ≡ t + 1 → cycle_of d.at.address < u
     → is_clear st.slots (order_of t older) (station_of i (clocks t t t) d older) u ≡ are_conflicts_finished older d.step
     u
-clear_here i config t u st h newer d older good timed issued shown e f l =
+clear_here {i} {config} t u {st} newer d older good timed issued shown e f l =
     let part : AreTimed config (d ∷ older) = timed_part config newer (d ∷ older) (rw e at timed) in
     let by : AreIssuedBy t (d ∷ older) = issued_part t newer (d ∷ older) (rw e at issued) in
     let bytes : bytes_in (station_of i (clocks t t t) d older) ≡ bytes_of d.step =
@@ -97,20 +96,18 @@ clear_here i config t u st h newer d older good timed issued shown e f l =
           no_access st.slots (order_of t older) (station_of i (clocks t t t) d older) u (bytes ∙ none)
           ∙ sym (conflicts_none older d.step u none)
       | inl m ↦
-          let k : last_address older < cycle_of d.at.address = address_rises config d older part.0 m in
-          clear_is i config t u st h (newer ++ (d ∷ [])) older (station_of i (clocks t t t) d older) d.step good timed
+          let k : last_address older < cycle_of d.at.address = address_rises d part.0 m in
+          clear_is t u (newer ++ (d ∷ [])) older (station_of i (clocks t t t) d older) d.step good timed
           issued shown (e ∙ sym (append_assoc newer (d ∷ []) older)) f (omega arith) bytes refl
     ]
 
 -- an operation that is ready starts where a unit of its kind is left: the recurrence's test
-pub begins_is : (i : Loaded) (config : Configuration) (t u : ℕ) (st : Pools) (h newer : List Done) (d : Done)
-    (older : List Done) (unit : UnitId) → IsWithinLimits config → AreTimed config h → AreIssuedBy t h
-    → ShowsStations i (clocks t t t) h st → h ≡ newer ++ (d ∷ older) → u ≡ t + 1
-    → step_unit d.step ≡ Some unit
-    → (is_waiting (station_of i (clocks t t t) d older) && is_clear st.slots (order_of t older)
-    (station_of i (clocks t t t) d older) u && nat_lt (count_of unit u older) (option_of config unit).units)
-    ≡ (d.at.start == u)
-begins_is i config t u st h newer d older unit good timed issued shown e f some =
+pub begins_is : {i : Loaded} {config : Configuration} (t u : ℕ) {st : Pools} {h : List Done} (newer : List Done)
+    (d : Done) (older : List Done) (unit : UnitId) → IsWithinLimits config → AreTimed config h → AreIssuedBy t h
+    → ShowsStations i (clocks t t t) h st → h ≡ newer ++ (d ∷ older) → u ≡ t + 1 → step_unit d.step ≡ Some unit
+    → (is_waiting (station_of i (clocks t t t) d older) && is_clear st.slots (order_of t older) (station_of i (clocks t
+    t t) d older) u && nat_lt (count_of unit u older) (option_of config unit).units) ≡ (d.at.start == u)
+begins_is {i} {config} t u {st} newer d older unit good timed issued shown e f some =
     let part : AreTimed config (d ∷ older) = timed_part config newer (d ∷ older) (rw e at timed) in
     let by : AreIssuedBy t (d ∷ older) = issued_part t newer (d ∷ older) (rw e at issued) in
     let ready = ready_is i config t u d older part by f in
@@ -122,12 +119,11 @@ begins_is i config t u st h newer d older unit good timed issued shown e f some 
           let k : t < d.at.start = ltb-true _ _ l in
           let test : can_start config older d.step unit d.at.issue (cycle_of d.at.address) u ≡ (d.at.start == u) =
           least_test (can_start config older d.step unit d.at.issue (cycle_of d.at.address)) d.at.start u
-          (start_least config d older unit part.0 some) (omega arith) in
+          (start_least d unit part.0 some) (omega arith) in
           let issue : nat_lt d.at.issue u ≡ true = lt-ltb d.at.issue u (let z : d.at.issue ≤ t = by.0 in omega arith) in
-          let clear : nat_lt (cycle_of d.at.address) u ≡ true
-          → is_clear st.slots (order_of t older) (station_of i (clocks t t t) d older) u ≡ are_conflicts_finished
-          older d.step u = λ a. clear_here i config t u st h newer d older good timed issued shown e f
-          (ltb-true _ _ a) in
+          let clear : nat_lt (cycle_of d.at.address) u ≡ true → is_clear st.slots (order_of t older)
+          (station_of i (clocks t t t) d older) u ≡ are_conflicts_finished older d.step u = λ a. clear_here t u newer d
+          older good timed issued shown e f (ltb-true _ _ a) in
           rw (ready, l) (tests_same (nat_lt d.at.issue u) (nat_lt (cycle_of d.at.address) u)
           (nat_lt (source_end older (j_of d.step)) u) (nat_lt (source_end older (k_of d.step)) u) _ _
           (has_unit config older unit u) issue (λ a b c. clear a) ∙ test)
@@ -136,13 +132,6 @@ begins_is i config t u st h newer d older unit good timed issued shown e f some 
 -- operations of one kind that start in the cycle
 abbrev pub starts_of : UnitId → ℕ → Done → Bool
 starts_of unit u d = is_of unit (step_unit d.step) && (d.at.start == u)
-
-pub unit_low : (unit : UnitId) → place_of_unit unit < 5
-unit_low units.Alu = omega arith
-unit_low units.Mul = omega arith
-unit_low units.Div = omega arith
-unit_low units.Mem = omega arith
-unit_low units.Bru = omega arith
 
 none_of_start : (u start : ℕ) (unit : UnitId) (o : Option UnitId) → (start == u) ≡ false
     → (is_of unit o && (start == u)) ≡ false
@@ -206,9 +195,8 @@ order_split : (t p : ℕ) (newer : List Done) (d : Done) (older : List Done) →
 order_split t p newer d older held =
     let two = and_parts (is_number (place_of d) p) (nat_lt t d.at.end) held in
     let place : place_of d ≡ Some p = number_is_some (place_of d) p two.0 in
-    order-append t newer (d ∷ older)
-    ∙ (ap (λ xs. xs ++ order_of t newer) (order_here t p d older place two.1)
-    ∙ append_assoc (order_of t older) (p ∷ []) (order_of t newer))
+    order-append t newer (d ∷ older) ∙ (ap (λ xs. xs ++ order_of t newer) (order_here t p d older place two.1) ∙
+    append_assoc (order_of t older) (p ∷ []) (order_of t newer))
 
 none_with : (pool : Option PoolId) (station : Option ℕ) (p : PoolId) (R : PoolId → ℕ → Type 0) → pool ≡ Some p
     → tag_at pool station ≡ None → MatchOption pool (station ≡ None) (λ p. (n : ℕ) × (station ≡ Some n) × R p n) → ⊥
@@ -225,32 +213,31 @@ pool_none None never = refl
 pool_none (Some p) never = absurd (never p refl)
 
 -- what has no station uses no unit
-no_pool_unit : (config : Configuration) (d : Done) (older : List Done) → IsTimed config older d.step d.at
+no_pool_unit : {config : Configuration} (d : Done) {older : List Done} → IsTimed config older d.step d.at
     → place_of d ≡ None → step_unit d.step ≡ None
-no_pool_unit config d older timed e =
+no_pool_unit d {older} timed e =
     let none : tag_of d ≡ None = place_none (tag_of d) e in
-    let pool : step_pool d.step ≡ None =
-    pool_none (step_pool d.step) (λ p f. none_with (step_pool d.step) d.at.station p
-    (λ p n. IsLeast (is_free p older d.at.issue) n) f none timed.station) in
+    let pool : step_pool d.step ≡ None = pool_none (step_pool d.step) (λ p f. none_with (step_pool d.step) d.at.station
+    p (λ p n. IsLeast (is_free p older d.at.issue) n) f none timed.station) in
     no_option (step_unit d.step) (unit_with_pool d.step ∙ ap is_some pool)
 
 -- one step of a kind is served by the recurrence
-one_serves : (i : Loaded) (config : Configuration) (t u : ℕ) (st : Pools) (sets : List ℕ) (unit : UnitId)
-    (h newer : List Done) (d : Done) (older : List Done) → IsWithinLimits config → AreTimed config h → AreIssuedBy t h
-    → ShowsStations i (clocks t t t) h st → IsInIssueOrder st.busy st.issue_numbers (order_of t h)
+one_serves : {i : Loaded} {config : Configuration} (t u : ℕ) {st : Pools} (sets : List ℕ) (unit : UnitId)
+    {h : List Done} (newer : List Done) (d : Done) (older : List Done) → IsWithinLimits config → AreTimed config h
+    → AreIssuedBy t h → ShowsStations i (clocks t t t) h st → IsInIssueOrder st.busy st.issue_numbers (order_of t h)
     → AreStartable st u sets → u ≡ t + 1 → h ≡ newer ++ (d ∷ older)
     → Serves t (option_of config unit).units (slice_index sets (place_of_unit unit)) (starts_of unit u) d older
-one_serves i config t u st sets unit h newer d older good timed issued shown by ready f e =
+one_serves {i} {config} t u {st} sets unit {h} newer d older good timed issued shown by ready f e =
     let part : AreTimed config (d ∷ older) = timed_part config newer (d ∷ older) (rw e at timed) in
-    let reached = reach config d older good part in
+    let reached = reach d older good part in
     record {
       idle = λ l. let k : d.at.end ≤ t = ltb-false _ _ l in let r : d.at.start ≤ d.at.end = reached.start in
           none_of_start u d.at.start unit (step_unit d.step)
           (ne_eqb d.at.start u (λ (z : d.at.start ≡ u). absurd (omega arith)));
-      nowhere = λ none. no_unit (step_unit d.step) (no_pool_unit config d older part.0 none);
+      nowhere = λ none. no_unit (step_unit d.step) (no_pool_unit d part.0 none);
       ready = λ x held.
           let late : nat_lt t d.at.end ≡ true = (and_parts (is_number (place_of d) x) (nat_lt t d.at.end) held).1 in
-          let at = seen i config t st h newer d older good timed issued shown e late in
+          let at = seen t newer d older good timed issued shown e late in
           let same : at.x ≡ x = one_place (place_of d) at.x x at.place
           (and_parts (is_number (place_of d) x) (nat_lt t d.at.end) held).0 in
           let small : x < 96 = rw same at at.small in
@@ -265,7 +252,7 @@ one_serves i config t u st sets unit h newer d older good timed issued shown by 
           ∙ wants_is (is_waiting (station_of i (clocks t t t) d older) && is_clear st.slots (order_of t older)
           (station_of i (clocks t t t) d older) u) (d.at.start == u) unit (step_unit d.step)
           (λ v. nat_lt (count_of v u older) (option_of config v).units)
-          (λ v some. begins_is i config t u st h newer d older v good timed issued shown e f some));
+          (λ v some. begins_is t u newer d older v good timed issued shown e f some));
     }
   where
     one_place : (o : Option ℕ) (a b : ℕ) → o ≡ Some a → is_number o b ≡ true → a ≡ b
@@ -282,7 +269,7 @@ all_serve : (i : Loaded) (config : Configuration) (t u : ℕ) (st : Pools) (sets
     → AreServed t (option_of config unit).units (slice_index sets (place_of_unit unit)) (starts_of unit u) part
 all_serve i config t u st sets unit h newer [] good timed issued shown by ready f e = tt
 all_serve i config t u st sets unit h newer (d ∷ older) good timed issued shown by ready f e = (
-  one_serves i config t u st sets unit h newer d older good timed issued shown by ready f e,
+  one_serves t u sets unit newer d older good timed issued shown by ready f e,
   all_serve i config t u st sets unit h (newer ++ (d ∷ [])) older good timed issued shown by ready f
       (e ∙ sym (append_assoc newer (d ∷ []) older)),
 )
@@ -296,22 +283,20 @@ goes_free t x goes (d ∷ older) e = elim (cases_Bool (holds_place t x d)) [
       absurd (cc)
 ]
 
-pub all_alone : (config : Configuration) (t : ℕ) (goes : Done → Bool) (h : List Done) → IsWithinLimits config
+pub all_alone : {config : Configuration} (t : ℕ) (goes : Done → Bool) (h : List Done) → IsWithinLimits config
     → AreTimed config h → AreIssuedBy (t + 1) h → AreAlone t goes h
-all_alone config t goes [] good timed issued = tt
-all_alone config t goes (d ∷ older) good timed issued = (
-  (λ x held. goes_free t x goes older
-      (vacant config d older t x good timed issued.0
+all_alone t goes [] good timed issued = tt
+all_alone t goes (d ∷ older) good timed issued = (
+  (λ x held. goes_free t x goes older (vacant d older t x good timed issued.0
       (and_parts (is_number (place_of d) x) (nat_lt t d.at.end) held).0)),
-  all_alone config t goes older good timed.1 issued.1,
+  all_alone t goes older good timed.1 issued.1,
 )
 
 -- of all kinds together
 kinds_at : (t u : ℕ) (h : List Done) (x : ℕ)
-    → (goes_at t (starts_of units.Alu u) h x ||
-    (goes_at t (starts_of units.Mul u) h x ||
-    (goes_at t (starts_of units.Div u) h x ||
-    (goes_at t (starts_of units.Mem u) h x || (goes_at t (starts_of units.Bru u) h x || false))))) ≡ starts_at t u h x
+    → (goes_at t (starts_of units.Alu u) h x || (goes_at t (starts_of units.Mul u) h x || (goes_at t (starts_of
+    units.Div u) h x || (goes_at t (starts_of units.Mem u) h x || (goes_at t (starts_of units.Bru u) h x || false))))) ≡
+    starts_at t u h x
 kinds_at t u [] x = refl
 kinds_at t u (d ∷ older) x = elim (cases_Bool (holds_place t x d)) [
   | inr h ↦ rw h (kinds_at t u older x)
@@ -335,27 +320,22 @@ kinds_at t u (d ∷ older) x = elim (cases_Bool (holds_place t x d)) [
     one_kind (Some units.Bru) true = refl
 
 pub five : (xs : List ℕ) (x : ℕ) → length xs ≡ 5
-    → is_among xs x ≡ (has (slice_index xs 0) x ||
-    (has (slice_index xs 1) x || (has (slice_index xs 2) x ||
-    (has (slice_index xs 3) x || (has (slice_index xs 4) x || false)))))
+    → is_among xs x ≡ (has (slice_index xs 0) x || (has (slice_index xs 1) x || (has (slice_index xs 2) x || (has
+    (slice_index xs 3) x || (has (slice_index xs 4) x || false)))))
 five (a ∷ b ∷ c ∷ d ∷ e ∷ []) x count = refl
 five _ x count = absurd (omega arith)
 
 -- the places that start are those whose steps start
-pub starting_is : (i : Loaded) (config : Configuration) (t u x : ℕ) (st : Pools) (h : List Done) (starting : ℕ)
-    → IsWithinLimits config → AreTimed config h → AreIssuedBy t h → ShowsStations i (clocks t t t) h st
+pub starting_is : {i : Loaded} {config : Configuration} (t : ℕ) {u : ℕ} (x : ℕ) {st : Pools} {h : List Done}
+    {starting : ℕ} → IsWithinLimits config → AreTimed config h → AreIssuedBy t h → ShowsStations i (clocks t t t) h st
     → AreBusy st.slots st.busy st.issue_numbers → IsStarting config st u starting → u ≡ t + 1 → x < 128
     → has starting x ≡ starts_at t u h x
-starting_is i config t u x st h starting good timed issued shown filled begins e l =
+starting_is {i} {config} t {u} x {st} {h} good timed issued shown filled begins e l =
     let more : AreIssuedBy (t + 1) h = issued_more t (t + 1) h (omega arith) issued in
-    let by : IsInIssueOrder st.busy st.issue_numbers (order_of t h) =
-    order_is i config (clocks t t t) h st good timed more shown filled in
+    let by : IsInIssueOrder st.busy st.issue_numbers (order_of t h) = order_is good timed more shown filled in
     let kind : (unit : UnitId) → has (slice_index begins.kinds (place_of_unit unit)) x ≡ goes_at t (starts_of unit u) h
-    x = λ unit.
-    picked_goes t (option_of config unit).units st.busy (slice_index begins.startable (place_of_unit unit))
-    (slice_index begins.kinds (place_of_unit unit)) st.issue_numbers (starts_of unit u) h by
-    (begins.are_startable unit).inside (begins.units unit)
-    (all_serve i config t u st begins.startable unit h [] h good timed issued shown by begins.are_startable e refl)
-    (all_alone config t (starts_of unit u) h good timed more) x l in
+    x = λ unit. picked_goes t (starts_of unit u) h by (begins.are_startable unit).inside (begins.units unit) (all_serve
+    i config t u st begins.startable unit h [] h good timed issued shown by begins.are_startable e refl)
+    (all_alone t (starts_of unit u) h good timed more) x l in
     begins.all x l ∙ (five begins.kinds x begins.count
     ∙ (rw (kind units.Alu, kind units.Mul, kind units.Div, kind units.Mem, kind units.Bru) (kinds_at t u h x)))

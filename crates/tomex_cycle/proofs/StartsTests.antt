@@ -47,12 +47,11 @@ clear-append : (slots : List (Option Station)) (xs : List ℕ) (x : ℕ) (s : St
 clear-append slots [] x s next = refl
 clear-append slots (y ∷ xs) x s next =
     let before = clear-append slots xs x s next in
-    ap (λ b. lets_pass (slice_index_or slots y None) s next && b) before
-    ∙ (and_swap (lets_pass (slice_index_or slots y None) s next) (lets_pass (slice_index_or slots x None) s next)
-    (is_clear slots xs s next)
-    ∙ (ap (λ b. b && is_clear slots xs s next)
-    (and_turn (lets_pass (slice_index_or slots y None) s next) (lets_pass (slice_index_or slots x None) s next))
-    ∙ sym (and_swap (lets_pass (slice_index_or slots x None) s next) (lets_pass (slice_index_or slots y None) s next)
+    ap (λ b. lets_pass (slice_index_or slots y None) s next && b) before ∙ (and_swap
+    (lets_pass (slice_index_or slots y None) s next) (lets_pass (slice_index_or slots x None) s next)
+    (is_clear slots xs s next) ∙ (ap (λ b. b && is_clear slots xs s next)
+    (and_turn (lets_pass (slice_index_or slots y None) s next) (lets_pass (slice_index_or slots x None) s next)) ∙ sym
+    (and_swap (lets_pass (slice_index_or slots x None) s next) (lets_pass (slice_index_or slots y None) s next)
     (is_clear slots xs s next))))
 
 -- Readiness.
@@ -71,9 +70,9 @@ addressed_is true a t u address e none = elim (cases_Bool (nat_le a t)) [
   | inr l ↦ let k : t < a = leb-false _ _ l in rw (l, le-ltb a u (omega arith)) refl
 ]
 
-no_address : (config : Configuration) (d : Done) (older : List Done) → IsTimed config older d.step d.at
+pub no_address : {config : Configuration} (d : Done) {older : List Done} → IsTimed config older d.step d.at
     → is_memory d.step ≡ false → cycle_of d.at.address ≡ 0
-no_address config d older timed e =
+no_address d {older} timed e =
     let z : d.at.address ≡ None = MatchBool-at_false
     (IsLeast (can_address older d.step d.at.issue) (cycle_of d.at.address)) _ e timed.address in
     rw z refl
@@ -85,19 +84,16 @@ regroup false j k m n e = refl
 -- the operands are there, the address is, and it hasn't started
 pub ready_is : (i : Loaded) (config : Configuration) (t u : ℕ) (d : Done) (older : List Done)
     → AreTimed config (d ∷ older) → AreIssuedBy t (d ∷ older) → u ≡ t + 1
-    → is_waiting (station_of i (clocks t t t) d older)
-    ≡ (nat_lt t d.at.start && nat_lt (source_end older (j_of d.step)) u && nat_lt (source_end older (k_of d.step)) u &&
-    nat_lt (cycle_of d.at.address) u)
+    → is_waiting (station_of i (clocks t t t) d older) ≡ (nat_lt t d.at.start && nat_lt (source_end older (j_of d.step))
+    u && nat_lt (source_end older (k_of d.step)) u && nat_lt (cycle_of d.at.address) u)
 ready_is i config t u d older timed issued e =
     let j : is_there (field_of t older (j_of d.step)) ≡ nat_lt (source_end older (j_of d.step)) (t + 1) =
     there_test config t older (j_of d.step) timed.1 issued.1 in
     let k : is_there (field_of t older (k_of d.step)) ≡ nat_lt (source_end older (k_of d.step)) (t + 1) =
     there_test config t older (k_of d.step) timed.1 issued.1 in
-    let a = addressed_is (is_memory d.step) (cycle_of d.at.address) t u (address_of d.step) e
-    (no_address config d older timed.0) in
-    rw (e, j, k, finish_is d.at.start t d.at.finish)
-    (regroup (nat_lt t d.at.start) (nat_lt (source_end older (j_of d.step)) (t + 1))
-    (nat_lt (source_end older (k_of d.step)) (t + 1)) _ _ (rw e at a))
+    let a = addressed_is (is_memory d.step) (cycle_of d.at.address) t u (address_of d.step) e (no_address d timed.0) in
+    rw (e, j, k, finish_is d.at.start t d.at.finish) (regroup (nat_lt t d.at.start)
+    (nat_lt (source_end older (j_of d.step)) (t + 1)) (nat_lt (source_end older (k_of d.step)) (t + 1)) _ _ (rw e at a))
 
 -- Older accesses.
 
@@ -110,8 +106,7 @@ no_bytes x e = no_option (bytes_of x) (bytes_of_memory x ∙ e)
 
 -- an older access shows its bytes once its address is computed
 pub bytes_are : (i : Loaded) (config : Configuration) (t : ℕ) (d : Done) (older : List Done)
-    → AreTimed config (d ∷ older)
-    → AreIssuedBy t (d ∷ older) → (is_memory d.step ≡ true → cycle_of d.at.address ≤ t)
+    → AreTimed config (d ∷ older) → AreIssuedBy t (d ∷ older) → (is_memory d.step ≡ true → cycle_of d.at.address ≤ t)
     → bytes_in (station_of i (clocks t t t) d older) ≡ bytes_of d.step
 bytes_are i config t d older timed issued l = elim (cases_Bool (is_memory d.step)) [
   | inr m ↦ rw m (sym (no_bytes d.step m))
@@ -132,13 +127,13 @@ conflicts_none (d ∷ older) x u e =
     let one : (not (conflicts d.step x) || nat_lt d.at.finish u) ≡ true = rw (e, share_none (bytes_of d.step)) refl in
     rw one (conflicts_none older x u e)
 
-lets_is : (i : Loaded) (config : Configuration) (t u : ℕ) (d : Done) (older : List Done) (s : Station) (x : Step)
+lets_is : (i : Loaded) {config : Configuration} (t u : ℕ) (d : Done) (older : List Done) (s : Station) (x : Step)
     → IsWithinLimits config → AreTimed config (d ∷ older) → AreIssuedBy t (d ∷ older) → u ≡ t + 1
-    → (is_memory d.step ≡ true → cycle_of d.at.address ≤ t)
-    → bytes_in s ≡ bytes_of x → is_store (step_in s) ≡ is_store x
+    → (is_memory d.step ≡ true → cycle_of d.at.address ≤ t) → bytes_in s ≡ bytes_of x
+    → is_store (step_in s) ≡ is_store x
     → lets_pass (Some (station_of i (clocks t t t) d older)) s u ≡ (not (conflicts d.step x) || nat_lt d.at.finish u)
-lets_is i config t u d older s x good timed issued e l bytes store =
-    let order : d.at.start ≤ d.at.finish = (reach config d older good timed).order in
+lets_is i {config} t u d older s x good timed issued e l bytes store =
+    let order : d.at.start ≤ d.at.finish = (reach d older good timed).order in
     rw (bytes_are i config t d older timed issued l, bytes, store, before_is d.at.start d.at.finish t u e order) refl
 
 -- a busy step of a history, in its place, whatever starts and addresses are made
@@ -149,23 +144,23 @@ pub record IsHeld (i : Loaded) (c : Clocks) (st : Pools) (d : Done) (older : Lis
   pub held : holds_place c.end x d ≡ true
   pub slot : slice_index_or st.slots x None ≡ Some (station_of i c d older)
 
-pub held_at : (i : Loaded) (config : Configuration) (c : Clocks) (st : Pools) (h newer : List Done) (d : Done)
-    (older : List Done) → IsWithinLimits config → AreTimed config h → AreIssuedBy c.end h → ShowsStations i c h st
-    → h ≡ newer ++ (d ∷ older) → nat_lt c.end d.at.end ≡ true → IsHeld i c st d older
-held_at i config c st h newer d older good timed issued shown e l =
+pub held_at : {i : Loaded} {config : Configuration} {c : Clocks} {st : Pools} {h : List Done} (newer : List Done)
+    (d : Done) (older : List Done) → IsWithinLimits config → AreTimed config h → AreIssuedBy c.end h
+    → ShowsStations i c h st → h ≡ newer ++ (d ∷ older) → nat_lt c.end d.at.end ≡ true → IsHeld i c st d older
+held_at {i} {config} {c} newer d older good timed issued shown e l =
     let here : AreTimed config (newer ++ (d ∷ older)) = rw e at timed in
     let by : AreIssuedBy c.end (newer ++ (d ∷ older)) = rw e at issued in
     let k : c.end < d.at.end = ltb-true _ _ l in
     let part : AreTimed config (d ∷ older) = timed_part config newer (d ∷ older) here in
     let at : d.at.issue ≤ c.end = (issued_part c.end newer (d ∷ older) by).0 in
-    let tag = tag_there config d older c.end part.0 at k in
+    let tag = tag_there d c.end part.0 at k in
     let place : place_of d ≡ Some (place_of_tag tag.0) = ap place_at tag.1 in
     let held : holds_place c.end (place_of_tag tag.0) d ≡ true =
     rw (place, l, eq-eqb (place_of_tag tag.0) (place_of_tag tag.0) refl) refl in
     let small : place_of_tag tag.0 < 96 =
     place_low (step_pool d.step) d.at.station (place_of_tag tag.0) (low config (d ∷ older) good part).0 place in
     let there : station_at i c (newer ++ (d ∷ older)) (place_of_tag tag.0) ≡ Some (station_of i c d older) =
-    station_here i config c newer d older (place_of_tag tag.0) good here
+    station_here i c newer d older (place_of_tag tag.0) good here
     (issued_more c.end (c.end + 1) (newer ++ (d ∷ older)) (omega arith) by) held in
     record {
       x = place_of_tag tag.0;
@@ -184,12 +179,11 @@ pub record IsSeen (i : Loaded) (t : ℕ) (st : Pools) (d : Done) (older : List D
   pub slot : slice_index_or st.slots x None ≡ Some (station_of i (clocks t t t) d older)
   pub order : order_of t (d ∷ older) ≡ order_of t older ++ (x ∷ [])
 
-pub seen : (i : Loaded) (config : Configuration) (t : ℕ) (st : Pools) (h newer : List Done) (d : Done)
+pub seen : {i : Loaded} {config : Configuration} (t : ℕ) {st : Pools} {h : List Done} (newer : List Done) (d : Done)
     (older : List Done) → IsWithinLimits config → AreTimed config h → AreIssuedBy t h
     → ShowsStations i (clocks t t t) h st → h ≡ newer ++ (d ∷ older) → nat_lt t d.at.end ≡ true → IsSeen i t st d older
-seen i config t st h newer d older good timed issued shown e l =
-    let at : IsHeld i (clocks t t t) st d older =
-    held_at i config (clocks t t t) st h newer d older good timed issued shown e l in
+seen {i} t {st} newer d older good timed issued shown e l =
+    let at : IsHeld i (clocks t t t) st d older = held_at newer d older good timed issued shown e l in
     record {
       x = at.x;
       place = at.place;
@@ -200,34 +194,34 @@ seen i config t st h newer d older good timed issued shown e l =
     }
 
 -- the older accesses that a station with an address waits for are those of the recurrence
-pub clear_is : (i : Loaded) (config : Configuration) (t u : ℕ) (st : Pools) (h newer part : List Done) (s : Station)
-    (x : Step) → IsWithinLimits config → AreTimed config h → AreIssuedBy t h → ShowsStations i (clocks t t t) h st
-    → h ≡ newer ++ part → u ≡ t + 1
-    → last_address part ≤ t → bytes_in s ≡ bytes_of x → is_store (step_in s) ≡ is_store x
+pub clear_is : {i : Loaded} {config : Configuration} (t u : ℕ) {st : Pools} {h : List Done} (newer part : List Done)
+    (s : Station) (x : Step) → IsWithinLimits config → AreTimed config h → AreIssuedBy t h
+    → ShowsStations i (clocks t t t) h st → h ≡ newer ++ part → u ≡ t + 1 → last_address part ≤ t
+    → bytes_in s ≡ bytes_of x → is_store (step_in s) ≡ is_store x
     → is_clear st.slots (order_of t part) s u ≡ are_conflicts_finished part x u
-clear_is i config t u st h newer [] s x good timed issued shown e f last bytes store = refl
-clear_is i config t u st h newer (d ∷ older) s x good timed issued shown e f last bytes store =
+clear_is t u newer [] s x good timed issued shown e f last bytes store = refl
+clear_is {i} {config} t u {st} newer (d ∷ older) s x good timed issued shown e f last bytes store =
     let part : AreTimed config (d ∷ older) = timed_part config newer (d ∷ older) (rw e at timed) in
     let by : AreIssuedBy t (d ∷ older) = issued_part t newer (d ∷ older) (rw e at issued) in
     let made : is_memory d.step ≡ true → cycle_of d.at.address ≤ t = λ m. rw m at last in
     let before : last_address older ≤ t = elim (cases_Bool (is_memory d.step)) [
-      | inl m ↦ let k : last_address older < cycle_of d.at.address = address_rises config d older part.0 m in
+      | inl m ↦ let k : last_address older < cycle_of d.at.address = address_rises d part.0 m in
           let l : cycle_of d.at.address ≤ t = made m in omega arith
       | inr m ↦ rw m at last
     ] in
     let rest : is_clear st.slots (order_of t older) s u ≡ are_conflicts_finished older x u =
-    clear_is i config t u st h (newer ++ (d ∷ [])) older s x good timed issued shown
+    clear_is t u (newer ++ (d ∷ [])) older s x good timed issued shown
     (e ∙ sym (append_assoc newer (d ∷ []) older)) f before bytes store in
     elim (cases_Bool (nat_lt t d.at.end)) [
       | inr l ↦
           let k : d.at.end ≤ t = ltb-false _ _ l in
-          let r : d.at.finish ≤ d.at.end = (reach config d older good part).finish in
+          let r : d.at.finish ≤ d.at.end = (reach d older good part).finish in
           rw (l, lt-ltb d.at.finish u (omega arith), or_right (not (conflicts d.step x)) true refl) rest
       | inl l ↦
-          let at = seen i config t st h newer d older good timed issued shown e l in
+          let at = seen t newer d older good timed issued shown e l in
           let one : lets_pass (slice_index_or st.slots at.x None) s u
           ≡ (not (conflicts d.step x) || nat_lt d.at.finish u) = ap (λ o. lets_pass o s u) (at.slot)
-          ∙ lets_is i config t u d older s x good part by f made bytes store in
+          ∙ lets_is i t u d older s x good part by f made bytes store in
           ap (λ xs. is_clear st.slots xs s u) at.order
           ∙ (clear-append st.slots (order_of t older) at.x s u ∙ rw (one, rest) refl)
     ]

@@ -85,23 +85,23 @@ made_same i config t u a d older timed issued e quiet = elim (cases_Bool (overwr
 ]
 
 -- a step on top that leaves a byte
-left_here : (i : Loaded) (config : Configuration) (t u a : ℕ) (d : Done) (older : List Done) → IsWithinLimits config
-    → AreTimed config (d ∷ older) → AreIssuedBy t (d ∷ older) → u ≡ t + 1 → (starts_in u d && overwrites d.step a)
-    ≡ true → Left i t u a older → Left i t u a (d ∷ older)
-left_here i config t u a d older good timed issued e leaves_it (one y v small here others byte later) =
+left_here : (i : Loaded) {config : Configuration} (t u a : ℕ) (d : Done) (older : List Done) → IsWithinLimits config
+    → AreTimed config (d ∷ older) → AreIssuedBy t (d ∷ older) → u ≡ t + 1
+    → (starts_in u d && overwrites d.step a) ≡ true → Left i t u a older → Left i t u a (d ∷ older)
+left_here i t u a d older good timed issued e leaves_it (one y v small here others byte later) =
     let two = and_parts (starts_in u d) (overwrites d.step a) leaves_it in
     let unit = and_parts (is_some (step_unit d.step)) (d.at.start == u) two.0 in
     let at : d.at.start ≡ u = eqb-true _ _ unit.1 in
-    let l : u < d.at.start = later d.step d.at.start two.1 (starts_clear config d older timed.0 unit.0) in
+    let l : u < d.at.start = later d.step d.at.start two.1 (starts_clear d timed.0 unit.0) in
     absurd (omega arith)
-left_here i config t u a d older good timed issued e leaves_it (none others byte) =
+left_here i {config} t u a d older good timed issued e leaves_it (none others byte) =
     let two = and_parts (starts_in u d) (overwrites d.step a) leaves_it in
     let unit = and_parts (is_some (step_unit d.step)) (d.at.start == u) two.0 in
     let at : d.at.start ≡ u = eqb-true _ _ unit.1 in
-    let r = reach config d older good timed in
+    let r = reach d older good timed in
     let end : d.at.start ≤ d.at.end = r.start in
     let order : d.at.start ≤ d.at.finish = r.order in
-    let tag = tag_there config d older t timed.0 issued.0 (omega arith) in
+    let tag = tag_there d t timed.0 issued.0 (omega arith) in
     let place : place_of d ≡ Some (place_of_tag tag.0) = ap place_at tag.1 in
     let busy : nat_lt t d.at.end ≡ true = lt-ltb t d.at.end (omega arith) in
     let small : place_of_tag tag.0 < 96 =
@@ -109,25 +109,23 @@ left_here i config t u a d older good timed issued e leaves_it (none others byte
     one (place_of_tag tag.0) (stored_byte d.step a) small
     (rw (place, busy, eq-eqb (place_of_tag tag.0) (place_of_tag tag.0) refl, leaves_it) refl)
     (λ x other. rw (place, ne_eqb (place_of_tag tag.0) x (λ z. other (sym z))) (others x))
-    (rw (two.1, le-leb d.at.start u (omega arith)) refl)
-    (λ x s o clear. let k : d.at.finish < s =
+    (rw (two.1, le-leb d.at.start u (omega arith)) refl) (λ x s o clear. let k : d.at.finish < s =
     later_one d x s a two.1 o (and_parts (not (conflicts d.step x) || nat_lt d.at.finish s)
     (are_conflicts_finished older x s) clear).0 in omega arith)
 
 -- and one that leaves none
-left_on : (i : Loaded) (config : Configuration) (t u a : ℕ) (d : Done) (older : List Done) → IsWithinLimits config
-    → AreTimed config (d ∷ older) → AreIssuedBy t (d ∷ older) → u ≡ t + 1 → (starts_in u d && overwrites d.step a)
-    ≡ false → Left i t u a older → Left i t u a (d ∷ older)
-left_on i config t u a d older good timed issued e quiet (none others byte) =
-    none
-    (λ x. elim (cases_Bool (holds_place t x d)) [ inl h ↦ rw h (none_leaves u a d quiet) | inr h ↦ rw h (others x) ])
+left_on : (i : Loaded) {config : Configuration} (t u a : ℕ) (d : Done) (older : List Done) → IsWithinLimits config
+    → AreTimed config (d ∷ older) → AreIssuedBy t (d ∷ older) → u ≡ t + 1
+    → (starts_in u d && overwrites d.step a) ≡ false → Left i t u a older → Left i t u a (d ∷ older)
+left_on i {config} t u a d older good timed issued e quiet (none others byte) = none (λ x. elim
+    (cases_Bool (holds_place t x d)) [ inl h ↦ rw h (none_leaves u a d quiet) | inr h ↦ rw h (others x) ])
     (rw (made_same i config t u a d older timed issued e quiet, byte) refl)
-left_on i config t u a d older good timed issued e quiet (one y v small here others byte later) =
+left_on i t u a d older good timed issued e quiet (one y v small here others byte later) =
     let free : holds_place t y d ≡ false = elim (cases_Bool (holds_place t y d)) [
       | inr h ↦ h
       | inl h ↦
           let vacant_there : is_vacant t y older ≡ true =
-          vacant config d older t y good timed (let k : d.at.issue ≤ t = issued.0 in
+          vacant d older t y good timed (let k : d.at.issue ≤ t = issued.0 in
           omega arith) (and_parts (is_number (place_of d) y) (nat_lt t d.at.end) h).0 in
           absurd (none_not v (sym (left_free t u a y older vacant_there) ∙ here))
     ] in
@@ -135,25 +133,19 @@ left_on i config t u a d older good timed issued e quiet (one y v small here oth
       | inr o ↦ rw o refl
       | inl o ↦
           let store : is_store d.step ≡ true = (and_parts (is_store d.step) (covers d.step a) o).0 in
-          let l : u < d.at.start = later d.step d.at.start o
-          (starts_clear config d older timed.0 (store_unit d.step store)) in
+          let l : u < d.at.start = later d.step d.at.start o (starts_clear d timed.0 (store_unit d.step store)) in
           rw o (lt-leb d.at.start u l)
     ] in
-    one y v small
-    (rw free here)
-    (λ x other. elim (cases_Bool (holds_place t x d))
-    [ inl h ↦ rw h (none_leaves u a d quiet) | inr h ↦ rw h (others x other) ])
-    (rw unmade byte)
-    (λ x s o clear. later x s o (and_parts (not (conflicts d.step x) || nat_lt d.at.finish s)
-    (are_conflicts_finished older x s) clear).1)
+    one y v small (rw free here) (λ x other. elim (cases_Bool (holds_place t x d))
+    [ inl h ↦ rw h (none_leaves u a d quiet) | inr h ↦ rw h (others x other) ]) (rw unmade byte) (λ x s o clear. later x
+    s o (and_parts (not (conflicts d.step x) || nat_lt d.at.finish s) (are_conflicts_finished older x s) clear).1)
 
-pub left_is : (i : Loaded) (config : Configuration) (t u a : ℕ) (h : List Done) → IsWithinLimits config
+pub left_is : (i : Loaded) {config : Configuration} (t u a : ℕ) (h : List Done) → IsWithinLimits config
     → AreTimed config h → AreIssuedBy t h → u ≡ t + 1 → Left i t u a h
-left_is i config t u a [] good timed issued e = none (λ x. refl) refl
-left_is i config t u a (d ∷ older) good timed issued e = elim (cases_Bool (starts_in u d && overwrites d.step a)) [
-  | inl l ↦ left_here i config t u a d older good timed issued e l
-      (left_is i config t u a older good timed.1 issued.1 e)
-  | inr l ↦ left_on i config t u a d older good timed issued e l (left_is i config t u a older good timed.1 issued.1 e)
+left_is i t u a [] good timed issued e = none (λ x. refl) refl
+left_is i t u a (d ∷ older) good timed issued e = elim (cases_Bool (starts_in u d && overwrites d.step a)) [
+  | inl l ↦ left_here i t u a d older good timed issued e l (left_is i t u a older good timed.1 issued.1 e)
+  | inr l ↦ left_on i t u a d older good timed issued e l (left_is i t u a older good timed.1 issued.1 e)
 ]
 
 -- By place.
@@ -226,17 +218,15 @@ written_left : (i : Loaded) (t u a : ℕ) (h : List Done) (slots : List (Option 
     → byte a ≡ byte_at i t h a → Left i t u a h → written_by slots picked byte 96 a ≡ byte_at i u h a
 written_left i t u a h slots picked byte same before (none others made) =
     written_none slots picked byte 96 a (omega arith) (λ x l. same x l ∙ others x) ∙ (before ∙ sym made)
-written_left i t u a h slots picked byte same before (one y v small here others made later) =
-    written_one slots picked byte 96 a y v (omega arith) small (same y small ∙ here) (λ x l other. same x l
-    ∙ others x other) ∙ sym made
+written_left i t u a h slots picked byte same before (one y v small here others made later) = written_one slots picked
+    byte 96 a y v (omega arith) small (same y small ∙ here) (λ x l other. same x l ∙ others x other) ∙ sym made
 
 -- the stores of the places that start make memory what it is after the cycle's starts
-pub written_is : (i : Loaded) (config : Configuration) (t u a : ℕ) (h : List Done) (slots : List (Option Station))
+pub written_is : (i : Loaded) {config : Configuration} (t u a : ℕ) (h : List Done) (slots : List (Option Station))
     (picked : ℕ) (byte : ℕ → ℕ) → IsWithinLimits config → AreTimed config h → AreIssuedBy t h → ArePast i h → u ≡ t + 1
     → ((x : ℕ) → x < 96 → has picked x ≡ starts_at t u h x)
     → ((x : ℕ) → x < 96 → slice_index_or slots x None ≡ station_at i (clocks u t t) h x) → byte a ≡ byte_at i t h a
     → written_by slots picked byte 96 a ≡ byte_at i u h a
-written_is i config t u a h slots picked byte good timed issued past e picks shows before =
-    written_left i t u a h slots picked byte
-    (λ x l. rw (picks x l, shows x l) (left_slot i config t u a x h timed issued past e)) before
-    (left_is i config t u a h good timed issued e)
+written_is i {config} t u a h slots picked byte good timed issued past e picks shows before = written_left i t u a h
+    slots picked byte (λ x l. rw (picks x l, shows x l) (left_slot i config t u a x h timed issued past e)) before
+    (left_is i t u a h good timed issued e)

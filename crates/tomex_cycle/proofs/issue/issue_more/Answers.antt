@@ -17,8 +17,7 @@ issues-preserved g c =
     omega (arith, c.width-width.ensures.count, c.issues-test.true) in
     record {
       on = on_more c.args.fetcher.now c.args.config.now c.args.count.now c.issues.made c.issues.count _ _ _ _ _ _ _ _ _
-          _ c.issue_next.result c.issues.invariant.on less
-          (rw c.issues.invariant.same at c.issue_next.ensures.issues)
+          _ c.issue_next.result c.issues.invariant.on less (rw c.issues.invariant.same at c.issue_next.ensures.issues)
           (one_is c.issue_next.result (sym c.unwrap_or-more.ensures ∙ c.if-not-more.false)) refl;
       known = λ next f known. c.issue_next.ensures.timetable next f (c.issues.invariant.known next f known);
       same = c.issue_next.ensures.same ∙ c.issues.invariant.same;

@@ -29,9 +29,8 @@ loop-self-preserved g c =
       running = sym c.go_on.ensures.answer ∙ c.in-Running.is;
       none = λ h. absurd (omega (arith, h, c.loop-self.invariant.low));
       ends = rw (c.loop-self.invariant.image, c.loop-self.invariant.config) at c.go_on.ensures.ends;
-      paid = λ e. paid_on _ c.args.to c.args.self.now.cycle c.loop-self.self.cycle _ _ _ _ ahead
-          (c.loop-self.invariant.paid e) ((rw (c.loop-self.invariant.image, c.loop-self.invariant.config) at
-          c.go_on.ensures.goes) e);
+      paid = λ e. paid_on _ _ ahead (c.loop-self.invariant.paid e)
+          ((rw (c.loop-self.invariant.image, c.loop-self.invariant.config) at c.go_on.ensures.goes) e);
     }
 
 pub returns-in_default : goal.returns-in_default
@@ -51,8 +50,7 @@ returns-in_default g c =
           (max c.args.self.now.cycle c.args.to) (seen c.go_on.new.self)
           ((rw (c.loop-self.invariant.image, c.loop-self.invariant.config) at c.go_on.ensures.ends) e)
           (λ runs. c.in_default.not-Running (c.go_on.ensures.answer ∙ runs)) (omega (arith, c.go_on.ensures.most));
-      cycles_made = λ e. paid_counts _ c.args.to c.args.self.now.cycle c.go_on.new.self.cycle _ _
-          (paid_on _ c.args.to c.args.self.now.cycle c.loop-self.self.cycle _ _ _ _ ahead (c.loop-self.invariant.paid e)
+      cycles_made = λ e. paid_counts (paid_on _ _ ahead (c.loop-self.invariant.paid e)
           ((rw (c.loop-self.invariant.image, c.loop-self.invariant.config) at c.go_on.ensures.goes) e));
     }
 
@@ -71,6 +69,5 @@ returns g c =
       same_if_over = λ stopped. absurd (stopped c.requires.running);
       same_if_there = c.loop-self.invariant.none;
       after_ticks = λ e. rw (← there) (c.loop-self.invariant.ends e);
-      cycles_made = λ e. paid_counts _ c.args.to c.args.self.now.cycle c.loop-self.self.cycle _ _
-          (c.loop-self.invariant.paid e);
+      cycles_made = λ e. paid_counts (c.loop-self.invariant.paid e);
     }
