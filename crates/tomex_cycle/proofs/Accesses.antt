@@ -1,24 +1,15 @@
 -- In the cycle in which it starts an access finds in memory the bytes that the run has before it.
 use Rattle.std.proofs.Common.{ℕ, ◌+◌, ◌<◌, ◌≤◌, ◌≡◌, ◌∙◌, Bool, true, arith, refl, List, [], ◌∷◌, ◌++◌, Option, Some}
 use Rattle.std.proofs.Common.{None, inl, inr}
-use Rattle.std.specs.Prelude.{nat_lt, nat_le, ◌||◌, not, is_some, MatchOption}
-use Rattle.std.proofs.lemmas.Bool.{cases_Bool, ltb-true, leb-true, lt-ltb, lt-leb, le-leb, and_parts, or_right, or_left}
-use Rattle.tomex_image.specs.Image.{Loaded}
-use Rattle.tomex_config.specs.Configuration.{Configuration, IsWithinLimits}
-use Rattle.tomex_rvdec.specs.declared.pool.PoolId.{PoolId}
+use Rattle.tomex_cycle.proofs.Words.{nat_lt, nat_le, ◌||◌, not, is_some, MatchOption, cases_Bool, ltb-true, leb-true}
+use Rattle.tomex_cycle.proofs.Words.{lt-ltb, lt-leb, le-leb, and_parts, or_right, or_left, Loaded, Configuration}
+use Rattle.tomex_cycle.proofs.Words.{IsWithinLimits, PoolId, UnitId, ByteRange, Step, covers, overwrites, byte_after}
+use Rattle.tomex_cycle.proofs.Words.{bytes_of, is_in, is_store, step_pool, step_unit, unit_with_pool, Done, cycle_of}
+use Rattle.tomex_cycle.proofs.Words.{AreTimed, IsTimed, IsLeast, can_start, conflicts, are_conflicts_finished, byte_at}
+use Rattle.tomex_cycle.proofs.Words.{steps_in}
 use Rattle.tomex_rvdec.specs.declared.pool.PoolId.TheVariants as pools
-use Rattle.tomex_rvdec.specs.declared.pool.UnitId.{UnitId}
-use Rattle.tomex_steps.specs.declared.step.ByteRange.{ByteRange}
-use Rattle.tomex_steps.specs.declared.step.Step.{Step}
-use Rattle.tomex_steps.specs.Results.{covers, is_among, overwrites}
-use Rattle.tomex_rvexec.specs.History.{byte_after}
-use Rattle.tomex_steps.specs.Steps.{bytes_of, is_in, is_store, step_pool, step_unit}
-use Rattle.tomex_steps.proofs.Fields.{unit_with_pool}
-use Rattle.tomex_timing.specs.declared.times.Done.{Done}
-use Rattle.tomex_timing.specs.History.{cycle_of}
-use Rattle.tomex_timing.specs.Recurrence.{AreTimed, IsTimed, IsLeast, can_start, conflicts, shares_byte}
-use Rattle.tomex_timing.specs.Recurrence.{are_conflicts_finished}
-use Rattle.tomex_cycle.specs.Run.{byte_at, steps_in}
+use Rattle.tomex_steps.specs.Results.{is_among}
+use Rattle.tomex_timing.specs.Recurrence.{shares_byte}
 use Rattle.tomex_cycle.proofs.Totals.{reach}
 use Rattle.tomex_cycle.proofs.Fields.{timed_part}
 

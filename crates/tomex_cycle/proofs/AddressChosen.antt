@@ -1,32 +1,18 @@
 -- Which load or store gets its address in a cycle, by the recurrence.
 use Rattle.std.proofs.Common.{ℕ, ◌+◌, ◌<◌, ◌≤◌, ◌≡◌, ◌∙◌, Bool, true}
 use Rattle.std.proofs.Common.{false, arith, refl, List, [], ◌∷◌, Option, Some, None, ap, sym, inl, inr}
-use Rattle.std.specs.Prelude.{nat_lt, nat_le, if◌then◌else◌, ◌&&◌, ◌==◌, not, is_some}
-use Rattle.std.specs.Bool.{MatchBool}
-use Rattle.std.proofs.lemmas.Bool.{cases_Bool, ltb-true, lt-ltb, leb-true, leb-false, le-leb, lt-leb, and_parts}
-use Rattle.std.proofs.lemmas.Bool.{and_right, eq-eqb, eqb-true, eqb-false}
-use Rattle.tomex_config.specs.Configuration.{Configuration, IsWithinLimits}
-use Rattle.tomex_timing.specs.declared.times.Done.{Done}
-use Rattle.tomex_timing.specs.History.{cycle_of, is_memory, last_address, source_end}
-use Rattle.tomex_timing.specs.Recurrence.{AreTimed, IsTimed, IsLeast, can_address}
-use Rattle.tomex_cycle.specs.Run.{AreIssuedBy}
-use Rattle.tomex_cycle.specs.Views.{place_of, holds_place, station_of, clocks}
-use Rattle.tomex_image.specs.Image.{Loaded}
-use Rattle.tomex_timing.specs.declared.tables.Tag.{Tag}
-use Rattle.std.specs.Prelude.{option_map}
-use Rattle.tomex_rvdec.specs.declared.op.Op.{Op}
+use Rattle.tomex_cycle.proofs.Words.{nat_lt, nat_le, if◌then◌else◌, ◌&&◌, ◌==◌, not, is_some, MatchBool, cases_Bool}
+use Rattle.tomex_cycle.proofs.Words.{ltb-true, lt-ltb, leb-true, leb-false, le-leb, lt-leb, and_parts, and_right}
+use Rattle.tomex_cycle.proofs.Words.{eq-eqb, eqb-true, eqb-false, Configuration, IsWithinLimits, Done, cycle_of}
+use Rattle.tomex_cycle.proofs.Words.{is_memory, last_address, source_end, AreTimed, IsTimed, IsLeast, can_address}
+use Rattle.tomex_cycle.proofs.Words.{AreIssuedBy, place_of, holds_place, station_of, clocks, Loaded, Tag, option_map}
+use Rattle.tomex_cycle.proofs.Words.{Op, form_of, sources_at, Step, address_of, j_of, operand, field_of, field_from}
+use Rattle.tomex_cycle.proofs.Words.{producer, is_memory_op, with_address, is_there, Station}
 use Rattle.tomex_rvdec.specs.declared.op.Op.TheVariants as ops
-use Rattle.tomex_rvdec.specs.Meaning.{form_of}
-use Rattle.tomex_rvdec.specs.Operands.{sources_at}
-use Rattle.tomex_steps.specs.declared.step.Step.{Step}
-use Rattle.tomex_steps.specs.Steps.{address_of, j_of, operand}
-use Rattle.tomex_timing.specs.Tables.{field_of, field_from, producer}
 use Rattle.tomex_cycle.proofs.Fields.{there_test}
 use Rattle.tomex_cycle.proofs.Places.{is_vacant, least_test}
 use Rattle.tomex_cycle.proofs.Totals.{reach, place_there}
-use Rattle.tomex_tags.specs.Contents.{address_from, is_memory_op, with_address}
-use Rattle.tomex_tags.specs.Operands.{is_there}
-use Rattle.tomex_tags.specs.declared.station.Station.{Station}
+use Rattle.tomex_tags.specs.Contents.{address_from}
 
 abbrev pub or_else : Option ℕ → Option ℕ → Option ℕ
 or_else None y = y

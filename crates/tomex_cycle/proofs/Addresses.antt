@@ -2,32 +2,19 @@
 use Rattle.std.proofs.Common.{length, slice_index_or, slice_set, append_assoc, ℕ, ◌+◌, ◌<◌, ◌≤◌, ◌≡◌, ◌∙◌, Bool, true}
 use Rattle.std.proofs.Common.{false, arith, refl, List, [], ◌∷◌, ◌++◌, Option, Some, None, ap, sym, inl, inr}
 use Rattle.std.proofs.Common.{slice_index}
-use Rattle.std.specs.Prelude.{nat_lt, nat_le, if◌then◌else◌, ◌&&◌, ◌==◌, not, is_some}
-use Rattle.std.proofs.lemmas.Bool.{cases_Bool, ltb-true, leb-true, le-leb, and_parts}
-use Rattle.std.proofs.lemmas.Bool.{eq-eqb, eqb-true, eqb-false, ne_eqb, both_ways}
-use Rattle.std.proofs.lemmas.List.{get_or-set_same, get_or-set_other, length-set}
-use Rattle.tomex_steps.specs.Steps.{step_pool, address_of, is_number}
-use Rattle.tomex_cycle.specs.Phases.{MakesAddress}
-use Rattle.tomex_config.specs.Configuration.{Configuration, IsWithinLimits}
-use Rattle.tomex_timing.specs.declared.times.Done.{Done}
-use Rattle.tomex_timing.specs.History.{cycle_of, is_memory, last_address}
-use Rattle.tomex_timing.specs.Recurrence.{AreTimed}
-use Rattle.tomex_cycle.specs.Run.{AreIssuedBy}
-use Rattle.tomex_cycle.specs.Views.{place_of, holds_place, order_of, ShowsStations, station_at, station_of, clocks}
-use Rattle.tomex_image.specs.Image.{Loaded}
-use Rattle.std.specs.Prelude.{option_map}
+use Rattle.tomex_cycle.proofs.Words.{nat_lt, nat_le, if◌then◌else◌, ◌&&◌, ◌==◌, not, is_some, cases_Bool, ltb-true}
+use Rattle.tomex_cycle.proofs.Words.{leb-true, le-leb, and_parts, eq-eqb, eqb-true, eqb-false, ne_eqb, both_ways}
+use Rattle.tomex_cycle.proofs.Words.{get_or-set_same, get_or-set_other, length-set, step_pool, address_of, is_number}
+use Rattle.tomex_cycle.proofs.Words.{MakesAddress, Configuration, IsWithinLimits, Done, cycle_of, is_memory}
+use Rattle.tomex_cycle.proofs.Words.{last_address, AreTimed, AreIssuedBy, place_of, holds_place, order_of}
+use Rattle.tomex_cycle.proofs.Words.{ShowsStations, station_at, station_of, clocks, Loaded, option_map, has_base}
+use Rattle.tomex_cycle.proofs.Words.{is_value, lacks_address, with_address, place_at, place_of_tag, Pools, AreBusy}
+use Rattle.tomex_cycle.proofs.Words.{Station, Field, Value, Unread, IsInIssueOrder}
 use Rattle.tomex_cycle.proofs.Fields.{tag_there, timed_part, issued_part}
 use Rattle.tomex_cycle.proofs.Places.{place_low, low, station_here, is_vacant, vacant}
 use Rattle.tomex_cycle.proofs.Totals.{issued_more}
-use Rattle.tomex_membuf.specs.Addresses.{has_base, is_value}
 use Rattle.tomex_cycle.proofs.IssueOrder.{first_waiting, next_address, where_base_is_there}
-use Rattle.tomex_tags.specs.Contents.{lacks_address, with_address}
-use Rattle.tomex_tags.specs.Places.{place_at, place_of_tag}
-use Rattle.tomex_tags.specs.Pools.{Pools, AreBusy}
-use Rattle.tomex_tags.specs.declared.station.Station.{Station}
-use Rattle.tomex_timing.specs.declared.tables.Field.{Field}
-use Rattle.tomex_timing.specs.declared.tables.Field.TheVariants.{Value, Waits, Unread}
-use Rattle.tomex_bus.specs.Picks.{IsInIssueOrder}
+use Rattle.tomex_timing.specs.declared.tables.Field.TheVariants.{Waits}
 use Rattle.tomex_cycle.proofs.Orders.{order_is}
 use Rattle.tomex_cycle.proofs.AddressChosen.{or_else, waits_for_address, chosen, address_rises, none_waits}
 use Rattle.tomex_cycle.proofs.AddressChosen.{or_else_none, not_le, some_waits, holds_by, chosen_held, test_is, a_by}

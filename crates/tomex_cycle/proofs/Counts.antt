@@ -2,11 +2,9 @@
 -- finish.
 use Rattle.std.proofs.Common.{ℕ, zero, suc, ◌+◌, ◌-◌, ◌*◌, ◌<◌, ◌≤◌, ◌≡◌, ◌∙◌, arith, refl, List, ap, sym, inl, inr}
 use Rattle.std.proofs.Common.{◌⊎◌, subst}
-use Rattle.std.specs.Prelude.{◌==◌, if◌then◌else◌}
 use Rattle.std.proofs.Math.Numerals.{suc-eq-add-one}
-use Rattle.std.proofs.lemmas.Bool.{cases_Bool, eq-eqb}
-use Rattle.tomex_timing.specs.declared.times.Done.{Done}
-use Rattle.tomex_cycle.specs.Events.{GoesOn, IsCounted, SkipsTo, eventful_by, events_by, events_in}
+use Rattle.tomex_cycle.proofs.Words.{◌==◌, if◌then◌else◌, cases_Bool, eq-eqb, Done, GoesOn, SkipsTo, events_in}
+use Rattle.tomex_cycle.specs.Events.{IsCounted, eventful_by, events_by}
 
 events_next : (h : List Done) (t : ℕ) → events_by h (t + 1) ≡ events_by h t + events_in (t + 1) h
 events_next h t = ap (λ (k : ℕ). events_by h k) (sym (suc-eq-add-one t))

@@ -1,32 +1,16 @@
 -- The phases, one after the other, make a cycle.
 use Rattle.std.proofs.Common.{ℕ, ◌+◌, ◌<◌, ◌≤◌, ◌≡◌, ◌∙◌, Bool, true, false, arith, refl, List, [], ◌∷◌, ◌++◌, Option}
 use Rattle.std.proofs.Common.{Some, None, sym, inl, inr}
-use Rattle.std.specs.Prelude.{nat_lt, MatchOption, if◌then◌else◌, Result, Ok, not}
-use Rattle.std.proofs.lemmas.Bool.{cases_Bool, ltb-true, lt-leb, and_parts}
-use Rattle.tomex_image.specs.Image.{Loaded}
-use Rattle.tomex_config.specs.Configuration.{Configuration}
-use Rattle.tomex_rvdec.specs.declared.pool.PoolId.{PoolId}
+use Rattle.tomex_cycle.proofs.Words.{nat_lt, MatchOption, if◌then◌else◌, Result, Ok, not, cases_Bool, ltb-true, lt-leb}
+use Rattle.tomex_cycle.proofs.Words.{and_parts, Loaded, Configuration, PoolId, UnitId, unit_at, Fault, overwrites}
+use Rattle.tomex_cycle.proofs.Words.{Bytes, step_pool, is_in, is_store, Done, cycle_of, greatest_end, AreTimed, IsTimed}
+use Rattle.tomex_cycle.proofs.Words.{IsLeast, can_start, Fetch, RunEndsAfter, first_timed, byte_at, IsHistory, clocks}
+use Rattle.tomex_cycle.proofs.Words.{ShowsMemory, IsIssuedTo, IsSnapshot, IsYetToIssue, MakesStarts, MakesAddress}
+use Rattle.tomex_cycle.proofs.Words.{MakesIssue, MakesEnds, is_done, Progress, Running, Ended, AreBusy, Pools}
+use Rattle.tomex_cycle.proofs.Words.{RegStatus}
 use Rattle.tomex_rvdec.specs.declared.pool.PoolId.TheVariants as pools
-use Rattle.tomex_rvdec.specs.declared.pool.UnitId.{UnitId}
-use Rattle.tomex_rvdec.specs.Operands.{unit_at}
-use Rattle.tomex_rvexec.specs.declared.outcome.Fault.{Fault}
-use Rattle.tomex_steps.specs.Results.{overwrites}
-use Rattle.tomex_steps.specs.Memory.{Bytes}
-use Rattle.tomex_steps.specs.Steps.{step_pool, is_in, is_store}
-use Rattle.tomex_timing.specs.declared.times.Done.{Done}
-use Rattle.tomex_timing.specs.History.{cycle_of, greatest_end}
-use Rattle.tomex_timing.specs.Recurrence.{AreTimed, IsTimed, IsLeast, can_start}
-use Rattle.tomex_cycle.specs.declared.fetch.Fetch.{Fetch}
-use Rattle.tomex_cycle.specs.Run.{RunEndsAfter, first_timed, byte_at, IsHistory}
-use Rattle.tomex_cycle.specs.Views.{clocks, ShowsMemory}
-use Rattle.tomex_cycle.specs.Phases.{IsIssuedTo, IsSnapshot, IsYetToIssue, MakesStarts, MakesAddress, MakesIssue}
-use Rattle.tomex_cycle.specs.Phases.{MakesEnds, is_done}
-use Rattle.tomex_cycle.specs.declared.progress.Progress.{Progress}
-use Rattle.tomex_cycle.specs.declared.progress.Progress.TheVariants.{Running, Ended}
 use Rattle.tomex_cycle.proofs.Totals.{done_is}
 use Rattle.tomex_cycle.proofs.Runs.{rest_to, run_history, run_timed, AreLater}
-use Rattle.tomex_tags.specs.Pools.{AreBusy, Pools}
-use Rattle.tomex_tags.specs.declared.register_status.RegStatus.{RegStatus}
 
 start_later : (pool : Option PoolId) (issue start : ℕ) (older : List Done) (P : UnitId → ℕ → Bool)
     → ((u : UnitId) (x : ℕ) → P u x ≡ true → issue < x) → is_in pools.Store pool ≡ true

@@ -2,36 +2,22 @@
 use Rattle.std.proofs.Common.{◌++◌, ℕ, ◌+◌, ◌*◌, ◌<◌, ◌≤◌, ◌≡◌, ◌∙◌, Bool, true, false, arith, refl, List, [], ◌∷◌}
 use Rattle.std.proofs.Common.{Option, Some, None, ap, sym, inl, inr, ◌⊎◌, slice_index_or, IsSome, length, append_assoc}
 use Rattle.std.proofs.Common.{slice_index}
-use Rattle.std.specs.Prelude.{nat_lt, nat_le, if◌then◌else◌, ◌&&◌, ◌||◌, ◌==◌, not, is_some}
-use Rattle.std.proofs.lemmas.Bool.{cases_Bool, ltb-true, ltb-false, lt-ltb, le-ltb, leb-false, and_parts, eq-eqb}
-use Rattle.std.proofs.lemmas.Bool.{eqb-true, eqb-false, ne_eqb}
-use Rattle.tomex_image.specs.Image.{Loaded}
-use Rattle.tomex_config.specs.Configuration.{Configuration, IsWithinLimits}
-use Rattle.tomex_rvdec.specs.Parts.{place_of_pool}
-use Rattle.tomex_rvdec.specs.declared.pool.PoolId.{PoolId}
+use Rattle.tomex_cycle.proofs.Words.{nat_lt, nat_le, if◌then◌else◌, ◌&&◌, ◌||◌, ◌==◌, not, is_some, cases_Bool}
+use Rattle.tomex_cycle.proofs.Words.{ltb-true, ltb-false, lt-ltb, le-ltb, leb-false, and_parts, eq-eqb, eqb-true}
+use Rattle.tomex_cycle.proofs.Words.{eqb-false, ne_eqb, Loaded, Configuration, IsWithinLimits, place_of_pool, PoolId}
+use Rattle.tomex_cycle.proofs.Words.{UnitId, unit_with_pool, unread_j, unread_k, EndKind, Operand, Step, end_of}
+use Rattle.tomex_cycle.proofs.Words.{next_pc_of, is_branch, is_in, is_number, j_of, k_of, operand, step_pool, step_unit}
+use Rattle.tomex_cycle.proofs.Words.{step_dest, Done, cycle_of, source_end, writer_end, AreTimed, IsTimed}
+use Rattle.tomex_cycle.proofs.Words.{are_branches_finished, can_issue, can_start, has_operands, field_of, producer}
+use Rattle.tomex_cycle.proofs.Words.{tag_at, tag_of, Fetch, MakesEnds, ArePast, AreIssuedBy, steps_in, clocks}
+use Rattle.tomex_cycle.proofs.Words.{fetch_after, fetch_of, holds_place, place_of, sent_at, station_at, station_of}
+use Rattle.tomex_cycle.proofs.Words.{ShowsRegisters, ShowsStations, order_of, EndsIn, Hears, IsDoneBranch, finishes}
+use Rattle.tomex_cycle.proofs.Words.{sent_below, AreEnding, AreNamed, step_in, value_in, place_at, place_of_tag, Pools}
+use Rattle.tomex_cycle.proofs.Words.{AreBusy, RegStatus, Station, has, AreLow, dest_of, Tag}
 use Rattle.tomex_rvdec.specs.declared.pool.PoolId.TheVariants as pools
-use Rattle.tomex_rvdec.specs.declared.pool.UnitId.{UnitId}
-use Rattle.tomex_steps.proofs.Fields.{unit_with_pool}
-use Rattle.tomex_rvexec.proofs.FlowHistories.{unread_j, unread_k}
-use Rattle.tomex_rvexec.specs.declared.outcome.EndKind.{EndKind}
-use Rattle.tomex_steps.specs.declared.step.Operand.{Operand}
-use Rattle.tomex_steps.specs.declared.step.Step.{Step}
-use Rattle.tomex_rvexec.specs.Flow.{end_of}
-use Rattle.tomex_steps.specs.Results.{next_pc_of}
 use Rattle.tomex_rvexec.specs.History.{Follows as Reads}
-use Rattle.tomex_steps.specs.Steps.{is_branch, is_in, is_number, j_of, k_of, operand, step_pool, step_unit, step_dest}
-use Rattle.tomex_timing.specs.declared.times.Done.{Done}
-use Rattle.tomex_timing.specs.History.{cycle_of, source_end, writer_end}
-use Rattle.tomex_timing.specs.Recurrence.{AreTimed, IsTimed, are_branches_finished, can_issue, can_start, has_operands}
-use Rattle.tomex_timing.specs.Tables.{field_of, producer, tag_at, tag_of}
-use Rattle.tomex_cycle.specs.declared.fetch.Fetch.{Fetch}
 use Rattle.tomex_cycle.specs.declared.fetch.Fetch.TheVariants as from
-use Rattle.tomex_cycle.specs.Phases.{MakesEnds}
-use Rattle.tomex_cycle.specs.Run.{ArePast, AreIssuedBy, steps_in}
-use Rattle.tomex_cycle.specs.Views.{clocks, fetch_after, fetch_of, holds_place, place_of, sent_at, station_at}
-use Rattle.tomex_cycle.specs.Views.{station_of, ShowsRegisters, ShowsStations, order_of}
-use Rattle.tomex_cycle.specs.Ends.{EndsIn, Follows, Hears, IsDoneBranch, after_branch, finishes, sent_below, target_in}
-use Rattle.tomex_cycle.specs.Ends.{AreEnding, AreNamed}
+use Rattle.tomex_cycle.specs.Ends.{Follows, after_branch, target_in}
 use Rattle.tomex_cycle.proofs.Accesses.{start_clear}
 use Rattle.tomex_cycle.proofs.AddressChosen.{some_none_of}
 use Rattle.tomex_cycle.proofs.Addresses.{number_is_some}
@@ -42,17 +28,7 @@ use Rattle.tomex_cycle.proofs.EndsPass.{ends_in, option_cases, slot_here, ending
 use Rattle.tomex_cycle.proofs.EndsState.{j_cases, k_cases, later, registers_at, sent_all, stations_at}
 use Rattle.tomex_cycle.proofs.Fields.{unit_later}
 use Rattle.tomex_cycle.proofs.Totals.{place_there, reach}
-use Rattle.tomex_tags.specs.Contents.{step_in}
-use Rattle.tomex_tags.specs.Operands.{value_in}
-use Rattle.tomex_tags.specs.Places.{place_at, place_of_tag}
-use Rattle.tomex_tags.specs.Pools.{Pools, AreBusy}
-use Rattle.tomex_tags.specs.declared.register_status.RegStatus.{RegStatus}
-use Rattle.tomex_tags.specs.declared.station.Station.{Station}
-use Rattle.tomex_sets.specs.Sets.{has}
-use Rattle.tomex_cycle.specs.Starts.{AreLow}
 use Rattle.tomex_cycle.proofs.StartsDone.{low_of}
-use Rattle.tomex_rvdec.specs.Operands.{dest_of}
-use Rattle.tomex_timing.specs.declared.tables.Tag.{Tag}
 use Rattle.tomex_cycle.proofs.Truth.{or_cases}
 
 -- Branches have the last places.

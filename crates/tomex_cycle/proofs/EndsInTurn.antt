@@ -1,22 +1,12 @@
 -- What ends in one place after another, and what is sent by them together.
 use Rattle.std.proofs.Common.{ℕ, ◌+◌, ◌<◌, ◌≡◌, ◌∙◌, Bool, true, false, arith, refl, List, Option, Some, None, ap}
 use Rattle.std.proofs.Common.{sym, inl, inr, length, slice_index, slice_index_or, option_map}
-use Rattle.std.specs.Prelude.{nat_lt, if◌then◌else◌, ◌&&◌, ◌||◌, ◌==◌}
-use Rattle.std.proofs.lemmas.Bool.{cases_order, lt-ltb, le-ltb, eqb-true, eqb-false, eq-eqb, ne_eqb}
-use Rattle.tomex_timing.specs.Tables.{field_from}
-use Rattle.tomex_timing.specs.declared.tables.Field.{Field}
-use Rattle.tomex_timing.specs.declared.tables.Field.TheVariants.{Value, Waits, Unread}
-use Rattle.tomex_timing.specs.declared.tables.Tag.{Tag}
-use Rattle.tomex_steps.specs.Steps.{is_number}
+use Rattle.tomex_cycle.proofs.Words.{nat_lt, if◌then◌else◌, ◌&&◌, ◌||◌, ◌==◌, cases_order, lt-ltb, le-ltb, eqb-true}
+use Rattle.tomex_cycle.proofs.Words.{eqb-false, eq-eqb, ne_eqb, field_from, Field, Value, Unread, Tag, is_number}
+use Rattle.tomex_cycle.proofs.Words.{EndsIn, Hears, after_ends, sends_of, sent_below, hears, heard, only, taken}
+use Rattle.tomex_cycle.proofs.Words.{place_at, place_of_tag, Pools, RegStatus, Station, has}
+use Rattle.tomex_timing.specs.declared.tables.Field.TheVariants.{Waits}
 use Rattle.tomex_cycle.proofs.AddressChosen.{or_else}
-use Rattle.tomex_cycle.specs.Ends.{EndsIn, Hears, after_ends, sends_of, sent_below}
-use Rattle.tomex_tags.specs.Contents.{hears}
-use Rattle.tomex_tags.specs.Operands.{heard, only, taken}
-use Rattle.tomex_tags.specs.Places.{place_at, place_of_tag}
-use Rattle.tomex_tags.specs.Pools.{Pools}
-use Rattle.tomex_tags.specs.declared.register_status.RegStatus.{RegStatus}
-use Rattle.tomex_tags.specs.declared.station.Station.{Station}
-use Rattle.tomex_sets.specs.Sets.{has}
 
 -- A broadcast to registers.
 

@@ -1,28 +1,16 @@
 -- What the loops of the end of a cycle have made so far.
 use Rattle.std.proofs.Common.{ℕ, ◌+◌, ◌<◌, ◌≤◌, ◌≡◌, ◌∙◌, Bool, true, false, arith, refl, List, Option, Some, None, ap}
 use Rattle.std.proofs.Common.{sym, inl, inr, length, slice_index, slice_index_or, slice_set, option_map}
-use Rattle.std.specs.Prelude.{nat_lt, if◌then◌else◌, ◌&&◌, ◌==◌}
-use Rattle.std.proofs.lemmas.Bool.{cases_Bool, lt-ltb, le-ltb, eqb-true, eqb-false}
-use Rattle.std.proofs.lemmas.Bool.{both_ways, ltb-true, ltb-false}
-use Rattle.std.proofs.lemmas.List.{get_or-set_same, get_or-set_other, length-set, get_or_past}
-use Rattle.tomex_timing.specs.Tables.{field_from}
-use Rattle.tomex_timing.specs.declared.tables.Field.{Field}
-use Rattle.tomex_timing.specs.declared.tables.Field.TheVariants.{Value, Waits, Unread}
-use Rattle.tomex_timing.specs.declared.tables.Tag.{Tag}
-use Rattle.tomex_steps.specs.Steps.{is_number}
-use Rattle.tomex_cycle.specs.Ends.{EndsIn, Hears, after_ends, sends_of, sent_below, AreEnded, AreNamed, HaveReceived}
-use Rattle.tomex_tags.specs.Contents.{hears}
-use Rattle.tomex_tags.specs.Operands.{heard, only, taken}
-use Rattle.tomex_tags.specs.Places.{place_at, place_of_tag}
-use Rattle.tomex_tags.specs.Pools.{Pools}
-use Rattle.tomex_tags.specs.declared.register_status.RegStatus.{RegStatus}
-use Rattle.tomex_tags.specs.declared.station.Station.{Station}
-use Rattle.tomex_sets.specs.Sets.{has, IsWithout}
-use Rattle.tomex_sets.proofs.Members.{AreFrom, all_left, least_from, least_in, left_from, none_after, none_between}
-use Rattle.tomex_sets.proofs.Members.{skip_to}
+use Rattle.tomex_cycle.proofs.Words.{nat_lt, if◌then◌else◌, ◌&&◌, ◌==◌, cases_Bool, lt-ltb, le-ltb, eqb-true, eqb-false}
+use Rattle.tomex_cycle.proofs.Words.{both_ways, ltb-true, ltb-false, get_or-set_same, get_or-set_other, length-set}
+use Rattle.tomex_cycle.proofs.Words.{get_or_past, field_from, Field, Value, Unread, Tag, is_number, EndsIn, Hears}
+use Rattle.tomex_cycle.proofs.Words.{after_ends, sends_of, sent_below, AreNamed, HaveReceived, hears, heard, only}
+use Rattle.tomex_cycle.proofs.Words.{taken, place_at, place_of_tag, Pools, RegStatus, Station, has, IsWithout, AreFrom}
+use Rattle.tomex_cycle.proofs.Words.{all_left, least_from, least_in, left_from, none_after, none_between, skip_to}
+use Rattle.tomex_cycle.proofs.Words.{dest_of, AreLow}
+use Rattle.tomex_timing.specs.declared.tables.Field.TheVariants.{Waits}
+use Rattle.tomex_cycle.specs.Ends.{AreEnded}
 use Rattle.tomex_tags.specs.Registers.{names, received}
-use Rattle.tomex_rvdec.specs.Operands.{dest_of}
-use Rattle.tomex_cycle.specs.Starts.{AreLow}
 use Rattle.tomex_cycle.proofs.EndsInTurn.{reg_field, AreEndedBelow, heard_yes, heard_no, apply_yes, apply_no, hear_yes}
 use Rattle.tomex_cycle.proofs.EndsInTurn.{hear_no}
 

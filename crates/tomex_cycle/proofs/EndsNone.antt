@@ -1,27 +1,14 @@
 -- Where nothing ends, nothing changes.
 use Rattle.std.proofs.Common.{ℕ, ◌+◌, ◌≡◌, arith, ◌∙◌, false, refl, List, Option, Some, None, ap, sym, length}
 use Rattle.std.proofs.Common.{slice_index, slice_index_or, option_map}
-use Rattle.std.specs.Prelude.{nat_lt, ◌&&◌, if◌then◌else◌}
-use Rattle.std.proofs.lemmas.Bool.{and_right}
-use Rattle.tomex_config.specs.Configuration.{Configuration}
-use Rattle.tomex_timing.specs.Tables.{field_from}
-use Rattle.tomex_timing.specs.declared.tables.Field.{Field}
-use Rattle.tomex_timing.specs.declared.tables.Field.TheVariants.{Value, Waits, Unread}
-use Rattle.tomex_sets.specs.Sets.{has}
-use Rattle.tomex_sets.proofs.Bits.{none_in}
-use Rattle.tomex_cycle.specs.declared.fetch.Fetch.{Fetch}
+use Rattle.tomex_cycle.proofs.Words.{nat_lt, ◌&&◌, if◌then◌else◌, and_right, Configuration, field_from, Field, Value}
+use Rattle.tomex_cycle.proofs.Words.{Unread, has, none_in, Fetch, AreDone, AreEnding, EndsIn, Hears, after_ends}
+use Rattle.tomex_cycle.proofs.Words.{sends_of, sent_below, IsTimetableOf, LeavesTimetable, MakesEnds, Finishes, hears}
+use Rattle.tomex_cycle.proofs.Words.{heard, taken, place_of_tag, AreBusy, Pools, RegStatus, Station}
+use Rattle.tomex_timing.specs.declared.tables.Field.TheVariants.{Waits}
 use Rattle.tomex_cycle.specs.declared.fetch.Fetch.TheVariants as from
-use Rattle.tomex_cycle.specs.Ends.{AreDone, AreEnding, EndsIn, Follows, Hears, after_ends, sends_of, sent_below}
-use Rattle.tomex_cycle.specs.Finishes.{IsTimetableOf, LeavesTimetable}
-use Rattle.tomex_cycle.specs.Phases.{MakesEnds}
-use Rattle.tomex_cycle.specs.declared.finishes.Finishes.{Finishes}
+use Rattle.tomex_cycle.specs.Ends.{Follows}
 use Rattle.tomex_cycle.proofs.EndsFetch.{made_ends}
-use Rattle.tomex_tags.specs.Contents.{hears}
-use Rattle.tomex_tags.specs.Operands.{heard, taken}
-use Rattle.tomex_tags.specs.Places.{place_of_tag}
-use Rattle.tomex_tags.specs.Pools.{AreBusy, Pools}
-use Rattle.tomex_tags.specs.declared.register_status.RegStatus.{RegStatus}
-use Rattle.tomex_tags.specs.declared.station.Station.{Station}
 
 heard_none : (sent : ℕ → Option ℕ) (f : Field) → ((y : ℕ) → sent y ≡ None) → f ≡ heard sent f
 heard_none sent (Value v) none = refl

@@ -1,32 +1,19 @@
 -- What ends in a cycle: the recurrence's test, by the buses that are left.
 use Rattle.std.proofs.Common.{ℕ, ◌+◌, ◌<◌, ◌≤◌, ◌≡◌, ◌∙◌, Bool, true, false, arith, refl, List, [], ◌∷◌, ◌++◌, Option}
 use Rattle.std.proofs.Common.{Some, None, ap, sym, inl, inr, ◌⊎◌, append_assoc, slice_index_or}
-use Rattle.std.specs.Prelude.{nat_lt, nat_le, if◌then◌else◌, ◌&&◌, ◌||◌, ◌==◌, is_some, count_by, MatchOption, not}
-use Rattle.std.specs.Bool.{MatchBool}
-use Rattle.std.proofs.lemmas.Bool.{cases_Bool, cases_order, ltb-true, ltb-false, lt-ltb, le-ltb, leb-false, le-leb}
-use Rattle.std.proofs.lemmas.Bool.{lt-leb, and_parts, eq-eqb, eqb-true, eqb-false, ne_eqb, both_ways}
-use Rattle.tomex_image.specs.Image.{Loaded}
-use Rattle.tomex_config.specs.Configuration.{Configuration, IsWithinLimits}
-use Rattle.tomex_rvdec.specs.declared.pool.PoolId.{PoolId}
-use Rattle.tomex_rvdec.specs.Operands.{unit_at}
-use Rattle.tomex_steps.specs.Steps.{is_number, step_dest, step_pool}
-use Rattle.tomex_timing.specs.declared.times.Done.{Done}
-use Rattle.tomex_timing.specs.Recurrence.{AreTimed, IsLeast, can_end}
-use Rattle.tomex_timing.specs.Tables.{tag_at}
-use Rattle.tomex_cycle.specs.Run.{AreIssuedBy}
-use Rattle.tomex_cycle.specs.Views.{clocks, holds_place, order_of, place_of, station_at, station_of, ShowsStations}
-use Rattle.tomex_cycle.specs.Ends.{is_finished_by, AreEnding, can_send, ends_alone}
-use Rattle.tomex_membuf.specs.Order.{is_finished_before}
+use Rattle.tomex_cycle.proofs.Words.{nat_lt, nat_le, if◌then◌else◌, ◌&&◌, ◌||◌, ◌==◌, is_some, count_by, MatchOption}
+use Rattle.tomex_cycle.proofs.Words.{not, MatchBool, cases_Bool, cases_order, ltb-true, ltb-false, lt-ltb, le-ltb}
+use Rattle.tomex_cycle.proofs.Words.{leb-false, le-leb, lt-leb, and_parts, eq-eqb, eqb-true, eqb-false, ne_eqb}
+use Rattle.tomex_cycle.proofs.Words.{both_ways, Loaded, Configuration, IsWithinLimits, PoolId, unit_at, is_number}
+use Rattle.tomex_cycle.proofs.Words.{step_dest, step_pool, Done, AreTimed, IsLeast, can_end, tag_at, AreIssuedBy}
+use Rattle.tomex_cycle.proofs.Words.{clocks, holds_place, order_of, place_of, station_at, station_of, ShowsStations}
+use Rattle.tomex_cycle.proofs.Words.{is_finished_by, AreEnding, can_send, ends_alone, is_finished_before, place_at}
+use Rattle.tomex_cycle.proofs.Words.{Pools, AreBusy, Station, has, IsInIssueOrder}
 use Rattle.tomex_cycle.proofs.AddressChosen.{some_none_of}
 use Rattle.tomex_cycle.proofs.Addresses.{number_is_some}
 use Rattle.tomex_cycle.proofs.Places.{place_low, is_vacant, vacant, least_test, low, station_here}
 use Rattle.tomex_cycle.proofs.Fields.{dest_later, timed_part}
 use Rattle.tomex_cycle.proofs.Totals.{place_there, reach}
-use Rattle.tomex_tags.specs.Places.{place_at}
-use Rattle.tomex_tags.specs.Pools.{Pools, AreBusy}
-use Rattle.tomex_tags.specs.declared.station.Station.{Station}
-use Rattle.tomex_sets.specs.Sets.{has}
-use Rattle.tomex_bus.specs.Picks.{IsInIssueOrder}
 use Rattle.tomex_cycle.proofs.Serving.{AreServed, Serves, goes_at, picked_goes}
 use Rattle.tomex_cycle.proofs.Orders.{order_is}
 use Rattle.tomex_cycle.proofs.StartsPicked.{all_alone}

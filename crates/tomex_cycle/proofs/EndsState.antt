@@ -1,37 +1,20 @@
 -- What ends in a cycle, and what is sent, make the state after the cycle.
 use Rattle.std.proofs.Common.{ℕ, ◌+◌, ◌<◌, ◌≤◌, ◌≡◌, ◌∙◌, true, arith, refl, List, [], ◌∷◌, ◌++◌, Option}
 use Rattle.std.proofs.Common.{Some, None, ap, sym, inl, inr, ◌⊎◌, append_assoc, slice_index, slice_index_or, option_map}
-use Rattle.std.specs.Prelude.{nat_lt, if◌then◌else◌, ◌==◌, is_some}
-use Rattle.std.proofs.lemmas.Bool.{cases_Bool, cases_order, ltb-true, ltb-false, lt-ltb, le-ltb, le-leb, eqb-true}
-use Rattle.std.proofs.lemmas.Bool.{eqb-false, ne_eqb}
-use Rattle.tomex_image.specs.Image.{Loaded}
-use Rattle.tomex_config.specs.Configuration.{Configuration, IsWithinLimits}
-use Rattle.tomex_rvdec.specs.declared.op.Form.{Form}
+use Rattle.tomex_cycle.proofs.Words.{nat_lt, if◌then◌else◌, ◌==◌, is_some, cases_Bool, cases_order, ltb-true, ltb-false}
+use Rattle.tomex_cycle.proofs.Words.{lt-ltb, le-ltb, le-leb, eqb-true, eqb-false, ne_eqb, Loaded, Configuration}
+use Rattle.tomex_cycle.proofs.Words.{IsWithinLimits, Form, form_of, sources_at, Operand, Step, register_after}
+use Rattle.tomex_cycle.proofs.Words.{is_number, j_of, k_of, operand, step_dest, step_pool, Field, Tag, Done, AreTimed}
+use Rattle.tomex_cycle.proofs.Words.{field_from, field_of, producer, ArePast, AreIssuedBy, steps_in, clocks, place_of}
+use Rattle.tomex_cycle.proofs.Words.{sent_at, station_at, station_of, ShowsRegisters, after_ends, sends_of, sent_below}
+use Rattle.tomex_cycle.proofs.Words.{HaveReceived, hears, heard, RegStatus, Station, has}
 use Rattle.tomex_rvdec.specs.declared.op.Form.TheVariants as forms
-use Rattle.tomex_rvdec.specs.Meaning.{form_of}
-use Rattle.tomex_rvdec.specs.Operands.{sources_at}
-use Rattle.tomex_steps.specs.declared.step.Operand.{Operand}
-use Rattle.tomex_steps.specs.declared.step.Step.{Step}
-use Rattle.tomex_rvexec.specs.History.{Follows, register_after}
-use Rattle.tomex_steps.specs.Steps.{is_number, j_of, k_of, operand, step_dest, step_pool}
-use Rattle.tomex_timing.specs.declared.tables.Field.{Field}
-use Rattle.tomex_timing.specs.declared.tables.Tag.{Tag}
-use Rattle.tomex_timing.specs.declared.times.Done.{Done}
-use Rattle.tomex_timing.specs.Recurrence.{AreTimed}
-use Rattle.tomex_timing.specs.Tables.{field_from, field_of, producer}
-use Rattle.tomex_cycle.specs.Run.{ArePast, AreIssuedBy, steps_in}
-use Rattle.tomex_cycle.specs.Views.{clocks, place_of, sent_at, station_at, station_of, ShowsRegisters}
-use Rattle.tomex_cycle.specs.Ends.{after_ends, sends_of, sent_below, HaveReceived}
+use Rattle.tomex_rvexec.specs.History.{Follows}
 use Rattle.tomex_cycle.proofs.Addresses.{number_is_some}
 use Rattle.tomex_cycle.proofs.Places.{place_low, is_vacant, low, vacant, vacant_none}
 use Rattle.tomex_cycle.proofs.EndsPass.{ends_in, idle_ends}
 use Rattle.tomex_cycle.proofs.Fields.{heard_is, issued_part, silent, timed_part}
 use Rattle.tomex_cycle.proofs.Totals.{reach}
-use Rattle.tomex_tags.specs.Contents.{hears}
-use Rattle.tomex_tags.specs.Operands.{heard}
-use Rattle.tomex_tags.specs.declared.register_status.RegStatus.{RegStatus}
-use Rattle.tomex_tags.specs.declared.station.Station.{Station}
-use Rattle.tomex_sets.specs.Sets.{has}
 use Rattle.tomex_cycle.proofs.Truth.{and_false}
 use Rattle.tomex_cycle.proofs.EndsInTurn.{heard_same}
 

@@ -1,32 +1,17 @@
 -- Operands: which are there, and what a broadcast makes of those that wait.
 use Rattle.std.proofs.Common.{ℕ, ◌+◌, ◌<◌, ◌≤◌, ◌≡◌, ◌∙◌, Bool, true, false, arith, refl, List, [], ◌∷◌, ◌++◌, Option}
 use Rattle.std.proofs.Common.{Some, None, ap, sym, inl, inr, append_assoc, ◌⊎◌}
-use Rattle.std.specs.Prelude.{nat_lt, if◌then◌else◌, ◌&&◌, ◌==◌, not, is_some, is_none, MatchOption}
-use Rattle.std.proofs.lemmas.Bool.{cases_Bool, ltb-true, ltb-false, lt-ltb, le-ltb, and_parts, eqb-true}
-use Rattle.std.proofs.lemmas.Bool.{eqb-false, eq-eqb}
-use Rattle.tomex_image.specs.Image.{Loaded}
-use Rattle.tomex_config.specs.Configuration.{Configuration, IsWithinLimits}
-use Rattle.tomex_rvdec.specs.declared.pool.PoolId.{PoolId}
-use Rattle.tomex_rvdec.specs.declared.pool.UnitId.{UnitId}
-use Rattle.tomex_rvdec.specs.Operands.{unit_at}
-use Rattle.tomex_steps.proofs.Fields.{dest_needs_pool}
-use Rattle.tomex_timing.specs.History.{cycle_of, source_end, writer_end}
-use Rattle.tomex_timing.specs.Recurrence.{IsLeast, can_start, AreTimed, IsTimed}
+use Rattle.tomex_cycle.proofs.Words.{nat_lt, if◌then◌else◌, ◌&&◌, ◌==◌, not, is_some, is_none, MatchOption, cases_Bool}
+use Rattle.tomex_cycle.proofs.Words.{ltb-true, ltb-false, lt-ltb, le-ltb, and_parts, eqb-true, eqb-false, eq-eqb}
+use Rattle.tomex_cycle.proofs.Words.{Loaded, Configuration, IsWithinLimits, PoolId, UnitId, unit_at, dest_needs_pool}
+use Rattle.tomex_cycle.proofs.Words.{cycle_of, source_end, writer_end, IsLeast, can_start, AreTimed, IsTimed, Operand}
+use Rattle.tomex_cycle.proofs.Words.{result_of, byte_after, register_after, is_number, step_dest, step_pool, Value, Tag}
+use Rattle.tomex_cycle.proofs.Words.{Done, field_of, field_from, producer, tag_of, unsent_tag, AreIssuedBy, steps_in}
+use Rattle.tomex_cycle.proofs.Words.{holds_place, place_of, sent_at, heard, is_there, place_at, place_of_tag}
 use Rattle.tomex_cycle.proofs.Cycles.{can_start_later}
-use Rattle.tomex_steps.specs.declared.step.Operand.{Operand}
-use Rattle.tomex_steps.specs.Results.{result_of}
-use Rattle.tomex_rvexec.specs.History.{byte_after, register_after}
-use Rattle.tomex_steps.specs.Steps.{is_number, step_dest, step_pool}
-use Rattle.tomex_timing.specs.declared.tables.Field.TheVariants.{Value, Waits}
-use Rattle.tomex_timing.specs.declared.tables.Tag.{Tag}
-use Rattle.tomex_timing.specs.declared.times.Done.{Done}
-use Rattle.tomex_timing.specs.Tables.{field_of, field_from, producer, tag_of, unsent_tag}
-use Rattle.tomex_cycle.specs.Run.{AreIssuedBy, steps_in}
-use Rattle.tomex_cycle.specs.Views.{holds_place, place_of, sent_at}
+use Rattle.tomex_timing.specs.declared.tables.Field.TheVariants.{Waits}
 use Rattle.tomex_cycle.proofs.Places.{is_vacant, vacant}
 use Rattle.tomex_cycle.proofs.Totals.{place_there, reach}
-use Rattle.tomex_tags.specs.Operands.{heard, is_there}
-use Rattle.tomex_tags.specs.Places.{place_at, place_of_tag}
 
 -- the tag of a step that hasn't ended
 tag_from : (tag : Option Tag) → is_some (place_at tag) ≡ true → (t : Tag) × (tag ≡ Some t)

@@ -1,40 +1,27 @@
 -- What a phase or a station shows is an event of the cycle.
 use Rattle.std.proofs.Common.{ℕ, ◌+◌, ◌^◌, ◌<◌, ◌≤◌, ◌≡◌, ◌∙◌, Bool, true, false, arith, refl, List, [], ◌∷◌, ◌++◌}
 use Rattle.std.proofs.Common.{Option, Some, None, ap, sym, inl, inr, ◌⊎◌, append_assoc, slice_index_or, length, max}
-use Rattle.std.specs.Prelude.{◌≢◌, nat_lt, nat_le, ◌&&◌, ◌==◌, if◌then◌else◌, is_some, not}
-use Rattle.std.specs.Int.{w128, trailing_zeros}
-use Rattle.std.proofs.lemmas.Nat.Bits.{bit_at-trailing_zeros, bit_at_above}
-use Rattle.std.proofs.lemmas.List.{get_or_past}
-use Rattle.std.proofs.lemmas.Bool.{cases_Bool, both_ways, and_parts, eq-eqb, eqb-true, ne_eqb, ltb-true, ltb-false}
-use Rattle.tomex_image.specs.Image.{Loaded}
-use Rattle.tomex_config.specs.Configuration.{Configuration, IsWithinLimits}
-use Rattle.tomex_steps.specs.Steps.{is_number, j_of, step_pool, step_unit}
-use Rattle.tomex_timing.specs.declared.tables.Field.{Field}
-use Rattle.tomex_timing.specs.declared.tables.Field.TheVariants.{Value, Waits, Unread}
-use Rattle.tomex_timing.specs.declared.times.Done.{Done}
-use Rattle.tomex_timing.specs.declared.times.Times.{Times}
-use Rattle.tomex_timing.specs.History.{cycle_of, greatest_end, is_memory, last_address}
-use Rattle.tomex_timing.specs.Recurrence.{AreTimed}
-use Rattle.tomex_timing.specs.Tables.{field_of}
-use Rattle.tomex_sets.specs.Sets.{has}
-use Rattle.tomex_sets.proofs.Bits.{has_one, has_none}
-use Rattle.tomex_cycle.specs.Ends.{AreDone, AreEnding, finishes}
-use Rattle.tomex_cycle.specs.Events.{events_in, events_of}
-use Rattle.tomex_cycle.specs.Phases.{AddressHappens, EndsHappen, IsSnapshot, IsYetToIssue, MakesStarts, StartsHappen}
+use Rattle.std.specs.Int.{trailing_zeros}
+use Rattle.std.proofs.lemmas.Nat.Bits.{bit_at_above}
+use Rattle.tomex_cycle.proofs.Words.{◌≢◌, nat_lt, nat_le, ◌&&◌, ◌==◌, if◌then◌else◌, is_some, not, w128}
+use Rattle.tomex_cycle.proofs.Words.{bit_at-trailing_zeros, get_or_past, cases_Bool, both_ways, and_parts, eq-eqb}
+use Rattle.tomex_cycle.proofs.Words.{eqb-true, ne_eqb, ltb-true, ltb-false, Loaded, Configuration, IsWithinLimits}
+use Rattle.tomex_cycle.proofs.Words.{is_number, j_of, step_pool, step_unit, Field, Value, Unread, Done, Times, cycle_of}
+use Rattle.tomex_cycle.proofs.Words.{greatest_end, is_memory, last_address, AreTimed, field_of, has, has_one, AreDone}
+use Rattle.tomex_cycle.proofs.Words.{AreEnding, finishes, events_in, IsSnapshot, IsYetToIssue, MakesStarts}
+use Rattle.tomex_cycle.proofs.Words.{IsInIssueOrder, Fetch, Bytes, Fault, RegStatus, AreIssuedBy, IsHistory}
+use Rattle.tomex_cycle.proofs.Words.{first_timed, RunEndsAfter, IsStarting, Clocks, clocks, holds_place, order_of}
+use Rattle.tomex_cycle.proofs.Words.{place_of, station_at, station_of, ShowsStations, has_base, is_value, is_there}
+use Rattle.tomex_cycle.proofs.Words.{AreBusy, Pools, Station}
+use Rattle.tomex_timing.specs.declared.tables.Field.TheVariants.{Waits}
+use Rattle.tomex_sets.proofs.Bits.{has_none}
+use Rattle.tomex_cycle.specs.Events.{events_of}
+use Rattle.tomex_cycle.specs.Phases.{AddressHappens, EndsHappen, StartsHappen}
 use Rattle.tomex_cycle.proofs.Cycles.{IsUnderWay}
 use Rattle.tomex_cycle.proofs.Shifting.{run_split}
 use Rattle.tomex_cycle.proofs.Orders.{order_is}
 use Rattle.tomex_cycle.proofs.Addresses.{waiting_is}
-use Rattle.tomex_bus.specs.Picks.{IsInIssueOrder}
 use Rattle.tomex_cycle.proofs.IssueOrder.{first_waiting, next_address, where_base_is_there}
-use Rattle.tomex_cycle.specs.declared.fetch.Fetch.{Fetch}
-use Rattle.tomex_steps.specs.Memory.{Bytes}
-use Rattle.tomex_rvexec.specs.declared.outcome.Fault.{Fault}
-use Rattle.tomex_tags.specs.declared.register_status.RegStatus.{RegStatus}
-use Rattle.tomex_cycle.specs.Run.{AreIssuedBy, IsHistory, first_timed, RunEndsAfter}
-use Rattle.tomex_cycle.specs.Starts.{IsStarting}
-use Rattle.tomex_cycle.specs.Views.{Clocks, clocks, holds_place, order_of, place_of, station_at, station_of}
-use Rattle.tomex_cycle.specs.Views.{ShowsStations}
 use Rattle.tomex_cycle.proofs.AddressChosen.{chosen, holds_by, none_waits, not_le, or_else, test_is, waits_for_address}
 use Rattle.tomex_cycle.proofs.EndsFetch.{ending_low}
 use Rattle.tomex_cycle.proofs.EndsPass.{ending_is, ends_in}
@@ -44,10 +31,6 @@ use Rattle.tomex_cycle.proofs.Quiet.{AllQuiet}
 use Rattle.tomex_cycle.proofs.Runs.{rest_to, run_history}
 use Rattle.tomex_cycle.proofs.StartsPicked.{starting_is, starts_at}
 use Rattle.tomex_cycle.proofs.Totals.{issued_more}
-use Rattle.tomex_membuf.specs.Addresses.{has_base, is_value}
-use Rattle.tomex_tags.specs.Operands.{is_there}
-use Rattle.tomex_tags.specs.Pools.{AreBusy, Pools}
-use Rattle.tomex_tags.specs.declared.station.Station.{Station}
 
 -- One event.
 

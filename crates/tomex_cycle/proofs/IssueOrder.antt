@@ -1,18 +1,13 @@
 -- A search by issue order finds what a pass over the busy places, the oldest first, finds.
 use Rattle.std.proofs.Common.{ℕ, ◌<◌, ◌≤◌, ◌≡◌, ◌∙◌, Bool, true, false, arith, refl, ap, sym, inl, inr, List, [], ◌∷◌}
 use Rattle.std.proofs.Common.{◌++◌, Option, Some, None, slice_index, slice_index_or}
-use Rattle.std.specs.Prelude.{◌==◌, Decides, if◌then◌else◌, is_some}
-use Rattle.std.proofs.lemmas.Bool.{cases_Bool, both_ways, eqb-true}
-use Rattle.tomex_sets.specs.Sets.{has}
-use Rattle.tomex_bus.specs.Picks.{IsInIssueOrder, Rises, is_listed}
-use Rattle.tomex_tags.specs.declared.station.Station.{Station}
-use Rattle.tomex_tags.specs.Contents.{bytes_in, lacks_address}
-use Rattle.tomex_tags.specs.Pools.{AreBusy}
-use Rattle.tomex_tags.specs.WaitSets.{has_address}
-use Rattle.tomex_membuf.specs.Addresses.{has_base, IsNextAddress, IsOldestLacking}
-use Rattle.tomex_membuf.specs.Order.{HasAtMostOneAccess, IsClear, lets_pass}
+use Rattle.std.specs.Prelude.{Decides}
+use Rattle.tomex_cycle.proofs.Words.{◌==◌, if◌then◌else◌, is_some, cases_Bool, both_ways, eqb-true, has, IsInIssueOrder}
+use Rattle.tomex_cycle.proofs.Words.{Rises, is_listed, Station, bytes_in, lacks_address, AreBusy, has_address, has_base}
+use Rattle.tomex_cycle.proofs.Words.{lets_pass, is_clear}
+use Rattle.tomex_membuf.specs.Addresses.{IsNextAddress, IsOldestLacking}
+use Rattle.tomex_membuf.specs.Order.{HasAtMostOneAccess, IsClear}
 use Rattle.tomex_membuf.proofs.Older.{lets_no_address, lets_none}
-use Rattle.tomex_cycle.specs.Starts.{is_clear}
 use Rattle.tomex_bus.proofs.Listings.{in_head, in_tail}
 
 -- Lists that rise.

@@ -1,49 +1,24 @@
 -- What the issue of a step makes of the stations, the register status and fetch.
 use Rattle.std.proofs.Common.{ℕ, ◌+◌, ◌<◌, ◌≤◌, ◌≡◌, ◌∙◌, Bool, true, false, arith, refl, List, ◌∷◌, Option, Some, None}
 use Rattle.std.proofs.Common.{ap, sym, inl, inr, length, slice_index_or, slice_set}
-use Rattle.std.specs.Prelude.{nat_lt, nat_le, ◌&&◌, ◌==◌, if◌then◌else◌, slice_index, option_map, IfSome, MatchOption}
-use Rattle.std.proofs.lemmas.Bool.{cases_Bool, ltb-true, lt-ltb, lt-leb, and_parts, eqb-true, eqb-false}
-use Rattle.std.proofs.lemmas.List.{get_or-set_same, get_or-set_other, length-set}
-use Rattle.tomex_image.specs.Image.{Loaded}
-use Rattle.tomex_config.specs.Configuration.{Configuration, IsWithinLimits}
-use Rattle.tomex_rvdec.specs.declared.op.Form.{Form}
+use Rattle.tomex_cycle.proofs.Words.{nat_lt, nat_le, ◌&&◌, ◌==◌, if◌then◌else◌, slice_index, option_map, IfSome}
+use Rattle.tomex_cycle.proofs.Words.{MatchOption, cases_Bool, ltb-true, lt-ltb, lt-leb, and_parts, eqb-true, eqb-false}
+use Rattle.tomex_cycle.proofs.Words.{get_or-set_same, get_or-set_other, length-set, Loaded, Configuration}
+use Rattle.tomex_cycle.proofs.Words.{IsWithinLimits, Form, PoolId, UnitId, Instruction, form_of, sources_at, sources_of}
+use Rattle.tomex_cycle.proofs.Words.{unit_at, Step, end_of, result_of, byte_after, register_after, address_of}
+use Rattle.tomex_cycle.proofs.Words.{is_branch, is_in, is_number, j_of, k_of, operand, step_dest, step_pool}
+use Rattle.tomex_cycle.proofs.Words.{dest_needs_pool, Field, Value, Tag, Done, cycle_of, is_memory, AreTimed, IsTimed}
+use Rattle.tomex_cycle.proofs.Words.{IsLeast, can_issue, can_start, is_free, field_from, field_of, producer, tag_at}
+use Rattle.tomex_cycle.proofs.Words.{tag_of, unsent_tag, least_same, issue_from, Fetch, IsYetToIssue, first_timed}
+use Rattle.tomex_cycle.proofs.Words.{steps_in, Clocks, ShowsRegisters, ShowsStations, clocks, fetch_after, fetch_of}
+use Rattle.tomex_cycle.proofs.Words.{place_of, station_at, station_of, issue_number_at, place_at, issued, Pools}
+use Rattle.tomex_cycle.proofs.Words.{operand_in, tags_with, RegStatus, Station}
 use Rattle.tomex_rvdec.specs.declared.op.Form.TheVariants as forms
-use Rattle.tomex_rvdec.specs.declared.pool.PoolId.{PoolId}
 use Rattle.tomex_rvdec.specs.declared.pool.PoolId.TheVariants as pools
-use Rattle.tomex_rvdec.specs.declared.pool.UnitId.{UnitId}
-use Rattle.tomex_rvdec.specs.Instruction.{Instruction}
-use Rattle.tomex_rvdec.specs.Meaning.{form_of}
-use Rattle.tomex_rvdec.specs.Operands.{sources_at, sources_of, unit_at}
-use Rattle.tomex_steps.specs.declared.step.Step.{Step}
-use Rattle.tomex_rvexec.specs.Flow.{end_of}
-use Rattle.tomex_steps.specs.Results.{result_of}
-use Rattle.tomex_rvexec.specs.History.{Follows, byte_after, register_after}
-use Rattle.tomex_steps.specs.Steps.{address_of, is_branch, is_in, is_number, j_of, k_of, operand, step_dest, step_pool}
-use Rattle.tomex_steps.proofs.Fields.{dest_needs_pool}
-use Rattle.tomex_timing.specs.declared.tables.Field.{Field}
-use Rattle.tomex_timing.specs.declared.tables.Field.TheVariants.{Value}
-use Rattle.tomex_timing.specs.declared.tables.Tag.{Tag}
-use Rattle.tomex_timing.specs.declared.times.Done.{Done}
-use Rattle.tomex_timing.specs.History.{cycle_of, is_memory}
-use Rattle.tomex_timing.specs.Recurrence.{AreTimed, IsTimed, IsLeast, can_issue, can_start}
-use Rattle.tomex_timing.specs.Station.{is_free}
-use Rattle.tomex_timing.specs.Tables.{field_from, field_of, producer, tag_at, tag_of, unsent_tag}
-use Rattle.tomex_timing.proofs.Least.{least_same}
-use Rattle.tomex_timing.proofs.Width.{issue_from}
-use Rattle.tomex_cycle.specs.declared.fetch.Fetch.{Fetch}
-use Rattle.tomex_cycle.specs.Phases.{IsYetToIssue}
-use Rattle.tomex_cycle.specs.Run.{first_timed, steps_in}
-use Rattle.tomex_cycle.specs.Views.{Clocks, ShowsRegisters, ShowsStations, clocks, fetch_after, fetch_of, place_of}
-use Rattle.tomex_cycle.specs.Views.{station_at, station_of, issue_number_at}
+use Rattle.tomex_rvexec.specs.History.{Follows}
 use Rattle.tomex_cycle.proofs.AddressChosen.{address_is}
 use Rattle.tomex_cycle.proofs.Cycles.{can_start_later}
 use Rattle.tomex_cycle.proofs.Totals.{reach}
-use Rattle.tomex_tags.specs.Places.{place_at}
-use Rattle.tomex_tags.specs.Contents.{issued}
-use Rattle.tomex_tags.specs.Pools.{Pools}
-use Rattle.tomex_tags.specs.Registers.{operand_in, tags_with}
-use Rattle.tomex_tags.specs.declared.register_status.RegStatus.{RegStatus}
-use Rattle.tomex_tags.specs.declared.station.Station.{Station}
 
 -- The times of what issues lie after the cycle.
 

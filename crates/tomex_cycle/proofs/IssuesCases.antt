@@ -2,34 +2,16 @@
 -- station.
 use Rattle.std.proofs.Common.{ℕ, ◌+◌, ◌*◌, ◌<◌, ◌≤◌, ◌≡◌, ◌∙◌, true, false, arith, refl, List, ◌∷◌, Option, Some, None}
 use Rattle.std.proofs.Common.{ap, sym, inl, inr, slice_set}
-use Rattle.std.specs.Prelude.{is_none, IfSome, Ok, Err}
-use Rattle.std.proofs.lemmas.Bool.{cases_Bool, lt-ltb, both_ways}
-use Rattle.tomex_image.specs.Image.{Loaded}
-use Rattle.tomex_config.specs.Configuration.{Configuration, IsWithinLimits, stations_of}
-use Rattle.tomex_rvdec.specs.declared.pool.PoolId.{PoolId}
-use Rattle.tomex_rvdec.specs.Instruction.{Instruction}
-use Rattle.tomex_rvdec.specs.Operands.{dest_of, pool_of, sources_of}
-use Rattle.tomex_rvdec.specs.Parts.{place_of_pool}
-use Rattle.tomex_rvexec.specs.declared.outcome.Fault.{Fault}
+use Rattle.tomex_cycle.proofs.Words.{is_none, IfSome, Ok, Err, cases_Bool, lt-ltb, both_ways, Loaded, Configuration}
+use Rattle.tomex_cycle.proofs.Words.{IsWithinLimits, stations_of, PoolId, Instruction, dest_of, pool_of, sources_of}
+use Rattle.tomex_cycle.proofs.Words.{place_of_pool, Fault, Step, instruction_at, end_of, step_after, is_branch, j_of}
+use Rattle.tomex_cycle.proofs.Words.{k_of, step_pool, field_of, Field, Done, AreTimed, IsLeast, can_issue}
+use Rattle.tomex_cycle.proofs.Words.{can_issue_another, least, times_of, has_station, is_free, stations_high, number_is}
+use Rattle.tomex_cycle.proofs.Words.{Fetch, At, Stopped, IsIssuing, IssuesNext, AreIssuedBy, first_timed, RunEndsAfter}
+use Rattle.tomex_cycle.proofs.Words.{ShowsRegisters, ShowsStations, clocks, fetch_after, fetch_of, station_of, place_at}
+use Rattle.tomex_cycle.proofs.Words.{issued, Pools, is_open, operand_in, tags_with, RegStatus}
 use Rattle.tomex_rvexec.specs.declared.outcome.FaultKind.{FaultKind}
-use Rattle.tomex_steps.specs.declared.step.Step.{Step}
-use Rattle.tomex_rvexec.specs.Fetch.{instruction_at}
-use Rattle.tomex_rvexec.specs.Flow.{end_of}
-use Rattle.tomex_rvexec.specs.History.{step_after}
-use Rattle.tomex_steps.specs.Steps.{is_branch, j_of, k_of, step_pool}
-use Rattle.tomex_timing.specs.Tables.{field_of}
-use Rattle.tomex_timing.specs.declared.tables.Field.{Field}
-use Rattle.tomex_timing.specs.declared.times.Done.{Done}
-use Rattle.tomex_timing.specs.Recurrence.{AreTimed, IsLeast, can_issue, can_issue_another}
-use Rattle.tomex_timing.specs.Search.{least, times_of}
-use Rattle.tomex_timing.specs.Station.{has_station, is_free}
-use Rattle.tomex_timing.proofs.Limits.{stations_high}
-use Rattle.tomex_timing.proofs.Stations.{number_is}
-use Rattle.tomex_cycle.specs.declared.fetch.Fetch.{Fetch}
-use Rattle.tomex_cycle.specs.declared.fetch.Fetch.TheVariants.{At, Waits, Stopped}
-use Rattle.tomex_cycle.specs.Issue.{IsIssuing, IssuesNext}
-use Rattle.tomex_cycle.specs.Run.{AreIssuedBy, first_timed, RunEndsAfter}
-use Rattle.tomex_cycle.specs.Views.{ShowsRegisters, ShowsStations, clocks, fetch_after, fetch_of, station_of}
+use Rattle.tomex_cycle.specs.declared.fetch.Fetch.TheVariants.{Waits}
 use Rattle.tomex_cycle.proofs.Places.{pool_low, low}
 use Rattle.tomex_cycle.proofs.Runs.{run_count, next_done, run_next, run_timed}
 use Rattle.tomex_cycle.proofs.Totals.{reach, stopped_is}
@@ -37,11 +19,6 @@ use Rattle.tomex_cycle.proofs.IssuesNumbers.{free_is, room}
 use Rattle.tomex_cycle.proofs.IssuesTest.{IsComing, can_is, coming, is_waiting, issues_at, waits_is, yet_more}
 use Rattle.tomex_cycle.proofs.Issues.{fetch_made, read_j, read_k, registers_same, registers_with, station_made}
 use Rattle.tomex_cycle.proofs.Issues.{stations_same, stations_with, tag_made, yet_after}
-use Rattle.tomex_tags.specs.Places.{place_at}
-use Rattle.tomex_tags.specs.Contents.{issued}
-use Rattle.tomex_tags.specs.Pools.{Pools, is_open}
-use Rattle.tomex_tags.specs.Registers.{operand_in, tags_with}
-use Rattle.tomex_tags.specs.declared.register_status.RegStatus.{RegStatus}
 use Rattle.tomex_cycle.proofs.Truth.{ok_not_err, ok_same}
 
 -- Nothing issues.

@@ -1,25 +1,13 @@
 -- The numbers of a pool's stations: which are free, and how many are held.
 use Rattle.std.proofs.Common.{ℕ, zero, suc, ◌+◌, ◌*◌, ◌<◌, ◌≤◌, ◌≡◌, ◌∙◌, Bool, true, false, arith, refl, List}
 use Rattle.std.proofs.Common.{[], ◌∷◌, Option, Some, None, ap, sym, inl, inr}
-use Rattle.std.specs.Prelude.{nat_lt, nat_le, ◌&&◌, not, count_by, is_none, MatchOption}
-use Rattle.std.specs.List.{list_all}
-use Rattle.std.proofs.lemmas.Bool.{cases_Bool, cases_order, ltb-true, lt-ltb, le-ltb, leb-true, leb-false, le-leb}
-use Rattle.std.proofs.lemmas.Bool.{lt-leb, and_parts, eqb-true, both_ways}
-use Rattle.std.proofs.lemmas.List.Sums.{sum_by-cons}
-use Rattle.tomex_image.specs.Image.{Loaded}
-use Rattle.tomex_config.specs.Configuration.{Configuration, stations_of}
-use Rattle.tomex_rvdec.specs.declared.pool.PoolId.{PoolId}
-use Rattle.tomex_rvdec.specs.Parts.{place_of_pool}
-use Rattle.tomex_steps.specs.Steps.{is_in, is_number, step_pool}
-use Rattle.tomex_timing.specs.declared.times.Done.{Done}
-use Rattle.tomex_timing.specs.Recurrence.{AreTimed, IsLeast}
-use Rattle.tomex_timing.specs.Search.{least}
-use Rattle.tomex_timing.specs.Station.{has_station, is_free, is_held}
-use Rattle.tomex_timing.proofs.Least.{least_same}
-use Rattle.tomex_timing.proofs.Search.{issue_station}
-use Rattle.tomex_timing.proofs.Stations.{lower, number_is, one, split_count}
-use Rattle.tomex_cycle.specs.Run.{AreIssuedBy}
-use Rattle.tomex_cycle.specs.Views.{clocks, holds_place, station_at}
+use Rattle.tomex_cycle.proofs.Words.{nat_lt, nat_le, ◌&&◌, not, count_by, is_none, MatchOption, list_all, cases_Bool}
+use Rattle.tomex_cycle.proofs.Words.{cases_order, ltb-true, lt-ltb, le-ltb, leb-true, leb-false, le-leb, lt-leb}
+use Rattle.tomex_cycle.proofs.Words.{and_parts, eqb-true, both_ways, sum_by-cons, Loaded, Configuration, stations_of}
+use Rattle.tomex_cycle.proofs.Words.{PoolId, place_of_pool, is_in, is_number, step_pool, Done, AreTimed, IsLeast, least}
+use Rattle.tomex_cycle.proofs.Words.{has_station, is_free, is_held, least_same, issue_station, number_is, AreIssuedBy}
+use Rattle.tomex_cycle.proofs.Words.{clocks, holds_place, station_at}
+use Rattle.tomex_timing.proofs.Stations.{lower, one, split_count}
 use Rattle.tomex_cycle.proofs.Places.{AreLow, same_place}
 use Rattle.tomex_timing.proofs.Places.{same_pool}
 

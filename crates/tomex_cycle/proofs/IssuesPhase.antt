@@ -2,32 +2,16 @@
 use Rattle.std.proofs.Common.{ℕ, suc, ◌+◌, ◌%◌, ◌<◌, ◌≤◌, ◌≡◌, ◌∙◌, Bool, true, false, arith, refl, List, [], ◌∷◌, ap}
 use Rattle.std.proofs.Common.{inl, inr, subst}
 use Rattle.std.specs.Result.{result_unwrap_or}
-use Rattle.std.specs.Prelude.{nat_lt, ◌&&◌, Result, Ok, Err}
-use Rattle.std.proofs.lemmas.Bool.{cases_Bool, ltb-true, ltb-false, lt-ltb, le-ltb, le-leb, both_ways, eq-eqb}
-use Rattle.std.proofs.lemmas.List.Sums.{sum_by-cons}
-use Rattle.tomex_image.specs.Image.{Loaded}
-use Rattle.tomex_config.specs.Configuration.{Configuration, IsWithinLimits}
-use Rattle.tomex_rvexec.specs.declared.outcome.Fault.{Fault}
-use Rattle.tomex_steps.specs.declared.step.Step.{Step}
-use Rattle.tomex_steps.specs.Steps.{step_pool}
-use Rattle.tomex_timing.specs.declared.times.Done.{Done}
-use Rattle.tomex_timing.specs.History.{last_issue}
-use Rattle.tomex_timing.specs.Recurrence.{AreTimed, are_branches_finished, can_issue, can_issue_another}
-use Rattle.tomex_timing.specs.Search.{times_of}
-use Rattle.tomex_timing.specs.Station.{has_station}
-use Rattle.tomex_timing.proofs.Limits.{width_low}
-use Rattle.tomex_timing.proofs.Search.{times_are}
-use Rattle.tomex_timing.proofs.Width.{none_later}
-use Rattle.tomex_cycle.specs.declared.fetch.Fetch.{Fetch}
-use Rattle.tomex_cycle.specs.Issue.{HaveIssued, IsIssuing, IssuesMore, IssuesNext, IssuesOn, count_after, issued_in}
-use Rattle.tomex_cycle.specs.Phases.{IsIssuedTo, IsYetToIssue, MakesIssue}
-use Rattle.tomex_cycle.specs.Run.{RunEndsAfter, AreIssuedBy, first_timed}
-use Rattle.tomex_cycle.specs.Views.{clocks}
+use Rattle.tomex_cycle.proofs.Words.{nat_lt, ◌&&◌, Result, Ok, Err, cases_Bool, ltb-true, ltb-false, lt-ltb, le-ltb}
+use Rattle.tomex_cycle.proofs.Words.{le-leb, both_ways, eq-eqb, sum_by-cons, Loaded, Configuration, IsWithinLimits}
+use Rattle.tomex_cycle.proofs.Words.{Fault, Step, step_pool, Done, last_issue, AreTimed, are_branches_finished}
+use Rattle.tomex_cycle.proofs.Words.{can_issue, can_issue_another, times_of, has_station, width_low, times_are}
+use Rattle.tomex_cycle.proofs.Words.{none_later, Fetch, IsIssuing, IssuesNext, IssuesOn, IsIssuedTo, IsYetToIssue}
+use Rattle.tomex_cycle.proofs.Words.{MakesIssue, RunEndsAfter, AreIssuedBy, first_timed, clocks, Pools, RegStatus}
+use Rattle.tomex_cycle.specs.Issue.{HaveIssued, IssuesMore, count_after, issued_in}
 use Rattle.tomex_cycle.proofs.Totals.{issued_more}
 use Rattle.tomex_cycle.proofs.Runs.{next_done, run_next, run_timed, step_is}
 use Rattle.tomex_cycle.proofs.IssuesTest.{yet_more}
-use Rattle.tomex_tags.specs.Pools.{Pools}
-use Rattle.tomex_tags.specs.declared.register_status.RegStatus.{RegStatus}
 use Rattle.tomex_cycle.proofs.Truth.{ok_not_err, ok_same}
 
 last_by : (t : ℕ) (h : List Done) → AreIssuedBy t h → last_issue h ≤ t

@@ -1,29 +1,14 @@
 -- Whether the next step can issue in a cycle: fetch and the pool's stations say so.
 use Rattle.std.proofs.Common.{ℕ, ◌+◌, ◌<◌, ◌≤◌, ◌≡◌, ◌∙◌, Bool, true, false, arith, refl, List, [], ◌∷◌, Option, Some}
 use Rattle.std.proofs.Common.{None, sym, inl, inr}
-use Rattle.std.specs.Prelude.{nat_lt, ◌&&◌, ◌||◌, not, Ok}
-use Rattle.std.proofs.lemmas.Bool.{cases_Bool, cases_order, ltb-true, ltb-false, lt-ltb, le-ltb, and_parts}
-use Rattle.tomex_image.specs.Image.{Loaded}
-use Rattle.tomex_config.specs.Configuration.{Configuration, IsWithinLimits}
-use Rattle.tomex_rvexec.specs.declared.outcome.EndKind.{EndKind}
-use Rattle.tomex_steps.specs.declared.step.Step.{Step}
-use Rattle.tomex_rvexec.specs.Fetch.{instruction_at}
-use Rattle.tomex_rvexec.specs.Flow.{end_of}
-use Rattle.tomex_steps.specs.Results.{next_pc_of}
-use Rattle.tomex_rvexec.specs.History.{Follows, pc_after, step_after}
-use Rattle.tomex_steps.specs.Steps.{is_branch, step_pool}
-use Rattle.tomex_rvexec.proofs.FlowEnds.{step_follows}
-use Rattle.tomex_timing.specs.declared.times.Done.{Done}
-use Rattle.tomex_timing.specs.Recurrence.{AreTimed, are_branches_finished, can_issue, can_issue_another}
-use Rattle.tomex_timing.specs.Search.{times_of}
-use Rattle.tomex_timing.specs.Station.{has_station}
-use Rattle.tomex_timing.proofs.Least.{least_same}
-use Rattle.tomex_timing.proofs.Search.{times_are}
-use Rattle.tomex_cycle.specs.declared.fetch.Fetch.{Fetch}
-use Rattle.tomex_cycle.specs.declared.fetch.Fetch.TheVariants.{At, Waits, Stopped}
-use Rattle.tomex_cycle.specs.Phases.{IsYetToIssue}
-use Rattle.tomex_cycle.specs.Run.{AreIssuedBy, first_timed, steps_in, RunEndsAfter}
-use Rattle.tomex_cycle.specs.Views.{fetch_after, fetch_of}
+use Rattle.tomex_cycle.proofs.Words.{nat_lt, ◌&&◌, ◌||◌, not, Ok, cases_Bool, cases_order, ltb-true, ltb-false, lt-ltb}
+use Rattle.tomex_cycle.proofs.Words.{le-ltb, and_parts, Loaded, Configuration, IsWithinLimits, EndKind, Step}
+use Rattle.tomex_cycle.proofs.Words.{instruction_at, end_of, next_pc_of, step_after, is_branch, step_pool, step_follows}
+use Rattle.tomex_cycle.proofs.Words.{Done, AreTimed, are_branches_finished, can_issue, can_issue_another, times_of}
+use Rattle.tomex_cycle.proofs.Words.{has_station, least_same, times_are, Fetch, At, Stopped, IsYetToIssue, AreIssuedBy}
+use Rattle.tomex_cycle.proofs.Words.{first_timed, steps_in, RunEndsAfter, fetch_after, fetch_of}
+use Rattle.tomex_rvexec.specs.History.{Follows, pc_after}
+use Rattle.tomex_cycle.specs.declared.fetch.Fetch.TheVariants.{Waits}
 use Rattle.tomex_cycle.proofs.Runs.{step_is, steps_are}
 use Rattle.tomex_cycle.proofs.Totals.{stops}
 

@@ -2,26 +2,14 @@
 -- the cycle alone.
 use Rattle.std.proofs.Common.{ℕ, ◌+◌, ◌-◌, ◌*◌, ◌<◌, ◌≤◌, ◌≡◌, ◌∙◌, Bool, true, false, arith, refl, ap, sym, inl, inr}
 use Rattle.std.proofs.Common.{List, Option, Some, None, length, slice_index_or, slice_set, option_map, replicate}
-use Rattle.std.specs.Prelude.{nat_lt, ◌==◌, ◌≢◌, ◌&&◌, ◌||◌, not, is_none, is_some, IsSome}
-use Rattle.std.proofs.lemmas.Bool.{and_right, both_ways, cases_Bool, eq-eqb, eqb-true, eqb-false, le-ltb, ltb-true}
-use Rattle.std.proofs.lemmas.Bool.{ltb-false, ne_eqb}
-use Rattle.std.proofs.lemmas.List.{get_or-replicate, get_or-set_same, get_or-set_other, get_or_past, length-set}
-use Rattle.tomex_rvdec.specs.Operands.{dest_of}
-use Rattle.tomex_rvdec.specs.Parts.{place_of_pool}
-use Rattle.tomex_rvdec.specs.declared.pool.PoolId.{PoolId}
-use Rattle.tomex_steps.specs.Steps.{is_number}
-use Rattle.tomex_sets.specs.Sets.{has}
-use Rattle.tomex_bus.specs.Wheel.{HasPut, IsEmpty, Lacks, is_due}
-use Rattle.tomex_sets.proofs.Bits.{none_in}
-use Rattle.tomex_tags.specs.Contents.{with_address}
-use Rattle.tomex_tags.specs.Pools.{is_open}
-use Rattle.tomex_tags.specs.declared.station.Station.{Station}
-use Rattle.tomex_timing.specs.declared.tables.Field.{Field}
-use Rattle.tomex_timing.specs.declared.tables.Field.TheVariants.{Value, Waits, Unread}
-use Rattle.tomex_cycle.specs.Ends.{can_send, finishes}
-use Rattle.tomex_membuf.specs.Order.{is_finished_before}
-use Rattle.tomex_cycle.specs.Finishes.{IsTimetableOf, has_stayed}
-use Rattle.tomex_cycle.specs.declared.finishes.Finishes.{Finishes}
+use Rattle.tomex_cycle.proofs.Words.{nat_lt, ◌==◌, ◌≢◌, ◌&&◌, ◌||◌, not, is_none, is_some, IsSome, and_right, both_ways}
+use Rattle.tomex_cycle.proofs.Words.{cases_Bool, eq-eqb, eqb-true, eqb-false, le-ltb, ltb-true, ltb-false, ne_eqb}
+use Rattle.tomex_cycle.proofs.Words.{get_or-replicate, get_or-set_same, get_or-set_other, get_or_past, length-set}
+use Rattle.tomex_cycle.proofs.Words.{dest_of, place_of_pool, PoolId, is_number, has, is_due, none_in, with_address}
+use Rattle.tomex_cycle.proofs.Words.{is_open, Station, Field, Value, Unread, can_send, finishes, is_finished_before}
+use Rattle.tomex_cycle.proofs.Words.{IsTimetableOf, has_stayed, Finishes}
+use Rattle.tomex_bus.specs.Wheel.{HasPut, IsEmpty, Lacks}
+use Rattle.tomex_timing.specs.declared.tables.Field.TheVariants.{Waits}
 use Rattle.tomex_cycle.proofs.Places.{pool_low}
 
 -- A test of what stands in each place, once this stands in one.

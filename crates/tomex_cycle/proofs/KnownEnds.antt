@@ -1,29 +1,16 @@
 -- What is known of the finishes ahead once a cycle has ended: what was due is over or waits for a bus.
 use Rattle.std.proofs.Common.{ℕ, ◌+◌, ◌^◌, ◌<◌, ◌≤◌, ◌≡◌, ◌∙◌, Bool, true, false, arith, refl, ap, sym, inl, inr, List}
 use Rattle.std.proofs.Common.{Option, Some, None, length, slice_index_or, option_map}
-use Rattle.std.specs.Prelude.{nat_le, nat_lt, ◌==◌, ◌≢◌, ◌&&◌, ◌||◌, not, is_some}
-use Rattle.std.proofs.lemmas.Bool.{and_parts, and_right, both_ways, cases_Bool, eqb-true, eqb-false, le-leb, le-ltb}
-use Rattle.std.proofs.lemmas.Bool.{leb-true, lt-leb, lt-ltb, ltb-true, ltb-false, ne_eqb}
-use Rattle.std.proofs.lemmas.List.{get_or_past}
-use Rattle.tomex_rvdec.specs.Operands.{dest_of}
+use Rattle.tomex_cycle.proofs.Words.{nat_le, nat_lt, ◌==◌, ◌≢◌, ◌&&◌, ◌||◌, not, is_some, and_parts, and_right}
+use Rattle.tomex_cycle.proofs.Words.{both_ways, cases_Bool, eqb-true, eqb-false, le-leb, le-ltb, leb-true, lt-leb}
+use Rattle.tomex_cycle.proofs.Words.{lt-ltb, ltb-true, ltb-false, ne_eqb, get_or_past, dest_of, is_number, IsPicked}
+use Rattle.tomex_cycle.proofs.Words.{none_picked, has, is_due, none_in, hears, is_served, AreBusy, Pools, IsSetOf}
+use Rattle.tomex_cycle.proofs.Words.{writes, Station, AreDone, AreEnding, IsDoneBranch, after_ends, can_send}
+use Rattle.tomex_cycle.proofs.Words.{ends_alone, finishes, is_finished_by, is_finished_before, IsTimetableOf}
+use Rattle.tomex_cycle.proofs.Words.{HaveTurned, LeavesTimetable, has_stayed, Finishes}
 use Rattle.tomex_rvdec.specs.declared.pool.UnitId.TheVariants as units
-use Rattle.tomex_steps.specs.Steps.{is_number}
-use Rattle.tomex_bus.specs.Picks.{IsPicked}
-use Rattle.tomex_bus.proofs.Picking.{none_picked}
-use Rattle.tomex_sets.specs.Sets.{has}
-use Rattle.tomex_bus.specs.Wheel.{is_due}
-use Rattle.tomex_sets.proofs.Bits.{agreed, member_some, none_in}
+use Rattle.tomex_sets.proofs.Bits.{agreed, member_some}
 use Rattle.tomex_tags.proofs.Entering.{of_busy}
-use Rattle.tomex_tags.specs.Contents.{hears}
-use Rattle.tomex_tags.specs.Places.{is_served}
-use Rattle.tomex_tags.specs.Pools.{AreBusy, Pools}
-use Rattle.tomex_tags.specs.WaitSets.{IsSetOf, writes}
-use Rattle.tomex_tags.specs.declared.station.Station.{Station}
-use Rattle.tomex_cycle.specs.Ends.{AreDone, AreEnding, IsDoneBranch, after_ends, can_send, ends_alone, finishes}
-use Rattle.tomex_cycle.specs.Ends.{is_finished_by}
-use Rattle.tomex_membuf.specs.Order.{is_finished_before}
-use Rattle.tomex_cycle.specs.Finishes.{IsTimetableOf, HaveTurned, LeavesTimetable, has_stayed}
-use Rattle.tomex_cycle.specs.declared.finishes.Finishes.{Finishes}
 use Rattle.tomex_cycle.proofs.Happens.{member_of}
 use Rattle.tomex_cycle.proofs.Known.{all_ahead}
 use Rattle.tomex_cycle.proofs.Truth.{or_cases}

@@ -1,18 +1,12 @@
 -- What is known of the finishes ahead once cycles are passed in which nothing finishes.
 use Rattle.std.proofs.Common.{ℕ, ◌+◌, ◌-◌, ◌<◌, ◌≤◌, ◌≡◌, ◌∙◌, Bool, true, false, arith, refl, ap, sym, inl, inr, List}
 use Rattle.std.proofs.Common.{Option, Some, None, length, slice_index_or}
-use Rattle.std.specs.Prelude.{nat_lt, ◌==◌, ◌≢◌, ◌&&◌, not, is_some}
-use Rattle.std.proofs.lemmas.Bool.{both_ways, cases_Bool, eq-eqb, eqb-true, eqb-false, lt-ltb, ltb-true, ltb-false}
-use Rattle.std.proofs.lemmas.List.{get_or_past}
-use Rattle.tomex_rvdec.specs.Operands.{dest_of}
-use Rattle.tomex_steps.specs.Steps.{is_number}
-use Rattle.tomex_bus.specs.Wheel.{HasPassed, IsClearTo, IsNext, is_due}
-use Rattle.tomex_sets.proofs.Bits.{none_in}
-use Rattle.tomex_tags.specs.declared.station.Station.{Station}
-use Rattle.tomex_cycle.specs.Ends.{can_send, finishes}
-use Rattle.tomex_membuf.specs.Order.{is_finished_before}
-use Rattle.tomex_cycle.specs.Finishes.{IsTimetableOf, IsFree, CanSkip, has_stayed}
-use Rattle.tomex_cycle.specs.declared.finishes.Finishes.{Finishes}
+use Rattle.tomex_cycle.proofs.Words.{nat_lt, ◌==◌, ◌≢◌, ◌&&◌, not, is_some, both_ways, cases_Bool, eq-eqb, eqb-true}
+use Rattle.tomex_cycle.proofs.Words.{eqb-false, lt-ltb, ltb-true, ltb-false, get_or_past, dest_of, is_number, is_due}
+use Rattle.tomex_cycle.proofs.Words.{none_in, Station, can_send, finishes, is_finished_before, IsTimetableOf, IsFree}
+use Rattle.tomex_cycle.proofs.Words.{has_stayed, Finishes}
+use Rattle.tomex_bus.specs.Wheel.{HasPassed, IsClearTo, IsNext}
+use Rattle.tomex_cycle.specs.Finishes.{CanSkip}
 use Rattle.tomex_cycle.proofs.Known.{all_ahead}
 
 pub free_to : {slots : List (Option Station)} (cycle k : ℕ) {f : Finishes} → IsTimetableOf slots (cycle + 1) f

@@ -1,25 +1,16 @@
 -- Where nothing but results finishes in a cycle, they are unsent after it, and that is all that changes.
 use Rattle.std.proofs.Common.{ℕ, ◌+◌, ◌<◌, ◌≤◌, ◌^◌, ◌≡◌, ◌∙◌, Bool, true, false, arith, refl, ap, sym, inl, inr, List}
 use Rattle.std.proofs.Common.{Option, None, length, slice_index_or}
-use Rattle.std.specs.Prelude.{nat_le, nat_lt, ◌≢◌, ◌&&◌, not}
-use Rattle.std.proofs.lemmas.Bool.{and_parts, both_ways, cases_Bool, le-leb, leb-true, lt-ltb, ltb-true, ltb-false}
-use Rattle.std.proofs.lemmas.List.{get_or_past}
+use Rattle.tomex_cycle.proofs.Words.{nat_le, nat_lt, ◌≢◌, ◌&&◌, not, and_parts, both_ways, cases_Bool, le-leb, leb-true}
+use Rattle.tomex_cycle.proofs.Words.{lt-ltb, ltb-true, ltb-false, get_or_past, has, is_due, none_in, is_served, AreBusy}
+use Rattle.tomex_cycle.proofs.Words.{Pools, IsSetOf, writes, Station, AreDone, finishes, IsTimetableOf, AreResults}
+use Rattle.tomex_cycle.proofs.Words.{HaveTurned, Finishes, none_picked}
 use Rattle.tomex_rvdec.specs.declared.pool.UnitId.TheVariants as units
-use Rattle.tomex_sets.specs.Sets.{has}
-use Rattle.tomex_bus.specs.Wheel.{AreDue, is_due}
-use Rattle.tomex_sets.proofs.Bits.{none_in}
-use Rattle.tomex_tags.specs.Places.{is_served}
-use Rattle.tomex_tags.specs.Pools.{AreBusy, Pools}
-use Rattle.tomex_tags.specs.WaitSets.{IsSetOf, writes}
-use Rattle.tomex_tags.specs.declared.station.Station.{Station}
-use Rattle.tomex_cycle.specs.Ends.{AreDone, finishes}
-use Rattle.tomex_cycle.specs.Finishes.{IsTimetableOf, AreResults, HaveTurned}
-use Rattle.tomex_cycle.specs.declared.finishes.Finishes.{Finishes}
+use Rattle.tomex_bus.specs.Wheel.{AreDue}
 use Rattle.tomex_cycle.proofs.Happens.{member_of}
 use Rattle.tomex_cycle.proofs.EndsNone.{none_over}
 use Rattle.tomex_cycle.proofs.Known.{all_ahead}
 use Rattle.tomex_cycle.proofs.KnownEnds.{all_due, branch_places, leaves_known, nothing_ends}
-use Rattle.tomex_bus.proofs.Picking.{none_picked}
 
 -- of what is due none is outside the results
 pub are_results : {slots : List (Option Station)} {next : ℕ} (first writing served results others : ℕ) {f : Finishes}

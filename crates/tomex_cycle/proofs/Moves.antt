@@ -1,31 +1,17 @@
 -- What is made and what is passed, as counts of cycles see it.
 use Rattle.std.proofs.Common.{ℕ, ◌+◌, ◌<◌, ◌≤◌, ◌≡◌, ◌∙◌, true, arith, refl, List, Option, None, ap, sym, inl, inr}
 use Rattle.std.proofs.Common.{slice_index_or}
-use Rattle.std.specs.Prelude.{nat_lt, ◌⊎◌, if◌then◌else◌}
-use Rattle.std.proofs.lemmas.Bool.{cases_Bool, ltb-true, ltb-false}
-use Rattle.tomex_image.specs.Image.{Loaded}
-use Rattle.tomex_config.specs.Configuration.{Configuration}
-use Rattle.tomex_rvexec.specs.Run.{EndsWithin}
-use Rattle.tomex_timing.specs.declared.times.Done.{Done}
-use Rattle.tomex_timing.specs.History.{greatest_end}
-use Rattle.tomex_cycle.specs.declared.inner.Inner.{Inner}
-use Rattle.tomex_cycle.specs.declared.progress.Progress.{Progress}
-use Rattle.tomex_cycle.specs.declared.progress.CycleOutcome.{CycleOutcome}
+use Rattle.tomex_cycle.proofs.Words.{nat_lt, ◌⊎◌, if◌then◌else◌, cases_Bool, ltb-true, ltb-false, Loaded, Configuration}
+use Rattle.tomex_cycle.proofs.Words.{EndsWithin, Done, greatest_end, Inner, Progress, CycleOutcome, Running, Ended}
+use Rattle.tomex_cycle.proofs.Words.{progress_of, finishes, GoesOn, SkipsTo, events_in, IsFree, IsSkipped, IsAt}
+use Rattle.tomex_cycle.proofs.Words.{MakesCycle, RunEndsAfter, run_of, first_timed, IsSound, clocks, Station}
 use Rattle.tomex_cycle.specs.declared.progress.CycleOutcome.TheVariants as made_as
-use Rattle.tomex_cycle.specs.declared.progress.Progress.TheVariants.{Running, Ended, Faulted}
-use Rattle.tomex_cycle.specs.CycleOutcome.{progress_of}
-use Rattle.tomex_cycle.specs.Ends.{finishes}
-use Rattle.tomex_cycle.specs.Events.{GoesOn, SkipsTo, events_in}
-use Rattle.tomex_cycle.specs.Finishes.{FinishesNext, IsFree, IsSkipped}
-use Rattle.tomex_cycle.specs.Inner.{IsAt, MakesCycle}
-use Rattle.tomex_cycle.specs.Run.{RunEndsAfter, run_of, first_timed}
-use Rattle.tomex_cycle.specs.Sound.{IsSound}
-use Rattle.tomex_cycle.specs.Views.{clocks}
+use Rattle.tomex_cycle.specs.declared.progress.Progress.TheVariants.{Faulted}
+use Rattle.tomex_cycle.specs.Finishes.{FinishesNext}
 use Rattle.tomex_cycle.proofs.Happens.{finish_happens, over_happens, run_happens, quiet_none}
 use Rattle.tomex_cycle.proofs.Runs.{run_whole}
 use Rattle.tomex_cycle.proofs.Skips.{settled_past}
 use Rattle.tomex_cycle.proofs.Ticks.{running_low, sound_run}
-use Rattle.tomex_tags.specs.declared.station.Station.{Station}
 
 -- a program that runs on moves, or nothing happens before the next finish
 runs_how : (made : CycleOutcome) → progress_of made ≡ Running → (made ≡ made_as.Active) ⊎ (made ≡ made_as.Settled)

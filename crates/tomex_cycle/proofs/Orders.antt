@@ -1,22 +1,12 @@
 -- The busy places in issue order are those of the steps under way, the oldest first.
 use Rattle.std.proofs.Common.{ℕ, ◌+◌, ◌<◌, ◌≤◌, ◌≡◌, ◌∙◌, ◌^◌, true, false, arith, refl, List, [], ◌∷◌, ◌++◌}
 use Rattle.std.proofs.Common.{Option, Some, None, ap, sym, inl, inr, append_assoc, length, slice_index}
-use Rattle.std.specs.Prelude.{nat_lt, not, ◌||◌, ◌==◌, is_some}
-use Rattle.std.specs.Int.{w128}
-use Rattle.std.proofs.lemmas.Nat.Bits.{bit_at-trailing_zeros}
-use Rattle.std.proofs.lemmas.Bool.{cases_Bool, cases_order, both_ways, ltb-true, ltb-false, and_parts, eq-eqb, eqb-true}
-use Rattle.std.proofs.lemmas.List.{get_or_past}
-use Rattle.tomex_image.specs.Image.{Loaded}
-use Rattle.tomex_config.specs.Configuration.{Configuration, IsWithinLimits}
-use Rattle.tomex_steps.specs.Steps.{is_number, step_pool}
-use Rattle.tomex_timing.specs.declared.times.Done.{Done}
-use Rattle.tomex_timing.specs.Recurrence.{AreTimed}
-use Rattle.tomex_sets.specs.Sets.{has}
-use Rattle.tomex_bus.specs.Picks.{IsInIssueOrder, Rises, is_listed}
-use Rattle.tomex_sets.proofs.Bits.{has_one, none_in}
-use Rattle.tomex_tags.specs.Pools.{AreBusy, Pools}
-use Rattle.tomex_cycle.specs.Run.{AreIssuedBy}
-use Rattle.tomex_cycle.specs.Views.{Clocks, ShowsStations, issue_number_at, holds_place, order_of, place_of, station_at}
+use Rattle.tomex_cycle.proofs.Words.{nat_lt, not, ◌||◌, ◌==◌, is_some, w128, bit_at-trailing_zeros, cases_Bool}
+use Rattle.tomex_cycle.proofs.Words.{cases_order, both_ways, ltb-true, ltb-false, and_parts, eq-eqb, eqb-true}
+use Rattle.tomex_cycle.proofs.Words.{get_or_past, Loaded, Configuration, IsWithinLimits, is_number, step_pool, Done}
+use Rattle.tomex_cycle.proofs.Words.{AreTimed, has, IsInIssueOrder, Rises, is_listed, has_one, none_in, AreBusy, Pools}
+use Rattle.tomex_cycle.proofs.Words.{AreIssuedBy, Clocks, ShowsStations, issue_number_at, holds_place, order_of}
+use Rattle.tomex_cycle.proofs.Words.{place_of, station_at}
 use Rattle.tomex_cycle.proofs.Places.{is_vacant, low, place_low, vacant, AreLow}
 use Rattle.tomex_cycle.proofs.Truth.{or_false, or_one}
 

@@ -1,50 +1,29 @@
 -- The first snapshot, the end and the tables.
 use Rattle.std.proofs.Common.{ℕ, ◌+◌, ◌<◌, ◌≤◌, ◌≡◌, ◌∙◌, false, arith, refl, List, [], ◌∷◌, ◌++◌, Option, Some, None}
 use Rattle.std.proofs.Common.{ap, sym, inl, inr, length, replicate, slice_index_or, subst}
-use Rattle.std.specs.Prelude.{slice_index, map}
-use Rattle.std.specs.List.{filter_map, range_with_len}
-use Rattle.std.proofs.lemmas.Bool.{cases_Bool, cases_order, lt-ltb, le-ltb, lt-leb, le-leb}
-use Rattle.std.proofs.lemmas.List.{get_or-replicate}
-use Rattle.tomex_image.specs.Image.{Loaded, IsLoaded}
-use Rattle.tomex_config.specs.Configuration.{Configuration, IsWithinLimits}
-use Rattle.tomex_rvexec.specs.declared.outcome.EndKind.{EndKind}
-use Rattle.tomex_steps.specs.declared.step.Step.{Step}
-use Rattle.tomex_rvexec.specs.History.{step_after, Follows, Leaves, byte_after, register_after, history as first_steps}
+use Rattle.tomex_cycle.proofs.Words.{slice_index, map, filter_map, range_with_len, cases_Bool, cases_order, lt-ltb}
+use Rattle.tomex_cycle.proofs.Words.{le-ltb, lt-leb, le-leb, get_or-replicate, Loaded, Configuration, IsWithinLimits}
+use Rattle.tomex_cycle.proofs.Words.{EndKind, Step, step_after, byte_after, register_after, Bytes, EndsWithin}
+use Rattle.tomex_cycle.proofs.Words.{is_number, step_dest, is_store, Busy, Tag, Done, greatest_end, Tables, tables_of}
+use Rattle.tomex_cycle.proofs.Words.{shown, qi_of, all_tags, producer, Inner, IsAt, Fetch, At, Stopped, Progress}
+use Rattle.tomex_cycle.proofs.Words.{Running, RunEndsAfter, first_timed, run_of, AreIssuedBy, IsHistory, steps_in}
+use Rattle.tomex_cycle.proofs.Words.{byte_at, clocks, ShowsRegisters, ShowsStations, IsSnapshot, IsYetToIssue, Seen}
+use Rattle.tomex_cycle.proofs.Words.{overwrites, step_ends_it, step_follows, step_joins, timed_by, IsSound, Pools}
+use Rattle.tomex_cycle.proofs.Words.{RegStatus, Station}
+use Rattle.tomex_image.specs.Image.{IsLoaded}
+use Rattle.tomex_rvexec.specs.History.{Follows, Leaves, history as first_steps}
 use Rattle.tomex_rvexec.specs.Machine.{State}
-use Rattle.tomex_steps.specs.Memory.{Bytes}
-use Rattle.tomex_rvexec.specs.Run.{EndsWithin, start_of}
-use Rattle.tomex_steps.specs.Steps.{is_number, step_dest, is_store}
-use Rattle.tomex_timing.specs.declared.tables.Busy.{Busy}
-use Rattle.tomex_timing.specs.declared.tables.Tag.{Tag}
-use Rattle.tomex_timing.specs.declared.times.Done.{Done}
-use Rattle.tomex_timing.specs.History.{greatest_end}
-use Rattle.tomex_timing.specs.Tables.{Tables}
-use Rattle.tomex_timing.specs.Tables.{tables_of, shown, qi_of, all_tags, producer}
-use Rattle.tomex_cycle.specs.declared.inner.Inner.{Inner}
-use Rattle.tomex_cycle.specs.Inner.{IsAt, IsFresh}
+use Rattle.tomex_rvexec.specs.Run.{start_of}
+use Rattle.tomex_cycle.specs.Inner.{IsFresh}
 use Rattle.tomex_cycle.proofs.Ticks.{sound_run}
-use Rattle.tomex_cycle.specs.declared.fetch.Fetch.{Fetch}
-use Rattle.tomex_cycle.specs.declared.fetch.Fetch.TheVariants.{At, Stopped}
-use Rattle.tomex_cycle.specs.declared.progress.Progress.{Progress}
-use Rattle.tomex_cycle.specs.declared.progress.Progress.TheVariants.{Running}
-use Rattle.tomex_cycle.specs.Run.{RunEndsAfter, first_timed, run_of, AreIssuedBy, IsHistory, steps_in, byte_at}
-use Rattle.tomex_cycle.specs.Views.{clocks, ShowsRegisters, ShowsStations}
-use Rattle.tomex_cycle.specs.Phases.{IsSnapshot, IsYetToIssue}
-use Rattle.tomex_cycle.specs.Seen.{Seen}
 use Rattle.tomex_rvexec.specs.Flow.{IsState}
-use Rattle.tomex_steps.specs.Results.{overwrites}
-use Rattle.tomex_rvexec.proofs.FlowEnds.{step_ends_it, step_follows, step_joins, end_is}
+use Rattle.tomex_rvexec.proofs.FlowEnds.{end_is}
 use Rattle.tomex_rvexec.proofs.FlowHistories.{same_registers, same_memory}
 use Rattle.tomex_rvexec.proofs.FlowRuns.{run_state}
 use Rattle.tomex_rvexec.proofs.FlowStates.{end_writes_no_register, end_writes_no_byte}
-use Rattle.tomex_timing.proofs.Bound.{timed_by}
 use Rattle.tomex_timing.proofs.Settled.{AllBy}
-use Rattle.tomex_cycle.specs.Sound.{IsSound}
 use Rattle.tomex_cycle.proofs.Runs.{run_timed, steps_are, run_none, run_whole, run_history, rest_to, AreLater}
 use Rattle.tomex_cycle.proofs.Totals.{more_left, stops}
-use Rattle.tomex_tags.specs.Pools.{Pools}
-use Rattle.tomex_tags.specs.declared.register_status.RegStatus.{RegStatus}
-use Rattle.tomex_tags.specs.declared.station.Station.{Station}
 
 none_issued : (config : Configuration) (i : Loaded) → IsYetToIssue i config 0 0
 none_issued config i x e s l =

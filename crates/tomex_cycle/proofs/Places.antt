@@ -1,29 +1,15 @@
 -- A place is held by one step at a time, and the order of the busy places is that of the history.
 use Rattle.std.proofs.Common.{ℕ, ◌+◌, ◌*◌, ◌<◌, ◌≤◌, ◌≡◌, ◌∙◌, Bool, true, false, arith, refl, List, [], ◌∷◌, ◌++◌}
 use Rattle.std.proofs.Common.{Option, Some, None, sym, inl, inr, append_assoc}
-use Rattle.std.specs.Prelude.{nat_lt, nat_le, ◌&&◌, ◌==◌, not, MatchOption, ⊤}
-use Rattle.std.specs.List.{list_all}
-use Rattle.std.proofs.lemmas.Bool.{cases_Bool, cases_order, ltb-true, le-leb, both_ways, and_parts, eqb-true, eq-eqb}
-use Rattle.std.proofs.lemmas.Bool.{ne_eqb, and_right}
 use Rattle.std.proofs.lemmas.List.{append-nil}
-use Rattle.tomex_image.specs.Image.{Loaded}
-use Rattle.tomex_config.specs.Configuration.{Configuration, IsWithinLimits, stations_of}
-use Rattle.tomex_rvdec.specs.declared.pool.PoolId.{PoolId}
+use Rattle.tomex_cycle.proofs.Words.{nat_lt, nat_le, ◌&&◌, ◌==◌, not, MatchOption, ⊤, list_all, cases_Bool, cases_order}
+use Rattle.tomex_cycle.proofs.Words.{ltb-true, le-leb, both_ways, and_parts, eqb-true, eq-eqb, ne_eqb, and_right}
+use Rattle.tomex_cycle.proofs.Words.{Loaded, Configuration, IsWithinLimits, stations_of, PoolId, place_of_pool, is_in}
+use Rattle.tomex_cycle.proofs.Words.{is_number, step_pool, Done, AreTimed, IsLeast, least, has_station, is_free}
+use Rattle.tomex_cycle.proofs.Words.{is_held, tag_at, least_same, stations_high, issue_station, number_is, AreIssuedBy}
+use Rattle.tomex_cycle.proofs.Words.{Clocks, holds_place, onto_end, order_of, place_of, station_at, station_of}
+use Rattle.tomex_cycle.proofs.Words.{place_at}
 use Rattle.tomex_rvdec.specs.declared.pool.PoolId.TheVariants as pools
-use Rattle.tomex_rvdec.specs.Parts.{place_of_pool}
-use Rattle.tomex_steps.specs.Steps.{is_in, is_number, step_pool}
-use Rattle.tomex_timing.specs.declared.times.Done.{Done}
-use Rattle.tomex_timing.specs.Recurrence.{AreTimed, IsLeast}
-use Rattle.tomex_timing.specs.Search.{least}
-use Rattle.tomex_timing.specs.Station.{has_station, is_free, is_held}
-use Rattle.tomex_timing.specs.Tables.{tag_at}
-use Rattle.tomex_timing.proofs.Least.{least_same}
-use Rattle.tomex_timing.proofs.Limits.{stations_high}
-use Rattle.tomex_timing.proofs.Search.{issue_station}
-use Rattle.tomex_timing.proofs.Stations.{number_is}
-use Rattle.tomex_cycle.specs.Run.{AreIssuedBy}
-use Rattle.tomex_cycle.specs.Views.{Clocks, holds_place, onto_end, order_of, place_of, station_at, station_of}
-use Rattle.tomex_tags.specs.Places.{place_at}
 use Rattle.tomex_cycle.proofs.Truth.{some_not_none}
 
 -- a step's place, taken apart

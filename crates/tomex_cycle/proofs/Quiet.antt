@@ -1,29 +1,19 @@
 -- Where nothing happens in a cycle and nothing finishes for a while, nothing happens for that while.
 use Rattle.std.proofs.Common.{ℕ, zero, suc, ◌+◌, ◌-◌, ◌<◌, ◌≤◌, ◌≡◌, ◌∙◌, Bool, true, false, arith, refl, List, [], ◌∷◌}
 use Rattle.std.proofs.Common.{Option, Some, None, ap, sym, inl, inr}
-use Rattle.std.specs.Prelude.{◌≢◌, nat_lt, nat_le, ◌==◌, not, ◌&&◌, ◌||◌, is_some, count_by, if◌then◌else◌, MatchOption}
-use Rattle.std.specs.Bool.{MatchBool}
-use Rattle.std.specs.List.{AllByRecursion}
-use Rattle.std.proofs.lemmas.Bool.{cases_Bool, cases_order, both_ways, lt-ltb, ltb-true, le-leb, lt-leb, leb-true}
-use Rattle.std.proofs.lemmas.Bool.{leb-false, ne_eqb, and_parts, and_from, and_right}
-use Rattle.std.proofs.lemmas.List.Sums.{sum_by-cons}
-use Rattle.tomex_config.specs.Configuration.{Configuration, IsWithinLimits, option_of}
-use Rattle.tomex_rvdec.specs.declared.pool.PoolId.{PoolId}
-use Rattle.tomex_rvdec.specs.declared.pool.UnitId.{UnitId}
-use Rattle.tomex_steps.specs.Steps.{step_pool, step_unit, step_dest, j_of, k_of, is_branch, is_in, is_number}
-use Rattle.tomex_steps.specs.declared.step.Operand.{Operand}
-use Rattle.tomex_steps.specs.declared.step.Step.{Step}
-use Rattle.tomex_timing.specs.declared.times.Done.{Done}
-use Rattle.tomex_timing.specs.declared.times.Times.{Times}
-use Rattle.tomex_timing.specs.History.{is_of, is_memory, cycle_of, writer_end, source_end, last_issue, last_address}
-use Rattle.tomex_timing.specs.Station.{is_held, has_station}
-use Rattle.tomex_timing.specs.Recurrence.{AreTimed, IsLeast, can_issue, can_address, can_start, can_end}
-use Rattle.tomex_timing.specs.Recurrence.{can_issue_another, has_unit, has_bus, has_operands, are_branches_finished}
-use Rattle.tomex_timing.specs.Recurrence.{conflicts, are_conflicts_finished}
-use Rattle.tomex_timing.proofs.Limits.{units_low, buses_low, width_low}
+use Rattle.tomex_cycle.proofs.Words.{◌≢◌, nat_lt, nat_le, ◌==◌, not, ◌&&◌, ◌||◌, is_some, count_by, if◌then◌else◌}
+use Rattle.tomex_cycle.proofs.Words.{MatchOption, MatchBool, AllByRecursion, cases_Bool, cases_order, both_ways, lt-ltb}
+use Rattle.tomex_cycle.proofs.Words.{ltb-true, le-leb, lt-leb, leb-true, leb-false, ne_eqb, and_parts, and_from}
+use Rattle.tomex_cycle.proofs.Words.{and_right, sum_by-cons, Configuration, IsWithinLimits, option_of, PoolId, UnitId}
+use Rattle.tomex_cycle.proofs.Words.{step_pool, step_unit, step_dest, j_of, k_of, is_branch, is_in, is_number, Operand}
+use Rattle.tomex_cycle.proofs.Words.{Step, Done, Times, is_of, is_memory, cycle_of, writer_end, source_end, last_issue}
+use Rattle.tomex_cycle.proofs.Words.{last_address, is_held, has_station, AreTimed, IsLeast, can_issue, can_address}
+use Rattle.tomex_cycle.proofs.Words.{can_start, can_end, can_issue_another, has_unit, has_operands}
+use Rattle.tomex_cycle.proofs.Words.{are_branches_finished, conflicts, are_conflicts_finished, units_low, width_low}
+use Rattle.tomex_cycle.proofs.Words.{none_later, AllSettled, IsSettled}
+use Rattle.tomex_timing.specs.Recurrence.{has_bus}
+use Rattle.tomex_timing.proofs.Limits.{buses_low}
 use Rattle.tomex_timing.proofs.Settled.{count_none}
-use Rattle.tomex_timing.proofs.Width.{none_later}
-use Rattle.tomex_cycle.specs.Settled.{AllSettled, IsSettled}
 use Rattle.tomex_cycle.proofs.Totals.{reach}
 
 -- nothing of the step falls in the cycle but perhaps its start

@@ -1,24 +1,17 @@
 -- The history of a run's beginning, as laws of the run and of the recurrence give it.
 use Rattle.std.proofs.Common.{ℕ, zero, suc, ◌+◌, ◌-◌, ◌<◌, ◌≤◌, ◌≡◌, ◌∙◌, true, false, arith, refl, List, [], ◌∷◌, ◌++◌}
 use Rattle.std.proofs.Common.{Some, None, ap, sym, inl, inr, length, subst}
-use Rattle.std.specs.Prelude.{nat_lt, ⊤, IsSome}
-use Rattle.std.proofs.lemmas.Bool.{cases_Bool, cases_order, both_ways, ltb-true, ltb-false}
 use Rattle.std.proofs.lemmas.List.{reverse-reverse}
-use Rattle.tomex_image.specs.Image.{Loaded}
-use Rattle.tomex_config.specs.Configuration.{Configuration, IsWithinLimits}
-use Rattle.tomex_rvexec.specs.declared.outcome.EndKind.{EndKind}
-use Rattle.tomex_steps.specs.declared.step.Step.{Step}
-use Rattle.tomex_rvexec.specs.Flow.{IsAllowed, end_of}
-use Rattle.tomex_rvexec.specs.History.{step_after, history as first_steps}
-use Rattle.tomex_rvexec.proofs.FlowEnds.{step_comes, step_joins, step_follows, step_goes_on, step_ends_it, steps_to_end}
-use Rattle.tomex_timing.specs.declared.times.Done.{Done}
-use Rattle.tomex_timing.specs.History.{last_issue}
-use Rattle.tomex_timing.specs.Recurrence.{AreTimed, can_issue}
-use Rattle.tomex_timing.specs.Search.{timed_of, times_of, history}
-use Rattle.tomex_timing.proofs.Search.{timed_is, times_are}
-use Rattle.tomex_timing.proofs.Width.{issue_from}
-use Rattle.tomex_cycle.specs.Run.{run_of, first_timed, steps_in, ArePast, IsHistory, RunEndsAfter}
-use Rattle.tomex_cycle.specs.Phases.{IsYetToIssue}
+use Rattle.tomex_cycle.proofs.Words.{nat_lt, ⊤, IsSome, cases_Bool, cases_order, both_ways, ltb-true, ltb-false, Loaded}
+use Rattle.tomex_cycle.proofs.Words.{Configuration, IsWithinLimits, EndKind, Step, IsAllowed, end_of, step_after}
+use Rattle.tomex_cycle.proofs.Words.{step_joins, step_follows, step_goes_on, step_ends_it, Done, last_issue, AreTimed}
+use Rattle.tomex_cycle.proofs.Words.{can_issue, times_of, times_are, issue_from, steps_in, ArePast, IsHistory}
+use Rattle.tomex_cycle.proofs.Words.{RunEndsAfter, IsYetToIssue}
+use Rattle.tomex_rvexec.specs.History.{history as first_steps}
+use Rattle.tomex_rvexec.proofs.FlowEnds.{step_comes, steps_to_end}
+use Rattle.tomex_timing.specs.Search.{timed_of, history}
+use Rattle.tomex_timing.proofs.Search.{timed_is}
+use Rattle.tomex_cycle.specs.Run.{run_of, first_timed}
 
 -- the next step with its times
 abbrev pub next_done : Configuration → List Done → Step → Done

@@ -1,16 +1,14 @@
 -- The oldest of those that are ready are those that the recurrence serves: fewer than so many older ones are.
 use Rattle.std.proofs.Common.{ℕ, zero, suc, ◌+◌, ◌<◌, ◌≤◌, ◌≡◌, ◌∙◌, Bool, true, false, arith, refl, List, [], ◌∷◌}
 use Rattle.std.proofs.Common.{◌++◌, Option, Some, None, ap, sym, inl, inr, append-nil, length, take, filter}
-use Rattle.std.specs.Prelude.{nat_lt, if◌then◌else◌, ⊤, ◌&&◌, ◌||◌, ◌==◌, count_by, min}
-use Rattle.std.proofs.lemmas.Bool.{cases_Bool, ltb-true, ltb-false, lt-ltb, le-ltb, eq-eqb, eqb-true, and_parts}
-use Rattle.std.proofs.lemmas.List.{length-append, take-append-le, take_all}
+use Rattle.std.specs.Prelude.{min}
+use Rattle.std.proofs.lemmas.List.{take-append-le, take_all}
 use Rattle.std.proofs.lemmas.List.Elements.{filter-append}
-use Rattle.std.proofs.lemmas.List.Sums.{sum_by-cons}
-use Rattle.tomex_timing.specs.declared.times.Done.{Done}
-use Rattle.tomex_sets.specs.Sets.{has}
-use Rattle.tomex_bus.specs.Picks.{IsInIssueOrder, IsPicked, Rises, is_listed}
+use Rattle.tomex_cycle.proofs.Words.{nat_lt, if◌then◌else◌, ⊤, ◌&&◌, ◌||◌, ◌==◌, count_by, cases_Bool, ltb-true}
+use Rattle.tomex_cycle.proofs.Words.{ltb-false, lt-ltb, le-ltb, eq-eqb, eqb-true, and_parts, length-append, sum_by-cons}
+use Rattle.tomex_cycle.proofs.Words.{Done, has, IsInIssueOrder, IsPicked, Rises, is_listed, holds_place, order_of}
+use Rattle.tomex_cycle.proofs.Words.{place_of}
 use Rattle.tomex_bus.proofs.Picking.{first_picked}
-use Rattle.tomex_cycle.specs.Views.{holds_place, order_of, place_of}
 use Rattle.tomex_cycle.proofs.Orders.{in-append}
 use Rattle.tomex_cycle.proofs.Truth.{or_false, or_one}
 

@@ -3,24 +3,16 @@
 -- where operations start, and leave none that waits for a unit, it is settled.
 use Rattle.std.proofs.Common.{ℕ, ◌+◌, ◌<◌, ◌≤◌, ◌≡◌, ◌∙◌, Bool, true, false, arith, refl, List, [], ◌∷◌, ◌++◌, Option}
 use Rattle.std.proofs.Common.{Some, None, ap, sym, inl, inr, append_assoc, slice_index_or}
-use Rattle.std.specs.Prelude.{◌≢◌, nat_lt, nat_le, ◌&&◌, ◌==◌, if◌then◌else◌, is_some, MatchOption}
-use Rattle.std.proofs.lemmas.Bool.{cases_Bool, both_ways, le-ltb, lt-ltb, ltb-true, ltb-false, le-leb, lt-leb, and_from}
-use Rattle.std.proofs.lemmas.Bool.{and_parts, eq-eqb, MatchBool-at_true}
-use Rattle.tomex_image.specs.Image.{Loaded}
-use Rattle.tomex_config.specs.Configuration.{Configuration, IsWithinLimits}
-use Rattle.tomex_rvdec.specs.declared.pool.UnitId.{UnitId}
-use Rattle.tomex_rvdec.specs.Operands.{dest_of}
-use Rattle.tomex_steps.specs.Steps.{address_of, is_branch, is_number, step_pool, step_unit, j_of, k_of}
-use Rattle.tomex_timing.specs.declared.times.Done.{Done}
-use Rattle.tomex_timing.specs.History.{cycle_of, is_memory, last_address, source_end}
-use Rattle.tomex_timing.specs.Recurrence.{AreTimed, IsTimed, IsLeast, are_conflicts_finished, can_address, can_issue}
-use Rattle.tomex_timing.specs.Recurrence.{can_start, has_operands, has_unit}
-use Rattle.tomex_cycle.specs.Settled.{AllSettled, IsSettled}
-use Rattle.tomex_cycle.specs.Ends.{finishes}
-use Rattle.tomex_cycle.specs.Finishes.{AreResults}
-use Rattle.tomex_cycle.specs.Run.{AreIssuedBy}
-use Rattle.tomex_cycle.specs.Starts.{NoneWaits}
-use Rattle.tomex_cycle.specs.Views.{clocks, holds_place, place_of, station_at, station_of, ShowsStations}
+use Rattle.std.proofs.lemmas.Bool.{MatchBool-at_true}
+use Rattle.tomex_cycle.proofs.Words.{◌≢◌, nat_lt, nat_le, ◌&&◌, ◌==◌, if◌then◌else◌, is_some, MatchOption, cases_Bool}
+use Rattle.tomex_cycle.proofs.Words.{both_ways, le-ltb, lt-ltb, ltb-true, ltb-false, le-leb, lt-leb, and_from}
+use Rattle.tomex_cycle.proofs.Words.{and_parts, eq-eqb, Loaded, Configuration, IsWithinLimits, UnitId, dest_of}
+use Rattle.tomex_cycle.proofs.Words.{address_of, is_branch, is_number, step_pool, step_unit, j_of, k_of, Done, cycle_of}
+use Rattle.tomex_cycle.proofs.Words.{is_memory, last_address, source_end, AreTimed, IsTimed, IsLeast}
+use Rattle.tomex_cycle.proofs.Words.{are_conflicts_finished, can_address, can_issue, can_start, has_operands, has_unit}
+use Rattle.tomex_cycle.proofs.Words.{AllSettled, IsSettled, finishes, AreResults, AreIssuedBy, NoneWaits, clocks}
+use Rattle.tomex_cycle.proofs.Words.{holds_place, place_of, station_at, station_of, ShowsStations, is_waiting, Pools}
+use Rattle.tomex_cycle.proofs.Words.{waits, writes, Station}
 use Rattle.tomex_cycle.proofs.Cycles.{can_start_later}
 use Rattle.tomex_cycle.proofs.EndsFetch.{place_high}
 use Rattle.tomex_cycle.proofs.Fields.{timed_part, issued_part}
@@ -30,10 +22,6 @@ use Rattle.tomex_cycle.proofs.Quiet.{last_issue_settled, not_least}
 use Rattle.tomex_cycle.proofs.Runs.{AreLater}
 use Rattle.tomex_cycle.proofs.StartsTests.{held_at, ready_is, seen, no_address}
 use Rattle.tomex_cycle.proofs.Totals.{issued_more, reach}
-use Rattle.tomex_tags.specs.Contents.{is_waiting}
-use Rattle.tomex_tags.specs.Pools.{Pools}
-use Rattle.tomex_tags.specs.WaitSets.{waits, writes}
-use Rattle.tomex_tags.specs.declared.station.Station.{Station}
 use Rattle.tomex_cycle.proofs.Truth.{some_not_none}
 
 same_some : {A : Type 0} (x y : A) → Some x ≡ Some y → x ≡ y

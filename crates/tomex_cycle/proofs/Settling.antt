@@ -2,26 +2,13 @@
 -- settled.
 use Rattle.std.proofs.Common.{ℕ, ◌+◌, ◌<◌, ◌≡◌, ◌∙◌, Bool, false, arith, refl, [], Option, None, inl, inr}
 use Rattle.std.proofs.Common.{slice_index_or, subst}
-use Rattle.std.specs.Prelude.{◌⊎◌}
-use Rattle.tomex_image.specs.Image.{Loaded}
-use Rattle.tomex_config.specs.Configuration.{Configuration}
-use Rattle.tomex_rvexec.specs.declared.outcome.Fault.{Fault}
-use Rattle.tomex_steps.specs.Memory.{Bytes}
-use Rattle.tomex_timing.specs.Recurrence.{AreTimed}
-use Rattle.tomex_cycle.specs.Settled.{AllSettled}
-use Rattle.tomex_cycle.specs.Ends.{finishes}
-use Rattle.tomex_cycle.specs.Finishes.{IsTimetableOf}
-use Rattle.tomex_cycle.specs.Phases.{IsSnapshot, MakesStarts}
-use Rattle.tomex_cycle.specs.Run.{first_timed, RunEndsAfter}
-use Rattle.tomex_cycle.specs.Starts.{NoneWaits}
-use Rattle.tomex_cycle.specs.declared.fetch.Fetch.{Fetch}
-use Rattle.tomex_cycle.specs.declared.finishes.Finishes.{Finishes}
+use Rattle.tomex_cycle.proofs.Words.{◌⊎◌, Loaded, Configuration, Fault, Bytes, AreTimed, AllSettled, finishes}
+use Rattle.tomex_cycle.proofs.Words.{IsTimetableOf, IsSnapshot, MakesStarts, first_timed, RunEndsAfter, NoneWaits}
+use Rattle.tomex_cycle.proofs.Words.{Fetch, Finishes, Pools, RegStatus}
 use Rattle.tomex_cycle.proofs.KnownFree.{free_to}
 use Rattle.tomex_cycle.proofs.Quiet.{quiet_settles}
 use Rattle.tomex_cycle.proofs.Runs.{run_history, run_timed}
 use Rattle.tomex_cycle.proofs.SettledStations.{issued_settles, issued_quiet}
-use Rattle.tomex_tags.specs.Pools.{Pools}
-use Rattle.tomex_tags.specs.declared.register_status.RegStatus.{RegStatus}
 
 pub cycle_settles : {i : Loaded} {config : Configuration} {n t next count c : ℕ} (fault : Option Fault) (any : Bool)
     {st0 : Pools} (st1 : Pools) {st4 : Pools} {rg0 rg1 : RegStatus} {ft0 ft1 : Fetch} {m0 m1 : Bytes} {f : Finishes}

@@ -1,29 +1,15 @@
 -- What a state shows after a cycle it shows after a later one, where nothing happens between but finishes of results.
 use Rattle.std.proofs.Common.{ℕ, zero, suc, ◌+◌, ◌-◌, ◌<◌, ◌≤◌, ◌≡◌, ◌∙◌, true, arith, refl, List, [], ◌∷◌, ◌++◌}
 use Rattle.std.proofs.Common.{Option, Some, None, ap, inl, inr, subst}
-use Rattle.std.specs.Prelude.{◌≢◌, nat_lt, nat_le, ◌&&◌}
-use Rattle.std.specs.List.{AllByRecursion}
-use Rattle.std.proofs.lemmas.Bool.{both_ways, cases_Bool, le-ltb, ltb-true, ltb-false, le-leb, leb-true, leb-false}
-use Rattle.tomex_image.specs.Image.{Loaded}
-use Rattle.tomex_config.specs.Configuration.{Configuration}
-use Rattle.tomex_steps.specs.declared.step.Operand.{Operand}
-use Rattle.tomex_rvexec.specs.Flow.{end_of}
-use Rattle.tomex_steps.specs.Memory.{Bytes}
-use Rattle.tomex_steps.specs.Steps.{is_branch, is_number, step_dest, j_of, k_of}
-use Rattle.tomex_timing.specs.declared.times.Done.{Done}
-use Rattle.tomex_timing.specs.History.{cycle_of}
-use Rattle.tomex_timing.specs.Search.{times_of}
-use Rattle.tomex_timing.specs.Tables.{field_of, field_from, producer}
-use Rattle.tomex_timing.proofs.Search.{times_are}
-use Rattle.tomex_cycle.specs.declared.fetch.Fetch.{Fetch}
-use Rattle.tomex_cycle.specs.Phases.{IsSnapshot, IsYetToIssue}
-use Rattle.tomex_cycle.specs.Run.{byte_at, first_timed, RunEndsAfter}
-use Rattle.tomex_cycle.specs.Views.{clocks, fetch_after, fetch_of, holds_place, place_of, station_at, station_of}
+use Rattle.tomex_cycle.proofs.Words.{◌≢◌, nat_lt, nat_le, ◌&&◌, AllByRecursion, both_ways, cases_Bool, le-ltb, ltb-true}
+use Rattle.tomex_cycle.proofs.Words.{ltb-false, le-leb, leb-true, leb-false, Loaded, Configuration, Operand, end_of}
+use Rattle.tomex_cycle.proofs.Words.{Bytes, is_branch, is_number, step_dest, j_of, k_of, Done, cycle_of, times_of}
+use Rattle.tomex_cycle.proofs.Words.{field_of, field_from, producer, times_are, Fetch, IsSnapshot, IsYetToIssue}
+use Rattle.tomex_cycle.proofs.Words.{byte_at, first_timed, RunEndsAfter, clocks, fetch_after, fetch_of, holds_place}
+use Rattle.tomex_cycle.proofs.Words.{place_of, station_at, station_of, Pools, RegStatus}
 use Rattle.tomex_cycle.proofs.Quiet.{AllSteady, AllQuiet}
 use Rattle.tomex_cycle.proofs.Runs.{next_done, not_by, run_next, run_timed, step_is}
 use Rattle.tomex_cycle.proofs.Totals.{issued_more}
-use Rattle.tomex_tags.specs.Pools.{Pools}
-use Rattle.tomex_tags.specs.declared.register_status.RegStatus.{RegStatus}
 
 -- both cycles stand alike to the times of the step
 pub record IsAlike (u w : ℕ) (d : Done) : Type 0 where

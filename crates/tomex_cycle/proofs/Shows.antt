@@ -1,28 +1,18 @@
 -- The tables of what the state shows.
 use Rattle.std.proofs.Common.{ℕ, ◌+◌, ◌*◌, ◌/◌, ◌%◌, ◌<◌, ◌≤◌, ◌≡◌, ◌∙◌, Bool, true, false, arith, refl, List, [], ◌∷◌}
 use Rattle.std.proofs.Common.{Option, Some, None, ap, sym, inl, inr, length, slice_index_or, option_map}
-use Rattle.std.specs.Prelude.{nat_lt, nat_le, if◌then◌else◌, ◌&&◌, map}
-use Rattle.std.specs.List.{filter_map, range_with_len}
 use Rattle.std.proofs.lemmas.List.{ext_get_or}
 use Rattle.std.proofs.lemmas.List.FromFn.{get_or-map-range_with_len, length-map-range_with_len}
-use Rattle.std.proofs.lemmas.Bool.{cases_Bool, cases_order, ltb-true, ltb-false, le-leb, lt-leb}
-use Rattle.tomex_image.specs.Image.{Loaded}
-use Rattle.tomex_config.specs.Configuration.{Configuration}
-use Rattle.tomex_steps.specs.Steps.{is_in, is_number, step_pool, step_dest, address_of}
-use Rattle.tomex_timing.specs.declared.tables.Busy.{Busy}
-use Rattle.tomex_timing.specs.declared.tables.Tag.{Tag}
-use Rattle.tomex_timing.specs.declared.times.Done.{Done}
-use Rattle.tomex_timing.specs.History.{cycle_of, is_memory}
-use Rattle.tomex_timing.specs.Tables.{Tables}
-use Rattle.tomex_timing.specs.Tables.{tables_of, shown, qi_of, producer, busy_of, a_of, is_under_way, all_tags}
-use Rattle.tomex_rvdec.specs.Parts.{place_of_pool}
-use Rattle.tomex_cycle.specs.Run.{AreIssuedBy, IsHistory}
-use Rattle.tomex_cycle.specs.Views.{clocks, holds_place, station_at, station_of, ShowsStations, ShowsRegisters}
+use Rattle.tomex_cycle.proofs.Words.{nat_lt, nat_le, if◌then◌else◌, ◌&&◌, map, filter_map, range_with_len, cases_Bool}
+use Rattle.tomex_cycle.proofs.Words.{cases_order, ltb-true, ltb-false, le-leb, lt-leb, Loaded, Configuration, is_in}
+use Rattle.tomex_cycle.proofs.Words.{is_number, step_pool, step_dest, address_of, Busy, Tag, Done, cycle_of, is_memory}
+use Rattle.tomex_cycle.proofs.Words.{Tables, tables_of, shown, qi_of, producer, all_tags, place_of_pool, AreIssuedBy}
+use Rattle.tomex_cycle.proofs.Words.{IsHistory, clocks, holds_place, station_at, station_of, ShowsStations}
+use Rattle.tomex_cycle.proofs.Words.{ShowsRegisters, place_of_tag, Pools, RegStatus}
+use Rattle.tomex_timing.specs.Tables.{busy_of, a_of, is_under_way}
 use Rattle.tomex_cycle.proofs.Places.{low, AreLow, IsLow, same_place, turn_and}
 use Rattle.tomex_tags.specs.Contents.{a_from, busy_from}
-use Rattle.tomex_tags.specs.Places.{place_of_tag, pool_at, tag_at_place}
-use Rattle.tomex_tags.specs.Pools.{Pools}
-use Rattle.tomex_tags.specs.declared.register_status.RegStatus.{RegStatus}
+use Rattle.tomex_tags.specs.Places.{pool_at, tag_at_place}
 
 a_same : (t imm address cycle : ℕ) (memory : Bool)
     → (if memory then Some (if nat_lt t cycle then imm else address) else None)

@@ -1,26 +1,12 @@
 -- A cycle in which nothing happens, and those after it up to the next finish, keep what holds of the machine.
 use Rattle.std.proofs.Common.{ℕ, ◌+◌, ◌-◌, ◌<◌, ◌≤◌, ◌≡◌, ◌∙◌, ◌^◌, arith, refl, List, [], ◌∷◌, ◌++◌, ap, sym, inl, inr}
 use Rattle.std.proofs.Common.{subst}
-use Rattle.std.specs.Prelude.{◌≢◌, nat_lt, ◌==◌, if◌then◌else◌}
-use Rattle.std.proofs.lemmas.Bool.{cases_Bool, cases_order, ltb-true, ltb-false, lt-ltb, eqb-true, eqb-false}
-use Rattle.tomex_image.specs.Image.{Loaded}
-use Rattle.tomex_config.specs.Configuration.{Configuration}
-use Rattle.tomex_rvexec.specs.Run.{EndsWithin}
-use Rattle.tomex_timing.specs.declared.times.Done.{Done}
-use Rattle.tomex_timing.specs.History.{greatest_end}
-use Rattle.tomex_timing.specs.Recurrence.{AreTimed}
-use Rattle.tomex_cycle.specs.declared.inner.Inner.{Inner}
-use Rattle.tomex_cycle.specs.declared.progress.Progress.{Progress}
-use Rattle.tomex_cycle.specs.declared.progress.Progress.TheVariants.{Running, Ended}
-use Rattle.tomex_cycle.specs.declared.progress.CycleOutcome.{CycleOutcome}
+use Rattle.tomex_cycle.proofs.Words.{◌≢◌, nat_lt, ◌==◌, if◌then◌else◌, cases_Bool, cases_order, ltb-true, ltb-false}
+use Rattle.tomex_cycle.proofs.Words.{lt-ltb, eqb-true, eqb-false, Loaded, Configuration, EndsWithin, Done, greatest_end}
+use Rattle.tomex_cycle.proofs.Words.{AreTimed, Inner, Progress, Running, Ended, CycleOutcome, AreResults, IsFree}
+use Rattle.tomex_cycle.proofs.Words.{IsSkipped, progress_of, IsAt, MakesCycle, RunEndsAfter, first_timed, Seen}
+use Rattle.tomex_cycle.proofs.Words.{seen_after, IsSound, AllSettled}
 use Rattle.tomex_cycle.specs.declared.progress.CycleOutcome.TheVariants as made_as
-use Rattle.tomex_cycle.specs.Finishes.{AreResults, IsFree, IsSkipped}
-use Rattle.tomex_cycle.specs.CycleOutcome.{progress_of}
-use Rattle.tomex_cycle.specs.Inner.{IsAt, MakesCycle}
-use Rattle.tomex_cycle.specs.Run.{RunEndsAfter, first_timed}
-use Rattle.tomex_cycle.specs.Seen.{Seen, seen_after}
-use Rattle.tomex_cycle.specs.Sound.{IsSound}
-use Rattle.tomex_cycle.specs.Settled.{AllSettled}
 use Rattle.tomex_cycle.proofs.Quiet.{AllDue, AllSteady, HasResult, settled_next, settled_quiet, quiet_settles}
 use Rattle.tomex_cycle.proofs.Quiet.{quiet_steady}
 use Rattle.tomex_cycle.proofs.Runs.{rest_to, run_timed}

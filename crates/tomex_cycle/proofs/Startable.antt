@@ -1,32 +1,24 @@
 -- The sets of the operations that can start, by kind of unit.
 use Rattle.std.proofs.Common.{ℕ, ◌<◌, ◌≡◌, ◌∙◌, Bool, true, false, refl, List, [], ◌∷◌, ◌++◌, Option, Some, None, ap}
 use Rattle.std.proofs.Common.{sym, inl, inr, slice_index, slice_index_or}
-use Rattle.std.specs.Prelude.{◌==◌, ◌≢◌, ◌&&◌, ◌||◌, not, is_none, is_some}
-use Rattle.std.proofs.lemmas.Bool.{cases_Bool, both_ways, and_parts, eqb-true, eqb-false}
-use Rattle.tomex_steps.specs.Steps.{bytes_at, is_in, is_number}
+use Rattle.tomex_cycle.proofs.Words.{◌==◌, ◌≢◌, ◌&&◌, ◌||◌, not, is_none, is_some, cases_Bool, both_ways, and_parts}
+use Rattle.tomex_cycle.proofs.Words.{eqb-true, eqb-false, is_in, is_number, has, IsWithout, IsInIssueOrder, IsPicked}
+use Rattle.tomex_cycle.proofs.Words.{Configuration, option_of, pool_of, unit_at, unit_of, place_of_unit, PoolId, UnitId}
+use Rattle.tomex_cycle.proofs.Words.{is_of, none_in, inside_left, none_picked, no_option, is_memory_op, is_waiting}
+use Rattle.tomex_cycle.proofs.Words.{AreBusy, Pools, IsSetOf, has_address, waits, Station, AreStartable, IsStarting}
+use Rattle.tomex_cycle.proofs.Words.{is_clear, kind_if, kind_of, wanted}
+use Rattle.tomex_steps.specs.Steps.{bytes_at}
 use Rattle.tomex_steps.proofs.Fields.{bytes_of_op}
-use Rattle.tomex_sets.specs.Sets.{has, IsWith, IsWithout}
-use Rattle.tomex_bus.specs.Picks.{IsInIssueOrder, IsPicked}
-use Rattle.tomex_config.specs.Configuration.{Configuration, option_of}
-use Rattle.tomex_rvdec.specs.Operands.{pool_of, unit_at, unit_of}
-use Rattle.tomex_rvdec.specs.Parts.{place_of_unit}
-use Rattle.tomex_rvdec.specs.declared.pool.PoolId.{PoolId}
+use Rattle.tomex_sets.specs.Sets.{IsWith}
 use Rattle.tomex_rvdec.specs.declared.pool.PoolId.TheVariants as pools
-use Rattle.tomex_rvdec.specs.declared.pool.UnitId.{UnitId}
 use Rattle.tomex_rvdec.specs.declared.pool.UnitId.TheVariants as units
-use Rattle.tomex_timing.specs.History.{is_of}
-use Rattle.tomex_sets.proofs.Bits.{none_in}
-use Rattle.tomex_sets.proofs.Members.{inside_left, none_rest}
-use Rattle.tomex_bus.proofs.Picking.{none_picked, single_picked}
-use Rattle.tomex_membuf.proofs.Older.{no_option}
+use Rattle.tomex_sets.proofs.Members.{none_rest}
+use Rattle.tomex_bus.proofs.Picking.{single_picked}
 use Rattle.tomex_cycle.proofs.IssueOrder.{no_access}
 use Rattle.tomex_tags.proofs.Entering.{is_busy_there}
-use Rattle.tomex_tags.specs.Contents.{bytes_from, is_memory_op, is_ready, is_waiting}
-use Rattle.tomex_tags.specs.Pools.{AreBusy, Pools}
-use Rattle.tomex_tags.specs.WaitSets.{IsSetOf, has_address, waits, waits_for}
-use Rattle.tomex_tags.specs.declared.station.Station.{Station}
-use Rattle.tomex_cycle.specs.Starts.{AreStartable, AreStartableFor, IsStarting, IsWanted, is_clear, kind_if, kind_of}
-use Rattle.tomex_cycle.specs.Starts.{wanted}
+use Rattle.tomex_tags.specs.Contents.{bytes_from, is_ready}
+use Rattle.tomex_tags.specs.WaitSets.{waits_for}
+use Rattle.tomex_cycle.specs.Starts.{AreStartableFor, IsWanted}
 use Rattle.tomex_cycle.proofs.StartsPicked.{unit_same}
 
 no_kind : (w c : Bool) (u : Option UnitId) (unit : UnitId) → (w && is_of unit u) ≡ false

@@ -1,18 +1,11 @@
 -- The picked operations start one after the other, each over the same memory.
 use Rattle.std.proofs.Common.{length, slice_index_or, slice_set, ℕ, ◌+◌, ◌<◌, ◌≡◌, ◌∙◌, Bool, true, false, arith, refl}
 use Rattle.std.proofs.Common.{Option, Some, None, ap, sym, inl, inr, ◌≤◌}
-use Rattle.std.specs.Prelude.{nat_lt, ◌&&◌, ◌==◌, ◌≢◌, is_some}
-use Rattle.std.proofs.lemmas.Bool.{both_ways, cases_Bool, lt-ltb, le-ltb, and_right, eqb-true, eqb-false, cases_order}
-use Rattle.std.proofs.lemmas.List.{get_or-set_same, get_or-set_other, length-set}
-use Rattle.tomex_config.specs.Configuration.{Configuration}
-use Rattle.tomex_steps.specs.Memory.{Bytes}
-use Rattle.tomex_rvexec.specs.declared.outcome.Fault.{Fault}
-use Rattle.tomex_cycle.specs.Starts.{AllCanBegin, CanBegin, HaveBegun, begun, begun_if, AreLow}
-use Rattle.tomex_tags.specs.Pools.{Pools}
-use Rattle.tomex_tags.specs.declared.station.Station.{Station}
-use Rattle.tomex_sets.specs.Sets.{has, IsWithout}
-use Rattle.tomex_sets.proofs.Members.{AreFrom, all_left, least_from, least_in, left_from, none_after, none_between}
-use Rattle.tomex_sets.proofs.Members.{skip_to}
+use Rattle.tomex_cycle.proofs.Words.{nat_lt, ◌&&◌, ◌==◌, ◌≢◌, is_some, both_ways, cases_Bool, lt-ltb, le-ltb, and_right}
+use Rattle.tomex_cycle.proofs.Words.{eqb-true, eqb-false, cases_order, get_or-set_same, get_or-set_other, length-set}
+use Rattle.tomex_cycle.proofs.Words.{Configuration, Bytes, Fault, AllCanBegin, CanBegin, HaveBegun, begun, begun_if}
+use Rattle.tomex_cycle.proofs.Words.{AreLow, Pools, Station, has, IsWithout, AreFrom, all_left, least_from, least_in}
+use Rattle.tomex_cycle.proofs.Words.{left_from, none_after, none_between, skip_to}
 
 pub none_begun : (config : Configuration) (next : ℕ) (m : Bytes) (picked : ℕ) (st : Pools) → length st.slots ≡ 96
     → HaveBegun config next m picked 0 st st

@@ -1,32 +1,15 @@
 -- The phase of starts.
 use Rattle.std.proofs.Common.{length, slice_index_or, ℕ, ◌+◌, ◌<◌, ◌≡◌, ◌∙◌, true, arith, refl, List, []}
 use Rattle.std.proofs.Common.{◌∷◌, Option, Some, None, ap, sym, inl, inr, subst, slice_index, ◌≤◌}
-use Rattle.std.specs.Prelude.{◌==◌, is_some, nat_lt, if◌then◌else◌, nat_le}
-use Rattle.std.proofs.lemmas.Bool.{cases_Bool, lt-ltb, and_parts, ltb-true, ltb-false, both_ways, eqb-true, lt-leb}
-use Rattle.tomex_image.specs.Image.{Loaded}
-use Rattle.tomex_config.specs.Configuration.{Configuration}
-use Rattle.tomex_steps.specs.Results.{byte_in}
-use Rattle.tomex_steps.specs.Memory.{Bytes}
-use Rattle.tomex_steps.specs.Steps.{step_unit}
-use Rattle.tomex_rvexec.specs.declared.outcome.Fault.{Fault}
-use Rattle.tomex_steps.specs.declared.step.Step.{Step}
-use Rattle.tomex_timing.specs.declared.times.Done.{Done}
-use Rattle.tomex_timing.specs.Recurrence.{AreTimed}
-use Rattle.tomex_cycle.specs.Phases.{MakesStarts}
-use Rattle.tomex_cycle.specs.Run.{AreIssuedBy, ArePast}
-use Rattle.tomex_steps.specs.Access.{IsInside}
-use Rattle.tomex_cycle.specs.Starts.{AllCanBegin, AllInside, CanBegin, HaveBegun, HaveStored, begun, IsStarting, AreLow}
-use Rattle.tomex_cycle.specs.Views.{ShowsMemory, clocks, holds_place, station_at, station_of}
+use Rattle.tomex_cycle.proofs.Words.{◌==◌, is_some, nat_lt, if◌then◌else◌, nat_le, cases_Bool, lt-ltb, and_parts}
+use Rattle.tomex_cycle.proofs.Words.{ltb-true, ltb-false, both_ways, eqb-true, lt-leb, Loaded, Configuration, byte_in}
+use Rattle.tomex_cycle.proofs.Words.{Bytes, step_unit, Fault, Step, Done, AreTimed, MakesStarts, AreIssuedBy, ArePast}
+use Rattle.tomex_cycle.proofs.Words.{IsInside, AllCanBegin, AllInside, CanBegin, HaveBegun, HaveStored, begun}
+use Rattle.tomex_cycle.proofs.Words.{IsStarting, AreLow, ShowsMemory, clocks, holds_place, station_at, station_of}
+use Rattle.tomex_cycle.proofs.Words.{step_in, Pools, AreBusy, Station, has, get_or_past, place_of_unit, UnitId}
 use Rattle.tomex_cycle.proofs.StartsMade.{begins_at, inside_is, some_is, step_is}
 use Rattle.tomex_cycle.proofs.StartsPicked.{starting_is, starts_at, starts_in, five}
 use Rattle.tomex_cycle.proofs.StartsWritten.{written_is}
-use Rattle.tomex_tags.specs.Contents.{step_in}
-use Rattle.tomex_tags.specs.Pools.{Pools, AreBusy}
-use Rattle.tomex_tags.specs.declared.station.Station.{Station}
-use Rattle.tomex_sets.specs.Sets.{has}
-use Rattle.std.proofs.lemmas.List.{get_or_past}
-use Rattle.tomex_rvdec.specs.Parts.{place_of_unit}
-use Rattle.tomex_rvdec.specs.declared.pool.UnitId.{UnitId}
 use Rattle.tomex_rvdec.specs.declared.pool.UnitId.TheVariants as units
 use Rattle.tomex_cycle.proofs.Truth.{or_cases}
 

@@ -1,41 +1,25 @@
 -- What starts has its finish and its result.
 use Rattle.std.proofs.Common.{length, append_assoc, ℕ, ◌+◌, ◌-◌, ◌<◌, ◌≤◌, ◌≡◌, ◌∙◌, true, false, arith, refl, List, []}
 use Rattle.std.proofs.Common.{◌∷◌, ◌++◌, Option, Some, None, ap, sym, inl, inr}
-use Rattle.std.specs.Prelude.{nat_lt, nat_le, ◌&&◌, ◌==◌, is_some, MatchOption, option_map, IfSome, IsSome}
-use Rattle.std.proofs.lemmas.Bool.{cases_Bool, ltb-true, lt-ltb, leb-true, leb-false, le-leb, lt-leb, and_parts}
-use Rattle.std.proofs.lemmas.Bool.{eqb-true, eqb-false}
-use Rattle.tomex_image.specs.Image.{Loaded}
-use Rattle.tomex_config.specs.Configuration.{Configuration, IsWithinLimits, option_of}
-use Rattle.tomex_rvdec.specs.declared.op.Op.{Op}
+use Rattle.tomex_cycle.proofs.Words.{nat_lt, nat_le, ◌&&◌, ◌==◌, is_some, MatchOption, option_map, IfSome, IsSome}
+use Rattle.tomex_cycle.proofs.Words.{cases_Bool, ltb-true, lt-ltb, leb-true, leb-false, le-leb, lt-leb, and_parts}
+use Rattle.tomex_cycle.proofs.Words.{eqb-true, eqb-false, Loaded, Configuration, IsWithinLimits, option_of, Op, UnitId}
+use Rattle.tomex_cycle.proofs.Words.{sources_of, unit_of, ByteRange, Step, IsAllowed, byte_in, result_of, byte_after}
+use Rattle.tomex_cycle.proofs.Words.{Bytes, bytes_of, j_of, k_of, operand, step_pool, step_unit, unit_with_pool}
+use Rattle.tomex_cycle.proofs.Words.{unread_j, unread_k, Done, cycle_of, source_end, AreTimed, IsLeast}
+use Rattle.tomex_cycle.proofs.Words.{are_conflicts_finished, can_start, has_unit, field_of, producer, AreIssuedBy}
+use Rattle.tomex_cycle.proofs.Words.{ArePast, steps_in, IsInside, begun, begun_if, ShowsMemory, clocks, holds_place}
+use Rattle.tomex_cycle.proofs.Words.{station_at, station_of, step_in, is_there, value_in, Station}
 use Rattle.tomex_rvdec.specs.declared.op.Op.TheVariants as ops
-use Rattle.tomex_rvdec.specs.declared.pool.UnitId.{UnitId}
-use Rattle.tomex_rvdec.specs.Operands.{sources_of, unit_of}
-use Rattle.tomex_steps.specs.declared.step.ByteRange.{ByteRange}
-use Rattle.tomex_steps.specs.declared.step.Step.{Step}
-use Rattle.tomex_rvexec.specs.Flow.{IsAllowed, end_at}
-use Rattle.tomex_steps.specs.Results.{byte_in, is_among, result_of}
-use Rattle.tomex_rvexec.specs.History.{byte_after}
-use Rattle.tomex_steps.specs.Memory.{Bytes}
-use Rattle.tomex_steps.specs.Steps.{bytes_of, j_of, k_of, operand, step_pool, step_unit}
-use Rattle.tomex_steps.proofs.Fields.{unit_with_pool}
-use Rattle.tomex_rvexec.proofs.FlowHistories.{unread_j, unread_k}
+use Rattle.tomex_rvexec.specs.Flow.{end_at}
+use Rattle.tomex_steps.specs.Results.{is_among}
 use Rattle.tomex_rvexec.proofs.FlowRuns.{same_result}
-use Rattle.tomex_timing.specs.declared.times.Done.{Done}
-use Rattle.tomex_timing.specs.History.{cycle_of, source_end}
-use Rattle.tomex_timing.specs.Recurrence.{AreTimed, IsLeast, are_conflicts_finished, can_start, has_unit}
-use Rattle.tomex_timing.specs.Tables.{field_of, producer}
-use Rattle.tomex_cycle.specs.Run.{AreIssuedBy, ArePast, steps_in}
-use Rattle.tomex_steps.specs.Access.{IsInside}
-use Rattle.tomex_cycle.specs.Starts.{begun, begun_if, finish_from}
-use Rattle.tomex_cycle.specs.Views.{ShowsMemory, clocks, holds_place, station_at, station_of}
+use Rattle.tomex_cycle.specs.Starts.{finish_from}
 use Rattle.tomex_cycle.proofs.Accesses.{found_is}
 use Rattle.tomex_cycle.proofs.Fields.{there_test, timed_part, issued_part}
 use Rattle.tomex_cycle.proofs.StartsStored.{inside_as}
 use Rattle.tomex_cycle.proofs.StartsTests.{there_value}
 use Rattle.tomex_cycle.proofs.StartsPicked.{start_least, starts_at, starts_in}
-use Rattle.tomex_tags.specs.Contents.{step_in}
-use Rattle.tomex_tags.specs.Operands.{is_there, value_in}
-use Rattle.tomex_tags.specs.declared.station.Station.{Station}
 
 pub past_part : (i : Loaded) (newer h : List Done) → ArePast i (newer ++ h) → ArePast i h
 past_part i [] h past = past

@@ -1,17 +1,10 @@
 -- Where no operation starts, nothing changes.
 use Rattle.std.proofs.Common.{ℕ, zero, suc, ◌≡◌, ◌∙◌, false, refl, List, Option, None, ap, sym, length}
 use Rattle.std.proofs.Common.{slice_index_or}
-use Rattle.std.specs.Prelude.{nat_lt, ◌&&◌}
-use Rattle.std.proofs.lemmas.Bool.{and_right}
-use Rattle.tomex_config.specs.Configuration.{Configuration}
-use Rattle.tomex_steps.specs.Results.{byte_in}
-use Rattle.tomex_steps.specs.Memory.{Bytes}
-use Rattle.tomex_sets.proofs.Bits.{none_in}
-use Rattle.tomex_cycle.specs.Phases.{MakesStarts}
-use Rattle.tomex_cycle.specs.Starts.{HaveBegun, HaveStored, IsStarting, begun_if, stored_at, written_by}
+use Rattle.tomex_cycle.proofs.Words.{nat_lt, ◌&&◌, and_right, Configuration, byte_in, Bytes, none_in, MakesStarts}
+use Rattle.tomex_cycle.proofs.Words.{HaveBegun, HaveStored, IsStarting, begun_if, stored_at, written_by, AreBusy, Pools}
+use Rattle.tomex_cycle.proofs.Words.{Station}
 use Rattle.tomex_cycle.proofs.StartsDone.{start_made}
-use Rattle.tomex_tags.specs.Pools.{AreBusy, Pools}
-use Rattle.tomex_tags.specs.declared.station.Station.{Station}
 use Rattle.tomex_cycle.proofs.StartsStored.{stored_skip}
 
 none_begun : (config : Configuration) (next : ℕ) (m : Bytes) (old : Pools) → length old.slots ≡ 96

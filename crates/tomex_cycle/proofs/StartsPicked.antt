@@ -1,41 +1,25 @@
 -- The pass over the order picks the stations that the recurrence starts.
 use Rattle.std.proofs.Common.{length, slice_index, slice_index_or, append_assoc, ℕ, ◌+◌, ◌<◌, ◌≤◌, ◌≡◌, ◌∙◌, Bool, true}
 use Rattle.std.proofs.Common.{false, arith, refl, List, [], ◌∷◌, ◌++◌, Option, Some, None, ap, sym, inl, inr}
-use Rattle.std.specs.Prelude.{nat_lt, if◌then◌else◌, ◌&&◌, ◌||◌, ◌==◌, not, is_some, count_by}
-use Rattle.std.specs.Prelude.{MatchOption}
-use Rattle.std.proofs.lemmas.Bool.{cases_Bool, ltb-true, ltb-false, lt-ltb}
-use Rattle.std.proofs.lemmas.Bool.{and_parts, and_right, eqb-true, ne_eqb}
-use Rattle.tomex_image.specs.Image.{Loaded}
-use Rattle.tomex_config.specs.Configuration.{Configuration, IsWithinLimits, option_of}
-use Rattle.tomex_rvdec.specs.declared.pool.UnitId.{UnitId}
+use Rattle.tomex_cycle.proofs.Words.{nat_lt, if◌then◌else◌, ◌&&◌, ◌||◌, ◌==◌, not, is_some, count_by, MatchOption}
+use Rattle.tomex_cycle.proofs.Words.{cases_Bool, ltb-true, ltb-false, lt-ltb, and_parts, and_right, eqb-true, ne_eqb}
+use Rattle.tomex_cycle.proofs.Words.{Loaded, Configuration, IsWithinLimits, option_of, UnitId, place_of_unit, bytes_of}
+use Rattle.tomex_cycle.proofs.Words.{is_number, j_of, k_of, step_pool, step_unit, unit_with_pool, Tag, Done, cycle_of}
+use Rattle.tomex_cycle.proofs.Words.{is_memory, is_of, last_address, source_end, AreTimed, IsTimed, IsLeast}
+use Rattle.tomex_cycle.proofs.Words.{are_conflicts_finished, can_start, has_unit, tag_at, tag_of, AreIssuedBy, wanted}
+use Rattle.tomex_cycle.proofs.Words.{kind_if, kind_of, IsStarting, AreStartable, is_clear, ShowsStations, clocks}
+use Rattle.tomex_cycle.proofs.Words.{holds_place, order_of, place_of, station_of, no_option, bytes_in, is_waiting}
+use Rattle.tomex_cycle.proofs.Words.{place_at, Pools, AreBusy, IsInIssueOrder, has, PoolId, is_free}
 use Rattle.tomex_rvdec.specs.declared.pool.UnitId.TheVariants as units
-use Rattle.tomex_rvdec.specs.Parts.{place_of_unit}
-use Rattle.tomex_steps.specs.Steps.{bytes_of, is_number, j_of, k_of, step_pool, step_unit}
-use Rattle.tomex_steps.proofs.Fields.{unit_with_pool}
-use Rattle.tomex_timing.specs.declared.tables.Tag.{Tag}
-use Rattle.tomex_timing.specs.declared.times.Done.{Done}
-use Rattle.tomex_timing.specs.History.{cycle_of, is_memory, is_of, last_address, source_end}
-use Rattle.tomex_timing.specs.Recurrence.{AreTimed, IsTimed, IsLeast, are_conflicts_finished, can_start, has_unit}
-use Rattle.tomex_timing.specs.Tables.{tag_at, tag_of}
-use Rattle.tomex_cycle.specs.Run.{AreIssuedBy}
-use Rattle.tomex_cycle.specs.Starts.{wanted, kind_if, is_among, kind_of, IsStarting, AreStartable, is_clear}
-use Rattle.tomex_cycle.specs.Views.{ShowsStations, clocks, holds_place, order_of, place_of, station_of}
+use Rattle.tomex_cycle.specs.Starts.{is_among}
 use Rattle.tomex_cycle.proofs.AddressChosen.{address_rises}
 use Rattle.tomex_cycle.proofs.Addresses.{order_here, number_is_some}
 use Rattle.tomex_cycle.proofs.Totals.{issued_more, reach}
 use Rattle.tomex_cycle.proofs.Places.{order-append, is_vacant, vacant, least_test}
 use Rattle.tomex_cycle.proofs.Fields.{timed_part, issued_part}
-use Rattle.tomex_membuf.proofs.Older.{no_option}
 use Rattle.tomex_cycle.proofs.IssueOrder.{no_access}
-use Rattle.tomex_tags.specs.Contents.{bytes_in, is_waiting}
-use Rattle.tomex_tags.specs.Places.{place_at}
-use Rattle.tomex_tags.specs.Pools.{Pools, AreBusy}
-use Rattle.tomex_bus.specs.Picks.{IsInIssueOrder}
 use Rattle.tomex_cycle.proofs.Serving.{AreAlone, goes_at, AreServed, Serves, picked_goes}
-use Rattle.tomex_sets.specs.Sets.{has}
 use Rattle.tomex_cycle.proofs.Orders.{order_is}
-use Rattle.tomex_rvdec.specs.declared.pool.PoolId.{PoolId}
-use Rattle.tomex_timing.specs.Station.{is_free}
 use Rattle.tomex_cycle.proofs.StartsTests.{ready_is, no_bytes, bytes_are, conflicts_none, seen, clear_is}
 
 -- Which start.

@@ -1,20 +1,12 @@
 -- What a store leaves in memory.
 use Rattle.std.proofs.Common.{length, slice_index_or, zero, suc, Option, Some, None, ℕ, ◌+◌, ◌<◌, ◌≤◌, ◌≡◌, ◌∙◌, Bool}
 use Rattle.std.proofs.Common.{true, false, arith, refl, List, ap, sym}
-use Rattle.std.specs.Prelude.{if◌then◌else◌, ◌&&◌, IfSome}
-use Rattle.std.proofs.lemmas.Bool.{and_parts}
-use Rattle.tomex_steps.specs.declared.step.ByteRange.{ByteRange}
-use Rattle.tomex_steps.specs.Access.{HasStored, IsInside}
-use Rattle.tomex_steps.specs.Results.{byte_in, covers, overwrites, stored_byte}
-use Rattle.tomex_steps.specs.Memory.{Bytes}
-use Rattle.tomex_steps.specs.Steps.{bytes_of}
-use Rattle.tomex_cycle.specs.Starts.{AllInside, HaveStored, stored_at, written_by, AreLow}
-use Rattle.tomex_tags.specs.Contents.{step_in}
-use Rattle.tomex_tags.specs.WaitSets.{IsSetOf, holds_store}
-use Rattle.tomex_tags.specs.declared.station.Station.{Station}
-use Rattle.tomex_sets.specs.Sets.{has, IsWithout}
-use Rattle.tomex_sets.proofs.Members.{AreFrom, all_left, least_from, least_in, left_from, none_after, none_between}
-use Rattle.tomex_sets.proofs.Members.{skip_to}
+use Rattle.tomex_cycle.proofs.Words.{if◌then◌else◌, ◌&&◌, IfSome, and_parts, ByteRange, IsInside, byte_in, covers}
+use Rattle.tomex_cycle.proofs.Words.{overwrites, stored_byte, Bytes, bytes_of, AllInside, HaveStored, stored_at}
+use Rattle.tomex_cycle.proofs.Words.{written_by, AreLow, step_in, IsSetOf, Station, has, IsWithout, AreFrom, all_left}
+use Rattle.tomex_cycle.proofs.Words.{least_from, least_in, left_from, none_after, none_between, skip_to}
+use Rattle.tomex_steps.specs.Access.{HasStored}
+use Rattle.tomex_tags.specs.WaitSets.{holds_store}
 
 -- The stores of the picked places, one after the other.
 

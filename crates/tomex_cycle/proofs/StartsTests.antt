@@ -1,35 +1,23 @@
 -- The tests that an operation passes as it starts are those of the recurrence: operands, address, older accesses.
 use Rattle.std.proofs.Common.{slice_index_or, append_assoc, ℕ, ◌+◌, ◌<◌, ◌≤◌, ◌≡◌, ◌∙◌, Bool, true}
 use Rattle.std.proofs.Common.{false, arith, refl, List, [], ◌∷◌, ◌++◌, Option, Some, None, ap, sym, inl, inr}
-use Rattle.std.specs.Prelude.{nat_lt, nat_le, if◌then◌else◌, ◌&&◌, ◌||◌, not, is_some, is_none}
-use Rattle.std.proofs.lemmas.Bool.{MatchBool-at_false, cases_Bool, ltb-true, ltb-false, lt-ltb, le-ltb, leb-true}
-use Rattle.std.proofs.lemmas.Bool.{leb-false, le-leb, or_right, eq-eqb}
-use Rattle.tomex_image.specs.Image.{Loaded}
-use Rattle.tomex_config.specs.Configuration.{Configuration, IsWithinLimits}
-use Rattle.tomex_steps.specs.declared.step.Step.{Step}
-use Rattle.tomex_steps.specs.Steps.{address_of, bytes_of, is_store, j_of, k_of, step_pool}
+use Rattle.std.proofs.lemmas.Bool.{MatchBool-at_false}
+use Rattle.tomex_cycle.proofs.Words.{nat_lt, nat_le, if◌then◌else◌, ◌&&◌, ◌||◌, not, is_some, is_none, cases_Bool}
+use Rattle.tomex_cycle.proofs.Words.{ltb-true, ltb-false, lt-ltb, le-ltb, leb-true, leb-false, le-leb, or_right, eq-eqb}
+use Rattle.tomex_cycle.proofs.Words.{Loaded, Configuration, IsWithinLimits, Step, address_of, bytes_of, is_store, j_of}
+use Rattle.tomex_cycle.proofs.Words.{k_of, step_pool, Tag, Done, cycle_of, is_memory, last_address, source_end}
+use Rattle.tomex_cycle.proofs.Words.{AreTimed, IsTimed, IsLeast, are_conflicts_finished, can_address, conflicts}
+use Rattle.tomex_cycle.proofs.Words.{field_of, field_from, AreIssuedBy, is_clear, Clocks, ShowsStations, clocks}
+use Rattle.tomex_cycle.proofs.Words.{holds_place, order_of, place_of, station_at, station_of, no_option}
+use Rattle.tomex_cycle.proofs.Words.{is_finished_before, lets_pass, bytes_in, is_waiting, step_in, is_there, value_in}
+use Rattle.tomex_cycle.proofs.Words.{place_at, place_of_tag, Pools, Station}
 use Rattle.tomex_steps.proofs.Fields.{bytes_of_memory}
-use Rattle.tomex_timing.specs.declared.tables.Tag.{Tag}
-use Rattle.tomex_timing.specs.declared.times.Done.{Done}
-use Rattle.tomex_timing.specs.History.{cycle_of, is_memory, last_address, source_end}
-use Rattle.tomex_timing.specs.Recurrence.{AreTimed, IsTimed, IsLeast, are_conflicts_finished, can_address, conflicts}
-use Rattle.tomex_timing.specs.Tables.{field_of, field_from}
-use Rattle.tomex_cycle.specs.Run.{AreIssuedBy}
-use Rattle.tomex_cycle.specs.Starts.{is_clear}
-use Rattle.tomex_cycle.specs.Views.{Clocks, ShowsStations, clocks, holds_place, order_of, place_of, station_at}
-use Rattle.tomex_cycle.specs.Views.{station_of}
 use Rattle.tomex_cycle.proofs.AddressChosen.{address_rises}
 use Rattle.tomex_cycle.proofs.Addresses.{order_here}
 use Rattle.tomex_cycle.proofs.Totals.{issued_more, reach}
 use Rattle.tomex_cycle.proofs.Places.{place_low, low, station_here}
 use Rattle.tomex_cycle.proofs.Fields.{there_test, tag_there, timed_part, issued_part}
-use Rattle.tomex_membuf.proofs.Older.{no_option, share_none}
-use Rattle.tomex_membuf.specs.Order.{is_finished_before, lets_pass}
-use Rattle.tomex_tags.specs.Contents.{bytes_in, is_waiting, step_in}
-use Rattle.tomex_tags.specs.Operands.{is_there, value_in}
-use Rattle.tomex_tags.specs.Places.{place_at, place_of_tag}
-use Rattle.tomex_tags.specs.Pools.{Pools}
-use Rattle.tomex_tags.specs.declared.station.Station.{Station}
+use Rattle.tomex_membuf.proofs.Older.{share_none}
 
 and_swap : (a b c : Bool) → (a && (b && c)) ≡ ((a && b) && c)
 and_swap true b c = refl

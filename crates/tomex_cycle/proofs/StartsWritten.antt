@@ -1,30 +1,19 @@
 -- Memory after the stores that start in a cycle.
 use Rattle.std.proofs.Common.{slice_index_or, suc, zero, ℕ, ◌+◌, ◌<◌, ◌≤◌, ◌≡◌, ◌∙◌, Bool, true, false, arith, refl}
 use Rattle.std.proofs.Common.{List, [], ◌∷◌, Option, Some, None, ap, sym, inl, inr}
-use Rattle.std.specs.Prelude.{nat_lt, nat_le, if◌then◌else◌, ◌&&◌, ◌||◌, ◌==◌, not, is_some}
-use Rattle.std.proofs.lemmas.Bool.{cases_Bool, ltb-true, lt-ltb, le-leb, lt-leb, and_parts, or_left, eq-eqb, eqb-true}
-use Rattle.std.proofs.lemmas.Bool.{eqb-false, ne_eqb, both_ways, cases_order}
-use Rattle.tomex_image.specs.Image.{Loaded}
-use Rattle.tomex_config.specs.Configuration.{Configuration, IsWithinLimits}
-use Rattle.tomex_steps.specs.declared.step.Step.{Step}
-use Rattle.tomex_steps.specs.Results.{covers, overwrites, stored_byte}
-use Rattle.tomex_steps.specs.Steps.{is_number, is_store, step_pool, step_unit}
-use Rattle.tomex_timing.specs.declared.times.Done.{Done}
-use Rattle.tomex_timing.specs.History.{cycle_of}
-use Rattle.tomex_timing.specs.Recurrence.{AreTimed, IsLeast, are_conflicts_finished, can_start, conflicts}
-use Rattle.tomex_cycle.specs.Run.{AreIssuedBy, ArePast, byte_at}
-use Rattle.tomex_cycle.specs.Starts.{stored_at, written_by}
-use Rattle.tomex_cycle.specs.Views.{clocks, holds_place, place_of, station_at, station_of}
+use Rattle.tomex_cycle.proofs.Words.{nat_lt, nat_le, if◌then◌else◌, ◌&&◌, ◌||◌, ◌==◌, not, is_some, cases_Bool}
+use Rattle.tomex_cycle.proofs.Words.{ltb-true, lt-ltb, le-leb, lt-leb, and_parts, or_left, eq-eqb, eqb-true, eqb-false}
+use Rattle.tomex_cycle.proofs.Words.{ne_eqb, both_ways, cases_order, Loaded, Configuration, IsWithinLimits, Step}
+use Rattle.tomex_cycle.proofs.Words.{covers, overwrites, stored_byte, is_number, is_store, step_pool, step_unit, Done}
+use Rattle.tomex_cycle.proofs.Words.{cycle_of, AreTimed, IsLeast, are_conflicts_finished, can_start, conflicts}
+use Rattle.tomex_cycle.proofs.Words.{AreIssuedBy, ArePast, byte_at, stored_at, written_by, clocks, holds_place}
+use Rattle.tomex_cycle.proofs.Words.{place_of, station_at, station_of, step_in, place_at, place_of_tag, Station, has}
 use Rattle.tomex_cycle.proofs.Accesses.{conflict_at, starts_clear, store_unit}
 use Rattle.tomex_cycle.proofs.Places.{place_low, is_vacant, low, vacant}
 use Rattle.tomex_cycle.proofs.Fields.{tag_there}
 use Rattle.tomex_cycle.proofs.StartsMade.{late_unit, not_u, step_is}
 use Rattle.tomex_cycle.proofs.StartsPicked.{starts_at, starts_in}
 use Rattle.tomex_cycle.proofs.Totals.{reach}
-use Rattle.tomex_tags.specs.Contents.{step_in}
-use Rattle.tomex_tags.specs.Places.{place_at, place_of_tag}
-use Rattle.tomex_tags.specs.declared.station.Station.{Station}
-use Rattle.tomex_sets.specs.Sets.{has}
 
 -- the byte that a step leaves at an address as it starts in the cycle, if any
 abbrev pub leaves : ℕ → ℕ → Done → Option ℕ

@@ -1,18 +1,10 @@
 -- What contracts see of a machine follows from what holds of each one.
 use Rattle.std.proofs.Common.{ℕ, ◌+◌, ◌<◌, ◌≤◌, ◌≡◌, ◌∙◌, ◌^◌, true, arith, refl, ap, inl, inr, min, subst}
-use Rattle.std.specs.Prelude.{nat_lt, if◌then◌else◌}
-use Rattle.std.proofs.lemmas.Bool.{cases_Bool, ltb-true, ltb-false, le-ltb}
-use Rattle.tomex_image.specs.Image.{Loaded}
-use Rattle.tomex_config.specs.Configuration.{Configuration}
-use Rattle.tomex_rvexec.specs.Run.{EndsWithin}
-use Rattle.tomex_timing.specs.History.{greatest_end}
-use Rattle.tomex_cycle.specs.declared.inner.Inner.{Inner}
-use Rattle.tomex_cycle.specs.declared.progress.Progress.{Progress}
-use Rattle.tomex_cycle.specs.declared.progress.Progress.TheVariants.{Running, Ended}
-use Rattle.tomex_cycle.specs.Inner.{IsAt}
-use Rattle.tomex_cycle.specs.Run.{RunEndsAfter, first_timed, total}
-use Rattle.tomex_cycle.specs.Seen.{Seen, seen_after, is_end}
-use Rattle.tomex_cycle.specs.Sound.{IsSound}
+use Rattle.tomex_cycle.proofs.Words.{nat_lt, if◌then◌else◌, cases_Bool, ltb-true, ltb-false, le-ltb, Loaded}
+use Rattle.tomex_cycle.proofs.Words.{Configuration, EndsWithin, greatest_end, Inner, Progress, Running, Ended, IsAt}
+use Rattle.tomex_cycle.proofs.Words.{RunEndsAfter, first_timed, Seen, seen_after, IsSound}
+use Rattle.tomex_cycle.specs.Run.{total}
+use Rattle.tomex_cycle.specs.Seen.{is_end}
 use Rattle.tomex_cycle.proofs.Runs.{run_whole}
 
 -- while the answer is Running the total lies ahead

@@ -1,39 +1,18 @@
 -- When a run is over: no station is busy, and no instruction is left.
 use Rattle.std.proofs.Common.{ℕ, zero, suc, ◌+◌, ◌<◌, ◌≤◌, ◌≡◌, ◌∙◌, Bool, true, false, arith, refl, List, [], ◌∷◌}
 use Rattle.std.proofs.Common.{◌++◌, Option, Some, None, ap, sym, inl, inr, length}
-use Rattle.std.specs.Prelude.{nat_lt, is_some, MatchOption, ◌&&◌, ◌==◌, not}
-use Rattle.std.proofs.lemmas.Bool.{cases_Bool, ltb-true, ltb-false, lt-ltb, le-ltb, cases_order, eqb-true, eqb-false}
-use Rattle.std.specs.Bool.{MatchBool}
-use Rattle.std.proofs.lemmas.List.{length-append}
-use Rattle.tomex_image.specs.Image.{Loaded}
-use Rattle.tomex_config.specs.Configuration.{Configuration, IsWithinLimits}
-use Rattle.tomex_rvdec.specs.declared.pool.PoolId.{PoolId}
-use Rattle.tomex_rvdec.specs.declared.pool.UnitId.{UnitId}
-use Rattle.tomex_rvdec.specs.Operands.{unit_at}
-use Rattle.tomex_rvexec.specs.declared.outcome.EndKind.{EndKind}
-use Rattle.tomex_steps.specs.declared.step.Step.{Step}
-use Rattle.tomex_rvexec.specs.Flow.{end_of}
-use Rattle.tomex_steps.specs.Results.{next_pc_of}
-use Rattle.tomex_steps.specs.Steps.{step_pool, step_dest, is_branch}
-use Rattle.tomex_timing.specs.declared.times.Done.{Done}
-use Rattle.tomex_timing.specs.History.{greatest_end}
-use Rattle.tomex_timing.specs.Recurrence.{AreTimed, IsTimed, IsLeast, can_end}
-use Rattle.tomex_timing.specs.Station.{is_free}
-use Rattle.tomex_timing.specs.Tables.{tag_at}
-use Rattle.tomex_timing.proofs.Bound.{InReach, in_reach, timed_by}
-use Rattle.tomex_cycle.specs.declared.fetch.Fetch.{Fetch}
-use Rattle.tomex_cycle.specs.declared.fetch.Fetch.TheVariants.{At, Waits, Stopped}
-use Rattle.tomex_cycle.specs.Run.{first_timed, AreIssuedBy, RunEndsAfter}
-use Rattle.tomex_cycle.specs.Views.{clocks, order_of, onto_end, place_of, fetch_of, fetch_after}
-use Rattle.tomex_rvexec.specs.History.{step_after}
-use Rattle.tomex_rvexec.proofs.FlowEnds.{step_goes_on, step_ends_it}
-use Rattle.tomex_cycle.specs.Phases.{is_done, IsIssuedTo, IsYetToIssue}
-use Rattle.tomex_bus.specs.Picks.{IsInIssueOrder}
-use Rattle.tomex_tags.specs.Pools.{AreBusy, Pools}
+use Rattle.tomex_cycle.proofs.Words.{nat_lt, is_some, MatchOption, ◌&&◌, ◌==◌, not, cases_Bool, ltb-true, ltb-false}
+use Rattle.tomex_cycle.proofs.Words.{lt-ltb, le-ltb, cases_order, eqb-true, eqb-false, MatchBool, length-append, Loaded}
+use Rattle.tomex_cycle.proofs.Words.{Configuration, IsWithinLimits, PoolId, UnitId, unit_at, EndKind, Step, end_of}
+use Rattle.tomex_cycle.proofs.Words.{next_pc_of, step_pool, step_dest, is_branch, Done, greatest_end, AreTimed, IsTimed}
+use Rattle.tomex_cycle.proofs.Words.{IsLeast, can_end, is_free, tag_at, timed_by, Fetch, At, Stopped, first_timed}
+use Rattle.tomex_cycle.proofs.Words.{AreIssuedBy, RunEndsAfter, clocks, order_of, onto_end, place_of, fetch_of}
+use Rattle.tomex_cycle.proofs.Words.{fetch_after, step_after, step_goes_on, step_ends_it, is_done, IsIssuedTo}
+use Rattle.tomex_cycle.proofs.Words.{IsYetToIssue, IsInIssueOrder, AreBusy, Pools, place_at, RegStatus}
+use Rattle.tomex_timing.proofs.Bound.{InReach, in_reach}
+use Rattle.tomex_cycle.specs.declared.fetch.Fetch.TheVariants.{Waits}
 use Rattle.tomex_cycle.proofs.Orders.{empty_order, empty_set, order_is}
 use Rattle.tomex_cycle.proofs.Runs.{rest_to, run_next, run_none, run_timed, step_is, AreLater, next_done}
-use Rattle.tomex_tags.specs.Places.{place_at}
-use Rattle.tomex_tags.specs.declared.register_status.RegStatus.{RegStatus}
 
 -- what holds of the times of each step of a history
 pub reach : {config : Configuration} (d : Done) (older : List Done) → IsWithinLimits config

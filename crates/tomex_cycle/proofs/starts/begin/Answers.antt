@@ -1,7 +1,5 @@
 use Rattle.std.proofs.Common.{◌∙◌, refl, sym}
-use Rattle.std.proofs.lemmas.Option.{IfSome_then}
-use Rattle.tomex_sets.proofs.Members.{inside_left}
-use Rattle.tomex_membuf.proofs.Older.{no_option}
+use Rattle.tomex_cycle.proofs.Words.{IfSome_then, inside_left, no_option}
 use Rattle.tomex_cycle.proofs.StartsBegun.{all_begun, first_begun, left_in, member_begun, no_fault_at, some_not}
 use Rattle.tomex_cycle.proofs.starts.begin.Goals as goal
 

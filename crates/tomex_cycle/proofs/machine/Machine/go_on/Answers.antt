@@ -1,9 +1,6 @@
 use Rattle.std.proofs.Common.{◌≡◌, ◌≤◌, ◌+◌, ◌∙◌, ap, arith, inl, refl, sym, subst}
-use Rattle.tomex_cycle.specs.Events.{GoesOn}
-use Rattle.tomex_cycle.specs.CycleOutcome.{progress_of}
-use Rattle.tomex_cycle.specs.Run.{EndsWithinLimit, run_of}
-use Rattle.tomex_cycle.specs.Seen.{Machine, seen}
-use Rattle.tomex_cycle.specs.declared.progress.Progress.TheVariants.{Running}
+use Rattle.tomex_cycle.proofs.Words.{GoesOn, progress_of, EndsWithinLimit, run_of, seen, Running}
+use Rattle.tomex_cycle.specs.Seen.{Machine}
 use Rattle.tomex_cycle.proofs.Moves.{go_passes, active_not_settled, passed_low, settled_goes}
 use Rattle.tomex_cycle.proofs.Skips.{later_seen, sound_counted, sound_later, sound_passed}
 use Rattle.tomex_cycle.proofs.machine.Machine.go_on.Goals as goal
