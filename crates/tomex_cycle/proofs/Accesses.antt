@@ -71,8 +71,7 @@ older_made i t a d (e ∷ older) good timed c at clear =
       | inr o ↦ rw o rest
       | inl o ↦
           let p = and_parts (is_store e.step) (covers e.step a) o in
-          let l : e.at.finish < d.at.start =
-          finished_one d e a p.1 c (or_left (is_store e.step) (is_store d.step) p.0) two.0 in
+          let l = finished_one d e a p.1 c (or_left (is_store e.step) (is_store d.step) p.0) two.0 in
           let r : e.at.start ≤ e.at.finish = (reach e older good timed).order in
           rw (o, le-leb e.at.start t (omega arith)) refl
     ]
@@ -104,14 +103,12 @@ newer_waits i t a d [] older good timed c l = elim (cases_Bool (overwrites d.ste
   | inr o ↦ rw o refl
 ]
 newer_waits i {config} t a d (n ∷ newer) older good timed c l =
-    let rest : byte_at i t (newer ++ (d ∷ older)) a ≡ byte_at i t older a =
-    newer_waits i t a d newer older good timed.1 c l in
+    let rest = newer_waits i t a d newer older good timed.1 c l in
     elim (cases_Bool (overwrites n.step a)) [
       | inr o ↦ rw o rest
       | inl o ↦
           let p = and_parts (is_store n.step) (covers n.step a) o in
-          let clear : are_conflicts_finished (newer ++ (d ∷ older)) n.step n.at.start ≡ true =
-          starts_clear n timed.0 (store_unit n.step p.0) in
+          let clear = starts_clear n timed.0 (store_unit n.step p.0) in
           let m : d.at.finish < n.at.start = clear_at newer d older n a c p.1 p.0 clear in
           let r : d.at.start ≤ d.at.finish = (reach d older good (timed_part config newer (d ∷ older) timed.1)).order in
           rw (o, lt-leb n.at.start t (omega arith)) rest

@@ -162,8 +162,7 @@ pub test_is : {config : Configuration} (t u : ℕ) (d : Done) {older : List Done
 test_is {config} t u d {older} timed before issued e m last late =
     let test : can_address older d.step d.at.issue u ≡ (cycle_of d.at.address == u) =
     least_test (can_address older d.step d.at.issue) (cycle_of d.at.address) u (address_is d timed m) (omega arith) in
-    let there : is_there (field_of t older (j_of d.step)) ≡ nat_lt (source_end older (j_of d.step)) (t + 1) =
-    there_test config t older (j_of d.step) before issued.1 in
+    let there = there_test config t older (j_of d.step) before issued.1 in
     let i : d.at.issue ≤ t = issued.0 in
     there ∙ (rw (← e) (and_true (nat_lt (source_end older (j_of d.step)) u))
     ∙ rw (lt-ltb d.at.issue u (omega arith), lt-ltb (last_address older) u (omega arith)) at test)
@@ -206,7 +205,6 @@ pub given : (i : Loaded) (u t : ℕ) (d : Done) (older : List Done) → is_there
     ≡ (cycle_of d.at.address == u) → t < cycle_of d.at.address → u ≡ t + 1 → is_memory d.step ≡ true
     → station_of i (clocks u u t) d older ≡ with_address (station_of i (clocks u t t) d older)
 given i u t d older there late e m =
-    let f : field_of t older (j_of d.step) ≡ field_from d.step.vj (producer t older d.step.instr.rs1) =
-    field_parts t d older m in
+    let f = field_parts t d older m in
     given_by i u t d older (producer t older d.step.instr.rs1) f there late e m
     ∙ ap (address_from (station_of i (clocks u t t) d older)) (sym f)

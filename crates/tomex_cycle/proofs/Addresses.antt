@@ -146,9 +146,7 @@ waiting_is i config t u st h newer (d ∷ older) good timed issued shown e =
           rw (place, l, eq-eqb (place_of_tag tag.0) (place_of_tag tag.0) refl) refl in
           let small : place_of_tag tag.0 < 96 =
           place_low (step_pool d.step) d.at.station (place_of_tag tag.0) (low config (d ∷ older) good part).0 place in
-          let there : station_at i (clocks u t t) (newer ++ (d ∷ older)) (place_of_tag tag.0)
-          ≡ Some (station_of i (clocks u t t) d older) =
-          station_here i (clocks u t t) newer d older (place_of_tag tag.0) good here
+          let there = station_here i (clocks u t t) newer d older (place_of_tag tag.0) good here
           (issued_more t (t + 1) (newer ++ (d ∷ older)) (omega arith) by) held in
           let slot : slice_index_or st.slots (place_of_tag tag.0) None ≡ Some (station_of i (clocks u t t) d older) =
           shown.slots (place_of_tag tag.0) small
@@ -189,10 +187,8 @@ pub made_none : (next : ℕ) (old : Pools) → AreBusy old.slots old.busy old.is
     → ((order : List ℕ) → IsInIssueOrder old.busy old.issue_numbers order → None ≡ next_address old.slots order)
     → MakesAddress next old old
 made_none next old filled none i config h t e past issued shown =
-    let by : IsInIssueOrder old.busy old.issue_numbers (order_of t h) =
-    order_is past.lawful past.timed (issued_more t (t + 1) h (omega arith) issued) shown filled in
-    let waits : first_waiting old.slots (order_of t h) ≡ chosen t h =
-    waiting_is i config t next old h [] h past.lawful past.timed issued shown refl in
+    let by = order_is past.lawful past.timed (issued_more t (t + 1) h (omega arith) issued) shown filled in
+    let waits = waiting_is i config t next old h [] h past.lawful past.timed issued shown refl in
     record {
       places = shown.places;
       slots = λ x l. shown.slots x l ∙ sym (addresses_at i t next x h past.lawful past.timed issued e
@@ -231,10 +227,8 @@ pub made_some : (next x : ℕ) (old new : Pools) (o : Option Station) → AreBus
     → o ≡ option_map with_address (slice_index_or old.slots x None) → new.slots ≡ slice_set old.slots x o
     → new.issue_numbers ≡ old.issue_numbers → MakesAddress next old new
 made_some next x old new o filled some same slots issue_numbers i config h t e past issued shown =
-    let by : IsInIssueOrder old.busy old.issue_numbers (order_of t h) =
-    order_is past.lawful past.timed (issued_more t (t + 1) h (omega arith) issued) shown filled in
-    let waits : first_waiting old.slots (order_of t h) ≡ chosen t h =
-    waiting_is i config t next old h [] h past.lawful past.timed issued shown refl in
+    let by = order_is past.lawful past.timed (issued_more t (t + 1) h (omega arith) issued) shown filled in
+    let waits = waiting_is i config t next old h [] h past.lawful past.timed issued shown refl in
     let c : chosen t h ≡ Some x = found x old.slots (chosen t h) (rw waits at (some (order_of t h) by)) in
     let count : length old.slots ≡ 96 = shown.places in
     let small : x < 96 = chosen_low t x h past.lawful past.timed c in

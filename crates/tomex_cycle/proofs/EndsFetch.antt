@@ -88,10 +88,8 @@ no_older i {config} t u v x (d ∷ older) good timed all l high e =
       | inl held ↦
           let here : finishes u (Some (station_of i (clocks u u t) d older)) ≡ true = rw held at e in
           let end : d.at.finish ≡ u = finish_from u d.at.start d.at.finish here in
-          let place : place_of d ≡ Some x =
-          number_is_some (place_of d) x (and_parts (is_number (place_of d) x) (nat_lt t d.at.end) held).0 in
-          let branch : is_branch d.step ≡ true =
-          branch_from (step_pool d.step) d.at.station x (low config (d ∷ older) good timed).0 place high in
+          let place = number_is_some (place_of d) x (and_parts (is_number (place_of d) x) (nat_lt t d.at.end) held).0 in
+          let branch = branch_from (step_pool d.step) d.at.station x (low config (d ∷ older) good timed).0 place high in
           let f : (not true || nat_lt d.at.finish v) ≡ true = rw branch at two.0 in
           let k : d.at.finish < v = ltb-true d.at.finish v f in
           absurd (omega arith)
@@ -171,12 +169,10 @@ waits_for {i} {config} t u d older {st} result None good timed issued reads e sh
       | inr place ↦
           let there = slot_here i config t u place.0 st (d ∷ older) [] d older good timed issued e shown refl place.1
           (omega arith) in
-          let not_yet : finishes u (slice_index_or st.slots place.0 None) ≡ false =
-          done place.0 (place_high (step_pool d.step) d.at.station place.0 branch place.1) there.0 in
+          let not_yet = done place.0 (place_high (step_pool d.step) d.at.station place.0 branch place.1) there.0 in
           let here : is_number (if nat_le d.at.start u then Some d.at.finish else None) u ≡ false =
           rw there.1 at not_yet in
-          let other : d.at.finish ≡ u → ⊥ =
-          eqb-false d.at.finish u (sym (finish_is u d.at.start d.at.finish order) ∙ here) in
+          let other = eqb-false d.at.finish u (sym (finish_is u d.at.start d.at.finish order) ∙ here) in
           rw (branch, lt-ltb u d.at.finish (later t u d.at.finish e late other)) f
     ]
 waits_for {i} {config} t u d older {st} result (Some x) good timed issued reads e shown branch late done f =
@@ -194,8 +190,7 @@ waits_for {i} {config} t u d older {st} result (Some x) good timed issued reads 
           let end : d.at.finish ≡ u = finish_from u d.at.start d.at.finish here in
           let slot : slice_index_or st.slots x None ≡ Some (station_of i (clocks u u t) d older) =
           shown.slots x done.1 ∙ rw held refl in
-          let back : step_in (station_of i (clocks u u t) d older) ≡ d.step =
-          step_back i (clocks u u t) d timed.0 reads (pool_IsSome (step_pool d.step) branch)
+          let back = step_back i (clocks u u t) d timed.0 reads (pool_IsSome (step_pool d.step) branch)
           (unit_with_pool d.step ∙ pool_some (step_pool d.step) branch) (omega arith) in
           let to : after_branch st.slots (Some x) ≡ from.At (next_pc_of d.step) =
           ap (λ (o : Option Station). from.At (target_in o)) slot ∙ ap (λ (s : Step). from.At (next_pc_of s)) back in

@@ -135,8 +135,7 @@ pub apply_yes : {picked n : ℕ} {old s : Pools} (new : Pools) → n < 96 → ha
     → AreEndedBelow picked (n + 1) old new
 apply_yes {picked} {n} {old} {s} new l e so made =
     let m = made so.places in
-    let sent : sends_of (slice_index_or s.slots n None) ≡ sends_of (slice_index_or old.slots n None) =
-    sends_still l so in
+    let sent = sends_still l so in
     record {
       places = m.places;
       slots = λ x k. m.slots x k ∙ (ap (after_ends (n == x) (only n (sends_of (slice_index_or s.slots n None))))
@@ -167,8 +166,7 @@ pub hear_yes : {picked n : ℕ} {old s : Pools} (first r new : RegStatus) → n 
 hear_yes {picked} {n} {old} {s} first r new l e so before made count status =
     let b = before count status in
     let m = made b.count b.status in
-    let sent : sends_of (slice_index_or s.slots n None) ≡ sends_of (slice_index_or old.slots n None) =
-    sends_still l so in
+    let sent = sends_still l so in
     record {
       count = m.count;
       status = m.status;

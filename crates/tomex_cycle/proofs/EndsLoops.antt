@@ -130,8 +130,7 @@ named_still : {picked k : ℕ} {old s : Pools} {first r : RegStatus} → AreName
     → AreNamed s.slots r
 named_still {picked} {k} {old} {s} {first} {r} named so count heard_ q x l e station here =
     let low : x < 96 = wait_sets s.slots x station count here in
-    let before : names first q x ≡ true =
-    named_by (sent_below old.slots picked k) (slice_index first.values q) (slice_index r.values q)
+    let before = named_by (sent_below old.slots picked k) (slice_index first.values q) (slice_index r.values q)
     (slice_index_or first.tags q None) (slice_index_or r.tags q None) x (heard_.fields q l) e in
     let from = stood (nat_lt x k && has picked x) (sent_below old.slots picked k) (slice_index_or old.slots x None)
     station (sym (so.slots x low) ∙ here) in
@@ -192,8 +191,7 @@ one_applied {picked} {rest} {left} {x} {old} {s} new {first} {r} status low so s
     let from : so.k ≤ x = least_from picked rest so.k x so.from small member in
     let pick : has picked x ≡ true = least_in picked rest so.k x so.from small member in
     let below : x < 96 = low x small pick in
-    let none : (j : ℕ) → so.k ≤ j → j < x → has picked j ≡ false =
-    none_between picked rest so.k x so.from small least in
+    let none = none_between picked rest so.k x so.from small least in
     let here : AreEndedBelow picked x old s =
     skip_to (λ j. AreEndedBelow picked j old s) picked so.k x from none (λ j e b. apply_no e b) so.stations in
     record {
@@ -202,8 +200,7 @@ one_applied {picked} {rest} {left} {x} {old} {s} new {first} {r} status low so s
       high = omega arith;
       stations = apply_yes new below pick here ends;
       registers = λ named count tags.
-          let heard_ : Hears (sent_below old.slots picked x) first r =
-          skip_to (λ j. Hears (sent_below old.slots picked j) first r) picked so.k x from none
+          let heard_ = skip_to (λ j. Hears (sent_below old.slots picked j) first r) picked so.k x from none
           (λ j e b. hear_no picked j old first r e b) (so.registers named) in
           hear_yes first r status below pick here heard_
           (hears_ (named_still named here here.places (heard_ count tags))) count tags;

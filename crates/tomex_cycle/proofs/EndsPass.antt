@@ -98,11 +98,9 @@ one_sends {config} t u p d older good timed place next late = elim (cases_Bool (
       let clause = end_clause (step_pool d.step) d.at.station p (d.at.end ≡ d.at.issue)
       (IsLeast (can_end config older d.at.finish) d.at.end) (d.at.end ≡ d.at.finish) (is_some (step_dest d.step))
       place timed.0.end in
-      let least : IsLeast (can_end config older d.at.finish) d.at.end =
-      clause_true (IsLeast (can_end config older d.at.finish) d.at.end) (d.at.end ≡ d.at.finish)
+      let least = clause_true (IsLeast (can_end config older d.at.finish) d.at.end) (d.at.end ≡ d.at.finish)
       (is_some (step_dest d.step)) dest clause in
-      let test : can_end config older d.at.finish u ≡ (d.at.end == u) =
-      least_test (can_end config older d.at.finish) d.at.end u least (omega arith) in
+      let test = least_test (can_end config older d.at.finish) d.at.end u least (omega arith) in
       rw dest (sym test)
 ]
 
@@ -131,8 +129,7 @@ slot_here i config t u p st h newer d older good timed issued next shown e place
     let part : AreTimed config (d ∷ older) = timed_part config newer (d ∷ older) here in
     let held : holds_place t p d ≡ true = rw (place, lt-ltb t d.at.end late, eq-eqb p p refl) refl in
     let small : p < 96 = place_low (step_pool d.step) d.at.station p (low config (d ∷ older) good part).0 place in
-    let there : station_at i (clocks u u t) (newer ++ (d ∷ older)) p ≡ Some (station_of i (clocks u u t) d older) =
-    station_here i (clocks u u t) newer d older p good here (rw next at by) held in
+    let there = station_here i (clocks u u t) newer d older p good here (rw next at by) held in
     (small, shown.slots p small ∙ (ap (λ xs. station_at i (clocks u u t) xs p) e ∙ there))
 
 -- the busy steps whose results are ready are served by the recurrence
@@ -196,8 +193,7 @@ both_end i t u x (d ∷ older) good timed issued next =
           let two = and_parts (is_number (place_of d) x) (nat_lt t d.at.end) held in
           let place : place_of d ≡ Some x = number_is_some (place_of d) x two.0 in
           let late : t < d.at.end = ltb-true _ _ two.1 in
-          let free : is_vacant t x older ≡ true =
-          vacant d older t x good timed (let l : d.at.issue ≤ u = issued.0 in omega arith) two.0 in
+          let free = vacant d older t x good timed (let l : d.at.issue ≤ u = issued.0 in omega arith) two.0 in
           rw (held, two.0, idle_ends t u x older next free) (one_ends i t u x d older good timed place next late
           ∙ sym (or_false (d.at.end == u)))
       | inr held ↦ elim (cases_Bool (is_number (place_of d) x)) [

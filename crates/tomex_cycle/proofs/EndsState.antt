@@ -33,8 +33,7 @@ pub sent_is : (i : Loaded) {config : Configuration} (t u x : ℕ) (h : List Done
     → (if ends_in u h x then sends_of (station_at i (clocks u u t) h x) else None) ≡ sent_at i u h x
 sent_is i t u x [] good timed issued e = refl
 sent_is i t u x (d ∷ older) good timed issued e =
-    let rest : (if ends_in u older x then sends_of (station_at i (clocks u u t) older x) else None)
-    ≡ sent_at i u older x = sent_is i t u x older good timed.1 issued.1 e in
+    let rest = sent_is i t u x older good timed.1 issued.1 e in
     let l : d.at.issue ≤ u = issued.0 in
     elim (cases_Bool (is_number (place_of d) x)) [
       | inr at ↦ rw at rest
@@ -118,13 +117,9 @@ station_hears : {i : Loaded} {config : Configuration} (t u : ℕ) (newer : List 
     → station_of i (clocks u u u) d older ≡ hears (sent_at i u ((newer ++ (d ∷ [])) ++ older)) (station_of i (clocks u u
     t) d older)
 station_hears {i} t u newer d older good timed issued e follows =
-    let j : heard (sent_at i u ((newer ++ (d ∷ [])) ++ older)) (field_of t older (j_of d.step))
-    ≡ field_of u older (j_of d.step) =
-    field_hears i t u d.step.vj d.step.instr.rs1 (newer ++ (d ∷ [])) older (j_of d.step) good timed issued e
+    let j = field_hears i t u d.step.vj d.step.instr.rs1 (newer ++ (d ∷ [])) older (j_of d.step) good timed issued e
     follows.vj (j_cases d.step) in
-    let k : heard (sent_at i u ((newer ++ (d ∷ [])) ++ older)) (field_of t older (k_of d.step))
-    ≡ field_of u older (k_of d.step) =
-    field_hears i t u d.step.vk d.step.instr.rs2 (newer ++ (d ∷ [])) older (k_of d.step) good timed issued e
+    let k = field_hears i t u d.step.vk d.step.instr.rs2 (newer ++ (d ∷ [])) older (k_of d.step) good timed issued e
     follows.vk (k_cases d.step) in
     let a : Field → Station = λ x. record (station_of i (clocks u u t) d older) {
       j = x;
@@ -145,9 +140,7 @@ pub stations_at : (i : Loaded) (config : Configuration) (t u x : ℕ) (h newer p
 stations_at i config t u x h newer [] good timed issued e past split = refl
 stations_at i config t u x h newer (d ∷ older) good timed issued e past split =
     let whole : h ≡ (newer ++ (d ∷ [])) ++ older = split ∙ sym (append_assoc newer (d ∷ []) older) in
-    let rest : station_at i (clocks u u u) older x ≡ after_ends (ends_in u older x) (sent_at i u h)
-    (station_at i (clocks u u t) older x) =
-    stations_at i config t u x h (newer ++ (d ∷ [])) older good timed issued e past.2 whole in
+    let rest = stations_at i config t u x h (newer ++ (d ∷ [])) older good timed issued e past.2 whole in
     let part : AreTimed config (d ∷ older) = timed_part config newer (d ∷ older) (rw split at timed) in
     let l : d.at.issue ≤ u = (issued_part u newer (d ∷ older) (rw split at issued)).0 in
     elim (cases_Bool (is_number (place_of d) x)) [

@@ -213,9 +213,8 @@ heard_by i t u newer older o good timed issued e value (nobody none) = rw (none 
 heard_by i t u newer older o good timed issued e value (writes between w behind split dest from result) =
     let whole : newer ++ older ≡ (newer ++ between) ++ (w ∷ behind) =
     ap (λ xs. newer ++ xs) split ∙ sym (append_assoc newer between (w ∷ behind)) in
-    let one : heard (sent_at i u ((newer ++ between) ++ (w ∷ behind))) (field_from o.value (unsent_tag t w)) ≡
-    field_from o.value (unsent_tag u w) = heard_from i t u o.value (newer ++ between) w behind good (rw (← whole) timed)
-    (rw (← whole) issued) e dest (value ∙ result) in
+    let one = heard_from i t u o.value (newer ++ between) w behind good (rw (← whole) timed) (rw (← whole) issued) e
+    dest (value ∙ result) in
     rw (from t, from u, whole) one
 
 -- the broadcasts of a cycle make each operand what it is after that cycle

@@ -224,8 +224,7 @@ chosen_happens i config t u x st h newer (d ∷ older) good timed issued e shown
           let test = test_is t u d part.0 part.1 mine e b.0 last late in
           let held : holds_place t x d ≡ true = holds_by t x d place w in
           let small : x < 96 = place_low (step_pool d.step) d.at.station x (low config (d ∷ older) good part).0 place in
-          let there : station_at i (clocks u t t) (newer ++ (d ∷ older)) x ≡ Some (station_of i (clocks u t t) d older)
-          = station_here i (clocks u t t) newer d older x good here
+          let there = station_here i (clocks u t t) newer d older x good here
           (issued_more t (t + 1) (newer ++ (d ∷ older)) (omega arith) by) held in
           let slot : slice_index_or st.slots x None ≡ Some (station_of i (clocks u t t) d older) =
           shown.slots x small ∙ (ap (λ xs. station_at i (clocks u t t) xs x) split ∙ there) in
@@ -241,10 +240,8 @@ pub address_happens : (next x : ℕ) (old : Pools) → AreBusy old.slots old.bus
     → ((order : List ℕ) → IsInIssueOrder old.busy old.issue_numbers order → Some x ≡ next_address old.slots order)
     → AddressHappens next old
 address_happens next x old filled some i config h t e past issued shown =
-    let by : IsInIssueOrder old.busy old.issue_numbers (order_of t h) =
-    order_is past.lawful past.timed (issued_more t (t + 1) h (omega arith) issued) shown filled in
-    let waits : first_waiting old.slots (order_of t h) ≡ chosen t h =
-    waiting_is i config t next old h [] h past.lawful past.timed issued shown refl in
+    let by = order_is past.lawful past.timed (issued_more t (t + 1) h (omega arith) issued) shown filled in
+    let waits = waiting_is i config t next old h [] h past.lawful past.timed issued shown refl in
     let found = here old.slots (chosen t h) (rw waits at (some (order_of t h) by)) in
     chosen_happens i config t next x old h [] h past.lawful past.timed issued e shown refl found.0 found.1
   where
@@ -264,8 +261,7 @@ pub run_happens : {config : Configuration} {i : Loaded} {n : ℕ} (k u : ℕ) �
     → 0 < events_in u (first_timed config i k) → 0 < events_in u (first_timed config i (n + 1))
 run_happens {config} {i} {n} k u run l some =
     let part = run_split k (n + 1) run l (omega arith) in
-    let more : events_in u (first_timed config i k) ≤ events_in u (part.0 ++ first_timed config i k) =
-    events_older u part.0 (first_timed config i k) in
+    let more = events_older u part.0 (first_timed config i k) in
     rw part.1 (omega arith)
 
 -- a cycle whose phases tell of something has an event

@@ -87,8 +87,7 @@ full_case i config count st rg ft pc instr p most at fetched pool stations taken
     let h = first_timed config i count in
     let timed : AreTimed config (first_timed config i count) = run_timed i count run.lawful in
     let x = coming t count pc run old.few (sym old.from ∙ at) in
-    let none : has_station config (first_timed config i count) (Some p) u ≡ false =
-    none_left t u p run.lawful timed e old.slots (rw stations at taken) in
+    let none = none_left t u p run.lawful timed e old.slots (rw stations at taken) in
     let never : (y : Step) → step_after i count ≡ Some y → can_issue config (first_timed config i count) y u
     ≡ false = λ y is. (
     let same : y ≡ x.0 = some_one (step_after i count) y x.0 is x.1.is in
@@ -135,8 +134,7 @@ next_is : {i : Loaded} {config : Configuration} {n count t u : ℕ} (pc : ℕ) (
 next_is {i} {config} {count} {t} {u} pc instr run e slot old at fetched has =
     let x = coming t count pc run old.few (sym old.from ∙ at) in
     let f : x.0.instr ≡ instr = ok_same (instruction_at i pc) x.0.instr instr x.1.fetched fetched in
-    let next : first_timed config i (count + 1) ≡ next_done config (first_timed config i count) x.0
-    ∷ first_timed config i count = run_next config i count x.0 x.1.is in
+    let next = run_next config i count x.0 x.1.is in
     let timed : AreTimed config (first_timed config i count) = run_timed i count run.lawful in
     let can : can_issue config (first_timed config i count) x.0 u ≡ true =
     can_is config (first_timed config i count) x.0 t u timed old.issued e slot ∙ rw (x.1.goes, f, has) refl in (
@@ -194,8 +192,7 @@ some_case i config count st new rg status ft from pc instr p most number j k at 
     let h : List Done = first_timed config i count in
     let timed : AreTimed config h = run_timed i count run.lawful in
     let high : stations_of config p ≤ 16 = stations_high config p run.lawful in
-    let free : IsLeast (is_free p h u) number =
-    least_open t u number p run.lawful timed e (omega arith) old.slots vacant_here in
+    let free = least_open t u number p run.lawful timed e (omega arith) old.slots vacant_here in
     let few = room config p u number h timed old.issued (omega arith) free.0 in
     let x = next_is pc instr run e slot old at fetched (rw pool (lt-ltb _ _ few)) in
     let d : Done = next_done config h x.0 in
@@ -211,8 +208,7 @@ some_case i config count st new rg status ft from pc instr p most number j k at 
     rw (← x.1.instr_is) at k_is ∙ read_k old.status x.1.come.follows (rw x.1.instr_is k_low) in
     let made : issued instr pc j k ≡ station_of i (clocks u u t) d h = station_same instr x.0.instr pc x.0.pc j _ k _
     (sym x.1.instr_is) pc_is a b ∙ sym (station_made i t u d p x.1.timed.0 issue here) in
-    let f : from ≡ fetch_of i t (d ∷ h) =
-    fetch_made i t u d h from run.lawful x.1.timed issue e (after x.0 x.1.instr_is (sym pc_is)) in
+    let f = fetch_made i t u d h from run.lawful x.1.timed issue e (after x.0 x.1.instr_is (sym pc_is)) in
     let shown : ShowsStations i (clocks u u t) (d ∷ h) new =
     stations_with (16 * place_of_pool p + number) count d new _ old.slots (ap place_at tag)
     (place_small p number (omega arith)) late (run_count count run old.few) made slots issue_numbers in

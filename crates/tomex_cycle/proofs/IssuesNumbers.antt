@@ -124,10 +124,8 @@ one_each config p u k (d ∷ older) timed issued = elim (cases_Bool (numbered p 
   | inl e ↦
       let two = and_parts (is_held p u d) (is_number d.at.station k) e in
       let three = and_parts (is_in p (step_pool d.step)) (nat_le u d.at.end) two.0 in
-      let free : is_free p older d.at.issue k ≡ true =
-      taken_free older (step_pool d.step) d.at.station d.at.issue k p three.0 two.1 timed.0.station in
-      let a : count_by (numbered p u k) older ≡ 0 =
-      none_counted (numbered p u k) older (free_later p d.at.issue u k older issued.0 free) in
+      let free = taken_free older (step_pool d.step) d.at.station d.at.issue k p three.0 two.1 timed.0.station in
+      let a = none_counted (numbered p u k) older (free_later p d.at.issue u k older issued.0 free) in
       rw (sum_by-cons, e) (omega arith)
 ]
 
@@ -135,15 +133,12 @@ all_below : (config : Configuration) (p : PoolId) (u : ℕ) (h : List Done) → 
     → count_by (is_held p u) h ≤ count_by (below p u (stations_of config p)) h
 all_below config p u [] timed = omega arith
 all_below config p u (d ∷ older) timed =
-    let a : count_by (is_held p u) older ≤ count_by (below p u (stations_of config p)) older =
-    all_below config p u older timed.1 in
+    let a = all_below config p u older timed.1 in
     elim (cases_Bool (is_held p u d)) [
       | inr e ↦ rw (sum_by-cons, sum_by-cons, e) (omega arith)
       | inl e ↦
-          let has : has_station config older (step_pool d.step) d.at.issue ≡ true =
-          issue_station config older d.step d.at.issue timed.0.issue.0 in
-          let f : lower d.at.station (stations_of config p) ≡ true =
-          taken_low config older (step_pool d.step) d.at.station d.at.issue p
+          let has = issue_station config older d.step d.at.issue timed.0.issue.0 in
+          let f = taken_low config older (step_pool d.step) d.at.station d.at.issue p
           (and_parts (is_in p (step_pool d.step)) (nat_le u d.at.end) e).0 has timed.0.station in
           rw (sum_by-cons, sum_by-cons, e, f) (omega arith)
     ]
@@ -184,8 +179,7 @@ pub free_is : (i : Loaded) (p : PoolId) (t u n : ℕ) (h : List Done) → u ≡ 
     → is_free p h u n ≡ is_none (station_at i (clocks u u t) h (16 * place_of_pool p + n))
 free_is i p t u n [] e l low = refl
 free_is i p t u n (d ∷ h) e l low =
-    let same : (is_held p u d && is_number d.at.station n) ≡ holds_place t (16 * place_of_pool p + n) d =
-    holds_is p t u n d e l low.0 in
+    let same = holds_is p t u n d e l low.0 in
     elim (cases_Bool (holds_place t (16 * place_of_pool p + n) d)) [
       | inl k ↦ rw (same, k) refl
       | inr k ↦ rw (same, k) (free_is i p t u n h e l low.1)

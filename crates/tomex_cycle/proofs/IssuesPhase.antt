@@ -65,8 +65,7 @@ one_more : {i : Loaded} {config : Configuration} {n : ℕ} (count t u : ℕ) →
     → issued_in u (first_timed config i (count + 1)) ≡ suc (issued_in u (first_timed config i count))
 one_more {i} {config} count t u run e before issued few =
     let x = step_is count run (omega arith) in
-    let next : first_timed config i (count + 1) ≡ next_done config (first_timed config i count) x.0
-    ∷ first_timed config i count = run_next config i count x.0 x.1 in
+    let next = run_next config i count x.0 x.1 in
     let by : AreIssuedBy u (next_done config (first_timed config i count) x.0 ∷ first_timed config i count) =
     rw next at issued in
     let at : (times_of config (first_timed config i count) x.0).issue ≡ u = issues_then (first_timed config i count) x.0
@@ -123,8 +122,7 @@ issued_again : {i : Loaded} {config : Configuration} {n t u count made : ℕ} {s
     → HaveIssued i config n t u (count + 1) (made + 1) new status from
 issued_again {i} {config} {n} {t} {u} {count} {made} have more run e =
     let few : count + 1 ≤ n + 1 = more.on.few in
-    let counted : issued_in u (first_timed config i (count + 1)) ≡ suc (issued_in u (first_timed config i count)) =
-    one_more count t u run e have.now.next more.on.issued few in
+    let counted = one_more count t u run e have.now.next more.on.issued few in
     let before : issued_in u (first_timed config i count) ≡ made = have.in_cycle in
     record { now = more.on; in_cycle = omega arith }
 

@@ -218,8 +218,7 @@ leaves_known st buses {next} {due} found sending silent ending {f} h filled know
         | inr k ↦
             let high : 96 ≤ x = ltb-false x 96 k in
             let gone : slice_index_or new x None ≡ None = get_or_past new x None (omega arith) in
-            let past : slice_index_or st.slots x None ≡ None =
-            get_or_past st.slots x None (let c : length st.slots ≡ 96 = filled.places in omega arith) in
+            let past = get_or_past st.slots x None (let c : length st.slots ≡ 96 = filled.places in omega arith) in
             rw (turned.unsent, known.unsent x l, with_result x l, done x l, past, gone) refl
       ];
       gone = λ x l. test (has_stayed (next + 1)) x l refl (λ s. refl)

@@ -22,8 +22,7 @@ are_results {slots} {next} first writing served results others {f} known due of 
     let now : next + 0 ≡ next = omega arith in
     let here : has first x ≡ true =
     due x ∙ (all_ahead 0 x known l ∙ (ap (λ (v : ℕ). finishes v (slice_index_or slots x None)) now ∙ e)) in
-    let inside : has results x ≡ true =
-    member (has first x) (has results x) here (sym (but x (omega arith)) ∙ rw none (none_in x)) in
+    let inside = member (has first x) (has results x) here (sym (but x (omega arith)) ∙ rw none (none_in x)) in
     let two = and_parts (has writing x) (not (has served x)) (sym (those x (omega arith)) ∙ inside) in (
       sym (of x (omega arith)) ∙ two.0,
       elim (cases_Bool (nat_lt x 80)) [

@@ -113,10 +113,8 @@ map_same f g same (x ∷ xs) = rw (same x, map_same f g same xs) refl
 
 tables_later : (t : ℕ) (newer h : List Done) → AreLater t newer → tables_of t (newer ++ h) ≡ tables_of t h
 tables_later t newer h later =
-    let a : filter_map (shown t (newer ++ h)) all_tags ≡ filter_map (shown t h) all_tags =
-    filter_same (shown t (newer ++ h)) (shown t h) (λ tag. shown_later t newer h tag later) all_tags in
-    let b : map (qi_of t (newer ++ h)) (range_with_len 0 32) ≡ map (qi_of t h) (range_with_len 0 32) =
-    map_same (qi_of t (newer ++ h)) (qi_of t h) (λ r. qi_later t newer h r later) (range_with_len 0 32) in
+    let a = filter_same (shown t (newer ++ h)) (shown t h) (λ tag. shown_later t newer h tag later) all_tags in
+    let b = map_same (qi_of t (newer ++ h)) (qi_of t h) (λ r. qi_later t newer h r later) (range_with_len 0 32) in
     let f : List Busy → Tables = λ x. record {
       cycle = t;
       busy = x;
@@ -208,12 +206,10 @@ over_at {config} {i} {n} {rg = rg} {ft} {m} t run shot l =
     let h : List Done = first_timed config i (n + 1) in
     let last = stops t run in
     let kind_is = step_ends_it i n s kind last.0 run.ends last.1 in
-    let steps : steps_in (first_timed config i (n + 1)) ≡ last.0 ∷ first_steps i n =
-    steps_last config i n last.0 last.1 in
+    let steps = steps_last config i n last.0 last.1 in
     let leaves : Leaves i (first_steps i n) s = end_is i n s kind run.loaded run.ends in
     let state : IsState s = run_state i n s run.loaded run.ends.leads in
-    let follows : Follows i (first_steps i n) last.0 =
-    step_follows i n n s kind last.0 run.loaded run.ends (omega arith) last.1 in
+    let follows = step_follows i n n s kind last.0 run.loaded run.ends (omega arith) last.1 in
     let pc : last.0.pc ≡ s.pc = follows.pc ∙ sym leaves.pc in
     let no_dest : step_dest last.0 ≡ None = end_writes_no_register last.0 kind kind_is in
     let no_store : is_store last.0 ≡ false = end_writes_no_byte last.0 kind kind_is in

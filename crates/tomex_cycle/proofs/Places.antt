@@ -99,10 +99,8 @@ vacant_one p n x issue end e few small sum l free = elim (cases_Bool (holds_plac
       let late : end < e.at.end = ltb-true _ _ two.1 in
       let at : IsPlace (step_pool e.step) e.at.station x = place_parts (step_pool e.step) e.at.station x two.0 in
       let less : at.n < 16 = few at.n at.station_is in
-      let held : (((place_of_pool at.p == place_of_pool p) && nat_le issue e.at.end) && (at.n == n)) ≡ true =
-      held_same p at.p n at.n x issue e.at.end small less sum at.sum (omega arith) in
-      let f : (is_held p issue e && is_number e.at.station n) ≡ true =
-      held_with (step_pool e.step) e.at.station p at.p at.n n issue e.at.end at.pool_is at.station_is held in
+      let held = held_same p at.p n at.n x issue e.at.end small less sum at.sum (omega arith) in
+      let f = held_with (step_pool e.step) e.at.station p at.p at.n n issue e.at.end at.pool_is at.station_is held in
       let g : not true ≡ true = rw f at free in
       absurd (cc)
 ]
@@ -160,8 +158,7 @@ station_here i c (n ∷ newer) d older x good timed issued e = elim (cases_Bool 
   | inr h ↦ rw h (station_here i c newer d older x good timed.1 issued.1 e)
   | inl h ↦
       let two = and_parts (is_number (place_of n) x) (nat_lt c.end n.at.end) h in
-      let free : is_vacant c.end x (newer ++ (d ∷ older)) ≡ true =
-      vacant n (newer ++ (d ∷ older)) c.end x good timed issued.0 two.0 in
+      let free = vacant n (newer ++ (d ∷ older)) c.end x good timed issued.0 two.0 in
       let z : station_at i c (newer ++ (d ∷ older)) x ≡ None = vacant_none i c (newer ++ (d ∷ older)) x free in
       let f = station_here i c newer d older x good timed.1 issued.1 e in
       absurd (some_not_none (station_of i c d older) (sym f ∙ z))

@@ -143,8 +143,7 @@ holders_quiet : (v : ℕ) (pool : PoolId) (h : List Done) → AllAtRest v h
     → count_by (is_held pool (v + 1)) h ≡ count_by (is_held pool v) h
 holders_quiet v pool [] quiet = refl
 holders_quiet v pool (d ∷ h) quiet =
-    let one : is_held pool (v + 1) d ≡ is_held pool v d =
-    ap (λ b. is_in pool (step_pool d.step) && b) (held_quiet v d.at.end quiet.0.end) in
+    let one = ap (λ b. is_in pool (step_pool d.step) && b) (held_quiet v d.at.end quiet.0.end) in
     sum_by-cons _ d h ∙ (rw (one, holders_quiet v pool h quiet.1) refl
     ∙ sym (sum_by-cons (λ (e : Done). if is_held pool v e then 1 else 0) d h))
 
@@ -301,13 +300,10 @@ quiet_next {config} u v (d ∷ h) good timed l m quiet free =
     let apart : last_issue h ≢ v + 1 = last_issue_quiet (v + 1) h (omega arith) (quiet_rests (v + 1) h older) in
     let issue : d.at.issue ≢ v + 1 = not_least (can_issue config h d.step) d.at.issue v
     (issue_quiet v h d.step low good timed.1 rest apart) timed.0.issue in
-    let address : cycle_of d.at.address ≢ v + 1 =
-    address_by v h d.step d.at (is_memory d.step) low rest now.issue timed.0.address in
-    let start : d.at.start ≢ v + 1 =
-    start_by v h d.step d.at (step_unit d.step) low good before now.issue now.address issue timed.0.start in
+    let address = address_by v h d.step d.at (is_memory d.step) low rest now.issue timed.0.address in
+    let start = start_by v h d.step d.at (step_unit d.step) low good before now.issue now.address issue timed.0.start in
     let order : d.at.start ≤ d.at.finish = (reach d h good timed).order in
-    let finish : d.at.finish ≢ v + 1 =
-    finish_by u v d.at.start d.at.finish m (λ k a b. (quiet k a b).0.start) start order free.0 in
+    let finish = finish_by u v d.at.start d.at.finish m (λ k a b. (quiet k a b).0.start) start order free.0 in
     let end : d.at.end ≢ v + 1 = end_by v h d.at (step_unit d.step) (is_some (step_dest d.step)) good rest
     now.finish issue (λ silent. finish) timed.0.end in
     (record { issue = issue; address = address; start = start; finish = finish; end = end }, older)
@@ -368,11 +364,9 @@ settled_next P u (d ∷ h) sends good timed l settled due =
     let now : IsSettled u d = settled.0 in
     let rest : AllAtRest u h = settled_rests u h settled.1 in
     let issue : d.at.issue ≢ u + 1 = now.no_issue_next in
-    let address : cycle_of d.at.address ≢ u + 1 =
-    address_by u h d.step d.at (is_memory d.step) l rest now.issue timed.0.address in
+    let address = address_by u h d.step d.at (is_memory d.step) l rest now.issue timed.0.address in
     let order : d.at.start ≤ d.at.finish = (reach d h good timed).order in
-    let finish : d.at.finish ≡ u + 1 → P d =
-    settled_finish (P d) u d.at.start d.at.finish now.no_start_next order due.0 in
+    let finish = settled_finish (P d) u d.at.start d.at.finish now.no_start_next order due.0 in
     let end : d.at.end ≢ u + 1 = end_by u h d.at (step_unit d.step) (is_some (step_dest d.step)) good rest
     now.finish issue (λ silent e. both_ways (is_some (step_dest d.step)) silent (sends d (finish e))) timed.0.end in (
       record { issue = issue; address = address; start = now.no_start_next; finish = finish; end = end },

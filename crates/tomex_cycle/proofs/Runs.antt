@@ -80,8 +80,7 @@ run_past {config} {i} zero run l = rw (run_none config i) tt
 run_past {config} {i} (suc k) run l =
     let x = step_is k run (omega arith) in
     let f : suc k ≡ k + 1 = omega arith in
-    let g : first_timed config i (k + 1) ≡ next_done config (first_timed config i k) x.0 ∷ first_timed config i k =
-    run_next config i k x.0 x.1 in
+    let g = run_next config i k x.0 x.1 in
     rw (f, g) (past_on k x.0 run (omega arith) x.1 (run_past k run (omega arith)))
 
 pub run_history : {config : Configuration} {i : Loaded} {n : ℕ} (k : ℕ) → RunEndsAfter i config n → k ≤ n + 1
@@ -138,8 +137,7 @@ rest_is {config} {i} k (suc j) t run next l =
     let before = rest_is k j t run next (omega arith) in
     let x = step_is (j + k) run (omega arith) in
     let e : suc j + k ≡ j + k + 1 = omega arith in
-    let g : first_timed config i (j + k + 1) ≡ next_done config (first_timed config i (j + k)) x.0
-    ∷ first_timed config i (j + k) = run_next config i (j + k) x.0 x.1 in
+    let g = run_next config i (j + k) x.0 x.1 in
     let d : Done = next_done config (first_timed config i (j + k)) x.0 in
     let c : j + k ≡ length before.0 + k = before.1.count in
     let same : first_timed config i (j + k) ≡ before.0 ++ first_timed config i k = before.1.same in (

@@ -57,8 +57,7 @@ same_by {t} {n} {goes} d {older} stays same alone before = record {
 one_more : (xs : List ℕ) (p n x : ℕ) → length xs < n
     → is_listed (take n (xs ++ (p ∷ []))) x ≡ (is_listed (take n xs) x || (p == x))
 one_more xs p n x l =
-    let whole : take n (xs ++ (p ∷ [])) ≡ xs ++ (p ∷ []) =
-    take_all n (xs ++ (p ∷ [])) (rw length-append (omega arith)) in
+    let whole = take_all n (xs ++ (p ∷ [])) (rw length-append (omega arith)) in
     let before : take n xs ≡ xs = take_all n xs (omega arith) in
     rw (whole, before) (in-append xs (p ∷ []) x ∙ ap (λ b. is_listed xs x || b) (or_false (p == x)))
 

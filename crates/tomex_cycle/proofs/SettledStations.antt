@@ -42,8 +42,7 @@ left_empty i t u x (n ∷ newer) d older good timed issued e held over = elim (c
       let at : is_number (place_of n) x ≡ true = (and_parts (is_number (place_of n) x) (nat_lt u n.at.end) h).0 in
       let free : is_vacant t x (newer ++ (d ∷ older)) ≡ true =
       vacant n (newer ++ (d ∷ older)) t x good timed issued.0 at in
-      let none : station_at i (clocks t t t) (newer ++ (d ∷ older)) x ≡ None =
-      vacant_none i (clocks t t t) (newer ++ (d ∷ older)) x free in
+      let none = vacant_none i (clocks t t t) (newer ++ (d ∷ older)) x free in
       let some = station_here i (clocks t t t) newer d older x good timed.1 issued.1 held in
       absurd (some_not_none (station_of i (clocks t t t) d older) (sym some ∙ none))
 ]
@@ -282,9 +281,8 @@ later_settled u [] h good timed later low settled = settled
 later_settled {config} u (d ∷ newer) h good timed later low settled =
     let older : AllSettled u (newer ++ h) = later_settled u newer h good timed.1 later.1 low settled in
     let l : u < d.at.issue = later.0 in
-    let apart : d.at.issue ≢ u + 1 =
-    not_least (can_issue config (newer ++ h) d.step) d.at.issue u (issue_quiet u (newer ++ h) d.step low good timed.1
-    (settled_rests u (newer ++ h) older) (last_issue_settled u (newer ++ h) older)) timed.0.issue in
+    let apart = not_least (can_issue config (newer ++ h) d.step) d.at.issue u (issue_quiet u (newer ++ h) d.step low
+    good timed.1 (settled_rests u (newer ++ h) older) (last_issue_settled u (newer ++ h) older)) timed.0.issue in
     let s : d.at.issue ≤ d.at.start = start_after config d (newer ++ h) (step_unit d.step) timed.0.start in
     let r = reach d (newer ++ h) good timed in
     let order : d.at.start ≤ d.at.finish = r.order in

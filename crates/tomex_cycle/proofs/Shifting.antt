@@ -113,8 +113,7 @@ run_part {config} {i} k (suc j) run l =
     let before = run_part k j run (omega arith) in
     let x = step_is (j + k) run (omega arith) in
     let e : suc j + k ≡ j + k + 1 = omega arith in
-    let g : first_timed config i (j + k + 1) ≡ next_done config (first_timed config i (j + k)) x.0
-    ∷ first_timed config i (j + k) = run_next config i (j + k) x.0 x.1 in
+    let g = run_next config i (j + k) x.0 x.1 in
     let same : first_timed config i (j + k) ≡ before.0 ++ first_timed config i k = before.1 in (
       next_done config (first_timed config i (j + k)) x.0 ∷ before.0,
       rw (e, g) (ap (λ xs. next_done config (first_timed config i (j + k)) x.0 ∷ xs) same),

@@ -26,9 +26,7 @@ a_same t imm address cycle true = elim (cases_Bool (nat_lt t cycle)) [
 busy_same : (i : Loaded) (t : ℕ) (tag : Tag) (d : Done) (older : List Done)
     → busy_of t tag d older ≡ busy_from tag (station_of i (clocks t t t) d older)
 busy_same i t tag d older =
-    let a : a_of t d ≡ a_from (is_memory d.step)
-    (if is_memory d.step && nat_le (cycle_of d.at.address) t then Some (address_of d.step) else None)
-    d.step.instr.imm = a_same t d.step.instr.imm (address_of d.step) (cycle_of d.at.address) (is_memory d.step) in
+    let a = a_same t d.step.instr.imm (address_of d.step) (cycle_of d.at.address) (is_memory d.step) in
     ap (λ (x : Option ℕ). record (busy_of t tag d older) { a = x }) a
 
 holds_test : (t : ℕ) (tag : Tag) (d : Done) → tag.number < 16 → IsLow d → d.at.issue ≤ t
@@ -44,8 +42,7 @@ pub shown_is : (i : Loaded) (t : ℕ) (tag : Tag) (h : List Done) → tag.number
 shown_is i t tag [] small few issued = refl
 shown_is i t tag (d ∷ older) small few issued =
     let e = holds_test t tag d small few.0 issued.0 in
-    let rest : shown t older tag ≡ option_map (busy_from tag) (station_at i (clocks t t t) older (place_of_tag tag)) =
-    shown_is i t tag older small few.1 issued.1 in
+    let rest = shown_is i t tag older small few.1 issued.1 in
     elim (cases_Bool (holds_place t (place_of_tag tag) d)) [
       | inl h ↦ rw (e, h) (ap (λ (x : Busy). Some x) (busy_same i t tag d older))
       | inr h ↦ rw (e, h) rest
@@ -114,9 +111,7 @@ tables_is {i} {config} {t} {h} {rg} busy tables past issued slots status count e
     let f : ℕ → Option Busy = λ x. shown t h (tag_at_place x) in
     let a : busy ≡ map f (range_with_len 0 96) = list_by 96 busy f count (λ x l.
     let p : place_of_tag (tag_at_place x) ≡ x = place_back x l in
-    let s : shown t h (tag_at_place x) ≡ option_map (busy_from (tag_at_place x))
-    (station_at i (clocks t t t) h (place_of_tag (tag_at_place x))) =
-    shown_is i t (tag_at_place x) h (omega arith) (low config h past.lawful past.timed) issued in
+    let s = shown_is i t (tag_at_place x) h (omega arith) (low config h past.lawful past.timed) issued in
     each x l ∙ (ap (option_map (busy_from (tag_at_place x))) (slots.slots x l) ∙ sym (rw p at s))) in
     let b : tables.busy ≡ filter_map (shown t h) all_tags =
     shows ∙ (ap (filter_map (λ (x : Option Busy). x)) a ∙ (filter_map-map f (λ x. x) (range_with_len 0 96) ∙ sym

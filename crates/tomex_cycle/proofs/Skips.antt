@@ -58,9 +58,8 @@ next_steady {i} {config} {n} u at run low now settled results =
     let h : List Done = first_timed config i at.issued in
     let rest = rest_to at.issued (n + 1) u run now.issue.next now.issue.few (omega arith) in
     let timed : AreTimed config (first_timed config i (n + 1)) = run_timed i (n + 1) run.lawful in
-    let due : AllDue HasResult u (u + 1) (rest.0 ++ h) =
-    later_due HasResult config u (u + 1) rest.0 h (rw rest.1.same at timed) rest.1.later (issued_results u (u + 1)
-    run.lawful (run_timed i at.issued run.lawful) now.issue.issued (omega arith) now.issue.slots results) in
+    let due = later_due HasResult config u (u + 1) rest.0 h (rw rest.1.same at timed) rest.1.later (issued_results u
+    (u + 1) run.lawful (run_timed i at.issued run.lawful) now.issue.issued (omega arith) now.issue.slots results) in
     settled_next HasResult u (first_timed config i (n + 1)) (λ d result. result.0) run.lawful timed low settled
     (rw rest.1.same due)
 
@@ -118,8 +117,7 @@ sound_taken : {A : Type 0} {i : Loaded} {config : Configuration} {cycle : ℕ} {
 sound_taken {i} {config} {cycle} w now made {new} sound makes quiet runs l high free results next =
     steady_sound (w + 1) next (omega arith) high runs (λ n run v from to.
     let shot = makes n cycle run refl (sound.after n run).snapshot in
-    let settled : AllSettled w (first_timed config i (n + 1)) =
-    settled_last (cycle + 1) w new run (omega arith) l shot.0 (shot.3 quiet) free in
+    let settled = settled_last (cycle + 1) w new run (omega arith) l shot.0 (shot.3 quiet) free in
     let at : v ≡ w + 1 = omega arith in
     rw at (next_steady w new run (omega arith) (next.after n run).snapshot settled results))
 

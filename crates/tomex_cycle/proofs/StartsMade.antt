@@ -168,8 +168,7 @@ pub kept_is : (i : Loaded) (config : Configuration) (t u : ℕ) (d : Done) (olde
     → AreTimed config (d ∷ older) → AreIssuedBy t (d ∷ older) → u ≡ t + 1 → starts_in u d ≡ false
     → station_of i (clocks u t t) d older ≡ station_of i (clocks t t t) d older
 kept_is i config t u d older timed issued e starts =
-    let same : nat_le d.at.start u ≡ nat_le d.at.start t =
-    not_u d.at.start t u e (late_unit (step_unit d.step) d.at.start d.at.issue t u
+    let same = not_u d.at.start t u e (late_unit (step_unit d.step) d.at.start d.at.issue t u
     (λ v. IsLeast (can_start config older d.step v d.at.issue (cycle_of d.at.address)) d.at.start) timed.0.start
     issued.0 e starts) in
     rw same refl

@@ -72,8 +72,7 @@ clear_here : {i : Loaded} {config : Configuration} (t u : ℕ) {st : Pools} {h :
 clear_here {i} {config} t u {st} newer d older good timed issued shown e f l =
     let part : AreTimed config (d ∷ older) = timed_part config newer (d ∷ older) (rw e at timed) in
     let by : AreIssuedBy t (d ∷ older) = issued_part t newer (d ∷ older) (rw e at issued) in
-    let bytes : bytes_in (station_of i (clocks t t t) d older) ≡ bytes_of d.step =
-    bytes_are i config t d older part by (λ m. omega arith) in
+    let bytes = bytes_are i config t d older part by (λ m. omega arith) in
     elim (cases_Bool (is_memory d.step)) [
       | inr m ↦
           let none : bytes_of d.step ≡ None = no_bytes d.step m in
@@ -101,8 +100,7 @@ begins_is {i} {config} t u {st} newer d older unit good timed issued shown e f s
           rw (ready, l, ne_eqb d.at.start u (λ (z : d.at.start ≡ u). absurd (omega arith))) refl
       | inl l ↦
           let k : t < d.at.start = ltb-true _ _ l in
-          let test : can_start config older d.step unit d.at.issue (cycle_of d.at.address) u ≡ (d.at.start == u) =
-          least_test (can_start config older d.step unit d.at.issue (cycle_of d.at.address)) d.at.start u
+          let test = least_test (can_start config older d.step unit d.at.issue (cycle_of d.at.address)) d.at.start u
           (start_least d unit part.0 some) (omega arith) in
           let issue : nat_lt d.at.issue u ≡ true = lt-ltb d.at.issue u (let z : d.at.issue ≤ t = by.0 in omega arith) in
           let clear : nat_lt (cycle_of d.at.address) u ≡ true → is_clear st.slots (order_of t older)

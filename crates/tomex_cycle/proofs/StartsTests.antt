@@ -75,10 +75,8 @@ pub ready_is : (i : Loaded) (config : Configuration) (t u : ℕ) (d : Done) (old
     → is_waiting (station_of i (clocks t t t) d older) ≡ (nat_lt t d.at.start && nat_lt (source_end older (j_of d.step))
     u && nat_lt (source_end older (k_of d.step)) u && nat_lt (cycle_of d.at.address) u)
 ready_is i config t u d older timed issued e =
-    let j : is_there (field_of t older (j_of d.step)) ≡ nat_lt (source_end older (j_of d.step)) (t + 1) =
-    there_test config t older (j_of d.step) timed.1 issued.1 in
-    let k : is_there (field_of t older (k_of d.step)) ≡ nat_lt (source_end older (k_of d.step)) (t + 1) =
-    there_test config t older (k_of d.step) timed.1 issued.1 in
+    let j = there_test config t older (j_of d.step) timed.1 issued.1 in
+    let k = there_test config t older (k_of d.step) timed.1 issued.1 in
     let a = addressed_is (is_memory d.step) (cycle_of d.at.address) t u (address_of d.step) e (no_address d timed.0) in
     rw (e, j, k, finish_is d.at.start t d.at.finish) (regroup (nat_lt t d.at.start)
     (nat_lt (source_end older (j_of d.step)) (t + 1)) (nat_lt (source_end older (k_of d.step)) (t + 1)) _ _ (rw e at a))
@@ -147,8 +145,7 @@ held_at {i} {config} {c} newer d older good timed issued shown e l =
     rw (place, l, eq-eqb (place_of_tag tag.0) (place_of_tag tag.0) refl) refl in
     let small : place_of_tag tag.0 < 96 =
     place_low (step_pool d.step) d.at.station (place_of_tag tag.0) (low config (d ∷ older) good part).0 place in
-    let there : station_at i c (newer ++ (d ∷ older)) (place_of_tag tag.0) ≡ Some (station_of i c d older) =
-    station_here i c newer d older (place_of_tag tag.0) good here
+    let there = station_here i c newer d older (place_of_tag tag.0) good here
     (issued_more c.end (c.end + 1) (newer ++ (d ∷ older)) (omega arith) by) held in
     record {
       x = place_of_tag tag.0;
@@ -197,8 +194,7 @@ clear_is {i} {config} t u {st} newer (d ∷ older) s x good timed issued shown e
           let l : cycle_of d.at.address ≤ t = made m in omega arith
       | inr m ↦ rw m at last
     ] in
-    let rest : is_clear st.slots (order_of t older) s u ≡ are_conflicts_finished older x u =
-    clear_is t u (newer ++ (d ∷ [])) older s x good timed issued shown
+    let rest = clear_is t u (newer ++ (d ∷ [])) older s x good timed issued shown
     (e ∙ sym (append_assoc newer (d ∷ []) older)) f before bytes store in
     elim (cases_Bool (nat_lt t d.at.end)) [
       | inr l ↦

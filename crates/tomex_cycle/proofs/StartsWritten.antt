@@ -113,8 +113,7 @@ left_on i t u a d older good timed issued e quiet (one y v small here others byt
     let free : holds_place t y d ≡ false = elim (cases_Bool (holds_place t y d)) [
       | inr h ↦ h
       | inl h ↦
-          let vacant_there : is_vacant t y older ≡ true =
-          vacant d older t y good timed (let k : d.at.issue ≤ t = issued.0 in
+          let vacant_there = vacant d older t y good timed (let k : d.at.issue ≤ t = issued.0 in
           omega arith) (and_parts (is_number (place_of d) y) (nat_lt t d.at.end) h).0 in
           absurd (none_not v (sym (left_free t u a y older vacant_there) ∙ here))
     ] in
@@ -152,8 +151,7 @@ left_slot i config t u a x (d ∷ older) timed issued past e = elim (cases_Bool 
   | inl h ↦ elim (cases_Bool (starts_in u d)) [
     | inr s ↦ rw (h, s) refl
     | inl s ↦
-        let same : step_in (station_of i (clocks u t t) d older) ≡ d.step =
-        step_is i config t u d older timed issued past e s in
+        let same = step_is i config t u d older timed issued past e s in
         rw (h, s) (ap (λ (z : Step). if overwrites z a then Some (stored_byte z a) else None) same)
   ]
 ]

@@ -48,8 +48,7 @@ none_busy (d ∷ older) t good timed issued e = elim (cases_Bool (nat_lt t d.at.
       let f : onto_end (order_of t older) (place_of d) ≡ [] = rw l at e in
       let some : is_some (place_of d) ≡ true = place_there d timed.0 (let h : d.at.issue ≤ t = issued.0 in
       omega arith) in
-      let k : 0 < length (onto_end (order_of t older) (place_of d)) =
-      onto_end-some (order_of t older) (place_of d) some in
+      let k = onto_end-some (order_of t older) (place_of d) some in
       let z : length (onto_end (order_of t older) (place_of d)) ≡ 0 = ap length f in
       absurd (omega arith)
   | inr l ↦
@@ -77,8 +76,7 @@ stopped_is {config} {i} {n} (suc k) t end pc run l e = elim (cases_order k n) [
   | inr (inl less) ↦
       let x = step_is k run (omega arith) in
       let f : suc k ≡ k + 1 = omega arith in
-      let g : first_timed config i (k + 1) ≡ next_done config (first_timed config i k) x.0 ∷ first_timed config i k =
-      run_next config i k x.0 x.1 in
+      let g = run_next config i k x.0 x.1 in
       let d : Done = next_done config (first_timed config i k) x.0 in
       let h : fetch_after x.0 (is_branch x.0 && nat_lt t d.at.finish) (end_of x.0) ≡ Stopped end pc = rw (f, g) at e in
       absurd (stopped_not x.0 (is_branch x.0 && nat_lt t d.at.finish) end pc
@@ -91,8 +89,7 @@ pub stops : {config : Configuration} {i : Loaded} {n : ℕ} (t : ℕ) (run : Run
     → (x : Step) × (step_after i n ≡ Some x) × (fetch_of i t (first_timed config i (n + 1)) ≡ Stopped run.kind x.pc)
 stops {config} {i} {n} t run =
     let x = step_is n run (omega arith) in
-    let g : first_timed config i (n + 1) ≡ next_done config (first_timed config i n) x.0 ∷ first_timed config i n =
-    run_next config i n x.0 x.1 in
+    let g = run_next config i n x.0 x.1 in
     (x.0, x.1, rw (g, step_ends_it i n run.state run.kind x.0 run.ends x.1) refl)
 
 later_end : {config : Configuration} (newer h : List Done) (t : ℕ) → IsWithinLimits config

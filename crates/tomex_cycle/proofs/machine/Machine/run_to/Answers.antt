@@ -18,8 +18,7 @@ loop-self-init g c = record {
 
 pub loop-self-preserved : goal.loop-self-preserved
 loop-self-preserved g c =
-    let at : c.self-in-loop-self.inside.cycle ≡ c.loop-self.self.cycle =
-    ap (λ x. x.cycle) c.self-in-loop-self.view_is in
+    let at = ap (λ x. x.cycle) c.self-in-loop-self.view_is in
     let ahead : c.loop-self.self.cycle < c.args.to = omega (arith, c.loop-self-test.true) in
     record {
       image = c.go_on.ensures.image ∙ c.loop-self.invariant.image;
@@ -35,8 +34,7 @@ loop-self-preserved g c =
 
 pub returns-in_default : goal.returns-in_default
 returns-in_default g c =
-    let at : c.self-in-loop-self.inside.cycle ≡ c.loop-self.self.cycle =
-    ap (λ x. x.cycle) c.self-in-loop-self.view_is in
+    let at = ap (λ x. x.cycle) c.self-in-loop-self.view_is in
     let ahead : c.loop-self.self.cycle < c.args.to = omega (arith, c.loop-self-test.true) in
     record {
       image = c.go_on.ensures.image ∙ c.loop-self.invariant.image;
@@ -56,8 +54,7 @@ returns-in_default g c =
 
 pub returns : goal.returns
 returns g c =
-    let at : c.self-in-loop-self.inside.cycle ≡ c.loop-self.self.cycle =
-    ap (λ x. x.cycle) c.self-in-loop-self.view_is in
+    let at = ap (λ x. x.cycle) c.self-in-loop-self.view_is in
     let there : c.loop-self.self.cycle ≡ max c.args.self.now.cycle c.args.to =
     omega (arith, c.loop-self-test.false, c.loop-self.invariant.low, c.loop-self.invariant.high) in
     record {
