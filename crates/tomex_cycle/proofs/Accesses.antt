@@ -2,6 +2,7 @@
 use Rattle.std.proofs.Common.{ℕ, ◌+◌, ◌<◌, ◌≤◌, ◌≡◌, ◌∙◌, Bool, true, arith, refl, List, [], ◌∷◌, ◌++◌, Option, Some}
 use Rattle.std.proofs.Common.{None, inl, inr}
 use Rattle.tomex_cycle.proofs.Words.{nat_lt, nat_le, ◌||◌, not, is_some, MatchOption, cases_Bool, ltb-true, leb-true}
+use Rattle.tomex_cycle.proofs.Words.{nat_tests}
 use Rattle.tomex_cycle.proofs.Words.{lt-ltb, lt-leb, le-leb, and_parts, or_right, or_left, Loaded, Configuration}
 use Rattle.tomex_cycle.proofs.Words.{IsWithinLimits, PoolId, UnitId, ByteRange, Step, covers, overwrites, byte_after}
 use Rattle.tomex_cycle.proofs.Words.{bytes_of, is_in, is_store, step_pool, step_unit, unit_with_pool, Done, cycle_of}
@@ -14,16 +15,7 @@ use Rattle.tomex_cycle.proofs.Totals.{reach}
 use Rattle.tomex_cycle.proofs.Fields.{timed_part}
 
 share_from : (x y : Option ByteRange) (a : ℕ) → is_among x a ≡ true → is_among y a ≡ true → shares_byte x y ≡ true
-share_from None y a e f = absurd (cc)
-share_from (Some x) None a e f = absurd (cc)
-share_from (Some x) (Some y) a e f =
-    let p = and_parts (nat_le x.from a) (nat_lt a x.to) e in
-    let q = and_parts (nat_le y.from a) (nat_lt a y.to) f in
-    let p0 : x.from ≤ a = leb-true _ _ p.0 in
-    let p1 : a < x.to = ltb-true _ _ p.1 in
-    let q0 : y.from ≤ a = leb-true _ _ q.0 in
-    let q1 : a < y.to = ltb-true _ _ q.1 in
-    rw (lt-ltb x.from y.to (omega arith), lt-ltb y.from x.to (omega arith)) refl
+share_from x y a h3 h4 = grind (arith, nat_tests)
 
 -- a store and what shares a byte with it
 pub conflict_at : (x y : Step) (a : ℕ) → covers x a ≡ true → covers y a ≡ true → (is_store x || is_store y) ≡ true

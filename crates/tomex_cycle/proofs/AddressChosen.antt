@@ -2,6 +2,7 @@
 use Rattle.std.proofs.Common.{ℕ, ◌+◌, ◌<◌, ◌≤◌, ◌≡◌, ◌∙◌, Bool, true}
 use Rattle.std.proofs.Common.{false, arith, refl, List, [], ◌∷◌, Option, Some, None, ap, sym, inl, inr}
 use Rattle.tomex_cycle.proofs.Words.{nat_lt, nat_le, if◌then◌else◌, ◌&&◌, ◌==◌, not, is_some, MatchBool, cases_Bool}
+use Rattle.tomex_cycle.proofs.Words.{nat_tests}
 use Rattle.tomex_cycle.proofs.Words.{ltb-true, lt-ltb, leb-true, leb-false, le-leb, lt-leb, and_parts, and_right}
 use Rattle.tomex_cycle.proofs.Words.{eq-eqb, eqb-true, eqb-false, Configuration, IsWithinLimits, Done, cycle_of}
 use Rattle.tomex_cycle.proofs.Words.{is_memory, last_address, source_end, AreTimed, IsTimed, IsLeast, can_address}
@@ -46,8 +47,7 @@ address_rises d {older} timed e =
     ltb-true _ _ two.1
 
 pub some_none_of : {A : Type 0} (x : A) (o : Option A) → is_some o ≡ true → o ≡ None → ⊥
-some_none_of x None e f = cc
-some_none_of x (Some y) e f = cc
+some_none_of x o e f = grind (arith, nat_tests)
 
 or_none : (a b : Option ℕ) → or_else a b ≡ None → (a ≡ None) × (b ≡ None)
 or_none None b e = (refl, e)
@@ -78,14 +78,10 @@ or_else_none None = refl
 or_else_none (Some x) = refl
 
 pub not_le : (a b : ℕ) → not (nat_le a b) ≡ true → b < a
-not_le a b e = elim (cases_Bool (nat_le a b)) [
-  | inl l ↦ let f : not true ≡ true = rw l at e in absurd (cc)
-  | inr l ↦ leb-false a b l
-]
+not_le a b e = grind (arith, nat_tests)
 
 and_true : (a : Bool) → a ≡ ((true && a) && true)
-and_true true = refl
-and_true false = refl
+and_true a = grind (arith, nat_tests)
 
 some_waits_by : {config : Configuration} (t y : ℕ) (d : Done) {older : List Done} (o : Option ℕ)
     → IsTimed config older d.step d.at → chosen t older ≡ o
@@ -122,18 +118,7 @@ holds_by t y d e w =
 chosen_by : (t y : ℕ) (d : Done) (older : List Done) (o : Option ℕ) → chosen t older ≡ o
     → (chosen t older ≡ Some y → is_vacant t y older ≡ true → ⊥)
     → or_else o (if waits_for_address t d then place_of d else None) ≡ Some y → is_vacant t y (d ∷ older) ≡ true → ⊥
-chosen_by t y d older (Some z) e before f free =
-    let g : chosen t older ≡ Some y = e ∙ f in
-    before g (and_parts (not (holds_place t y d)) (is_vacant t y older) free).1
-chosen_by t y d older None e before f free = elim (cases_Bool (waits_for_address t d)) [
-  | inr w ↦ let g : None ≡ Some y = rw w at f in absurd (cc)
-  | inl w ↦
-      let g : place_of d ≡ Some y = rw w at f in
-      let held : holds_place t y d ≡ true = holds_by t y d g w in
-      let z : not (holds_place t y d) ≡ true = (and_parts (not (holds_place t y d)) (is_vacant t y older) free).0 in
-      let k : not true ≡ true = rw held at z in
-      absurd (cc)
-]
+chosen_by t y d older o h5 h6 h7 h8 = grind (arith, nat_tests)
 
 -- the place that is chosen is held
 pub chosen_held : (t y : ℕ) (h : List Done) → chosen t h ≡ Some y → is_vacant t y h ≡ true → ⊥
@@ -141,15 +126,7 @@ chosen_held t y [] e free = cc
 chosen_held t y (d ∷ older) e free = chosen_by t y d older (chosen t older) refl (chosen_held t y older) e free
 
 memory_j_op : (op : Op) (rs1 rs2 : ℕ) → is_memory_op op ≡ true → (sources_at (form_of op) rs1 rs2).j ≡ Some rs1
-memory_j_op ops.Lb rs1 rs2 e = refl
-memory_j_op ops.Lh rs1 rs2 e = refl
-memory_j_op ops.Lw rs1 rs2 e = refl
-memory_j_op ops.Lbu rs1 rs2 e = refl
-memory_j_op ops.Lhu rs1 rs2 e = refl
-memory_j_op ops.Sb rs1 rs2 e = refl
-memory_j_op ops.Sh rs1 rs2 e = refl
-memory_j_op ops.Sw rs1 rs2 e = refl
-memory_j_op _ rs1 rs2 e = absurd (cc)
+memory_j_op op rs1 rs2 h3 = grind (arith, nat_tests)
 
 -- a load or store reads its base
 pub memory_j : (x : Step) → is_memory x ≡ true → j_of x ≡ Some (operand x.vj x.instr.rs1)
@@ -164,8 +141,7 @@ test_is {config} t u d {older} timed before issued e m last late =
     least_test (can_address older d.step d.at.issue) (cycle_of d.at.address) u (address_is d timed m) (omega arith) in
     let there = there_test config t older (j_of d.step) before issued.1 in
     let i : d.at.issue ≤ t = issued.0 in
-    there ∙ (rw (← e) (and_true (nat_lt (source_end older (j_of d.step)) u))
-    ∙ rw (lt-ltb d.at.issue u (omega arith), lt-ltb (last_address older) u (omega arith)) at test)
+    grind (arith, nat_tests)
 
 -- A of a station by the address clock
 abbrev pub a_by : ℕ → Done → Option ℕ
@@ -187,15 +163,7 @@ given_by : (i : Loaded) (u t : ℕ) (d : Done) (older : List Done) (p : Option T
     → field_of t older (j_of d.step) ≡ field_from d.step.vj p → is_there (field_of t older (j_of d.step))
     ≡ (cycle_of d.at.address == u) → t < cycle_of d.at.address → u ≡ t + 1 → is_memory d.step ≡ true
     → station_of i (clocks u u t) d older ≡ address_from (station_of i (clocks u t t) d older) (field_from d.step.vj p)
-given_by i u t d older None f there late e m =
-    let g : true ≡ (cycle_of d.at.address == u) = rw f at there in
-    let at : cycle_of d.at.address ≡ u = eqb-true _ _ (sym g) in
-    let set : Option ℕ → Station = λ x. record (station_of i (clocks u t t) d older) { address = x } in
-    ap set (a_some u d m (omega arith))
-given_by i u t d older (Some tag) f there late e m =
-    let g : false ≡ (cycle_of d.at.address == u) = rw f at there in
-    let at : cycle_of d.at.address ≡ u → ⊥ = eqb-false _ _ (sym g) in
-    with_a i u t d older (a_none u d (omega arith) ∙ sym (a_none t d late))
+given_by i u t d older p h6 h7 h8 h9 h10 = grind (arith, nat_tests)
 
 field_parts : (t : ℕ) (d : Done) (older : List Done) → is_memory d.step ≡ true
     → field_of t older (j_of d.step) ≡ field_from d.step.vj (producer t older d.step.instr.rs1)
@@ -206,5 +174,4 @@ pub given : (i : Loaded) (u t : ℕ) (d : Done) (older : List Done) → is_there
     → station_of i (clocks u u t) d older ≡ with_address (station_of i (clocks u t t) d older)
 given i u t d older there late e m =
     let f = field_parts t d older m in
-    given_by i u t d older (producer t older d.step.instr.rs1) f there late e m
-    ∙ ap (address_from (station_of i (clocks u t t) d older)) (sym f)
+    grind (arith, nat_tests)

@@ -3,6 +3,7 @@ use Rattle.std.proofs.Common.{length, slice_index_or, slice_set, append_assoc, �
 use Rattle.std.proofs.Common.{false, arith, refl, List, [], ◌∷◌, ◌++◌, Option, Some, None, ap, sym, inl, inr}
 use Rattle.std.proofs.Common.{slice_index}
 use Rattle.tomex_cycle.proofs.Words.{nat_lt, nat_le, if◌then◌else◌, ◌&&◌, ◌==◌, not, is_some, cases_Bool, ltb-true}
+use Rattle.tomex_cycle.proofs.Words.{nat_tests}
 use Rattle.tomex_cycle.proofs.Words.{leb-true, le-leb, and_parts, eq-eqb, eqb-true, eqb-false, ne_eqb, both_ways}
 use Rattle.tomex_cycle.proofs.Words.{get_or-set_same, get_or-set_other, length-set, step_pool, address_of, is_number}
 use Rattle.tomex_cycle.proofs.Words.{MakesAddress, Configuration, IsWithinLimits, Done, cycle_of, is_memory}
@@ -33,8 +34,7 @@ given_here : (o : Option ℕ) (x : ℕ) (s : Option Station) → o ≡ Some x �
 given_here o x s e = rw (e, eq-eqb x x refl) refl
 
 pub number_is_some : (o : Option ℕ) (x : ℕ) → is_number o x ≡ true → o ≡ Some x
-number_is_some None x e = absurd (cc)
-number_is_some (Some y) x e = ap (λ (k : ℕ). Some k) (eqb-true y x e)
+number_is_some o x e = grind (arith, nat_tests)
 
 place_by : (d : Done) (t x : ℕ) → holds_place t x d ≡ true → place_of d ≡ Some x
 place_by d t x e = number_is_some (place_of d) x (and_parts (is_number (place_of d) x) (nat_lt t d.at.end) e).0
@@ -42,11 +42,7 @@ place_by d t x e = number_is_some (place_of d) x (and_parts (is_number (place_of
 idle_by : (t u cycle address : ℕ) (memory : Bool) → u ≡ t + 1 → (memory && not (nat_le cycle t)) ≡ false
     → (if memory && nat_le cycle u then Some address else None)
     ≡ (if memory && nat_le cycle t then Some address else None)
-idle_by t u cycle address false e w = refl
-idle_by t u cycle address true e w = elim (cases_Bool (nat_le cycle t)) [
-  | inl l ↦ let k : cycle ≤ t = leb-true _ _ l in rw (l, le-leb cycle u (omega arith)) refl
-  | inr l ↦ let f : not false ≡ false = rw l at w in absurd (cc)
-]
+idle_by t u cycle address memory e w = grind (arith, nat_tests)
 
 idle_same : (t u : ℕ) (d : Done) (x : ℕ) → holds_place t x d ≡ true → u ≡ t + 1 → waits_for_address t d ≡ false
     → a_by u d ≡ a_by t d
@@ -58,11 +54,7 @@ idle_same t u d x held e w =
 -- what doesn't hold the place isn't chosen there
 free_by : (t x : ℕ) (d : Done) (o : Option ℕ) (s : Option Station) → holds_place t x d ≡ false
     → given_at o x s ≡ given_at (or_else o (if waits_for_address t d then place_of d else None)) x s
-free_by t x d (Some y) s free = refl
-free_by t x d None s free = elim (cases_Bool (waits_for_address t d)) [
-  | inr w ↦ rw w refl
-  | inl w ↦ rw w (sym (given_other (place_of d) x s (λ z. both_ways _ free (holds_by t x d z w))))
-]
+free_by t x d o s h5 = grind (arith, nat_tests)
 
 -- a busy step's station, where an older step waits or none does
 held_by : (i : Loaded) {config : Configuration} (t u x : ℕ) (d : Done) (older : List Done) (o : Option ℕ)
@@ -116,9 +108,7 @@ first-append slots (y ∷ xs) x = elim (cases_Bool (lacks_address (slice_index_o
 
 lacks_by : (memory made : Bool) (address : ℕ)
     → (memory && not (is_some (if memory && made then Some address else None))) ≡ (memory && not made)
-lacks_by false made address = refl
-lacks_by true false address = refl
-lacks_by true true address = refl
+lacks_by memory made address = grind (arith, nat_tests)
 
 pub order_here : (t x : ℕ) (d : Done) (older : List Done) → place_of d ≡ Some x → nat_lt t d.at.end ≡ true
     → order_of t (d ∷ older) ≡ order_of t older ++ (x ∷ [])
@@ -148,8 +138,7 @@ waiting_is i config t u st h newer (d ∷ older) good timed issued shown e =
           place_low (step_pool d.step) d.at.station (place_of_tag tag.0) (low config (d ∷ older) good part).0 place in
           let there = station_here i (clocks u t t) newer d older (place_of_tag tag.0) good here
           (issued_more t (t + 1) (newer ++ (d ∷ older)) (omega arith) by) held in
-          let slot : slice_index_or st.slots (place_of_tag tag.0) None ≡ Some (station_of i (clocks u t t) d older) =
-          shown.slots (place_of_tag tag.0) small
+          let slot = shown.slots (place_of_tag tag.0) small
           ∙ (ap (λ xs. station_at i (clocks u t t) xs (place_of_tag tag.0)) e ∙ there) in
           let same : lacks_address (slice_index_or st.slots (place_of_tag tag.0) None) ≡ waits_for_address t d =
           rw (slot, l) (lacks_by (is_memory d.step) (nat_le (cycle_of d.at.address) t) (address_of d.step)) in
@@ -177,10 +166,7 @@ no_base (Some s) e = ap (λ (z : Station). Some z) (no_base_in s s.j refl e)
 
 given_none : (x y : ℕ) (slots : List (Option Station)) → has_base (slice_index_or slots x None) ≡ false
     → slice_index_or slots y None ≡ given_at (Some x) y (slice_index_or slots y None)
-given_none x y slots none = elim (cases_Bool (x == y)) [
-  | inl e ↦ let f : x ≡ y = eqb-true x y e in rw (e, ← f) (sym (no_base (slice_index_or slots x None) none))
-  | inr e ↦ rw e refl
-]
+given_none x y slots none = grind (arith, nat_tests)
 
 -- the phase, by the search for the next address
 pub made_none : (next : ℕ) (old : Pools) → AreBusy old.slots old.busy old.issue_numbers

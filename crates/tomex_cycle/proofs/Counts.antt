@@ -4,6 +4,7 @@ use Rattle.std.proofs.Common.{ℕ, zero, suc, ◌+◌, ◌-◌, ◌*◌, ◌<◌
 use Rattle.std.proofs.Common.{◌⊎◌, subst}
 use Rattle.std.proofs.Math.Numerals.{suc-eq-add-one}
 use Rattle.tomex_cycle.proofs.Words.{◌==◌, if◌then◌else◌, cases_Bool, eq-eqb, Done, GoesOn, SkipsTo, events_in}
+use Rattle.tomex_cycle.proofs.Words.{nat_tests}
 use Rattle.tomex_cycle.specs.Events.{IsCounted, eventful_by, events_by}
 
 events_next : (h : List Done) (t : ℕ) → events_by h (t + 1) ≡ events_by h t + events_in (t + 1) h
@@ -16,10 +17,7 @@ busy_next h t = ap (λ (k : ℕ). eventful_by h k) (sym (suc-eq-add-one t))
     ∙ ap (λ (k : ℕ). eventful_by h t + (if events_in k h == 0 then 0 else 1)) (suc-eq-add-one t)
 
 busy_low : (h : List Done) (t : ℕ) → eventful_by h (t + 1) ≤ eventful_by h t + 1
-busy_low h t = elim (cases_Bool (events_in (t + 1) h == 0)) [
-  | inl e ↦ let f : eventful_by h (t + 1) ≡ eventful_by h t + 0 = busy_next h t ∙ rw e refl in omega arith
-  | inr e ↦ let f : eventful_by h (t + 1) ≡ eventful_by h t + 1 = busy_next h t ∙ rw e refl in omega arith
-]
+busy_low h t = grind (arith, nat_tests)
 
 -- over cycles in which nothing happens both counts stay
 pub stays_by : (h : List Done) (u n : ℕ) → ((k : ℕ) → u < k → k ≤ u + n → events_in k h ≡ 0)

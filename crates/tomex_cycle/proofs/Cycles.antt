@@ -75,7 +75,8 @@ pub issue_made : {i : Loaded} {config : Configuration} {n t : ℕ} (next : ℕ) 
     → MakesIssue i config next count st2 rg0 ft0 result counted st3 rg1 ft1 → RunEndsAfter i config n → next ≡ t + 1
     → IsSnapshot i config n t count st0 rg0 ft0 m0
     → (result ≡ Ok (nat_lt count counted)) × IsUnderWay i config n t next count counted fault st3 rg1 ft1 m1
-issue_made {i} {config} {n} {t} next {count} counted fault result st1 st2 st3 {rg0} rg1 {ft0} ft1 m1 starts addresses issues run e old =
+issue_made {i} {config} {n} {t} next {count} counted fault result st1 st2 st3 {rg0} rg1 {ft0} ft1 m1 starts addresses
+    issues run e old =
     let few : count ≤ n + 1 = old.issue.few in
     let h0 : IsHistory i config (first_timed config i count) = run_history count run few in
     let a = starts i (first_timed config i count) t e h0 old.issue.issued old.issue.slots old.bytes in

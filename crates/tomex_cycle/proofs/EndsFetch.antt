@@ -3,6 +3,7 @@ use Rattle.std.proofs.Common.{◌++◌, ℕ, ◌+◌, ◌*◌, ◌<◌, ◌≤�
 use Rattle.std.proofs.Common.{Option, Some, None, ap, sym, inl, inr, ◌⊎◌, slice_index_or, IsSome, length, append_assoc}
 use Rattle.std.proofs.Common.{slice_index}
 use Rattle.tomex_cycle.proofs.Words.{nat_lt, nat_le, if◌then◌else◌, ◌&&◌, ◌||◌, ◌==◌, not, is_some, cases_Bool}
+use Rattle.tomex_cycle.proofs.Words.{nat_tests}
 use Rattle.tomex_cycle.proofs.Words.{ltb-true, ltb-false, lt-ltb, le-ltb, leb-false, and_parts, eq-eqb, eqb-true}
 use Rattle.tomex_cycle.proofs.Words.{eqb-false, ne_eqb, Loaded, Configuration, IsWithinLimits, place_of_pool, PoolId}
 use Rattle.tomex_cycle.proofs.Words.{UnitId, unit_with_pool, unread_j, unread_k, EndKind, Operand, Step, end_of}
@@ -38,20 +39,11 @@ bru_sum p n x l e high = let k : place_of_pool p < 6 = pool_low p in eq-eqb (pla
 
 branch_from : (pool : Option PoolId) (station : Option ℕ) (x : ℕ) → ((n : ℕ) → station ≡ Some n → n < 16)
     → place_at (tag_at pool station) ≡ Some x → 80 ≤ x → is_in pools.Bru pool ≡ true
-branch_from None station x few e high = absurd (cc)
-branch_from (Some p) None x few e high = absurd (cc)
-branch_from (Some p) (Some n) x few e high =
-    let f : 16 * place_of_pool p + n ≡ x = cc in
-    bru_sum p n x (few n refl) f high
+branch_from pool station x h3 h4 h5 = grind (arith, nat_tests)
 
 pub place_high : (pool : Option PoolId) (station : Option ℕ) (x : ℕ) → is_in pools.Bru pool ≡ true
     → place_at (tag_at pool station) ≡ Some x → 80 ≤ x
-place_high None station x e f = absurd (cc)
-place_high (Some p) None x e f = absurd (cc)
-place_high (Some p) (Some n) x e f =
-    let g : 16 * place_of_pool p + n ≡ x = cc in
-    let k : place_of_pool p ≡ 5 = eqb-true (place_of_pool p) 5 e in
-    omega arith
+place_high pool station x h3 h4 = grind (arith, nat_tests)
 
 pool_some : (pool : Option PoolId) → is_in pools.Bru pool ≡ true → is_some pool ≡ true
 pool_some None e = absurd (cc)
@@ -63,18 +55,11 @@ pool_IsSome (Some p) e = refl
 
 -- when a station's unit is done
 finish_from : (u start finish : ℕ) → is_number (if nat_le start u then Some finish else None) u ≡ true → finish ≡ u
-finish_from u start finish e = elim (cases_Bool (nat_le start u)) [
-  | inl l ↦ let f : (finish == u) ≡ true = rw l at e in eqb-true finish u f
-  | inr l ↦ let f : false ≡ true = rw l at e in absurd (cc)
-]
+finish_from u start finish e = grind (arith, nat_tests)
 
 finish_is : (u start finish : ℕ) → start ≤ finish → is_number (if nat_le start u then Some finish else None) u
     ≡ (finish == u)
-finish_is u start finish l = elim (cases_Bool (nat_le start u)) [
-  | inl e ↦ rw e refl
-  | inr e ↦ let k : u < start = leb-false start u e in
-      rw (e, ne_eqb finish u (λ (z : finish ≡ u). absurd (omega arith))) refl
-]
+finish_is u start finish l = grind (arith, nat_tests)
 
 -- an older branch was done before a branch issued
 no_older : (i : Loaded) {config : Configuration} (t u v x : ℕ) (h : List Done) → IsWithinLimits config
@@ -148,8 +133,7 @@ step_back i c d {older} timed reads pool some l =
 
 wait_less : (branch : Bool) (t u finish : ℕ) → u ≡ t + 1 → (branch && nat_lt t finish) ≡ false
     → (branch && nat_lt u finish) ≡ false
-wait_less false t u finish e h = refl
-wait_less true t u finish e h = let k : finish ≤ t = ltb-false t finish h in le-ltb u finish (omega arith)
+wait_less branch t u finish e h = grind (arith, nat_tests)
 
 -- the youngest step is a branch that isn't done after cycle t
 waits_for : {i : Loaded} {config : Configuration} (t u : ℕ) (d : Done) (older : List Done) {st : Pools} (result : Fetch)
@@ -276,7 +260,8 @@ pub made_ends : (config : Configuration) {next : ℕ} (old new : Pools) (registe
     → (length old.slots ≡ 96 → AreLow picked → AreNamed old.slots registers
     → Hears (sent_below old.slots picked 96) registers status)
     → MakesEnds config next old registers fetch new status result
-made_ends config {next} old new registers status {result} picked ends filled follows made heard_ i h t e past issued shown regs from_ =
+made_ends config {next} old new registers status {result} picked ends filled follows made heard_ i h t e past issued
+    shown regs from_ =
     let ended : (x : ℕ) → x < 96 → has picked x ≡ ends_in next h x =
     λ x l. ending_is t x past.lawful past.timed issued e shown filled ends l in
     let low : AreLow picked = λ x l k. ending_low old config.buses next picked ends filled x l k in

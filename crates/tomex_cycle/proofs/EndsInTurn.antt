@@ -2,6 +2,7 @@
 use Rattle.std.proofs.Common.{ℕ, ◌+◌, ◌<◌, ◌≡◌, ◌∙◌, Bool, true, false, arith, refl, List, Option, Some, None, ap}
 use Rattle.std.proofs.Common.{sym, inl, inr, length, slice_index, slice_index_or, option_map}
 use Rattle.tomex_cycle.proofs.Words.{nat_lt, if◌then◌else◌, ◌&&◌, ◌||◌, ◌==◌, cases_order, lt-ltb, le-ltb, eqb-true}
+use Rattle.tomex_cycle.proofs.Words.{nat_tests}
 use Rattle.tomex_cycle.proofs.Words.{eqb-false, eq-eqb, ne_eqb, field_from, Field, Value, Unread, Tag, is_number}
 use Rattle.tomex_cycle.proofs.Words.{EndsIn, Hears, after_ends, sends_of, sent_below, hears, heard, only, taken}
 use Rattle.tomex_cycle.proofs.Words.{place_at, place_of_tag, Pools, RegStatus, Station, has}
@@ -25,10 +26,7 @@ pub record AreEndedBelow (picked : ℕ) (n : ℕ) (old new : Pools) : Type 0 whe
 
 pub heard_yes : (from value v : ℕ) (tag : Option Tag) → is_number (place_at tag) from ≡ true
     → heard (only from (Some value)) (field_from v tag) ≡ Value value
-heard_yes from value v None e = absurd (cc)
-heard_yes from value v (Some tag) e =
-    let f : place_of_tag tag ≡ from = eqb-true _ _ e in
-    rw (eq-eqb from (place_of_tag tag) (sym f)) refl
+heard_yes from value v tag h4 = grind (arith, nat_tests)
 
 pub heard_no : (from value v : ℕ) (tag : Option Tag) → is_number (place_at tag) from ≡ false
     → heard (only from (Some value)) (field_from v tag) ≡ field_from v tag
@@ -44,10 +42,7 @@ then_by g p (Some v) k tag at e = rw e refl
 
 heard_then : (f g k : ℕ → Option ℕ) (field : Field) → ((y : ℕ) → k y ≡ or_else (f y) (g y))
     → heard g (heard f field) ≡ heard k field
-heard_then f g k (Value v) e = refl
-heard_then f g k Unread e = refl
-heard_then f g k (Waits tag) e =
-    then_by g (place_of_tag tag) (f (place_of_tag tag)) (k (place_of_tag tag)) tag refl (e (place_of_tag tag))
+heard_then f g k field h4 = grind (arith, nat_tests)
 
 pub heard_same : (f k : ℕ → Option ℕ) (field : Field) → ((y : ℕ) → k y ≡ f y) → heard f field ≡ heard k field
 heard_same f k (Value v) e = refl
@@ -88,37 +83,18 @@ or_none (Some x) = refl
 sent_yes : (slots : List (Option Station)) (picked : ℕ) (n y : ℕ) (s : Option ℕ) → has picked n ≡ true
     → s ≡ sends_of (slice_index_or slots n None)
     → sent_below slots picked (n + 1) y ≡ or_else (sent_below slots picked n y) (only n s y)
-sent_yes slots picked n y s e f = elim (cases_order y n) [
-  | inl z ↦ rw (z, e, f, lt-ltb n (n + 1) (omega arith), le-ltb n n (omega arith), eq-eqb n n refl) refl
-  | inr (inl l) ↦ rw (lt-ltb y (n + 1) (omega arith), lt-ltb y n l, ne_eqb n y (λ z. absurd (omega arith)))
-      (or_none (if has picked y then sends_of (slice_index_or slots y None) else None))
-  | inr (inr l) ↦ rw (le-ltb y (n + 1) (omega arith), le-ltb y n (omega arith), ne_eqb n y (λ z. absurd (omega arith)))
-      refl
-]
+sent_yes slots picked n y s e f = grind (arith, nat_tests)
 
 sent_no : (slots : List (Option Station)) (picked : ℕ) (n y : ℕ) → has picked n ≡ false
     → sent_below slots picked (n + 1) y ≡ sent_below slots picked n y
-sent_no slots picked n y e = elim (cases_order y n) [
-  | inl z ↦ rw (z, e, lt-ltb n (n + 1) (omega arith), le-ltb n n (omega arith)) refl
-  | inr (inl l) ↦ rw (lt-ltb y (n + 1) (omega arith), lt-ltb y n l) refl
-  | inr (inr l) ↦ rw (le-ltb y (n + 1) (omega arith), le-ltb y n (omega arith)) refl
-]
+sent_no slots picked n y e = grind (arith, nat_tests)
 
 below_yes : (picked : ℕ) (n x : ℕ) → has picked n ≡ true → ((n == x) || (nat_lt x n && has picked x))
     ≡ (nat_lt x (n + 1) && has picked x)
-below_yes picked n x e = elim (cases_order x n) [
-  | inl z ↦ rw (z, e, lt-ltb n (n + 1) (omega arith), eq-eqb n n refl) refl
-  | inr (inl l) ↦ rw (lt-ltb x (n + 1) (omega arith), lt-ltb x n l, ne_eqb n x (λ z. absurd (omega arith))) refl
-  | inr (inr l) ↦ rw (le-ltb x (n + 1) (omega arith), le-ltb x n (omega arith), ne_eqb n x (λ z. absurd (omega arith)))
-      refl
-]
+below_yes picked n x e = grind (arith, nat_tests)
 
 below_no : (picked n x : ℕ) → has picked n ≡ false → (nat_lt x n && has picked x) ≡ (nat_lt x (n + 1) && has picked x)
-below_no picked n x e = elim (cases_order x n) [
-  | inl z ↦ rw (z, e, lt-ltb n (n + 1) (omega arith), le-ltb n n (omega arith)) refl
-  | inr (inl l) ↦ rw (lt-ltb x (n + 1) (omega arith), lt-ltb x n l) refl
-  | inr (inr l) ↦ rw (le-ltb x (n + 1) (omega arith), le-ltb x n (omega arith)) refl
-]
+below_no picked n x e = grind (arith, nat_tests)
 
 sends_after : (f : ℕ → Option ℕ) (o : Option Station) → sends_of (option_map (hears f) o) ≡ sends_of o
 sends_after f None = refl

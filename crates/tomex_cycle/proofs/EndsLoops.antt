@@ -2,6 +2,7 @@
 use Rattle.std.proofs.Common.{ℕ, ◌+◌, ◌<◌, ◌≤◌, ◌≡◌, ◌∙◌, Bool, true, false, arith, refl, List, Option, Some, None, ap}
 use Rattle.std.proofs.Common.{sym, inl, inr, length, slice_index, slice_index_or, slice_set, option_map}
 use Rattle.tomex_cycle.proofs.Words.{nat_lt, if◌then◌else◌, ◌&&◌, ◌==◌, cases_Bool, lt-ltb, le-ltb, eqb-true, eqb-false}
+use Rattle.tomex_cycle.proofs.Words.{nat_tests}
 use Rattle.tomex_cycle.proofs.Words.{both_ways, ltb-true, ltb-false, get_or-set_same, get_or-set_other, length-set}
 use Rattle.tomex_cycle.proofs.Words.{get_or_past, field_from, Field, Value, Unread, Tag, is_number, EndsIn, Hears}
 use Rattle.tomex_cycle.proofs.Words.{after_ends, sends_of, sent_below, AreNamed, HaveReceived, hears, heard, only}
@@ -26,11 +27,7 @@ none_heard p (Waits tag) = by_place (p == place_of_tag tag)
     by_place false = refl
 
 none_hears : (p : ℕ) (o : Option Station) → option_map (hears (only p None)) o ≡ o
-none_hears p None = refl
-none_hears p (Some s) =
-    let a : Field → Station = λ x. record s { j = x; k = heard (only p None) s.k } in
-    let b : Field → Station = λ x. record s { k = x } in
-    ap (λ (z : Station). Some z) (ap a (none_heard p s.j) ∙ ap b (none_heard p s.k))
+none_hears p o = grind (arith, nat_tests)
 
 released_at : (xs : List (Option Station)) (p x : ℕ) → p < length xs → slice_index_or (slice_set xs p None) x None
     ≡ (if p == x then None else slice_index_or xs x None)
@@ -101,11 +98,7 @@ none_sent sent Unread none = refl
 none_sent sent (Waits tag) none = sym (ap (λ o. taken o tag) (none (place_of_tag tag)))
 
 none_ended : (sent : ℕ → Option ℕ) (o : Option Station) → ((y : ℕ) → sent y ≡ None) → o ≡ after_ends false sent o
-none_ended sent None none = refl
-none_ended sent (Some s) none =
-    let a : Field → Station = λ x. record s { j = x } in
-    let b : Field → Station = λ x. record s { j = heard sent s.j; k = x } in
-    ap (λ (z : Station). Some z) (ap a (none_sent sent s.j none) ∙ ap b (none_sent sent s.k none))
+none_ended sent o h2 = grind (arith, nat_tests)
 
 some_none : (s : Station) (o : Option Station) → o ≡ Some s → o ≡ None → ⊥
 some_none s o e f = cc

@@ -2,6 +2,7 @@
 use Rattle.std.proofs.Common.{ℕ, ◌+◌, ◌≡◌, arith, ◌∙◌, false, refl, List, Option, Some, None, ap, sym, length}
 use Rattle.std.proofs.Common.{slice_index, slice_index_or, option_map}
 use Rattle.tomex_cycle.proofs.Words.{nat_lt, ◌&&◌, if◌then◌else◌, and_right, Configuration, field_from, Field, Value}
+use Rattle.tomex_cycle.proofs.Words.{nat_tests}
 use Rattle.tomex_cycle.proofs.Words.{Unread, has, none_in, Fetch, AreDone, AreEnding, EndsIn, Hears, after_ends}
 use Rattle.tomex_cycle.proofs.Words.{sends_of, sent_below, IsTimetableOf, LeavesTimetable, MakesEnds, Finishes, hears}
 use Rattle.tomex_cycle.proofs.Words.{heard, taken, place_of_tag, AreBusy, Pools, RegStatus, Station}
@@ -16,11 +17,7 @@ heard_none sent Unread none = refl
 heard_none sent (Waits tag) none = sym (ap (λ (o : Option ℕ). taken o tag) (none (place_of_tag tag)))
 
 hears_none : (sent : ℕ → Option ℕ) (o : Option Station) → ((y : ℕ) → sent y ≡ None) → o ≡ option_map (hears sent) o
-hears_none sent None none = refl
-hears_none sent (Some s) none =
-    let f : Field → Station = λ x. record s { j = x } in
-    let g : Field → Station = λ x. record s { j = heard sent s.j; k = x } in
-    ap (λ (z : Station). Some z) (ap f (heard_none sent s.j none) ∙ ap g (heard_none sent s.k none))
+hears_none sent o h2 = grind (arith, nat_tests)
 
 none_sent : (slots : List (Option Station)) (n y : ℕ) → sent_below slots 0 n y ≡ None
 none_sent slots n y = ap (λ b. if b then sends_of (slice_index_or slots y None) else None)
@@ -57,7 +54,4 @@ none_over slots next ending f count leaves e = leaves slots (λ y. None) count
 -- where nothing finishes, no branch is followed
 pub none_followed : (next due : ℕ) (slots : List (Option Station)) (fetch : Fetch) → AreDone slots next due → due ≡ 0
     → Follows next slots fetch fetch
-none_followed next due slots (from.At pc) done e = refl
-none_followed next due slots (from.Stopped kind pc) done e = refl
-none_followed next due slots from.Waits done e =
-    (None, (λ x low high. sym (done x (omega arith)) ∙ rw e (none_in x)), refl)
+none_followed next due slots fetch h4 h5 = grind (arith, nat_tests)

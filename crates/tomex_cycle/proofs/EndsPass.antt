@@ -2,6 +2,7 @@
 use Rattle.std.proofs.Common.{ℕ, ◌+◌, ◌<◌, ◌≤◌, ◌≡◌, ◌∙◌, Bool, true, false, arith, refl, List, [], ◌∷◌, ◌++◌, Option}
 use Rattle.std.proofs.Common.{Some, None, ap, sym, inl, inr, ◌⊎◌, append_assoc, slice_index_or}
 use Rattle.tomex_cycle.proofs.Words.{nat_lt, nat_le, if◌then◌else◌, ◌&&◌, ◌||◌, ◌==◌, is_some, count_by, MatchOption}
+use Rattle.tomex_cycle.proofs.Words.{nat_tests}
 use Rattle.tomex_cycle.proofs.Words.{not, MatchBool, cases_Bool, cases_order, ltb-true, ltb-false, lt-ltb, le-ltb}
 use Rattle.tomex_cycle.proofs.Words.{leb-false, le-leb, lt-leb, and_parts, eq-eqb, eqb-true, eqb-false, ne_eqb}
 use Rattle.tomex_cycle.proofs.Words.{both_ways, Loaded, Configuration, IsWithinLimits, PoolId, unit_at, is_number}
@@ -46,27 +47,14 @@ clause_false B C true e h = absurd (cc)
 
 before_is : (u start finish : ℕ) → start ≤ finish → is_finished_before (if nat_le start u then Some finish else None) u
     ≡ nat_lt finish u
-before_is u start finish l = elim (cases_Bool (nat_le start u)) [
-  | inl e ↦ rw e refl
-  | inr e ↦ let k : u < start = leb-false start u e in rw (e, le-ltb finish u (omega arith)) refl
-]
+before_is u start finish l = grind (arith, nat_tests)
 
 by_is : (u start finish : ℕ) → start ≤ finish → is_finished_by (if nat_le start u then Some finish else None) u
     ≡ nat_le finish u
-by_is u start finish l = elim (cases_Bool (nat_le start u)) [
-  | inl e ↦ rw e refl
-  | inr e ↦ let k : u < start = leb-false start u e in rw (e, lt-leb finish u (omega arith)) refl
-]
+by_is u start finish l = grind (arith, nat_tests)
 
 last_is : (t u end : ℕ) → u ≡ t + 1 → t < end → nat_le end u ≡ (end == u)
-last_is t u end e l = elim (cases_Bool (end == u)) [
-  | inl k ↦ let f : end ≡ u = eqb-true end u k in rw (k, le-leb end u (omega arith)) refl
-  | inr k ↦ let f : end ≡ u → ⊥ = eqb-false end u k in elim (cases_order end u) [
-    | inl z ↦ absurd (f z)
-    | inr (inl z) ↦ absurd (omega arith)
-    | inr (inr z) ↦ rw (k, lt-leb end u z) refl
-  ]
-]
+last_is t u end e l = grind (arith, nat_tests)
 
 -- whether a busy step ends, as its station shows it
 one_ends : (i : Loaded) {config : Configuration} (t u p : ℕ) (d : Done) (older : List Done) → IsWithinLimits config
@@ -113,10 +101,7 @@ option_cases (Some p) = inr (p, refl)
 -- what holds no station sends nothing
 no_dest : {config : Configuration} (d : Done) (older : List Done) → IsWithinLimits config → AreTimed config (d ∷ older)
     → place_of d ≡ None → is_some (step_dest d.step) ≡ false
-no_dest d older good timed e = elim (cases_Bool (is_some (step_dest d.step))) [
-  | inr k ↦ k
-  | inl k ↦ absurd (some_none_of 0 (place_of d) (place_there d timed.0 (dest_later d older good timed k)) e)
-]
+no_dest d older good timed e = grind (arith, nat_tests)
 
 -- a place that is held is one of the 96, and the state shows the station
 pub slot_here : (i : Loaded) (config : Configuration) (t u p : ℕ) (st : Pools) (h newer : List Done) (d : Done)
@@ -222,8 +207,6 @@ ending_is {i} {config} t {u} x {st} {h} good timed issued next shown filled ends
     (and_parts (has st.busy y) (can_send u (slice_index_or st.slots y None)) (sym (ends.are_unsent y m) ∙ k)).0)
     ends.sent (all_send i config t u ends.unsent st h [] h good timed issued next shown filled ends.are_unsent refl)
     (all_alone t (sends_in u) h good timed more) x (omega arith) in
-    let alone : (has st.busy x && ends_alone u (slice_index_or st.slots x None))
-    ≡ ends_alone u (station_at i (clocks u u t) h x) =
-    ap (λ b. b && ends_alone u (slice_index_or st.slots x None)) (filled.each x (omega arith))
+    let alone = ap (λ b. b && ends_alone u (slice_index_or st.slots x None)) (filled.each x (omega arith))
     ∙ (and_alone (slice_index_or st.slots x None) u ∙ ap (ends_alone u) (shown.slots x l)) in
     ends.all x (omega arith) ∙ (rw (sends, alone) (both_end i t u x h good timed issued next))

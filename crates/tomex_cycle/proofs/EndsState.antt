@@ -2,6 +2,7 @@
 use Rattle.std.proofs.Common.{ℕ, ◌+◌, ◌<◌, ◌≤◌, ◌≡◌, ◌∙◌, true, arith, refl, List, [], ◌∷◌, ◌++◌, Option}
 use Rattle.std.proofs.Common.{Some, None, ap, sym, inl, inr, ◌⊎◌, append_assoc, slice_index, slice_index_or, option_map}
 use Rattle.tomex_cycle.proofs.Words.{nat_lt, if◌then◌else◌, ◌==◌, is_some, cases_Bool, cases_order, ltb-true, ltb-false}
+use Rattle.tomex_cycle.proofs.Words.{nat_tests}
 use Rattle.tomex_cycle.proofs.Words.{lt-ltb, le-ltb, le-leb, eqb-true, eqb-false, ne_eqb, Loaded, Configuration}
 use Rattle.tomex_cycle.proofs.Words.{IsWithinLimits, Form, form_of, sources_at, Operand, Step, register_after}
 use Rattle.tomex_cycle.proofs.Words.{is_number, j_of, k_of, operand, step_dest, step_pool, Field, Tag, Done, AreTimed}
@@ -19,11 +20,7 @@ use Rattle.tomex_cycle.proofs.Truth.{and_false}
 use Rattle.tomex_cycle.proofs.EndsInTurn.{heard_same}
 
 pub later : (t u end : ℕ) → u ≡ t + 1 → t < end → (end ≡ u → ⊥) → u < end
-later t u end e l other = elim (cases_order end u) [
-  | inl z ↦ absurd (other z)
-  | inr (inl z) ↦ absurd (omega arith)
-  | inr (inr z) ↦ z
-]
+later t u end e l other = grind (arith, nat_tests)
 
 -- What is sent.
 
@@ -77,31 +74,16 @@ sent_all i t u h slots picked good timed issued e shown ends y = elim (cases_Boo
 -- Operands hear what is sent.
 
 j_reads : (f : Form) (rs1 rs2 : ℕ) → ((sources_at f rs1 rs2).j ≡ None) ⊎ ((sources_at f rs1 rs2).j ≡ Some rs1)
-j_reads forms.Register rs1 rs2 = inr refl
-j_reads forms.Store rs1 rs2 = inr refl
-j_reads forms.Branch rs1 rs2 = inr refl
-j_reads forms.Immediate rs1 rs2 = inr refl
-j_reads forms.Offset rs1 rs2 = inr refl
-j_reads forms.Shift rs1 rs2 = inr refl
-j_reads _ rs1 rs2 = inl refl
+j_reads f rs1 rs2 = grind (arith, nat_tests)
 
 k_reads : (f : Form) (rs1 rs2 : ℕ) → ((sources_at f rs1 rs2).k ≡ None) ⊎ ((sources_at f rs1 rs2).k ≡ Some rs2)
-k_reads forms.Register rs1 rs2 = inr refl
-k_reads forms.Store rs1 rs2 = inr refl
-k_reads forms.Branch rs1 rs2 = inr refl
-k_reads _ rs1 rs2 = inl refl
+k_reads f rs1 rs2 = grind (arith, nat_tests)
 
 pub j_cases : (x : Step) → (j_of x ≡ None) ⊎ (j_of x ≡ Some (operand x.vj x.instr.rs1))
-j_cases x = elim (j_reads (form_of x.instr.op) x.instr.rs1 x.instr.rs2) [
-  | inl e ↦ inl (ap (option_map (operand x.vj)) e)
-  | inr e ↦ inr (ap (option_map (operand x.vj)) e)
-]
+j_cases x = grind (arith, nat_tests)
 
 pub k_cases : (x : Step) → (k_of x ≡ None) ⊎ (k_of x ≡ Some (operand x.vk x.instr.rs2))
-k_cases x = elim (k_reads (form_of x.instr.op) x.instr.rs1 x.instr.rs2) [
-  | inl e ↦ inl (ap (option_map (operand x.vk)) e)
-  | inr e ↦ inr (ap (option_map (operand x.vk)) e)
-]
+k_cases x = grind (arith, nat_tests)
 
 field_hears : (i : Loaded) {config : Configuration} (t u v r : ℕ) (newer older : List Done) (o : Option Operand)
     → IsWithinLimits config → AreTimed config (newer ++ older) → AreIssuedBy u (newer ++ older) → u ≡ t + 1
@@ -175,10 +157,7 @@ stations_at i config t u x h newer (d ∷ older) good timed issued e past split 
 -- The registers after the cycle.
 
 field_same : (a b : ℕ) (p q : Option Tag) → field_from a p ≡ field_from b q → (p ≡ q) × (q ≡ None → a ≡ b)
-field_same a b None None e = (refl, λ z. cc)
-field_same a b None (Some q) e = absurd (cc)
-field_same a b (Some p) None e = absurd (cc)
-field_same a b (Some p) (Some q) e = (cc, λ z. absurd (cc))
+field_same a b p q h4 = grind (arith, nat_tests)
 
 field_by : (a b : ℕ) (p q : Option Tag) → p ≡ q → (q ≡ None → a ≡ b) → field_from a p ≡ field_from b q
 field_by a b p None e v = rw (e, v refl) refl

@@ -2,6 +2,7 @@
 use Rattle.std.proofs.Common.{ℕ, ◌+◌, ◌<◌, ◌≤◌, ◌≡◌, ◌∙◌, Bool, true, false, arith, refl, List, [], ◌∷◌, ◌++◌, Option}
 use Rattle.std.proofs.Common.{Some, None, ap, sym, inl, inr, append_assoc, ◌⊎◌}
 use Rattle.tomex_cycle.proofs.Words.{nat_lt, if◌then◌else◌, ◌&&◌, ◌==◌, not, is_some, is_none, MatchOption, cases_Bool}
+use Rattle.tomex_cycle.proofs.Words.{nat_tests}
 use Rattle.tomex_cycle.proofs.Words.{ltb-true, ltb-false, lt-ltb, le-ltb, and_parts, eqb-true, eqb-false, eq-eqb}
 use Rattle.tomex_cycle.proofs.Words.{Loaded, Configuration, IsWithinLimits, PoolId, UnitId, unit_at, dest_needs_pool}
 use Rattle.tomex_cycle.proofs.Words.{cycle_of, source_end, writer_end, IsLeast, can_start, AreTimed, IsTimed, Operand}
@@ -123,8 +124,7 @@ pub data Writer (i : Loaded) (r : ℕ) (h : List Done) : Type 0 where
       → register_after i (steps_in h) r ≡ result_of w.step (byte_after i (steps_in older)) → Writer i r h
 
 dest_some : (o : Option ℕ) (r : ℕ) → is_number o r ≡ true → is_some o ≡ true
-dest_some None r e = e
-dest_some (Some q) r e = refl
+dest_some o r e = grind (arith, nat_tests)
 
 writer_on : (i : Loaded) (r : ℕ) (d : Done) (older : List Done) → is_number (step_dest d.step) r ≡ false
     → Writer i r older → Writer i r (d ∷ older)
@@ -211,8 +211,7 @@ heard_by : (i : Loaded) {config : Configuration} (t u : ℕ) (newer older : List
     → heard (sent_at i u (newer ++ older)) (field_of t older (Some o)) ≡ field_of u older (Some o)
 heard_by i t u newer older o good timed issued e value (nobody none) = rw (none t, none u) refl
 heard_by i t u newer older o good timed issued e value (writes between w behind split dest from result) =
-    let whole : newer ++ older ≡ (newer ++ between) ++ (w ∷ behind) =
-    ap (λ xs. newer ++ xs) split ∙ sym (append_assoc newer between (w ∷ behind)) in
+    let whole = ap (λ xs. newer ++ xs) split ∙ sym (append_assoc newer between (w ∷ behind)) in
     let one = heard_from i t u o.value (newer ++ between) w behind good (rw (← whole) timed) (rw (← whole) issued) e
     dest (value ∙ result) in
     rw (from t, from u, whole) one

@@ -3,7 +3,7 @@ use Rattle.std.proofs.Common.{ℕ, ◌+◌, ◌^◌, ◌<◌, ◌≤◌, ◌≡�
 use Rattle.std.proofs.Common.{Option, Some, None, ap, sym, inl, inr, ◌⊎◌, append_assoc, slice_index_or, length, max}
 use Rattle.std.specs.Int.{trailing_zeros}
 use Rattle.std.proofs.lemmas.Nat.Bits.{bit_at_above}
-use Rattle.tomex_cycle.proofs.Words.{◌≢◌, nat_lt, nat_le, ◌&&◌, ◌==◌, if◌then◌else◌, is_some, not, w128}
+use Rattle.tomex_cycle.proofs.Words.{◌≢◌, nat_lt, nat_le, ◌&&◌, ◌==◌, if◌then◌else◌, is_some, not, w128, nat_tests}
 use Rattle.tomex_cycle.proofs.Words.{bit_at-trailing_zeros, get_or_past, cases_Bool, both_ways, and_parts, eq-eqb}
 use Rattle.tomex_cycle.proofs.Words.{eqb-true, ne_eqb, ltb-true, ltb-false, Loaded, Configuration, IsWithinLimits}
 use Rattle.tomex_cycle.proofs.Words.{is_number, j_of, step_pool, step_unit, Field, Value, Unread, Done, Times, cycle_of}
@@ -136,10 +136,7 @@ end_happens {config} t u {st} {h} ending past issued shown filled ends e fits so
 -- Finishes.
 
 done_in : (c start finish v : ℕ) → is_number (if nat_le start c then Some finish else None) v ≡ true → finish ≡ v
-done_in c start finish v e = elim (cases_Bool (nat_le start c)) [
-  | inl l ↦ let f : (finish == v) ≡ true = rw l at e in eqb-true finish v f
-  | inr l ↦ let f : false ≡ true = rw l at e in absurd (cc)
-]
+done_in c start finish v e = grind (arith, nat_tests)
 
 pub finish_happens : (i : Loaded) (c : Clocks) (v x : ℕ) (h : List Done) → finishes v (station_at i c h x) ≡ true
     → 0 < events_in v h
@@ -226,8 +223,7 @@ chosen_happens i config t u x st h newer (d ∷ older) good timed issued e shown
           let small : x < 96 = place_low (step_pool d.step) d.at.station x (low config (d ∷ older) good part).0 place in
           let there = station_here i (clocks u t t) newer d older x good here
           (issued_more t (t + 1) (newer ++ (d ∷ older)) (omega arith) by) held in
-          let slot : slice_index_or st.slots x None ≡ Some (station_of i (clocks u t t) d older) =
-          shown.slots x small ∙ (ap (λ xs. station_at i (clocks u t t) xs x) split ∙ there) in
+          let slot = shown.slots x small ∙ (ap (λ xs. station_at i (clocks u t t) xs x) split ∙ there) in
           let value : is_value (field_of t older (j_of d.step)) ≡ true = ap has_base (sym slot) ∙ base in
           let at : cycle_of d.at.address ≡ u =
           eqb-true _ _ (sym test ∙ there_by (field_of t older (j_of d.step)) value) in
@@ -277,13 +273,15 @@ cycle_happens {i} {config} {n} {t} {next} {count} {c} any addressed ended st1 st
     let few : count ≤ n + 1 = old.issue.few in
     let h0 : IsHistory i config (first_timed config i count) = run_history count run few in
     elim which [
-      | inl k ↦ run_happens count next run few (a k i (first_timed config i count) t e h0 old.issue.issued old.issue.slots)
+      | inl k ↦ run_happens count next run few (a k i (first_timed config i count) t e h0 old.issue.issued
+          old.issue.slots)
       | inr other ↦ elim other [
         | inl k ↦
             let made = starts i (first_timed config i count) t e h0 old.issue.issued old.issue.slots old.bytes in
             run_happens count next run few (b k i config (first_timed config i count) t e h0 old.issue.issued made.1)
         | inr other ↦ elim other [
-          | inl k ↦ run_happens c next run on.after.few (issue_happens t next count c run e old.issue.next on.low on.after.few k on.after.issued)
+          | inl k ↦ run_happens c next run on.after.few (issue_happens t next count c run e old.issue.next on.low
+              on.after.few k on.after.issued)
           | inr k ↦ run_happens c next run on.after.few (d k i (first_timed config i c) t e
               (run_history c run on.after.few) on.after.issued on.after.slots)
         ]

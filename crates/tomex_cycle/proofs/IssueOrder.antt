@@ -173,8 +173,7 @@ first_is : {slots : List (Option Station)} {busy : ℕ} {issue_numbers order : L
     → AreBusy slots busy issue_numbers → IsInIssueOrder busy issue_numbers order → IsOldestLacking slots issue_numbers x
     → first_waiting slots order ≡ Some x
 first_is {slots} {busy} {issue_numbers} {order} {x} filled by oldest =
-    let busy_there : has busy x ≡ true =
-    filled.each x oldest.low ∙ lacks_busy (slice_index_or slots x None) oldest.lacks in
+    let busy_there = filled.each x oldest.low ∙ lacks_busy (slice_index_or slots x None) oldest.lacks in
     oldest_waits slots issue_numbers order x by.rises (sym (by.members x oldest.low) ∙ busy_there) oldest.lacks
     (λ y h e. oldest.oldest y (by.low y h) e)
 

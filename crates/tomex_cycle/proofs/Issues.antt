@@ -2,6 +2,7 @@
 use Rattle.std.proofs.Common.{ℕ, ◌+◌, ◌<◌, ◌≤◌, ◌≡◌, ◌∙◌, Bool, true, false, arith, refl, List, ◌∷◌, Option, Some, None}
 use Rattle.std.proofs.Common.{ap, sym, inl, inr, length, slice_index_or, slice_set}
 use Rattle.tomex_cycle.proofs.Words.{nat_lt, nat_le, ◌&&◌, ◌==◌, if◌then◌else◌, slice_index, option_map, IfSome}
+use Rattle.tomex_cycle.proofs.Words.{nat_tests}
 use Rattle.tomex_cycle.proofs.Words.{MatchOption, cases_Bool, ltb-true, lt-ltb, lt-leb, and_parts, eqb-true, eqb-false}
 use Rattle.tomex_cycle.proofs.Words.{get_or-set_same, get_or-set_other, length-set, Loaded, Configuration}
 use Rattle.tomex_cycle.proofs.Words.{IsWithinLimits, Form, PoolId, UnitId, Instruction, form_of, sources_at, sources_of}
@@ -42,28 +43,10 @@ address_after d timed e =
 -- Operands.
 
 source_j : (f : Form) (rs1 rs2 r : ℕ) → (sources_at f rs1 rs2).j ≡ Some r → r ≡ rs1
-source_j forms.Register rs1 rs2 r e = cc
-source_j forms.Store rs1 rs2 r e = cc
-source_j forms.Branch rs1 rs2 r e = cc
-source_j forms.Immediate rs1 rs2 r e = cc
-source_j forms.Offset rs1 rs2 r e = cc
-source_j forms.Shift rs1 rs2 r e = cc
-source_j forms.Upper rs1 rs2 r e = absurd (cc)
-source_j forms.Jump rs1 rs2 r e = absurd (cc)
-source_j forms.Fence rs1 rs2 r e = absurd (cc)
-source_j forms.Whole rs1 rs2 r e = absurd (cc)
+source_j f rs1 rs2 r h4 = grind (arith, nat_tests)
 
 source_k : (f : Form) (rs1 rs2 r : ℕ) → (sources_at f rs1 rs2).k ≡ Some r → r ≡ rs2
-source_k forms.Register rs1 rs2 r e = cc
-source_k forms.Store rs1 rs2 r e = cc
-source_k forms.Branch rs1 rs2 r e = cc
-source_k forms.Immediate rs1 rs2 r e = absurd (cc)
-source_k forms.Offset rs1 rs2 r e = absurd (cc)
-source_k forms.Shift rs1 rs2 r e = absurd (cc)
-source_k forms.Upper rs1 rs2 r e = absurd (cc)
-source_k forms.Jump rs1 rs2 r e = absurd (cc)
-source_k forms.Fence rs1 rs2 r e = absurd (cc)
-source_k forms.Whole rs1 rs2 r e = absurd (cc)
+source_k f rs1 rs2 r h4 = grind (arith, nat_tests)
 
 field_same : (a b : ℕ) (tag : Option Tag) → (tag ≡ None → a ≡ b) → field_from a tag ≡ field_from b tag
 field_same a b None e = ap (λ (v : ℕ). Value v) (e refl)
@@ -73,11 +56,7 @@ field_same a b (Some tag) e = refl
 read_is : {i : Loaded} {t : ℕ} (v : ℕ) {h : List Done} {rg : RegStatus} (source : Option ℕ) → ShowsRegisters i t h rg
     → IfSome source (λ r. r < 32) → ((r : ℕ) → source ≡ Some r → v ≡ register_after i (steps_in h) r)
     → operand_in rg source ≡ field_of t h (option_map (operand v) source)
-read_is v None shown low value = refl
-read_is {t} v {h} {rg} (Some r) shown low value =
-    let tag : slice_index_or rg.tags r None ≡ producer t h r = shown.tags r low in
-    rw tag (field_same (slice_index rg.values r) v (producer t h r) (λ none. shown.values r low none
-    ∙ sym (value r refl)))
+read_is v source h2 h3 h4 = grind (arith, nat_tests)
 
 pub read_j : {i : Loaded} {t : ℕ} {h : List Done} {rg : RegStatus} {x : Step} → ShowsRegisters i t h rg
     → Follows i (steps_in h) x → IfSome (sources_of x.instr).j (λ r. r < 32)
@@ -95,8 +74,7 @@ read_k {x} shown follows low = read_is x.vk (sources_of x.instr).k shown low
 
 none_yet : (memory : Bool) (cycle u address : ℕ) → (memory ≡ true → u < cycle)
     → (if memory && nat_le cycle u then Some address else None) ≡ None
-none_yet false cycle u address e = refl
-none_yet true cycle u address e = rw (lt-leb cycle u (e refl)) refl
+none_yet memory cycle u address e = grind (arith, nat_tests)
 
 made_from : (instr : Instruction) (pc : ℕ) (j k : Field) (start u finish value : ℕ) (address : Option ℕ) → u < start
     → address ≡ None
@@ -129,13 +107,7 @@ tag_from : (pool : Option PoolId) (station : Option ℕ) (p : PoolId) (n issue :
     → IsLeast (is_free p older issue) n
     → MatchOption pool (station ≡ None) (λ p. (n : ℕ) × (station ≡ Some n) × IsLeast (is_free p older issue) n)
     → tag_at pool station ≡ Some (record { pool = p; number = n })
-tag_from None station p n issue older e least is = absurd (cc)
-tag_from (Some q) station p n issue older e least is =
-    let s : q ≡ p = cc in
-    let m : IsLeast (is_free p older issue) is.0 = rw s at is.2 in
-    let same : is.0 ≡ n = least_same (is_free p older issue) is.0 n m least in
-    let f : station ≡ Some is.0 = is.1 in
-    rw (f, s, same) refl
+tag_from pool station p n issue older h6 h7 h8 = grind (arith, nat_tests)
 
 pub tag_made : {config : Configuration} (d : Done) {h : List Done} (p : PoolId) (n u : ℕ) → IsTimed config h d.step d.at
     → d.at.issue ≡ u → step_pool d.step ≡ Some p → IsLeast (is_free p h u) n
@@ -178,8 +150,8 @@ stations_with {i} {c} x n d {h} {old} new s shown place small late count_is same
     let count : length old.slots ≡ 96 = shown.places in
     record {
       places = ap length slots ∙ (length-set old.slots x (Some s) ∙ shown.places);
-      slots = λ y l. ap (λ xs. slice_index_or xs y None) slots ∙ (set_slot old.slots x y s (omega arith) ∙
-          (rw (same, shown.slots y l) refl ∙ sym (slot_with i c x y d h place late)));
+      slots = λ y l. ap (λ xs. slice_index_or xs y None) slots ∙ (set_slot old.slots x y s (omega arith)
+          ∙ (rw (same, shown.slots y l) refl ∙ sym (slot_with i c x y d h place late)));
       order_count = ap length issue_numbers ∙ (length-set old.issue_numbers x n ∙ shown.order_count);
       issue_numbers = λ y l. ap (λ xs. slice_index xs y) issue_numbers
           ∙ number_with x y n d h old.issue_numbers place small shown.order_count count_is (shown.issue_numbers y l);
@@ -253,8 +225,7 @@ branch_pool None p e = absurd (cc)
 branch_pool (Some q) p e = (q, refl)
 
 branch_late : (b : Bool) (t finish : ℕ) → (b ≡ true → t < finish) → b ≡ (b && nat_lt t finish)
-branch_late false t finish l = refl
-branch_late true t finish l = rw (lt-ltb t finish (l refl)) refl
+branch_late b t finish l = grind (arith, nat_tests)
 
 pub fetch_made : (i : Loaded) {config : Configuration} (t u : ℕ) (d : Done) (h : List Done) (ft : Fetch)
     → IsWithinLimits config → AreTimed config (d ∷ h) → d.at.issue ≡ u → u ≡ t + 1

@@ -2,6 +2,7 @@
 use Rattle.std.proofs.Common.{ℕ, zero, suc, ◌+◌, ◌*◌, ◌<◌, ◌≤◌, ◌≡◌, ◌∙◌, Bool, true, false, arith, refl, List}
 use Rattle.std.proofs.Common.{[], ◌∷◌, Option, Some, None, ap, sym, inl, inr}
 use Rattle.tomex_cycle.proofs.Words.{nat_lt, nat_le, ◌&&◌, not, count_by, is_none, MatchOption, list_all, cases_Bool}
+use Rattle.tomex_cycle.proofs.Words.{nat_tests}
 use Rattle.tomex_cycle.proofs.Words.{cases_order, ltb-true, lt-ltb, le-ltb, leb-true, leb-false, le-leb, lt-leb}
 use Rattle.tomex_cycle.proofs.Words.{and_parts, eqb-true, both_ways, sum_by-cons, Loaded, Configuration, stations_of}
 use Rattle.tomex_cycle.proofs.Words.{PoolId, place_of_pool, is_in, is_number, step_pool, Done, AreTimed, IsLeast, least}
@@ -13,13 +14,7 @@ use Rattle.tomex_timing.proofs.Places.{same_pool}
 
 -- what isn't held isn't held later
 held_later : (p : PoolId) (t u : ℕ) (d : Done) → t ≤ u → is_held p t d ≡ false → is_held p u d ≡ false
-held_later p t u d l e = elim (cases_Bool (is_in p (step_pool d.step))) [
-  | inr k ↦ rw k refl
-  | inl k ↦
-      let f : nat_le t d.at.end ≡ false = rw k at e in
-      let g : d.at.end < t = leb-false _ _ f in
-      rw (k, lt-leb u d.at.end (omega arith)) refl
-]
+held_later p t u d l e = grind (arith, nat_tests)
 
 -- Where a number is free, a station is left.
 
@@ -75,9 +70,7 @@ none_counted q (d ∷ h) e =
     zero_of true e = absurd (cc)
 
 free_one : (a b c : Bool) → (a ≡ false → b ≡ false) → not (a && c) ≡ true → not (b && c) ≡ true
-free_one a false c f e = refl
-free_one true true c f e = e
-free_one false true c f e = absurd (let g : true ≡ false = f refl in cc)
+free_one a b c f e = grind (arith, nat_tests)
 
 free_later : (p : PoolId) (t u k : ℕ) (h : List Done) → t ≤ u → is_free p h t k ≡ true → is_free p h u k ≡ true
 free_later p t u k [] l e = refl
@@ -89,8 +82,7 @@ free_later p t u k (d ∷ h) l e =
     ) refl
 
 number_same : (station : Option ℕ) (n k : ℕ) → station ≡ Some n → is_number station k ≡ true → n ≡ k
-number_same None n k e f = absurd (cc)
-number_same (Some m) n k e f = let g : m ≡ k = eqb-true m k f in let s : m ≡ n = cc in sym s ∙ g
+number_same station n k e f = grind (arith, nat_tests)
 
 -- the number that a step takes is free of older ones, and is one of the pool's
 taken_free : (older : List Done) (pool : Option PoolId) (station : Option ℕ) (issue k : ℕ) (p : PoolId)
@@ -155,20 +147,10 @@ room config p u n h timed issued l free =
 -- A number is free just where no station stands in its place.
 
 still : (t u end : ℕ) → u ≡ t + 1 → nat_le u end ≡ nat_lt t end
-still t u end e = elim (cases_Bool (nat_lt t end)) [
-  | inl l ↦ let k : t < end = ltb-true _ _ l in rw (l, le-leb u end (omega arith)) refl
-  | inr l ↦ elim (cases_Bool (nat_le u end)) [
-    | inr k ↦ rw (l, k) refl
-    | inl k ↦ let m : u ≤ end = leb-true _ _ k in absurd (both_ways _ l (lt-ltb t end (omega arith)))
-  ]
-]
+still t u end e = grind (arith, nat_tests)
 
 swap_and : (a b c : Bool) → ((a && b) && c) ≡ ((a && c) && b)
-swap_and false b c = refl
-swap_and true true true = refl
-swap_and true true false = refl
-swap_and true false true = refl
-swap_and true false false = refl
+swap_and a b c = grind (arith, nat_tests)
 
 holds_is : (p : PoolId) (t u n : ℕ) (d : Done) → u ≡ t + 1 → n < 16 → ((m : ℕ) → d.at.station ≡ Some m → m < 16)
     → (is_held p u d && is_number d.at.station n) ≡ holds_place t (16 * place_of_pool p + n) d

@@ -3,6 +3,7 @@ use Rattle.std.proofs.Common.{ℕ, suc, ◌+◌, ◌%◌, ◌<◌, ◌≤◌, �
 use Rattle.std.proofs.Common.{inl, inr, subst}
 use Rattle.std.specs.Result.{result_unwrap_or}
 use Rattle.tomex_cycle.proofs.Words.{nat_lt, ◌&&◌, Result, Ok, Err, cases_Bool, ltb-true, ltb-false, lt-ltb, le-ltb}
+use Rattle.tomex_cycle.proofs.Words.{nat_tests}
 use Rattle.tomex_cycle.proofs.Words.{le-leb, both_ways, eq-eqb, sum_by-cons, Loaded, Configuration, IsWithinLimits}
 use Rattle.tomex_cycle.proofs.Words.{Fault, Step, step_pool, Done, last_issue, AreTimed, are_branches_finished}
 use Rattle.tomex_cycle.proofs.Words.{can_issue, can_issue_another, times_of, has_station, width_low, times_are}
@@ -249,11 +250,7 @@ phase_more i config u count word counted st mid new rg between status ft next fr
     let made = first_made u word mid between next result old issues is w run e in
     let d = more n t u run e made.1 in
     let some : count < word = made.0 in
-    let rest : word ≤ counted = d.0 in (
-      rw (lt-ltb count counted (omega arith)) refl,
-      omega arith,
-      issued_to d.1 d.2,
-    )
+    grind (arith, nat_tests)
 
 -- and none faults
 pub phase_fault : (i : Loaded) (config : Configuration) (u count counted : ℕ) (st new : Pools) (rg status : RegStatus)

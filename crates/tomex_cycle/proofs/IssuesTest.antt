@@ -2,6 +2,7 @@
 use Rattle.std.proofs.Common.{ℕ, ◌+◌, ◌<◌, ◌≤◌, ◌≡◌, ◌∙◌, Bool, true, false, arith, refl, List, [], ◌∷◌, Option, Some}
 use Rattle.std.proofs.Common.{None, sym, inl, inr}
 use Rattle.tomex_cycle.proofs.Words.{nat_lt, ◌&&◌, ◌||◌, not, Ok, cases_Bool, cases_order, ltb-true, ltb-false, lt-ltb}
+use Rattle.tomex_cycle.proofs.Words.{nat_tests}
 use Rattle.tomex_cycle.proofs.Words.{le-ltb, and_parts, Loaded, Configuration, IsWithinLimits, EndKind, Step}
 use Rattle.tomex_cycle.proofs.Words.{instruction_at, end_of, next_pc_of, step_after, is_branch, step_pool, step_follows}
 use Rattle.tomex_cycle.proofs.Words.{Done, AreTimed, are_branches_finished, can_issue, can_issue_another, times_of}
@@ -18,8 +19,7 @@ is_waiting t [] = false
 is_waiting t (d ∷ older) = is_branch d.step && nat_lt t d.at.finish
 
 done_later : (b : Bool) (t u finish : ℕ) → t ≤ u → (not b || nat_lt finish t) ≡ true → (not b || nat_lt finish u) ≡ true
-done_later false t u finish l e = refl
-done_later true t u finish l e = let k : finish < t = ltb-true finish t e in lt-ltb finish u (omega arith)
+done_later b t u finish l e = grind (arith, nat_tests)
 
 finished_later : (t u : ℕ) (h : List Done) → t ≤ u → are_branches_finished h t ≡ true → are_branches_finished h u ≡ true
 finished_later t u [] l e = refl
@@ -33,11 +33,7 @@ finished_from config older x t e = (and_parts _ (are_branches_finished older t) 
 
 finished_test : (b : Bool) (t u finish : ℕ) → u ≡ t + 1
     → ((not b || nat_lt finish u) && true) ≡ not (b && nat_lt t finish)
-finished_test false t u finish e = refl
-finished_test true t u finish e = elim (cases_Bool (nat_lt t finish)) [
-  | inl l ↦ let k : t < finish = ltb-true t finish l in rw (l, le-ltb finish u (omega arith)) refl
-  | inr l ↦ let k : finish ≤ t = ltb-false t finish l in rw (l, lt-ltb finish u (omega arith)) refl
-]
+finished_test b t u finish e = grind (arith, nat_tests)
 
 -- only the youngest step can be a branch that hasn't finished
 pub branches_is : (config : Configuration) (t u : ℕ) (h : List Done) → AreTimed config h → AreIssuedBy u h → u ≡ t + 1

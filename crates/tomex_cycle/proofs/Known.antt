@@ -3,6 +3,7 @@
 use Rattle.std.proofs.Common.{ℕ, ◌+◌, ◌-◌, ◌*◌, ◌<◌, ◌≤◌, ◌≡◌, ◌∙◌, Bool, true, false, arith, refl, ap, sym, inl, inr}
 use Rattle.std.proofs.Common.{List, Option, Some, None, length, slice_index_or, slice_set, option_map, replicate}
 use Rattle.tomex_cycle.proofs.Words.{nat_lt, ◌==◌, ◌≢◌, ◌&&◌, ◌||◌, not, is_none, is_some, IsSome, and_right, both_ways}
+use Rattle.tomex_cycle.proofs.Words.{nat_tests}
 use Rattle.tomex_cycle.proofs.Words.{cases_Bool, eq-eqb, eqb-true, eqb-false, le-ltb, ltb-true, ltb-false, ne_eqb}
 use Rattle.tomex_cycle.proofs.Words.{get_or-replicate, get_or-set_same, get_or-set_other, get_or_past, length-set}
 use Rattle.tomex_cycle.proofs.Words.{dest_of, place_of_pool, PoolId, is_number, has, is_due, none_in, with_address}
@@ -116,12 +117,7 @@ lacks_idle x {next} s l known at idle a = elim (cases_Bool (nat_lt a 64)) [
 ]
 
 shift_test : (next a latency : ℕ) → 1 ≤ latency → (a == latency - 1) ≡ ((next + latency - 1) == (next + a))
-shift_test next a latency some = elim (cases_Bool (a == latency - 1)) [
-  | inl e ↦ let f : a ≡ latency - 1 = eqb-true a (latency - 1) e in
-      e ∙ sym (eq-eqb (next + latency - 1) (next + a) (omega arith))
-  | inr e ↦ let f : a ≢ latency - 1 = eqb-false a (latency - 1) e in
-      e ∙ sym (ne_eqb (next + latency - 1) (next + a) (λ z. f (omega arith)))
-]
+shift_test next a latency some = grind (arith, nat_tests)
 
 pub known_started : {slots : List (Option Station)} (x : ℕ) {next : ℕ} (latency : ℕ) (s t : Station) {f : Finishes}
     (g : Finishes) → x < length slots → x < 96 → IsTimetableOf slots next f → slice_index_or slots x None ≡ Some s
@@ -205,11 +201,4 @@ known_first slots f e empty unsent = rw e (record {
 -- Beyond the wheel nothing finishes.
 pub all_ahead : {slots : List (Option Station)} {next : ℕ} (a x : ℕ) {f : Finishes} → IsTimetableOf slots next f
     → x < 96 → is_due f.wheel a x ≡ finishes (next + a) (slice_index_or slots x None)
-all_ahead {slots} {next} a x known l = elim (cases_Bool (nat_lt a 64)) [
-  | inl k ↦ known.ahead a x (ltb-true a 64 k) l
-  | inr k ↦ rw k (sym (elim (cases_Bool (finishes (next + a) (slice_index_or slots x None))) [
-    | inr e ↦ e
-    | inl e ↦ let near : next + a < next + 64 = known.near x (next + a) l e in let far : 64 ≤ a = ltb-false a 64 k in
-        absurd (omega arith)
-  ]))
-]
+all_ahead {slots} {next} a x known l = grind (arith, nat_tests)

@@ -2,6 +2,7 @@
 use Rattle.std.proofs.Common.{ℕ, ◌+◌, ◌^◌, ◌<◌, ◌≤◌, ◌≡◌, ◌∙◌, Bool, true, false, arith, refl, ap, sym, inl, inr, List}
 use Rattle.std.proofs.Common.{Option, Some, None, length, slice_index_or, option_map}
 use Rattle.tomex_cycle.proofs.Words.{nat_le, nat_lt, ◌==◌, ◌≢◌, ◌&&◌, ◌||◌, not, is_some, and_parts, and_right}
+use Rattle.tomex_cycle.proofs.Words.{nat_tests}
 use Rattle.tomex_cycle.proofs.Words.{both_ways, cases_Bool, eqb-true, eqb-false, le-leb, le-ltb, leb-true, lt-leb}
 use Rattle.tomex_cycle.proofs.Words.{lt-ltb, ltb-true, ltb-false, ne_eqb, get_or_past, dest_of, is_number, IsPicked}
 use Rattle.tomex_cycle.proofs.Words.{none_picked, has, is_due, none_in, hears, is_served, AreBusy, Pools, IsSetOf}
@@ -118,30 +119,13 @@ done_once next a (Some s) e = of s.finish e
 
 before_next : (next : ℕ) (finish : Option ℕ)
     → is_finished_before finish (next + 1) ≡ (is_finished_before finish next || is_number finish next)
-before_next next None = refl
-before_next next (Some v) = elim (cases_Bool (nat_lt v next)) [
-  | inl e ↦ let l : v < next = ltb-true v next e in rw (e, lt-ltb v (next + 1) (omega arith)) refl
-  | inr e ↦
-      let l : next ≤ v = ltb-false v next e in
-      rw e (elim (cases_Bool (v == next)) [
-        | inl k ↦ let same : v ≡ next = eqb-true v next k in rw k (lt-ltb v (next + 1) (omega arith))
-        | inr k ↦ let apart : v ≢ next = eqb-false v next k in rw k (le-ltb v (next + 1) (omega arith))
-      ])
-]
+before_next next finish = grind (arith, nat_tests)
 
 -- by what is sent and what is over it follows whether a result is unsent in the next cycle
 ready_test : (r before done sending : Bool) → (sending ≡ true → (r && before) ≡ true) → (before ≡ true → done ≡ false)
     → (((r && before) && not sending) || (done && r))
     ≡ (not (sending || (done && not (done && r))) && (r && (before || done)))
-ready_test true true done true inside apart = rw (apart refl) refl
-ready_test true true true false inside apart = let z : true ≡ false = apart refl in absurd (cc)
-ready_test true true false false inside apart = refl
-ready_test true false done true inside apart = let z : false ≡ true = inside refl in absurd (cc)
-ready_test true false true false inside apart = refl
-ready_test true false false false inside apart = refl
-ready_test false before done true inside apart = let z : false ≡ true = inside refl in absurd (cc)
-ready_test false before true false inside apart = sym (and_right (not (true && not (true && false))) false refl)
-ready_test false before false false inside apart = refl
+ready_test r before done sending inside apart = grind (arith, nat_tests)
 
 apart_test : (next : ℕ) (finish : Option ℕ) → is_finished_before finish next ≡ true → is_number finish next ≡ false
 apart_test next None e = refl
@@ -150,19 +134,11 @@ apart_test next (Some v) e = let l : v < next = ltb-true v next e in ne_eqb v ne
 unsent_is : (next : ℕ) (o : Option Station) (sending : Bool) → (sending ≡ true → can_send next o ≡ true)
     → ((can_send next o && not sending) || (finishes next o && writes o))
     ≡ (not (sending || (finishes next o && not (finishes next o && writes o))) && can_send (next + 1) o)
-unsent_is next None true inside = let z : false ≡ true = inside refl in absurd (cc)
-unsent_is next None false inside = refl
-unsent_is next (Some s) sending inside = rw (before_next next s.finish) (ready_test (is_some (dest_of s.instr))
-    (is_finished_before s.finish next) (is_number s.finish next) sending inside (apart_test next s.finish))
+unsent_is next o sending h3 = grind (arith, nat_tests)
 
 gone_test : (r before done sending : Bool) → (not r && before) ≡ false
     → (not (sending || (done && not (done && r))) && (not r && (before || done))) ≡ false
-gone_test true before done sending e = and_right (not (sending || (done && not (done && true)))) false refl
-gone_test false true done sending e = let z : true ≡ false = e in absurd (cc)
-gone_test false false true true e = refl
-gone_test false false true false e = refl
-gone_test false false false true e = refl
-gone_test false false false false e = refl
+gone_test r before done sending e = grind (arith, nat_tests)
 
 gone_is : (next : ℕ) (o : Option Station) (sending : Bool) → has_stayed next o ≡ false
     → (not (sending || (finishes next o && not (finishes next o && writes o))) && has_stayed (next + 1) o) ≡ false
@@ -173,11 +149,7 @@ gone_is next (Some s) sending e = rw (before_next next s.finish) (gone_test (is_
 -- what ends doesn't finish later
 ended_later : (next a : ℕ) (o : Option Station) (sending : Bool) → (sending ≡ true → can_send next o ≡ true)
     → (sending || (finishes next o && not (finishes next o && writes o))) ≡ true → finishes (next + 1 + a) o ≡ false
-ended_later next a o sending inside e = elim (or_cases sending _ e) [
-  | inl k ↦ let on : next + (1 + a) ≡ next + 1 + a = omega arith in
-      ap (λ (v : ℕ). finishes v o) (sym on) ∙ sent_before next (1 + a) o (inside k)
-  | inr k ↦ done_once next a o (and_parts (finishes next o) _ k).0
-]
+ended_later next a o sending inside e = grind (arith, nat_tests)
 
 pub leaves_known : (st : Pools) (buses : ℕ) {next due : ℕ} (found sending silent ending : ℕ) {f g : Finishes}
     (h : Finishes) → AreBusy st.slots st.busy st.issue_numbers → IsTimetableOf st.slots next f → HaveTurned f g due
@@ -187,7 +159,8 @@ pub leaves_known : (st : Pools) (buses : ℕ) {next due : ℕ} (found sending si
     → ((x : ℕ) → has ending x ≡ (has sending x || has silent x)) → h.wheel ≡ g.wheel
     → ((x : ℕ) → x < 128 → has h.unsent x ≡ (has g.unsent x && not (has sending x) || has found x))
     → LeavesTimetable st.slots next ending h
-leaves_known st buses {next} {due} found sending silent ending {f} h filled known turned with_result picked but either wheel unsent new sent count after =
+leaves_known st buses {next} {due} found sending silent ending {f} h filled known turned with_result picked but either
+    wheel unsent new sent count after =
     let on : (a x : ℕ) → is_due h.wheel a x ≡ is_due f.wheel (a + 1) x = λ a x. ap (λ (w : List ℕ). is_due w a x) wheel
     ∙ turned.wheel a x in
     let done : AreDone st.slots next due = all_due known turned in

@@ -11,20 +11,21 @@ use Rattle.tomex_cycle.proofs.Known.{all_ahead}
 
 pub free_to : {slots : List (Option Station)} (cycle k : ℕ) {f : Finishes} → IsTimetableOf slots (cycle + 1) f
     → f.unsent ≡ 0 → IsClearTo f.wheel k → IsFree slots cycle (cycle + k)
-free_to {slots} cycle k {f} known none clear x v l from to = elim (cases_Bool (finishes v (slice_index_or slots x None))) [
-  | inr e ↦ e
-  | inl e ↦ elim (cases_Bool (v == cycle)) [
-    | inl h ↦
-        let here : v ≡ cycle = eqb-true v cycle h in
-        absurd (done_now (slice_index_or slots x None) (rw here at e) (sym (known.unsent x (omega arith))
-        ∙ rw none (none_in x)) (known.gone x l))
-    | inr h ↦
-        let later : v ≢ cycle = eqb-false v cycle h in
-        let at : cycle + 1 + (v - cycle - 1) ≡ v = omega arith in
-        absurd (both_ways (is_due f.wheel (v - cycle - 1) x) (clear (v - cycle - 1) x (omega arith)) (all_ahead
-        (v - cycle - 1) x known l ∙ (ap (λ (u : ℕ). finishes u (slice_index_or slots x None)) at ∙ e)))
-  ]
-]
+free_to {slots} cycle k {f} known none clear x v l from to = elim
+    (cases_Bool (finishes v (slice_index_or slots x None))) [
+      | inr e ↦ e
+      | inl e ↦ elim (cases_Bool (v == cycle)) [
+        | inl h ↦
+            let here : v ≡ cycle = eqb-true v cycle h in
+            absurd (done_now (slice_index_or slots x None) (rw here at e) (sym (known.unsent x (omega arith))
+            ∙ rw none (none_in x)) (known.gone x l))
+        | inr h ↦
+            let later : v ≢ cycle = eqb-false v cycle h in
+            let at : cycle + 1 + (v - cycle - 1) ≡ v = omega arith in
+            absurd (both_ways (is_due f.wheel (v - cycle - 1) x) (clear (v - cycle - 1) x (omega arith)) (all_ahead
+            (v - cycle - 1) x known l ∙ (ap (λ (u : ℕ). finishes u (slice_index_or slots x None)) at ∙ e)))
+      ]
+    ]
   where
     of_finish : (finish : Option ℕ) (r : Bool) → is_number finish cycle ≡ true
         → (r && is_finished_before finish (cycle + 1)) ≡ false → (not r && is_finished_before finish (cycle + 1))

@@ -20,8 +20,7 @@ pub are_results : {slots : List (Option Station)} {next : ℕ} (first writing se
     → ((x : ℕ) → x < 128 → has others x ≡ (has first x && not (has results x))) → others ≡ 0 → AreResults slots next
 are_results {slots} {next} first writing served results others {f} known due of branches those but none x l e =
     let now : next + 0 ≡ next = omega arith in
-    let here : has first x ≡ true =
-    due x ∙ (all_ahead 0 x known l ∙ (ap (λ (v : ℕ). finishes v (slice_index_or slots x None)) now ∙ e)) in
+    let here = due x ∙ (all_ahead 0 x known l ∙ (ap (λ (v : ℕ). finishes v (slice_index_or slots x None)) now ∙ e)) in
     let inside = member (has first x) (has results x) here (sym (but x (omega arith)) ∙ rw none (none_in x)) in
     let two = and_parts (has writing x) (not (has served x)) (sym (those x (omega arith)) ∙ inside) in (
       sym (of x (omega arith)) ∙ two.0,

@@ -2,6 +2,7 @@
 use Rattle.std.proofs.Common.{ℕ, ◌+◌, ◌<◌, ◌≤◌, ◌≡◌, ◌∙◌, true, arith, refl, List, Option, None, ap, sym, inl, inr}
 use Rattle.std.proofs.Common.{slice_index_or}
 use Rattle.tomex_cycle.proofs.Words.{nat_lt, ◌⊎◌, if◌then◌else◌, cases_Bool, ltb-true, ltb-false, Loaded, Configuration}
+use Rattle.tomex_cycle.proofs.Words.{nat_tests}
 use Rattle.tomex_cycle.proofs.Words.{EndsWithin, Done, greatest_end, Inner, Progress, CycleOutcome, Running, Ended}
 use Rattle.tomex_cycle.proofs.Words.{progress_of, finishes, GoesOn, SkipsTo, events_in, IsFree, IsSkipped, IsAt}
 use Rattle.tomex_cycle.proofs.Words.{MakesCycle, RunEndsAfter, run_of, first_timed, IsSound, clocks, Station}
@@ -15,10 +16,7 @@ use Rattle.tomex_cycle.proofs.Ticks.{running_low, sound_run}
 
 -- a program that runs on moves, or nothing happens before the next finish
 runs_how : (made : CycleOutcome) → progress_of made ≡ Running → (made ≡ made_as.Active) ⊎ (made ≡ made_as.Settled)
-runs_how made_as.Active e = inl refl
-runs_how made_as.Settled e = inr refl
-runs_how made_as.Ended e = let z : Ended ≡ Running = e in absurd (cc)
-runs_how (made_as.Faulted fault) e = let z : Faulted fault ≡ Running = e in absurd (cc)
+runs_how made h1 = grind (arith, nat_tests)
 
 pub active_not_settled : (made : CycleOutcome) → made ≡ made_as.Active → made ≡ made_as.Settled → ⊥
 active_not_settled made e f = cc
@@ -101,7 +99,4 @@ pub passed_low : {slots : List (Option Station)} {cycle to now before after : �
     → IsSkipped slots cycle to now before after → before ≤ cycle → after ≤ now
 passed_low {cycle} {now} {before} {after} passed low =
     let l : cycle ≤ passed.last_free = passed.least in
-    elim passed.last [
-      | inl here ↦ let e : now ≡ passed.last_free = here.0 in let k : after ≡ before = here.1 in omega arith
-      | inr one ↦ let e : now ≡ passed.last_free + 1 = one.0 in let k : after ≡ before + 1 = one.2 in omega arith
-    ]
+    grind (arith, nat_tests)

@@ -2,6 +2,7 @@
 use Rattle.std.proofs.Common.{ℕ, ◌+◌, ◌<◌, ◌≤◌, ◌≡◌, ◌∙◌, ◌^◌, true, false, arith, refl, List, [], ◌∷◌, ◌++◌}
 use Rattle.std.proofs.Common.{Option, Some, None, ap, sym, inl, inr, append_assoc, length, slice_index}
 use Rattle.tomex_cycle.proofs.Words.{nat_lt, not, ◌||◌, ◌==◌, is_some, w128, bit_at-trailing_zeros, cases_Bool}
+use Rattle.tomex_cycle.proofs.Words.{nat_tests}
 use Rattle.tomex_cycle.proofs.Words.{cases_order, both_ways, ltb-true, ltb-false, and_parts, eq-eqb, eqb-true}
 use Rattle.tomex_cycle.proofs.Words.{get_or_past, Loaded, Configuration, IsWithinLimits, is_number, step_pool, Done}
 use Rattle.tomex_cycle.proofs.Words.{AreTimed, has, IsInIssueOrder, Rises, is_listed, has_one, none_in, AreBusy, Pools}
@@ -60,8 +61,7 @@ order_low end (d ∷ older) x few e = low_by end d older x (place_of d) refl few
         | inl k ↦ let same : p ≡ x = eqb-true p x k in rw (← same) (place_low (step_pool d.step) d.at.station p few.0 f)
         | inr k ↦
             let there : is_listed (order_of end older ++ (p ∷ [])) x ≡ true = rw (l, f) at e in
-            let here : (is_listed (order_of end older) x || ((p == x) || false)) ≡ true =
-            sym (in-append (order_of end older) (p ∷ []) x) ∙ there in
+            let here = sym (in-append (order_of end older) (p ∷ []) x) ∙ there in
             before (sym (rw k (or_false (is_listed (order_of end older) x))) ∙ here)
       ]
     ]
@@ -118,14 +118,7 @@ below_by : {issue_numbers : List ℕ} {end : ℕ} (p x : ℕ) (d : Done) {older 
     → AreOlder issue_numbers end older → slice_index issue_numbers p ≡ length older
     → (is_listed (order_of end older) x || ((p == x) || false)) ≡ true
     → slice_index issue_numbers x < length (d ∷ older)
-below_by {issue_numbers} {end} p x d {older} before issue_number k = elim (cases_Bool (is_listed (order_of end older) x)) [
-  | inl m ↦ let l : slice_index issue_numbers x < length older = before.below x m in omega arith
-  | inr m ↦ elim (cases_Bool (p == x)) [
-    | inl q ↦ let same : p ≡ x = eqb-true p x q in let f : slice_index issue_numbers x ≡ length older =
-        rw same at issue_number in omega arith
-    | inr q ↦ let z : false ≡ true = rw (m, q) at k in absurd (cc)
-  ]
-]
+below_by {issue_numbers} {end} p x d {older} before issue_number k = grind (arith, nat_tests)
 
 order_rises : (i : Loaded) (config : Configuration) (c : Clocks) (h newer part : List Done) (st : Pools)
     → IsWithinLimits config → AreTimed config h → AreIssuedBy (c.end + 1) h → ShowsStations i c h st → h ≡ newer ++ part
@@ -161,8 +154,8 @@ order_rises i config c h newer (d ∷ older) st good timed issued shown e =
               let by : AreIssuedBy (c.end + 1) (newer ++ (d ∷ older)) = rw e at issued in
               let held : holds_place c.end p d ≡ true = rw (f, l, eq-eqb p p refl) refl in
               let small : p < 96 = place_low (step_pool d.step) d.at.station p (part_low newer d older good here) f in
-              let issue_number : slice_index st.issue_numbers p ≡ length older = shown.issue_numbers p small ∙
-              (ap (λ xs. issue_number_at xs p) e ∙ number_here c.end p newer d older good here by held) in
+              let issue_number : slice_index st.issue_numbers p ≡ length older = shown.issue_numbers p small
+              ∙ (ap (λ xs. issue_number_at xs p) e ∙ number_here c.end p newer d older good here by held) in
               let order : order_of c.end (d ∷ older) ≡ order_of c.end older ++ (p ∷ []) = rw (l, f) refl in
               record {
                 rises = rw order (rises-append st.issue_numbers (order_of c.end older) p before.rises

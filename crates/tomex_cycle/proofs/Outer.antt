@@ -226,8 +226,8 @@ over_at {config} {i} {n} {rg = rg} {ft} {m} t run shot l =
       base = base ∙ sym (ap (λ x. x.window.base) leaves.image);
       bytes = same_memory i (first_steps i n) s m.bytes leaves state (record {
         count = size;
-        each = λ a low high. rw base at (shot.bytes.bytes a low high) ∙ (bytes_ended i t (greatest_end h) a h by l ∙
-            (ap (λ xs. byte_after i xs a) steps ∙ bytes_kept i last.0 (first_steps i n) a no_store));
+        each = λ a low high. rw base at (shot.bytes.bytes a low high) ∙ (bytes_ended i t (greatest_end h) a h by l
+            ∙ (ap (λ xs. byte_after i xs a) steps ∙ bytes_kept i last.0 (first_steps i n) a no_store));
       });
     }
 

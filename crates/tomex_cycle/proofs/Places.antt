@@ -3,6 +3,7 @@ use Rattle.std.proofs.Common.{ℕ, ◌+◌, ◌*◌, ◌<◌, ◌≤◌, ◌≡�
 use Rattle.std.proofs.Common.{Option, Some, None, sym, inl, inr, append_assoc}
 use Rattle.std.proofs.lemmas.List.{append-nil}
 use Rattle.tomex_cycle.proofs.Words.{nat_lt, nat_le, ◌&&◌, ◌==◌, not, MatchOption, ⊤, list_all, cases_Bool, cases_order}
+use Rattle.tomex_cycle.proofs.Words.{nat_tests}
 use Rattle.tomex_cycle.proofs.Words.{ltb-true, le-leb, both_ways, and_parts, eqb-true, eq-eqb, ne_eqb, and_right}
 use Rattle.tomex_cycle.proofs.Words.{Loaded, Configuration, IsWithinLimits, stations_of, PoolId, place_of_pool, is_in}
 use Rattle.tomex_cycle.proofs.Words.{is_number, step_pool, Done, AreTimed, IsLeast, least, has_station, is_free}
@@ -58,22 +59,11 @@ low config (d ∷ older) good timed = (
 )
 
 pub pool_low : (p : PoolId) → place_of_pool p < 6
-pool_low pools.Alu = omega arith
-pool_low pools.Mul = omega arith
-pool_low pools.Div = omega arith
-pool_low pools.Load = omega arith
-pool_low pools.Store = omega arith
-pool_low pools.Bru = omega arith
+pool_low p = grind (arith, nat_tests)
 
 pub place_low : (pool : Option PoolId) (station : Option ℕ) (x : ℕ) → ((n : ℕ) → station ≡ Some n → n < 16)
     → place_at (tag_at pool station) ≡ Some x → x < 96
-place_low None station x few e = absurd (cc)
-place_low (Some p) None x few e = absurd (cc)
-place_low (Some p) (Some n) x few e =
-    let f : 16 * place_of_pool p + n ≡ x = cc in
-    let a : n < 16 = few n refl in
-    let b : place_of_pool p < 6 = pool_low p in
-    omega arith
+place_low pool station x h3 h4 = grind (arith, nat_tests)
 
 -- nobody holds the place after the cycle
 abbrev pub is_vacant : ℕ → ℕ → List Done → Bool
@@ -116,12 +106,7 @@ free_here : (older : List Done) (pool : Option PoolId) (station : Option ℕ) (i
     → station ≡ Some n
     → MatchOption pool (station ≡ None) (λ p. (n : ℕ) × (station ≡ Some n) × IsLeast (is_free p older issue) n)
     → is_free p older issue n ≡ true
-free_here older None station issue n p a b is = absurd (cc)
-free_here older (Some q) station issue n p a b is =
-    let f : station ≡ Some is.0 = is.1 in
-    let g : is.0 ≡ n = cc in
-    let s : q ≡ p = cc in
-    rw (← s, ← g) is.2.0
+free_here older pool station issue n p h6 h7 h8 = grind (arith, nat_tests)
 
 -- a step's place is vacant of older ones as long as it is the step's
 pub vacant : {config : Configuration} (d : Done) (older : List Done) (end x : ℕ) → IsWithinLimits config
@@ -179,30 +164,13 @@ order-append end (d ∷ newer) h = elim (cases_Bool (nat_lt end d.at.end)) [
 
 -- the least number that passes is this one
 pub least_test : (p : ℕ → Bool) (a u : ℕ) → IsLeast p a → u ≤ a → p u ≡ (a == u)
-least_test p a u l le = elim (cases_order a u) [
-  | inl e ↦ let h : p a ≡ true = l.0 in rw (eq-eqb a u e, ← e) h
-  | inr (inl k) ↦ absurd (omega arith)
-  | inr (inr k) ↦ rw (l.1 u k, ne_eqb a u (λ (e : a ≡ u). absurd (omega arith))) refl
-]
+least_test p a u l le = grind (arith, nat_tests)
 
 -- Tables.
 
 same_tag : (p q : PoolId) (m n : ℕ) → m < 16 → n < 16 → (16 * place_of_pool q + n == 16 * place_of_pool p + m)
     ≡ ((place_of_pool q == place_of_pool p) && (n == m))
-same_tag p q m n a b = elim (cases_Bool (16 * place_of_pool q + n == 16 * place_of_pool p + m)) [
-  | inl e ↦ let f : 16 * place_of_pool q + n ≡ 16 * place_of_pool p + m = eqb-true _ _ e in
-      rw (e, eq-eqb (place_of_pool q) (place_of_pool p) (omega arith), eq-eqb n m (omega arith)) refl
-  | inr e ↦ elim (cases_Bool (place_of_pool q == place_of_pool p)) [
-    | inr f ↦ rw (e, f) refl
-    | inl f ↦ elim (cases_Bool (n == m)) [
-      | inr g ↦ rw (e, f, g) refl
-      | inl g ↦
-          let a : place_of_pool q ≡ place_of_pool p = eqb-true _ _ f in
-          let b : n ≡ m = eqb-true _ _ g in
-          absurd (both_ways _ e (eq-eqb _ _ (omega arith)))
-    ]
-  ]
-]
+same_tag p q m n a b = grind (arith, nat_tests)
 
 pub same_place : (p : PoolId) (m : ℕ) (pool : Option PoolId) (station : Option ℕ) → m < 16
     → ((n : ℕ) → station ≡ Some n → n < 16) → is_number (place_at (tag_at pool station)) (16 * place_of_pool p + m)
@@ -212,9 +180,4 @@ same_place p m (Some q) None a b = sym (and_right (place_of_pool q == place_of_p
 same_place p m (Some q) (Some n) a b = same_tag p q m n a (b n refl)
 
 pub turn_and : (a b c : Bool) → ((true && a) && b && c) ≡ ((b && c) && a)
-turn_and true true true = refl
-turn_and true true false = refl
-turn_and true false c = refl
-turn_and false true true = refl
-turn_and false true false = refl
-turn_and false false c = refl
+turn_and a b c = grind (arith, nat_tests)

@@ -2,6 +2,7 @@
 use Rattle.std.proofs.Common.{ℕ, zero, suc, ◌+◌, ◌-◌, ◌<◌, ◌≤◌, ◌≡◌, ◌∙◌, Bool, true, false, arith, refl, List, [], ◌∷◌}
 use Rattle.std.proofs.Common.{Option, Some, None, ap, sym, inl, inr}
 use Rattle.tomex_cycle.proofs.Words.{◌≢◌, nat_lt, nat_le, ◌==◌, not, ◌&&◌, ◌||◌, is_some, count_by, if◌then◌else◌}
+use Rattle.tomex_cycle.proofs.Words.{nat_tests}
 use Rattle.tomex_cycle.proofs.Words.{MatchOption, MatchBool, AllByRecursion, cases_Bool, cases_order, both_ways, lt-ltb}
 use Rattle.tomex_cycle.proofs.Words.{ltb-true, le-leb, lt-leb, leb-true, leb-false, ne_eqb, and_parts, and_from}
 use Rattle.tomex_cycle.proofs.Words.{and_right, sum_by-cons, Configuration, IsWithinLimits, option_of, PoolId, UnitId}
@@ -114,8 +115,7 @@ source_quiet v h None l quiet e = omega arith
 source_quiet v h (Some o) l quiet e = writer_quiet v o.register h l quiet e
 
 or_less : (a : Bool) (f v : ℕ) → (not a || nat_lt f (v + 1)) ≡ true → f ≢ v → (not a || nat_lt f v) ≡ true
-or_less true f v e apart = less f v e apart
-or_less false f v e apart = refl
+or_less a f v e apart = grind (arith, nat_tests)
 
 -- what has finished before the next cycle has before this one
 branches_quiet : (v : ℕ) (h : List Done) → AllAtRest v h → are_branches_finished h (v + 1) ≡ true
@@ -134,10 +134,7 @@ conflicts_quiet v (d ∷ h) s quiet e =
     and_from _ _ (or_less (conflicts d.step s) d.at.finish v two.0 quiet.0.finish) (conflicts_quiet v h s quiet.1 two.1)
 
 held_quiet : (v end : ℕ) → end ≢ v → nat_le (v + 1) end ≡ nat_le v end
-held_quiet v end apart = elim (cases_Bool (nat_le v end)) [
-  | inl e ↦ let k : v ≤ end = leb-true v end e in rw (e, le-leb (v + 1) end (omega arith)) refl
-  | inr e ↦ let k : end < v = leb-false v end e in rw (e, lt-leb (v + 1) end (omega arith)) refl
-]
+held_quiet v end apart = grind (arith, nat_tests)
 
 holders_quiet : (v : ℕ) (pool : PoolId) (h : List Done) → AllAtRest v h
     → count_by (is_held pool (v + 1)) h ≡ count_by (is_held pool v) h
@@ -279,14 +276,7 @@ address_by v h x at false l quiet i timed e = let k : at.address ≡ None = time
 -- what starts after u, and in none of the cycles from u to v + 1, finishes after v + 1
 finish_by : (u v start finish : ℕ) → u ≤ v → ((k : ℕ) → u ≤ k → k ≤ v → start ≢ k) → start ≢ v + 1 → start ≤ finish
     → (start ≤ u → finish ≢ v + 1) → finish ≢ v + 1
-finish_by u v start finish l never next order free e = elim (cases_Bool (nat_le start u)) [
-  | inl k ↦ free (leb-true start u k) e
-  | inr k ↦
-      let late : u < start = leb-false start u k in
-      never start (omega arith) (let z : start ≡ v + 1 → ⊥ = next in
-      elim (cases_order start (v + 1))
-      [ inl same ↦ absurd (z same) | inr (inl m) ↦ omega arith | inr (inr m) ↦ omega arith ]) refl
-]
+finish_by u v start finish l never next order free e = grind (arith, nat_tests)
 
 pub quiet_next : {config : Configuration} (u v : ℕ) (h : List Done) → IsWithinLimits config → AreTimed config h → 0 < u
     → u ≤ v → AllQuietTo u v h → AllFree u (v + 1) h → AllQuiet (v + 1) h
@@ -349,10 +339,7 @@ quiet_settles {config} u (d ∷ h) good timed l quiet =
 -- what finishes in the next one had started by this one
 settled_finish : (P : Type 0) (u start finish : ℕ) → start ≢ u + 1 → start ≤ finish → (start ≤ u → finish ≡ u + 1 → P)
     → finish ≡ u + 1 → P
-settled_finish P u start finish later order due e = elim (cases_Bool (nat_le start u)) [
-  | inl k ↦ due (leb-true start u k) e
-  | inr k ↦ let late : u < start = leb-false start u k in absurd (later (omega arith))
-]
+settled_finish P u start finish later order due e = grind (arith, nat_tests)
 
 -- nothing falls in the next one but such finishes, where all that finishes in it is so, and what is so has a result to
 -- send

@@ -5,6 +5,7 @@ use Rattle.std.proofs.Common.{ℕ, ◌+◌, ◌<◌, ◌≤◌, ◌≡◌, ◌�
 use Rattle.std.proofs.Common.{Some, None, ap, sym, inl, inr, append_assoc, slice_index_or}
 use Rattle.std.proofs.lemmas.Bool.{MatchBool-at_true}
 use Rattle.tomex_cycle.proofs.Words.{◌≢◌, nat_lt, nat_le, ◌&&◌, ◌==◌, if◌then◌else◌, is_some, MatchOption, cases_Bool}
+use Rattle.tomex_cycle.proofs.Words.{nat_tests}
 use Rattle.tomex_cycle.proofs.Words.{both_ways, le-ltb, lt-ltb, ltb-true, ltb-false, le-leb, lt-leb, and_from}
 use Rattle.tomex_cycle.proofs.Words.{and_parts, eq-eqb, Loaded, Configuration, IsWithinLimits, UnitId, dest_of}
 use Rattle.tomex_cycle.proofs.Words.{address_of, is_branch, is_number, step_pool, step_unit, j_of, k_of, Done, cycle_of}
@@ -49,23 +50,16 @@ left_empty i t u x (n ∷ newer) d older good timed issued e held over = elim (c
 
 not_begun : (t u start finish : ℕ) → u ≡ t + 1 → (if nat_le start t then Some finish else None)
     ≡ (if nat_le start u then Some finish else None) → start ≢ u
-not_begun t u start finish e same at =
-    let f : None ≡ Some finish = rw (lt-leb start t (omega arith), le-leb start u (omega arith)) at same in
-    some_not_none finish (sym f)
+not_begun t u start finish e same = grind (arith, nat_tests)
 
 not_given : (t u a address : ℕ) (memory : Bool) → u ≡ t + 1 → (memory ≡ false → a ≡ 0)
     → (if memory && nat_le a t then Some address else None) ≡ (if memory && nat_le a u then Some address else None)
     → a ≢ u
-not_given t u a address false e none same at = let z : a ≡ 0 = none refl in omega arith
-not_given t u a address true e none same at =
-    let f : None ≡ Some address = rw (lt-leb a t (omega arith), le-leb a u (omega arith)) at same in
-    some_not_none address (sym f)
+not_given t u a address memory e none same = grind (arith, nat_tests)
 
 not_done : (u v start finish : ℕ) → start ≤ u → is_number (if nat_le start u then Some finish else None) v ≡ false
     → finish ≢ v
-not_done u v start finish l none e =
-    let f : (finish == v) ≡ false = rw (le-leb start u l) at none in
-    both_ways (finish == v) f (eq-eqb finish v e)
+not_done u v start finish l none = grind (arith, nat_tests)
 
 -- what has ended by a cycle has nothing left in the next one
 over_quiet : {config : Configuration} (t u : ℕ) (d : Done) (older : List Done) → IsWithinLimits config
@@ -97,11 +91,9 @@ busy_quiet {i} {config} t u {new} {h} newer d older good timed issued e before a
     let at = seen t newer d older good timed issued before split late in
     elim (cases_Bool (nat_lt u d.at.end)) [
       | inr l ↦
-          let none : slice_index_or new.slots at.x None ≡ None =
-          after.slots at.x at.small ∙ (ap (λ xs. station_at i (clocks u u u) xs at.x) split
-          ∙ left_empty i t u at.x newer d older good here by e at.held (ltb-false u d.at.end l)) in
-          let some : slice_index_or new.slots at.x None ≡ Some (station_of i (clocks t t t) d older) =
-          ap (λ xs. slice_index_or xs at.x None) same ∙ at.slot in
+          let none = after.slots at.x at.small ∙ (ap (λ xs. station_at i (clocks u u u) xs at.x) split ∙ left_empty i t
+          u at.x newer d older good here by e at.held (ltb-false u d.at.end l)) in
+          let some = ap (λ xs. slice_index_or xs at.x None) same ∙ at.slot in
           absurd (some_not_none (station_of i (clocks t t t) d older) (sym some ∙ none))
       | inl l ↦
           let more : AreIssuedBy u h = issued_more t u h (omega arith) issued in
@@ -114,8 +106,7 @@ busy_quiet {i} {config} t u {new} {h} newer d older good timed issued e before a
           let address : cycle_of d.at.address ≢ u = not_given t u (cycle_of d.at.address) (address_of d.step)
           (is_memory d.step) e (no_address d part.0) (ap (λ (s : Station). s.address) stays) in
           let order : d.at.start ≤ d.at.finish = (reach d older good part).order in
-          let none : is_number (if nat_le d.at.start u then Some d.at.finish else None) u ≡ false =
-          ap (finishes u) (sym now.slot) ∙ free now.x now.small in
+          let none = ap (finishes u) (sym now.slot) ∙ free now.x now.small in
           let i0 : d.at.issue ≤ t = (issued_part t newer (d ∷ older) (rw split at issued)).0 in
           let k : u < d.at.end = ltb-true u d.at.end l in
           record {
@@ -154,8 +145,7 @@ waits_before i config u d older timed issued e = of (step_unit d.step) timed.0.s
         → is_waiting (station_of i (clocks u u u) d older) ≡ true
     of None s = let same : d.at.start ≡ d.at.issue = s in let past : d.at.issue ≤ u = issued.0 in absurd (omega arith)
     of (Some k) s =
-        let now : can_start config older d.step k d.at.issue (cycle_of d.at.address) (u + 1) ≡ true =
-        ap (λ (v : ℕ). can_start config older d.step k d.at.issue (cycle_of d.at.address) v) (sym e) ∙ s.0 in
+        let now = ap (λ (v : ℕ). can_start config older d.step k d.at.issue (cycle_of d.at.address) v) (sym e) ∙ s.0 in
         let p = and_parts (nat_lt d.at.issue (u + 1) && nat_lt (cycle_of d.at.address) (u + 1) && has_operands older
         d.step (u + 1) && are_conflicts_finished older d.step (u + 1)) (has_unit config older k (u + 1)) now in
         let q = and_parts (nat_lt d.at.issue (u + 1) && nat_lt (cycle_of d.at.address) (u + 1) && has_operands older
@@ -196,11 +186,9 @@ busy_settled {i} {config} t u {new} {h} newer d older good timed issued e before
     let at = held_at newer d older good timed issued before split late in
     elim (cases_Bool (nat_lt u d.at.end)) [
       | inr l ↦
-          let none : slice_index_or new.slots at.x None ≡ None =
-          after.slots at.x at.small ∙ (ap (λ xs. station_at i (clocks u u u) xs at.x) split
-          ∙ left_empty i t u at.x newer d older good here by e at.held (ltb-false u d.at.end l)) in
-          let some : slice_index_or new.slots at.x None ≡ Some (station_of i (clocks u t t) d older) =
-          ap (λ xs. slice_index_or xs at.x None) same ∙ at.slot in
+          let none = after.slots at.x at.small ∙ (ap (λ xs. station_at i (clocks u u u) xs at.x) split ∙ left_empty i t
+          u at.x newer d older good here by e at.held (ltb-false u d.at.end l)) in
+          let some = ap (λ xs. slice_index_or xs at.x None) same ∙ at.slot in
           absurd (some_not_none (station_of i (clocks u t t) d older) (sym some ∙ none))
       | inl l ↦
           let more : AreIssuedBy u h = issued_more t u h (omega arith) issued in
@@ -212,10 +200,8 @@ busy_settled {i} {config} t u {new} {h} newer d older good timed issued e before
           let address : cycle_of d.at.address ≢ u = not_given t u (cycle_of d.at.address) (address_of d.step)
           (is_memory d.step) e (no_address d part.0) (ap (λ (s : Station). s.address) stays) in
           let order : d.at.start ≤ d.at.finish = (reach d older good part).order in
-          let none : is_number (if nat_le d.at.start u then Some d.at.finish else None) u ≡ false =
-          ap (finishes u) (sym now.slot) ∙ free now.x now.small in
-          let rests : is_waiting (station_of i (clocks u u u) d older) ≡ false =
-          ap waits (sym now.slot) ∙ idle now.x now.small in
+          let none = ap (finishes u) (sym now.slot) ∙ free now.x now.small in
+          let rests = ap waits (sym now.slot) ∙ idle now.x now.small in
           let i0 : d.at.issue ≤ t = (issued_part t newer (d ∷ older) (rw split at issued)).0 in
           let past : AreIssuedBy u (d ∷ older) = issued_part u newer (d ∷ older) (rw split at more) in
           let k : u < d.at.end = ltb-true u d.at.end l in
@@ -255,17 +241,7 @@ start_after config d older (Some u) timed = let l : d.at.issue < d.at.start =
 
 address_after : {config : Configuration} (d : Done) {older : List Done} (u : ℕ) → IsTimed config older d.step d.at
     → u < d.at.issue → cycle_of d.at.address ≡ u → 0 < u → ⊥
-address_after d {older} u timed l e low = elim (cases_Bool (is_memory d.step)) [
-  | inr m ↦ let z : cycle_of d.at.address ≡ 0 = no_address d timed m in omega arith
-  | inl m ↦
-      let least : IsLeast (can_address older d.step d.at.issue) (cycle_of d.at.address) =
-      MatchBool-at_true _ (d.at.address ≡ None) m timed.address in
-      let two = and_parts (nat_lt d.at.issue (cycle_of d.at.address) && nat_lt (source_end older (j_of d.step))
-      (cycle_of d.at.address)) (nat_lt (last_address older) (cycle_of d.at.address)) least.0 in
-      let k : d.at.issue < cycle_of d.at.address = ltb-true _ _ (and_parts (nat_lt d.at.issue (cycle_of d.at.address))
-      (nat_lt (source_end older (j_of d.step)) (cycle_of d.at.address)) two.0).0 in
-      omega arith
-]
+address_after d {older} u timed l e low = grind (arith, nat_tests)
 
 start_apart : (config : Configuration) (d : Done) (older : List Done) (u : ℕ) (unit : Option UnitId)
     → MatchOption unit (d.at.start ≡ d.at.issue) (λ k. IsLeast (can_start config older d.step k d.at.issue (cycle_of

@@ -16,7 +16,8 @@ pub cycle_settles : {i : Loaded} {config : Configuration} {n t next count c : �
     → next ≡ t + 1 → IsSnapshot i config n t count st0 rg0 ft0 m0 → IsSnapshot i config n next c st4 rg1 ft1 m1
     → c ≡ count → st4.slots ≡ st1.slots → (any ≡ false) ⊎ NoneWaits st4.slots → IsTimetableOf st4.slots (next + 1) f
     → f.unsent ≡ 0 → AllSettled next (first_timed config i c)
-cycle_settles {i} {config} {n} {t} {next} {count} {c} fault any {st0} st1 {st4} {rg0} {ft0} {m0} starts none run e old now same slots how known unsent =
+cycle_settles {i} {config} {n} {t} {next} {count} {c} fault any {st0} st1 {st4} {rg0} {ft0} {m0} starts none run e old
+    now same slots how known unsent =
     let timed : AreTimed config (first_timed config i c) = run_timed i c run.lawful in
     let before : IsSnapshot i config n t c st0 rg0 ft0 m0 =
     subst (λ (k : ℕ). IsSnapshot i config n t k st0 rg0 ft0 m0) (let z : count ≡ c = omega arith in z) old in

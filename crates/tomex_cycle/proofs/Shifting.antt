@@ -2,6 +2,7 @@
 use Rattle.std.proofs.Common.{ℕ, zero, suc, ◌+◌, ◌-◌, ◌<◌, ◌≤◌, ◌≡◌, ◌∙◌, true, arith, refl, List, [], ◌∷◌, ◌++◌}
 use Rattle.std.proofs.Common.{Option, Some, None, ap, inl, inr, subst}
 use Rattle.tomex_cycle.proofs.Words.{◌≢◌, nat_lt, nat_le, ◌&&◌, AllByRecursion, both_ways, cases_Bool, le-ltb, ltb-true}
+use Rattle.tomex_cycle.proofs.Words.{nat_tests}
 use Rattle.tomex_cycle.proofs.Words.{ltb-false, le-leb, leb-true, leb-false, Loaded, Configuration, Operand, end_of}
 use Rattle.tomex_cycle.proofs.Words.{Bytes, is_branch, is_number, step_dest, j_of, k_of, Done, cycle_of, times_of}
 use Rattle.tomex_cycle.proofs.Words.{field_of, field_from, producer, times_are, Fetch, IsSnapshot, IsYetToIssue}
@@ -30,26 +31,10 @@ abbrev pub AllSteadyAfter : ℕ → ℕ → List Done → Type 0
 AllSteadyAfter u w h = (k : ℕ) → u < k → k ≤ w → AllSteady k h
 
 le_alike : (x u w : ℕ) → u ≤ w → ((k : ℕ) → u < k → k ≤ w → x ≢ k) → nat_le x u ≡ nat_le x w
-le_alike x u w l never = elim (cases_Bool (nat_le x u)) [
-  | inl e ↦ let k : x ≤ u = leb-true x u e in rw (e, le-leb x w (omega arith)) refl
-  | inr e ↦
-      let k : u < x = leb-false x u e in
-      elim (cases_Bool (nat_le x w)) [
-        | inl f ↦ absurd (never x k (leb-true x w f) refl)
-        | inr f ↦ rw (e, f) refl
-      ]
-]
+le_alike x u w l never = grind (arith, nat_tests)
 
 lt_alike : (x u w : ℕ) → u ≤ w → ((k : ℕ) → u < k → k ≤ w → x ≢ k) → nat_lt u x ≡ nat_lt w x
-lt_alike x u w l never = elim (cases_Bool (nat_lt u x)) [
-  | inr e ↦ let k : x ≤ u = ltb-false u x e in rw (e, le-ltb w x (omega arith)) refl
-  | inl e ↦
-      let k : u < x = ltb-true u x e in
-      elim (cases_Bool (nat_lt w x)) [
-        | inr f ↦ absurd (never x k (ltb-false w x f) refl)
-        | inl f ↦ rw (e, f) refl
-      ]
-]
+lt_alike x u w l never = grind (arith, nat_tests)
 
 pub all_alike : (u w : ℕ) (h : List Done) → u ≤ w → AllSteadyAfter u w h → AllAlike u w h
 all_alike u w [] l steady = tt
@@ -99,11 +84,7 @@ byte_alike i u w a [] same = refl
 byte_alike i u w a (d ∷ older) same = rw (same.0.start, byte_alike i u w a older same.1) refl
 
 fetch_alike : (i : Loaded) (u w : ℕ) (h : List Done) → AllAlike u w h → fetch_of i u h ≡ fetch_of i w h
-fetch_alike i u w [] same = refl
-fetch_alike i u w (d ∷ older) same = elim (cases_Bool (is_branch d.step)) [
-  | inl e ↦ rw e (ap (λ b. fetch_after d.step b (end_of d.step)) (same.0.finish e))
-  | inr e ↦ rw e refl
-]
+fetch_alike i u w h h4 = grind (arith, nat_tests)
 
 -- a run's beginning is a part of the run
 pub run_part : {config : Configuration} {i : Loaded} {n : ℕ} (k j : ℕ) → RunEndsAfter i config n → j + k ≤ n + 1

@@ -4,6 +4,7 @@ use Rattle.std.proofs.Common.{Option, Some, None, ap, sym, inl, inr, length, sli
 use Rattle.std.proofs.lemmas.List.{ext_get_or}
 use Rattle.std.proofs.lemmas.List.FromFn.{get_or-map-range_with_len, length-map-range_with_len}
 use Rattle.tomex_cycle.proofs.Words.{nat_lt, nat_le, if◌then◌else◌, ◌&&◌, map, filter_map, range_with_len, cases_Bool}
+use Rattle.tomex_cycle.proofs.Words.{nat_tests}
 use Rattle.tomex_cycle.proofs.Words.{cases_order, ltb-true, ltb-false, le-leb, lt-leb, Loaded, Configuration, is_in}
 use Rattle.tomex_cycle.proofs.Words.{is_number, step_pool, step_dest, address_of, Busy, Tag, Done, cycle_of, is_memory}
 use Rattle.tomex_cycle.proofs.Words.{Tables, tables_of, shown, qi_of, producer, all_tags, place_of_pool, AreIssuedBy}
@@ -17,11 +18,7 @@ use Rattle.tomex_tags.specs.Places.{pool_at, tag_at_place}
 a_same : (t imm address cycle : ℕ) (memory : Bool)
     → (if memory then Some (if nat_lt t cycle then imm else address) else None)
     ≡ a_from memory (if memory && nat_le cycle t then Some address else None) imm
-a_same t imm address cycle false = refl
-a_same t imm address cycle true = elim (cases_Bool (nat_lt t cycle)) [
-  | inl e ↦ let l : t < cycle = ltb-true _ _ e in rw (e, lt-leb cycle t l) refl
-  | inr e ↦ let l : cycle ≤ t = ltb-false _ _ e in rw (e, le-leb cycle t l) refl
-]
+a_same t imm address cycle memory = grind (arith, nat_tests)
 
 busy_same : (i : Loaded) (t : ℕ) (tag : Tag) (d : Done) (older : List Done)
     → busy_of t tag d older ≡ busy_from tag (station_of i (clocks t t t) d older)
@@ -113,8 +110,7 @@ tables_is {i} {config} {t} {h} {rg} busy tables past issued slots status count e
     let p : place_of_tag (tag_at_place x) ≡ x = place_back x l in
     let s = shown_is i t (tag_at_place x) h (omega arith) (low config h past.lawful past.timed) issued in
     each x l ∙ (ap (option_map (busy_from (tag_at_place x))) (slots.slots x l) ∙ sym (rw p at s))) in
-    let b : tables.busy ≡ filter_map (shown t h) all_tags =
-    shows ∙ (ap (filter_map (λ (x : Option Busy). x)) a ∙ (filter_map-map f (λ x. x) (range_with_len 0 96) ∙ sym
+    let b = shows ∙ (ap (filter_map (λ (x : Option Busy). x)) a ∙ (filter_map-map f (λ x. x) (range_with_len 0 96) ∙ sym
     (filter_map-map tag_at_place (shown t h) (range_with_len 0 96)))) in
     let c : tables.registers ≡ map (qi_of t h) (range_with_len 0 32) =
     registers ∙ list_by 32 rg.tags (qi_of t h) status.status (λ r l. status.tags r l ∙ sym (qi_is t h r issued)) in

@@ -1,7 +1,9 @@
 -- The sets of the operations that can start, by kind of unit.
 use Rattle.std.proofs.Common.{ℕ, ◌<◌, ◌≡◌, ◌∙◌, Bool, true, false, refl, List, [], ◌∷◌, ◌++◌, Option, Some, None, ap}
+use Rattle.std.proofs.Common.{arith}
 use Rattle.std.proofs.Common.{sym, inl, inr, slice_index, slice_index_or}
 use Rattle.tomex_cycle.proofs.Words.{◌==◌, ◌≢◌, ◌&&◌, ◌||◌, not, is_none, is_some, cases_Bool, both_ways, and_parts}
+use Rattle.tomex_cycle.proofs.Words.{nat_tests}
 use Rattle.tomex_cycle.proofs.Words.{eqb-true, eqb-false, is_in, is_number, has, IsWithout, IsInIssueOrder, IsPicked}
 use Rattle.tomex_cycle.proofs.Words.{Configuration, option_of, pool_of, unit_at, unit_of, place_of_unit, PoolId, UnitId}
 use Rattle.tomex_cycle.proofs.Words.{is_of, none_in, inside_left, none_picked, no_option, is_memory_op, is_waiting}
@@ -23,17 +25,11 @@ use Rattle.tomex_cycle.proofs.StartsPicked.{unit_same}
 
 no_kind : (w c : Bool) (u : Option UnitId) (unit : UnitId) → (w && is_of unit u) ≡ false
     → is_number (kind_if (w && c) (kind_of u)) (place_of_unit unit) ≡ false
-no_kind false c u unit e = refl
-no_kind true false u unit e = refl
-no_kind true true None unit e = refl
-no_kind true true (Some v) unit e = e
+no_kind w c u unit h4 = grind (arith, nat_tests)
 
 one_kind : (w c : Bool) (u : Option UnitId) (unit : UnitId) → (w && is_of unit u) ≡ true
     → is_number (kind_if (w && c) (kind_of u)) (place_of_unit unit) ≡ c
-one_kind false c u unit e = absurd (both_ways false refl e)
-one_kind true false u unit e = refl
-one_kind true true None unit e = sym (absurd (both_ways false refl e))
-one_kind true true (Some v) unit e = e
+one_kind w c u unit h4 = grind (arith, nat_tests)
 
 -- what waits for no unit of this kind wants none
 wants_not : (slots : List (Option Station)) (older : List ℕ) (next : ℕ) (unit : UnitId) (o : Option Station)
@@ -122,13 +118,7 @@ all_cleared {st} {waiting} {rest} filled of so empty = record {
 -- Units of the other kinds.
 
 memory_unit : (o : Option PoolId) → (is_in pools.Load o || is_in pools.Store o) ≡ is_of units.Mem (unit_at o)
-memory_unit None = refl
-memory_unit (Some pools.Alu) = refl
-memory_unit (Some pools.Mul) = refl
-memory_unit (Some pools.Div) = refl
-memory_unit (Some pools.Load) = refl
-memory_unit (Some pools.Store) = refl
-memory_unit (Some pools.Bru) = refl
+memory_unit o = grind (arith, nat_tests)
 
 -- Memory operations of which none is in another's way.
 
@@ -161,12 +151,7 @@ all_waiting st next waiting filled of clear = record {
 -- An operation of another kind needs no access.
 
 other_unit : (unit : UnitId) (u : Option UnitId) → unit ≢ units.Mem → is_of unit u ≡ true → is_of units.Mem u ≡ false
-other_unit unit None apart e = refl
-other_unit unit (Some v) apart e = elim (cases_Bool (place_of_unit v == place_of_unit units.Mem)) [
-  | inr f ↦ f
-  | inl f ↦ absurd (apart (unit_same unit units.Mem (sym (eqb-true (place_of_unit v) (place_of_unit unit) e)
-      ∙ eqb-true (place_of_unit v) (place_of_unit units.Mem) f)))
-]
+other_unit unit u h2 h3 = grind (arith, nat_tests)
 
 no_bytes : (s : Station) (a : Option ℕ) → is_memory_op s.instr.op ≡ false → bytes_from s.instr.op a ≡ None
 no_bytes s None e = refl

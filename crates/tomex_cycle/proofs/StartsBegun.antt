@@ -2,6 +2,7 @@
 use Rattle.std.proofs.Common.{length, slice_index_or, slice_set, ℕ, ◌+◌, ◌<◌, ◌≡◌, ◌∙◌, Bool, true, false, arith, refl}
 use Rattle.std.proofs.Common.{Option, Some, None, ap, sym, inl, inr, ◌≤◌}
 use Rattle.tomex_cycle.proofs.Words.{nat_lt, ◌&&◌, ◌==◌, ◌≢◌, is_some, both_ways, cases_Bool, lt-ltb, le-ltb, and_right}
+use Rattle.tomex_cycle.proofs.Words.{nat_tests}
 use Rattle.tomex_cycle.proofs.Words.{eqb-true, eqb-false, cases_order, get_or-set_same, get_or-set_other, length-set}
 use Rattle.tomex_cycle.proofs.Words.{Configuration, Bytes, Fault, AllCanBegin, CanBegin, HaveBegun, begun, begun_if}
 use Rattle.tomex_cycle.proofs.Words.{AreLow, Pools, Station, has, IsWithout, AreFrom, all_left, least_from, least_in}
@@ -14,11 +15,7 @@ none_begun config next m picked st e =
 
 -- tests of places below k + 1
 below_more : (x k : ℕ) (b : Bool) → (x ≡ k → b ≡ false) → (nat_lt x (k + 1) && b) ≡ (nat_lt x k && b)
-below_more x k b e = elim (cases_order x k) [
-  | inl same ↦ rw (e same, and_right (nat_lt x (k + 1)) false refl, and_right (nat_lt x k) false refl) refl
-  | inr (inl less) ↦ rw (lt-ltb x k less, lt-ltb x (k + 1) (omega arith)) refl
-  | inr (inr more) ↦ rw (le-ltb x k (omega arith), le-ltb x (k + 1) (omega arith)) refl
-]
+below_more x k b e = grind (arith, nat_tests)
 
 below_other : (x k : ℕ) (b : Bool) → (x ≡ k → ⊥) → (nat_lt x (k + 1) && b) ≡ (nat_lt x k && b)
 below_other x k b e = below_more x k b (λ z. absurd (e z))
@@ -77,8 +74,7 @@ begun_here {k} new l pick set issue_numbers can before =
     begun_more new s.0 l pick s.1 (set s.0 (still_old l before ∙ s.1) s.2) issue_numbers before
 
 pub some_not : {A : Type 0} (o : Option A) → true ≡ is_some o → o ≡ None → ⊥
-some_not None e f = cc
-some_not (Some x) e f = cc
+some_not o e f = grind (arith, nat_tests)
 
 -- what is left of a set is in it, and isn't what was taken out
 pub left_in : {rest place left : ℕ} (x : ℕ) → IsWithout rest place left → x < 128 → has left x ≡ true

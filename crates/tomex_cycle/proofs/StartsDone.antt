@@ -49,8 +49,7 @@ all_inside : {config : Configuration} {u : ℕ} {m : Bytes} {picked : ℕ} {old 
     → AllCanBegin m picked old.slots → HaveBegun config u m picked 96 old new → AllInside m picked new.slots
 all_inside {config} {u} {m} {new} can made x l pick s e =
     let one = can x l pick in
-    let f : slice_index_or new.slots x None ≡ Some (begun config u m one.0) =
-    made.slots x l ∙ rw (lt-ltb x 96 l, pick, one.1) refl in
+    let f = made.slots x l ∙ rw (lt-ltb x 96 l, pick, one.1) refl in
     inside_begun config u m one.0 s (sym f ∙ e) one.2.inside
 
 pub low_of : (st : Pools) (x : ℕ) → AreBusy st.slots st.busy st.issue_numbers → x < 128 → has st.busy x ≡ true → x < 96

@@ -2,6 +2,7 @@
 use Rattle.std.proofs.Common.{length, append_assoc, ℕ, ◌+◌, ◌-◌, ◌<◌, ◌≤◌, ◌≡◌, ◌∙◌, true, false, arith, refl, List, []}
 use Rattle.std.proofs.Common.{◌∷◌, ◌++◌, Option, Some, None, ap, sym, inl, inr}
 use Rattle.tomex_cycle.proofs.Words.{nat_lt, nat_le, ◌&&◌, ◌==◌, is_some, MatchOption, option_map, IfSome, IsSome}
+use Rattle.tomex_cycle.proofs.Words.{nat_tests}
 use Rattle.tomex_cycle.proofs.Words.{cases_Bool, ltb-true, lt-ltb, leb-true, leb-false, le-leb, lt-leb, and_parts}
 use Rattle.tomex_cycle.proofs.Words.{eqb-true, eqb-false, Loaded, Configuration, IsWithinLimits, option_of, Op, UnitId}
 use Rattle.tomex_cycle.proofs.Words.{sources_of, unit_of, ByteRange, Step, IsAllowed, byte_in, result_of, byte_after}
@@ -69,8 +70,7 @@ pub step_is : (i : Loaded) (config : Configuration) (t u : ℕ) (d : Done) (olde
     → step_in (station_of i (clocks t t t) d older) ≡ d.step
 step_is i config t u d older timed issued past e starts =
     let there = operands_there config t u d older timed issued e starts in
-    let pool : is_some (step_pool d.step) ≡ true =
-    sym (unit_with_pool d.step) ∙ (and_parts (is_some (step_unit d.step)) (d.at.start == u) starts).0 in
+    let pool = sym (unit_with_pool d.step) ∙ (and_parts (is_some (step_unit d.step)) (d.at.start == u) starts).0 in
     let j : value_in (field_of t older (j_of d.step)) ≡ d.step.vj = value_is t d.step.vj older
     (sources_of d.step.instr).j there.0 (unread_j i (steps_in older) d.step past.0 (some_is (step_pool d.step) pool)) in
     let k : value_in (field_of t older (k_of d.step)) ≡ d.step.vk =
@@ -86,21 +86,13 @@ goes_on _ e = refl
 pub inside_is : {i : Loaded} {t : ℕ} (u : ℕ) (d : Done) (older : List Done) {h : List Done} {m : Bytes}
     → ArePast i (d ∷ older) → starts_in u d ≡ true → ShowsMemory i t h m → IsInside m d.step
 inside_is {i} u d older {m} past starts shown =
-    let unit : is_some (step_unit d.step) ≡ true =
-    (and_parts (is_some (step_unit d.step)) (d.at.start == u) starts).0 in
+    let unit = (and_parts (is_some (step_unit d.step)) (d.at.start == u) starts).0 in
     let allowed : IsAllowed i d.step = past.1 (goes_on d.step.instr.op unit) in
     inside_as (bytes_of d.step) m.base i.window.base (length m.bytes) i.window.size shown.base shown.size allowed.access
 
 covered : (o : Option ByteRange) (a base size : ℕ) → IfSome o (λ r. (base ≤ r.from) × (r.to ≤ base + size))
     → is_among o a ≡ true → (base ≤ a) × (a < base + size)
-covered None a base size inside e = absurd (cc)
-covered (Some r) a base size inside e =
-    let two = and_parts (nat_le r.from a) (nat_lt a r.to) e in
-    let low : r.from ≤ a = leb-true _ _ two.0 in
-    let high : a < r.to = ltb-true _ _ two.1 in
-    let x : base ≤ r.from = inside.0 in
-    let y : r.to ≤ base + size = inside.1 in
-    (omega arith, omega arith)
+covered o a base size h4 h5 = grind (arith, nat_tests)
 
 -- its result is that of the run
 result_is : {i : Loaded} {config : Configuration} {t : ℕ} (u : ℕ) (d : Done) (newer older : List Done) {m : Bytes}
@@ -135,15 +127,12 @@ begun_is i {config} t u d newer older m good timed issued past e starts shown =
     (issued_part t newer (d ∷ older) issued) (past_part i newer (d ∷ older) past) e starts in
     let finish : Some d.at.finish ≡ finish_from config u (step_unit d.step) =
     finish_at config d.at.finish d.at.start d.at.issue u (step_unit d.step) two.0 here.0.finish at in
-    let value : result_of d.step (byte_after i (steps_in older))
-    ≡ result_of (step_in (station_of i (clocks t t t) d older)) (byte_in m) =
-    sym (result_is u d newer older good timed past e starts shown)
-    ∙ ap (λ (x : Step). result_of x (byte_in m)) (sym step) in
+    let value = sym (result_is u d newer older good timed past e starts shown) ∙ ap
+    (λ (x : Step). result_of x (byte_in m)) (sym step) in
     let set : Option ℕ → ℕ → Station = λ f v. record (station_of i (clocks t t t) d older) { finish = f; value = v } in
     let first : station_of i (clocks u t t) d older ≡ set (Some d.at.finish)
     (result_of d.step (byte_after i (steps_in older))) = rw (le-leb d.at.start u (omega arith)) refl in
-    first ∙ (ap (λ f. set f (result_of d.step (byte_after i (steps_in older)))) finish
-    ∙ ap (set (finish_from config u (step_unit d.step))) value)
+    grind (arith, nat_tests)
 
 -- what has no unit issued before
 pub late_unit : (o : Option UnitId) (start issue t u : ℕ) (Q : UnitId → Type 0) → MatchOption o (start ≡ issue) Q
@@ -152,16 +141,10 @@ late_unit None start issue t u Q timed l e starts at = let f : start ≡ issue =
 late_unit (Some v) start issue t u Q timed l e starts at = eqb-false start u starts at
 
 above : (start t u : ℕ) → u ≡ t + 1 → (start ≡ u → ⊥) → t < start → u < start
-above start t u e f l = elim (cases_Bool (start == u)) [
-  | inl k ↦ absurd (f (eqb-true _ _ k))
-  | inr k ↦ omega arith
-]
+above start t u e f l = grind (arith, nat_tests)
 
 pub not_u : (start t u : ℕ) → u ≡ t + 1 → (start ≡ u → ⊥) → nat_le start u ≡ nat_le start t
-not_u start t u e f = elim (cases_Bool (nat_le start t)) [
-  | inl l ↦ let k : start ≤ t = leb-true _ _ l in rw l (le-leb start u (omega arith))
-  | inr l ↦ let k : t < start = leb-false _ _ l in rw l (lt-leb start u (above start t u e f k))
-]
+not_u start t u e f = grind (arith, nat_tests)
 
 -- the station of a step that doesn't start stays
 pub kept_is : (i : Loaded) (config : Configuration) (t u : ℕ) (d : Done) (older : List Done)

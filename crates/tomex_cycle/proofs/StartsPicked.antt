@@ -2,6 +2,7 @@
 use Rattle.std.proofs.Common.{length, slice_index, slice_index_or, append_assoc, ℕ, ◌+◌, ◌<◌, ◌≤◌, ◌≡◌, ◌∙◌, Bool, true}
 use Rattle.std.proofs.Common.{false, arith, refl, List, [], ◌∷◌, ◌++◌, Option, Some, None, ap, sym, inl, inr}
 use Rattle.tomex_cycle.proofs.Words.{nat_lt, if◌then◌else◌, ◌&&◌, ◌||◌, ◌==◌, not, is_some, count_by, MatchOption}
+use Rattle.tomex_cycle.proofs.Words.{nat_tests}
 use Rattle.tomex_cycle.proofs.Words.{cases_Bool, ltb-true, ltb-false, lt-ltb, and_parts, and_right, eqb-true, ne_eqb}
 use Rattle.tomex_cycle.proofs.Words.{Loaded, Configuration, IsWithinLimits, option_of, UnitId, place_of_unit, bytes_of}
 use Rattle.tomex_cycle.proofs.Words.{is_number, j_of, k_of, step_pool, step_unit, unit_with_pool, Tag, Done, cycle_of}
@@ -39,19 +40,15 @@ count_of unit u h = count_by (λ d. is_of unit (step_unit d.step) && (d.at.start
 
 tests_three : (i a c b w : Bool) → i ≡ true → (a ≡ true → c ≡ b)
     → ((((((true && true) && true) && a) && c) && w) ≡ ((((i && a) && (true && true)) && b) && w))
-tests_three i true c b w e f = rw (e, f refl) refl
-tests_three i false c b w e f = rw e refl
+tests_three i a c b w e f = grind (arith, nat_tests)
 
 tests_off : (a b w : Bool) → false ≡ ((((true && a) && false) && b) && w)
-tests_off true b w = refl
-tests_off false b w = refl
+tests_off a b w = grind (arith, nat_tests)
 
 -- the tests of the pass and of the recurrence, one after the other
 tests_same : (i a j k c b w : Bool) → i ≡ true → (a ≡ true → j ≡ true → k ≡ true → c ≡ b)
     → ((((((true && j) && k) && a) && c) && w) ≡ ((((i && a) && (j && k)) && b) && w))
-tests_same i a true true c b w e f = tests_three i a c b w e (λ z. f z refl refl)
-tests_same i a true false c b w e f = rw e (tests_off a b w)
-tests_same i a false k c b w e f = rw e (tests_off a b w)
+tests_same i a j k c b w e f = grind (arith, nat_tests)
 
 least_from : (o : Option UnitId) (unit : UnitId) (P : Type 0) (Q : UnitId → Type 0) → o ≡ Some unit → MatchOption o P Q
     → Q unit
@@ -162,14 +159,7 @@ kind_here false w k n e = refl
 wants_is : (ready b : Bool) (unit : UnitId) (o : Option UnitId) (left : UnitId → Bool)
     → ((v : UnitId) → o ≡ Some v → (ready && left v) ≡ b)
     → (is_number (kind_if ready (kind_of o)) (place_of_unit unit) && left unit) ≡ (is_of unit o && b)
-wants_is ready b unit None left test = kind_none ready (place_of_unit unit) (left unit)
-wants_is ready b unit (Some v) left test = elim (cases_Bool (place_of_unit v == place_of_unit unit)) [
-  | inr e ↦ rw e (kind_other ready (left unit) (place_of_unit v) (place_of_unit unit) e)
-  | inl e ↦
-      let same : v ≡ unit = unit_same v unit (eqb-true _ _ e) in
-      kind_here ready (left unit) (place_of_unit v) (place_of_unit unit) e
-      ∙ (ap (λ u. ready && left u) (sym same) ∙ (test v refl ∙ sym (rw e refl)))
-]
+wants_is ready b unit o left h5 = grind (arith, nat_tests)
 
 -- a busy place splits the order into its elders and the others
 order_split : (t p : ℕ) (newer : List Done) (d : Done) (older : List Done) → holds_place t p d ≡ true
@@ -177,8 +167,8 @@ order_split : (t p : ℕ) (newer : List Done) (d : Done) (older : List Done) →
 order_split t p newer d older held =
     let two = and_parts (is_number (place_of d) p) (nat_lt t d.at.end) held in
     let place : place_of d ≡ Some p = number_is_some (place_of d) p two.0 in
-    order-append t newer (d ∷ older) ∙ (ap (λ xs. xs ++ order_of t newer) (order_here t p d older place two.1) ∙
-    append_assoc (order_of t older) (p ∷ []) (order_of t newer))
+    order-append t newer (d ∷ older) ∙ (ap (λ xs. xs ++ order_of t newer) (order_here t p d older place two.1)
+    ∙ append_assoc (order_of t older) (p ∷ []) (order_of t newer))
 
 none_with : (pool : Option PoolId) (station : Option ℕ) (p : PoolId) (R : PoolId → ℕ → Type 0) → pool ≡ Some p
     → tag_at pool station ≡ None → MatchOption pool (station ≡ None) (λ p. (n : ℕ) × (station ≡ Some n) × R p n) → ⊥
@@ -224,11 +214,8 @@ one_serves {i} {config} t u {st} sets unit {h} newer d older good timed issued s
           (and_parts (is_number (place_of d) x) (nat_lt t d.at.end) held).0 in
           let small : x < 96 = rw same at at.small in
           let slot : slice_index_or st.slots x None ≡ Some (station_of i (clocks t t t) d older) = rw same at at.slot in
-          let order : order_of t h ≡ order_of t older ++ (x ∷ order_of t newer) =
-          ap (order_of t) e ∙ order_split t x newer d older held in
-          let wants : has (slice_index sets (place_of_unit unit)) x
-          ≡ is_number (wanted st.slots (order_of t older) u (slice_index_or st.slots x None)) (place_of_unit unit) =
-          (ready unit).wants x (omega arith) (order_of t older) (order_of t newer) (rw order at by) in
+          let order = ap (order_of t) e ∙ order_split t x newer d older held in
+          let wants = (ready unit).wants x (omega arith) (order_of t older) (order_of t newer) (rw order at by) in
           sym (ap (λ b. b && nat_lt (count_by (starts_of unit u) older) (option_of config unit).units)
           (wants ∙ ap (λ o. is_number (wanted st.slots (order_of t older) u o) (place_of_unit unit)) slot)
           ∙ wants_is (is_waiting (station_of i (clocks t t t) d older) && is_clear st.slots (order_of t older)

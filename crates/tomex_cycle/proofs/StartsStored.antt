@@ -2,6 +2,7 @@
 use Rattle.std.proofs.Common.{length, slice_index_or, zero, suc, Option, Some, None, ℕ, ◌+◌, ◌<◌, ◌≤◌, ◌≡◌, ◌∙◌, Bool}
 use Rattle.std.proofs.Common.{true, false, arith, refl, List, ap, sym}
 use Rattle.tomex_cycle.proofs.Words.{if◌then◌else◌, ◌&&◌, IfSome, and_parts, ByteRange, IsInside, byte_in, covers}
+use Rattle.tomex_cycle.proofs.Words.{nat_tests}
 use Rattle.tomex_cycle.proofs.Words.{overwrites, stored_byte, Bytes, bytes_of, AllInside, HaveStored, stored_at}
 use Rattle.tomex_cycle.proofs.Words.{written_by, AreLow, step_in, IsSetOf, Station, has, IsWithout, AreFrom, all_left}
 use Rattle.tomex_cycle.proofs.Words.{least_from, least_in, left_from, none_after, none_between, skip_to}
@@ -123,10 +124,7 @@ stores_not (Some s) picked a before none =
 same_stored : (o : Option Station) (picked kept : Bool) (a before : ℕ)
     → (kept ≡ false → stored_at picked o a before ≡ before) → stored_at (picked && kept) o a before ≡ stored_at picked o
     a before
-same_stored o true true a before none = refl
-same_stored o false true a before none = refl
-same_stored o true false a before none = stored_skip o a before ∙ sym (none refl)
-same_stored o false false a before none = refl
+same_stored o picked kept a before h5 = grind (arith, nat_tests)
 
 -- so the stores among the picked places write what all of them do
 same_written : (slots : List (Option Station)) (picked found stores : ℕ) (byte : ℕ → ℕ) (k a : ℕ) → k ≤ 128

@@ -3,6 +3,7 @@ use Rattle.std.proofs.Common.{slice_index_or, append_assoc, ℕ, ◌+◌, ◌<�
 use Rattle.std.proofs.Common.{false, arith, refl, List, [], ◌∷◌, ◌++◌, Option, Some, None, ap, sym, inl, inr}
 use Rattle.std.proofs.lemmas.Bool.{MatchBool-at_false}
 use Rattle.tomex_cycle.proofs.Words.{nat_lt, nat_le, if◌then◌else◌, ◌&&◌, ◌||◌, not, is_some, is_none, cases_Bool}
+use Rattle.tomex_cycle.proofs.Words.{nat_tests}
 use Rattle.tomex_cycle.proofs.Words.{ltb-true, ltb-false, lt-ltb, le-ltb, leb-true, leb-false, le-leb, or_right, eq-eqb}
 use Rattle.tomex_cycle.proofs.Words.{Loaded, Configuration, IsWithinLimits, Step, address_of, bytes_of, is_store, j_of}
 use Rattle.tomex_cycle.proofs.Words.{k_of, step_pool, Tag, Done, cycle_of, is_memory, last_address, source_end}
@@ -20,14 +21,10 @@ use Rattle.tomex_cycle.proofs.Fields.{there_test, tag_there, timed_part, issued_
 use Rattle.tomex_membuf.proofs.Older.{share_none}
 
 and_swap : (a b c : Bool) → (a && (b && c)) ≡ ((a && b) && c)
-and_swap true b c = refl
-and_swap false b c = refl
+and_swap a b c = grind (arith, nat_tests)
 
 and_turn : (a b : Bool) → (a && b) ≡ (b && a)
-and_turn true true = refl
-and_turn true false = refl
-and_turn false true = refl
-and_turn false false = refl
+and_turn a b = grind (arith, nat_tests)
 
 clear-append : (slots : List (Option Station)) (xs : List ℕ) (x : ℕ) (s : Station) (next : ℕ)
     → is_clear slots (xs ++ (x ∷ [])) s next
@@ -45,18 +42,11 @@ clear-append slots (y ∷ xs) x s next =
 -- Readiness.
 
 finish_is : (start t finish : ℕ) → is_none (if nat_le start t then Some finish else None) ≡ nat_lt t start
-finish_is start t finish = elim (cases_Bool (nat_le start t)) [
-  | inl e ↦ let l : start ≤ t = leb-true _ _ e in rw (e, le-ltb t start l) refl
-  | inr e ↦ let l : t < start = leb-false _ _ e in rw (e, lt-ltb t start l) refl
-]
+finish_is start t finish = grind (arith, nat_tests)
 
 addressed_is : (memory : Bool) (a t u address : ℕ) → u ≡ t + 1 → (memory ≡ false → a ≡ 0)
     → (not memory || is_some (if memory && nat_le a t then Some address else None)) ≡ nat_lt a u
-addressed_is false a t u address e none = let z : a ≡ 0 = none refl in rw (lt-ltb a u (omega arith)) refl
-addressed_is true a t u address e none = elim (cases_Bool (nat_le a t)) [
-  | inl l ↦ let k : a ≤ t = leb-true _ _ l in rw (l, lt-ltb a u (omega arith)) refl
-  | inr l ↦ let k : t < a = leb-false _ _ l in rw (l, le-ltb a u (omega arith)) refl
-]
+addressed_is memory a t u address e none = grind (arith, nat_tests)
 
 pub no_address : {config : Configuration} (d : Done) {older : List Done} → IsTimed config older d.step d.at
     → is_memory d.step ≡ false → cycle_of d.at.address ≡ 0
@@ -66,8 +56,7 @@ no_address d {older} timed e =
     rw z refl
 
 regroup : (a j k m n : Bool) → m ≡ n → ((a && (j && k)) && m) ≡ (((a && j) && k) && n)
-regroup true j k m n e = ap (λ b. (j && k) && b) e
-regroup false j k m n e = refl
+regroup a j k m n e = grind (arith, nat_tests)
 
 -- the operands are there, the address is, and it hasn't started
 pub ready_is : (i : Loaded) (config : Configuration) (t u : ℕ) (d : Done) (older : List Done)
@@ -78,8 +67,7 @@ ready_is i config t u d older timed issued e =
     let j = there_test config t older (j_of d.step) timed.1 issued.1 in
     let k = there_test config t older (k_of d.step) timed.1 issued.1 in
     let a = addressed_is (is_memory d.step) (cycle_of d.at.address) t u (address_of d.step) e (no_address d timed.0) in
-    rw (e, j, k, finish_is d.at.start t d.at.finish) (regroup (nat_lt t d.at.start)
-    (nat_lt (source_end older (j_of d.step)) (t + 1)) (nat_lt (source_end older (k_of d.step)) (t + 1)) _ _ (rw e at a))
+    grind (arith, nat_tests)
 
 -- Older accesses.
 
@@ -94,17 +82,11 @@ no_bytes x e = no_option (bytes_of x) (bytes_of_memory x ∙ e)
 pub bytes_are : (i : Loaded) (config : Configuration) (t : ℕ) (d : Done) (older : List Done)
     → AreTimed config (d ∷ older) → AreIssuedBy t (d ∷ older) → (is_memory d.step ≡ true → cycle_of d.at.address ≤ t)
     → bytes_in (station_of i (clocks t t t) d older) ≡ bytes_of d.step
-bytes_are i config t d older timed issued l = elim (cases_Bool (is_memory d.step)) [
-  | inr m ↦ rw m (sym (no_bytes d.step m))
-  | inl m ↦ rw (m, le-leb (cycle_of d.at.address) t (l m)) refl
-]
+bytes_are i config t d older timed issued l = grind (arith, nat_tests)
 
 before_is : (start finish t u : ℕ) → u ≡ t + 1 → start ≤ finish
     → is_finished_before (if nat_le start t then Some finish else None) u ≡ nat_lt finish u
-before_is start finish t u e l = elim (cases_Bool (nat_le start t)) [
-  | inl k ↦ rw k refl
-  | inr k ↦ let m : t < start = leb-false _ _ k in rw (k, le-ltb finish u (omega arith)) refl
-]
+before_is start finish t u e l = grind (arith, nat_tests)
 
 -- no access: nothing to wait for
 pub conflicts_none : (h : List Done) (x : Step) (u : ℕ) → bytes_of x ≡ None → are_conflicts_finished h x u ≡ true
@@ -203,9 +185,7 @@ clear_is {i} {config} t u {st} newer (d ∷ older) s x good timed issued shown e
           rw (l, lt-ltb d.at.finish u (omega arith), or_right (not (conflicts d.step x)) true refl) rest
       | inl l ↦
           let at = seen t newer d older good timed issued shown e l in
-          let one : lets_pass (slice_index_or st.slots at.x None) s u
-          ≡ (not (conflicts d.step x) || nat_lt d.at.finish u) = ap (λ o. lets_pass o s u) (at.slot)
-          ∙ lets_is i t u d older s x good part by f made bytes store in
+          let one = ap (λ o. lets_pass o s u) (at.slot) ∙ lets_is i t u d older s x good part by f made bytes store in
           ap (λ xs. is_clear st.slots xs s u) at.order
           ∙ (clear-append st.slots (order_of t older) at.x s u ∙ rw (one, rest) refl)
     ]

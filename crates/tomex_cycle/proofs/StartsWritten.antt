@@ -2,6 +2,7 @@
 use Rattle.std.proofs.Common.{slice_index_or, suc, zero, ℕ, ◌+◌, ◌<◌, ◌≤◌, ◌≡◌, ◌∙◌, Bool, true, false, arith, refl}
 use Rattle.std.proofs.Common.{List, [], ◌∷◌, Option, Some, None, ap, sym, inl, inr}
 use Rattle.tomex_cycle.proofs.Words.{nat_lt, nat_le, if◌then◌else◌, ◌&&◌, ◌||◌, ◌==◌, not, is_some, cases_Bool}
+use Rattle.tomex_cycle.proofs.Words.{nat_tests}
 use Rattle.tomex_cycle.proofs.Words.{ltb-true, lt-ltb, le-leb, lt-leb, and_parts, or_left, eq-eqb, eqb-true, eqb-false}
 use Rattle.tomex_cycle.proofs.Words.{ne_eqb, both_ways, cases_order, Loaded, Configuration, IsWithinLimits, Step}
 use Rattle.tomex_cycle.proofs.Words.{covers, overwrites, stored_byte, is_number, is_store, step_pool, step_unit, Done}
@@ -57,21 +58,13 @@ none_not : {A : Type 0} (x : A) → None ≡ Some x → ⊥
 none_not x e = cc
 
 quiet_start : (b c : Bool) → c ≡ true → (b && c) ≡ false → b ≡ false
-quiet_start true c e f = absurd (both_ways c f e)
-quiet_start false c e f = refl
+quiet_start b c e f = grind (arith, nat_tests)
 
 -- a step that leaves no byte changes none as the clock goes on
 made_same : (i : Loaded) (config : Configuration) (t u a : ℕ) (d : Done) (older : List Done)
     → AreTimed config (d ∷ older) → AreIssuedBy t (d ∷ older) → u ≡ t + 1 → (starts_in u d && overwrites d.step a)
     ≡ false → (overwrites d.step a && nat_le d.at.start u) ≡ (overwrites d.step a && nat_le d.at.start t)
-made_same i config t u a d older timed issued e quiet = elim (cases_Bool (overwrites d.step a)) [
-  | inr o ↦ rw o refl
-  | inl o ↦
-      let starts : starts_in u d ≡ false = quiet_start (starts_in u d) (overwrites d.step a) o quiet in
-      rw o (not_u d.at.start t u e (late_unit (step_unit d.step) d.at.start d.at.issue t u
-      (λ v. IsLeast (can_start config older d.step v d.at.issue (cycle_of d.at.address)) d.at.start) timed.0.start
-      issued.0 e starts))
-]
+made_same i config t u a d older timed issued e quiet = grind (arith, nat_tests)
 
 -- a step on top that leaves a byte
 left_here : (i : Loaded) {config : Configuration} (t u a : ℕ) (d : Done) (older : List Done) → IsWithinLimits config
@@ -162,11 +155,7 @@ or_value (Some v) b = v
 
 stored_is : (picked : Bool) (o : Option Station) (a before : ℕ) (left : Option ℕ) → left_in picked o a ≡ left
     → stored_at picked o a before ≡ or_value left before
-stored_is picked None a before left e = rw (← e) refl
-stored_is picked (Some s) a before left e = elim (cases_Bool (picked && overwrites (step_in s) a)) [
-  | inl k ↦ rw (← e, k) refl
-  | inr k ↦ rw (← e, k) refl
-]
+stored_is picked o a before left h5 = grind (arith, nat_tests)
 
 written_none : (slots : List (Option Station)) (picked : ℕ) (byte : ℕ → ℕ) (k a : ℕ) → k ≤ 96
     → ((x : ℕ) → x < 96 → left_in (has picked x) (slice_index_or slots x None) a ≡ None)
@@ -177,11 +166,7 @@ written_none slots picked byte (suc k) a l none_left =
     (none_left k (omega arith)) ∙ written_none slots picked byte k a (omega arith) none_left
 
 less_one : (k y : ℕ) → (k ≡ y → ⊥) → y < suc k → y < k
-less_one k y other l = elim (cases_order k y) [
-  | inl e ↦ absurd (other e)
-  | inr (inl e) ↦ absurd (omega arith)
-  | inr (inr e) ↦ e
-]
+less_one k y other l = grind (arith, nat_tests)
 
 written_one : (slots : List (Option Station)) (picked : ℕ) (byte : ℕ → ℕ) (k a y v : ℕ) → k ≤ 96 → y < k
     → left_in (has picked y) (slice_index_or slots y None) a ≡ Some v

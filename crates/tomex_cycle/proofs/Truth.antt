@@ -1,22 +1,19 @@
 -- Tests and constructors: the laws of them that several files cite.
-use Rattle.std.proofs.Common.{◌≡◌, Bool, true, false, ◌||◌, ◌&&◌, refl, Option, Some, None, inl, inr, ◌⊎◌}
+use Rattle.std.proofs.Common.{◌≡◌, Bool, true, false, ◌||◌, ◌&&◌, refl, Option, Some, None, inl, inr, ◌⊎◌, arith}
 use Rattle.std.specs.Prelude.{Result, Ok, Err}
+use Rattle.tomex_cycle.proofs.Words.{nat_tests}
 
 pub or_cases : (a b : Bool) → (a || b) ≡ true → (a ≡ true) ⊎ (b ≡ true)
-or_cases true b e = inl refl
-or_cases false b e = inr e
+or_cases a b e = grind (arith, nat_tests)
 
 pub or_false : (a : Bool) → (a || false) ≡ a
-or_false true = refl
-or_false false = refl
+or_false a = grind (arith, nat_tests)
 
 pub and_false : (a : Bool) → (a && false) ≡ false
-and_false true = refl
-and_false false = refl
+and_false a = grind (arith, nat_tests)
 
 pub or_one : (a b : Bool) → b ≡ true → (a || b) ≡ true
-or_one true b e = refl
-or_one false b e = e
+or_one a b e = grind (arith, nat_tests)
 
 pub ok_not_err : {A E : Type 0} (r : Result A E) (x : A) (y : E) → r ≡ Ok x → r ≡ Err y → ⊥
 ok_not_err r x y e f = cc

@@ -9,7 +9,8 @@ use Rattle.tomex_cycle.proofs.inner.Inner.make_cycle.Goals as goal
 use Rattle.tomex_cycle.proofs.Truth.{ok_not_err, ok_same, some_and_none}
 
 pub returns-in-Some-clause-makes : goal.returns-in-Some-clause-makes
-returns-in-Some-clause-makes g c = λ how n t run e old. absurd (some_and_none c.start-starts.result.fault c.in-Some.fault
+returns-in-Some-clause-makes g c = λ how n t run e old. absurd
+    (some_and_none c.start-starts.result.fault c.in-Some.fault
     c.in-Some.is (starts_good c.args.cycle c.start-starts.result.fault _ _ c.start-starts.ensures.starts run e old))
 
 pub returns-in-Err-clause-makes : goal.returns-in-Err-clause-makes
@@ -40,8 +41,8 @@ returns-clause-makes g c = λ how n t run e old.
           let none = none_moved c.start-starts.result.any c.address-addressed.result c.in-Ok.made facts.0 in
           let no_later : c.issue.new.count ≤ c.args.self.now.issued = ltb-false _ _ (some ∙ none.1) in
           cycle_settles c.start-starts.result.fault c.start-starts.result.any _ c.start-starts.ensures.starts
-          c.start-starts.ensures.none run e old shown (omega (arith, low, no_later)) (c.end-ended.ensures.none facts.1 ∙
-          (c.issue.ensures.none (c.in-Ok.is ∙ ap (λ (b : Bool). Ok b) none.1) ∙ c.address-addressed.ensures.none
+          c.start-starts.ensures.none run e old shown (omega (arith, low, no_later)) (c.end-ended.ensures.none facts.1
+          ∙ (c.issue.ensures.none (c.in-Ok.is ∙ ap (λ (b : Bool). Ok b) none.1) ∙ c.address-addressed.ensures.none
           none.0)) (elim facts.2 [
             | inl e ↦ inl (none_started c.start-starts.result.any c.address-addressed.result c.in-Ok.made e)
             | inr e ↦ inr e
