@@ -2,6 +2,7 @@
 use Rattle.std.proofs.Common.{ℕ, ◌+◌, ◌<◌, ◌≤◌, ◌≡◌, ◌∙◌, Bool, true, false, arith, refl, List, [], ◌∷◌, ◌++◌, Option}
 use Rattle.std.proofs.Common.{Some, None, sym, inl, inr}
 use Rattle.tomex_cycle.proofs.Words.{nat_lt, MatchOption, if◌then◌else◌, Result, Ok, not, cases_Bool, ltb-true, lt-leb}
+use Rattle.tomex_cycle.proofs.Words.{nat_tests}
 use Rattle.tomex_cycle.proofs.Words.{and_parts, Loaded, Configuration, PoolId, UnitId, unit_at, Fault, overwrites}
 use Rattle.tomex_cycle.proofs.Words.{Bytes, step_pool, is_in, is_store, Done, cycle_of, greatest_end, AreTimed, IsTimed}
 use Rattle.tomex_cycle.proofs.Words.{IsLeast, can_start, Fetch, RunEndsAfter, first_timed, byte_at, IsHistory, clocks}
@@ -28,9 +29,7 @@ can_start_later config d older u t h =
 -- a store starts after its issue
 pub store_later : {config : Configuration} (d : Done) {older : List Done} → IsTimed config older d.step d.at
     → is_store d.step ≡ true → d.at.issue < d.at.start
-store_later {config} d {older} timed store = start_later (step_pool d.step) d.at.issue d.at.start older
-    (λ u. can_start config older d.step u d.at.issue (cycle_of d.at.address)) (can_start_later config d older) store
-    timed.start
+store_later {config} d {older} timed store = grind (arith, nat_tests, can_start_later config d older)
 
 -- what issues later hasn't written memory yet
 bytes_later : (config : Configuration) (i : Loaded) (newer h : List Done) (t u a : ℕ) → AreTimed config (newer ++ h)

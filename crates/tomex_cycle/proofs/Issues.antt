@@ -31,9 +31,7 @@ starts_from (Some q) issue start p P e later timed = later _ start timed.0
 
 starts_after : {config : Configuration} (d : Done) {older : List Done} (p : PoolId) → IsTimed config older d.step d.at
     → step_pool d.step ≡ Some p → d.at.issue < d.at.start
-starts_after {config} d {older} p timed e = starts_from (step_pool d.step) d.at.issue d.at.start p
-    (λ u. can_start config older d.step u d.at.issue (cycle_of d.at.address)) e (can_start_later config d older)
-    timed.start
+starts_after {config} d {older} p timed e = grind (arith, nat_tests, can_start_later config d older)
 
 address_after : {config : Configuration} (d : Done) {older : List Done} → IsTimed config older d.step d.at
     → is_memory d.step ≡ true → d.at.issue < cycle_of d.at.address

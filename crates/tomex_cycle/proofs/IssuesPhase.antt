@@ -219,11 +219,11 @@ pub phase_none : (i : Loaded) (config : Configuration) (u count : ℕ) (st new :
     (ft from : Fetch) (result : Result Bool Fault) → IssuesNext i config count st rg ft result new status from
     → result ≡ Ok false → MakesIssue i config u count st rg ft (Ok false) count new status from
 phase_none i config u count st new rg status ft from result issues is n t run e old =
-    let first = tried new status from result false
-    (before_one u run.lawful e old) (width_low config run.lawful) issues is run e in (
-      rw (le-ltb count count (omega arith)) refl,
-      omega arith,
-      issued_to first.on (first.yet refl),
+    grind (
+      arith,
+      nat_tests,
+      tried new status from result false (before_one u run.lawful e old)
+          (width_low config run.lawful) issues is run e,
     )
 
 -- one does, and the width is one

@@ -101,14 +101,7 @@ at_stopped f pc p kind e g = cc
 -- while fetch has an address steps are left
 pub left : {config : Configuration} {i : Loaded} {n : ℕ} (t count pc : ℕ) → RunEndsAfter i config n → count ≤ n + 1
     → fetch_of i t (first_timed config i count) ≡ At pc → count ≤ n
-left {config} {i} {n} t count pc run few e = elim (cases_order count (n + 1)) [
-  | inl k ↦
-      let z = stops t run in
-      let f : fetch_of i t (first_timed config i count) ≡ Stopped run.kind z.0.pc = rw k z.2 in
-      absurd (at_stopped (fetch_of i t (first_timed config i count)) pc z.0.pc run.kind e f)
-  | inr (inl less) ↦ omega arith
-  | inr (inr more) ↦ absurd (omega arith)
-]
+left {config} {i} {n} t count pc run few e = grind (arith, nat_tests, stops t run)
 
 fetched_by : {i : Loaded} {older : List Step} {x : Step} (pc : ℕ) → Follows i older x → pc ≡ pc_after i older
     → (pc ≡ x.pc) × (instruction_at i pc ≡ Ok x.instr)

@@ -3,6 +3,7 @@ use Rattle.std.proofs.Common.{ℕ, zero, suc, ◌+◌, ◌-◌, ◌<◌, ◌≤�
 use Rattle.std.proofs.Common.{Some, None, ap, sym, inl, inr, length, subst}
 use Rattle.std.proofs.lemmas.List.{reverse-reverse}
 use Rattle.tomex_cycle.proofs.Words.{nat_lt, ⊤, IsSome, cases_Bool, cases_order, both_ways, ltb-true, ltb-false, Loaded}
+use Rattle.tomex_cycle.proofs.Words.{nat_tests}
 use Rattle.tomex_cycle.proofs.Words.{Configuration, IsWithinLimits, EndKind, Step, IsAllowed, end_of, step_after}
 use Rattle.tomex_cycle.proofs.Words.{step_joins, step_follows, step_goes_on, step_ends_it, Done, last_issue, AreTimed}
 use Rattle.tomex_cycle.proofs.Words.{can_issue, times_of, times_are, issue_from, steps_in, ArePast, IsHistory}
@@ -104,12 +105,7 @@ issue_is {config} h x good timed = (times_are config h x good timed).issue.0
 
 pub not_by : {config : Configuration} (h : List Done) (x : Step) (t : ℕ) → IsWithinLimits config → AreTimed config h
     → ((s : ℕ) → s ≤ t → can_issue config h x s ≡ false) → t < (times_of config h x).issue
-not_by {config} h x t good timed never = elim (cases_Bool (nat_lt t (times_of config h x).issue)) [
-  | inl e ↦ ltb-true _ _ e
-  | inr e ↦
-      let l : (times_of config h x).issue ≤ t = ltb-false _ _ e in
-      absurd (both_ways _ (never (times_of config h x).issue l) (issue_is h x good timed))
-]
+not_by {config} h x t good timed never = grind (arith, nat_tests, issue_is h x good timed)
 
 -- the step after the rest issues later too
 late : {config : Configuration} {i : Loaded} {k m t : ℕ} (x : Step) (newer : List Done) → IsWithinLimits config

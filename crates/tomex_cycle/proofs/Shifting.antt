@@ -62,12 +62,8 @@ field_alike u w h (Some o) same = ap (field_from o.value) (producer_alike u w o.
 
 station_alike : (i : Loaded) (u w : ℕ) (d : Done) (older : List Done) → AllAlike u w (d ∷ older)
     → station_of i (clocks u u u) d older ≡ station_of i (clocks w w w) d older
-station_alike i u w d older same = rw (
-  field_alike u w older (j_of d.step) same.1,
-  field_alike u w older (k_of d.step) same.1,
-  same.0.address,
-  same.0.start,
-) refl
+station_alike i u w d older same =
+    grind (arith, nat_tests, field_alike u w older (j_of d.step) same.1, field_alike u w older (k_of d.step) same.1)
 
 stations_alike : (i : Loaded) (u w x : ℕ) (h : List Done) → AllAlike u w h
     → station_at i (clocks u u u) h x ≡ station_at i (clocks w w w) h x

@@ -54,27 +54,7 @@ qi_is t (d ∷ older) r issued = elim (cases_Bool (is_number (step_dest d.step) 
 ]
 
 place_by : (x q : ℕ) → q ≡ x / 16 → x < 96 → 16 * place_of_pool (pool_at q) + x % 16 ≡ x
-place_by x q e l = elim (cases_order q 0) [
-  | inl a0 ↦ rw a0 (omega arith)
-  | inr (inl b0) ↦ absurd (omega arith)
-  | inr (inr c0) ↦ elim (cases_order q 1) [
-    | inl a1 ↦ rw a1 (omega arith)
-    | inr (inl b1) ↦ absurd (omega arith)
-    | inr (inr c1) ↦ elim (cases_order q 2) [
-      | inl a2 ↦ rw a2 (omega arith)
-      | inr (inl b2) ↦ absurd (omega arith)
-      | inr (inr c2) ↦ elim (cases_order q 3) [
-        | inl a3 ↦ rw a3 (omega arith)
-        | inr (inl b3) ↦ absurd (omega arith)
-        | inr (inr c3) ↦ elim (cases_order q 4) [
-          | inl a4 ↦ rw a4 (omega arith)
-          | inr (inl b4) ↦ absurd (omega arith)
-          | inr (inr c4) ↦ let y : q ≡ 5 = omega arith in rw y (omega arith)
-        ]
-      ]
-    ]
-  ]
-]
+place_by x q e l = grind (arith, nat_tests)
 
 same_tables : (a : Tables) (t : ℕ) (busy : List Busy) (registers : List (Option Tag)) → a.cycle ≡ t → a.busy ≡ busy
     → a.registers ≡ registers → a ≡ record { cycle = t; busy = busy; registers = registers }

@@ -99,9 +99,7 @@ first_begun config next m picked st e =
 begun_to : {config : Configuration} {next : ℕ} (x : ℕ) {m : Bytes} {picked rest : ℕ} {old now : Pools} → x < 128
     → has rest x ≡ true → ((i : ℕ) → i < x → has rest i ≡ false) → IsBegun config next m picked rest old now
     → HaveBegun config next m picked x old now
-begun_to {config} {next} x {m} {picked} {rest} {old} {now} l member least so = skip_to
-    (λ j. HaveBegun config next m picked j old now) picked so.k x (least_from picked rest so.k x so.from l member)
-    (none_between picked rest so.k x so.from l least) (λ j e b. begun_skip e b) so.begun
+begun_to {config} {next} x {m} {picked} {rest} {old} {now} l member least so = grind (arith, nat_tests)
 
 pub no_fault_at : {config : Configuration} {next : ℕ} (x : ℕ) {m : Bytes} {picked rest : ℕ} {old now : Pools}
     (fault : Option Fault) → x < 128 → has rest x ≡ true → ((i : ℕ) → i < x → has rest i ≡ false)
@@ -129,6 +127,4 @@ member_begun {x} {picked} {rest} {left} new l member least without set issue_num
 
 pub all_begun : {config : Configuration} {next : ℕ} {m : Bytes} {picked rest : ℕ} {old now : Pools} → AreLow picked
     → rest ≡ 0 → IsBegun config next m picked rest old now → HaveBegun config next m picked 96 old now
-all_begun {config} {next} {m} {picked} {rest} {old} {now} low empty so =
-    skip_to (λ j. HaveBegun config next m picked j old now) picked so.k 96 so.high
-    (λ j from to. none_after picked rest so.k so.from empty j from (omega arith)) (λ j e b. begun_skip e b) so.begun
+all_begun {config} {next} {m} {picked} {rest} {old} {now} low empty so = grind (arith, nat_tests)

@@ -47,11 +47,12 @@ operands_there config t u d older timed issued e starts =
     let jk = and_parts (nat_lt (source_end older (j_of d.step)) d.at.start)
     (nat_lt (source_end older (k_of d.step)) d.at.start) ops.1 in
     let j : source_end older (j_of d.step) < d.at.start = ltb-true _ _ jk.0 in
-    let k : source_end older (k_of d.step) < d.at.start = ltb-true _ _ jk.1 in (
-      there_test config t older (j_of d.step) timed.1 issued.1
-          ∙ lt-ltb (source_end older (j_of d.step)) (t + 1) (omega arith),
-      there_test config t older (k_of d.step) timed.1 issued.1
-          ∙ lt-ltb (source_end older (k_of d.step)) (t + 1) (omega arith),
+    grind (
+      arith,
+      nat_tests,
+      there_test config t older (j_of d.step) timed.1 issued.1,
+      there_test config t older
+          (k_of d.step) timed.1 issued.1,
     )
 
 value_is : (t v : ℕ) (older : List Done) (source : Option ℕ)

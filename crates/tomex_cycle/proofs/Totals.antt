@@ -2,6 +2,7 @@
 use Rattle.std.proofs.Common.{ℕ, zero, suc, ◌+◌, ◌<◌, ◌≤◌, ◌≡◌, ◌∙◌, Bool, true, false, arith, refl, List, [], ◌∷◌}
 use Rattle.std.proofs.Common.{◌++◌, Option, Some, None, ap, sym, inl, inr, length}
 use Rattle.tomex_cycle.proofs.Words.{nat_lt, is_some, MatchOption, ◌&&◌, ◌==◌, not, cases_Bool, ltb-true, ltb-false}
+use Rattle.tomex_cycle.proofs.Words.{nat_tests}
 use Rattle.tomex_cycle.proofs.Words.{lt-ltb, le-ltb, cases_order, eqb-true, eqb-false, MatchBool, length-append, Loaded}
 use Rattle.tomex_cycle.proofs.Words.{Configuration, IsWithinLimits, PoolId, UnitId, unit_at, EndKind, Step, end_of}
 use Rattle.tomex_cycle.proofs.Words.{next_pc_of, step_pool, step_dest, is_branch, Done, greatest_end, AreTimed, IsTimed}
@@ -30,9 +31,7 @@ tag_is_there (Some pool) station issue end Q R e s l = let f : station ≡ Some 
 
 pub place_there : {config : Configuration} (d : Done) {older : List Done} → IsTimed config older d.step d.at
     → d.at.issue < d.at.end → is_some (place_of d) ≡ true
-place_there {config} d {older} timed l = tag_is_there (step_pool d.step) d.at.station d.at.issue d.at.end (λ unit.
-    MatchBool (is_some (step_dest d.step)) (IsLeast (can_end config older d.at.finish) d.at.end)
-    (d.at.end ≡ d.at.finish)) (λ p n. IsLeast (is_free p older d.at.issue) n) timed.end timed.station l
+place_there {config} d {older} timed l = grind (arith, nat_tests)
 
 onto_end-some : (xs : List ℕ) (o : Option ℕ) → is_some o ≡ true → 0 < length (onto_end xs o)
 onto_end-some xs None h = absurd (cc)
