@@ -1,13 +1,11 @@
 -- In the cycle in which it starts an access finds in memory the bytes that the run has before it.
 use Rattle.std.proofs.Common.{ℕ, ◌+◌, ◌<◌, ◌≤◌, ◌≡◌, ◌∙◌, Bool, true, arith, refl, List, [], ◌∷◌, ◌++◌, Option, Some}
 use Rattle.std.proofs.Common.{None, inl, inr}
-use Rattle.tomex_cycle.proofs.Words.{nat_lt, nat_le, ◌||◌, not, is_some, MatchOption, cases_Bool, ltb-true, leb-true}
-use Rattle.tomex_cycle.proofs.Words.{nat_tests}
-use Rattle.tomex_cycle.proofs.Words.{lt-ltb, lt-leb, le-leb, and_parts, or_right, or_left, Loaded, Configuration}
-use Rattle.tomex_cycle.proofs.Words.{IsWithinLimits, PoolId, UnitId, ByteRange, Step, covers, overwrites, byte_after}
-use Rattle.tomex_cycle.proofs.Words.{bytes_of, is_in, is_store, step_pool, step_unit, unit_with_pool, Done, cycle_of}
-use Rattle.tomex_cycle.proofs.Words.{AreTimed, IsTimed, IsLeast, can_start, conflicts, are_conflicts_finished, byte_at}
-use Rattle.tomex_cycle.proofs.Words.{steps_in}
+use Rattle.tomex_cycle.proofs.Words.{nat_lt, ◌||◌, not, is_some, MatchOption, cases_Bool, ltb-true, nat_tests, lt-leb}
+use Rattle.tomex_cycle.proofs.Words.{le-leb, and_parts, or_right, or_left, Loaded, Configuration, IsWithinLimits}
+use Rattle.tomex_cycle.proofs.Words.{PoolId, UnitId, ByteRange, Step, covers, overwrites, byte_after, bytes_of, is_in}
+use Rattle.tomex_cycle.proofs.Words.{is_store, step_pool, step_unit, unit_with_pool, Done, cycle_of, AreTimed, IsTimed}
+use Rattle.tomex_cycle.proofs.Words.{IsLeast, can_start, conflicts, are_conflicts_finished, byte_at, steps_in}
 use Rattle.tomex_rvdec.specs.declared.pool.PoolId.TheVariants as pools
 use Rattle.tomex_steps.specs.Results.{is_among}
 use Rattle.tomex_timing.specs.Recurrence.{shares_byte}

@@ -1,19 +1,16 @@
 -- Which load or store gets its address in a cycle, by the recurrence.
-use Rattle.std.proofs.Common.{ℕ, ◌+◌, ◌<◌, ◌≤◌, ◌≡◌, ◌∙◌, Bool, true}
-use Rattle.std.proofs.Common.{false, arith, refl, List, [], ◌∷◌, Option, Some, None, ap, sym, inl, inr}
+use Rattle.std.proofs.Common.{ℕ, ◌+◌, ◌<◌, ◌≤◌, ◌≡◌, Bool, true, false, arith, refl, List, [], ◌∷◌, Option, Some}
+use Rattle.std.proofs.Common.{None, ap, inl, inr}
 use Rattle.tomex_cycle.proofs.Words.{nat_lt, nat_le, if◌then◌else◌, ◌&&◌, ◌==◌, not, is_some, MatchBool, cases_Bool}
-use Rattle.tomex_cycle.proofs.Words.{nat_tests}
-use Rattle.tomex_cycle.proofs.Words.{ltb-true, lt-ltb, leb-true, leb-false, le-leb, lt-leb, and_parts, and_right}
-use Rattle.tomex_cycle.proofs.Words.{eq-eqb, eqb-true, eqb-false, Configuration, IsWithinLimits, Done, cycle_of}
-use Rattle.tomex_cycle.proofs.Words.{is_memory, last_address, source_end, AreTimed, IsTimed, IsLeast, can_address}
-use Rattle.tomex_cycle.proofs.Words.{AreIssuedBy, place_of, holds_place, station_of, clocks, Loaded, Tag, option_map}
-use Rattle.tomex_cycle.proofs.Words.{Op, form_of, sources_at, Step, address_of, j_of, operand, field_of, field_from}
-use Rattle.tomex_cycle.proofs.Words.{producer, is_memory_op, with_address, is_there, Station}
-use Rattle.tomex_rvdec.specs.declared.op.Op.TheVariants as ops
+use Rattle.tomex_cycle.proofs.Words.{nat_tests, ltb-true, lt-ltb, leb-true, leb-false, lt-leb, and_parts, and_right}
+use Rattle.tomex_cycle.proofs.Words.{eq-eqb, Configuration, IsWithinLimits, Done, cycle_of, is_memory, last_address}
+use Rattle.tomex_cycle.proofs.Words.{AreTimed, IsTimed, IsLeast, can_address, AreIssuedBy, place_of, holds_place}
+use Rattle.tomex_cycle.proofs.Words.{station_of, clocks, Loaded, option_map, Op, form_of, sources_at, Step, address_of}
+use Rattle.tomex_cycle.proofs.Words.{j_of, operand, field_of, field_from, producer, is_memory_op, with_address}
+use Rattle.tomex_cycle.proofs.Words.{is_there, Station}
 use Rattle.tomex_cycle.proofs.Fields.{there_test}
 use Rattle.tomex_cycle.proofs.Places.{is_vacant, least_test}
 use Rattle.tomex_cycle.proofs.Totals.{reach, place_there}
-use Rattle.tomex_tags.specs.Contents.{address_from}
 
 abbrev pub or_else : Option ℕ → Option ℕ → Option ℕ
 or_else None y = y
@@ -79,9 +76,6 @@ or_else_none (Some x) = refl
 
 pub not_le : (a b : ℕ) → not (nat_le a b) ≡ true → b < a
 not_le a b e = grind (arith, nat_tests)
-
-and_true : (a : Bool) → a ≡ ((true && a) && true)
-and_true a = grind (arith, nat_tests)
 
 some_waits_by : {config : Configuration} (t y : ℕ) (d : Done) {older : List Done} (o : Option ℕ)
     → IsTimed config older d.step d.at → chosen t older ≡ o
@@ -155,15 +149,6 @@ with_a i u t d older e =
 
 pub a_none : (t : ℕ) (d : Done) → t < cycle_of d.at.address → a_by t d ≡ None
 a_none t d l = rw (lt-leb (cycle_of d.at.address) t l, and_right (is_memory d.step) false refl) refl
-
-a_some : (t : ℕ) (d : Done) → is_memory d.step ≡ true → cycle_of d.at.address ≤ t → a_by t d ≡ Some (address_of d.step)
-a_some t d m l = rw (m, le-leb (cycle_of d.at.address) t l) refl
-
-given_by : (i : Loaded) (u t : ℕ) (d : Done) (older : List Done) (p : Option Tag)
-    → field_of t older (j_of d.step) ≡ field_from d.step.vj p → is_there (field_of t older (j_of d.step))
-    ≡ (cycle_of d.at.address == u) → t < cycle_of d.at.address → u ≡ t + 1 → is_memory d.step ≡ true
-    → station_of i (clocks u u t) d older ≡ address_from (station_of i (clocks u t t) d older) (field_from d.step.vj p)
-given_by i u t d older p h6 h7 h8 h9 h10 = grind (arith, nat_tests)
 
 field_parts : (t : ℕ) (d : Done) (older : List Done) → is_memory d.step ≡ true
     → field_of t older (j_of d.step) ≡ field_from d.step.vj (producer t older d.step.instr.rs1)

@@ -3,23 +3,20 @@ use Rattle.std.proofs.Common.{length, slice_index_or, slice_set, append_assoc, �
 use Rattle.std.proofs.Common.{false, arith, refl, List, [], ◌∷◌, ◌++◌, Option, Some, None, ap, sym, inl, inr}
 use Rattle.std.proofs.Common.{slice_index}
 use Rattle.tomex_cycle.proofs.Words.{nat_lt, nat_le, if◌then◌else◌, ◌&&◌, ◌==◌, not, is_some, cases_Bool, ltb-true}
-use Rattle.tomex_cycle.proofs.Words.{nat_tests}
-use Rattle.tomex_cycle.proofs.Words.{leb-true, le-leb, and_parts, eq-eqb, eqb-true, eqb-false, ne_eqb, both_ways}
-use Rattle.tomex_cycle.proofs.Words.{get_or-set_same, get_or-set_other, length-set, step_pool, address_of, is_number}
-use Rattle.tomex_cycle.proofs.Words.{MakesAddress, Configuration, IsWithinLimits, Done, cycle_of, is_memory}
-use Rattle.tomex_cycle.proofs.Words.{last_address, AreTimed, AreIssuedBy, place_of, holds_place, order_of}
-use Rattle.tomex_cycle.proofs.Words.{ShowsStations, station_at, station_of, clocks, Loaded, option_map, has_base}
-use Rattle.tomex_cycle.proofs.Words.{is_value, lacks_address, with_address, place_at, place_of_tag, Pools, AreBusy}
-use Rattle.tomex_cycle.proofs.Words.{Station, Field, Value, Unread, IsInIssueOrder}
+use Rattle.tomex_cycle.proofs.Words.{nat_tests, and_parts, eq-eqb, eqb-true, eqb-false, ne_eqb, get_or-set_same}
+use Rattle.tomex_cycle.proofs.Words.{get_or-set_other, length-set, step_pool, address_of, is_number, MakesAddress}
+use Rattle.tomex_cycle.proofs.Words.{Configuration, IsWithinLimits, Done, cycle_of, is_memory, last_address, AreTimed}
+use Rattle.tomex_cycle.proofs.Words.{AreIssuedBy, place_of, holds_place, order_of, ShowsStations, station_at}
+use Rattle.tomex_cycle.proofs.Words.{station_of, clocks, Loaded, option_map, has_base, lacks_address, with_address}
+use Rattle.tomex_cycle.proofs.Words.{place_at, place_of_tag, Pools, AreBusy, Station, IsInIssueOrder}
 use Rattle.tomex_cycle.proofs.Fields.{tag_there, timed_part, issued_part}
 use Rattle.tomex_cycle.proofs.Places.{place_low, low, station_here, is_vacant, vacant}
 use Rattle.tomex_cycle.proofs.Totals.{issued_more}
 use Rattle.tomex_cycle.proofs.IssueOrder.{first_waiting, next_address, where_base_is_there}
-use Rattle.tomex_timing.specs.declared.tables.Field.TheVariants.{Waits}
 use Rattle.tomex_cycle.proofs.Orders.{order_is}
 use Rattle.tomex_cycle.proofs.AddressChosen.{or_else, waits_for_address, chosen, address_rises, none_waits}
-use Rattle.tomex_cycle.proofs.AddressChosen.{or_else_none, not_le, some_waits, holds_by, chosen_held, test_is, a_by}
-use Rattle.tomex_cycle.proofs.AddressChosen.{with_a, a_none, given}
+use Rattle.tomex_cycle.proofs.AddressChosen.{or_else_none, not_le, some_waits, chosen_held, test_is, a_by, with_a}
+use Rattle.tomex_cycle.proofs.AddressChosen.{a_none, given}
 
 -- what a phase makes of a place
 abbrev pub given_at : Option ℕ → ℕ → Option Station → Option Station
@@ -153,16 +150,6 @@ set_at_place xs x y o l same = elim (cases_Bool (x == y)) [
   | inl e ↦ let f : x ≡ y = eqb-true x y e in rw (e, ← f) (get_or-set_same xs x o None l ∙ same)
   | inr e ↦ rw e (get_or-set_other xs x y o None (λ z. eqb-false x y e (sym z)))
 ]
-
--- a station whose base isn't there stays as it is
-no_base : (o : Option Station) → has_base o ≡ false → option_map with_address o ≡ o
-no_base None e = refl
-no_base (Some s) e = ap (λ (z : Station). Some z) (no_base_in s s.j refl e)
-  where
-    no_base_in : (s : Station) (j : Field) → s.j ≡ j → is_value s.j ≡ false → with_address s ≡ s
-    no_base_in s (Value v) f g = let z : true ≡ false = rw f at g in absurd (cc)
-    no_base_in s (Waits tag) f g = rw f refl
-    no_base_in s Unread f g = rw f refl
 
 given_none : (x y : ℕ) (slots : List (Option Station)) → has_base (slice_index_or slots x None) ≡ false
     → slice_index_or slots y None ≡ given_at (Some x) y (slice_index_or slots y None)

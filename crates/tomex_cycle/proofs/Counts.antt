@@ -3,8 +3,7 @@
 use Rattle.std.proofs.Common.{ℕ, zero, suc, ◌+◌, ◌-◌, ◌*◌, ◌<◌, ◌≤◌, ◌≡◌, ◌∙◌, arith, refl, List, ap, sym, inl, inr}
 use Rattle.std.proofs.Common.{◌⊎◌, subst}
 use Rattle.std.proofs.Math.Numerals.{suc-eq-add-one}
-use Rattle.tomex_cycle.proofs.Words.{◌==◌, if◌then◌else◌, cases_Bool, eq-eqb, Done, GoesOn, SkipsTo, events_in}
-use Rattle.tomex_cycle.proofs.Words.{nat_tests}
+use Rattle.tomex_cycle.proofs.Words.{◌==◌, if◌then◌else◌, eq-eqb, Done, GoesOn, SkipsTo, events_in, nat_tests}
 use Rattle.tomex_cycle.specs.Events.{IsCounted, eventful_by, events_by}
 
 events_next : (h : List Done) (t : ℕ) → events_by h (t + 1) ≡ events_by h t + events_in (t + 1) h

@@ -1,23 +1,14 @@
 -- The phases, one after the other, make a cycle.
 use Rattle.std.proofs.Common.{ℕ, ◌+◌, ◌<◌, ◌≤◌, ◌≡◌, ◌∙◌, Bool, true, false, arith, refl, List, [], ◌∷◌, ◌++◌, Option}
-use Rattle.std.proofs.Common.{Some, None, sym, inl, inr}
-use Rattle.tomex_cycle.proofs.Words.{nat_lt, MatchOption, if◌then◌else◌, Result, Ok, not, cases_Bool, ltb-true, lt-leb}
-use Rattle.tomex_cycle.proofs.Words.{nat_tests}
-use Rattle.tomex_cycle.proofs.Words.{and_parts, Loaded, Configuration, PoolId, UnitId, unit_at, Fault, overwrites}
-use Rattle.tomex_cycle.proofs.Words.{Bytes, step_pool, is_in, is_store, Done, cycle_of, greatest_end, AreTimed, IsTimed}
-use Rattle.tomex_cycle.proofs.Words.{IsLeast, can_start, Fetch, RunEndsAfter, first_timed, byte_at, IsHistory, clocks}
-use Rattle.tomex_cycle.proofs.Words.{ShowsMemory, IsIssuedTo, IsSnapshot, IsYetToIssue, MakesStarts, MakesAddress}
-use Rattle.tomex_cycle.proofs.Words.{MakesIssue, MakesEnds, is_done, Progress, Running, Ended, AreBusy, Pools}
-use Rattle.tomex_cycle.proofs.Words.{RegStatus}
-use Rattle.tomex_rvdec.specs.declared.pool.PoolId.TheVariants as pools
+use Rattle.std.proofs.Common.{None, sym, inl, inr}
+use Rattle.tomex_cycle.proofs.Words.{nat_lt, if◌then◌else◌, Result, Ok, not, cases_Bool, ltb-true, lt-leb, nat_tests}
+use Rattle.tomex_cycle.proofs.Words.{and_parts, Loaded, Configuration, UnitId, Fault, overwrites, Bytes, is_store, Done}
+use Rattle.tomex_cycle.proofs.Words.{cycle_of, greatest_end, AreTimed, IsTimed, can_start, Fetch, RunEndsAfter}
+use Rattle.tomex_cycle.proofs.Words.{first_timed, byte_at, IsHistory, clocks, ShowsMemory, IsIssuedTo, IsSnapshot}
+use Rattle.tomex_cycle.proofs.Words.{IsYetToIssue, MakesStarts, MakesAddress, MakesIssue, MakesEnds, is_done, Progress}
+use Rattle.tomex_cycle.proofs.Words.{Running, Ended, AreBusy, Pools, RegStatus}
 use Rattle.tomex_cycle.proofs.Totals.{done_is}
 use Rattle.tomex_cycle.proofs.Runs.{rest_to, run_history, run_timed, AreLater}
-
-start_later : (pool : Option PoolId) (issue start : ℕ) (older : List Done) (P : UnitId → ℕ → Bool)
-    → ((u : UnitId) (x : ℕ) → P u x ≡ true → issue < x) → is_in pools.Store pool ≡ true
-    → MatchOption (unit_at pool) (start ≡ issue) (λ u. IsLeast (P u) start) → issue < start
-start_later None issue start older P later store timed = absurd (cc)
-start_later (Some pool) issue start older P later store timed = later _ start timed.0
 
 pub can_start_later : (config : Configuration) (d : Done) (older : List Done) (u : UnitId) (t : ℕ)
     → can_start config older d.step u d.at.issue (cycle_of d.at.address) t ≡ true → d.at.issue < t

@@ -1,20 +1,19 @@
 -- A branch that is done in the cycle is the youngest step, and its station gives the next pc.
-use Rattle.std.proofs.Common.{◌++◌, ℕ, ◌+◌, ◌*◌, ◌<◌, ◌≤◌, ◌≡◌, ◌∙◌, Bool, true, false, arith, refl, List, [], ◌∷◌}
+use Rattle.std.proofs.Common.{◌++◌, ℕ, ◌+◌, ◌<◌, ◌≤◌, ◌≡◌, ◌∙◌, Bool, true, false, arith, refl, List, [], ◌∷◌}
 use Rattle.std.proofs.Common.{Option, Some, None, ap, sym, inl, inr, ◌⊎◌, slice_index_or, IsSome, length, append_assoc}
 use Rattle.std.proofs.Common.{slice_index}
 use Rattle.tomex_cycle.proofs.Words.{nat_lt, nat_le, if◌then◌else◌, ◌&&◌, ◌||◌, ◌==◌, not, is_some, cases_Bool}
-use Rattle.tomex_cycle.proofs.Words.{nat_tests}
-use Rattle.tomex_cycle.proofs.Words.{ltb-true, ltb-false, lt-ltb, le-ltb, leb-false, and_parts, eq-eqb, eqb-true}
-use Rattle.tomex_cycle.proofs.Words.{eqb-false, ne_eqb, Loaded, Configuration, IsWithinLimits, place_of_pool, PoolId}
-use Rattle.tomex_cycle.proofs.Words.{UnitId, unit_with_pool, unread_j, unread_k, EndKind, Operand, Step, end_of}
-use Rattle.tomex_cycle.proofs.Words.{next_pc_of, is_branch, is_in, is_number, j_of, k_of, operand, step_pool, step_unit}
-use Rattle.tomex_cycle.proofs.Words.{step_dest, Done, cycle_of, source_end, writer_end, AreTimed, IsTimed}
-use Rattle.tomex_cycle.proofs.Words.{are_branches_finished, can_issue, can_start, has_operands, field_of, producer}
-use Rattle.tomex_cycle.proofs.Words.{tag_at, tag_of, Fetch, MakesEnds, ArePast, AreIssuedBy, steps_in, clocks}
-use Rattle.tomex_cycle.proofs.Words.{fetch_after, fetch_of, holds_place, place_of, sent_at, station_at, station_of}
-use Rattle.tomex_cycle.proofs.Words.{ShowsRegisters, ShowsStations, order_of, EndsIn, Hears, IsDoneBranch, finishes}
-use Rattle.tomex_cycle.proofs.Words.{sent_below, AreEnding, AreNamed, step_in, value_in, place_at, place_of_tag, Pools}
-use Rattle.tomex_cycle.proofs.Words.{AreBusy, RegStatus, Station, has, AreLow, dest_of, Tag}
+use Rattle.tomex_cycle.proofs.Words.{nat_tests, ltb-true, lt-ltb, le-ltb, and_parts, eqb-true, eqb-false, Loaded}
+use Rattle.tomex_cycle.proofs.Words.{Configuration, IsWithinLimits, PoolId, UnitId, unit_with_pool, unread_j, unread_k}
+use Rattle.tomex_cycle.proofs.Words.{EndKind, Operand, Step, end_of, next_pc_of, is_branch, is_in, is_number, j_of}
+use Rattle.tomex_cycle.proofs.Words.{k_of, operand, step_pool, step_unit, step_dest, Done, cycle_of, source_end}
+use Rattle.tomex_cycle.proofs.Words.{writer_end, AreTimed, IsTimed, are_branches_finished, can_issue, can_start}
+use Rattle.tomex_cycle.proofs.Words.{has_operands, field_of, producer, tag_at, tag_of, Fetch, MakesEnds, ArePast}
+use Rattle.tomex_cycle.proofs.Words.{AreIssuedBy, steps_in, clocks, fetch_after, fetch_of, holds_place, place_of}
+use Rattle.tomex_cycle.proofs.Words.{sent_at, station_at, station_of, ShowsRegisters, ShowsStations, EndsIn, Hears}
+use Rattle.tomex_cycle.proofs.Words.{IsDoneBranch, finishes, sent_below, AreEnding, AreNamed, step_in, value_in}
+use Rattle.tomex_cycle.proofs.Words.{place_at, place_of_tag, Pools, AreBusy, RegStatus, Station, has, AreLow, dest_of}
+use Rattle.tomex_cycle.proofs.Words.{Tag}
 use Rattle.tomex_rvdec.specs.declared.pool.PoolId.TheVariants as pools
 use Rattle.tomex_rvexec.specs.History.{Follows as Reads}
 use Rattle.tomex_cycle.specs.declared.fetch.Fetch.TheVariants as from
@@ -22,7 +21,7 @@ use Rattle.tomex_cycle.specs.Ends.{Follows, after_branch, target_in}
 use Rattle.tomex_cycle.proofs.Accesses.{start_clear}
 use Rattle.tomex_cycle.proofs.AddressChosen.{some_none_of}
 use Rattle.tomex_cycle.proofs.Addresses.{number_is_some}
-use Rattle.tomex_cycle.proofs.Places.{pool_low, low}
+use Rattle.tomex_cycle.proofs.Places.{low}
 use Rattle.tomex_cycle.proofs.Cycles.{can_start_later}
 use Rattle.tomex_cycle.proofs.EndsInTurn.{ends_same}
 use Rattle.tomex_cycle.proofs.EndsPass.{ends_in, option_cases, slot_here, ending_is}
@@ -33,9 +32,6 @@ use Rattle.tomex_cycle.proofs.StartsDone.{low_of}
 use Rattle.tomex_cycle.proofs.Truth.{or_cases}
 
 -- Branches have the last places.
-
-bru_sum : (p : PoolId) (n x : ℕ) → n < 16 → 16 * place_of_pool p + n ≡ x → 80 ≤ x → (place_of_pool p == 5) ≡ true
-bru_sum p n x l e high = let k : place_of_pool p < 6 = pool_low p in eq-eqb (place_of_pool p) 5 (omega arith)
 
 branch_from : (pool : Option PoolId) (station : Option ℕ) (x : ℕ) → ((n : ℕ) → station ≡ Some n → n < 16)
     → place_at (tag_at pool station) ≡ Some x → 80 ≤ x → is_in pools.Bru pool ≡ true

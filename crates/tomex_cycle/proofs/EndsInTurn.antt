@@ -1,11 +1,10 @@
 -- What ends in one place after another, and what is sent by them together.
-use Rattle.std.proofs.Common.{ℕ, ◌+◌, ◌<◌, ◌≡◌, ◌∙◌, Bool, true, false, arith, refl, List, Option, Some, None, ap}
-use Rattle.std.proofs.Common.{sym, inl, inr, length, slice_index, slice_index_or, option_map}
-use Rattle.tomex_cycle.proofs.Words.{nat_lt, if◌then◌else◌, ◌&&◌, ◌||◌, ◌==◌, cases_order, lt-ltb, le-ltb, eqb-true}
-use Rattle.tomex_cycle.proofs.Words.{nat_tests}
-use Rattle.tomex_cycle.proofs.Words.{eqb-false, eq-eqb, ne_eqb, field_from, Field, Value, Unread, Tag, is_number}
-use Rattle.tomex_cycle.proofs.Words.{EndsIn, Hears, after_ends, sends_of, sent_below, hears, heard, only, taken}
-use Rattle.tomex_cycle.proofs.Words.{place_at, place_of_tag, Pools, RegStatus, Station, has}
+use Rattle.std.proofs.Common.{ℕ, ◌+◌, ◌<◌, ◌≡◌, ◌∙◌, Bool, true, false, arith, refl, List, Option, Some, None, ap, sym}
+use Rattle.std.proofs.Common.{length, slice_index, slice_index_or, option_map}
+use Rattle.tomex_cycle.proofs.Words.{nat_lt, ◌&&◌, ◌||◌, ◌==◌, le-ltb, nat_tests, eqb-false, ne_eqb}
+use Rattle.tomex_cycle.proofs.Words.{field_from, Field, Value, Unread, Tag, is_number, EndsIn, Hears, after_ends}
+use Rattle.tomex_cycle.proofs.Words.{sends_of, sent_below, hears, heard, only, taken, place_at, place_of_tag, Pools}
+use Rattle.tomex_cycle.proofs.Words.{RegStatus, Station, has}
 use Rattle.tomex_timing.specs.declared.tables.Field.TheVariants.{Waits}
 use Rattle.tomex_cycle.proofs.AddressChosen.{or_else}
 
@@ -34,11 +33,6 @@ heard_no from value v None e = refl
 heard_no from value v (Some tag) e = rw (ne_eqb from (place_of_tag tag) (λ z. eqb-false _ _ e (sym z))) refl
 
 -- One end after others.
-
-then_by : (g : ℕ → Option ℕ) (p : ℕ) (f k : Option ℕ) (tag : Tag) → p ≡ place_of_tag tag → k ≡ or_else f (g p)
-    → heard g (taken f tag) ≡ taken k tag
-then_by g p None k tag at e = rw (e, at) refl
-then_by g p (Some v) k tag at e = rw e refl
 
 heard_then : (f g k : ℕ → Option ℕ) (field : Field) → ((y : ℕ) → k y ≡ or_else (f y) (g y))
     → heard g (heard f field) ≡ heard k field
@@ -74,10 +68,6 @@ pub ends_same : (a : Bool) (f k : ℕ → Option ℕ) (o : Option Station) → (
 ends_same true f k o e = refl
 ends_same false f k None e = refl
 ends_same false f k (Some s) e = ap (λ (x : Station). Some x) (hears_same f k s e)
-
-or_none : (a : Option ℕ) → a ≡ or_else a None
-or_none None = refl
-or_none (Some x) = refl
 
 -- what is sent below the next place
 sent_yes : (slots : List (Option Station)) (picked : ℕ) (n y : ℕ) (s : Option ℕ) → has picked n ≡ true

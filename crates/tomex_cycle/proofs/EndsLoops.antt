@@ -2,13 +2,12 @@
 use Rattle.std.proofs.Common.{ℕ, ◌+◌, ◌<◌, ◌≤◌, ◌≡◌, ◌∙◌, Bool, true, false, arith, refl, List, Option, Some, None, ap}
 use Rattle.std.proofs.Common.{sym, inl, inr, length, slice_index, slice_index_or, slice_set, option_map}
 use Rattle.tomex_cycle.proofs.Words.{nat_lt, if◌then◌else◌, ◌&&◌, ◌==◌, cases_Bool, lt-ltb, le-ltb, eqb-true, eqb-false}
-use Rattle.tomex_cycle.proofs.Words.{nat_tests}
-use Rattle.tomex_cycle.proofs.Words.{both_ways, ltb-true, ltb-false, get_or-set_same, get_or-set_other, length-set}
-use Rattle.tomex_cycle.proofs.Words.{get_or_past, field_from, Field, Value, Unread, Tag, is_number, EndsIn, Hears}
-use Rattle.tomex_cycle.proofs.Words.{after_ends, sends_of, sent_below, AreNamed, HaveReceived, hears, heard, only}
-use Rattle.tomex_cycle.proofs.Words.{taken, place_at, place_of_tag, Pools, RegStatus, Station, has, IsWithout, AreFrom}
-use Rattle.tomex_cycle.proofs.Words.{all_left, least_from, least_in, left_from, none_after, none_between, skip_to}
-use Rattle.tomex_cycle.proofs.Words.{dest_of, AreLow}
+use Rattle.tomex_cycle.proofs.Words.{nat_tests, both_ways, ltb-true, ltb-false, get_or-set_same, get_or-set_other}
+use Rattle.tomex_cycle.proofs.Words.{length-set, get_or_past, field_from, Field, Value, Unread, Tag, is_number, EndsIn}
+use Rattle.tomex_cycle.proofs.Words.{Hears, after_ends, sends_of, sent_below, AreNamed, HaveReceived, hears, heard}
+use Rattle.tomex_cycle.proofs.Words.{only, taken, place_at, place_of_tag, Pools, RegStatus, Station, has, IsWithout}
+use Rattle.tomex_cycle.proofs.Words.{AreFrom, all_left, least_from, least_in, left_from, none_after, none_between}
+use Rattle.tomex_cycle.proofs.Words.{skip_to, dest_of, AreLow}
 use Rattle.tomex_timing.specs.declared.tables.Field.TheVariants.{Waits}
 use Rattle.tomex_cycle.specs.Ends.{AreEnded}
 use Rattle.tomex_tags.specs.Registers.{names, received}
@@ -16,15 +15,6 @@ use Rattle.tomex_cycle.proofs.EndsInTurn.{reg_field, AreEndedBelow, heard_yes, h
 use Rattle.tomex_cycle.proofs.EndsInTurn.{hear_no}
 
 -- A place ends.
-
-none_heard : (p : ℕ) (f : Field) → heard (only p None) f ≡ f
-none_heard p (Value v) = refl
-none_heard p Unread = refl
-none_heard p (Waits tag) = by_place (p == place_of_tag tag)
-  where
-    by_place : (b : Bool) → taken (if b then None else None) tag ≡ Waits tag
-    by_place true = refl
-    by_place false = refl
 
 none_hears : (p : ℕ) (o : Option Station) → option_map (hears (only p None)) o ≡ o
 none_hears p o = grind (arith, nat_tests)

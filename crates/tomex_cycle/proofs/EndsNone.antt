@@ -1,13 +1,11 @@
 -- Where nothing ends, nothing changes.
-use Rattle.std.proofs.Common.{ℕ, ◌+◌, ◌≡◌, arith, ◌∙◌, false, refl, List, Option, Some, None, ap, sym, length}
-use Rattle.std.proofs.Common.{slice_index, slice_index_or, option_map}
+use Rattle.std.proofs.Common.{ℕ, ◌+◌, ◌≡◌, arith, ◌∙◌, false, refl, List, Option, None, ap, sym, length, slice_index}
+use Rattle.std.proofs.Common.{slice_index_or, option_map}
 use Rattle.tomex_cycle.proofs.Words.{nat_lt, ◌&&◌, if◌then◌else◌, and_right, Configuration, field_from, Field, Value}
-use Rattle.tomex_cycle.proofs.Words.{nat_tests}
-use Rattle.tomex_cycle.proofs.Words.{Unread, has, none_in, Fetch, AreDone, AreEnding, EndsIn, Hears, after_ends}
-use Rattle.tomex_cycle.proofs.Words.{sends_of, sent_below, IsTimetableOf, LeavesTimetable, MakesEnds, Finishes, hears}
-use Rattle.tomex_cycle.proofs.Words.{heard, taken, place_of_tag, AreBusy, Pools, RegStatus, Station}
+use Rattle.tomex_cycle.proofs.Words.{nat_tests, Unread, has, none_in, Fetch, AreDone, AreEnding, EndsIn, Hears}
+use Rattle.tomex_cycle.proofs.Words.{after_ends, sends_of, sent_below, IsTimetableOf, LeavesTimetable, MakesEnds}
+use Rattle.tomex_cycle.proofs.Words.{Finishes, hears, heard, taken, place_of_tag, AreBusy, Pools, RegStatus, Station}
 use Rattle.tomex_timing.specs.declared.tables.Field.TheVariants.{Waits}
-use Rattle.tomex_cycle.specs.declared.fetch.Fetch.TheVariants as from
 use Rattle.tomex_cycle.specs.Ends.{Follows}
 use Rattle.tomex_cycle.proofs.EndsFetch.{made_ends}
 

@@ -2,19 +2,16 @@
 use Rattle.std.proofs.Common.{ℕ, ◌+◌, ◌<◌, ◌≤◌, ◌≡◌, ◌∙◌, Bool, true, false, arith, refl, List, [], ◌∷◌, ◌++◌, Option}
 use Rattle.std.proofs.Common.{Some, None, ap, sym, inl, inr, ◌⊎◌, append_assoc, slice_index_or}
 use Rattle.tomex_cycle.proofs.Words.{nat_lt, nat_le, if◌then◌else◌, ◌&&◌, ◌||◌, ◌==◌, is_some, count_by, MatchOption}
-use Rattle.tomex_cycle.proofs.Words.{nat_tests}
-use Rattle.tomex_cycle.proofs.Words.{not, MatchBool, cases_Bool, cases_order, ltb-true, ltb-false, lt-ltb, le-ltb}
-use Rattle.tomex_cycle.proofs.Words.{leb-false, le-leb, lt-leb, and_parts, eq-eqb, eqb-true, eqb-false, ne_eqb}
-use Rattle.tomex_cycle.proofs.Words.{both_ways, Loaded, Configuration, IsWithinLimits, PoolId, unit_at, is_number}
-use Rattle.tomex_cycle.proofs.Words.{step_dest, step_pool, Done, AreTimed, IsLeast, can_end, tag_at, AreIssuedBy}
-use Rattle.tomex_cycle.proofs.Words.{clocks, holds_place, order_of, place_of, station_at, station_of, ShowsStations}
-use Rattle.tomex_cycle.proofs.Words.{is_finished_by, AreEnding, can_send, ends_alone, is_finished_before, place_at}
-use Rattle.tomex_cycle.proofs.Words.{Pools, AreBusy, Station, has, IsInIssueOrder}
-use Rattle.tomex_cycle.proofs.AddressChosen.{some_none_of}
+use Rattle.tomex_cycle.proofs.Words.{nat_tests, not, MatchBool, cases_Bool, ltb-true, ltb-false, lt-ltb, and_parts}
+use Rattle.tomex_cycle.proofs.Words.{eq-eqb, eqb-true, ne_eqb, both_ways, Loaded, Configuration, IsWithinLimits, PoolId}
+use Rattle.tomex_cycle.proofs.Words.{unit_at, is_number, step_dest, step_pool, Done, AreTimed, IsLeast, can_end, tag_at}
+use Rattle.tomex_cycle.proofs.Words.{AreIssuedBy, clocks, holds_place, order_of, place_of, station_at, station_of}
+use Rattle.tomex_cycle.proofs.Words.{ShowsStations, is_finished_by, AreEnding, can_send, ends_alone, is_finished_before}
+use Rattle.tomex_cycle.proofs.Words.{place_at, Pools, AreBusy, Station, has, IsInIssueOrder}
 use Rattle.tomex_cycle.proofs.Addresses.{number_is_some}
 use Rattle.tomex_cycle.proofs.Places.{place_low, is_vacant, vacant, least_test, low, station_here}
-use Rattle.tomex_cycle.proofs.Fields.{dest_later, timed_part}
-use Rattle.tomex_cycle.proofs.Totals.{place_there, reach}
+use Rattle.tomex_cycle.proofs.Fields.{timed_part}
+use Rattle.tomex_cycle.proofs.Totals.{reach}
 use Rattle.tomex_cycle.proofs.Serving.{AreServed, Serves, goes_at, picked_goes}
 use Rattle.tomex_cycle.proofs.Orders.{order_is}
 use Rattle.tomex_cycle.proofs.StartsPicked.{all_alone}

@@ -1,15 +1,13 @@
 -- What ends in a cycle, and what is sent, make the state after the cycle.
-use Rattle.std.proofs.Common.{ℕ, ◌+◌, ◌<◌, ◌≤◌, ◌≡◌, ◌∙◌, true, arith, refl, List, [], ◌∷◌, ◌++◌, Option}
-use Rattle.std.proofs.Common.{Some, None, ap, sym, inl, inr, ◌⊎◌, append_assoc, slice_index, slice_index_or, option_map}
-use Rattle.tomex_cycle.proofs.Words.{nat_lt, if◌then◌else◌, ◌==◌, is_some, cases_Bool, cases_order, ltb-true, ltb-false}
-use Rattle.tomex_cycle.proofs.Words.{nat_tests}
+use Rattle.std.proofs.Common.{ℕ, ◌+◌, ◌<◌, ◌≤◌, ◌≡◌, ◌∙◌, true, arith, refl, List, [], ◌∷◌, ◌++◌, Option, Some, None}
+use Rattle.std.proofs.Common.{ap, sym, inl, inr, ◌⊎◌, append_assoc, slice_index, slice_index_or}
+use Rattle.tomex_cycle.proofs.Words.{nat_lt, if◌then◌else◌, ◌==◌, is_some, cases_Bool, ltb-true, ltb-false, nat_tests}
 use Rattle.tomex_cycle.proofs.Words.{lt-ltb, le-ltb, le-leb, eqb-true, eqb-false, ne_eqb, Loaded, Configuration}
-use Rattle.tomex_cycle.proofs.Words.{IsWithinLimits, Form, form_of, sources_at, Operand, Step, register_after}
-use Rattle.tomex_cycle.proofs.Words.{is_number, j_of, k_of, operand, step_dest, step_pool, Field, Tag, Done, AreTimed}
-use Rattle.tomex_cycle.proofs.Words.{field_from, field_of, producer, ArePast, AreIssuedBy, steps_in, clocks, place_of}
-use Rattle.tomex_cycle.proofs.Words.{sent_at, station_at, station_of, ShowsRegisters, after_ends, sends_of, sent_below}
-use Rattle.tomex_cycle.proofs.Words.{HaveReceived, hears, heard, RegStatus, Station, has}
-use Rattle.tomex_rvdec.specs.declared.op.Form.TheVariants as forms
+use Rattle.tomex_cycle.proofs.Words.{IsWithinLimits, Operand, Step, register_after, is_number, j_of, k_of, operand}
+use Rattle.tomex_cycle.proofs.Words.{step_dest, step_pool, Field, Tag, Done, AreTimed, field_from, field_of, producer}
+use Rattle.tomex_cycle.proofs.Words.{ArePast, AreIssuedBy, steps_in, clocks, place_of, sent_at, station_at, station_of}
+use Rattle.tomex_cycle.proofs.Words.{ShowsRegisters, after_ends, sends_of, sent_below, HaveReceived, hears, heard}
+use Rattle.tomex_cycle.proofs.Words.{RegStatus, Station, has}
 use Rattle.tomex_rvexec.specs.History.{Follows}
 use Rattle.tomex_cycle.proofs.Addresses.{number_is_some}
 use Rattle.tomex_cycle.proofs.Places.{place_low, is_vacant, low, vacant, vacant_none}
@@ -72,12 +70,6 @@ sent_all i t u h slots picked good timed issued e shown ends y = elim (cases_Boo
 ]
 
 -- Operands hear what is sent.
-
-j_reads : (f : Form) (rs1 rs2 : ℕ) → ((sources_at f rs1 rs2).j ≡ None) ⊎ ((sources_at f rs1 rs2).j ≡ Some rs1)
-j_reads f rs1 rs2 = grind (arith, nat_tests)
-
-k_reads : (f : Form) (rs1 rs2 : ℕ) → ((sources_at f rs1 rs2).k ≡ None) ⊎ ((sources_at f rs1 rs2).k ≡ Some rs2)
-k_reads f rs1 rs2 = grind (arith, nat_tests)
 
 pub j_cases : (x : Step) → (j_of x ≡ None) ⊎ (j_of x ≡ Some (operand x.vj x.instr.rs1))
 j_cases x = grind (arith, nat_tests)

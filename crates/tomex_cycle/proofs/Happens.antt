@@ -21,7 +21,7 @@ use Rattle.tomex_cycle.proofs.Cycles.{IsUnderWay}
 use Rattle.tomex_cycle.proofs.Shifting.{run_split}
 use Rattle.tomex_cycle.proofs.Orders.{order_is}
 use Rattle.tomex_cycle.proofs.Addresses.{waiting_is}
-use Rattle.tomex_cycle.proofs.IssueOrder.{first_waiting, next_address, where_base_is_there}
+use Rattle.tomex_cycle.proofs.IssueOrder.{next_address, where_base_is_there}
 use Rattle.tomex_cycle.proofs.AddressChosen.{chosen, holds_by, none_waits, not_le, or_else, test_is, waits_for_address}
 use Rattle.tomex_cycle.proofs.EndsFetch.{ending_low}
 use Rattle.tomex_cycle.proofs.EndsPass.{ending_is, ends_in}

@@ -2,19 +2,16 @@
 use Rattle.std.proofs.Common.{ℕ, ◌+◌, ◌<◌, ◌≤◌, ◌≡◌, ◌∙◌, Bool, true, false, arith, refl, List, ◌∷◌, Option, Some, None}
 use Rattle.std.proofs.Common.{ap, sym, inl, inr, length, slice_index_or, slice_set}
 use Rattle.tomex_cycle.proofs.Words.{nat_lt, nat_le, ◌&&◌, ◌==◌, if◌then◌else◌, slice_index, option_map, IfSome}
-use Rattle.tomex_cycle.proofs.Words.{nat_tests}
-use Rattle.tomex_cycle.proofs.Words.{MatchOption, cases_Bool, ltb-true, lt-ltb, lt-leb, and_parts, eqb-true, eqb-false}
-use Rattle.tomex_cycle.proofs.Words.{get_or-set_same, get_or-set_other, length-set, Loaded, Configuration}
-use Rattle.tomex_cycle.proofs.Words.{IsWithinLimits, Form, PoolId, UnitId, Instruction, form_of, sources_at, sources_of}
-use Rattle.tomex_cycle.proofs.Words.{unit_at, Step, end_of, result_of, byte_after, register_after, address_of}
-use Rattle.tomex_cycle.proofs.Words.{is_branch, is_in, is_number, j_of, k_of, operand, step_dest, step_pool}
-use Rattle.tomex_cycle.proofs.Words.{dest_needs_pool, Field, Value, Tag, Done, cycle_of, is_memory, AreTimed, IsTimed}
-use Rattle.tomex_cycle.proofs.Words.{IsLeast, can_issue, can_start, is_free, field_from, field_of, producer, tag_at}
-use Rattle.tomex_cycle.proofs.Words.{tag_of, unsent_tag, least_same, issue_from, Fetch, IsYetToIssue, first_timed}
-use Rattle.tomex_cycle.proofs.Words.{steps_in, Clocks, ShowsRegisters, ShowsStations, clocks, fetch_after, fetch_of}
-use Rattle.tomex_cycle.proofs.Words.{place_of, station_at, station_of, issue_number_at, place_at, issued, Pools}
-use Rattle.tomex_cycle.proofs.Words.{operand_in, tags_with, RegStatus, Station}
-use Rattle.tomex_rvdec.specs.declared.op.Form.TheVariants as forms
+use Rattle.tomex_cycle.proofs.Words.{nat_tests, MatchOption, cases_Bool, ltb-true, lt-ltb, lt-leb, and_parts, eqb-true}
+use Rattle.tomex_cycle.proofs.Words.{eqb-false, get_or-set_same, get_or-set_other, length-set, Loaded, Configuration}
+use Rattle.tomex_cycle.proofs.Words.{IsWithinLimits, Form, PoolId, Instruction, form_of, sources_at, sources_of, Step}
+use Rattle.tomex_cycle.proofs.Words.{end_of, result_of, byte_after, register_after, address_of, is_branch, is_in}
+use Rattle.tomex_cycle.proofs.Words.{is_number, j_of, k_of, operand, step_dest, step_pool, dest_needs_pool, Field, Tag}
+use Rattle.tomex_cycle.proofs.Words.{Done, cycle_of, is_memory, AreTimed, IsTimed, IsLeast, can_issue}
+use Rattle.tomex_cycle.proofs.Words.{is_free, field_of, tag_at, tag_of, unsent_tag, issue_from, Fetch, IsYetToIssue}
+use Rattle.tomex_cycle.proofs.Words.{first_timed, steps_in, Clocks, ShowsRegisters, ShowsStations, clocks, fetch_after}
+use Rattle.tomex_cycle.proofs.Words.{fetch_of, place_of, station_at, station_of, issue_number_at, place_at, issued}
+use Rattle.tomex_cycle.proofs.Words.{Pools, operand_in, tags_with, RegStatus, Station}
 use Rattle.tomex_rvdec.specs.declared.pool.PoolId.TheVariants as pools
 use Rattle.tomex_rvexec.specs.History.{Follows}
 use Rattle.tomex_cycle.proofs.AddressChosen.{address_is}
@@ -22,12 +19,6 @@ use Rattle.tomex_cycle.proofs.Cycles.{can_start_later}
 use Rattle.tomex_cycle.proofs.Totals.{reach}
 
 -- The times of what issues lie after the cycle.
-
-starts_from : (pool : Option PoolId) (issue start : ℕ) (p : PoolId) (P : UnitId → ℕ → Bool) → pool ≡ Some p
-    → ((u : UnitId) (x : ℕ) → P u x ≡ true → issue < x)
-    → MatchOption (unit_at pool) (start ≡ issue) (λ u. IsLeast (P u) start) → issue < start
-starts_from None issue start p P e later timed = absurd (cc)
-starts_from (Some q) issue start p P e later timed = later _ start timed.0
 
 starts_after : {config : Configuration} (d : Done) {older : List Done} (p : PoolId) → IsTimed config older d.step d.at
     → step_pool d.step ≡ Some p → d.at.issue < d.at.start
@@ -45,10 +36,6 @@ source_j f rs1 rs2 r h4 = grind (arith, nat_tests)
 
 source_k : (f : Form) (rs1 rs2 r : ℕ) → (sources_at f rs1 rs2).k ≡ Some r → r ≡ rs2
 source_k f rs1 rs2 r h4 = grind (arith, nat_tests)
-
-field_same : (a b : ℕ) (tag : Option Tag) → (tag ≡ None → a ≡ b) → field_from a tag ≡ field_from b tag
-field_same a b None e = ap (λ (v : ℕ). Value v) (e refl)
-field_same a b (Some tag) e = refl
 
 -- an operand that is read from the registers
 read_is : {i : Loaded} {t : ℕ} (v : ℕ) {h : List Done} {rg : RegStatus} (source : Option ℕ) → ShowsRegisters i t h rg

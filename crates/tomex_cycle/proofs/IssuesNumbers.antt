@@ -1,13 +1,11 @@
 -- The numbers of a pool's stations: which are free, and how many are held.
-use Rattle.std.proofs.Common.{ℕ, zero, suc, ◌+◌, ◌*◌, ◌<◌, ◌≤◌, ◌≡◌, ◌∙◌, Bool, true, false, arith, refl, List}
-use Rattle.std.proofs.Common.{[], ◌∷◌, Option, Some, None, ap, sym, inl, inr}
+use Rattle.std.proofs.Common.{ℕ, zero, suc, ◌+◌, ◌*◌, ◌<◌, ◌≤◌, ◌≡◌, Bool, true, false, arith, refl, List, [], ◌∷◌}
+use Rattle.std.proofs.Common.{Option, Some, None, ap, inl, inr}
 use Rattle.tomex_cycle.proofs.Words.{nat_lt, nat_le, ◌&&◌, not, count_by, is_none, MatchOption, list_all, cases_Bool}
-use Rattle.tomex_cycle.proofs.Words.{nat_tests}
-use Rattle.tomex_cycle.proofs.Words.{cases_order, ltb-true, lt-ltb, le-ltb, leb-true, leb-false, le-leb, lt-leb}
-use Rattle.tomex_cycle.proofs.Words.{and_parts, eqb-true, both_ways, sum_by-cons, Loaded, Configuration, stations_of}
-use Rattle.tomex_cycle.proofs.Words.{PoolId, place_of_pool, is_in, is_number, step_pool, Done, AreTimed, IsLeast, least}
-use Rattle.tomex_cycle.proofs.Words.{has_station, is_free, is_held, least_same, issue_station, number_is, AreIssuedBy}
-use Rattle.tomex_cycle.proofs.Words.{clocks, holds_place, station_at}
+use Rattle.tomex_cycle.proofs.Words.{nat_tests, cases_order, lt-ltb, le-ltb, and_parts, sum_by-cons, Loaded}
+use Rattle.tomex_cycle.proofs.Words.{Configuration, stations_of, PoolId, place_of_pool, is_in, is_number, step_pool}
+use Rattle.tomex_cycle.proofs.Words.{Done, AreTimed, IsLeast, least, has_station, is_free, is_held, least_same}
+use Rattle.tomex_cycle.proofs.Words.{issue_station, number_is, AreIssuedBy, clocks, holds_place, station_at}
 use Rattle.tomex_timing.proofs.Stations.{lower, one, split_count}
 use Rattle.tomex_cycle.proofs.Places.{AreLow, same_place}
 use Rattle.tomex_timing.proofs.Places.{same_pool}

@@ -1,13 +1,12 @@
 -- Whether the next step can issue in a cycle: fetch and the pool's stations say so.
 use Rattle.std.proofs.Common.{ℕ, ◌+◌, ◌<◌, ◌≤◌, ◌≡◌, ◌∙◌, Bool, true, false, arith, refl, List, [], ◌∷◌, Option, Some}
 use Rattle.std.proofs.Common.{None, sym, inl, inr}
-use Rattle.tomex_cycle.proofs.Words.{nat_lt, ◌&&◌, ◌||◌, not, Ok, cases_Bool, cases_order, ltb-true, ltb-false, lt-ltb}
-use Rattle.tomex_cycle.proofs.Words.{nat_tests}
-use Rattle.tomex_cycle.proofs.Words.{le-ltb, and_parts, Loaded, Configuration, IsWithinLimits, EndKind, Step}
-use Rattle.tomex_cycle.proofs.Words.{instruction_at, end_of, next_pc_of, step_after, is_branch, step_pool, step_follows}
-use Rattle.tomex_cycle.proofs.Words.{Done, AreTimed, are_branches_finished, can_issue, can_issue_another, times_of}
-use Rattle.tomex_cycle.proofs.Words.{has_station, least_same, times_are, Fetch, At, Stopped, IsYetToIssue, AreIssuedBy}
-use Rattle.tomex_cycle.proofs.Words.{first_timed, steps_in, RunEndsAfter, fetch_after, fetch_of}
+use Rattle.tomex_cycle.proofs.Words.{nat_lt, ◌&&◌, ◌||◌, not, Ok, cases_order, lt-ltb, nat_tests, and_parts, Loaded}
+use Rattle.tomex_cycle.proofs.Words.{Configuration, IsWithinLimits, EndKind, Step, instruction_at, end_of, next_pc_of}
+use Rattle.tomex_cycle.proofs.Words.{step_after, is_branch, step_pool, step_follows, Done, AreTimed}
+use Rattle.tomex_cycle.proofs.Words.{are_branches_finished, can_issue, can_issue_another, times_of, has_station}
+use Rattle.tomex_cycle.proofs.Words.{least_same, times_are, At, IsYetToIssue, AreIssuedBy, first_timed, steps_in}
+use Rattle.tomex_cycle.proofs.Words.{RunEndsAfter, fetch_after, fetch_of}
 use Rattle.tomex_rvexec.specs.History.{Follows, pc_after}
 use Rattle.tomex_cycle.specs.declared.fetch.Fetch.TheVariants.{Waits}
 use Rattle.tomex_cycle.proofs.Runs.{step_is, steps_are}
@@ -94,9 +93,6 @@ at_is i t pc (d ∷ older) e = at_parts d.step (is_branch d.step && nat_lt t d.a
 pub waits_is : (i : Loaded) (t : ℕ) (h : List Done) → fetch_of i t h ≡ Waits → is_waiting t h ≡ true
 waits_is i t [] e = absurd (cc)
 waits_is i t (d ∷ older) e = waits_parts d.step (is_branch d.step && nat_lt t d.at.finish) (end_of d.step) e
-
-at_stopped : (f : Fetch) (pc p : ℕ) (kind : EndKind) → f ≡ At pc → f ≡ Stopped kind p → ⊥
-at_stopped f pc p kind e g = cc
 
 -- while fetch has an address steps are left
 pub left : {config : Configuration} {i : Loaded} {n : ℕ} (t count pc : ℕ) → RunEndsAfter i config n → count ≤ n + 1

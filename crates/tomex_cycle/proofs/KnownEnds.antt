@@ -2,9 +2,8 @@
 use Rattle.std.proofs.Common.{ℕ, ◌+◌, ◌^◌, ◌<◌, ◌≤◌, ◌≡◌, ◌∙◌, Bool, true, false, arith, refl, ap, sym, inl, inr, List}
 use Rattle.std.proofs.Common.{Option, Some, None, length, slice_index_or, option_map}
 use Rattle.tomex_cycle.proofs.Words.{nat_le, nat_lt, ◌==◌, ◌≢◌, ◌&&◌, ◌||◌, not, is_some, and_parts, and_right}
-use Rattle.tomex_cycle.proofs.Words.{nat_tests}
-use Rattle.tomex_cycle.proofs.Words.{both_ways, cases_Bool, eqb-true, eqb-false, le-leb, le-ltb, leb-true, lt-leb}
-use Rattle.tomex_cycle.proofs.Words.{lt-ltb, ltb-true, ltb-false, ne_eqb, get_or_past, dest_of, is_number, IsPicked}
+use Rattle.tomex_cycle.proofs.Words.{nat_tests, both_ways, cases_Bool, eqb-true, eqb-false, le-leb, leb-true, lt-leb}
+use Rattle.tomex_cycle.proofs.Words.{lt-ltb, ltb-true, ltb-false, get_or_past, dest_of, is_number, IsPicked}
 use Rattle.tomex_cycle.proofs.Words.{none_picked, has, is_due, none_in, hears, is_served, AreBusy, Pools, IsSetOf}
 use Rattle.tomex_cycle.proofs.Words.{writes, Station, AreDone, AreEnding, IsDoneBranch, after_ends, can_send}
 use Rattle.tomex_cycle.proofs.Words.{ends_alone, finishes, is_finished_by, is_finished_before, IsTimetableOf}
@@ -97,39 +96,9 @@ after_test : (test : Option Station → Bool) (sent : ℕ → Option ℕ) (ended
 after_test test sent true o none same = none
 after_test test sent false o none same = heard_same test sent o same
 
-later_test : (next a : ℕ) (finish : Option ℕ) (b : Bool) → (b && is_finished_before finish next) ≡ true
-    → is_number finish (next + a) ≡ false
-later_test next a None b e = refl
-later_test next a (Some v) b e = let l : v < next = ltb-true v next (and_parts b (nat_lt v next) e).1 in
-    ne_eqb v (next + a) (λ z. absurd (omega arith))
-
--- what was unsent doesn't finish any more
-sent_before : (next a : ℕ) (o : Option Station) → can_send next o ≡ true → finishes (next + a) o ≡ false
-sent_before next a None e = refl
-sent_before next a (Some s) e = later_test next a s.finish (is_some (dest_of s.instr)) e
-
--- what finishes in a cycle finishes in no later one
-done_once : (next a : ℕ) (o : Option Station) → finishes next o ≡ true → finishes (next + 1 + a) o ≡ false
-done_once next a None e = refl
-done_once next a (Some s) e = of s.finish e
-  where
-    of : (finish : Option ℕ) → is_number finish next ≡ true → is_number finish (next + 1 + a) ≡ false
-    of None e = refl
-    of (Some v) e = let f : v ≡ next = eqb-true v next e in ne_eqb v (next + 1 + a) (λ z. absurd (omega arith))
-
 before_next : (next : ℕ) (finish : Option ℕ)
     → is_finished_before finish (next + 1) ≡ (is_finished_before finish next || is_number finish next)
 before_next next finish = grind (arith, nat_tests)
-
--- by what is sent and what is over it follows whether a result is unsent in the next cycle
-ready_test : (r before done sending : Bool) → (sending ≡ true → (r && before) ≡ true) → (before ≡ true → done ≡ false)
-    → (((r && before) && not sending) || (done && r))
-    ≡ (not (sending || (done && not (done && r))) && (r && (before || done)))
-ready_test r before done sending inside apart = grind (arith, nat_tests)
-
-apart_test : (next : ℕ) (finish : Option ℕ) → is_finished_before finish next ≡ true → is_number finish next ≡ false
-apart_test next None e = refl
-apart_test next (Some v) e = let l : v < next = ltb-true v next e in ne_eqb v next (λ z. absurd (omega arith))
 
 unsent_is : (next : ℕ) (o : Option Station) (sending : Bool) → (sending ≡ true → can_send next o ≡ true)
     → ((can_send next o && not sending) || (finishes next o && writes o))

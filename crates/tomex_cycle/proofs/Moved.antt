@@ -1,9 +1,8 @@
 -- What is noted of a cycle as its phases change something.
-use Rattle.std.proofs.Common.{ℕ, Bool, true, false, ◌≡◌, refl, inl, inr, arith}
-use Rattle.std.specs.Prelude.{◌≢◌, ◌⊎◌, if◌then◌else◌}
+use Rattle.std.proofs.Common.{ℕ, Bool, true, false, ◌≡◌, refl, arith}
+use Rattle.tomex_cycle.proofs.Words.{◌≢◌, ◌⊎◌, if◌then◌else◌, nat_tests}
 use Rattle.tomex_cycle.specs.declared.activity.Activity.{Activity}
 use Rattle.tomex_cycle.specs.declared.activity.Activity.TheVariants.{Nothing, Starts, More}
-use Rattle.tomex_cycle.proofs.Words.{nat_tests}
 
 -- starts, an address, an issue: each is noted on top of those before it
 abbrev pub noted : (any addressed made : Bool) → Activity

@@ -2,12 +2,10 @@
 use Rattle.std.proofs.Common.{ℕ, ◌+◌, ◌<◌, ◌≤◌, ◌≡◌, ◌∙◌, true, arith, refl, List, Option, None, ap, sym, inl, inr}
 use Rattle.std.proofs.Common.{slice_index_or}
 use Rattle.tomex_cycle.proofs.Words.{nat_lt, ◌⊎◌, if◌then◌else◌, cases_Bool, ltb-true, ltb-false, Loaded, Configuration}
-use Rattle.tomex_cycle.proofs.Words.{nat_tests}
-use Rattle.tomex_cycle.proofs.Words.{EndsWithin, Done, greatest_end, Inner, Progress, CycleOutcome, Running, Ended}
-use Rattle.tomex_cycle.proofs.Words.{progress_of, finishes, GoesOn, SkipsTo, events_in, IsFree, IsSkipped, IsAt}
+use Rattle.tomex_cycle.proofs.Words.{nat_tests, EndsWithin, Done, greatest_end, Inner, Progress, CycleOutcome, Running}
+use Rattle.tomex_cycle.proofs.Words.{Ended, progress_of, finishes, GoesOn, SkipsTo, events_in, IsFree, IsSkipped, IsAt}
 use Rattle.tomex_cycle.proofs.Words.{MakesCycle, RunEndsAfter, run_of, first_timed, IsSound, clocks, Station}
 use Rattle.tomex_cycle.specs.declared.progress.CycleOutcome.TheVariants as made_as
-use Rattle.tomex_cycle.specs.declared.progress.Progress.TheVariants.{Faulted}
 use Rattle.tomex_cycle.specs.Finishes.{FinishesNext}
 use Rattle.tomex_cycle.proofs.Happens.{finish_happens, over_happens, run_happens, quiet_none}
 use Rattle.tomex_cycle.proofs.Runs.{run_whole}

@@ -1,12 +1,11 @@
 -- The busy places in issue order are those of the steps under way, the oldest first.
-use Rattle.std.proofs.Common.{ℕ, ◌+◌, ◌<◌, ◌≤◌, ◌≡◌, ◌∙◌, ◌^◌, true, false, arith, refl, List, [], ◌∷◌, ◌++◌}
-use Rattle.std.proofs.Common.{Option, Some, None, ap, sym, inl, inr, append_assoc, length, slice_index}
+use Rattle.std.proofs.Common.{ℕ, ◌+◌, ◌<◌, ◌≤◌, ◌≡◌, ◌∙◌, ◌^◌, true, false, arith, refl, List, [], ◌∷◌, ◌++◌, Option}
+use Rattle.std.proofs.Common.{Some, None, ap, sym, inl, inr, append_assoc, length, slice_index}
 use Rattle.tomex_cycle.proofs.Words.{nat_lt, not, ◌||◌, ◌==◌, is_some, w128, bit_at-trailing_zeros, cases_Bool}
-use Rattle.tomex_cycle.proofs.Words.{nat_tests}
-use Rattle.tomex_cycle.proofs.Words.{cases_order, both_ways, ltb-true, ltb-false, and_parts, eq-eqb, eqb-true}
-use Rattle.tomex_cycle.proofs.Words.{get_or_past, Loaded, Configuration, IsWithinLimits, is_number, step_pool, Done}
-use Rattle.tomex_cycle.proofs.Words.{AreTimed, has, IsInIssueOrder, Rises, is_listed, has_one, none_in, AreBusy, Pools}
-use Rattle.tomex_cycle.proofs.Words.{AreIssuedBy, Clocks, ShowsStations, issue_number_at, holds_place, order_of}
+use Rattle.tomex_cycle.proofs.Words.{nat_tests, cases_order, both_ways, ltb-true, ltb-false, and_parts, eq-eqb}
+use Rattle.tomex_cycle.proofs.Words.{eqb-true, get_or_past, Loaded, Configuration, IsWithinLimits, is_number, step_pool}
+use Rattle.tomex_cycle.proofs.Words.{Done, AreTimed, has, IsInIssueOrder, Rises, is_listed, has_one, none_in, AreBusy}
+use Rattle.tomex_cycle.proofs.Words.{Pools, AreIssuedBy, Clocks, ShowsStations, issue_number_at, holds_place, order_of}
 use Rattle.tomex_cycle.proofs.Words.{place_of, station_at}
 use Rattle.tomex_cycle.proofs.Places.{is_vacant, low, place_low, vacant, AreLow}
 use Rattle.tomex_cycle.proofs.Truth.{or_false, or_one}

@@ -11,7 +11,7 @@ use Rattle.tomex_cycle.proofs.Words.{byte_at, clocks, ShowsRegisters, ShowsStati
 use Rattle.tomex_cycle.proofs.Words.{overwrites, step_ends_it, step_follows, step_joins, timed_by, IsSound, Pools}
 use Rattle.tomex_cycle.proofs.Words.{RegStatus, Station}
 use Rattle.tomex_image.specs.Image.{IsLoaded}
-use Rattle.tomex_rvexec.specs.History.{Follows, Leaves, history as first_steps}
+use Rattle.tomex_rvexec.specs.History.{Leaves, history as first_steps}
 use Rattle.tomex_rvexec.specs.Machine.{State}
 use Rattle.tomex_rvexec.specs.Run.{start_of}
 use Rattle.tomex_cycle.specs.Inner.{IsFresh}

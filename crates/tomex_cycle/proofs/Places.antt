@@ -2,15 +2,12 @@
 use Rattle.std.proofs.Common.{ℕ, ◌+◌, ◌*◌, ◌<◌, ◌≤◌, ◌≡◌, ◌∙◌, Bool, true, false, arith, refl, List, [], ◌∷◌, ◌++◌}
 use Rattle.std.proofs.Common.{Option, Some, None, sym, inl, inr, append_assoc}
 use Rattle.std.proofs.lemmas.List.{append-nil}
-use Rattle.tomex_cycle.proofs.Words.{nat_lt, nat_le, ◌&&◌, ◌==◌, not, MatchOption, ⊤, list_all, cases_Bool, cases_order}
-use Rattle.tomex_cycle.proofs.Words.{nat_tests}
-use Rattle.tomex_cycle.proofs.Words.{ltb-true, le-leb, both_ways, and_parts, eqb-true, eq-eqb, ne_eqb, and_right}
-use Rattle.tomex_cycle.proofs.Words.{Loaded, Configuration, IsWithinLimits, stations_of, PoolId, place_of_pool, is_in}
-use Rattle.tomex_cycle.proofs.Words.{is_number, step_pool, Done, AreTimed, IsLeast, least, has_station, is_free}
-use Rattle.tomex_cycle.proofs.Words.{is_held, tag_at, least_same, stations_high, issue_station, number_is, AreIssuedBy}
-use Rattle.tomex_cycle.proofs.Words.{Clocks, holds_place, onto_end, order_of, place_of, station_at, station_of}
-use Rattle.tomex_cycle.proofs.Words.{place_at}
-use Rattle.tomex_rvdec.specs.declared.pool.PoolId.TheVariants as pools
+use Rattle.tomex_cycle.proofs.Words.{nat_lt, nat_le, ◌&&◌, ◌==◌, not, MatchOption, ⊤, list_all, cases_Bool, nat_tests}
+use Rattle.tomex_cycle.proofs.Words.{ltb-true, le-leb, and_parts, eqb-true, eq-eqb, and_right, Loaded, Configuration}
+use Rattle.tomex_cycle.proofs.Words.{IsWithinLimits, stations_of, PoolId, place_of_pool, is_in, is_number, step_pool}
+use Rattle.tomex_cycle.proofs.Words.{Done, AreTimed, IsLeast, least, has_station, is_free, is_held, tag_at, least_same}
+use Rattle.tomex_cycle.proofs.Words.{stations_high, issue_station, number_is, AreIssuedBy, Clocks, holds_place}
+use Rattle.tomex_cycle.proofs.Words.{onto_end, order_of, place_of, station_at, station_of, place_at}
 use Rattle.tomex_cycle.proofs.Truth.{some_not_none}
 
 -- a step's place, taken apart

@@ -2,12 +2,10 @@
 use Rattle.std.proofs.Common.{ℕ, zero, suc, ◌+◌, ◌-◌, ◌<◌, ◌≤◌, ◌≡◌, ◌∙◌, true, false, arith, refl, List, [], ◌∷◌, ◌++◌}
 use Rattle.std.proofs.Common.{Some, None, ap, sym, inl, inr, length, subst}
 use Rattle.std.proofs.lemmas.List.{reverse-reverse}
-use Rattle.tomex_cycle.proofs.Words.{nat_lt, ⊤, IsSome, cases_Bool, cases_order, both_ways, ltb-true, ltb-false, Loaded}
-use Rattle.tomex_cycle.proofs.Words.{nat_tests}
-use Rattle.tomex_cycle.proofs.Words.{Configuration, IsWithinLimits, EndKind, Step, IsAllowed, end_of, step_after}
-use Rattle.tomex_cycle.proofs.Words.{step_joins, step_follows, step_goes_on, step_ends_it, Done, last_issue, AreTimed}
-use Rattle.tomex_cycle.proofs.Words.{can_issue, times_of, times_are, issue_from, steps_in, ArePast, IsHistory}
-use Rattle.tomex_cycle.proofs.Words.{RunEndsAfter, IsYetToIssue}
+use Rattle.tomex_cycle.proofs.Words.{⊤, IsSome, cases_order, Loaded, nat_tests, Configuration, IsWithinLimits, EndKind}
+use Rattle.tomex_cycle.proofs.Words.{Step, IsAllowed, end_of, step_after, step_joins, step_follows, step_goes_on}
+use Rattle.tomex_cycle.proofs.Words.{step_ends_it, Done, last_issue, AreTimed, can_issue, times_of, times_are}
+use Rattle.tomex_cycle.proofs.Words.{issue_from, steps_in, ArePast, IsHistory, RunEndsAfter, IsYetToIssue}
 use Rattle.tomex_rvexec.specs.History.{history as first_steps}
 use Rattle.tomex_rvexec.proofs.FlowEnds.{step_comes, steps_to_end}
 use Rattle.tomex_timing.specs.Search.{timed_of, history}

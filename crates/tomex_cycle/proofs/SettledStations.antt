@@ -3,17 +3,14 @@
 -- where operations start, and leave none that waits for a unit, it is settled.
 use Rattle.std.proofs.Common.{ℕ, ◌+◌, ◌<◌, ◌≤◌, ◌≡◌, ◌∙◌, Bool, true, false, arith, refl, List, [], ◌∷◌, ◌++◌, Option}
 use Rattle.std.proofs.Common.{Some, None, ap, sym, inl, inr, append_assoc, slice_index_or}
-use Rattle.std.proofs.lemmas.Bool.{MatchBool-at_true}
-use Rattle.tomex_cycle.proofs.Words.{◌≢◌, nat_lt, nat_le, ◌&&◌, ◌==◌, if◌then◌else◌, is_some, MatchOption, cases_Bool}
-use Rattle.tomex_cycle.proofs.Words.{nat_tests}
-use Rattle.tomex_cycle.proofs.Words.{both_ways, le-ltb, lt-ltb, ltb-true, ltb-false, le-leb, lt-leb, and_from}
+use Rattle.tomex_cycle.proofs.Words.{◌≢◌, nat_lt, nat_le, ◌&&◌, if◌then◌else◌, is_some, MatchOption, cases_Bool}
+use Rattle.tomex_cycle.proofs.Words.{nat_tests, both_ways, le-ltb, lt-ltb, ltb-true, ltb-false, le-leb, and_from}
 use Rattle.tomex_cycle.proofs.Words.{and_parts, eq-eqb, Loaded, Configuration, IsWithinLimits, UnitId, dest_of}
 use Rattle.tomex_cycle.proofs.Words.{address_of, is_branch, is_number, step_pool, step_unit, j_of, k_of, Done, cycle_of}
-use Rattle.tomex_cycle.proofs.Words.{is_memory, last_address, source_end, AreTimed, IsTimed, IsLeast}
-use Rattle.tomex_cycle.proofs.Words.{are_conflicts_finished, can_address, can_issue, can_start, has_operands, has_unit}
-use Rattle.tomex_cycle.proofs.Words.{AllSettled, IsSettled, finishes, AreResults, AreIssuedBy, NoneWaits, clocks}
-use Rattle.tomex_cycle.proofs.Words.{holds_place, place_of, station_at, station_of, ShowsStations, is_waiting, Pools}
-use Rattle.tomex_cycle.proofs.Words.{waits, writes, Station}
+use Rattle.tomex_cycle.proofs.Words.{is_memory, source_end, AreTimed, IsTimed, IsLeast, are_conflicts_finished}
+use Rattle.tomex_cycle.proofs.Words.{can_issue, can_start, has_operands, has_unit, AllSettled, IsSettled, finishes}
+use Rattle.tomex_cycle.proofs.Words.{AreResults, AreIssuedBy, NoneWaits, clocks, holds_place, place_of, station_at}
+use Rattle.tomex_cycle.proofs.Words.{station_of, ShowsStations, is_waiting, Pools, waits, writes, Station}
 use Rattle.tomex_cycle.proofs.Cycles.{can_start_later}
 use Rattle.tomex_cycle.proofs.EndsFetch.{place_high}
 use Rattle.tomex_cycle.proofs.Fields.{timed_part, issued_part}

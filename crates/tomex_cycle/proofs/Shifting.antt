@@ -1,13 +1,11 @@
 -- What a state shows after a cycle it shows after a later one, where nothing happens between but finishes of results.
 use Rattle.std.proofs.Common.{ℕ, zero, suc, ◌+◌, ◌-◌, ◌<◌, ◌≤◌, ◌≡◌, ◌∙◌, true, arith, refl, List, [], ◌∷◌, ◌++◌}
 use Rattle.std.proofs.Common.{Option, Some, None, ap, inl, inr, subst}
-use Rattle.tomex_cycle.proofs.Words.{◌≢◌, nat_lt, nat_le, ◌&&◌, AllByRecursion, both_ways, cases_Bool, le-ltb, ltb-true}
-use Rattle.tomex_cycle.proofs.Words.{nat_tests}
-use Rattle.tomex_cycle.proofs.Words.{ltb-false, le-leb, leb-true, leb-false, Loaded, Configuration, Operand, end_of}
-use Rattle.tomex_cycle.proofs.Words.{Bytes, is_branch, is_number, step_dest, j_of, k_of, Done, cycle_of, times_of}
-use Rattle.tomex_cycle.proofs.Words.{field_of, field_from, producer, times_are, Fetch, IsSnapshot, IsYetToIssue}
-use Rattle.tomex_cycle.proofs.Words.{byte_at, first_timed, RunEndsAfter, clocks, fetch_after, fetch_of, holds_place}
-use Rattle.tomex_cycle.proofs.Words.{place_of, station_at, station_of, Pools, RegStatus}
+use Rattle.tomex_cycle.proofs.Words.{◌≢◌, nat_lt, nat_le, ◌&&◌, AllByRecursion, both_ways, cases_Bool, ltb-true}
+use Rattle.tomex_cycle.proofs.Words.{nat_tests, ltb-false, Loaded, Configuration, Operand, Bytes, is_branch, is_number}
+use Rattle.tomex_cycle.proofs.Words.{step_dest, j_of, k_of, Done, cycle_of, times_of, field_of, field_from, producer}
+use Rattle.tomex_cycle.proofs.Words.{times_are, Fetch, IsSnapshot, IsYetToIssue, byte_at, first_timed, RunEndsAfter}
+use Rattle.tomex_cycle.proofs.Words.{clocks, fetch_of, holds_place, place_of, station_at, station_of, Pools, RegStatus}
 use Rattle.tomex_cycle.proofs.Quiet.{AllSteady, AllQuiet}
 use Rattle.tomex_cycle.proofs.Runs.{next_done, not_by, run_next, run_timed, step_is}
 use Rattle.tomex_cycle.proofs.Totals.{issued_more}

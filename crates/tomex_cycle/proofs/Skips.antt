@@ -7,8 +7,7 @@ use Rattle.tomex_cycle.proofs.Words.{AreTimed, Inner, Progress, Running, Ended, 
 use Rattle.tomex_cycle.proofs.Words.{IsSkipped, progress_of, IsAt, MakesCycle, RunEndsAfter, first_timed, Seen}
 use Rattle.tomex_cycle.proofs.Words.{seen_after, IsSound, AllSettled}
 use Rattle.tomex_cycle.specs.declared.progress.CycleOutcome.TheVariants as made_as
-use Rattle.tomex_cycle.proofs.Quiet.{AllDue, AllSteady, HasResult, settled_next, settled_quiet, quiet_settles}
-use Rattle.tomex_cycle.proofs.Quiet.{quiet_steady}
+use Rattle.tomex_cycle.proofs.Quiet.{AllSteady, HasResult, settled_next, settled_quiet, quiet_settles, quiet_steady}
 use Rattle.tomex_cycle.proofs.Runs.{rest_to, run_timed}
 use Rattle.tomex_cycle.proofs.Shifting.{AllSteadyAfter, AllQuietAfter, shifted}
 use Rattle.tomex_cycle.proofs.SettledStations.{issued_free, issued_results, later_settled, later_due}

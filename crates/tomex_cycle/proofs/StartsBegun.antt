@@ -1,12 +1,10 @@
 -- The picked operations start one after the other, each over the same memory.
 use Rattle.std.proofs.Common.{length, slice_index_or, slice_set, ℕ, ◌+◌, ◌<◌, ◌≡◌, ◌∙◌, Bool, true, false, arith, refl}
 use Rattle.std.proofs.Common.{Option, Some, None, ap, sym, inl, inr, ◌≤◌}
-use Rattle.tomex_cycle.proofs.Words.{nat_lt, ◌&&◌, ◌==◌, ◌≢◌, is_some, both_ways, cases_Bool, lt-ltb, le-ltb, and_right}
-use Rattle.tomex_cycle.proofs.Words.{nat_tests}
-use Rattle.tomex_cycle.proofs.Words.{eqb-true, eqb-false, cases_order, get_or-set_same, get_or-set_other, length-set}
-use Rattle.tomex_cycle.proofs.Words.{Configuration, Bytes, Fault, AllCanBegin, CanBegin, HaveBegun, begun, begun_if}
-use Rattle.tomex_cycle.proofs.Words.{AreLow, Pools, Station, has, IsWithout, AreFrom, all_left, least_from, least_in}
-use Rattle.tomex_cycle.proofs.Words.{left_from, none_after, none_between, skip_to}
+use Rattle.tomex_cycle.proofs.Words.{nat_lt, ◌&&◌, ◌==◌, ◌≢◌, is_some, both_ways, cases_Bool, lt-ltb, le-ltb, nat_tests}
+use Rattle.tomex_cycle.proofs.Words.{eqb-true, eqb-false, get_or-set_same, get_or-set_other, length-set, Configuration}
+use Rattle.tomex_cycle.proofs.Words.{Bytes, Fault, AllCanBegin, CanBegin, HaveBegun, begun, begun_if, AreLow, Pools}
+use Rattle.tomex_cycle.proofs.Words.{Station, has, IsWithout, AreFrom, all_left, least_in, left_from}
 
 pub none_begun : (config : Configuration) (next : ℕ) (m : Bytes) (picked : ℕ) (st : Pools) → length st.slots ≡ 96
     → HaveBegun config next m picked 0 st st
@@ -19,16 +17,6 @@ below_more x k b e = grind (arith, nat_tests)
 
 below_other : (x k : ℕ) (b : Bool) → (x ≡ k → ⊥) → (nat_lt x (k + 1) && b) ≡ (nat_lt x k && b)
 below_other x k b e = below_more x k b (λ z. absurd (e z))
-
--- a place that isn't picked is passed over
-pub begun_skip : {config : Configuration} {next k : ℕ} {m : Bytes} {picked : ℕ} {old now : Pools} → has picked k ≡ false
-    → HaveBegun config next m picked k old now → HaveBegun config next m picked (k + 1) old now
-begun_skip {config} {next} {k} {m} {picked} {old} e before = record {
-  places = before.places;
-  slots = λ x l. before.slots x l ∙ sym (ap (λ b. begun_if config next m b (slice_index_or old.slots x None))
-      (below_more x k (has picked x) (λ z. rw z e)));
-  issue_numbers = before.issue_numbers;
-}
 
 -- the station of a place that is to start is still as it was
 pub still_old : {config : Configuration} {next k : ℕ} {m : Bytes} {picked : ℕ} {old now : Pools} → k < 96

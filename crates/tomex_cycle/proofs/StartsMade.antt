@@ -2,15 +2,14 @@
 use Rattle.std.proofs.Common.{length, append_assoc, ℕ, ◌+◌, ◌-◌, ◌<◌, ◌≤◌, ◌≡◌, ◌∙◌, true, false, arith, refl, List, []}
 use Rattle.std.proofs.Common.{◌∷◌, ◌++◌, Option, Some, None, ap, sym, inl, inr}
 use Rattle.tomex_cycle.proofs.Words.{nat_lt, nat_le, ◌&&◌, ◌==◌, is_some, MatchOption, option_map, IfSome, IsSome}
-use Rattle.tomex_cycle.proofs.Words.{nat_tests}
-use Rattle.tomex_cycle.proofs.Words.{cases_Bool, ltb-true, lt-ltb, leb-true, leb-false, le-leb, lt-leb, and_parts}
-use Rattle.tomex_cycle.proofs.Words.{eqb-true, eqb-false, Loaded, Configuration, IsWithinLimits, option_of, Op, UnitId}
-use Rattle.tomex_cycle.proofs.Words.{sources_of, unit_of, ByteRange, Step, IsAllowed, byte_in, result_of, byte_after}
-use Rattle.tomex_cycle.proofs.Words.{Bytes, bytes_of, j_of, k_of, operand, step_pool, step_unit, unit_with_pool}
-use Rattle.tomex_cycle.proofs.Words.{unread_j, unread_k, Done, cycle_of, source_end, AreTimed, IsLeast}
-use Rattle.tomex_cycle.proofs.Words.{are_conflicts_finished, can_start, has_unit, field_of, producer, AreIssuedBy}
-use Rattle.tomex_cycle.proofs.Words.{ArePast, steps_in, IsInside, begun, begun_if, ShowsMemory, clocks, holds_place}
-use Rattle.tomex_cycle.proofs.Words.{station_at, station_of, step_in, is_there, value_in, Station}
+use Rattle.tomex_cycle.proofs.Words.{nat_tests, cases_Bool, ltb-true, le-leb, and_parts, eqb-true, eqb-false, Loaded}
+use Rattle.tomex_cycle.proofs.Words.{Configuration, IsWithinLimits, option_of, Op, UnitId, sources_of, unit_of}
+use Rattle.tomex_cycle.proofs.Words.{ByteRange, Step, IsAllowed, byte_in, result_of, byte_after, Bytes, bytes_of, j_of}
+use Rattle.tomex_cycle.proofs.Words.{k_of, operand, step_pool, step_unit, unit_with_pool, unread_j, unread_k, Done}
+use Rattle.tomex_cycle.proofs.Words.{cycle_of, source_end, AreTimed, IsLeast, are_conflicts_finished, can_start}
+use Rattle.tomex_cycle.proofs.Words.{has_unit, field_of, producer, AreIssuedBy, ArePast, steps_in, IsInside, begun}
+use Rattle.tomex_cycle.proofs.Words.{begun_if, ShowsMemory, clocks, holds_place, station_at, station_of, step_in}
+use Rattle.tomex_cycle.proofs.Words.{is_there, value_in, Station}
 use Rattle.tomex_rvdec.specs.declared.op.Op.TheVariants as ops
 use Rattle.tomex_rvexec.specs.Flow.{end_at}
 use Rattle.tomex_steps.specs.Results.{is_among}
@@ -140,9 +139,6 @@ pub late_unit : (o : Option UnitId) (start issue t u : ℕ) (Q : UnitId → Type
     → issue ≤ t → u ≡ t + 1 → (is_some o && (start == u)) ≡ false → start ≡ u → ⊥
 late_unit None start issue t u Q timed l e starts at = let f : start ≡ issue = timed in omega arith
 late_unit (Some v) start issue t u Q timed l e starts at = eqb-false start u starts at
-
-above : (start t u : ℕ) → u ≡ t + 1 → (start ≡ u → ⊥) → t < start → u < start
-above start t u e f l = grind (arith, nat_tests)
 
 pub not_u : (start t u : ℕ) → u ≡ t + 1 → (start ≡ u → ⊥) → nat_le start u ≡ nat_le start t
 not_u start t u e f = grind (arith, nat_tests)

@@ -1,6 +1,5 @@
 -- Where no operation starts, nothing changes.
-use Rattle.std.proofs.Common.{ℕ, zero, suc, ◌≡◌, ◌∙◌, false, refl, List, Option, None, ap, sym, length}
-use Rattle.std.proofs.Common.{slice_index_or}
+use Rattle.std.proofs.Common.{ℕ, zero, suc, ◌≡◌, ◌∙◌, false, refl, List, Option, None, ap, sym, length, slice_index_or}
 use Rattle.tomex_cycle.proofs.Words.{nat_lt, ◌&&◌, and_right, Configuration, byte_in, Bytes, none_in, MakesStarts}
 use Rattle.tomex_cycle.proofs.Words.{HaveBegun, HaveStored, IsStarting, begun_if, stored_at, written_by, AreBusy, Pools}
 use Rattle.tomex_cycle.proofs.Words.{Station}

@@ -2,15 +2,14 @@
 use Rattle.std.proofs.Common.{length, slice_index, slice_index_or, append_assoc, ℕ, ◌+◌, ◌<◌, ◌≤◌, ◌≡◌, ◌∙◌, Bool, true}
 use Rattle.std.proofs.Common.{false, arith, refl, List, [], ◌∷◌, ◌++◌, Option, Some, None, ap, sym, inl, inr}
 use Rattle.tomex_cycle.proofs.Words.{nat_lt, if◌then◌else◌, ◌&&◌, ◌||◌, ◌==◌, not, is_some, count_by, MatchOption}
-use Rattle.tomex_cycle.proofs.Words.{nat_tests}
-use Rattle.tomex_cycle.proofs.Words.{cases_Bool, ltb-true, ltb-false, lt-ltb, and_parts, and_right, eqb-true, ne_eqb}
-use Rattle.tomex_cycle.proofs.Words.{Loaded, Configuration, IsWithinLimits, option_of, UnitId, place_of_unit, bytes_of}
-use Rattle.tomex_cycle.proofs.Words.{is_number, j_of, k_of, step_pool, step_unit, unit_with_pool, Tag, Done, cycle_of}
-use Rattle.tomex_cycle.proofs.Words.{is_memory, is_of, last_address, source_end, AreTimed, IsTimed, IsLeast}
+use Rattle.tomex_cycle.proofs.Words.{nat_tests, cases_Bool, ltb-true, ltb-false, lt-ltb, and_parts, and_right, eqb-true}
+use Rattle.tomex_cycle.proofs.Words.{ne_eqb, Loaded, Configuration, IsWithinLimits, option_of, UnitId, place_of_unit}
+use Rattle.tomex_cycle.proofs.Words.{bytes_of, is_number, j_of, k_of, step_pool, step_unit, unit_with_pool, Tag, Done}
+use Rattle.tomex_cycle.proofs.Words.{cycle_of, is_memory, is_of, last_address, source_end, AreTimed, IsTimed, IsLeast}
 use Rattle.tomex_cycle.proofs.Words.{are_conflicts_finished, can_start, has_unit, tag_at, tag_of, AreIssuedBy, wanted}
 use Rattle.tomex_cycle.proofs.Words.{kind_if, kind_of, IsStarting, AreStartable, is_clear, ShowsStations, clocks}
-use Rattle.tomex_cycle.proofs.Words.{holds_place, order_of, place_of, station_of, no_option, bytes_in, is_waiting}
-use Rattle.tomex_cycle.proofs.Words.{place_at, Pools, AreBusy, IsInIssueOrder, has, PoolId, is_free}
+use Rattle.tomex_cycle.proofs.Words.{holds_place, order_of, place_of, station_of, no_option, is_waiting, place_at}
+use Rattle.tomex_cycle.proofs.Words.{Pools, AreBusy, IsInIssueOrder, has, PoolId, is_free}
 use Rattle.tomex_rvdec.specs.declared.pool.UnitId.TheVariants as units
 use Rattle.tomex_cycle.specs.Starts.{is_among}
 use Rattle.tomex_cycle.proofs.AddressChosen.{address_rises}
@@ -37,13 +36,6 @@ starts_at t u (d ∷ older) x = if holds_place t x d then starts_in u d else sta
 -- how many operations of a kind start in the cycle
 abbrev pub count_of : UnitId → ℕ → List Done → ℕ
 count_of unit u h = count_by (λ d. is_of unit (step_unit d.step) && (d.at.start == u)) h
-
-tests_three : (i a c b w : Bool) → i ≡ true → (a ≡ true → c ≡ b)
-    → ((((((true && true) && true) && a) && c) && w) ≡ ((((i && a) && (true && true)) && b) && w))
-tests_three i a c b w e f = grind (arith, nat_tests)
-
-tests_off : (a b w : Bool) → false ≡ ((((true && a) && false) && b) && w)
-tests_off a b w = grind (arith, nat_tests)
 
 -- the tests of the pass and of the recurrence, one after the other
 tests_same : (i a j k c b w : Bool) → i ≡ true → (a ≡ true → j ≡ true → k ≡ true → c ≡ b)
@@ -115,45 +107,6 @@ starts_of unit u d = is_of unit (step_unit d.step) && (d.at.start == u)
 none_of_start : (u start : ℕ) (unit : UnitId) (o : Option UnitId) → (start == u) ≡ false
     → (is_of unit o && (start == u)) ≡ false
 none_of_start u start unit o e = rw e (and_right (is_of unit o) false refl)
-
-pub unit_same : (v w : UnitId) → place_of_unit v ≡ place_of_unit w → v ≡ w
-unit_same units.Alu units.Alu e = refl
-unit_same units.Mul units.Mul e = refl
-unit_same units.Div units.Div e = refl
-unit_same units.Mem units.Mem e = refl
-unit_same units.Bru units.Bru e = refl
-unit_same units.Alu units.Mul e = absurd (omega arith)
-unit_same units.Alu units.Div e = absurd (omega arith)
-unit_same units.Alu units.Mem e = absurd (omega arith)
-unit_same units.Alu units.Bru e = absurd (omega arith)
-unit_same units.Mul units.Alu e = absurd (omega arith)
-unit_same units.Mul units.Div e = absurd (omega arith)
-unit_same units.Mul units.Mem e = absurd (omega arith)
-unit_same units.Mul units.Bru e = absurd (omega arith)
-unit_same units.Div units.Alu e = absurd (omega arith)
-unit_same units.Div units.Mul e = absurd (omega arith)
-unit_same units.Div units.Mem e = absurd (omega arith)
-unit_same units.Div units.Bru e = absurd (omega arith)
-unit_same units.Mem units.Alu e = absurd (omega arith)
-unit_same units.Mem units.Mul e = absurd (omega arith)
-unit_same units.Mem units.Div e = absurd (omega arith)
-unit_same units.Mem units.Bru e = absurd (omega arith)
-unit_same units.Bru units.Alu e = absurd (omega arith)
-unit_same units.Bru units.Mul e = absurd (omega arith)
-unit_same units.Bru units.Div e = absurd (omega arith)
-unit_same units.Bru units.Mem e = absurd (omega arith)
-
-kind_none : (c : Bool) (n : ℕ) (w : Bool) → (is_number (kind_if c None) n && w) ≡ false
-kind_none true n w = refl
-kind_none false n w = refl
-
-kind_other : (c w : Bool) (k n : ℕ) → (k == n) ≡ false → (is_number (kind_if c (Some k)) n && w) ≡ false
-kind_other true w k n e = rw e refl
-kind_other false w k n e = refl
-
-kind_here : (c w : Bool) (k n : ℕ) → (k == n) ≡ true → (is_number (kind_if c (Some k)) n && w) ≡ (c && w)
-kind_here true w k n e = rw e refl
-kind_here false w k n e = refl
 
 -- what is wanted for the station of a step
 wants_is : (ready b : Bool) (unit : UnitId) (o : Option UnitId) (left : UnitId → Bool)

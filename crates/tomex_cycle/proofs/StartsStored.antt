@@ -2,10 +2,9 @@
 use Rattle.std.proofs.Common.{length, slice_index_or, zero, suc, Option, Some, None, ℕ, ◌+◌, ◌<◌, ◌≤◌, ◌≡◌, ◌∙◌, Bool}
 use Rattle.std.proofs.Common.{true, false, arith, refl, List, ap, sym}
 use Rattle.tomex_cycle.proofs.Words.{if◌then◌else◌, ◌&&◌, IfSome, and_parts, ByteRange, IsInside, byte_in, covers}
-use Rattle.tomex_cycle.proofs.Words.{nat_tests}
-use Rattle.tomex_cycle.proofs.Words.{overwrites, stored_byte, Bytes, bytes_of, AllInside, HaveStored, stored_at}
-use Rattle.tomex_cycle.proofs.Words.{written_by, AreLow, step_in, IsSetOf, Station, has, IsWithout, AreFrom, all_left}
-use Rattle.tomex_cycle.proofs.Words.{least_from, least_in, left_from, none_after, none_between, skip_to}
+use Rattle.tomex_cycle.proofs.Words.{nat_tests, overwrites, stored_byte, Bytes, bytes_of, AllInside, HaveStored}
+use Rattle.tomex_cycle.proofs.Words.{stored_at, written_by, AreLow, step_in, IsSetOf, Station, has, IsWithout, AreFrom}
+use Rattle.tomex_cycle.proofs.Words.{all_left, least_from, least_in, left_from, none_after, none_between, skip_to}
 use Rattle.tomex_steps.specs.Access.{HasStored}
 use Rattle.tomex_tags.specs.WaitSets.{holds_store}
 

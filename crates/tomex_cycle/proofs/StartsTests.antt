@@ -1,17 +1,15 @@
 -- The tests that an operation passes as it starts are those of the recurrence: operands, address, older accesses.
-use Rattle.std.proofs.Common.{slice_index_or, append_assoc, ℕ, ◌+◌, ◌<◌, ◌≤◌, ◌≡◌, ◌∙◌, Bool, true}
-use Rattle.std.proofs.Common.{false, arith, refl, List, [], ◌∷◌, ◌++◌, Option, Some, None, ap, sym, inl, inr}
+use Rattle.std.proofs.Common.{slice_index_or, append_assoc, ℕ, ◌+◌, ◌<◌, ◌≤◌, ◌≡◌, ◌∙◌, Bool, true, false, arith, refl}
+use Rattle.std.proofs.Common.{List, [], ◌∷◌, ◌++◌, Option, Some, None, ap, sym, inl, inr}
 use Rattle.std.proofs.lemmas.Bool.{MatchBool-at_false}
-use Rattle.tomex_cycle.proofs.Words.{nat_lt, nat_le, if◌then◌else◌, ◌&&◌, ◌||◌, not, is_some, is_none, cases_Bool}
-use Rattle.tomex_cycle.proofs.Words.{nat_tests}
-use Rattle.tomex_cycle.proofs.Words.{ltb-true, ltb-false, lt-ltb, le-ltb, leb-true, leb-false, le-leb, or_right, eq-eqb}
-use Rattle.tomex_cycle.proofs.Words.{Loaded, Configuration, IsWithinLimits, Step, address_of, bytes_of, is_store, j_of}
-use Rattle.tomex_cycle.proofs.Words.{k_of, step_pool, Tag, Done, cycle_of, is_memory, last_address, source_end}
-use Rattle.tomex_cycle.proofs.Words.{AreTimed, IsTimed, IsLeast, are_conflicts_finished, can_address, conflicts}
-use Rattle.tomex_cycle.proofs.Words.{field_of, field_from, AreIssuedBy, is_clear, Clocks, ShowsStations, clocks}
-use Rattle.tomex_cycle.proofs.Words.{holds_place, order_of, place_of, station_at, station_of, no_option}
-use Rattle.tomex_cycle.proofs.Words.{is_finished_before, lets_pass, bytes_in, is_waiting, step_in, is_there, value_in}
-use Rattle.tomex_cycle.proofs.Words.{place_at, place_of_tag, Pools, Station}
+use Rattle.tomex_cycle.proofs.Words.{nat_lt, nat_le, if◌then◌else◌, ◌&&◌, ◌||◌, not, is_some, cases_Bool, nat_tests}
+use Rattle.tomex_cycle.proofs.Words.{ltb-true, ltb-false, lt-ltb, or_right, eq-eqb, Loaded, Configuration}
+use Rattle.tomex_cycle.proofs.Words.{IsWithinLimits, Step, address_of, bytes_of, is_store, j_of, k_of, step_pool, Tag}
+use Rattle.tomex_cycle.proofs.Words.{Done, cycle_of, is_memory, last_address, source_end, AreTimed, IsTimed, IsLeast}
+use Rattle.tomex_cycle.proofs.Words.{are_conflicts_finished, can_address, conflicts, field_from, AreIssuedBy, is_clear}
+use Rattle.tomex_cycle.proofs.Words.{Clocks, ShowsStations, clocks, holds_place, order_of, place_of, station_at}
+use Rattle.tomex_cycle.proofs.Words.{station_of, no_option, is_finished_before, lets_pass, bytes_in, is_waiting}
+use Rattle.tomex_cycle.proofs.Words.{step_in, is_there, value_in, place_at, place_of_tag, Pools, Station}
 use Rattle.tomex_steps.proofs.Fields.{bytes_of_memory}
 use Rattle.tomex_cycle.proofs.AddressChosen.{address_rises}
 use Rattle.tomex_cycle.proofs.Addresses.{order_here}
@@ -41,9 +39,6 @@ clear-append slots (y ∷ xs) x s next =
 
 -- Readiness.
 
-finish_is : (start t finish : ℕ) → is_none (if nat_le start t then Some finish else None) ≡ nat_lt t start
-finish_is start t finish = grind (arith, nat_tests)
-
 addressed_is : (memory : Bool) (a t u address : ℕ) → u ≡ t + 1 → (memory ≡ false → a ≡ 0)
     → (not memory || is_some (if memory && nat_le a t then Some address else None)) ≡ nat_lt a u
 addressed_is memory a t u address e none = grind (arith, nat_tests)
@@ -54,9 +49,6 @@ no_address d {older} timed e =
     let z : d.at.address ≡ None = MatchBool-at_false
     (IsLeast (can_address older d.step d.at.issue) (cycle_of d.at.address)) _ e timed.address in
     rw z refl
-
-regroup : (a j k m n : Bool) → m ≡ n → ((a && (j && k)) && m) ≡ (((a && j) && k) && n)
-regroup a j k m n e = grind (arith, nat_tests)
 
 -- the operands are there, the address is, and it hasn't started
 pub ready_is : (i : Loaded) (config : Configuration) (t u : ℕ) (d : Done) (older : List Done)

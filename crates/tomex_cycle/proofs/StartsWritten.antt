@@ -2,17 +2,16 @@
 use Rattle.std.proofs.Common.{slice_index_or, suc, zero, ℕ, ◌+◌, ◌<◌, ◌≤◌, ◌≡◌, ◌∙◌, Bool, true, false, arith, refl}
 use Rattle.std.proofs.Common.{List, [], ◌∷◌, Option, Some, None, ap, sym, inl, inr}
 use Rattle.tomex_cycle.proofs.Words.{nat_lt, nat_le, if◌then◌else◌, ◌&&◌, ◌||◌, ◌==◌, not, is_some, cases_Bool}
-use Rattle.tomex_cycle.proofs.Words.{nat_tests}
-use Rattle.tomex_cycle.proofs.Words.{ltb-true, lt-ltb, le-leb, lt-leb, and_parts, or_left, eq-eqb, eqb-true, eqb-false}
-use Rattle.tomex_cycle.proofs.Words.{ne_eqb, both_ways, cases_order, Loaded, Configuration, IsWithinLimits, Step}
-use Rattle.tomex_cycle.proofs.Words.{covers, overwrites, stored_byte, is_number, is_store, step_pool, step_unit, Done}
-use Rattle.tomex_cycle.proofs.Words.{cycle_of, AreTimed, IsLeast, are_conflicts_finished, can_start, conflicts}
-use Rattle.tomex_cycle.proofs.Words.{AreIssuedBy, ArePast, byte_at, stored_at, written_by, clocks, holds_place}
-use Rattle.tomex_cycle.proofs.Words.{place_of, station_at, station_of, step_in, place_at, place_of_tag, Station, has}
+use Rattle.tomex_cycle.proofs.Words.{nat_tests, ltb-true, lt-ltb, le-leb, lt-leb, and_parts, or_left, eq-eqb, eqb-true}
+use Rattle.tomex_cycle.proofs.Words.{eqb-false, ne_eqb, Loaded, Configuration, IsWithinLimits, Step, covers, overwrites}
+use Rattle.tomex_cycle.proofs.Words.{stored_byte, is_number, is_store, step_pool, step_unit, Done, AreTimed}
+use Rattle.tomex_cycle.proofs.Words.{are_conflicts_finished, conflicts, AreIssuedBy, ArePast, byte_at, stored_at}
+use Rattle.tomex_cycle.proofs.Words.{written_by, clocks, holds_place, place_of, station_at, step_in, place_at}
+use Rattle.tomex_cycle.proofs.Words.{place_of_tag, Station, has}
 use Rattle.tomex_cycle.proofs.Accesses.{conflict_at, starts_clear, store_unit}
 use Rattle.tomex_cycle.proofs.Places.{place_low, is_vacant, low, vacant}
 use Rattle.tomex_cycle.proofs.Fields.{tag_there}
-use Rattle.tomex_cycle.proofs.StartsMade.{late_unit, not_u, step_is}
+use Rattle.tomex_cycle.proofs.StartsMade.{step_is}
 use Rattle.tomex_cycle.proofs.StartsPicked.{starts_at, starts_in}
 use Rattle.tomex_cycle.proofs.Totals.{reach}
 
@@ -56,9 +55,6 @@ none_leaves u a d e = rw e refl
 
 none_not : {A : Type 0} (x : A) → None ≡ Some x → ⊥
 none_not x e = cc
-
-quiet_start : (b c : Bool) → c ≡ true → (b && c) ≡ false → b ≡ false
-quiet_start b c e f = grind (arith, nat_tests)
 
 -- a step that leaves no byte changes none as the clock goes on
 made_same : (i : Loaded) (config : Configuration) (t u a : ℕ) (d : Done) (older : List Done)

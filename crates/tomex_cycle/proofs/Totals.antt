@@ -1,15 +1,13 @@
 -- When a run is over: no station is busy, and no instruction is left.
 use Rattle.std.proofs.Common.{ℕ, zero, suc, ◌+◌, ◌<◌, ◌≤◌, ◌≡◌, ◌∙◌, Bool, true, false, arith, refl, List, [], ◌∷◌}
 use Rattle.std.proofs.Common.{◌++◌, Option, Some, None, ap, sym, inl, inr, length}
-use Rattle.tomex_cycle.proofs.Words.{nat_lt, is_some, MatchOption, ◌&&◌, ◌==◌, not, cases_Bool, ltb-true, ltb-false}
-use Rattle.tomex_cycle.proofs.Words.{nat_tests}
-use Rattle.tomex_cycle.proofs.Words.{lt-ltb, le-ltb, cases_order, eqb-true, eqb-false, MatchBool, length-append, Loaded}
-use Rattle.tomex_cycle.proofs.Words.{Configuration, IsWithinLimits, PoolId, UnitId, unit_at, EndKind, Step, end_of}
-use Rattle.tomex_cycle.proofs.Words.{next_pc_of, step_pool, step_dest, is_branch, Done, greatest_end, AreTimed, IsTimed}
-use Rattle.tomex_cycle.proofs.Words.{IsLeast, can_end, is_free, tag_at, timed_by, Fetch, At, Stopped, first_timed}
+use Rattle.tomex_cycle.proofs.Words.{nat_lt, is_some, ◌&&◌, ◌==◌, not, cases_Bool, ltb-true, ltb-false, nat_tests}
+use Rattle.tomex_cycle.proofs.Words.{lt-ltb, le-ltb, cases_order, eqb-true, eqb-false, length-append, Loaded}
+use Rattle.tomex_cycle.proofs.Words.{Configuration, IsWithinLimits, EndKind, Step, end_of, next_pc_of, is_branch, Done}
+use Rattle.tomex_cycle.proofs.Words.{greatest_end, AreTimed, IsTimed, timed_by, Fetch, At, Stopped, first_timed}
 use Rattle.tomex_cycle.proofs.Words.{AreIssuedBy, RunEndsAfter, clocks, order_of, onto_end, place_of, fetch_of}
 use Rattle.tomex_cycle.proofs.Words.{fetch_after, step_after, step_goes_on, step_ends_it, is_done, IsIssuedTo}
-use Rattle.tomex_cycle.proofs.Words.{IsYetToIssue, IsInIssueOrder, AreBusy, Pools, place_at, RegStatus}
+use Rattle.tomex_cycle.proofs.Words.{IsYetToIssue, IsInIssueOrder, AreBusy, Pools, RegStatus}
 use Rattle.tomex_timing.proofs.Bound.{InReach, in_reach}
 use Rattle.tomex_cycle.specs.declared.fetch.Fetch.TheVariants.{Waits}
 use Rattle.tomex_cycle.proofs.Orders.{empty_order, empty_set, order_is}
@@ -20,14 +18,6 @@ pub reach : {config : Configuration} (d : Done) (older : List Done) → IsWithin
     → AreTimed config (d ∷ older) → InReach (greatest_end older) d.at
 reach {config} d older good timed =
     in_reach config older d.step d.at (greatest_end older) good (timed_by config older good timed.1) timed.0
-
--- a step that hasn't ended has a station
-tag_is_there : (pool : Option PoolId) (station : Option ℕ) (issue end : ℕ) (Q : UnitId → Type 0)
-    (R : PoolId → ℕ → Type 0) → MatchOption (unit_at pool) (end ≡ issue) Q
-    → MatchOption pool (station ≡ None) (λ p. (n : ℕ) × (station ≡ Some n) × R p n) → issue < end
-    → is_some (place_at (tag_at pool station)) ≡ true
-tag_is_there None station issue end Q R e s l = let f : end ≡ issue = e in absurd (omega arith)
-tag_is_there (Some pool) station issue end Q R e s l = let f : station ≡ Some s.0 = s.1 in rw f refl
 
 pub place_there : {config : Configuration} (d : Done) {older : List Done} → IsTimed config older d.step d.at
     → d.at.issue < d.at.end → is_some (place_of d) ≡ true
