@@ -33,10 +33,8 @@ pub ends_silent : (p : ℕ) (old new : Pools) (s : Station) → p < 96 → slice
 ends_silent p old new s l here dest slots issue_numbers count = record {
   places = ap length slots ∙ (length-set old.slots p None ∙ count);
   slots = λ x k. ap (λ xs. slice_index_or xs x None) slots
-      ∙ (released_at old.slots p x (omega arith) ∙ elim (cases_Bool (p == x)) [
-        | inl e ↦ rw e refl
-        | inr e ↦ rw (e, here, dest) (sym (none_hears p (slice_index_or old.slots x None)))
-      ]);
+      ∙ (released_at old.slots p x (omega arith) ∙ grind
+      (arith, nat_tests, none_hears p (slice_index_or old.slots x None)));
   issue_numbers = issue_numbers;
 }
 
@@ -48,10 +46,7 @@ received_hears p r v rg l named count status = elim (cases_Bool (names rg r p)) 
   | inr e ↦ rw e (record {
     count = count;
     status = status;
-    fields = λ q k. elim (cases_Bool (names rg q p)) [
-      | inr f ↦ sym (heard_no p v (slice_index rg.values q) (slice_index_or rg.tags q None) f)
-      | inl f ↦ absurd (both_ways (names rg r p) e (ap (λ (z : ℕ). names rg z p) (sym (named q k f)) ∙ f))
-    ];
+    fields = λ q k. grind (arith, nat_tests);
   })
   | inl e ↦ rw e (record {
     count = length-set rg.values r v ∙ count;

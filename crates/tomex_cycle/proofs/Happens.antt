@@ -97,11 +97,7 @@ pub member_of : (set : ℕ) → set < 2 ^ 128 → set ≢ 0 → (x : ℕ) × (x 
 member_of set fits some =
     let one = bit_at-trailing_zeros w128 set (omega arith) fits in
     let here : has set (trailing_zeros w128 set) ≡ true = has_one set (trailing_zeros w128 set) one.1 in
-    let small : trailing_zeros w128 set < 128 = elim (cases_Bool (nat_lt (trailing_zeros w128 set) 128)) [
-      | inl l ↦ ltb-true _ _ l
-      | inr l ↦ absurd (both_ways (has set (trailing_zeros w128 set)) (has_none set (trailing_zeros w128 set)
-          (bit_at_above set 128 (trailing_zeros w128 set) fits (ltb-false _ _ l))) here)
-    ] in
+    let small : trailing_zeros w128 set < 128 = grind (arith, nat_tests) in
     (trailing_zeros w128 set, small, here)
 
 pub start_happens : {i : Loaded} {config : Configuration} (t : ℕ) {u : ℕ} {st : Pools} {h : List Done} {starting : ℕ}

@@ -24,10 +24,7 @@ all_due {slots} {next} {f} known turned x l = turned.due x ∙ elim (cases_Bool 
       let high : 96 ≤ x = ltb-false x 96 k in
       let count : length slots ≡ 96 = known.places in
       let past : slice_index_or slots x None ≡ None = get_or_past slots x None (omega arith) in
-      rw past (elim (cases_Bool (is_due f.wheel 0 x)) [
-        | inr e ↦ e
-        | inl e ↦ let low : x < 96 = known.low 0 x e in absurd (omega arith)
-      ])
+      rw past (grind (arith, nat_tests))
 ]
 
 alone_test : (next : ℕ) (finish : Option ℕ) (d : Bool) → (not d && is_finished_before finish next) ≡ false

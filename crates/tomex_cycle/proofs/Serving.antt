@@ -5,6 +5,7 @@ use Rattle.std.specs.Prelude.{min}
 use Rattle.std.proofs.lemmas.List.{take-append-le, take_all}
 use Rattle.std.proofs.lemmas.List.Elements.{filter-append}
 use Rattle.tomex_cycle.proofs.Words.{nat_lt, if◌then◌else◌, ⊤, ◌&&◌, ◌||◌, ◌==◌, count_by, cases_Bool, ltb-true}
+use Rattle.tomex_cycle.proofs.Words.{nat_tests}
 use Rattle.tomex_cycle.proofs.Words.{ltb-false, lt-ltb, le-ltb, eq-eqb, eqb-true, and_parts, length-append, sum_by-cons}
 use Rattle.tomex_cycle.proofs.Words.{Done, has, IsInIssueOrder, IsPicked, Rises, is_listed, holds_place, order_of}
 use Rattle.tomex_cycle.proofs.Words.{place_of}
@@ -48,10 +49,7 @@ same_by : {t n set : ℕ} {goes : Done → Bool} (d : Done) {older : List Done} 
 same_by {t} {n} {goes} d {older} stays same alone before = record {
   count = count_off goes d older stays ∙ (before.count ∙ ap (λ (xs : List ℕ). min n (length xs)) (sym same));
   taken = λ x. ap (λ (xs : List ℕ). is_listed (take n xs) x) same
-      ∙ (before.taken x ∙ elim (cases_Bool (holds_place t x d)) [
-        | inr h ↦ rw h refl
-        | inl h ↦ rw (h, stays) (alone x h)
-      ]);
+      ∙ (before.taken x ∙ grind (arith, nat_tests));
 }
 
 one_more : (xs : List ℕ) (p n x : ℕ) → length xs < n
@@ -178,10 +176,7 @@ pub some_in_order : {busy : ℕ} (set : ℕ) {issue_numbers xs : List ℕ} → I
     → ((x : ℕ) → x < 128 → has set x ≡ true → has busy x ≡ true)
     → IsInIssueOrder set issue_numbers (filter (has set) xs)
 some_in_order set {issue_numbers} {xs} by inside = record {
-  members = λ x l. elim (cases_Bool (has set x)) [
-    | inl e ↦ rw e (sym (in-filter (has set) xs x ∙ rw (e, ← by.members x l) (inside x l e)))
-    | inr e ↦ rw e (sym (in-filter (has set) xs x ∙ rw e refl))
-  ];
+  members = λ x l. grind (arith, nat_tests, in-filter (has set) xs x);
   low = λ x k. by.low x (and_parts (has set x) (is_listed xs x) (sym (in-filter (has set) xs x) ∙ k)).1;
   rises = rises-filter (has set) issue_numbers xs by.rises;
 }

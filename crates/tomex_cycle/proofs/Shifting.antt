@@ -119,10 +119,7 @@ yet_later {config} {i} count u w run l m yet steady x e v low =
     let late : u < (times_of config h x).issue = not_by h x u run.lawful (run_timed i count run.lawful) (yet x e) in
     let never : (k : ℕ) → u < k → k ≤ w → (times_of config h x).issue ≢ k = λ k a b.
     (rw (run_next config i count x e) at (steady_part (count + 1) k run (omega arith) (steady k a b))).0.issue in
-    let past : w < (times_of config h x).issue = elim (cases_Bool (nat_lt w (times_of config h x).issue)) [
-      | inl f ↦ ltb-true _ _ f
-      | inr f ↦ absurd (never (times_of config h x).issue late (ltb-false w (times_of config h x).issue f) refl)
-    ] in
+    let past : w < (times_of config h x).issue = grind (arith, nat_tests) in
     (times_are config h x run.lawful (run_timed i count run.lawful)).issue.1 v (omega arith)
 
 -- the snapshot after the cycle u is that after w

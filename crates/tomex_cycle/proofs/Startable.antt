@@ -70,10 +70,7 @@ pub one_clear : {st : Pools} {next waiting rest left p clear more : ℕ} → Are
     → AreCleared st next waiting left more
 one_clear {waiting} {rest} {left} {p} so small member without wants with = record {
   inside = inside_left waiting rest left p so.inside without;
-  found = λ x l e. elim (cases_Bool (p == x)) [
-    | inl f ↦ ap (has waiting) (sym (eqb-true p x f)) ∙ so.inside p small member
-    | inr f ↦ so.found x l (sym (with.others x (λ z. eqb-false p x f (sym z))) ∙ e)
-  ];
+  found = λ x l e. grind (arith, nat_tests);
   wants = λ x l e. elim (cases_Bool (p == x)) [
     | inl f ↦ let same : p ≡ x = eqb-true p x f in rw (← same, with.same) wants
     | inr f ↦ rw (with.others x (λ z. eqb-false p x f (sym z))) (so.wants x l (sym (left_other x l without f) ∙ e))
@@ -90,10 +87,7 @@ pub none_clear : {st : Pools} {next waiting rest left p clear : ℕ} → AreClea
 none_clear {waiting} {rest} {left} {p} so small member without wants = record {
   inside = inside_left waiting rest left p so.inside without;
   found = so.found;
-  wants = λ x l e. elim (cases_Bool (p == x)) [
-    | inl f ↦ let same : p ≡ x = eqb-true p x f in rw (← same, so.later p small member) wants
-    | inr f ↦ so.wants x l (sym (left_other x l without f) ∙ e)
-  ];
+  wants = λ x l e. grind (arith, nat_tests);
   later = λ x l e. elim (cases_Bool (p == x)) [
     | inl f ↦ absurd (both_ways (has left p) without.same (ap (has left) (eqb-true p x f) ∙ e))
     | inr f ↦ so.later x l (sym (left_other x l without f) ∙ e)
