@@ -32,8 +32,7 @@ pub ends_silent : (p : ℕ) (old new : Pools) (s : Station) → p < 96 → slice
     → EndsIn (λ x. p == x) (only p (sends_of (slice_index_or old.slots p None))) old new
 ends_silent p old new s l here dest slots issue_numbers count = record {
   places = ap length slots ∙ (length-set old.slots p None ∙ count);
-  slots = λ x k. ap (λ xs. slice_index_or xs x None) slots
-      ∙ (released_at old.slots p x (omega arith) ∙ grind
+  slots = λ x k. ap (λ xs. slice_index_or xs x None) slots ∙ (released_at old.slots p x (omega arith) ∙ grind
       (arith, nat_tests, none_hears p (slice_index_or old.slots x None)));
   issue_numbers = issue_numbers;
 }

@@ -2,7 +2,6 @@
 use Rattle.std.proofs.Common.{ℕ, ◌+◌, ◌^◌, ◌<◌, ◌≤◌, ◌≡◌, ◌∙◌, Bool, true, false, arith, refl, List, [], ◌∷◌, ◌++◌}
 use Rattle.std.proofs.Common.{Option, Some, None, ap, sym, inl, inr, ◌⊎◌, append_assoc, slice_index_or, length, max}
 use Rattle.std.specs.Int.{trailing_zeros}
-use Rattle.std.proofs.lemmas.Nat.Bits.{bit_at_above}
 use Rattle.tomex_cycle.proofs.Words.{◌≢◌, nat_lt, nat_le, ◌&&◌, ◌==◌, if◌then◌else◌, is_some, not, w128, nat_tests}
 use Rattle.tomex_cycle.proofs.Words.{bit_at-trailing_zeros, get_or_past, cases_Bool, both_ways, and_parts, eq-eqb}
 use Rattle.tomex_cycle.proofs.Words.{eqb-true, ne_eqb, ltb-true, ltb-false, Loaded, Configuration, IsWithinLimits}
@@ -14,7 +13,6 @@ use Rattle.tomex_cycle.proofs.Words.{first_timed, RunEndsAfter, IsStarting, Cloc
 use Rattle.tomex_cycle.proofs.Words.{place_of, station_at, station_of, ShowsStations, has_base, is_value, is_there}
 use Rattle.tomex_cycle.proofs.Words.{AreBusy, Pools, Station}
 use Rattle.tomex_timing.specs.declared.tables.Field.TheVariants.{Waits}
-use Rattle.tomex_sets.proofs.Bits.{has_none}
 use Rattle.tomex_cycle.specs.Events.{events_of}
 use Rattle.tomex_cycle.specs.Phases.{AddressHappens, EndsHappen, StartsHappen}
 use Rattle.tomex_cycle.proofs.Cycles.{IsUnderWay}

@@ -160,8 +160,7 @@ oldest_waits slots issue_numbers (z ∷ zs) x rises h e least = elim (cases_Bool
         let older : slice_index issue_numbers x ≤ slice_index issue_numbers z = least z (in_head z zs) m in
         let younger : slice_index issue_numbers z < slice_index issue_numbers x = rises.0 x (rw k at h) in
         absurd (omega arith)
-    | inr m ↦ rw m (oldest_waits slots issue_numbers zs x rises.1 (rw k at h) e
-        (λ y i l. least y (in_tail z y zs i) l))
+    | inr m ↦ rw m (oldest_waits slots issue_numbers zs x rises.1 (rw k at h) e (λ y i l. least y (in_tail z y zs i) l))
   ]
 ]
 

@@ -218,13 +218,11 @@ issued_to on yet =
 pub phase_none : (i : Loaded) (config : Configuration) (u count : ℕ) (st new : Pools) (rg status : RegStatus)
     (ft from : Fetch) (result : Result Bool Fault) → IssuesNext i config count st rg ft result new status from
     → result ≡ Ok false → MakesIssue i config u count st rg ft (Ok false) count new status from
-phase_none i config u count st new rg status ft from result issues is n t run e old =
-    grind (
-      arith,
-      nat_tests,
-      tried new status from result false (before_one u run.lawful e old)
-          (width_low config run.lawful) issues is run e,
-    )
+phase_none i config u count st new rg status ft from result issues is n t run e old = grind (
+  arith,
+  nat_tests,
+  tried new status from result false (before_one u run.lawful e old) (width_low config run.lawful) issues is run e,
+)
 
 -- one does, and the width is one
 pub phase_one : (i : Loaded) (config : Configuration) (u count word : ℕ) (st new : Pools) (rg status : RegStatus)

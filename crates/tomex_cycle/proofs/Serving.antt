@@ -5,10 +5,9 @@ use Rattle.std.specs.Prelude.{min}
 use Rattle.std.proofs.lemmas.List.{take-append-le, take_all}
 use Rattle.std.proofs.lemmas.List.Elements.{filter-append}
 use Rattle.tomex_cycle.proofs.Words.{nat_lt, if◌then◌else◌, ⊤, ◌&&◌, ◌||◌, ◌==◌, count_by, cases_Bool, ltb-true}
-use Rattle.tomex_cycle.proofs.Words.{nat_tests}
-use Rattle.tomex_cycle.proofs.Words.{ltb-false, lt-ltb, le-ltb, eq-eqb, eqb-true, and_parts, length-append, sum_by-cons}
-use Rattle.tomex_cycle.proofs.Words.{Done, has, IsInIssueOrder, IsPicked, Rises, is_listed, holds_place, order_of}
-use Rattle.tomex_cycle.proofs.Words.{place_of}
+use Rattle.tomex_cycle.proofs.Words.{nat_tests, ltb-false, lt-ltb, le-ltb, eq-eqb, eqb-true, and_parts, length-append}
+use Rattle.tomex_cycle.proofs.Words.{sum_by-cons, Done, has, IsInIssueOrder, IsPicked, Rises, is_listed, holds_place}
+use Rattle.tomex_cycle.proofs.Words.{order_of, place_of}
 use Rattle.tomex_bus.proofs.Picking.{first_picked}
 use Rattle.tomex_cycle.proofs.Orders.{in-append}
 use Rattle.tomex_cycle.proofs.Truth.{or_false, or_one}
@@ -48,8 +47,7 @@ same_by : {t n set : ℕ} {goes : Done → Bool} (d : Done) {older : List Done} 
     → IsServed t n set goes (d ∷ older)
 same_by {t} {n} {goes} d {older} stays same alone before = record {
   count = count_off goes d older stays ∙ (before.count ∙ ap (λ (xs : List ℕ). min n (length xs)) (sym same));
-  taken = λ x. ap (λ (xs : List ℕ). is_listed (take n xs) x) same
-      ∙ (before.taken x ∙ grind (arith, nat_tests));
+  taken = λ x. ap (λ (xs : List ℕ). is_listed (take n xs) x) same ∙ (before.taken x ∙ grind (arith, nat_tests));
 }
 
 one_more : (xs : List ℕ) (p n x : ℕ) → length xs < n

@@ -50,8 +50,7 @@ operands_there config t u d older timed issued e starts =
       arith,
       nat_tests,
       there_test config t older (j_of d.step) timed.1 issued.1,
-      there_test config t older
-          (k_of d.step) timed.1 issued.1,
+      there_test config t older (k_of d.step) timed.1 issued.1,
     )
 
 value_is : (t v : ℕ) (older : List Done) (source : Option ℕ)
