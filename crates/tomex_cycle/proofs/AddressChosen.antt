@@ -134,7 +134,6 @@ test_is {config} t u d {older} timed before issued e m last late =
     let test : can_address older d.step d.at.issue u ≡ (cycle_of d.at.address == u) =
     least_test (can_address older d.step d.at.issue) (cycle_of d.at.address) u (address_is d timed m) (omega arith) in
     let there = there_test config t older (j_of d.step) before issued.1 in
-    let i : d.at.issue ≤ t = issued.0 in
     grind (arith, nat_tests)
 
 -- A of a station by the address clock

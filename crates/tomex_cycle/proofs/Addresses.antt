@@ -203,7 +203,6 @@ made_some next x old new o filled some same slots issue_numbers i config h t e p
     let by = order_is past.lawful past.timed (issued_more t (t + 1) h (omega arith) issued) shown filled in
     let waits = waiting_is i config t next old h [] h past.lawful past.timed issued shown refl in
     let c : chosen t h ≡ Some x = found x old.slots (chosen t h) (rw waits at (some (order_of t h) by)) in
-    let count : length old.slots ≡ 96 = shown.places in
     let small : x < 96 = chosen_low t x h past.lawful past.timed c in
     record {
       places = ap length slots ∙ (length-set old.slots x o ∙ shown.places);

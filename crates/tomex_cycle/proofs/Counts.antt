@@ -30,8 +30,6 @@ stays_by h u (suc n) none =
     busy_next h (u + n) ∙ rw (eq-eqb (events_in (u + n + 1) h) 0 idle) refl in
     let events : events_by h (u + n + 1) ≡ events_by h (u + n) + 0 =
     events_next h (u + n) ∙ ap (λ (k : ℕ). events_by h (u + n) + k) idle in
-    let a : eventful_by h (u + n) ≡ eventful_by h u = before.0 in
-    let b : events_by h (u + n) ≡ events_by h u = before.1 in
     rw at (omega arith, omega arith)
 
 -- what is counted of a way so far: one cycle more may be owed, which the next one's event pays
@@ -46,12 +44,9 @@ paid_first h to from before = record { least = omega arith; most = inl (omega ar
 paid_next : {h : List Done} {to from c w before after : ℕ} → c < to → IsPaid h to from c before after → SkipsTo h to c w
     → IsPaid h to from w before (after + 1)
 paid_next {h} {from} {c} {w} {before} {after} ahead paid passes =
-    let on : c + 1 ≤ w = passes.on in
     let at : c + 1 + (w - (c + 1)) ≡ w = omega arith in
     let same = subst (λ (x : ℕ). (eventful_by h x ≡ eventful_by h (c + 1)) × (events_by h x ≡ events_by h (c + 1))) at
     (stays_by h (c + 1) (w - (c + 1)) (λ k a b. passes.quiet k a (omega arith))) in
-    let busy : eventful_by h w ≡ eventful_by h (c + 1) = same.0 in
-    let events : events_by h w ≡ events_by h (c + 1) = same.1 in
     let one : eventful_by h (c + 1) ≤ eventful_by h c + 1 = busy_low h c in
     let more : events_by h (c + 1) ≡ events_by h c + events_in (c + 1) h = events_next h c in
     let least : eventful_by h c + before ≤ after + eventful_by h from = paid.least in
@@ -75,7 +70,6 @@ pub paid_on : {h : List Done} {to from c : ℕ} (w : ℕ) {before after : ℕ} (
 paid_on w {after} more ahead paid goes = elim goes [
   | inl one ↦ let e : more ≡ after + 1 = one.0 in rw e (paid_next ahead paid one.1)
   | inr two ↦
-      let a : more ≡ after + 2 = two.2 in
       let e : more ≡ after + 1 + 1 = omega arith in
       rw e (paid_next two.1 (paid_next ahead paid two.3) two.4)
 ]

@@ -32,7 +32,6 @@ bytes_later config i (d ∷ newer) h t u a timed later e =
       | inl o ↦
           let store : is_store d.step ≡ true = (and_parts _ _ o).0 in
           let l : d.at.issue < d.at.start = store_later d timed.0 store in
-          let k : t < d.at.issue = later.0 in
           rw (o, lt-leb d.at.start u (omega arith)) rest
       | inr o ↦ rw o rest
     ]

@@ -140,7 +140,6 @@ waits_for : {i : Loaded} {config : Configuration} (t u : ℕ) (d : Done) (older 
 waits_for {i} {config} t u d older {st} result None good timed issued reads e shown branch late done f =
     let r = reach d older good timed in
     let order : d.at.start ≤ d.at.finish = r.order in
-    let end : d.at.finish ≤ d.at.end = r.finish in
     let begins : d.at.issue < d.at.start = unit_later (step_pool d.step) d.at.issue d.at.start
     (λ x. can_start config older d.step x d.at.issue (cycle_of d.at.address)) (can_start_later config d older)
     (pool_some (step_pool d.step) branch) timed.0.start in
@@ -157,7 +156,6 @@ waits_for {i} {config} t u d older {st} result None good timed issued reads e sh
     ]
 waits_for {i} {config} t u d older {st} result (Some x) good timed issued reads e shown branch late done f =
     let r = reach d older good timed in
-    let order : d.at.start ≤ d.at.finish = r.order in
     let fin : finishes u (station_at i (clocks u u t) (d ∷ older) x) ≡ true =
     ap (finishes u) (sym (shown.slots x done.1)) ∙ done.2 in
     elim (cases_Bool (holds_place t x d)) [

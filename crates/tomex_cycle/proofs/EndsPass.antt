@@ -132,7 +132,6 @@ send_serves {i} {config} t u ready {st} {h} newer d older good timed issued next
           let place : place_of d ≡ Some x = number_is_some (place_of d) x two.0 in
           let there = slot_here i config t u x st h newer d older good timed issued next shown e place late in
           let l : d.at.start ≤ d.at.finish = (reach d older good part).order in
-          let small : x < 96 = there.0 in
           let busy : has st.busy x ≡ true = filled.each x (omega arith) ∙ ap is_some there.1 in
           one_sends t u x d older good part place next late
           ∙ sym (ap (λ b. b && nat_lt (count_by (sends_in u) older) config.buses) (said x (omega arith)

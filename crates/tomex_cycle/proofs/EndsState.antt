@@ -29,7 +29,6 @@ pub sent_is : (i : Loaded) {config : Configuration} (t u x : ℕ) (h : List Done
 sent_is i t u x [] good timed issued e = refl
 sent_is i t u x (d ∷ older) good timed issued e =
     let rest = sent_is i t u x older good timed.1 issued.1 e in
-    let l : d.at.issue ≤ u = issued.0 in
     elim (cases_Bool (is_number (place_of d) x)) [
       | inr at ↦ rw at rest
       | inl at ↦

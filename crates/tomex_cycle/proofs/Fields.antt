@@ -112,7 +112,6 @@ dest_later {config} d older good timed dest = elim (pool_cases (step_pool d.step
       let l : d.at.issue < d.at.start = unit_later (step_pool d.step) d.at.issue d.at.start
       (λ u. can_start config older d.step u d.at.issue (cycle_of d.at.address)) (can_start_later config d older) e
       timed.0.start in
-      let k : d.at.start ≤ d.at.end = r.start in
       omega arith
 ]
 

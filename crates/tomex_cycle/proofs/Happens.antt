@@ -172,8 +172,6 @@ issue_happens {i} {config} t u count more run e yet l few apart issued =
         → AreIssuedBy u (newer ++ h) → 0 < length newer → 0 < events_in u (newer ++ h)
     some_issue t u [] h e later issued l = absurd (omega arith)
     some_issue t u (d ∷ newer) h e later issued l =
-        let a : t < d.at.issue = later.0 in
-        let b : d.at.issue ≤ u = issued.0 in
         let one : 0 < events_of u d.at = issue_event u d.at (omega arith) in
         omega arith
 

@@ -132,7 +132,6 @@ pub stations_with : {i : Loaded} {c : Clocks} (x n : ℕ) (d : Done) {h : List D
     → s ≡ station_of i c d h → new.slots ≡ slice_set old.slots x (Some s)
     → new.issue_numbers ≡ slice_set old.issue_numbers x n → ShowsStations i c (d ∷ h) new
 stations_with {i} {c} x n d {h} {old} new s shown place small late count_is same slots issue_numbers =
-    let count : length old.slots ≡ 96 = shown.places in
     record {
       places = ap length slots ∙ (length-set old.slots x (Some s) ∙ shown.places);
       slots = λ y l. ap (λ xs. slice_index_or xs y None) slots ∙ (set_slot old.slots x y s (omega arith)

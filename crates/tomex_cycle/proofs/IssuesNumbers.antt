@@ -99,7 +99,6 @@ taken_low config older (Some q) station issue p e has is =
     let found = number_is config older q issue has in
     let same : is.0 ≡ least (is_free q older issue) (stations_of config q) =
     least_same (is_free q older issue) _ _ is.2 found.0 in
-    let few : least (is_free q older issue) (stations_of config q) < stations_of config q = found.1 in
     let f : stations_of config q ≡ stations_of config p = ap (stations_of config) (same_pool q p e) in
     let s : station ≡ Some is.0 = is.1 in
     rw (s, lt-ltb is.0 (stations_of config p) (omega arith)) refl

@@ -96,7 +96,6 @@ tried : {i : Loaded} {config : Configuration} {n t u count made : ℕ} {st : Poo
     → IssuesNext i config count st rg ft result new status from → result ≡ Ok more → RunEndsAfter i config n → u ≡ t + 1
     → IsTried i config n t u count more new status from
 tried {i} {config} {n} {t} {u} {count} {made} new status from result more have left issues is run at =
-    let before : issued_in u (first_timed config i count) ≡ made = have.in_cycle in
     let d = issues n t u run at (slot_there config u (first_timed config i count) have.now.issued (omega arith))
     have.now in
     let m : d.0 ≡ more = ok_same result d.0 more d.1 is in
@@ -112,7 +111,6 @@ answers : {i : Loaded} {config : Configuration} {n t u count made : ℕ} {st : P
     → IssuesNext i config count st rg ft result new status from → RunEndsAfter i config n → u ≡ t + 1
     → (more : Bool) × (result ≡ Ok more)
 answers {i} {config} {n} {t} {u} {count} {made} new status from result have left issues run at =
-    let before : issued_in u (first_timed config i count) ≡ made = have.in_cycle in
     let d = issues n t u run at (slot_there config u (first_timed config i count) have.now.issued (omega arith))
     have.now in
     (d.0, d.1)
@@ -124,7 +122,6 @@ issued_again : {i : Loaded} {config : Configuration} {n t u count made : ℕ} {s
 issued_again {i} {config} {n} {t} {u} {count} {made} have more run e =
     let few : count + 1 ≤ n + 1 = more.on.few in
     let counted = one_more count t u run e have.now.next more.on.issued few in
-    let before : issued_in u (first_timed config i count) ≡ made = have.in_cycle in
     record { now = more.on; in_cycle = omega arith }
 
 -- no run counts as far as a word goes
@@ -137,7 +134,6 @@ full : {i : Loaded} {config : Configuration} {n t u count made : ℕ} {st : Pool
     → HaveIssued i config n t u count made st rg ft → config.width ≤ made → u ≡ t + 1 → count ≤ n
     → IsYetToIssue i config count u
 full {i} {config} {t} {u} {count} {made} have most e less =
-    let before : issued_in u (first_timed config i count) ≡ made = have.in_cycle in
     yet_more i config count t u (have.now.next less) (λ y is. without_slot config u (first_timed config i count) y
     (slot_gone config u (first_timed config i count) have.now.issued (omega arith))) e
 
@@ -158,7 +154,6 @@ on_more i config count made counted word st0 st new rg0 rg status ft0 ft from re
     let more = tried new status from result true have.1 less issues is run at in
     let again = issued_again have.1 more run at in
     let same : counted + 1 ≡ word = word_of word again run.few e in
-    let low : count ≤ counted = have.0 in
     (omega (arith, same), subst (λ (k : ℕ). HaveIssued i config n t u k (made + 1) new status from) same again)
 
 pub on_wait : (i : Loaded) (config : Configuration) (count made counted : ℕ) (st0 st new : Pools)
@@ -247,7 +242,6 @@ phase_more i config u count word counted st mid new rg between status ft next fr
     =
     let made = first_made u word mid between next result old issues is w run e in
     let d = more n t u run e made.1 in
-    let some : count < word = made.0 in
     grind (arith, nat_tests)
 
 -- and none faults

@@ -76,7 +76,6 @@ pub known_taken : {slots : List (Option Station)} (new : List (Option Station)) 
     → IsTimetableOf new next f
 known_taken {slots} new number count pool s made empty less few idle known =
     let low : place_of_pool pool < 6 = pool_low pool in
-    let places : length slots ≡ 96 = known.places in
     rw made (known_issued (16 * place_of_pool pool + number) s (omega arith) known
     (none_of (slice_index_or slots (16 * place_of_pool pool + number) None) empty) idle)
 

@@ -22,7 +22,6 @@ all_due {slots} {next} {f} known turned x l = turned.due x ∙ elim (cases_Bool 
       all_ahead 0 x known (ltb-true x 96 k) ∙ ap (λ (v : ℕ). finishes v (slice_index_or slots x None)) now
   | inr k ↦
       let high : 96 ≤ x = ltb-false x 96 k in
-      let count : length slots ≡ 96 = known.places in
       let past : slice_index_or slots x None ≡ None = get_or_past slots x None (omega arith) in
       rw past (grind (arith, nat_tests))
 ]

@@ -81,7 +81,6 @@ settled_goes {i} {config} {cycle} {to} {now} {after} before made new sound runs 
       | inl here ↦ let e : now ≡ passed.last_free = here.0 in inl (here.1, rw e first)
       | inr one ↦
           let e : now ≡ passed.last_free + 1 = one.0 in
-          let k : after ≡ before + 1 + 1 = one.2 in
           let some = soon_happens passed.last_free made new sound makes (passed.stops one.1) within in
           inr (
             passed.last_free,
@@ -96,5 +95,4 @@ settled_goes {i} {config} {cycle} {to} {now} {after} before made new sound runs 
 pub passed_low : {slots : List (Option Station)} {cycle to now before after : ℕ}
     → IsSkipped slots cycle to now before after → before ≤ cycle → after ≤ now
 passed_low {cycle} {now} {before} {after} passed low =
-    let l : cycle ≤ passed.last_free = passed.least in
     grind (arith, nat_tests)

@@ -165,7 +165,6 @@ bytes_ended : (i : Loaded) (t g a : ℕ) (h : List Done) → AllBy g h → g ≤
     → byte_at i t h a ≡ byte_after i (steps_in h) a
 bytes_ended i t g a [] by l = refl
 bytes_ended i t g a (d ∷ older) by l =
-    let k : d.at.start ≤ g = by.0.start in
     elim (cases_Bool (overwrites d.step a)) [
       | inl e ↦ rw (e, le-leb d.at.start t (omega arith)) refl
       | inr e ↦ rw e (bytes_ended i t g a older by.1 l)

@@ -41,9 +41,7 @@ station_low {config} older (Some p) station issue good has is n e =
     let found = number_is config older p issue has in
     let same : is.0 ≡ least (is_free p older issue) (stations_of config p) =
     least_same (is_free p older issue) _ _ is.2 found.0 in
-    let f : station ≡ Some is.0 = is.1 in
     let g : n ≡ is.0 = cc in
-    let l : least (is_free p older issue) (stations_of config p) < stations_of config p = found.1 in
     let m : stations_of config p ≤ 16 = stations_high config p good in
     omega arith
 

@@ -110,7 +110,6 @@ late : {config : Configuration} {i : Loaded} {k m t : ℕ} (x : Step) (newer : L
     → IsRest config i k m t newer → step_after i m ≡ Some x → (m ≡ k → IsYetToIssue i config k t)
     → t < (times_of config (first_timed config i m) x).issue
 late {config} {i} {k} {m} {t} x [] good rest e next =
-    let c : m ≡ 0 + k = rest.count in
     let same : m ≡ k = omega arith in
     let yet : IsYetToIssue i config m t = rw same (next same) in
     not_by (first_timed config i m) x t good (run_timed i m good) (yet x e)
@@ -118,7 +117,6 @@ late {config} {i} {m} {t} x (d ∷ newer) good rest e next =
     let can : last_issue (first_timed config i m) ≤ (times_of config (first_timed config i m) x).issue =
     issue_from config (first_timed config i m) x _ (issue_is (first_timed config i m) x good (run_timed i m good)) in
     let b : last_issue (first_timed config i m) ≡ d.at.issue = ap last_issue rest.same in
-    let a : t < d.at.issue = rest.later.0 in
     omega arith
 
 -- the run up to its step m is that up to its step k, and what issues later
@@ -133,7 +131,6 @@ rest_is {config} {i} k (suc j) t run next l =
     let e : suc j + k ≡ j + k + 1 = omega arith in
     let g = run_next config i (j + k) x.0 x.1 in
     let d : Done = next_done config (first_timed config i (j + k)) x.0 in
-    let c : j + k ≡ length before.0 + k = before.1.count in
     let same : first_timed config i (j + k) ≡ before.0 ++ first_timed config i k = before.1.same in (
       d ∷ before.0,
       record {

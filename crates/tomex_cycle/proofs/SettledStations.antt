@@ -63,10 +63,6 @@ over_quiet : {config : Configuration} (t u : ℕ) (d : Done) (older : List Done)
     → AreTimed config (d ∷ older) → d.at.end ≤ t → u ≡ t + 1 → IsQuiet u d
 over_quiet t u d older good timed over e =
     let r = reach d older good timed in
-    let a : d.at.issue ≤ d.at.end = r.issue in
-    let b : cycle_of d.at.address ≤ d.at.end = r.address in
-    let c : d.at.start ≤ d.at.end = r.start in
-    let f : d.at.finish ≤ d.at.end = r.finish in
     record {
       issue = λ z. omega arith;
       address = λ z. omega arith;
@@ -258,7 +254,6 @@ later_settled {config} u (d ∷ newer) h good timed later low settled =
     good timed.1 (settled_rests u (newer ++ h) older) (last_issue_settled u (newer ++ h) older)) timed.0.issue in
     let s : d.at.issue ≤ d.at.start = start_after config d (newer ++ h) (step_unit d.step) timed.0.start in
     let r = reach d (newer ++ h) good timed in
-    let order : d.at.start ≤ d.at.finish = r.order in
     let end : d.at.finish ≤ d.at.end = r.finish in (
       record {
         issue = λ z. omega arith;

@@ -57,7 +57,6 @@ low_of st x filled l e = elim (cases_Bool (nat_lt x 96)) [
   | inl k ↦ ltb-true x 96 k
   | inr k ↦
       let high : 96 ≤ x = ltb-false x 96 k in
-      let count : length st.slots ≡ 96 = filled.places in
       let none : slice_index_or st.slots x None ≡ None = get_or_past st.slots x None (omega arith) in
       absurd (both_ways (has st.busy x) (filled.each x l ∙ ap is_some none) e)
 ]

@@ -50,7 +50,6 @@ stored_by {slots} {picked} {k} {old} {now} new None e pick some none inside befo
     }
 stored_by {slots} {picked} {k} {old} {now} new (Some s) e pick some none inside before =
     let one : HasStored (step_in s) now new = some s refl in
-    let b : now.base ≡ old.base = before.base in
     record {
       base = one.base ∙ before.base;
       size = one.size ∙ before.size;

@@ -77,8 +77,6 @@ left_here i {config} t u a d older good timed issued e leaves_it (none others by
     let unit = and_parts (is_some (step_unit d.step)) (d.at.start == u) two.0 in
     let at : d.at.start ≡ u = eqb-true _ _ unit.1 in
     let r = reach d older good timed in
-    let end : d.at.start ≤ d.at.end = r.start in
-    let order : d.at.start ≤ d.at.finish = r.order in
     let tag = tag_there d t timed.0 issued.0 (omega arith) in
     let place : place_of d ≡ Some (place_of_tag tag.0) = ap place_at tag.1 in
     let busy : nat_lt t d.at.end ≡ true = lt-ltb t d.at.end (omega arith) in

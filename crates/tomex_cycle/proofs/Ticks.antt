@@ -50,7 +50,6 @@ seen_is {i} {config} {cycle} {last} sound ends =
     let run : RunEndsAfter i config ends.0 = sound_run sound ends in
     let after = sound.after ends.0 run in
     let e : total config i ≡ greatest_end (first_timed config i (ends.0 + 1)) = ap greatest_end (run_whole run) in
-    let high : cycle ≤ greatest_end (first_timed config i (ends.0 + 1)) = after.high in
     same_seen i config cycle (min cycle (total config i)) last
     (if nat_lt cycle (total config i) then Running else Ended) (omega arith) (rw e after.answer)
 

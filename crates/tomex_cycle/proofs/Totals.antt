@@ -86,7 +86,6 @@ later_end : {config : Configuration} (newer h : List Done) (t : ℕ) → IsWithi
 later_end [] h t good timed later l = absurd (omega arith)
 later_end (d ∷ newer) h t good timed later l =
     let r : d.at.issue ≤ d.at.end = (reach d (newer ++ h) good timed).issue in
-    let a : t < d.at.issue = later.0 in
     omega arith
 
 -- while steps are left the run isn't over
@@ -96,7 +95,6 @@ more_left {config} {i} {n} k t run l next =
     let rest = rest_to k (n + 1) t run next (omega arith) (omega arith) in
     let timed : AreTimed config (rest.0 ++ first_timed config i k) =
     rw (← rest.1.same) (run_timed i (n + 1) run.lawful) in
-    let c : n + 1 ≡ length rest.0 + k = rest.1.count in
     rw rest.1.same (later_end rest.0 (first_timed config i k) t run.lawful timed rest.1.later (omega arith))
 
 -- the run is over just where fetch has stopped and no station is busy

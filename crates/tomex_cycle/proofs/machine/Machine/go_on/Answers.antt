@@ -21,7 +21,6 @@ invariant_of-self g c =
 pub invariant_of-self-in-Settled : goal.invariant_of-self-in-Settled
 invariant_of-self-in-Settled g c =
     let running : c.self.inside.status ≡ Running = ap (λ x. x.status) c.self.view_is ∙ c.requires.running in
-    let most : c.skip_quiet-self-inside.result ≤ c.args.to = c.skip_quiet-self-inside.ensures.most in
     let low : c.make_cycle.new.self.cycles_made ≤ c.self.inside.cycle + 1 =
     omega (arith, c.make_cycle.ensures.cycles_made, c.self.invariant.1) in (
       rw (c.skip_quiet-self-inside.ensures.inner, c.skip_quiet-self-inside.ensures.same, c.make_cycle.ensures.same)
