@@ -157,5 +157,4 @@ pub given : (i : Loaded) (u t : ℕ) (d : Done) (older : List Done) → is_there
     ≡ (cycle_of d.at.address == u) → t < cycle_of d.at.address → u ≡ t + 1 → is_memory d.step ≡ true
     → station_of i (clocks u u t) d older ≡ with_address (station_of i (clocks u t t) d older)
 given i u t d older there late e m =
-    let f = field_parts t d older m in
     grind (arith, nat_tests)

@@ -218,7 +218,6 @@ named_in i config t u r st h newer (d ∷ older) tag s good timed issued next sh
             let place : place_of d ≡ Some (place_of_tag tag) = ap place_at same in
             let there = slot_here i config t u (place_of_tag tag) st h newer d older good timed issued next shown e
             place (ltb-true _ _ l) in
-            let f : Some (station_of i (clocks u u t) d older) ≡ Some s = sym there.1 ∙ here in
             let g : station_of i (clocks u u t) d older ≡ s = cc in
             ap (λ (z : Station). dest_of z.instr) (sym g) ∙ number_is_some (step_dest d.step) r k
       ]

@@ -142,7 +142,6 @@ pub not_vacant : (t x : ℕ) (newer : List Done) (w : Done) (older : List Done) 
     → is_vacant t x (newer ++ (w ∷ older)) ≡ true → ⊥
 not_vacant t x [] w older held free =
     let z : not (holds_place t x w) ≡ true = (and_parts (not (holds_place t x w)) (is_vacant t x older) free).0 in
-    let f : not true ≡ true = rw held at z in
     absurd (cc)
 not_vacant t x (n ∷ newer) w older held free = not_vacant t x newer w older held
     (and_parts (not (holds_place t x n)) (is_vacant t x (newer ++ (w ∷ older))) free).1

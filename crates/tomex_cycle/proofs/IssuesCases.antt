@@ -84,7 +84,6 @@ pub full_case : (i : Loaded) (config : Configuration) (count : ℕ) (st : Pools)
     → pool_of instr.op ≡ Some p → most ≡ stations_of config p → ((n : ℕ) → n < most → is_open st.slots p n ≡ false)
     → IssuesNext i config count st rg ft (Ok false) st rg ft
 full_case i config count st rg ft pc instr p most at fetched pool stations taken n t u run e slot old =
-    let h = first_timed config i count in
     let timed : AreTimed config (first_timed config i count) = run_timed i count run.lawful in
     let x = coming t count pc run old.few (sym old.from ∙ at) in
     let none = none_left t u p run.lawful timed e old.slots (rw stations at taken) in

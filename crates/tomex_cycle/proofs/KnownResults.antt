@@ -30,7 +30,6 @@ are_results {slots} {next} first writing served results others {f} known due of 
             let high : 80 ≤ x = ltb-false x 80 k in
             let branch : has served x ≡ true =
             branches x (omega arith) ∙ (branch_places x (omega arith) ∙ rw (le-leb 80 x high, lt-ltb x 96 l) refl) in
-            let z : false ≡ true = rw branch at two.1 in
             absurd (cc)
       ],
     )
@@ -58,7 +57,6 @@ others_finish {slots} {next} first writing served results others {f} known due o
     let (sends, near) = are x low over in
     let branch : has served x ≡ false = branches x l ∙ (branch_places x l ∙ rw (not_from x near) refl) in
     let result : has results x ≡ true = those x l ∙ rw (branch, of x l ∙ sends) refl in
-    let z : false ≡ true = rw result at two.1 in
     cc
   where
     not_from : (x : ℕ) → x < 80 → nat_le 80 x ≡ false

@@ -78,7 +78,6 @@ rises-append issue_numbers (x ∷ xs) p rises each = (
       | inl m ↦ let same : p ≡ y = eqb-true p y m in rw (← same) (each x (rw (eq-eqb x x refl) refl))
       | inr m ↦
           let f : (is_listed xs y || ((p == y) || false)) ≡ true = sym (in-append xs (p ∷ []) y) ∙ e in
-          let g : false ≡ true = sym (rw (k, m) refl) ∙ f in
           absurd (cc)
     ]
   ]),
@@ -88,7 +87,6 @@ rises-append issue_numbers (x ∷ xs) p rises each = (
 taken : (t x : ℕ) (newer : List Done) (w : Done) (older : List Done) → holds_place t x w ≡ true
     → is_vacant t x (newer ++ (w ∷ older)) ≡ true → ⊥
 taken t x [] w older held free =
-    let f : not true ≡ true = rw held at (and_parts (not (holds_place t x w)) (is_vacant t x older) free).0 in
     cc
 taken t x (n ∷ newer) w older held free =
     taken t x newer w older held (and_parts (not (holds_place t x n)) (is_vacant t x (newer ++ (w ∷ older))) free).1

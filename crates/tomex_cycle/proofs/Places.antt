@@ -119,7 +119,6 @@ vacant_none i c [] x e = refl
 vacant_none i c (d ∷ older) x e = elim (cases_Bool (holds_place c.end x d)) [
   | inl h ↦
       let two = and_parts (not (holds_place c.end x d)) (is_vacant c.end x older) e in
-      let g : not true ≡ true = rw h at two.0 in
       absurd (cc)
   | inr h ↦ rw h (vacant_none i c older x (and_parts (not (holds_place c.end x d)) (is_vacant c.end x older) e).1)
 ]

@@ -377,6 +377,5 @@ pub settled_quiet : {config : Configuration} (u n : ℕ) (h : List Done) → IsW
 settled_quiet u n h good timed l settled free k a b =
     let first : AllQuiet (u + 1) h =
     settled_next (λ d. ⊥) u h (λ d none. absurd none) good timed l settled (free (u + 1) (omega arith) (omega arith)) in
-    let at : u + 1 + (n - 1) ≡ u + n = omega arith in
     quiet_on (u + 1) (n - 1) h good timed (omega arith) first
     (λ w c d. free_on u w h settled (free w (omega arith) (omega arith))) k (omega arith) (omega arith)

@@ -35,7 +35,6 @@ operands_there : (config : Configuration) (t u : ℕ) (d : Done) (older : List D
     × (is_there (field_of t older (k_of d.step)) ≡ true)
 operands_there config t u d older timed issued e starts =
     let two = and_parts (is_some (step_unit d.step)) (d.at.start == u) starts in
-    let at : d.at.start ≡ u = eqb-true _ _ two.1 in
     let unit = unit_some (step_unit d.step) two.0 in
     let least = start_least d unit.0 timed.0 unit.1 in
     let can : can_start config older d.step unit.0 d.at.issue (cycle_of d.at.address) d.at.start ≡ true = least.0 in
@@ -45,7 +44,6 @@ operands_there config t u d older timed issued e starts =
     (nat_lt (source_end older (j_of d.step)) d.at.start && nat_lt (source_end older (k_of d.step)) d.at.start) b.0 in
     let jk = and_parts (nat_lt (source_end older (j_of d.step)) d.at.start)
     (nat_lt (source_end older (k_of d.step)) d.at.start) ops.1 in
-    let j : source_end older (j_of d.step) < d.at.start = ltb-true _ _ jk.0 in
     grind (
       arith,
       nat_tests,

@@ -165,7 +165,6 @@ one_serves {i} {config} t u {st} sets unit {h} newer d older good timed issued s
           let at = seen t newer d older good timed issued shown e late in
           let same : at.x ≡ x = one_place (place_of d) at.x x at.place
           (and_parts (is_number (place_of d) x) (nat_lt t d.at.end) held).0 in
-          let small : x < 96 = rw same at at.small in
           let slot : slice_index_or st.slots x None ≡ Some (station_of i (clocks t t t) d older) = rw same at at.slot in
           let order = ap (order_of t) e ∙ order_split t x newer d older held in
           let wants = (ready unit).wants x (omega arith) (order_of t older) (order_of t newer) (rw order at by) in
