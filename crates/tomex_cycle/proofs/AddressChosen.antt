@@ -1,13 +1,12 @@
 -- Which load or store gets its address in a cycle, by the recurrence.
-use Rattle.std.proofs.Common.{ℕ, ◌+◌, ◌<◌, ◌≤◌, ◌≡◌, Bool, true, false, arith, refl, List, [], ◌∷◌, Option, Some}
-use Rattle.std.proofs.Common.{None, ap, inl, inr}
+use Rattle.std.proofs.Common.{ℕ, ◌+◌, ◌<◌, ◌≤◌, ◌≡◌, Bool, true, false, arith, refl, List, [], ◌∷◌, Option, Some, None}
+use Rattle.std.proofs.Common.{ap, inl, inr}
 use Rattle.tomex_cycle.proofs.Words.{nat_lt, nat_le, if◌then◌else◌, ◌&&◌, ◌==◌, not, is_some, MatchBool, cases_Bool}
 use Rattle.tomex_cycle.proofs.Words.{nat_tests, ltb-true, lt-ltb, leb-true, leb-false, lt-leb, and_parts, and_right}
 use Rattle.tomex_cycle.proofs.Words.{eq-eqb, Configuration, IsWithinLimits, Done, cycle_of, is_memory, last_address}
 use Rattle.tomex_cycle.proofs.Words.{AreTimed, IsTimed, IsLeast, can_address, AreIssuedBy, place_of, holds_place}
-use Rattle.tomex_cycle.proofs.Words.{station_of, clocks, Loaded, option_map, Op, form_of, sources_at, Step, address_of}
-use Rattle.tomex_cycle.proofs.Words.{j_of, operand, field_of, field_from, producer, is_memory_op, with_address}
-use Rattle.tomex_cycle.proofs.Words.{is_there, Station}
+use Rattle.tomex_cycle.proofs.Words.{station_of, clocks, Loaded, address_of, j_of, field_of, with_address, is_there}
+use Rattle.tomex_cycle.proofs.Words.{Station}
 use Rattle.tomex_cycle.proofs.Fields.{there_test}
 use Rattle.tomex_cycle.proofs.Places.{is_vacant, least_test}
 use Rattle.tomex_cycle.proofs.Totals.{reach, place_there}
@@ -119,13 +118,6 @@ pub chosen_held : (t y : ℕ) (h : List Done) → chosen t h ≡ Some y → is_v
 chosen_held t y [] e free = cc
 chosen_held t y (d ∷ older) e free = chosen_by t y d older (chosen t older) refl (chosen_held t y older) e free
 
-memory_j_op : (op : Op) (rs1 rs2 : ℕ) → is_memory_op op ≡ true → (sources_at (form_of op) rs1 rs2).j ≡ Some rs1
-memory_j_op op rs1 rs2 h3 = grind (arith, nat_tests)
-
--- a load or store reads its base
-pub memory_j : (x : Step) → is_memory x ≡ true → j_of x ≡ Some (operand x.vj x.instr.rs1)
-memory_j x e = ap (option_map (operand x.vj)) (memory_j_op x.instr.op x.instr.rs1 x.instr.rs2 e)
-
 -- the address test of the next cycle, where no older address is to come
 pub test_is : {config : Configuration} (t u : ℕ) (d : Done) {older : List Done} → IsTimed config older d.step d.at
     → AreTimed config older → AreIssuedBy t (d ∷ older) → u ≡ t + 1 → is_memory d.step ≡ true → last_address older ≤ t
@@ -148,10 +140,6 @@ with_a i u t d older e =
 
 pub a_none : (t : ℕ) (d : Done) → t < cycle_of d.at.address → a_by t d ≡ None
 a_none t d l = rw (lt-leb (cycle_of d.at.address) t l, and_right (is_memory d.step) false refl) refl
-
-field_parts : (t : ℕ) (d : Done) (older : List Done) → is_memory d.step ≡ true
-    → field_of t older (j_of d.step) ≡ field_from d.step.vj (producer t older d.step.instr.rs1)
-field_parts t d older m = rw (memory_j d.step m) refl
 
 pub given : (i : Loaded) (u t : ℕ) (d : Done) (older : List Done) → is_there (field_of t older (j_of d.step))
     ≡ (cycle_of d.at.address == u) → t < cycle_of d.at.address → u ≡ t + 1 → is_memory d.step ≡ true

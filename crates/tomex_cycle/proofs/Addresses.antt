@@ -151,10 +151,6 @@ set_at_place xs x y o l same = elim (cases_Bool (x == y)) [
   | inr e ↦ rw e (get_or-set_other xs x y o None (λ z. eqb-false x y e (sym z)))
 ]
 
-given_none : (x y : ℕ) (slots : List (Option Station)) → has_base (slice_index_or slots x None) ≡ false
-    → slice_index_or slots y None ≡ given_at (Some x) y (slice_index_or slots y None)
-given_none x y slots none = grind (arith, nat_tests)
-
 -- the phase, by the search for the next address
 pub made_none : (next : ℕ) (old : Pools) → AreBusy old.slots old.busy old.issue_numbers
     → ((order : List ℕ) → IsInIssueOrder old.busy old.issue_numbers order → None ≡ next_address old.slots order)
@@ -173,11 +169,7 @@ made_none next old filled none i config h t e past issued shown =
     unmoved : (i : Loaded) (t next x : ℕ) (h : List Done) (old : Pools) (o : Option ℕ)
         → None ≡ where_base_is_there old.slots o → slice_index_or old.slots x None ≡ station_at i (clocks next t t) h x
         → station_at i (clocks next t t) h x ≡ given_at o x (station_at i (clocks next t t) h x)
-    unmoved i t next x h old None e same = refl
-    unmoved i t next x h old (Some y) e same = elim (cases_Bool (has_base (slice_index_or old.slots y None))) [
-      | inl k ↦ let z : None ≡ Some y = rw k at e in absurd (cc)
-      | inr k ↦ rw (← same) (given_none y x old.slots k)
-    ]
+    unmoved i t next x h old o e f = grind (arith, nat_tests)
 
 low_by : {config : Configuration} (t x : ℕ) (d : Done) (older : List Done) (o : Option ℕ) → IsWithinLimits config
     → AreTimed config (d ∷ older) → ((y : ℕ) → o ≡ Some y → y < 96)
@@ -214,8 +206,4 @@ made_some next x old new o filled some same slots issue_numbers i config h t e p
     }
   where
     found : (x : ℕ) (slots : List (Option Station)) (o : Option ℕ) → Some x ≡ where_base_is_there slots o → o ≡ Some x
-    found x slots None e = absurd (cc)
-    found x slots (Some y) e = elim (cases_Bool (has_base (slice_index_or slots y None))) [
-      | inl k ↦ sym (rw k at e)
-      | inr k ↦ let z : Some x ≡ None = rw k at e in absurd (cc)
-    ]
+    found x slots o e = grind (arith, nat_tests)

@@ -2,7 +2,7 @@
 use Rattle.std.proofs.Common.{ℕ, ◌+◌, ◌<◌, ◌≤◌, ◌≡◌, ◌∙◌, Bool, true, false, arith, refl, List, Option, Some, None, ap}
 use Rattle.std.proofs.Common.{sym, inl, inr, length, slice_index, slice_index_or, slice_set, option_map}
 use Rattle.tomex_cycle.proofs.Words.{nat_lt, if◌then◌else◌, ◌&&◌, ◌==◌, cases_Bool, lt-ltb, le-ltb, eqb-true, eqb-false}
-use Rattle.tomex_cycle.proofs.Words.{nat_tests, both_ways, ltb-true, ltb-false, get_or-set_same, get_or-set_other}
+use Rattle.tomex_cycle.proofs.Words.{nat_tests, ltb-true, ltb-false, get_or-set_same, get_or-set_other}
 use Rattle.tomex_cycle.proofs.Words.{length-set, get_or_past, field_from, Field, Value, Unread, Tag, is_number, EndsIn}
 use Rattle.tomex_cycle.proofs.Words.{Hears, after_ends, sends_of, sent_below, AreNamed, HaveReceived, hears, heard}
 use Rattle.tomex_cycle.proofs.Words.{only, taken, place_at, place_of_tag, Pools, RegStatus, Station, has, IsWithout}
@@ -96,11 +96,6 @@ wait_sets xs x s count e = elim (cases_Bool (nat_lt x 96)) [
       absurd (some_none s (slice_index_or xs x None) e none)
 ]
 
-same_tag : (o : Option ℕ) (u t : Tag) (x : ℕ) → Waits t ≡ taken o u → is_number (place_at (Some t)) x ≡ true
-    → is_number (place_at (Some u)) x ≡ true
-same_tag None u t x e f = let g : t ≡ u = cc in rw (← g) f
-same_tag (Some v) u t x e f = absurd (cc)
-
 -- registers still name who they named
 named_still : {picked k : ℕ} {old s : Pools} {first r : RegStatus} → AreNamed old.slots first
     → AreEndedBelow picked k old s → length s.slots ≡ 96 → HaveReceived (sent_below old.slots picked k) first r
@@ -116,15 +111,11 @@ named_still {picked} {k} {old} {s} {first} {r} named so count heard_ q x l e sta
   where
     stood : (b : Bool) (sent : ℕ → Option ℕ) (o : Option Station) (s : Station) → after_ends b sent o ≡ Some s
         → (z : Station) × (o ≡ Some z) × (s.instr ≡ z.instr)
-    stood true sent o s e = absurd (cc)
-    stood false sent None s e = absurd (cc)
-    stood false sent (Some z) s e = let f : hears sent z ≡ s = cc in (z, refl, ap (λ (y : Station). y.instr) (sym f))
+    stood b sent o s e = grind (arith, nat_tests)
 
     named_by : (sent : ℕ → Option ℕ) (a b : ℕ) (p q : Option Tag) (x : ℕ) → field_from b q ≡ heard sent (field_from a p)
         → is_number (place_at q) x ≡ true → is_number (place_at p) x ≡ true
-    named_by sent a b p None x e f = absurd (cc)
-    named_by sent a b None (Some t) x e f = absurd (cc)
-    named_by sent a b (Some u) (Some t) x e f = same_tag (sent (place_of_tag u)) u t x e f
+    named_by sent a b p q x e f = grind (arith, nat_tests)
 
 -- The loop over the places that end, the least first.
 

@@ -73,10 +73,7 @@ over_happens u (d ∷ h) l e = elim (cases_Bool (d.at.end == u)) [
 ]
   where
     rest : (a b u : ℕ) → max a b ≡ u → (a == u) ≡ false → b ≡ u
-    rest a b u e k = elim (cases_Bool (nat_lt a b)) [
-      | inl l ↦ let m : a < b = ltb-true a b l in omega arith
-      | inr l ↦ let m : b ≤ a = ltb-false a b l in absurd (both_ways (a == u) k (eq-eqb a u (omega arith)))
-    ]
+    rest a b u e f = grind (arith, nat_tests)
 
 -- Starts.
 
@@ -235,14 +232,7 @@ address_happens next x old filled some i config h t e past issued shown =
   where
     here : (slots : List (Option Station)) (o : Option ℕ) → Some x ≡ where_base_is_there slots o → (o ≡ Some x)
         × (has_base (slice_index_or slots x None) ≡ true)
-    here slots None e = absurd (cc)
-    here slots (Some y) e = elim (cases_Bool (has_base (slice_index_or slots y None))) [
-      | inl k ↦
-          let f : Some x ≡ Some y = rw k at e in
-          let g : y ≡ x = cc in
-          (sym f, ap (λ (z : ℕ). has_base (slice_index_or slots z None)) (sym g) ∙ k)
-      | inr k ↦ let z : Some x ≡ None = rw k at e in absurd (cc)
-    ]
+    here slots o e = grind (arith, nat_tests)
 
 -- what happens in a part of a run happens in the run
 pub run_happens : {config : Configuration} {i : Loaded} {n : ℕ} (k u : ℕ) → RunEndsAfter i config n → k ≤ n + 1

@@ -108,8 +108,7 @@ slot_with i c x y d h e l = rw (lt-ltb c.end d.at.end l, e) (turned (x == y))
   where
     turned : (b : Bool) → (if b && true then Some (station_of i c d h) else station_at i c h y)
         ≡ (if b then Some (station_of i c d h) else station_at i c h y)
-    turned true = refl
-    turned false = refl
+    turned b = grind (arith, nat_tests)
 
 set_slot : (xs : List (Option Station)) (x y : ℕ) (s : Station) → x < length xs
     → slice_index_or (slice_set xs x (Some s)) y None ≡ (if x == y then Some s else slice_index_or xs y None)

@@ -27,9 +27,7 @@ none_below p u [] = refl
 none_below p u (d ∷ h) = rw (sum_by-cons, none_below p u h) (zero_one (is_held p u d) d.at.station)
   where
     zero_one : (b : Bool) (st : Option ℕ) → one (b && lower st 0) + 0 ≡ 0
-    zero_one false st = refl
-    zero_one true None = refl
-    zero_one true (Some m) = rw (le-ltb m 0 (omega arith)) refl
+    zero_one b st = grind (arith, nat_tests)
 
 few_below : (p : PoolId) (u n : ℕ) (h : List Done) → ((k : ℕ) → count_by (numbered p u k) h ≤ 1)
     → count_by (below p u n) h ≤ n
@@ -64,8 +62,7 @@ none_counted q (d ∷ h) e =
     rw (sum_by-cons, none_counted q h two.1) (zero_of (q d) two.0)
   where
     zero_of : (b : Bool) → not b ≡ true → one b + 0 ≡ 0
-    zero_of false e = refl
-    zero_of true e = absurd (cc)
+    zero_of b e = grind (arith, nat_tests)
 
 free_one : (a b c : Bool) → (a ≡ false → b ≡ false) → not (a && c) ≡ true → not (b && c) ≡ true
 free_one a b c f e = grind (arith, nat_tests)

@@ -43,8 +43,7 @@ without_slot config u h y gone =
     rw gone (never (nat_lt 0 u) (are_branches_finished h u) (has_station config h (step_pool y) u))
   where
     never : (a b c : Bool) → (((a && false) && b) && c) ≡ false
-    never true b c = refl
-    never false b c = refl
+    never a b c = grind (arith, nat_tests)
 
 -- the step that issues after t does so in the next cycle, if it has issued by then
 issues_then : {config : Configuration} (h : List Done) (x : Step) (t u : ℕ) → IsWithinLimits config → AreTimed config h

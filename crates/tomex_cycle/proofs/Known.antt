@@ -6,10 +6,9 @@ use Rattle.tomex_cycle.proofs.Words.{nat_lt, ◌==◌, ◌&&◌, ◌||◌, not, 
 use Rattle.tomex_cycle.proofs.Words.{nat_tests, cases_Bool, eq-eqb, eqb-true, eqb-false, le-ltb, ltb-true, ltb-false}
 use Rattle.tomex_cycle.proofs.Words.{ne_eqb, get_or-replicate, get_or-set_same, get_or-set_other, get_or_past}
 use Rattle.tomex_cycle.proofs.Words.{length-set, dest_of, place_of_pool, PoolId, is_number, has, is_due, none_in}
-use Rattle.tomex_cycle.proofs.Words.{with_address, is_open, Station, Field, Value, Unread, can_send, finishes}
-use Rattle.tomex_cycle.proofs.Words.{is_finished_before, IsTimetableOf, has_stayed, Finishes}
+use Rattle.tomex_cycle.proofs.Words.{with_address, is_open, Station, Field, can_send, finishes, is_finished_before}
+use Rattle.tomex_cycle.proofs.Words.{IsTimetableOf, has_stayed, Finishes}
 use Rattle.tomex_bus.specs.Wheel.{HasPut, IsEmpty, Lacks}
-use Rattle.tomex_timing.specs.declared.tables.Field.TheVariants.{Waits}
 use Rattle.tomex_cycle.proofs.Places.{pool_low}
 
 -- A test of what stands in each place, once this stands in one.
@@ -85,9 +84,7 @@ address_keeps s = of s.j refl
   where
     of : (j : Field) → s.j ≡ j → ((with_address s).finish ≡ s.finish)
         × (dest_of (with_address s).instr ≡ dest_of s.instr)
-    of (Value v) e = rw e (refl, refl)
-    of (Waits tag) e = rw e (refl, refl)
-    of Unread e = rw e (refl, refl)
+    of j e = grind (arith, nat_tests)
 
 -- an address is computed
 pub known_addressed : {slots : List (Option Station)} (new : List (Option Station)) (x : ℕ) {next : ℕ} {f : Finishes}
@@ -167,12 +164,10 @@ known_started {slots} x {next} latency s t {f} g l m known at idle fin some few 
 }
   where
     and_true : (b : Bool) → (false || (b && true)) ≡ b
-    and_true true = refl
-    and_true false = refl
+    and_true b = grind (arith, nat_tests)
 
     or_false : (b : Bool) → (b || false) ≡ b
-    or_false true = refl
-    or_false false = refl
+    or_false b = grind (arith, nat_tests)
 
     late : (b : Bool) → (b && is_finished_before t.finish next) ≡ false
     late b = rw (fin, le-ltb (next + latency - 1) next (omega arith)) (and_right b false refl)

@@ -32,8 +32,7 @@ alone_test next None d e = sym (and_right (not d) false refl)
 alone_test next (Some v) true e = off (v == next)
   where
     off : (b : Bool) → (b && not (b && true)) ≡ false
-    off true = refl
-    off false = refl
+    off b = grind (arith, nat_tests)
 alone_test next (Some v) false e = on (v == next) ∙ elim (cases_Bool (v == next)) [
   | inl k ↦ let f : v ≡ next = eqb-true v next k in k ∙ sym (le-leb v next (omega arith))
   | inr k ↦ let f : v ≢ next = eqb-false v next k in let g : next ≤ v = ltb-false v next e in
@@ -41,8 +40,7 @@ alone_test next (Some v) false e = on (v == next) ∙ elim (cases_Bool (v == nex
 ]
   where
     on : (b : Bool) → (b && not (b && false)) ≡ b
-    on true = refl
-    on false = refl
+    on b = grind (arith, nat_tests)
 
 alone_is : (next : ℕ) (o : Option Station) → has_stayed next o ≡ false
     → (finishes next o && not (finishes next o && writes o)) ≡ (is_some o && ends_alone next o)
@@ -111,11 +109,6 @@ gone_is next None sending e = and_right (not (sending || false)) false refl
 gone_is next (Some s) sending e = rw (before_next next s.finish) (gone_test (is_some (dest_of s.instr))
     (is_finished_before s.finish next) (is_number s.finish next) sending e)
 
--- what ends doesn't finish later
-ended_later : (next a : ℕ) (o : Option Station) (sending : Bool) → (sending ≡ true → can_send next o ≡ true)
-    → (sending || (finishes next o && not (finishes next o && writes o))) ≡ true → finishes (next + 1 + a) o ≡ false
-ended_later next a o sending inside e = grind (arith, nat_tests)
-
 pub leaves_known : (st : Pools) (buses : ℕ) {next due : ℕ} (found sending silent ending : ℕ) {f g : Finishes}
     (h : Finishes) → AreBusy st.slots st.busy st.issue_numbers → IsTimetableOf st.slots next f → HaveTurned f g due
     → ((x : ℕ) → x < 128 → has found x ≡ (has due x && writes (slice_index_or st.slots x None)))
@@ -170,13 +163,7 @@ leaves_known st buses {next} {due} found sending silent ending {f} h filled know
         (finishes next (slice_index_or st.slots x None) && writes (slice_index_or st.slots x None))))
         → (not (has ending x) && finishes (next + 1 + a) (slice_index_or st.slots x None)) ≡ finishes (next + (a + 1))
         (slice_index_or st.slots x None)
-    same_later a x l inside ends =
-        let at : next + 1 + a ≡ next + (a + 1) = omega arith in
-        elim (cases_Bool (has ending x)) [
-          | inr e ↦ rw e (ap (λ (v : ℕ). finishes v (slice_index_or st.slots x None)) at)
-          | inl e ↦ rw e (sym (ap (λ (v : ℕ). finishes v (slice_index_or st.slots x None)) (sym at)
-              ∙ ended_later next a (slice_index_or st.slots x None) (has sending x) inside (sym ends ∙ e)))
-        ]
+    same_later a x e f g = grind (arith, nat_tests)
 
 -- where nothing is over no result is unsent
 pub none_unsent : {due : ℕ} (found sending silent ending buses : ℕ) {f g : Finishes} (h : Finishes) → sending < 2 ^ 128
@@ -244,8 +231,7 @@ pub nothing_sent : (sending : ℕ) (g : Finishes) → sending ≡ 0 → (x : ℕ
 nothing_sent sending g none x l = rw (none, none_in x) (stays (has g.unsent x))
   where
     stays : (b : Bool) → b ≡ (b && true || false)
-    stays true = refl
-    stays false = refl
+    stays b = grind (arith, nat_tests)
 
 -- where nothing finishes and no result waits, nothing ends
 pub ending_none : (st : Pools) (buses : ℕ) {next due : ℕ} {f g : Finishes} → AreBusy st.slots st.busy st.issue_numbers

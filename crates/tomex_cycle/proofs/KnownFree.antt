@@ -2,7 +2,7 @@
 use Rattle.std.proofs.Common.{ℕ, ◌+◌, ◌-◌, ◌<◌, ◌≤◌, ◌≡◌, ◌∙◌, Bool, true, false, arith, refl, ap, sym, inl, inr, List}
 use Rattle.std.proofs.Common.{Option, Some, None, length, slice_index_or}
 use Rattle.tomex_cycle.proofs.Words.{nat_lt, ◌==◌, ◌≢◌, ◌&&◌, not, is_some, both_ways, cases_Bool, eq-eqb, eqb-true}
-use Rattle.tomex_cycle.proofs.Words.{eqb-false, lt-ltb, ltb-true, ltb-false, get_or_past, dest_of, is_number, is_due}
+use Rattle.tomex_cycle.proofs.Words.{nat_tests, eqb-false, ltb-true, ltb-false, get_or_past, dest_of, is_number, is_due}
 use Rattle.tomex_cycle.proofs.Words.{none_in, Station, can_send, finishes, is_finished_before, IsTimetableOf, IsFree}
 use Rattle.tomex_cycle.proofs.Words.{has_stayed, Finishes}
 use Rattle.tomex_bus.specs.Wheel.{HasPassed, IsClearTo, IsNext}
@@ -30,16 +30,11 @@ free_to {slots} cycle k {f} known none clear x v l from to = elim
     of_finish : (finish : Option ℕ) (r : Bool) → is_number finish cycle ≡ true
         → (r && is_finished_before finish (cycle + 1)) ≡ false → (not r && is_finished_before finish (cycle + 1))
         ≡ false → ⊥
-    of_finish None r e a b = both_ways false refl e
-    of_finish (Some w) true e a b = let same : w ≡ cycle = eqb-true w cycle e in
-        both_ways (nat_lt w (cycle + 1)) a (lt-ltb w (cycle + 1) (omega arith))
-    of_finish (Some w) false e a b = let same : w ≡ cycle = eqb-true w cycle e in
-        both_ways (nat_lt w (cycle + 1)) b (lt-ltb w (cycle + 1) (omega arith))
+    of_finish finish r e f g = grind (arith, nat_tests)
 
     done_now : (o : Option Station) → finishes cycle o ≡ true → can_send (cycle + 1) o ≡ false
         → has_stayed (cycle + 1) o ≡ false → ⊥
-    done_now None e a b = both_ways false refl e
-    done_now (Some s) e a b = of_finish s.finish (is_some (dest_of s.instr)) e a b
+    done_now o e f g = grind (arith, nat_tests)
 
 before_later : (cycle w : ℕ) (r : Bool) (finish : Option ℕ) → cycle + 1 ≤ w
     → (r && is_finished_before finish (cycle + 1)) ≡ false

@@ -1,10 +1,10 @@
 -- Where nothing but results finishes in a cycle, they are unsent after it, and that is all that changes.
 use Rattle.std.proofs.Common.{ℕ, ◌+◌, ◌<◌, ◌≤◌, ◌^◌, ◌≡◌, ◌∙◌, Bool, true, false, arith, refl, ap, sym, inl, inr, List}
 use Rattle.std.proofs.Common.{Option, None, length, slice_index_or}
-use Rattle.tomex_cycle.proofs.Words.{nat_le, nat_lt, ◌≢◌, ◌&&◌, not, and_parts, both_ways, cases_Bool, le-leb, leb-true}
-use Rattle.tomex_cycle.proofs.Words.{lt-ltb, ltb-true, ltb-false, get_or_past, has, is_due, none_in, is_served, AreBusy}
-use Rattle.tomex_cycle.proofs.Words.{Pools, IsSetOf, writes, Station, AreDone, finishes, IsTimetableOf, AreResults}
-use Rattle.tomex_cycle.proofs.Words.{HaveTurned, Finishes, none_picked}
+use Rattle.tomex_cycle.proofs.Words.{nat_le, nat_lt, ◌≢◌, ◌&&◌, not, and_parts, both_ways, cases_Bool, le-leb}
+use Rattle.tomex_cycle.proofs.Words.{nat_tests, lt-ltb, ltb-true, ltb-false, get_or_past, has, is_due, none_in}
+use Rattle.tomex_cycle.proofs.Words.{is_served, AreBusy, Pools, IsSetOf, writes, Station, AreDone, finishes}
+use Rattle.tomex_cycle.proofs.Words.{IsTimetableOf, AreResults, HaveTurned, Finishes, none_picked}
 use Rattle.tomex_rvdec.specs.declared.pool.UnitId.TheVariants as units
 use Rattle.tomex_bus.specs.Wheel.{AreDue}
 use Rattle.tomex_cycle.proofs.Happens.{member_of}
@@ -35,9 +35,7 @@ are_results {slots} {next} first writing served results others {f} known due of 
     )
   where
     member : (a b : Bool) → a ≡ true → (a && not b) ≡ false → b ≡ true
-    member true true e f = refl
-    member true false e f = sym f
-    member false b e f = absurd (both_ways false refl e)
+    member a b e f = grind (arith, nat_tests)
 
 -- of what is due one is outside the results
 pub others_finish : {slots : List (Option Station)} {next : ℕ} (first writing served results others : ℕ) {f : Finishes}
@@ -60,10 +58,7 @@ others_finish {slots} {next} first writing served results others {f} known due o
     cc
   where
     not_from : (x : ℕ) → x < 80 → nat_le 80 x ≡ false
-    not_from x near = elim (cases_Bool (nat_le 80 x)) [
-      | inr k ↦ k
-      | inl k ↦ let far : 80 ≤ x = leb-true 80 x k in absurd (omega arith)
-    ]
+    not_from x e = grind (arith, nat_tests)
 
 -- all that is due writes a register
 due_writes : (slots : List (Option Station)) (next due x : ℕ) → length slots ≡ 96 → AreDone slots next due
@@ -90,5 +85,4 @@ known_results st {next} {due} {f} h filled known turned results none wheel unsen
     wheel (λ x l. rw (unsent, turned.unsent, none, none_in x) refl)) refl
   where
     silent : (b : Bool) → false ≡ (b && not b)
-    silent true = refl
-    silent false = refl
+    silent b = grind (arith, nat_tests)

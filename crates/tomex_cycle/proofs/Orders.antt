@@ -129,10 +129,7 @@ order_rises i config c h newer (d ∷ older) st good timed issued shown e =
     longer : (issue_numbers : List ℕ) (end : ℕ) (d : Done) (older : List Done)
         → order_of end (d ∷ older) ≡ order_of end older → AreOlder issue_numbers end older
         → AreOlder issue_numbers end (d ∷ older)
-    longer issue_numbers end d older same before = record {
-      rises = rw same before.rises;
-      below = λ x k. let l : slice_index issue_numbers x < length older = before.below x (rw same at k) in omega arith;
-    }
+    longer issue_numbers end d older e f = grind (arith, nat_tests)
 
     rise_by : (i : Loaded) (config : Configuration) (c : Clocks) (h newer : List Done) (d : Done) (older : List Done)
         (st : Pools) (p : Option ℕ) → place_of d ≡ p → IsWithinLimits config → AreTimed config h

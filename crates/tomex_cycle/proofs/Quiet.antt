@@ -175,11 +175,7 @@ slot_quiet {config} v h l good timed quiet apart e =
     (rw (none_later config h v timed earlier) (lt-ltb 0 config.width (width_low config good)))
   where
     before : (a v : ℕ) → a ≤ v + 1 → a ≢ v → a ≢ v + 1 → a < v
-    before a v by here apart = elim (cases_order a v) [
-      | inl e ↦ absurd (here e)
-      | inr (inl k) ↦ k
-      | inr (inr k) ↦ absurd (apart (omega arith))
-    ]
+    before a v e f g = grind (arith, nat_tests)
 
 pub issue_quiet : {config : Configuration} (v : ℕ) (h : List Done) (s : Step) → 0 < v → IsWithinLimits config
     → AreTimed config h → AllAtRest v h → last_issue h ≢ v + 1 → can_issue config h s (v + 1) ≡ true

@@ -147,8 +147,7 @@ in-filter : (q : ℕ → Bool) (xs : List ℕ) (x : ℕ) → is_listed (filter q
 in-filter q [] x = sym (and_none (q x))
   where
     and_none : (a : Bool) → (a && false) ≡ false
-    and_none true = refl
-    and_none false = refl
+    and_none a = grind (arith, nat_tests)
 in-filter q (y ∷ xs) x = elim (cases_Bool (q y)) [
   | inl e ↦ elim (cases_Bool (y == x)) [
     | inl k ↦ let same : y ≡ x = eqb-true y x k in rw (e, k, ← same, e) refl

@@ -3,16 +3,15 @@
 -- where operations start, and leave none that waits for a unit, it is settled.
 use Rattle.std.proofs.Common.{ℕ, ◌+◌, ◌<◌, ◌≤◌, ◌≡◌, ◌∙◌, Bool, true, false, arith, refl, List, [], ◌∷◌, ◌++◌, Option}
 use Rattle.std.proofs.Common.{Some, None, ap, sym, inl, inr, append_assoc, slice_index_or}
-use Rattle.tomex_cycle.proofs.Words.{◌≢◌, nat_lt, nat_le, ◌&&◌, if◌then◌else◌, is_some, MatchOption, cases_Bool}
-use Rattle.tomex_cycle.proofs.Words.{nat_tests, both_ways, le-ltb, lt-ltb, ltb-true, ltb-false, le-leb, and_from}
-use Rattle.tomex_cycle.proofs.Words.{and_parts, eq-eqb, Loaded, Configuration, IsWithinLimits, UnitId, dest_of}
-use Rattle.tomex_cycle.proofs.Words.{address_of, is_branch, is_number, step_pool, step_unit, j_of, k_of, Done, cycle_of}
-use Rattle.tomex_cycle.proofs.Words.{is_memory, source_end, AreTimed, IsTimed, IsLeast, are_conflicts_finished}
-use Rattle.tomex_cycle.proofs.Words.{can_issue, can_start, has_operands, has_unit, AllSettled, IsSettled, finishes}
-use Rattle.tomex_cycle.proofs.Words.{AreResults, AreIssuedBy, NoneWaits, clocks, holds_place, place_of, station_at}
-use Rattle.tomex_cycle.proofs.Words.{station_of, ShowsStations, is_waiting, Pools, waits, writes, Station}
+use Rattle.tomex_cycle.proofs.Words.{◌≢◌, nat_lt, nat_le, ◌&&◌, if◌then◌else◌, MatchOption, cases_Bool, nat_tests}
+use Rattle.tomex_cycle.proofs.Words.{both_ways, le-ltb, lt-ltb, ltb-true, ltb-false, le-leb, and_from, and_parts}
+use Rattle.tomex_cycle.proofs.Words.{eq-eqb, Loaded, Configuration, IsWithinLimits, UnitId, address_of, is_number}
+use Rattle.tomex_cycle.proofs.Words.{step_unit, j_of, k_of, Done, cycle_of, is_memory, source_end, AreTimed, IsTimed}
+use Rattle.tomex_cycle.proofs.Words.{IsLeast, are_conflicts_finished, can_issue, can_start, has_operands, has_unit}
+use Rattle.tomex_cycle.proofs.Words.{AllSettled, IsSettled, finishes, AreResults, AreIssuedBy, NoneWaits, clocks}
+use Rattle.tomex_cycle.proofs.Words.{holds_place, place_of, station_at, station_of, ShowsStations, is_waiting, Pools}
+use Rattle.tomex_cycle.proofs.Words.{waits, Station}
 use Rattle.tomex_cycle.proofs.Cycles.{can_start_later}
-use Rattle.tomex_cycle.proofs.EndsFetch.{place_high}
 use Rattle.tomex_cycle.proofs.Fields.{timed_part, issued_part}
 use Rattle.tomex_cycle.proofs.Places.{is_vacant, station_here, vacant, vacant_none}
 use Rattle.tomex_cycle.proofs.Quiet.{AllDue, AllFree, AllQuiet, HasResult, IsQuiet, settled_rests, issue_quiet}
@@ -317,12 +316,4 @@ issued_results {i} {config} u w {st} {h} good timed issued l shown results =
   where
     of : (d : Done) (x : ℕ) (s : Station) → x < 96 → place_of d ≡ Some x → slice_index_or st.slots x None ≡ Some s
         → s.instr ≡ d.step.instr → finishes w (Some s) ≡ true → HasResult d
-    of d x s small place slot instr done =
-        let result = results x small (ap (finishes w) slot ∙ done) in (
-          ap (λ z. is_some (dest_of z)) (sym instr) ∙ (ap writes (sym slot) ∙ result.0),
-          elim (cases_Bool (is_branch d.step)) [
-            | inr e ↦ e
-            | inl e ↦ let high : 80 ≤ x = place_high (step_pool d.step) d.at.station x e place in
-                let low : x < 80 = result.1 in absurd (omega arith)
-          ],
-        )
+    of d x s e f g h k = grind (arith, nat_tests)

@@ -1,8 +1,8 @@
 -- What a state shows after a cycle it shows after a later one, where nothing happens between but finishes of results.
 use Rattle.std.proofs.Common.{ℕ, zero, suc, ◌+◌, ◌-◌, ◌<◌, ◌≤◌, ◌≡◌, ◌∙◌, true, arith, refl, List, [], ◌∷◌, ◌++◌}
 use Rattle.std.proofs.Common.{Option, Some, None, ap, inl, inr, subst}
-use Rattle.tomex_cycle.proofs.Words.{◌≢◌, nat_lt, nat_le, ◌&&◌, AllByRecursion, both_ways, cases_Bool, ltb-true}
-use Rattle.tomex_cycle.proofs.Words.{nat_tests, ltb-false, Loaded, Configuration, Operand, Bytes, is_branch, is_number}
+use Rattle.tomex_cycle.proofs.Words.{◌≢◌, nat_lt, nat_le, ◌&&◌, AllByRecursion, both_ways, cases_Bool}
+use Rattle.tomex_cycle.proofs.Words.{nat_tests, Loaded, Configuration, Operand, Bytes, is_branch, is_number}
 use Rattle.tomex_cycle.proofs.Words.{step_dest, j_of, k_of, Done, cycle_of, times_of, field_of, field_from, producer}
 use Rattle.tomex_cycle.proofs.Words.{times_are, Fetch, IsSnapshot, IsYetToIssue, byte_at, first_timed, RunEndsAfter}
 use Rattle.tomex_cycle.proofs.Words.{clocks, fetch_of, holds_place, place_of, station_at, station_of, Pools, RegStatus}

@@ -180,8 +180,7 @@ single_of unit slots waiting set n issue_numbers single are some wait =
     single_picked set n issue_numbers some (λ a b l m e f. single a b l m (among a l e) (among b m f))
   where
     waits_too : (o : Option Station) → waits_for unit o ≡ true → waits o ≡ true
-    waits_too None e = e
-    waits_too (Some s) e = (and_parts (is_waiting s) (is_of unit (unit_of s.instr.op)) e).0
+    waits_too o e = grind (arith, nat_tests)
 
     among : (x : ℕ) → x < 128 → has set x ≡ true → has waiting x ≡ true
     among x l e = are x l ∙ waits_too (slice_index_or slots x None) (wait x l e)
@@ -217,23 +216,14 @@ are_starting config {st} {next} {ra} {rb} {rc} {rd} {re} a b c d e all is_alu is
     }
   where
     or_none : (z : Bool) → (z || false) ≡ z
-    or_none true = refl
-    or_none false = refl
+    or_none z = grind (arith, nat_tests)
 
     kinds : AreStartable st next (ra ∷ rb ∷ rc ∷ rd ∷ re ∷ [])
-    kinds units.Alu = is_alu
-    kinds units.Mul = is_mul
-    kinds units.Div = is_div
-    kinds units.Mem = is_mem
-    kinds units.Bru = is_bru
+    kinds = grind (arith, nat_tests)
 
     each : (unit : UnitId) → IsPicked (slice_index (ra ∷ rb ∷ rc ∷ rd ∷ re ∷ []) (place_of_unit unit)) st.issue_numbers
         (option_of config unit).units (slice_index (a ∷ b ∷ c ∷ d ∷ e ∷ []) (place_of_unit unit))
-    each units.Alu = alu
-    each units.Mul = mul
-    each units.Div = div
-    each units.Mem = mem
-    each units.Bru = bru
+    each unit = grind (arith, nat_tests)
 
 -- where nothing waits, nothing starts
 pub none_starts : (config : Configuration) (st : Pools) (next waiting : ℕ) → AreBusy st.slots st.busy st.issue_numbers
@@ -249,9 +239,7 @@ none_starts config st next waiting filled of empty =
     (none_picked 0 _ st.issue_numbers refl) (λ x. rw (none_in x) refl)
   where
     none_too : (unit : UnitId) (o : Option Station) → waits o ≡ false → waits_for unit o ≡ false
-    none_too unit None e = refl
-    none_too unit (Some s) e = ap (λ b. b && is_of unit (unit_of s.instr.op)) e
+    none_too unit o e = grind (arith, nat_tests)
 
     none_for : (unit : UnitId) → IsSetOf (waits_for unit) st.slots 0
-    none_for unit x l = none_in x ∙ sym
-        (none_too unit (slice_index_or st.slots x None) (sym (of x l) ∙ (rw empty (none_in x))))
+    none_for unit = grind (arith, nat_tests)

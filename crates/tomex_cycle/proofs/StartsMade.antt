@@ -2,7 +2,7 @@
 use Rattle.std.proofs.Common.{length, append_assoc, ℕ, ◌+◌, ◌-◌, ◌<◌, ◌≤◌, ◌≡◌, ◌∙◌, true, false, arith, refl, List, []}
 use Rattle.std.proofs.Common.{◌∷◌, ◌++◌, Option, Some, None, ap, sym, inl, inr}
 use Rattle.tomex_cycle.proofs.Words.{nat_lt, nat_le, ◌&&◌, ◌==◌, is_some, MatchOption, option_map, IfSome, IsSome}
-use Rattle.tomex_cycle.proofs.Words.{nat_tests, cases_Bool, ltb-true, le-leb, and_parts, eqb-true, eqb-false, Loaded}
+use Rattle.tomex_cycle.proofs.Words.{nat_tests, cases_Bool, le-leb, and_parts, eqb-true, eqb-false, Loaded}
 use Rattle.tomex_cycle.proofs.Words.{Configuration, IsWithinLimits, option_of, Op, UnitId, sources_of, unit_of}
 use Rattle.tomex_cycle.proofs.Words.{ByteRange, Step, IsAllowed, byte_in, result_of, byte_after, Bytes, bytes_of, j_of}
 use Rattle.tomex_cycle.proofs.Words.{k_of, operand, step_pool, step_unit, unit_with_pool, unread_j, unread_k, Done}

@@ -177,8 +177,7 @@ one_serves {i} {config} t u {st} sets unit {h} newer d older good timed issued s
     }
   where
     one_place : (o : Option ℕ) (a b : ℕ) → o ≡ Some a → is_number o b ≡ true → a ≡ b
-    one_place None a b e h = absurd (cc)
-    one_place (Some c) a b e h = let f : c ≡ b = eqb-true c b h in let g : c ≡ a = cc in sym g ∙ f
+    one_place o a b e f = grind (arith, nat_tests)
 
     no_unit : (o : Option UnitId) → o ≡ None → (is_of unit o && (d.at.start == u)) ≡ false
     no_unit o e = rw e refl
@@ -228,17 +227,7 @@ kinds_at t u (d ∷ older) x = elim (cases_Bool (holds_place t x d)) [
         → ((is_of units.Alu o && b) || ((is_of units.Mul o && b) ||
         ((is_of units.Div o && b) || ((is_of units.Mem o && b) || ((is_of units.Bru o && b) || false)))))
         ≡ (is_some o && b)
-    one_kind None b = refl
-    one_kind (Some units.Alu) false = refl
-    one_kind (Some units.Mul) false = refl
-    one_kind (Some units.Div) false = refl
-    one_kind (Some units.Mem) false = refl
-    one_kind (Some units.Bru) false = refl
-    one_kind (Some units.Alu) true = refl
-    one_kind (Some units.Mul) true = refl
-    one_kind (Some units.Div) true = refl
-    one_kind (Some units.Mem) true = refl
-    one_kind (Some units.Bru) true = refl
+    one_kind o b = grind (arith, nat_tests)
 
 pub five : (xs : List ℕ) (x : ℕ) → length xs ≡ 5
     → is_among xs x ≡ (has (slice_index xs 0) x || (has (slice_index xs 1) x || (has (slice_index xs 2) x || (has

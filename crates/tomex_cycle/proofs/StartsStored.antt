@@ -116,8 +116,7 @@ stores_not (Some s) picked a before none =
     rw (not_here, and_false picked) refl
   where
     and_false : (b : Bool) → (b && false) ≡ false
-    and_false true = refl
-    and_false false = refl
+    and_false b = grind (arith, nat_tests)
 
 same_stored : (o : Option Station) (picked kept : Bool) (a before : ℕ)
     → (kept ≡ false → stored_at picked o a before ≡ before) → stored_at (picked && kept) o a before ≡ stored_at picked o
