@@ -144,5 +144,4 @@ a_none t d l = rw (lt-leb (cycle_of d.at.address) t l, and_right (is_memory d.st
 pub given : (i : Loaded) (u t : ℕ) (d : Done) (older : List Done) → is_there (field_of t older (j_of d.step))
     ≡ (cycle_of d.at.address == u) → t < cycle_of d.at.address → u ≡ t + 1 → is_memory d.step ≡ true
     → station_of i (clocks u u t) d older ≡ with_address (station_of i (clocks u t t) d older)
-given i u t d older there late e m =
-    grind (arith, nat_tests)
+given i u t d older there late e m = grind (arith, nat_tests)

@@ -38,8 +38,8 @@ pub record IsPaid (h : List Done) (to from now before after : ℕ) : Type 0 wher
   pub most : (after + 2 * events_by h from ≤ before + 2 * events_by h now)
       ⊎ ((after + 2 * events_by h from ≤ before + 2 * events_by h now + 1) × ((to ≤ now) ⊎ (0 < events_in (now + 1) h)))
 
-pub paid_first : (h : List Done) (to from before : ℕ) → IsPaid h to from from before before
-paid_first h to from before = record { least = omega arith; most = inl (omega arith) }
+pub paid_first : {h : List Done} {to from before : ℕ} → IsPaid h to from from before before
+paid_first = record { least = omega arith; most = inl (omega arith) }
 
 paid_next : {h : List Done} {to from c w before after : ℕ} → c < to → IsPaid h to from c before after → SkipsTo h to c w
     → IsPaid h to from w before (after + 1)
@@ -65,9 +65,9 @@ paid_next {h} {from} {c} {w} {before} {after} ahead paid passes =
       ];
     }
 
-pub paid_on : {h : List Done} {to from c : ℕ} (w : ℕ) {before after : ℕ} (more : ℕ) → c < to
-    → IsPaid h to from c before after → GoesOn h to c w after more → IsPaid h to from w before more
-paid_on w {after} more ahead paid goes = elim goes [
+pub paid_on : {h : List Done} {to from c w before after more : ℕ} → c < to → IsPaid h to from c before after
+    → GoesOn h to c w after more → IsPaid h to from w before more
+paid_on {after} {more} ahead paid goes = elim goes [
   | inl one ↦ let e : more ≡ after + 1 = one.0 in rw e (paid_next ahead paid one.1)
   | inr two ↦
       let e : more ≡ after + 1 + 1 = omega arith in

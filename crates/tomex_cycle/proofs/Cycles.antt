@@ -58,14 +58,12 @@ pub record IsUnderWay (i : Loaded) (config : Configuration) (n t next before cou
   pub bytes : ShowsMemory i next (first_timed config i count) memory
 
 pub issue_made : {i : Loaded} {config : Configuration} {n t : ℕ} (next : ℕ) {count : ℕ} (counted : ℕ)
-    (fault : Option Fault) (result : Result Bool Fault) {st0 : Pools} (st1 st2 st3 : Pools) {rg0 : RegStatus}
-    (rg1 : RegStatus) {ft0 : Fetch} (ft1 : Fetch) {m0 : Bytes} (m1 : Bytes)
-    → MakesStarts config next st0 m0 fault st1 m1 → MakesAddress next st1 st2
+    {fault : Option Fault} {result : Result Bool Fault} {st0 st1 st2 st3 : Pools} {rg0 rg1 : RegStatus}
+    {ft0 ft1 : Fetch} {m0 m1 : Bytes} → MakesStarts config next st0 m0 fault st1 m1 → MakesAddress next st1 st2
     → MakesIssue i config next count st2 rg0 ft0 result counted st3 rg1 ft1 → RunEndsAfter i config n → next ≡ t + 1
     → IsSnapshot i config n t count st0 rg0 ft0 m0
     → (result ≡ Ok (nat_lt count counted)) × IsUnderWay i config n t next count counted fault st3 rg1 ft1 m1
-issue_made {i} {config} {n} {t} next {count} counted fault result st1 st2 st3 {rg0} rg1 {ft0} ft1 m1 starts addresses
-    issues run e old =
+issue_made {i} {config} {n} {t} next {count} counted {st2} {rg0} {ft0} starts addresses issues run e old =
     let few : count ≤ n + 1 = old.issue.few in
     let h0 : IsHistory i config (first_timed config i count) = run_history count run few in
     let a = starts i (first_timed config i count) t e h0 old.issue.issued old.issue.slots old.bytes in
@@ -88,11 +86,11 @@ issue_made {i} {config} {n} {t} next {count} counted fault result st1 st2 st3 {r
       },
     )
 
-pub cycle_made : {i : Loaded} {config : Configuration} {n t next count counted : ℕ} {fault : Option Fault} {st3 : Pools}
-    (st4 : Pools) {rg1 : RegStatus} (rg2 : RegStatus) {ft1 : Fetch} (ft2 : Fetch) {m1 : Bytes}
+pub cycle_made : {i : Loaded} {config : Configuration} {n t next count counted : ℕ} {fault : Option Fault}
+    {st3 st4 : Pools} {rg1 rg2 : RegStatus} {ft1 ft2 : Fetch} {m1 : Bytes}
     → IsUnderWay i config n t next count counted fault st3 rg1 ft1 m1 → MakesEnds config next st3 rg1 ft1 st4 rg2 ft2
     → RunEndsAfter i config n → next ≡ t + 1 → IsSnapshot i config n next counted st4 rg2 ft2 m1
-cycle_made {i} {config} {t} {next} {counted} st4 rg2 ft2 on end_phase run e =
+cycle_made {i} {config} {t} {next} {counted} on end_phase run e =
     let h1 : IsHistory i config (first_timed config i counted) = run_history counted run on.after.few in
     let f = end_phase i (first_timed config i counted) t e h1 on.after.issued on.after.slots on.after.status
     on.after.from in
@@ -110,10 +108,9 @@ cycle_made {i} {config} {t} {next} {counted} st4 rg2 ft2 on end_phase run e =
 
 -- nothing that starts in a run faults
 pub starts_good : {i : Loaded} {config : Configuration} {n t : ℕ} (next : ℕ) {count : ℕ} (fault : Option Fault)
-    {st0 : Pools} (st1 : Pools) {rg0 : RegStatus} {ft0 : Fetch} {m0 : Bytes} (m1 : Bytes)
-    → MakesStarts config next st0 m0 fault st1 m1 → RunEndsAfter i config n → next ≡ t + 1
-    → IsSnapshot i config n t count st0 rg0 ft0 m0 → fault ≡ None
-starts_good {i} {config} {t} next {count} fault st1 m1 starts run e old = (starts i (first_timed config i count) t e
+    {st0 st1 : Pools} {rg0 : RegStatus} {ft0 : Fetch} {m0 m1 : Bytes} → MakesStarts config next st0 m0 fault st1 m1
+    → RunEndsAfter i config n → next ≡ t + 1 → IsSnapshot i config n t count st0 rg0 ft0 m0 → fault ≡ None
+starts_good {i} {config} {t} next {count} fault starts run e old = (starts i (first_timed config i count) t e
     (run_history count run old.issue.few) old.issue.issued old.issue.slots old.bytes).0
 
 progress_same : (a : Bool) (over : Bool) (p : Progress) → over ≡ not a → p ≡ (if over then Ended else Running)
@@ -122,8 +119,8 @@ progress_same true over p e f = rw e at f
 progress_same false over p e f = rw e at f
 
 pub cycle_answer : {i : Loaded} {config : Configuration} {n next count : ℕ} {st : Pools} {rg : RegStatus} {ft : Fetch}
-    {m : Bytes} (over : Bool) (p : Progress) → IsSnapshot i config n next count st rg ft m → RunEndsAfter i config n
+    {m : Bytes} {over : Bool} {p : Progress} → IsSnapshot i config n next count st rg ft m → RunEndsAfter i config n
     → AreBusy st.slots st.busy st.issue_numbers → over ≡ is_done ft st.busy → p ≡ (if over then Ended else Running)
     → p ≡ (if nat_lt next (greatest_end (first_timed config i (n + 1))) then Running else Ended)
-cycle_answer {i} {config} {n} {next} {ft} over p shown run filled e f = progress_same
+cycle_answer {i} {config} {n} {next} {ft} {over} {p} shown run filled e f = progress_same
     (nat_lt next (greatest_end (first_timed config i (n + 1)))) over p (e ∙ done_is ft run shown.issue filled) f

@@ -244,14 +244,14 @@ run_happens {config} {i} {n} k u run l some =
 
 -- a cycle whose phases tell of something has an event
 pub cycle_happens : {i : Loaded} {config : Configuration} {n t next count c : ℕ} {fault : Option Fault}
-    (any addressed ended : Bool) {st0 : Pools} (st1 : Pools) {st3 : Pools} {rg0 rg1 : RegStatus} {ft0 ft1 : Fetch}
-    {m0 m1 : Bytes} → MakesStarts config next st0 m0 fault st1 m1 → (any ≡ true → StartsHappen config next st0)
+    {any addressed ended : Bool} {st0 st1 st3 : Pools} {rg0 rg1 : RegStatus} {ft0 ft1 : Fetch} {m0 m1 : Bytes}
+    → MakesStarts config next st0 m0 fault st1 m1 → (any ≡ true → StartsHappen config next st0)
     → (addressed ≡ true → AddressHappens next st1) → (ended ≡ true → EndsHappen config next st3)
     → IsUnderWay i config n t next count c fault st3 rg1 ft1 m1 → RunEndsAfter i config n → next ≡ t + 1
     → IsSnapshot i config n t count st0 rg0 ft0 m0
     → (any ≡ true) ⊎ ((addressed ≡ true) ⊎ ((c ≢ count) ⊎ (ended ≡ true)))
     → 0 < events_in next (first_timed config i (n + 1))
-cycle_happens {i} {config} {n} {t} {next} {count} {c} any addressed ended st1 starts a b d on run e old which =
+cycle_happens {i} {config} {n} {t} {next} {count} {c} starts a b d on run e old which =
     let few : count ≤ n + 1 = old.issue.few in
     let h0 : IsHistory i config (first_timed config i count) = run_history count run few in
     elim which [

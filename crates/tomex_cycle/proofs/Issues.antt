@@ -130,15 +130,14 @@ pub stations_with : {i : Loaded} {c : Clocks} (x n : ℕ) (d : Done) {h : List D
     (s : Station) → ShowsStations i c h old → place_of d ≡ Some x → x < 96 → c.end < d.at.end → n ≡ length h
     → s ≡ station_of i c d h → new.slots ≡ slice_set old.slots x (Some s)
     → new.issue_numbers ≡ slice_set old.issue_numbers x n → ShowsStations i c (d ∷ h) new
-stations_with {i} {c} x n d {h} {old} new s shown place small late count_is same slots issue_numbers =
-    record {
-      places = ap length slots ∙ (length-set old.slots x (Some s) ∙ shown.places);
-      slots = λ y l. ap (λ xs. slice_index_or xs y None) slots ∙ (set_slot old.slots x y s (omega arith)
-          ∙ (rw (same, shown.slots y l) refl ∙ sym (slot_with i c x y d h place late)));
-      order_count = ap length issue_numbers ∙ (length-set old.issue_numbers x n ∙ shown.order_count);
-      issue_numbers = λ y l. ap (λ xs. slice_index xs y) issue_numbers
-          ∙ number_with x y n d h old.issue_numbers place small shown.order_count count_is (shown.issue_numbers y l);
-    }
+stations_with {i} {c} x n d {h} {old} new s shown place small late count_is same slots issue_numbers = record {
+  places = ap length slots ∙ (length-set old.slots x (Some s) ∙ shown.places);
+  slots = λ y l. ap (λ xs. slice_index_or xs y None) slots ∙ (set_slot old.slots x y s (omega arith)
+      ∙ (rw (same, shown.slots y l) refl ∙ sym (slot_with i c x y d h place late)));
+  order_count = ap length issue_numbers ∙ (length-set old.issue_numbers x n ∙ shown.order_count);
+  issue_numbers = λ y l. ap (λ xs. slice_index xs y) issue_numbers
+      ∙ number_with x y n d h old.issue_numbers place small shown.order_count count_is (shown.issue_numbers y l);
+}
 
 none_place : (pool : Option PoolId) (station : Option ℕ) → pool ≡ None → tag_at pool station ≡ None
 none_place None station e = refl

@@ -142,34 +142,33 @@ pub on_first : (i : Loaded) (config : Configuration) (count : ℕ) (st : Pools) 
     → IssuesOn i config count st rg ft 1 count st rg ft
 on_first i config count st rg ft n t u run e have = (omega arith, have)
 
-pub on_more : (i : Loaded) (config : Configuration) (count made counted word : ℕ) (st0 st new : Pools)
-    (rg0 rg status : RegStatus) (ft0 ft from : Fetch) (result : Result Bool Fault)
+pub on_more : (i : Loaded) (config : Configuration) (count made counted : ℕ) {word : ℕ} {st0 st new : Pools}
+    {rg0 rg status : RegStatus} {ft0 ft from : Fetch} (result : Result Bool Fault)
     → IssuesOn i config count st0 rg0 ft0 made counted st rg ft → made < config.width
     → IssuesNext i config counted st rg ft result new status from → result ≡ Ok true → word ≡ (counted + 1) % 4294967296
     → IssuesOn i config count st0 rg0 ft0 (made + 1) word new status from
-on_more i config count made counted word st0 st new rg0 rg status ft0 ft from result on less issues is e n t u run at
-    first =
+on_more i config count made counted {word} {new} {status} {from} result on less issues is e n t u run at first =
     let have = on n t u run at first in
     let more = tried new status from result true have.1 less issues is run at in
     let again = issued_again have.1 more run at in
     let same : counted + 1 ≡ word = word_of word again run.few e in
     (omega (arith, same), subst (λ (k : ℕ). HaveIssued i config n t u k (made + 1) new status from) same again)
 
-pub on_wait : (i : Loaded) (config : Configuration) (count made counted : ℕ) (st0 st new : Pools)
-    (rg0 rg status : RegStatus) (ft0 ft from : Fetch) (result : Result Bool Fault)
+pub on_wait : (i : Loaded) (config : Configuration) (count made : ℕ) {counted : ℕ} {st0 st new : Pools}
+    {rg0 rg status : RegStatus} {ft0 ft from : Fetch} (result : Result Bool Fault)
     → IssuesOn i config count st0 rg0 ft0 made counted st rg ft → made < config.width
     → IssuesNext i config counted st rg ft result new status from → result_unwrap_or result false ≡ false
     → IssuesMore i config count st0 rg0 ft0 counted new status from
-on_wait i config count made counted st0 st new rg0 rg status ft0 ft from result on less issues none n t u run at first =
+on_wait i config count made {new} {status} {from} result on less issues none n t u run at first =
     let have = on n t u run at first in
     let d = answers new status from result have.1 less issues run at in
     let more = tried new status from result false have.1 less issues (none_is result d.0 none d.1) run at in
     (have.0, more.on, more.yet refl)
 
-pub on_full : (i : Loaded) (config : Configuration) (count made counted : ℕ) (st0 st : Pools) (rg0 rg : RegStatus)
-    (ft0 ft : Fetch) → IssuesOn i config count st0 rg0 ft0 made counted st rg ft → config.width ≤ made
+pub on_full : (i : Loaded) (config : Configuration) (count made counted : ℕ) {st0 st : Pools} {rg0 rg : RegStatus}
+    {ft0 ft : Fetch} → IssuesOn i config count st0 rg0 ft0 made counted st rg ft → config.width ≤ made
     → IssuesMore i config count st0 rg0 ft0 counted st rg ft
-on_full i config count made counted st0 st rg0 rg ft0 ft on most n t u run e first =
+on_full i config count made counted on most n t u run e first =
     let have = on n t u run e first in
     (have.0, have.1.now, full have.1 most e)
 
@@ -209,21 +208,21 @@ issued_to on yet =
     record { few = on.few; slots = on.slots; status = on.status; from = on.from; issued = on.issued; next = yet }
 
 -- none issues
-pub phase_none : (i : Loaded) (config : Configuration) (u count : ℕ) (st new : Pools) (rg status : RegStatus)
-    (ft from : Fetch) (result : Result Bool Fault) → IssuesNext i config count st rg ft result new status from
+pub phase_none : (i : Loaded) (config : Configuration) (u count : ℕ) {st new : Pools} {rg status : RegStatus}
+    {ft from : Fetch} (result : Result Bool Fault) → IssuesNext i config count st rg ft result new status from
     → result ≡ Ok false → MakesIssue i config u count st rg ft (Ok false) count new status from
-phase_none i config u count st new rg status ft from result issues is n t run e old = grind (
+phase_none i config u count {new} {status} {from} result issues is n t run e old = grind (
   arith,
   nat_tests,
   tried new status from result false (before_one u run.lawful e old) (width_low config run.lawful) issues is run e,
 )
 
 -- one does, and the width is one
-pub phase_one : (i : Loaded) (config : Configuration) (u count word : ℕ) (st new : Pools) (rg status : RegStatus)
-    (ft from : Fetch) (result : Result Bool Fault)
-    → IssuesNext i config count st rg ft result new status from → result ≡ Ok true → word ≡ (count + 1) % 4294967296
-    → config.width ≡ 1 → MakesIssue i config u count st rg ft (Ok true) word new status from
-phase_one i config u count word st new rg status ft from result issues is w one n t run e old =
+pub phase_one : (i : Loaded) (config : Configuration) (u count : ℕ) {word : ℕ} {st new : Pools} {rg status : RegStatus}
+    {ft from : Fetch} (result : Result Bool Fault) → IssuesNext i config count st rg ft result new status from
+    → result ≡ Ok true → word ≡ (count + 1) % 4294967296 → config.width ≡ 1
+    → MakesIssue i config u count st rg ft (Ok true) word new status from
+phase_one i config u count {word} {new} {status} {from} result issues is w one n t run e old =
     let made = first_made u word new status from result old issues is w run e in
     let more : count < word = made.0 in (
       rw (lt-ltb count word more) refl,
@@ -232,22 +231,21 @@ phase_one i config u count word st new rg status ft from result issues is w one 
     )
 
 -- one does, and more after it
-pub phase_more : (i : Loaded) (config : Configuration) (u count word counted : ℕ) (st mid new : Pools)
-    (rg between status : RegStatus) (ft next from : Fetch) (result : Result Bool Fault)
+pub phase_more : (i : Loaded) (config : Configuration) (u count : ℕ) {word counted : ℕ} {st mid new : Pools}
+    {rg between status : RegStatus} {ft next from : Fetch} (result : Result Bool Fault)
     → IssuesNext i config count st rg ft result mid between next → result ≡ Ok true → word ≡ (count + 1) % 4294967296
     → IssuesMore i config word mid between next counted new status from
     → MakesIssue i config u count st rg ft (Ok true) counted new status from
-phase_more i config u count word counted st mid new rg between status ft next from result issues is w more n t run e old
-    =
+phase_more i config u count {word} {mid} {between} {next} result issues is w more n t run e old =
     let made = first_made u word mid between next result old issues is w run e in
     let d = more n t u run e made.1 in
     grind (arith, nat_tests)
 
 -- and none faults
-pub phase_fault : (i : Loaded) (config : Configuration) (u count counted : ℕ) (st new : Pools) (rg status : RegStatus)
-    (ft from : Fetch) (result : Result Bool Fault) (fault : Fault) (last : Result Bool Fault)
+pub phase_fault : (i : Loaded) (config : Configuration) (u count : ℕ) {counted : ℕ} {st new : Pools}
+    {rg status : RegStatus} {ft from : Fetch} (result : Result Bool Fault) {fault : Fault} {last : Result Bool Fault}
     → IssuesNext i config count st rg ft result new status from → result ≡ Err fault
     → MakesIssue i config u count st rg ft last counted new status from
-phase_fault i config u count counted st new rg status ft from result fault last issues is n t run e old =
+phase_fault i config u count {new} {status} {from} result {fault} issues is n t run e old =
     let d = answers new status from result (before_one u run.lawful e old) (width_low config run.lawful) issues run e in
     absurd (ok_not_err result d.0 fault d.1 is)

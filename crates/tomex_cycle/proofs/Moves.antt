@@ -94,5 +94,4 @@ settled_goes {i} {config} {cycle} {to} {now} {after} before made new sound runs 
 -- the count stays below the cycle
 pub passed_low : {slots : List (Option Station)} {cycle to now before after : ℕ}
     → IsSkipped slots cycle to now before after → before ≤ cycle → after ≤ now
-passed_low {cycle} {now} {before} {after} passed low =
-    grind (arith, nat_tests)
+passed_low {cycle} {now} {before} {after} passed low = grind (arith, nat_tests)

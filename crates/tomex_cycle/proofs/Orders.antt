@@ -86,8 +86,7 @@ rises-append issue_numbers (x ∷ xs) p rises each = (
 
 taken : (t x : ℕ) (newer : List Done) (w : Done) (older : List Done) → holds_place t x w ≡ true
     → is_vacant t x (newer ++ (w ∷ older)) ≡ true → ⊥
-taken t x [] w older held free =
-    cc
+taken t x [] w older held free = cc
 taken t x (n ∷ newer) w older held free =
     taken t x newer w older held (and_parts (not (holds_place t x n)) (is_vacant t x (newer ++ (w ∷ older))) free).1
 

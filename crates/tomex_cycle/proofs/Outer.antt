@@ -164,11 +164,10 @@ end_values i x steps r e = rw e refl
 bytes_ended : (i : Loaded) (t g a : ℕ) (h : List Done) → AllBy g h → g ≤ t
     → byte_at i t h a ≡ byte_after i (steps_in h) a
 bytes_ended i t g a [] by l = refl
-bytes_ended i t g a (d ∷ older) by l =
-    elim (cases_Bool (overwrites d.step a)) [
-      | inl e ↦ rw (e, le-leb d.at.start t (omega arith)) refl
-      | inr e ↦ rw e (bytes_ended i t g a older by.1 l)
-    ]
+bytes_ended i t g a (d ∷ older) by l = elim (cases_Bool (overwrites d.step a)) [
+  | inl e ↦ rw (e, le-leb d.at.start t (omega arith)) refl
+  | inr e ↦ rw e (bytes_ended i t g a older by.1 l)
+]
 
 bytes_kept : (i : Loaded) (x : Step) (steps : List Step) (a : ℕ) → is_store x ≡ false
     → byte_after i (x ∷ steps) a ≡ byte_after i steps a

@@ -11,12 +11,12 @@ use Rattle.tomex_cycle.proofs.Runs.{run_history, run_timed}
 use Rattle.tomex_cycle.proofs.SettledStations.{issued_settles, issued_quiet}
 
 pub cycle_settles : {i : Loaded} {config : Configuration} {n t next count c : ℕ} (fault : Option Fault) (any : Bool)
-    {st0 : Pools} (st1 : Pools) {st4 : Pools} {rg0 rg1 : RegStatus} {ft0 ft1 : Fetch} {m0 m1 : Bytes} {f : Finishes}
+    {st0 st1 st4 : Pools} {rg0 rg1 : RegStatus} {ft0 ft1 : Fetch} {m0 m1 : Bytes} {f : Finishes}
     → MakesStarts config next st0 m0 fault st1 m1 → (any ≡ false → st1.slots ≡ st0.slots) → RunEndsAfter i config n
     → next ≡ t + 1 → IsSnapshot i config n t count st0 rg0 ft0 m0 → IsSnapshot i config n next c st4 rg1 ft1 m1
     → c ≡ count → st4.slots ≡ st1.slots → (any ≡ false) ⊎ NoneWaits st4.slots → IsTimetableOf st4.slots (next + 1) f
     → f.unsent ≡ 0 → AllSettled next (first_timed config i c)
-cycle_settles {i} {config} {n} {t} {next} {count} {c} fault any {st0} st1 {st4} {rg0} {ft0} {m0} starts none run e old
+cycle_settles {i} {config} {n} {t} {next} {count} {c} fault any {st0} {st1} {st4} {rg0} {ft0} {m0} starts none run e old
     now same slots how known unsent =
     let timed : AreTimed config (first_timed config i c) = run_timed i c run.lawful in
     let before : IsSnapshot i config n t c st0 rg0 ft0 m0 =

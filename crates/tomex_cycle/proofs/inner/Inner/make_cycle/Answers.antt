@@ -11,25 +11,25 @@ use Rattle.tomex_cycle.proofs.Truth.{ok_not_err, ok_same, some_and_none}
 pub returns-in-Some-clause-makes : goal.returns-in-Some-clause-makes
 returns-in-Some-clause-makes g c = λ how n t run e old. absurd
     (some_and_none c.start-starts.result.fault c.in-Some.fault
-    c.in-Some.is (starts_good c.args.cycle c.start-starts.result.fault _ _ c.start-starts.ensures.starts run e old))
+    c.in-Some.is (starts_good c.args.cycle c.start-starts.result.fault c.start-starts.ensures.starts run e old))
 
 pub returns-in-Err-clause-makes : goal.returns-in-Err-clause-makes
 returns-in-Err-clause-makes g c = λ how n t run e old.
-    let on = issue_made c.args.cycle c.issue.new.count _ _ _ _ _ _ _ _ c.start-starts.ensures.starts
+    let on = issue_made c.args.cycle c.issue.new.count c.start-starts.ensures.starts
     c.address-addressed.ensures.addresses (c.issue.ensures.issues c.args.cycle) run e old in
     absurd (ok_not_err c.issue.result (nat_lt c.args.self.now.issued c.issue.new.count) c.in-Err.fault on.0 c.in-Err.is)
 
 pub returns-clause-makes : goal.returns-clause-makes
 returns-clause-makes g c = λ how n t run e old.
-    let on = issue_made c.args.cycle c.issue.new.count _ _ _ _ _ _ _ _ c.start-starts.ensures.starts
+    let on = issue_made c.args.cycle c.issue.new.count c.start-starts.ensures.starts
     c.address-addressed.ensures.addresses (c.issue.ensures.issues c.args.cycle) run e old in
     let low : c.args.self.now.issued ≤ c.issue.new.count = on.1.low in
     let some : nat_lt c.args.self.now.issued c.issue.new.count ≡ c.in-Ok.made =
     ok_same c.issue.result _ _ on.0 c.in-Ok.is in
-    let shown = cycle_made _ _ _ on.1 c.end-ended.ensures.ends run e in (
+    let shown = cycle_made on.1 c.end-ended.ensures.ends run e in (
       shown,
-      cycle_answer _ _ shown run c.keeps_places.ensures.busy c.is_over.ensures c.after.ensures.progress,
-      (λ active. cycle_happens _ _ _ _ c.start-starts.ensures.starts c.start-starts.ensures.any
+      cycle_answer shown run c.keeps_places.ensures.busy c.is_over.ensures c.after.ensures.progress,
+      (λ active. cycle_happens c.start-starts.ensures.starts c.start-starts.ensures.any
           c.address-addressed.ensures.any c.end-ended.ensures.any on.1 run e old (what_moved c.start-starts.result.any
           c.address-addressed.result c.in-Ok.made c.end-ended.result c.args.self.now.issued c.issue.new.count (λ made
           more. let later : c.args.self.now.issued < c.issue.new.count = ltb-true _ _ (some ∙ made) in
@@ -40,7 +40,7 @@ returns-clause-makes g c = λ how n t run e old.
           c.is_settled_after-settled.ensures.settled (c.after.ensures.settled settled) in
           let none = none_moved c.start-starts.result.any c.address-addressed.result c.in-Ok.made facts.0 in
           let no_later : c.issue.new.count ≤ c.args.self.now.issued = ltb-false _ _ (some ∙ none.1) in
-          cycle_settles c.start-starts.result.fault c.start-starts.result.any _ c.start-starts.ensures.starts
+          cycle_settles c.start-starts.result.fault c.start-starts.result.any c.start-starts.ensures.starts
           c.start-starts.ensures.none run e old shown (omega (arith, low, no_later)) (c.end-ended.ensures.none facts.1
           ∙ (c.issue.ensures.none (c.in-Ok.is ∙ ap (λ (b : Bool). Ok b) none.1) ∙ c.address-addressed.ensures.none
           none.0)) (elim facts.2 [

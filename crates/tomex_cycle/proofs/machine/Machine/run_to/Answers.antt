@@ -13,7 +13,7 @@ loop-self-init g c = record {
   running = c.requires.running;
   none = λ h. refl;
   ends = c.keeps_step.ensures;
-  paid = λ ends. paid_first _ _ _ _;
+  paid = λ ends. paid_first;
 }
 
 pub loop-self-preserved : goal.loop-self-preserved
@@ -28,7 +28,7 @@ loop-self-preserved g c =
       running = sym c.go_on.ensures.answer ∙ c.in-Running.is;
       none = λ h. absurd (omega (arith, h, c.loop-self.invariant.low));
       ends = rw (c.loop-self.invariant.image, c.loop-self.invariant.config) at c.go_on.ensures.ends;
-      paid = λ e. paid_on _ _ ahead (c.loop-self.invariant.paid e)
+      paid = λ e. paid_on ahead (c.loop-self.invariant.paid e)
           ((rw (c.loop-self.invariant.image, c.loop-self.invariant.config) at c.go_on.ensures.goes) e);
     }
 
@@ -48,7 +48,7 @@ returns-in_default g c =
           (max c.args.self.now.cycle c.args.to) (seen c.go_on.new.self)
           ((rw (c.loop-self.invariant.image, c.loop-self.invariant.config) at c.go_on.ensures.ends) e)
           (λ runs. c.in_default.not-Running (c.go_on.ensures.answer ∙ runs)) (omega (arith, c.go_on.ensures.most));
-      cycles_made = λ e. paid_counts (paid_on _ _ ahead (c.loop-self.invariant.paid e)
+      cycles_made = λ e. paid_counts (paid_on ahead (c.loop-self.invariant.paid e)
           ((rw (c.loop-self.invariant.image, c.loop-self.invariant.config) at c.go_on.ensures.goes) e));
     }
 
