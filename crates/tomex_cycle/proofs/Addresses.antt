@@ -7,7 +7,7 @@ use Rattle.tomex_cycle.proofs.Words.{nat_tests, and_parts, eq-eqb, eqb-true, eqb
 use Rattle.tomex_cycle.proofs.Words.{get_or-set_other, length-set, step_pool, address_of, is_number, MakesAddress}
 use Rattle.tomex_cycle.proofs.Words.{Configuration, IsWithinLimits, Done, cycle_of, is_memory, last_address, AreTimed}
 use Rattle.tomex_cycle.proofs.Words.{AreIssuedBy, place_of, holds_place, order_of, ShowsStations, station_at}
-use Rattle.tomex_cycle.proofs.Words.{station_of, clocks, Loaded, option_map, has_base, lacks_address, with_address}
+use Rattle.tomex_cycle.proofs.Words.{station_of, clocks, Loaded, option_map, lacks_address, with_address}
 use Rattle.tomex_cycle.proofs.Words.{place_at, place_of_tag, Pools, AreBusy, Station, IsInIssueOrder}
 use Rattle.tomex_cycle.proofs.Fields.{tag_there, timed_part, issued_part}
 use Rattle.tomex_cycle.proofs.Places.{place_low, low, station_here, is_vacant, vacant}

@@ -2,7 +2,7 @@
 use Rattle.std.proofs.Common.{ℕ, zero, suc, ◌+◌, ◌-◌, ◌<◌, ◌≤◌, ◌≡◌, ◌∙◌, Bool, true, false, arith, refl, List, [], ◌∷◌}
 use Rattle.std.proofs.Common.{Option, Some, None, ap, sym, inl, inr}
 use Rattle.tomex_cycle.proofs.Words.{◌≢◌, nat_lt, nat_le, ◌==◌, not, ◌&&◌, ◌||◌, is_some, count_by, if◌then◌else◌}
-use Rattle.tomex_cycle.proofs.Words.{nat_tests, MatchOption, MatchBool, AllByRecursion, cases_Bool, cases_order}
+use Rattle.tomex_cycle.proofs.Words.{nat_tests, MatchOption, MatchBool, AllByRecursion, cases_Bool}
 use Rattle.tomex_cycle.proofs.Words.{both_ways, lt-ltb, ltb-true, le-leb, leb-true, leb-false, ne_eqb, and_parts}
 use Rattle.tomex_cycle.proofs.Words.{and_from, and_right, sum_by-cons, Configuration, IsWithinLimits, option_of, PoolId}
 use Rattle.tomex_cycle.proofs.Words.{UnitId, step_pool, step_unit, step_dest, j_of, k_of, is_branch, is_in, is_number}

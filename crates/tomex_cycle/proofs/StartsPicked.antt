@@ -2,7 +2,7 @@
 use Rattle.std.proofs.Common.{length, slice_index, slice_index_or, append_assoc, ℕ, ◌+◌, ◌<◌, ◌≤◌, ◌≡◌, ◌∙◌, Bool, true}
 use Rattle.std.proofs.Common.{false, arith, refl, List, [], ◌∷◌, ◌++◌, Option, Some, None, ap, sym, inl, inr}
 use Rattle.tomex_cycle.proofs.Words.{nat_lt, if◌then◌else◌, ◌&&◌, ◌||◌, ◌==◌, not, is_some, count_by, MatchOption}
-use Rattle.tomex_cycle.proofs.Words.{nat_tests, cases_Bool, ltb-true, ltb-false, lt-ltb, and_parts, and_right, eqb-true}
+use Rattle.tomex_cycle.proofs.Words.{nat_tests, cases_Bool, ltb-true, ltb-false, lt-ltb, and_parts, and_right}
 use Rattle.tomex_cycle.proofs.Words.{ne_eqb, Loaded, Configuration, IsWithinLimits, option_of, UnitId, place_of_unit}
 use Rattle.tomex_cycle.proofs.Words.{bytes_of, is_number, j_of, k_of, step_pool, step_unit, unit_with_pool, Tag, Done}
 use Rattle.tomex_cycle.proofs.Words.{cycle_of, is_memory, is_of, last_address, source_end, AreTimed, IsTimed, IsLeast}
