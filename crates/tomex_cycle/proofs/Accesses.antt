@@ -1,38 +1,19 @@
 -- In the cycle in which it starts an access finds in memory the bytes that the run has before it.
 use Rattle.std.proofs.Common.{ℕ, ◌+◌, ◌<◌, ◌≤◌, ◌≡◌, ◌∙◌, Bool, true, arith, refl, List, [], ◌∷◌, ◌++◌, Option, Some}
 use Rattle.std.proofs.Common.{None, inl, inr}
-use Rattle.std.specs.Prelude.{nat_lt, nat_le, ◌||◌, not, is_some, MatchOption}
-use Rattle.std.proofs.lemmas.Bool.{cases_Bool, ltb-true, leb-true, lt-ltb, lt-leb, le-leb, and_parts, or_right, or_left}
-use Rattle.tomex_image.specs.Image.{Loaded}
-use Rattle.tomex_config.specs.Configuration.{Configuration, IsWithinLimits}
-use Rattle.tomex_rvdec.specs.declared.pool.PoolId.{PoolId}
+use Rattle.tomex_cycle.proofs.Words.{nat_lt, ◌||◌, not, is_some, MatchOption, cases_Bool, ltb-true, nat_tests, lt-leb}
+use Rattle.tomex_cycle.proofs.Words.{le-leb, and_parts, or_right, or_left, Loaded, Configuration, IsWithinLimits}
+use Rattle.tomex_cycle.proofs.Words.{PoolId, UnitId, ByteRange, Step, covers, overwrites, byte_after, bytes_of, is_in}
+use Rattle.tomex_cycle.proofs.Words.{is_store, step_pool, step_unit, unit_with_pool, Done, cycle_of, AreTimed, IsTimed}
+use Rattle.tomex_cycle.proofs.Words.{IsLeast, can_start, conflicts, are_conflicts_finished, byte_at, steps_in}
 use Rattle.tomex_rvdec.specs.declared.pool.PoolId.TheVariants as pools
-use Rattle.tomex_rvdec.specs.declared.pool.UnitId.{UnitId}
-use Rattle.tomex_steps.specs.declared.step.ByteRange.{ByteRange}
-use Rattle.tomex_steps.specs.declared.step.Step.{Step}
-use Rattle.tomex_steps.specs.Results.{covers, is_among, overwrites}
-use Rattle.tomex_rvexec.specs.History.{byte_after}
-use Rattle.tomex_steps.specs.Steps.{bytes_of, is_in, is_store, step_pool, step_unit}
-use Rattle.tomex_steps.proofs.Fields.{unit_with_pool}
-use Rattle.tomex_timing.specs.declared.times.Done.{Done}
-use Rattle.tomex_timing.specs.History.{cycle_of}
-use Rattle.tomex_timing.specs.Recurrence.{AreTimed, IsTimed, IsLeast, can_start, conflicts, shares_byte}
-use Rattle.tomex_timing.specs.Recurrence.{are_conflicts_finished}
-use Rattle.tomex_cycle.specs.Run.{byte_at, steps_in}
+use Rattle.tomex_steps.specs.Results.{is_among}
+use Rattle.tomex_timing.specs.Recurrence.{shares_byte}
 use Rattle.tomex_cycle.proofs.Totals.{reach}
 use Rattle.tomex_cycle.proofs.Fields.{timed_part}
 
 share_from : (x y : Option ByteRange) (a : ℕ) → is_among x a ≡ true → is_among y a ≡ true → shares_byte x y ≡ true
-share_from None y a e f = absurd (cc)
-share_from (Some x) None a e f = absurd (cc)
-share_from (Some x) (Some y) a e f =
-    let p = and_parts (nat_le x.from a) (nat_lt a x.to) e in
-    let q = and_parts (nat_le y.from a) (nat_lt a y.to) f in
-    let p0 : x.from ≤ a = leb-true _ _ p.0 in
-    let p1 : a < x.to = ltb-true _ _ p.1 in
-    let q0 : y.from ≤ a = leb-true _ _ q.0 in
-    let q1 : a < y.to = ltb-true _ _ q.1 in
-    rw (lt-ltb x.from y.to (omega arith), lt-ltb y.from x.to (omega arith)) refl
+share_from x y a h3 h4 = grind (arith, nat_tests)
 
 -- a store and what shares a byte with it
 pub conflict_at : (x y : Step) (a : ℕ) → covers x a ≡ true → covers y a ≡ true → (is_store x || is_store y) ≡ true
@@ -51,9 +32,9 @@ can_start_clear : (config : Configuration) (d : Done) (older : List Done) (u : U
 can_start_clear config d older u t h = (and_parts _ (are_conflicts_finished older d.step t) (and_parts _ _ h).0).1
 
 -- what starts waits for each older access to its bytes
-pub starts_clear : (config : Configuration) (d : Done) (older : List Done) → IsTimed config older d.step d.at
+pub starts_clear : {config : Configuration} (d : Done) {older : List Done} → IsTimed config older d.step d.at
     → is_some (step_unit d.step) ≡ true → are_conflicts_finished older d.step d.at.start ≡ true
-starts_clear config d older timed some =
+starts_clear {config} d {older} timed some =
     start_clear (step_unit d.step) d.at.start (λ x. are_conflicts_finished older d.step x)
     (λ u. can_start config older d.step u d.at.issue (cycle_of d.at.address)) d.at.issue some
     (can_start_clear config d older) timed.start
@@ -67,22 +48,21 @@ finished_one d e a ce cd store clear =
     ltb-true e.at.finish d.at.start f
 
 -- the older stores on a byte have all been made when an access to it starts
-older_made : (i : Loaded) (config : Configuration) (t a : ℕ) (d : Done) (h : List Done) → IsWithinLimits config
-    → AreTimed config h → covers d.step a ≡ true → d.at.start ≡ t + 1 → are_conflicts_finished h d.step d.at.start
-    ≡ true → byte_at i t h a ≡ byte_after i (steps_in h) a
-older_made i config t a d [] good timed c at clear = refl
-older_made i config t a d (e ∷ older) good timed c at clear =
+older_made : (i : Loaded) {config : Configuration} (t a : ℕ) (d : Done) (h : List Done) → IsWithinLimits config
+    → AreTimed config h → covers d.step a ≡ true → d.at.start ≡ t + 1
+    → are_conflicts_finished h d.step d.at.start ≡ true → byte_at i t h a ≡ byte_after i (steps_in h) a
+older_made i t a d [] good timed c at clear = refl
+older_made i t a d (e ∷ older) good timed c at clear =
     let two = and_parts (not (conflicts e.step d.step) || nat_lt e.at.finish d.at.start)
     (are_conflicts_finished older d.step d.at.start) clear in
     let rest : byte_at i t older a ≡ byte_after i (steps_in older) a =
-    older_made i config t a d older good timed.1 c at two.1 in
+    older_made i t a d older good timed.1 c at two.1 in
     elim (cases_Bool (overwrites e.step a)) [
       | inr o ↦ rw o rest
       | inl o ↦
           let p = and_parts (is_store e.step) (covers e.step a) o in
-          let l : e.at.finish < d.at.start =
-          finished_one d e a p.1 c (or_left (is_store e.step) (is_store d.step) p.0) two.0 in
-          let r : e.at.start ≤ e.at.finish = (reach config e older good timed).order in
+          let l = finished_one d e a p.1 c (or_left (is_store e.step) (is_store d.step) p.0) two.0 in
+          let r : e.at.start ≤ e.at.finish = (reach e older good timed).order in
           rw (o, le-leb e.at.start t (omega arith)) refl
     ]
 
@@ -101,39 +81,35 @@ clear_at [] d older n a cd cn store clear =
     (and_parts (not (conflicts d.step n.step) || nat_lt d.at.finish n.at.start)
     (are_conflicts_finished older n.step n.at.start) clear).0
 clear_at (e ∷ newer) d older n a cd cn store clear =
-    clear_at newer d older n a cd cn store
-    (and_parts (not (conflicts e.step n.step) || nat_lt e.at.finish n.at.start)
+    clear_at newer d older n a cd cn store (and_parts (not (conflicts e.step n.step) || nat_lt e.at.finish n.at.start)
     (are_conflicts_finished (newer ++ (d ∷ older)) n.step n.at.start) clear).1
 
 -- and younger ones haven't
-newer_waits : (i : Loaded) (config : Configuration) (t a : ℕ) (d : Done) (newer older : List Done)
+newer_waits : (i : Loaded) {config : Configuration} (t a : ℕ) (d : Done) (newer older : List Done)
     → IsWithinLimits config → AreTimed config (newer ++ (d ∷ older)) → covers d.step a ≡ true → t < d.at.start
     → byte_at i t (newer ++ (d ∷ older)) a ≡ byte_at i t older a
-newer_waits i config t a d [] older good timed c l = elim (cases_Bool (overwrites d.step a)) [
+newer_waits i t a d [] older good timed c l = elim (cases_Bool (overwrites d.step a)) [
   | inl o ↦ rw (o, lt-leb d.at.start t l) refl
   | inr o ↦ rw o refl
 ]
-newer_waits i config t a d (n ∷ newer) older good timed c l =
-    let rest : byte_at i t (newer ++ (d ∷ older)) a ≡ byte_at i t older a =
-    newer_waits i config t a d newer older good timed.1 c l in
+newer_waits i {config} t a d (n ∷ newer) older good timed c l =
+    let rest = newer_waits i t a d newer older good timed.1 c l in
     elim (cases_Bool (overwrites n.step a)) [
       | inr o ↦ rw o rest
       | inl o ↦
           let p = and_parts (is_store n.step) (covers n.step a) o in
-          let clear : are_conflicts_finished (newer ++ (d ∷ older)) n.step n.at.start ≡ true =
-          starts_clear config n (newer ++ (d ∷ older)) timed.0 (store_unit n.step p.0) in
+          let clear = starts_clear n timed.0 (store_unit n.step p.0) in
           let m : d.at.finish < n.at.start = clear_at newer d older n a c p.1 p.0 clear in
-          let r : d.at.start ≤ d.at.finish =
-          (reach config d older good (timed_part config newer (d ∷ older) timed.1)).order in
+          let r : d.at.start ≤ d.at.finish = (reach d older good (timed_part config newer (d ∷ older) timed.1)).order in
           rw (o, lt-leb n.at.start t (omega arith)) rest
     ]
 
 -- so an access that starts in cycle t + 1 finds what the run has
-pub found_is : (i : Loaded) (config : Configuration) (t a : ℕ) (d : Done) (newer older : List Done)
+pub found_is : (i : Loaded) {config : Configuration} (t a : ℕ) (d : Done) (newer older : List Done)
     → IsWithinLimits config → AreTimed config (newer ++ (d ∷ older)) → is_some (step_unit d.step) ≡ true
     → covers d.step a ≡ true → d.at.start ≡ t + 1
     → byte_at i t (newer ++ (d ∷ older)) a ≡ byte_after i (steps_in older) a
-found_is i config t a d newer older good timed some c at =
+found_is i {config} t a d newer older good timed some c at =
     let here : AreTimed config (d ∷ older) = timed_part config newer (d ∷ older) timed in
-    newer_waits i config t a d newer older good timed c (omega arith)
-    ∙ older_made i config t a d older good here.1 c at (starts_clear config d older here.0 some)
+    newer_waits i t a d newer older good timed c (omega arith)
+    ∙ older_made i t a d older good here.1 c at (starts_clear d here.0 some)

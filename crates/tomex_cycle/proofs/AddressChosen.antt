@@ -1,32 +1,15 @@
 -- Which load or store gets its address in a cycle, by the recurrence.
-use Rattle.std.proofs.Common.{ℕ, ◌+◌, ◌<◌, ◌≤◌, ◌≡◌, ◌∙◌, Bool, true}
-use Rattle.std.proofs.Common.{false, arith, refl, List, [], ◌∷◌, Option, Some, None, ap, sym, inl, inr}
-use Rattle.std.specs.Prelude.{nat_lt, nat_le, if◌then◌else◌, ◌&&◌, ◌==◌, not, is_some}
-use Rattle.std.specs.Bool.{MatchBool}
-use Rattle.std.proofs.lemmas.Bool.{cases_Bool, ltb-true, lt-ltb, leb-true, leb-false, le-leb, lt-leb, and_parts}
-use Rattle.std.proofs.lemmas.Bool.{and_right, eq-eqb, eqb-true, eqb-false}
-use Rattle.tomex_config.specs.Configuration.{Configuration, IsWithinLimits}
-use Rattle.tomex_timing.specs.declared.times.Done.{Done}
-use Rattle.tomex_timing.specs.History.{cycle_of, is_memory, last_address, source_end}
-use Rattle.tomex_timing.specs.Recurrence.{AreTimed, IsTimed, IsLeast, can_address}
-use Rattle.tomex_cycle.specs.Run.{AreIssuedBy}
-use Rattle.tomex_cycle.specs.Views.{place_of, holds_place, station_of, clocks}
-use Rattle.tomex_image.specs.Image.{Loaded}
-use Rattle.tomex_timing.specs.declared.tables.Tag.{Tag}
-use Rattle.std.specs.Prelude.{option_map}
-use Rattle.tomex_rvdec.specs.declared.op.Op.{Op}
-use Rattle.tomex_rvdec.specs.declared.op.Op.TheVariants as ops
-use Rattle.tomex_rvdec.specs.Meaning.{form_of}
-use Rattle.tomex_rvdec.specs.Operands.{sources_at}
-use Rattle.tomex_steps.specs.declared.step.Step.{Step}
-use Rattle.tomex_steps.specs.Steps.{address_of, j_of, operand}
-use Rattle.tomex_timing.specs.Tables.{field_of, field_from, producer}
+use Rattle.std.proofs.Common.{ℕ, ◌+◌, ◌<◌, ◌≤◌, ◌≡◌, Bool, true, false, arith, refl, List, [], ◌∷◌, Option, Some, None}
+use Rattle.std.proofs.Common.{ap, inl, inr}
+use Rattle.tomex_cycle.proofs.Words.{nat_lt, nat_le, if◌then◌else◌, ◌&&◌, ◌==◌, not, is_some, MatchBool, cases_Bool}
+use Rattle.tomex_cycle.proofs.Words.{nat_tests, ltb-true, lt-ltb, leb-true, leb-false, lt-leb, and_parts, and_right}
+use Rattle.tomex_cycle.proofs.Words.{eq-eqb, Configuration, IsWithinLimits, Done, cycle_of, is_memory, last_address}
+use Rattle.tomex_cycle.proofs.Words.{AreTimed, IsTimed, IsLeast, can_address, AreIssuedBy, place_of, holds_place}
+use Rattle.tomex_cycle.proofs.Words.{station_of, clocks, Loaded, address_of, j_of, field_of, with_address, is_there}
+use Rattle.tomex_cycle.proofs.Words.{Station}
 use Rattle.tomex_cycle.proofs.Fields.{there_test}
 use Rattle.tomex_cycle.proofs.Places.{is_vacant, least_test}
 use Rattle.tomex_cycle.proofs.Totals.{reach, place_there}
-use Rattle.tomex_tags.specs.Contents.{address_from, is_memory_op, with_address}
-use Rattle.tomex_tags.specs.Operands.{is_there}
-use Rattle.tomex_tags.specs.declared.station.Station.{Station}
 
 abbrev pub or_else : Option ℕ → Option ℕ → Option ℕ
 or_else None y = y
@@ -47,43 +30,42 @@ address_least : (d : Done) (older : List Done) (memory : Bool) → memory ≡ tr
 address_least d older true e h = h
 address_least d older false e h = absurd (cc)
 
-pub address_is : (config : Configuration) (d : Done) (older : List Done) → IsTimed config older d.step d.at
+pub address_is : {config : Configuration} (d : Done) {older : List Done} → IsTimed config older d.step d.at
     → is_memory d.step ≡ true → IsLeast (can_address older d.step d.at.issue) (cycle_of d.at.address)
-address_is config d older timed e = address_least d older (is_memory d.step) e timed.address
+address_is d {older} timed e = address_least d older (is_memory d.step) e timed.address
 
 -- addresses are computed in program order
-pub address_rises : (config : Configuration) (d : Done) (older : List Done) → IsTimed config older d.step d.at
+pub address_rises : {config : Configuration} (d : Done) {older : List Done} → IsTimed config older d.step d.at
     → is_memory d.step ≡ true → last_address older < cycle_of d.at.address
-address_rises config d older timed e =
-    let l = address_is config d older timed e in
+address_rises d {older} timed e =
+    let l = address_is d timed e in
     let two = and_parts _ (nat_lt (last_address older) (cycle_of d.at.address)) l.0 in
     ltb-true _ _ two.1
 
 pub some_none_of : {A : Type 0} (x : A) (o : Option A) → is_some o ≡ true → o ≡ None → ⊥
-some_none_of x None e f = cc
-some_none_of x (Some y) e f = cc
+some_none_of x o e f = grind (arith, nat_tests)
 
 or_none : (a b : Option ℕ) → or_else a b ≡ None → (a ≡ None) × (b ≡ None)
 or_none None b e = (refl, e)
 or_none (Some x) b e = absurd (cc)
 
 -- where none waits all addresses are made
-pub none_waits : (config : Configuration) (t : ℕ) (h : List Done) → IsWithinLimits config → AreTimed config h
+pub none_waits : {config : Configuration} (t : ℕ) (h : List Done) → IsWithinLimits config → AreTimed config h
     → AreIssuedBy t h → chosen t h ≡ None → last_address h ≤ t
-none_waits config t [] good timed issued e = omega arith
-none_waits config t (d ∷ older) good timed issued e =
+none_waits t [] good timed issued e = omega arith
+none_waits t (d ∷ older) good timed issued e =
     let two = or_none (chosen t older) (if waits_for_address t d then place_of d else None) e in
     elim (cases_Bool (is_memory d.step)) [
-      | inr m ↦ rw m (none_waits config t older good timed.1 issued.1 two.0)
+      | inr m ↦ rw m (none_waits t older good timed.1 issued.1 two.0)
       | inl m ↦ rw m (elim (cases_Bool (nat_le (cycle_of d.at.address) t)) [
         | inl l ↦ leb-true _ _ l
         | inr l ↦
             let k : t < cycle_of d.at.address = leb-false _ _ l in
-            let r : cycle_of d.at.address ≤ d.at.end = (reach config d older good timed).address in
+            let r : cycle_of d.at.address ≤ d.at.end = (reach d older good timed).address in
             let busy : waits_for_address t d ≡ true = rw (lt-ltb t d.at.end (omega arith), m, l) refl in
             let f : place_of d ≡ None = rw busy at two.1 in
             absurd (some_none_of 0 (place_of d)
-            (place_there config d older timed.0 (let i : d.at.issue ≤ t = issued.0 in omega arith)) f)
+            (place_there d timed.0 (let i : d.at.issue ≤ t = issued.0 in omega arith)) f)
       ])
     ]
 
@@ -92,27 +74,20 @@ or_else_none None = refl
 or_else_none (Some x) = refl
 
 pub not_le : (a b : ℕ) → not (nat_le a b) ≡ true → b < a
-not_le a b e = elim (cases_Bool (nat_le a b)) [
-  | inl l ↦ let f : not true ≡ true = rw l at e in absurd (cc)
-  | inr l ↦ leb-false a b l
-]
+not_le a b e = grind (arith, nat_tests)
 
-and_true : (a : Bool) → a ≡ ((true && a) && true)
-and_true true = refl
-and_true false = refl
-
-some_waits_by : (config : Configuration) (t y : ℕ) (d : Done) (older : List Done) (o : Option ℕ)
+some_waits_by : {config : Configuration} (t y : ℕ) (d : Done) {older : List Done} (o : Option ℕ)
     → IsTimed config older d.step d.at → chosen t older ≡ o
     → ((z : ℕ) → chosen t older ≡ Some z → t < last_address older)
     → or_else o (if waits_for_address t d then place_of d else None) ≡ Some y → t < last_address (d ∷ older)
-some_waits_by config t y d older (Some z) timed e before f =
+some_waits_by t y d {older} (Some z) timed e before f =
     let l : t < last_address older = before z e in
     elim (cases_Bool (is_memory d.step)) [
       | inr m ↦ rw m l
-      | inl m ↦ let k : last_address older < cycle_of d.at.address = address_rises config d older timed m in
+      | inl m ↦ let k : last_address older < cycle_of d.at.address = address_rises d timed m in
           rw m (omega arith)
     ]
-some_waits_by config t y d older None timed e before f = elim (cases_Bool (waits_for_address t d)) [
+some_waits_by t y d None timed e before f = elim (cases_Bool (waits_for_address t d)) [
   | inr w ↦ let g : None ≡ Some y = rw w at f in absurd (cc)
   | inl w ↦
       let a = and_parts (nat_lt t d.at.end) (is_memory d.step && not (nat_le (cycle_of d.at.address) t)) w in
@@ -126,7 +101,7 @@ pub some_waits : (config : Configuration) (t y : ℕ) (h : List Done) → AreTim
     → t < last_address h
 some_waits config t y [] timed e = absurd (cc)
 some_waits config t y (d ∷ older) timed e =
-    some_waits_by config t y d older (chosen t older) timed.0 refl (λ z f. some_waits config t z older timed.1 f) e
+    some_waits_by t y d (chosen t older) timed.0 refl (λ z f. some_waits config t z older timed.1 f) e
 
 pub holds_by : (t y : ℕ) (d : Done) → place_of d ≡ Some y → waits_for_address t d ≡ true → holds_place t y d ≡ true
 holds_by t y d e w =
@@ -136,53 +111,22 @@ holds_by t y d e w =
 chosen_by : (t y : ℕ) (d : Done) (older : List Done) (o : Option ℕ) → chosen t older ≡ o
     → (chosen t older ≡ Some y → is_vacant t y older ≡ true → ⊥)
     → or_else o (if waits_for_address t d then place_of d else None) ≡ Some y → is_vacant t y (d ∷ older) ≡ true → ⊥
-chosen_by t y d older (Some z) e before f free =
-    let g : chosen t older ≡ Some y = e ∙ f in
-    before g (and_parts (not (holds_place t y d)) (is_vacant t y older) free).1
-chosen_by t y d older None e before f free = elim (cases_Bool (waits_for_address t d)) [
-  | inr w ↦ let g : None ≡ Some y = rw w at f in absurd (cc)
-  | inl w ↦
-      let g : place_of d ≡ Some y = rw w at f in
-      let held : holds_place t y d ≡ true = holds_by t y d g w in
-      let z : not (holds_place t y d) ≡ true = (and_parts (not (holds_place t y d)) (is_vacant t y older) free).0 in
-      let k : not true ≡ true = rw held at z in
-      absurd (cc)
-]
+chosen_by t y d older o h5 h6 h7 h8 = grind (arith, nat_tests)
 
 -- the place that is chosen is held
 pub chosen_held : (t y : ℕ) (h : List Done) → chosen t h ≡ Some y → is_vacant t y h ≡ true → ⊥
 chosen_held t y [] e free = cc
 chosen_held t y (d ∷ older) e free = chosen_by t y d older (chosen t older) refl (chosen_held t y older) e free
 
-memory_j_op : (op : Op) (rs1 rs2 : ℕ) → is_memory_op op ≡ true → (sources_at (form_of op) rs1 rs2).j ≡ Some rs1
-memory_j_op ops.Lb rs1 rs2 e = refl
-memory_j_op ops.Lh rs1 rs2 e = refl
-memory_j_op ops.Lw rs1 rs2 e = refl
-memory_j_op ops.Lbu rs1 rs2 e = refl
-memory_j_op ops.Lhu rs1 rs2 e = refl
-memory_j_op ops.Sb rs1 rs2 e = refl
-memory_j_op ops.Sh rs1 rs2 e = refl
-memory_j_op ops.Sw rs1 rs2 e = refl
-memory_j_op _ rs1 rs2 e = absurd (cc)
-
--- a load or store reads its base
-pub memory_j : (x : Step) → is_memory x ≡ true → j_of x ≡ Some (operand x.vj x.instr.rs1)
-memory_j x e = ap (option_map (operand x.vj)) (memory_j_op x.instr.op x.instr.rs1 x.instr.rs2 e)
-
 -- the address test of the next cycle, where no older address is to come
-pub test_is : (config : Configuration) (t u : ℕ) (d : Done) (older : List Done) → IsTimed config older d.step d.at
+pub test_is : {config : Configuration} (t u : ℕ) (d : Done) {older : List Done} → IsTimed config older d.step d.at
     → AreTimed config older → AreIssuedBy t (d ∷ older) → u ≡ t + 1 → is_memory d.step ≡ true → last_address older ≤ t
-    → t < cycle_of d.at.address
-    → is_there (field_of t older (j_of d.step)) ≡ (cycle_of d.at.address == u)
-test_is config t u d older timed before issued e m last late =
+    → t < cycle_of d.at.address → is_there (field_of t older (j_of d.step)) ≡ (cycle_of d.at.address == u)
+test_is {config} t u d {older} timed before issued e m last late =
     let test : can_address older d.step d.at.issue u ≡ (cycle_of d.at.address == u) =
-    least_test (can_address older d.step d.at.issue) (cycle_of d.at.address) u (address_is config d older timed m)
-    (omega arith) in
-    let there : is_there (field_of t older (j_of d.step)) ≡ nat_lt (source_end older (j_of d.step)) (t + 1) =
-    there_test config t older (j_of d.step) before issued.1 in
-    let i : d.at.issue ≤ t = issued.0 in
-    there ∙ (rw (← e) (and_true (nat_lt (source_end older (j_of d.step)) u))
-    ∙ rw (lt-ltb d.at.issue u (omega arith), lt-ltb (last_address older) u (omega arith)) at test)
+    least_test (can_address older d.step d.at.issue) (cycle_of d.at.address) u (address_is d timed m) (omega arith) in
+    let there = there_test config t older (j_of d.step) before issued.1 in
+    grind (arith, nat_tests)
 
 -- A of a station by the address clock
 abbrev pub a_by : ℕ → Done → Option ℕ
@@ -197,32 +141,7 @@ with_a i u t d older e =
 pub a_none : (t : ℕ) (d : Done) → t < cycle_of d.at.address → a_by t d ≡ None
 a_none t d l = rw (lt-leb (cycle_of d.at.address) t l, and_right (is_memory d.step) false refl) refl
 
-a_some : (t : ℕ) (d : Done) → is_memory d.step ≡ true → cycle_of d.at.address ≤ t → a_by t d ≡ Some (address_of d.step)
-a_some t d m l = rw (m, le-leb (cycle_of d.at.address) t l) refl
-
-given_by : (i : Loaded) (u t : ℕ) (d : Done) (older : List Done) (p : Option Tag)
-    → field_of t older (j_of d.step) ≡ field_from d.step.vj p → is_there (field_of t older (j_of d.step))
-    ≡ (cycle_of d.at.address == u) → t < cycle_of d.at.address → u ≡ t + 1 → is_memory d.step ≡ true
-    → station_of i (clocks u u t) d older ≡ address_from (station_of i (clocks u t t) d older) (field_from d.step.vj p)
-given_by i u t d older None f there late e m =
-    let g : true ≡ (cycle_of d.at.address == u) = rw f at there in
-    let at : cycle_of d.at.address ≡ u = eqb-true _ _ (sym g) in
-    let set : Option ℕ → Station = λ x. record (station_of i (clocks u t t) d older) { address = x } in
-    ap set (a_some u d m (omega arith))
-given_by i u t d older (Some tag) f there late e m =
-    let g : false ≡ (cycle_of d.at.address == u) = rw f at there in
-    let at : cycle_of d.at.address ≡ u → ⊥ = eqb-false _ _ (sym g) in
-    with_a i u t d older (a_none u d (omega arith) ∙ sym (a_none t d late))
-
-field_parts : (t : ℕ) (d : Done) (older : List Done) → is_memory d.step ≡ true
-    → field_of t older (j_of d.step) ≡ field_from d.step.vj (producer t older d.step.instr.rs1)
-field_parts t d older m = rw (memory_j d.step m) refl
-
 pub given : (i : Loaded) (u t : ℕ) (d : Done) (older : List Done) → is_there (field_of t older (j_of d.step))
     ≡ (cycle_of d.at.address == u) → t < cycle_of d.at.address → u ≡ t + 1 → is_memory d.step ≡ true
     → station_of i (clocks u u t) d older ≡ with_address (station_of i (clocks u t t) d older)
-given i u t d older there late e m =
-    let f : field_of t older (j_of d.step) ≡ field_from d.step.vj (producer t older d.step.instr.rs1) =
-    field_parts t d older m in
-    given_by i u t d older (producer t older d.step.instr.rs1) f there late e m
-    ∙ ap (address_from (station_of i (clocks u t t) d older)) (sym f)
+given i u t d older there late e m = grind (arith, nat_tests)

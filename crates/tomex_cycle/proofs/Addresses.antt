@@ -2,36 +2,21 @@
 use Rattle.std.proofs.Common.{length, slice_index_or, slice_set, append_assoc, ℕ, ◌+◌, ◌<◌, ◌≤◌, ◌≡◌, ◌∙◌, Bool, true}
 use Rattle.std.proofs.Common.{false, arith, refl, List, [], ◌∷◌, ◌++◌, Option, Some, None, ap, sym, inl, inr}
 use Rattle.std.proofs.Common.{slice_index}
-use Rattle.std.specs.Prelude.{nat_lt, nat_le, if◌then◌else◌, ◌&&◌, ◌==◌, not, is_some}
-use Rattle.std.proofs.lemmas.Bool.{cases_Bool, ltb-true, leb-true, le-leb, and_parts}
-use Rattle.std.proofs.lemmas.Bool.{eq-eqb, eqb-true, eqb-false, ne_eqb, both_ways}
-use Rattle.std.proofs.lemmas.List.{get_or-set_same, get_or-set_other, length-set}
-use Rattle.tomex_steps.specs.Steps.{step_pool, address_of, is_number}
-use Rattle.tomex_cycle.specs.Phases.{MakesAddress}
-use Rattle.tomex_config.specs.Configuration.{Configuration, IsWithinLimits}
-use Rattle.tomex_timing.specs.declared.times.Done.{Done}
-use Rattle.tomex_timing.specs.History.{cycle_of, is_memory, last_address}
-use Rattle.tomex_timing.specs.Recurrence.{AreTimed}
-use Rattle.tomex_cycle.specs.Run.{AreIssuedBy}
-use Rattle.tomex_cycle.specs.Views.{place_of, holds_place, order_of, ShowsStations, station_at, station_of, clocks}
-use Rattle.tomex_image.specs.Image.{Loaded}
-use Rattle.std.specs.Prelude.{option_map}
+use Rattle.tomex_cycle.proofs.Words.{nat_lt, nat_le, if◌then◌else◌, ◌&&◌, ◌==◌, not, is_some, cases_Bool, ltb-true}
+use Rattle.tomex_cycle.proofs.Words.{nat_tests, and_parts, eq-eqb, eqb-true, eqb-false, ne_eqb, get_or-set_same}
+use Rattle.tomex_cycle.proofs.Words.{get_or-set_other, length-set, step_pool, address_of, is_number, MakesAddress}
+use Rattle.tomex_cycle.proofs.Words.{Configuration, IsWithinLimits, Done, cycle_of, is_memory, last_address, AreTimed}
+use Rattle.tomex_cycle.proofs.Words.{AreIssuedBy, place_of, holds_place, order_of, ShowsStations, station_at}
+use Rattle.tomex_cycle.proofs.Words.{station_of, clocks, Loaded, option_map, lacks_address, with_address}
+use Rattle.tomex_cycle.proofs.Words.{place_at, place_of_tag, Pools, AreBusy, Station, IsInIssueOrder}
 use Rattle.tomex_cycle.proofs.Fields.{tag_there, timed_part, issued_part}
 use Rattle.tomex_cycle.proofs.Places.{place_low, low, station_here, is_vacant, vacant}
 use Rattle.tomex_cycle.proofs.Totals.{issued_more}
-use Rattle.tomex_membuf.specs.Addresses.{has_base, is_value}
 use Rattle.tomex_cycle.proofs.IssueOrder.{first_waiting, next_address, where_base_is_there}
-use Rattle.tomex_tags.specs.Contents.{lacks_address, with_address}
-use Rattle.tomex_tags.specs.Places.{place_at, place_of_tag}
-use Rattle.tomex_tags.specs.Pools.{Pools, AreBusy}
-use Rattle.tomex_tags.specs.declared.station.Station.{Station}
-use Rattle.tomex_timing.specs.declared.tables.Field.{Field}
-use Rattle.tomex_timing.specs.declared.tables.Field.TheVariants.{Value, Waits, Unread}
-use Rattle.tomex_bus.specs.Picks.{IsInIssueOrder}
 use Rattle.tomex_cycle.proofs.Orders.{order_is}
 use Rattle.tomex_cycle.proofs.AddressChosen.{or_else, waits_for_address, chosen, address_rises, none_waits}
-use Rattle.tomex_cycle.proofs.AddressChosen.{or_else_none, not_le, some_waits, holds_by, chosen_held, test_is, a_by}
-use Rattle.tomex_cycle.proofs.AddressChosen.{with_a, a_none, given}
+use Rattle.tomex_cycle.proofs.AddressChosen.{or_else_none, not_le, some_waits, chosen_held, test_is, a_by, with_a}
+use Rattle.tomex_cycle.proofs.AddressChosen.{a_none, given}
 
 -- what a phase makes of a place
 abbrev pub given_at : Option ℕ → ℕ → Option Station → Option Station
@@ -46,8 +31,7 @@ given_here : (o : Option ℕ) (x : ℕ) (s : Option Station) → o ≡ Some x �
 given_here o x s e = rw (e, eq-eqb x x refl) refl
 
 pub number_is_some : (o : Option ℕ) (x : ℕ) → is_number o x ≡ true → o ≡ Some x
-number_is_some None x e = absurd (cc)
-number_is_some (Some y) x e = ap (λ (k : ℕ). Some k) (eqb-true y x e)
+number_is_some o x e = grind (arith, nat_tests)
 
 place_by : (d : Done) (t x : ℕ) → holds_place t x d ≡ true → place_of d ≡ Some x
 place_by d t x e = number_is_some (place_of d) x (and_parts (is_number (place_of d) x) (nat_lt t d.at.end) e).0
@@ -55,11 +39,7 @@ place_by d t x e = number_is_some (place_of d) x (and_parts (is_number (place_of
 idle_by : (t u cycle address : ℕ) (memory : Bool) → u ≡ t + 1 → (memory && not (nat_le cycle t)) ≡ false
     → (if memory && nat_le cycle u then Some address else None)
     ≡ (if memory && nat_le cycle t then Some address else None)
-idle_by t u cycle address false e w = refl
-idle_by t u cycle address true e w = elim (cases_Bool (nat_le cycle t)) [
-  | inl l ↦ let k : cycle ≤ t = leb-true _ _ l in rw (l, le-leb cycle u (omega arith)) refl
-  | inr l ↦ let f : not false ≡ false = rw l at w in absurd (cc)
-]
+idle_by t u cycle address memory e w = grind (arith, nat_tests)
 
 idle_same : (t u : ℕ) (d : Done) (x : ℕ) → holds_place t x d ≡ true → u ≡ t + 1 → waits_for_address t d ≡ false
     → a_by u d ≡ a_by t d
@@ -71,51 +51,46 @@ idle_same t u d x held e w =
 -- what doesn't hold the place isn't chosen there
 free_by : (t x : ℕ) (d : Done) (o : Option ℕ) (s : Option Station) → holds_place t x d ≡ false
     → given_at o x s ≡ given_at (or_else o (if waits_for_address t d then place_of d else None)) x s
-free_by t x d (Some y) s free = refl
-free_by t x d None s free = elim (cases_Bool (waits_for_address t d)) [
-  | inr w ↦ rw w refl
-  | inl w ↦ rw w (sym (given_other (place_of d) x s (λ z. both_ways _ free (holds_by t x d z w))))
-]
+free_by t x d o s h5 = grind (arith, nat_tests)
 
 -- a busy step's station, where an older step waits or none does
-held_by : (i : Loaded) (config : Configuration) (t u x : ℕ) (d : Done) (older : List Done) (o : Option ℕ)
+held_by : (i : Loaded) {config : Configuration} (t u x : ℕ) (d : Done) (older : List Done) (o : Option ℕ)
     → IsWithinLimits config → AreTimed config (d ∷ older) → AreIssuedBy t (d ∷ older) → u ≡ t + 1
     → holds_place t x d ≡ true → chosen t older ≡ o
-    → Some (station_of i (clocks u u t) d older)
-    ≡ given_at (or_else o (if waits_for_address t d then place_of d else None)) x
-    (Some (station_of i (clocks u t t) d older))
-held_by i config t u x d older (Some y) good timed issued e held c =
-    let free : is_vacant t x older ≡ true = vacant config d older t x good timed (let l : d.at.issue ≤ t = issued.0 in
+    → Some (station_of i (clocks u u t) d older) ≡ given_at (or_else o (if waits_for_address t d then place_of d else
+    None)) x (Some (station_of i (clocks u t t) d older))
+held_by i {config} t u x d older (Some y) good timed issued e held c =
+    let free : is_vacant t x older ≡ true = vacant d older t x good timed (let l : d.at.issue ≤ t = issued.0 in
     omega arith) (and_parts (is_number (place_of d) x) (nat_lt t d.at.end) held).0 in
     let other : Some y ≡ Some x → ⊥ = λ z. chosen_held t x older (c ∙ z) free in
     let last : t < last_address older = some_waits config t y older timed.1 c in
     let same : a_by u d ≡ a_by t d = elim (cases_Bool (is_memory d.step)) [
       | inr m ↦ rw m refl
-      | inl m ↦ let k : last_address older < cycle_of d.at.address = address_rises config d older timed.0 m in
+      | inl m ↦ let k : last_address older < cycle_of d.at.address = address_rises d timed.0 m in
           a_none u d (omega arith) ∙ sym (a_none t d (omega arith))
     ] in
     ap (λ (k : Station). Some k) (with_a i u t d older same)
     ∙ sym (given_other (Some y) x (Some (station_of i (clocks u t t) d older)) other)
-held_by i config t u x d older None good timed issued e held c = elim (cases_Bool (waits_for_address t d)) [
+held_by i t u x d older None good timed issued e held c = elim (cases_Bool (waits_for_address t d)) [
   | inr w ↦ rw w (ap (λ (k : Station). Some k) (with_a i u t d older (idle_same t u d x held e w)))
   | inl w ↦
       let a = and_parts (nat_lt t d.at.end) (is_memory d.step && not (nat_le (cycle_of d.at.address) t)) w in
       let b = and_parts (is_memory d.step) (not (nat_le (cycle_of d.at.address) t)) a.1 in
       let late : t < cycle_of d.at.address = not_le (cycle_of d.at.address) t b.1 in
-      let last : last_address older ≤ t = none_waits config t older good timed.1 issued.1 c in
-      let there = test_is config t u d older timed.0 timed.1 issued e b.0 last late in
+      let last : last_address older ≤ t = none_waits t older good timed.1 issued.1 c in
+      let there = test_is t u d timed.0 timed.1 issued e b.0 last late in
       rw (w, given_here (place_of d) x (Some (station_of i (clocks u t t) d older)) (place_by d t x held))
       (ap (λ (k : Station). Some k) (given i u t d older there late e b.0))
 ]
 
 -- the chosen place gets its address, and no other
-pub addresses_at : (i : Loaded) (config : Configuration) (t u x : ℕ) (h : List Done) → IsWithinLimits config
+pub addresses_at : (i : Loaded) {config : Configuration} (t u x : ℕ) (h : List Done) → IsWithinLimits config
     → AreTimed config h → AreIssuedBy t h → u ≡ t + 1
     → station_at i (clocks u u t) h x ≡ given_at (chosen t h) x (station_at i (clocks u t t) h x)
-addresses_at i config t u x [] good timed issued e = refl
-addresses_at i config t u x (d ∷ older) good timed issued e = elim (cases_Bool (holds_place t x d)) [
-  | inl held ↦ rw held (held_by i config t u x d older (chosen t older) good timed issued e held refl)
-  | inr free ↦ rw free (addresses_at i config t u x older good timed.1 issued.1 e
+addresses_at i t u x [] good timed issued e = refl
+addresses_at i t u x (d ∷ older) good timed issued e = elim (cases_Bool (holds_place t x d)) [
+  | inl held ↦ rw held (held_by i t u x d older (chosen t older) good timed issued e held refl)
+  | inr free ↦ rw free (addresses_at i t u x older good timed.1 issued.1 e
       ∙ free_by t x d (chosen t older) (station_at i (clocks u t t) older x) free)
 ]
 
@@ -130,9 +105,7 @@ first-append slots (y ∷ xs) x = elim (cases_Bool (lacks_address (slice_index_o
 
 lacks_by : (memory made : Bool) (address : ℕ)
     → (memory && not (is_some (if memory && made then Some address else None))) ≡ (memory && not made)
-lacks_by false made address = refl
-lacks_by true false address = refl
-lacks_by true true address = refl
+lacks_by memory made address = grind (arith, nat_tests)
 
 pub order_here : (t x : ℕ) (d : Done) (older : List Done) → place_of d ≡ Some x → nat_lt t d.at.end ≡ true
     → order_of t (d ∷ older) ≡ order_of t older ++ (x ∷ [])
@@ -144,9 +117,8 @@ pub waiting_is : (i : Loaded) (config : Configuration) (t u : ℕ) (st : Pools) 
     ++ part → first_waiting st.slots (order_of t part) ≡ chosen t part
 waiting_is i config t u st h newer [] good timed issued shown e = refl
 waiting_is i config t u st h newer (d ∷ older) good timed issued shown e =
-    let before : first_waiting st.slots (order_of t older) ≡ chosen t older =
-    waiting_is i config t u st h (newer ++ (d ∷ [])) older good timed issued shown
-    (e ∙ sym (append_assoc newer (d ∷ []) older)) in
+    let before : first_waiting st.slots (order_of t older) ≡ chosen t older = waiting_is i config t u st h
+    (newer ++ (d ∷ [])) older good timed issued shown (e ∙ sym (append_assoc newer (d ∷ []) older)) in
     let here : AreTimed config (newer ++ (d ∷ older)) = rw e at timed in
     let by : AreIssuedBy t (newer ++ (d ∷ older)) = rw e at issued in
     elim (cases_Bool (nat_lt t d.at.end)) [
@@ -155,19 +127,15 @@ waiting_is i config t u st h newer (d ∷ older) good timed issued shown e =
           let k : t < d.at.end = ltb-true _ _ l in
           let part : AreTimed config (d ∷ older) = timed_part config newer (d ∷ older) here in
           let at : d.at.issue ≤ t = (issued_part t newer (d ∷ older) by).0 in
-          let tag = tag_there config d older t part.0 at k in
+          let tag = tag_there d t part.0 at k in
           let place : place_of d ≡ Some (place_of_tag tag.0) = ap place_at tag.1 in
           let held : holds_place t (place_of_tag tag.0) d ≡ true =
           rw (place, l, eq-eqb (place_of_tag tag.0) (place_of_tag tag.0) refl) refl in
           let small : place_of_tag tag.0 < 96 =
-          place_low (step_pool d.step) d.at.station (place_of_tag tag.0) (low config (d ∷ older) good part).0 place
-          in
-          let there : station_at i (clocks u t t) (newer ++ (d ∷ older)) (place_of_tag tag.0)
-          ≡ Some (station_of i (clocks u t t) d older) =
-          station_here i config (clocks u t t) newer d older (place_of_tag tag.0) good here
+          place_low (step_pool d.step) d.at.station (place_of_tag tag.0) (low config (d ∷ older) good part).0 place in
+          let there = station_here i (clocks u t t) newer d older (place_of_tag tag.0) good here
           (issued_more t (t + 1) (newer ++ (d ∷ older)) (omega arith) by) held in
-          let slot : slice_index_or st.slots (place_of_tag tag.0) None ≡ Some (station_of i (clocks u t t) d older) =
-          shown.slots (place_of_tag tag.0) small
+          let slot = shown.slots (place_of_tag tag.0) small
           ∙ (ap (λ xs. station_at i (clocks u t t) xs (place_of_tag tag.0)) e ∙ there) in
           let same : lacks_address (slice_index_or st.slots (place_of_tag tag.0) None) ≡ waits_for_address t d =
           rw (slot, l) (lacks_by (is_memory d.step) (nat_le (cycle_of d.at.address) t) (address_of d.step)) in
@@ -183,36 +151,16 @@ set_at_place xs x y o l same = elim (cases_Bool (x == y)) [
   | inr e ↦ rw e (get_or-set_other xs x y o None (λ z. eqb-false x y e (sym z)))
 ]
 
--- a station whose base isn't there stays as it is
-no_base : (o : Option Station) → has_base o ≡ false → option_map with_address o ≡ o
-no_base None e = refl
-no_base (Some s) e = ap (λ (z : Station). Some z) (no_base_in s s.j refl e)
-  where
-    no_base_in : (s : Station) (j : Field) → s.j ≡ j → is_value s.j ≡ false → with_address s ≡ s
-    no_base_in s (Value v) f g = let z : true ≡ false = rw f at g in absurd (cc)
-    no_base_in s (Waits tag) f g = rw f refl
-    no_base_in s Unread f g = rw f refl
-
-given_none : (x y : ℕ) (slots : List (Option Station)) → has_base (slice_index_or slots x None) ≡ false
-    → slice_index_or slots y None ≡ given_at (Some x) y (slice_index_or slots y None)
-given_none x y slots none = elim (cases_Bool (x == y)) [
-  | inl e ↦ let f : x ≡ y = eqb-true x y e in rw (e, ← f) (sym (no_base (slice_index_or slots x None) none))
-  | inr e ↦ rw e refl
-]
-
 -- the phase, by the search for the next address
 pub made_none : (next : ℕ) (old : Pools) → AreBusy old.slots old.busy old.issue_numbers
     → ((order : List ℕ) → IsInIssueOrder old.busy old.issue_numbers order → None ≡ next_address old.slots order)
     → MakesAddress next old old
 made_none next old filled none i config h t e past issued shown =
-    let by : IsInIssueOrder old.busy old.issue_numbers (order_of t h) =
-    order_is i config (clocks next t t) h old past.lawful past.timed (issued_more t (t + 1) h (omega arith) issued)
-    shown filled in
-    let waits : first_waiting old.slots (order_of t h) ≡ chosen t h =
-    waiting_is i config t next old h [] h past.lawful past.timed issued shown refl in
+    let by = order_is past.lawful past.timed (issued_more t (t + 1) h (omega arith) issued) shown filled in
+    let waits = waiting_is i config t next old h [] h past.lawful past.timed issued shown refl in
     record {
       places = shown.places;
-      slots = λ x l. shown.slots x l ∙ sym (addresses_at i config t next x h past.lawful past.timed issued e
+      slots = λ x l. shown.slots x l ∙ sym (addresses_at i t next x h past.lawful past.timed issued e
           ∙ sym (unmoved i t next x h old (chosen t h) (rw waits at (none (order_of t h) by)) (shown.slots x l)));
       order_count = shown.order_count;
       issue_numbers = shown.issue_numbers;
@@ -221,54 +169,41 @@ made_none next old filled none i config h t e past issued shown =
     unmoved : (i : Loaded) (t next x : ℕ) (h : List Done) (old : Pools) (o : Option ℕ)
         → None ≡ where_base_is_there old.slots o → slice_index_or old.slots x None ≡ station_at i (clocks next t t) h x
         → station_at i (clocks next t t) h x ≡ given_at o x (station_at i (clocks next t t) h x)
-    unmoved i t next x h old None e same = refl
-    unmoved i t next x h old (Some y) e same = elim (cases_Bool (has_base (slice_index_or old.slots y None))) [
-      | inl k ↦ let z : None ≡ Some y = rw k at e in absurd (cc)
-      | inr k ↦ rw (← same) (given_none y x old.slots k)
-    ]
+    unmoved i t next x h old o e f = grind (arith, nat_tests)
 
-low_by : (config : Configuration) (t x : ℕ) (d : Done) (older : List Done) (o : Option ℕ) → IsWithinLimits config
+low_by : {config : Configuration} (t x : ℕ) (d : Done) (older : List Done) (o : Option ℕ) → IsWithinLimits config
     → AreTimed config (d ∷ older) → ((y : ℕ) → o ≡ Some y → y < 96)
     → or_else o (if waits_for_address t d then place_of d else None) ≡ Some x → x < 96
-low_by config t x d older (Some y) good timed before e = let f : y ≡ x = cc in rw (← f) (before y refl)
-low_by config t x d older None good timed before e = elim (cases_Bool (waits_for_address t d)) [
+low_by t x d older (Some y) good timed before e = let f : y ≡ x = cc in rw (← f) (before y refl)
+low_by {config} t x d older None good timed before e = elim (cases_Bool (waits_for_address t d)) [
   | inr w ↦ let z : None ≡ Some x = rw w at e in absurd (cc)
   | inl w ↦ let f : place_of d ≡ Some x = rw w at e in
       place_low (step_pool d.step) d.at.station x (low config (d ∷ older) good timed).0 f
 ]
 
-chosen_low : (config : Configuration) (t x : ℕ) (h : List Done) → IsWithinLimits config → AreTimed config h
+chosen_low : {config : Configuration} (t x : ℕ) (h : List Done) → IsWithinLimits config → AreTimed config h
     → chosen t h ≡ Some x → x < 96
-chosen_low config t x [] good timed e = absurd (cc)
-chosen_low config t x (d ∷ older) good timed e =
-    low_by config t x d older (chosen t older) good timed (λ y f. chosen_low config t y older good timed.1 f) e
+chosen_low t x [] good timed e = absurd (cc)
+chosen_low t x (d ∷ older) good timed e =
+    low_by t x d older (chosen t older) good timed (λ y f. chosen_low t y older good timed.1 f) e
 
 pub made_some : (next x : ℕ) (old new : Pools) (o : Option Station) → AreBusy old.slots old.busy old.issue_numbers
     → ((order : List ℕ) → IsInIssueOrder old.busy old.issue_numbers order → Some x ≡ next_address old.slots order)
     → o ≡ option_map with_address (slice_index_or old.slots x None) → new.slots ≡ slice_set old.slots x o
     → new.issue_numbers ≡ old.issue_numbers → MakesAddress next old new
 made_some next x old new o filled some same slots issue_numbers i config h t e past issued shown =
-    let by : IsInIssueOrder old.busy old.issue_numbers (order_of t h) =
-    order_is i config (clocks next t t) h old past.lawful past.timed (issued_more t (t + 1) h (omega arith) issued)
-    shown filled in
-    let waits : first_waiting old.slots (order_of t h) ≡ chosen t h =
-    waiting_is i config t next old h [] h past.lawful past.timed issued shown refl in
+    let by = order_is past.lawful past.timed (issued_more t (t + 1) h (omega arith) issued) shown filled in
+    let waits = waiting_is i config t next old h [] h past.lawful past.timed issued shown refl in
     let c : chosen t h ≡ Some x = found x old.slots (chosen t h) (rw waits at (some (order_of t h) by)) in
-    let count : length old.slots ≡ 96 = shown.places in
-    let small : x < 96 = chosen_low config t x h past.lawful past.timed c in
+    let small : x < 96 = chosen_low t x h past.lawful past.timed c in
     record {
       places = ap length slots ∙ (length-set old.slots x o ∙ shown.places);
-      slots = λ y l. ap (λ xs. slice_index_or xs y None) slots
-          ∙ (set_at_place old.slots x y o (omega arith) same
-          ∙ (ap (given_at (Some x) y) (shown.slots y l)
-          ∙ sym (addresses_at i config t next y h past.lawful past.timed issued e ∙ rw c refl)));
+      slots = λ y l. ap (λ xs. slice_index_or xs y None) slots ∙ (set_at_place old.slots x y o (omega arith) same ∙ (ap
+          (given_at (Some x) y) (shown.slots y l) ∙ sym
+          (addresses_at i t next y h past.lawful past.timed issued e ∙ rw c refl)));
       order_count = ap length issue_numbers ∙ shown.order_count;
       issue_numbers = λ y l. ap (λ xs. slice_index xs y) issue_numbers ∙ shown.issue_numbers y l;
     }
   where
     found : (x : ℕ) (slots : List (Option Station)) (o : Option ℕ) → Some x ≡ where_base_is_there slots o → o ≡ Some x
-    found x slots None e = absurd (cc)
-    found x slots (Some y) e = elim (cases_Bool (has_base (slice_index_or slots y None))) [
-      | inl k ↦ sym (rw k at e)
-      | inr k ↦ let z : Some x ≡ None = rw k at e in absurd (cc)
-    ]
+    found x slots o e = grind (arith, nat_tests)

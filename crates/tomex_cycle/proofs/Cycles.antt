@@ -1,41 +1,14 @@
 -- The phases, one after the other, make a cycle.
 use Rattle.std.proofs.Common.{ℕ, ◌+◌, ◌<◌, ◌≤◌, ◌≡◌, ◌∙◌, Bool, true, false, arith, refl, List, [], ◌∷◌, ◌++◌, Option}
-use Rattle.std.proofs.Common.{Some, None, sym, inl, inr}
-use Rattle.std.specs.Prelude.{nat_lt, MatchOption, if◌then◌else◌, Result, Ok, Err, not}
-use Rattle.std.proofs.lemmas.Bool.{cases_Bool, ltb-true, lt-leb, and_parts}
-use Rattle.tomex_image.specs.Image.{Loaded, IsLoaded}
-use Rattle.tomex_config.specs.Configuration.{Configuration, IsWithinLimits}
-use Rattle.tomex_rvdec.specs.declared.pool.PoolId.{PoolId}
-use Rattle.tomex_rvdec.specs.declared.pool.PoolId.TheVariants as pools
-use Rattle.tomex_rvdec.specs.declared.pool.UnitId.{UnitId}
-use Rattle.tomex_rvdec.specs.Operands.{unit_at}
-use Rattle.tomex_rvexec.specs.declared.outcome.EndKind.{EndKind}
-use Rattle.tomex_rvexec.specs.declared.outcome.Fault.{Fault}
-use Rattle.tomex_steps.specs.Results.{overwrites}
-use Rattle.tomex_rvexec.specs.Machine.{State}
-use Rattle.tomex_steps.specs.Memory.{Bytes}
-use Rattle.tomex_rvexec.specs.Run.{RunEnds}
-use Rattle.tomex_steps.specs.Steps.{step_pool, is_in, is_store}
-use Rattle.tomex_timing.specs.declared.times.Done.{Done}
-use Rattle.tomex_timing.specs.History.{cycle_of, greatest_end}
-use Rattle.tomex_timing.specs.Recurrence.{AreTimed, IsTimed, IsLeast, can_start}
-use Rattle.tomex_cycle.specs.declared.fetch.Fetch.{Fetch}
-use Rattle.tomex_cycle.specs.Run.{RunEndsAfter, first_timed, byte_at, IsHistory}
-use Rattle.tomex_cycle.specs.Views.{clocks, ShowsMemory}
-use Rattle.tomex_cycle.specs.Phases.{IsIssuedTo, IsSnapshot, IsYetToIssue, MakesStarts, MakesAddress, MakesIssue}
-use Rattle.tomex_cycle.specs.Phases.{MakesEnds, is_done}
-use Rattle.tomex_cycle.specs.declared.progress.Progress.{Progress}
-use Rattle.tomex_cycle.specs.declared.progress.Progress.TheVariants.{Running, Ended}
+use Rattle.std.proofs.Common.{None, sym, inl, inr}
+use Rattle.tomex_cycle.proofs.Words.{nat_lt, if◌then◌else◌, Result, Ok, not, cases_Bool, ltb-true, lt-leb, nat_tests}
+use Rattle.tomex_cycle.proofs.Words.{and_parts, Loaded, Configuration, UnitId, Fault, overwrites, Bytes, is_store, Done}
+use Rattle.tomex_cycle.proofs.Words.{cycle_of, greatest_end, AreTimed, IsTimed, can_start, Fetch, RunEndsAfter}
+use Rattle.tomex_cycle.proofs.Words.{first_timed, byte_at, IsHistory, clocks, ShowsMemory, IsIssuedTo, IsSnapshot}
+use Rattle.tomex_cycle.proofs.Words.{IsYetToIssue, MakesStarts, MakesAddress, MakesIssue, MakesEnds, is_done, Progress}
+use Rattle.tomex_cycle.proofs.Words.{Running, Ended, AreBusy, Pools, RegStatus}
 use Rattle.tomex_cycle.proofs.Totals.{done_is}
 use Rattle.tomex_cycle.proofs.Runs.{rest_to, run_history, run_timed, AreLater}
-use Rattle.tomex_tags.specs.Pools.{AreBusy, Pools}
-use Rattle.tomex_tags.specs.declared.register_status.RegStatus.{RegStatus}
-
-start_later : (pool : Option PoolId) (issue start : ℕ) (older : List Done) (P : UnitId → ℕ → Bool)
-    → ((u : UnitId) (x : ℕ) → P u x ≡ true → issue < x) → is_in pools.Store pool ≡ true
-    → MatchOption (unit_at pool) (start ≡ issue) (λ u. IsLeast (P u) start) → issue < start
-start_later None issue start older P later store timed = absurd (cc)
-start_later (Some pool) issue start older P later store timed = later _ start timed.0
 
 pub can_start_later : (config : Configuration) (d : Done) (older : List Done) (u : UnitId) (t : ℕ)
     → can_start config older d.step u d.at.issue (cycle_of d.at.address) t ≡ true → d.at.issue < t
@@ -45,12 +18,9 @@ can_start_later config d older u t h =
     ltb-true d.at.issue t two.0
 
 -- a store starts after its issue
-pub store_later : (config : Configuration) (d : Done) (older : List Done) → IsTimed config older d.step d.at
+pub store_later : {config : Configuration} (d : Done) {older : List Done} → IsTimed config older d.step d.at
     → is_store d.step ≡ true → d.at.issue < d.at.start
-store_later config d older timed store =
-    start_later (step_pool d.step) d.at.issue d.at.start older
-    (λ u. can_start config older d.step u d.at.issue (cycle_of d.at.address)) (can_start_later config d older) store
-    timed.start
+store_later {config} d {older} timed store = grind (arith, nat_tests, can_start_later config d older)
 
 -- what issues later hasn't written memory yet
 bytes_later : (config : Configuration) (i : Loaded) (newer h : List Done) (t u a : ℕ) → AreTimed config (newer ++ h)
@@ -61,18 +31,17 @@ bytes_later config i (d ∷ newer) h t u a timed later e =
     elim (cases_Bool (overwrites d.step a)) [
       | inl o ↦
           let store : is_store d.step ≡ true = (and_parts _ _ o).0 in
-          let l : d.at.issue < d.at.start = store_later config d (newer ++ h) timed.0 store in
-          let k : t < d.at.issue = later.0 in
+          let l : d.at.issue < d.at.start = store_later d timed.0 store in
           rw (o, lt-leb d.at.start u (omega arith)) rest
       | inr o ↦ rw o rest
     ]
 
-memory_issued : (config : Configuration) (i : Loaded) (n k m t u : ℕ) (s : State) (kind : EndKind) (bytes : Bytes)
-    → IsWithinLimits config → RunEnds i n s kind → (k ≤ n → IsYetToIssue i config k t) → k ≤ m → m ≤ n + 1 → u ≡ t + 1
+memory_issued : {config : Configuration} {i : Loaded} {n : ℕ} (k m t : ℕ) {u : ℕ} {bytes : Bytes}
+    → RunEndsAfter i config n → (k ≤ n → IsYetToIssue i config k t) → k ≤ m → m ≤ n + 1 → u ≡ t + 1
     → ShowsMemory i u (first_timed config i k) bytes → ShowsMemory i u (first_timed config i m) bytes
-memory_issued config i n k m t u s kind bytes good ends next low high e shown =
-    let rest = rest_to config i n k m t s kind good ends next low high in
-    let timed : AreTimed config (rest.0 ++ first_timed config i k) = rw (← rest.1.same) (run_timed config i m good) in
+memory_issued {config} {i} k m t {u} {bytes} run next low high e shown =
+    let rest = rest_to k m t run next low high in
+    let timed : AreTimed config (rest.0 ++ first_timed config i k) = rw (← rest.1.same) (run_timed i m run.lawful) in
     record {
       base = shown.base;
       size = shown.size;
@@ -88,22 +57,18 @@ pub record IsUnderWay (i : Loaded) (config : Configuration) (n t next before cou
   pub after : IsIssuedTo i config n next (clocks next next t) count stations registers fetch
   pub bytes : ShowsMemory i next (first_timed config i count) memory
 
-pub issue_made : (i : Loaded) (config : Configuration) (n t next count counted : ℕ) (fault : Option Fault)
-    (result : Result Bool Fault)
-    (st0 st1 st2 st3 : Pools) (rg0 rg1 : RegStatus) (ft0 ft1 : Fetch) (m0 m1 : Bytes)
-    → MakesStarts config next st0 m0 fault st1 m1 → MakesAddress next st1 st2
-    → MakesIssue i config next count st2 rg0 ft0 result counted st3 rg1 ft1
-    → RunEndsAfter i config n → next ≡ t + 1 → IsSnapshot i config n t count st0 rg0 ft0 m0
+pub issue_made : {i : Loaded} {config : Configuration} {n t : ℕ} (next : ℕ) {count : ℕ} (counted : ℕ)
+    {fault : Option Fault} {result : Result Bool Fault} {st0 st1 st2 st3 : Pools} {rg0 rg1 : RegStatus}
+    {ft0 ft1 : Fetch} {m0 m1 : Bytes} → MakesStarts config next st0 m0 fault st1 m1 → MakesAddress next st1 st2
+    → MakesIssue i config next count st2 rg0 ft0 result counted st3 rg1 ft1 → RunEndsAfter i config n → next ≡ t + 1
+    → IsSnapshot i config n t count st0 rg0 ft0 m0
     → (result ≡ Ok (nat_lt count counted)) × IsUnderWay i config n t next count counted fault st3 rg1 ft1 m1
-issue_made i config n t next count counted fault result st0 st1 st2 st3 rg0 rg1 ft0 ft1 m0 m1 starts addresses issues
-    run e old =
+issue_made {i} {config} {n} {t} next {count} counted {st2} {rg0} {ft0} starts addresses issues run e old =
     let few : count ≤ n + 1 = old.issue.few in
-    let h0 : IsHistory i config (first_timed config i count) =
-    run_history config i n count run.state run.kind run.lawful run.loaded run.ends few in
+    let h0 : IsHistory i config (first_timed config i count) = run_history count run few in
     let a = starts i (first_timed config i count) t e h0 old.issue.issued old.issue.slots old.bytes in
     let b = addresses i config (first_timed config i count) t e h0 old.issue.issued a.1 in
-    let shown : IsIssuedTo i config n t (clocks next next t) count st2 rg0 ft0 =
-    record {
+    let shown : IsIssuedTo i config n t (clocks next next t) count st2 rg0 ft0 = record {
       few = few;
       slots = b;
       status = old.issue.status;
@@ -117,20 +82,16 @@ issue_made i config n t next count counted fault result st0 st1 st2 st3 rg0 rg1 
         good = a.0;
         low = d.1;
         after = d.2;
-        bytes = memory_issued config i n count counted t next run.state run.kind m1 run.lawful run.ends old.issue.next
-            d.1 d.2.few e a.2;
+        bytes = memory_issued count counted t run old.issue.next d.1 d.2.few e a.2;
       },
     )
 
-pub cycle_made : (i : Loaded) (config : Configuration) (n t next count counted : ℕ) (s : State) (kind : EndKind)
-    (fault : Option Fault)
-    (st3 st4 : Pools) (rg1 rg2 : RegStatus) (ft1 ft2 : Fetch) (m1 : Bytes)
+pub cycle_made : {i : Loaded} {config : Configuration} {n t next count counted : ℕ} {fault : Option Fault}
+    {st3 st4 : Pools} {rg1 rg2 : RegStatus} {ft1 ft2 : Fetch} {m1 : Bytes}
     → IsUnderWay i config n t next count counted fault st3 rg1 ft1 m1 → MakesEnds config next st3 rg1 ft1 st4 rg2 ft2
-    → RunEnds i n s kind → next ≡ t + 1 → IsWithinLimits config → IsLoaded i.window i.memory i.entry
-    → IsSnapshot i config n next counted st4 rg2 ft2 m1
-cycle_made i config n t next count counted s kind fault st3 st4 rg1 rg2 ft1 ft2 m1 on end_phase ends e good loaded =
-    let h1 : IsHistory i config (first_timed config i counted) =
-    run_history config i n counted s kind good loaded ends on.after.few in
+    → RunEndsAfter i config n → next ≡ t + 1 → IsSnapshot i config n next counted st4 rg2 ft2 m1
+cycle_made {i} {config} {t} {next} {counted} on end_phase run e =
+    let h1 : IsHistory i config (first_timed config i counted) = run_history counted run on.after.few in
     let f = end_phase i (first_timed config i counted) t e h1 on.after.issued on.after.slots on.after.status
     on.after.from in
     record {
@@ -145,35 +106,21 @@ cycle_made i config n t next count counted s kind fault st3 st4 rg1 rg2 ft1 ft2 
       bytes = on.bytes;
     }
 
-pub some_none : {A : Type 0} (o : Option A) (x : A) → o ≡ Some x → o ≡ None → ⊥
-some_none o x e f = cc
-
-pub err_ok : {A E : Type 0} (r : Result A E) (x : A) (y : E) → r ≡ Ok x → r ≡ Err y → ⊥
-err_ok r x y e f = cc
-
-pub ok_same : {A E : Type 0} (r : Result A E) (x y : A) → r ≡ Ok x → r ≡ Ok y → x ≡ y
-ok_same r x y e f = cc
-
 -- nothing that starts in a run faults
-pub starts_good : (i : Loaded) (config : Configuration) (n t next count : ℕ) (s : State) (kind : EndKind)
-    (fault : Option Fault) (st0 st1 : Pools) (rg0 : RegStatus) (ft0 : Fetch) (m0 m1 : Bytes)
-    → MakesStarts config next st0 m0 fault st1 m1 → RunEnds i n s kind → next ≡ t + 1 → IsWithinLimits config
-    → IsLoaded i.window i.memory i.entry → IsSnapshot i config n t count st0 rg0 ft0 m0 → fault ≡ None
-starts_good i config n t next count s kind fault st0 st1 rg0 ft0 m0 m1 starts ends e good loaded old =
-    (starts i (first_timed config i count) t e (run_history config i n count s kind good loaded ends old.issue.few)
-    old.issue.issued old.issue.slots old.bytes).0
+pub starts_good : {i : Loaded} {config : Configuration} {n t : ℕ} (next : ℕ) {count : ℕ} (fault : Option Fault)
+    {st0 st1 : Pools} {rg0 : RegStatus} {ft0 : Fetch} {m0 m1 : Bytes} → MakesStarts config next st0 m0 fault st1 m1
+    → RunEndsAfter i config n → next ≡ t + 1 → IsSnapshot i config n t count st0 rg0 ft0 m0 → fault ≡ None
+starts_good {i} {config} {t} next {count} fault starts run e old = (starts i (first_timed config i count) t e
+    (run_history count run old.issue.few) old.issue.issued old.issue.slots old.bytes).0
 
 progress_same : (a : Bool) (over : Bool) (p : Progress) → over ≡ not a → p ≡ (if over then Ended else Running)
     → p ≡ (if a then Running else Ended)
 progress_same true over p e f = rw e at f
 progress_same false over p e f = rw e at f
 
-pub cycle_answer : (i : Loaded) (config : Configuration) (n next count : ℕ) (s : State) (kind : EndKind) (st : Pools)
-    (rg : RegStatus) (ft : Fetch) (m : Bytes) (over : Bool) (p : Progress)
-    → IsSnapshot i config n next count st rg ft m → RunEnds i n s kind → IsWithinLimits config
-    → IsLoaded i.window i.memory i.entry
+pub cycle_answer : {i : Loaded} {config : Configuration} {n next count : ℕ} {st : Pools} {rg : RegStatus} {ft : Fetch}
+    {m : Bytes} {over : Bool} {p : Progress} → IsSnapshot i config n next count st rg ft m → RunEndsAfter i config n
     → AreBusy st.slots st.busy st.issue_numbers → over ≡ is_done ft st.busy → p ≡ (if over then Ended else Running)
     → p ≡ (if nat_lt next (greatest_end (first_timed config i (n + 1))) then Running else Ended)
-cycle_answer i config n next count s kind st rg ft m over p shown ends good loaded filled e f =
-    progress_same (nat_lt next (greatest_end (first_timed config i (n + 1)))) over p
-    (e ∙ done_is config i n next count s kind st rg ft good loaded ends shown.issue filled) f
+cycle_answer {i} {config} {n} {next} {ft} {over} {p} shown run filled e f = progress_same
+    (nat_lt next (greatest_end (first_timed config i (n + 1)))) over p (e ∙ done_is ft run shown.issue filled) f

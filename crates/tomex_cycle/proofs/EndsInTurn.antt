@@ -1,22 +1,11 @@
 -- What ends in one place after another, and what is sent by them together.
-use Rattle.std.proofs.Common.{ℕ, ◌+◌, ◌<◌, ◌≡◌, ◌∙◌, Bool, true, false, arith, refl, List, Option, Some, None, ap}
-use Rattle.std.proofs.Common.{sym, inl, inr, length, slice_index, slice_index_or, option_map}
-use Rattle.std.specs.Prelude.{nat_lt, if◌then◌else◌, ◌&&◌, ◌||◌, ◌==◌}
-use Rattle.std.proofs.lemmas.Bool.{cases_order, lt-ltb, le-ltb, eqb-true, eqb-false, eq-eqb, ne_eqb}
-use Rattle.tomex_timing.specs.Tables.{field_from}
-use Rattle.tomex_timing.specs.declared.tables.Field.{Field}
-use Rattle.tomex_timing.specs.declared.tables.Field.TheVariants.{Value, Waits, Unread}
-use Rattle.tomex_timing.specs.declared.tables.Tag.{Tag}
-use Rattle.tomex_steps.specs.Steps.{is_number}
+use Rattle.std.proofs.Common.{ℕ, ◌+◌, ◌<◌, ◌≡◌, ◌∙◌, Bool, true, false, arith, refl, List, Option, Some, None, ap, sym}
+use Rattle.std.proofs.Common.{length, slice_index, slice_index_or, option_map}
+use Rattle.tomex_cycle.proofs.Words.{nat_lt, ◌&&◌, ◌||◌, ◌==◌, le-ltb, nat_tests, eqb-false, ne_eqb, field_from, Field}
+use Rattle.tomex_cycle.proofs.Words.{Value, Unread, Tag, is_number, EndsIn, Hears, after_ends, sends_of, sent_below}
+use Rattle.tomex_cycle.proofs.Words.{hears, heard, only, taken, place_at, place_of_tag, Pools, RegStatus, Station, has}
+use Rattle.tomex_timing.specs.declared.tables.Field.TheVariants.{Waits}
 use Rattle.tomex_cycle.proofs.AddressChosen.{or_else}
-use Rattle.tomex_cycle.specs.Ends.{EndsIn, Hears, after_ends, sends_of, sent_below}
-use Rattle.tomex_tags.specs.Contents.{hears}
-use Rattle.tomex_tags.specs.Operands.{heard, only, taken}
-use Rattle.tomex_tags.specs.Places.{place_at, place_of_tag}
-use Rattle.tomex_tags.specs.Pools.{Pools}
-use Rattle.tomex_tags.specs.declared.register_status.RegStatus.{RegStatus}
-use Rattle.tomex_tags.specs.declared.station.Station.{Station}
-use Rattle.tomex_sets.specs.Sets.{has}
 
 -- A broadcast to registers.
 
@@ -35,10 +24,7 @@ pub record AreEndedBelow (picked : ℕ) (n : ℕ) (old new : Pools) : Type 0 whe
 
 pub heard_yes : (from value v : ℕ) (tag : Option Tag) → is_number (place_at tag) from ≡ true
     → heard (only from (Some value)) (field_from v tag) ≡ Value value
-heard_yes from value v None e = absurd (cc)
-heard_yes from value v (Some tag) e =
-    let f : place_of_tag tag ≡ from = eqb-true _ _ e in
-    rw (eq-eqb from (place_of_tag tag) (sym f)) refl
+heard_yes from value v tag h4 = grind (arith, nat_tests)
 
 pub heard_no : (from value v : ℕ) (tag : Option Tag) → is_number (place_at tag) from ≡ false
     → heard (only from (Some value)) (field_from v tag) ≡ field_from v tag
@@ -47,19 +33,11 @@ heard_no from value v (Some tag) e = rw (ne_eqb from (place_of_tag tag) (λ z. e
 
 -- One end after others.
 
-then_by : (g : ℕ → Option ℕ) (p : ℕ) (f k : Option ℕ) (tag : Tag) → p ≡ place_of_tag tag → k ≡ or_else f (g p)
-    → heard g (taken f tag) ≡ taken k tag
-then_by g p None k tag at e = rw (e, at) refl
-then_by g p (Some v) k tag at e = rw e refl
-
 heard_then : (f g k : ℕ → Option ℕ) (field : Field) → ((y : ℕ) → k y ≡ or_else (f y) (g y))
     → heard g (heard f field) ≡ heard k field
-heard_then f g k (Value v) e = refl
-heard_then f g k Unread e = refl
-heard_then f g k (Waits tag) e =
-    then_by g (place_of_tag tag) (f (place_of_tag tag)) (k (place_of_tag tag)) tag refl (e (place_of_tag tag))
+heard_then f g k field h4 = grind (arith, nat_tests)
 
-heard_same : (f k : ℕ → Option ℕ) (field : Field) → ((y : ℕ) → k y ≡ f y) → heard f field ≡ heard k field
+pub heard_same : (f k : ℕ → Option ℕ) (field : Field) → ((y : ℕ) → k y ≡ f y) → heard f field ≡ heard k field
 heard_same f k (Value v) e = refl
 heard_same f k Unread e = refl
 heard_same f k (Waits tag) e = ap (λ o. taken o tag) (sym (e (place_of_tag tag)))
@@ -90,85 +68,54 @@ ends_same true f k o e = refl
 ends_same false f k None e = refl
 ends_same false f k (Some s) e = ap (λ (x : Station). Some x) (hears_same f k s e)
 
-or_none : (a : Option ℕ) → a ≡ or_else a None
-or_none None = refl
-or_none (Some x) = refl
-
-and_false : (a : Bool) → (a && false) ≡ false
-and_false true = refl
-and_false false = refl
-
 -- what is sent below the next place
 sent_yes : (slots : List (Option Station)) (picked : ℕ) (n y : ℕ) (s : Option ℕ) → has picked n ≡ true
     → s ≡ sends_of (slice_index_or slots n None)
     → sent_below slots picked (n + 1) y ≡ or_else (sent_below slots picked n y) (only n s y)
-sent_yes slots picked n y s e f = elim (cases_order y n) [
-  | inl z ↦ rw (z, e, f, lt-ltb n (n + 1) (omega arith), le-ltb n n (omega arith), eq-eqb n n refl) refl
-  | inr (inl l) ↦ rw (lt-ltb y (n + 1) (omega arith), lt-ltb y n l, ne_eqb n y (λ z. absurd (omega arith)))
-      (or_none (if has picked y then sends_of (slice_index_or slots y None) else None))
-  | inr (inr l) ↦ rw (le-ltb y (n + 1) (omega arith), le-ltb y n (omega arith), ne_eqb n y (λ z. absurd (omega arith)))
-      refl
-]
+sent_yes slots picked n y s e f = grind (arith, nat_tests)
 
 sent_no : (slots : List (Option Station)) (picked : ℕ) (n y : ℕ) → has picked n ≡ false
     → sent_below slots picked (n + 1) y ≡ sent_below slots picked n y
-sent_no slots picked n y e = elim (cases_order y n) [
-  | inl z ↦ rw (z, e, lt-ltb n (n + 1) (omega arith), le-ltb n n (omega arith)) refl
-  | inr (inl l) ↦ rw (lt-ltb y (n + 1) (omega arith), lt-ltb y n l) refl
-  | inr (inr l) ↦ rw (le-ltb y (n + 1) (omega arith), le-ltb y n (omega arith)) refl
-]
+sent_no slots picked n y e = grind (arith, nat_tests)
 
 below_yes : (picked : ℕ) (n x : ℕ) → has picked n ≡ true → ((n == x) || (nat_lt x n && has picked x))
     ≡ (nat_lt x (n + 1) && has picked x)
-below_yes picked n x e = elim (cases_order x n) [
-  | inl z ↦ rw (z, e, lt-ltb n (n + 1) (omega arith), eq-eqb n n refl) refl
-  | inr (inl l) ↦ rw (lt-ltb x (n + 1) (omega arith), lt-ltb x n l, ne_eqb n x (λ z. absurd (omega arith))) refl
-  | inr (inr l) ↦ rw (le-ltb x (n + 1) (omega arith), le-ltb x n (omega arith), ne_eqb n x (λ z. absurd (omega arith)))
-      refl
-]
+below_yes picked n x e = grind (arith, nat_tests)
 
-below_no : (picked : ℕ) (n x : ℕ) → has picked n ≡ false
-    → (nat_lt x n && has picked x) ≡ (nat_lt x (n + 1) && has picked x)
-below_no picked n x e = elim (cases_order x n) [
-  | inl z ↦ rw (z, e, lt-ltb n (n + 1) (omega arith), le-ltb n n (omega arith)) refl
-  | inr (inl l) ↦ rw (lt-ltb x (n + 1) (omega arith), lt-ltb x n l) refl
-  | inr (inr l) ↦ rw (le-ltb x (n + 1) (omega arith), le-ltb x n (omega arith)) refl
-]
+below_no : (picked n x : ℕ) → has picked n ≡ false → (nat_lt x n && has picked x) ≡ (nat_lt x (n + 1) && has picked x)
+below_no picked n x e = grind (arith, nat_tests)
 
 sends_after : (f : ℕ → Option ℕ) (o : Option Station) → sends_of (option_map (hears f) o) ≡ sends_of o
 sends_after f None = refl
 sends_after f (Some s) = refl
 
 -- what the next place sends is what it had at first
-sends_still : (picked : ℕ) (n : ℕ) (old s : Pools) → n < 96 → AreEndedBelow picked n old s
+sends_still : {picked n : ℕ} {old s : Pools} → n < 96 → AreEndedBelow picked n old s
     → sends_of (slice_index_or s.slots n None) ≡ sends_of (slice_index_or old.slots n None)
-sends_still picked n old s l so =
-    ap sends_of (so.slots n l) ∙ rw (le-ltb n n (omega arith))
+sends_still {picked} {n} {old} l so = ap sends_of (so.slots n l) ∙ rw (le-ltb n n (omega arith))
     (sends_after (sent_below old.slots picked n) (slice_index_or old.slots n None))
 
-pub apply_yes : (picked : ℕ) (n : ℕ) (old s new : Pools) → n < 96 → has picked n ≡ true → AreEndedBelow picked n old s
-    → EndsIn (λ x. n == x) (only n (sends_of (slice_index_or s.slots n None))) s new
+pub apply_yes : {picked n : ℕ} {old s : Pools} (new : Pools) → n < 96 → has picked n ≡ true
+    → AreEndedBelow picked n old s → EndsIn (λ x. n == x) (only n (sends_of (slice_index_or s.slots n None))) s new
     → AreEndedBelow picked (n + 1) old new
-apply_yes picked n old s new l e so made =
+apply_yes {picked} {n} {old} {s} new l e so made =
     let m = made so.places in
-    let sent : sends_of (slice_index_or s.slots n None) ≡ sends_of (slice_index_or old.slots n None) =
-    sends_still picked n old s l so in
+    let sent = sends_still l so in
     record {
       places = m.places;
       slots = λ x k. m.slots x k ∙ (ap (after_ends (n == x) (only n (sends_of (slice_index_or s.slots n None))))
-          (so.slots x k)
-          ∙ (ends_then (nat_lt x n && has picked x) (n == x) (sent_below old.slots picked n)
+          (so.slots x k) ∙ (ends_then (nat_lt x n && has picked x) (n == x) (sent_below old.slots picked n)
           (only n (sends_of (slice_index_or s.slots n None))) (sent_below old.slots picked (n + 1))
           (slice_index_or old.slots x None)
-          (λ y. sent_yes old.slots picked n y (sends_of (slice_index_or s.slots n None)) e sent)
-          ∙ ap (λ b. after_ends b (sent_below old.slots picked (n + 1)) (slice_index_or old.slots x None))
+          (λ y. sent_yes old.slots picked n y (sends_of (slice_index_or s.slots n None)) e sent) ∙ ap
+          (λ b. after_ends b (sent_below old.slots picked (n + 1)) (slice_index_or old.slots x None))
           (below_yes picked n x e)));
       issue_numbers = m.issue_numbers ∙ so.issue_numbers;
     }
 
-pub apply_no : (picked : ℕ) (n : ℕ) (old s : Pools) → has picked n ≡ false → AreEndedBelow picked n old s
+pub apply_no : {picked n : ℕ} {old s : Pools} → has picked n ≡ false → AreEndedBelow picked n old s
     → AreEndedBelow picked (n + 1) old s
-apply_no picked n old s e so = record {
+apply_no {picked} {n} {old} e so = record {
   places = so.places;
   slots = λ x k. so.slots x k ∙ (ends_same (nat_lt x n && has picked x) (sent_below old.slots picked n)
       (sent_below old.slots picked (n + 1)) (slice_index_or old.slots x None) (λ y. sent_no old.slots picked n y e)
@@ -177,15 +124,14 @@ apply_no picked n old s e so = record {
   issue_numbers = so.issue_numbers;
 }
 
-pub hear_yes : (picked : ℕ) (n : ℕ) (old s : Pools) (first r new : RegStatus) → n < 96 → has picked n ≡ true
+pub hear_yes : {picked n : ℕ} {old s : Pools} (first r new : RegStatus) → n < 96 → has picked n ≡ true
     → AreEndedBelow picked n old s → Hears (sent_below old.slots picked n) first r
     → Hears (only n (sends_of (slice_index_or s.slots n None))) r new
     → Hears (sent_below old.slots picked (n + 1)) first new
-hear_yes picked n old s first r new l e so before made count status =
+hear_yes {picked} {n} {old} {s} first r new l e so before made count status =
     let b = before count status in
     let m = made b.count b.status in
-    let sent : sends_of (slice_index_or s.slots n None) ≡ sends_of (slice_index_or old.slots n None) =
-    sends_still picked n old s l so in
+    let sent = sends_still l so in
     record {
       count = m.count;
       status = m.status;

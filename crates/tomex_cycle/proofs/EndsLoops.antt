@@ -1,60 +1,23 @@
 -- What the loops of the end of a cycle have made so far.
 use Rattle.std.proofs.Common.{ℕ, ◌+◌, ◌<◌, ◌≤◌, ◌≡◌, ◌∙◌, Bool, true, false, arith, refl, List, Option, Some, None, ap}
 use Rattle.std.proofs.Common.{sym, inl, inr, length, slice_index, slice_index_or, slice_set, option_map}
-use Rattle.std.specs.Prelude.{nat_lt, if◌then◌else◌, ◌&&◌, ◌==◌}
-use Rattle.std.proofs.lemmas.Bool.{cases_Bool, lt-ltb, le-ltb, eqb-true, eqb-false}
-use Rattle.std.proofs.lemmas.Bool.{both_ways, ltb-true, ltb-false}
-use Rattle.std.proofs.lemmas.List.{get_or-set_same, get_or-set_other, length-set, get_or_past}
-use Rattle.tomex_timing.specs.Tables.{field_from}
-use Rattle.tomex_timing.specs.declared.tables.Field.{Field}
-use Rattle.tomex_timing.specs.declared.tables.Field.TheVariants.{Value, Waits, Unread}
-use Rattle.tomex_timing.specs.declared.tables.Tag.{Tag}
-use Rattle.tomex_steps.specs.Steps.{is_number}
-use Rattle.tomex_cycle.specs.Ends.{EndsIn, Hears, after_ends, sends_of, sent_below, AreEnded, AreNamed, HaveReceived}
-use Rattle.tomex_tags.specs.Contents.{hears}
-use Rattle.tomex_tags.specs.Operands.{heard, only, taken}
-use Rattle.tomex_tags.specs.Places.{place_at, place_of_tag}
-use Rattle.tomex_tags.specs.Pools.{Pools, HaveHeard}
-use Rattle.tomex_tags.specs.declared.register_status.RegStatus.{RegStatus}
-use Rattle.tomex_tags.specs.declared.station.Station.{Station}
-use Rattle.tomex_sets.specs.Sets.{has, IsWithout}
-use Rattle.tomex_sets.proofs.Members.{AreFrom, all_left, least_from, least_in, left_from, none_after, none_between}
-use Rattle.tomex_sets.proofs.Members.{skip_to}
+use Rattle.tomex_cycle.proofs.Words.{nat_lt, if◌then◌else◌, ◌&&◌, ◌==◌, cases_Bool, lt-ltb, le-ltb, eqb-true, eqb-false}
+use Rattle.tomex_cycle.proofs.Words.{nat_tests, ltb-true, ltb-false, get_or-set_same, get_or-set_other}
+use Rattle.tomex_cycle.proofs.Words.{length-set, get_or_past, field_from, Field, Value, Unread, Tag, is_number, EndsIn}
+use Rattle.tomex_cycle.proofs.Words.{Hears, after_ends, sends_of, sent_below, AreNamed, HaveReceived, hears, heard}
+use Rattle.tomex_cycle.proofs.Words.{only, taken, place_at, place_of_tag, Pools, RegStatus, Station, has, IsWithout}
+use Rattle.tomex_cycle.proofs.Words.{AreFrom, all_left, least_from, least_in, left_from, none_after, none_between}
+use Rattle.tomex_cycle.proofs.Words.{skip_to, dest_of, AreLow}
+use Rattle.tomex_timing.specs.declared.tables.Field.TheVariants.{Waits}
+use Rattle.tomex_cycle.specs.Ends.{AreEnded}
 use Rattle.tomex_tags.specs.Registers.{names, received}
-use Rattle.tomex_rvdec.specs.Operands.{dest_of}
-use Rattle.tomex_cycle.specs.Starts.{AreLow}
 use Rattle.tomex_cycle.proofs.EndsInTurn.{reg_field, AreEndedBelow, heard_yes, heard_no, apply_yes, apply_no, hear_yes}
 use Rattle.tomex_cycle.proofs.EndsInTurn.{hear_no}
 
 -- A place ends.
 
-none_heard : (p : ℕ) (f : Field) → heard (only p None) f ≡ f
-none_heard p (Value v) = refl
-none_heard p Unread = refl
-none_heard p (Waits tag) = by_place (p == place_of_tag tag)
-  where
-    by_place : (b : Bool) → taken (if b then None else None) tag ≡ Waits tag
-    by_place true = refl
-    by_place false = refl
-
 none_hears : (p : ℕ) (o : Option Station) → option_map (hears (only p None)) o ≡ o
-none_hears p None = refl
-none_hears p (Some s) =
-    let a : Field → Station = λ x. record s { j = x; k = heard (only p None) s.k } in
-    let b : Field → Station = λ x. record s { k = x } in
-    ap (λ (z : Station). Some z) (ap a (none_heard p s.j) ∙ ap b (none_heard p s.k))
-
--- nothing stands in the place
-pub ends_nothing : (p : ℕ) (st : Pools) → p < 96 → slice_index_or st.slots p None ≡ None
-    → EndsIn (λ x. p == x) (only p (sends_of (slice_index_or st.slots p None))) st st
-ends_nothing p st l none count = record {
-  places = count;
-  slots = λ x k. elim (cases_Bool (p == x)) [
-    | inl e ↦ let same : p ≡ x = eqb-true p x e in rw (e, ← same) none
-    | inr e ↦ rw (e, none) (sym (none_hears p (slice_index_or st.slots x None)))
-  ];
-  issue_numbers = refl;
-}
+none_hears p o = grind (arith, nat_tests)
 
 released_at : (xs : List (Option Station)) (p x : ℕ) → p < length xs → slice_index_or (slice_set xs p None) x None
     ≡ (if p == x then None else slice_index_or xs x None)
@@ -69,43 +32,12 @@ pub ends_silent : (p : ℕ) (old new : Pools) (s : Station) → p < 96 → slice
     → EndsIn (λ x. p == x) (only p (sends_of (slice_index_or old.slots p None))) old new
 ends_silent p old new s l here dest slots issue_numbers count = record {
   places = ap length slots ∙ (length-set old.slots p None ∙ count);
-  slots = λ x k. ap (λ xs. slice_index_or xs x None) slots
-      ∙ (released_at old.slots p x (omega arith) ∙ elim (cases_Bool (p == x)) [
-        | inl e ↦ rw e refl
-        | inr e ↦ rw (e, here, dest) (sym (none_hears p (slice_index_or old.slots x None)))
-      ]);
+  slots = λ x k. ap (λ xs. slice_index_or xs x None) slots ∙ (released_at old.slots p x (omega arith) ∙ grind
+      (arith, nat_tests, none_hears p (slice_index_or old.slots x None)));
   issue_numbers = issue_numbers;
 }
 
--- what has a destination is released and heard
-pub ends_sending : (p r : ℕ) (old middle new : Pools) (s : Station) → p < 96 → slice_index_or old.slots p None ≡ Some s
-    → dest_of s.instr ≡ Some r → middle.slots ≡ slice_set old.slots p None → middle.issue_numbers ≡ old.issue_numbers
-    → HaveHeard (only p (Some s.value)) middle new
-    → EndsIn (λ x. p == x) (only p (sends_of (slice_index_or old.slots p None))) old new
-ends_sending p r old middle new s l here dest slots issue_numbers heard_ count = record {
-  places = heard_.places;
-  slots = λ x k. heard_.slots x k
-      ∙ (ap (λ xs. option_map (hears (only p (Some s.value))) (slice_index_or xs x None)) slots
-      ∙ (ap (option_map (hears (only p (Some s.value)))) (released_at old.slots p x (omega arith))
-      ∙ elim (cases_Bool (p == x)) [
-        | inl e ↦ rw e refl
-        | inr e ↦ rw (e, here, dest) refl
-      ]));
-  issue_numbers = heard_.issue_numbers ∙ issue_numbers;
-}
-
 -- The register of its destination, where its Qi still names the place.
-
-none_received : (p : ℕ) (rg : RegStatus) → Hears (only p None) rg rg
-none_received p rg count status =
-    record { count = count; status = status; fields = λ r l. sym (none_heard p (reg_field rg.values rg.tags r)) }
-
-pub hears_nothing : (p : ℕ) (o : Option Station) (rg : RegStatus) → o ≡ None → Hears (only p (sends_of o)) rg rg
-hears_nothing p o rg e = rw e (none_received p rg)
-
-pub hears_silent : (p : ℕ) (o : Option Station) (s : Station) (rg : RegStatus) → o ≡ Some s → dest_of s.instr ≡ None
-    → Hears (only p (sends_of o)) rg rg
-hears_silent p o s rg e dest = rw (e, dest) (none_received p rg)
 
 received_hears : (p r v : ℕ) (rg : RegStatus) → r < 32 → ((q : ℕ) → q < 32 → names rg q p ≡ true → q ≡ r)
     → Hears (only p (Some v)) rg (received rg r p v)
@@ -113,10 +45,7 @@ received_hears p r v rg l named count status = elim (cases_Bool (names rg r p)) 
   | inr e ↦ rw e (record {
     count = count;
     status = status;
-    fields = λ q k. elim (cases_Bool (names rg q p)) [
-      | inr f ↦ sym (heard_no p v (slice_index rg.values q) (slice_index_or rg.tags q None) f)
-      | inl f ↦ absurd (both_ways (names rg r p) e (ap (λ (z : ℕ). names rg z p) (sym (named q k f)) ∙ f))
-    ];
+    fields = λ q k. grind (arith, nat_tests);
   })
   | inl e ↦ rw e (record {
     count = length-set rg.values r v ∙ count;
@@ -153,11 +82,7 @@ none_sent sent Unread none = refl
 none_sent sent (Waits tag) none = sym (ap (λ o. taken o tag) (none (place_of_tag tag)))
 
 none_ended : (sent : ℕ → Option ℕ) (o : Option Station) → ((y : ℕ) → sent y ≡ None) → o ≡ after_ends false sent o
-none_ended sent None none = refl
-none_ended sent (Some s) none =
-    let a : Field → Station = λ x. record s { j = x } in
-    let b : Field → Station = λ x. record s { j = heard sent s.j; k = x } in
-    ap (λ (z : Station). Some z) (ap a (none_sent sent s.j none) ∙ ap b (none_sent sent s.k none))
+none_ended sent o h2 = grind (arith, nat_tests)
 
 some_none : (s : Station) (o : Option Station) → o ≡ Some s → o ≡ None → ⊥
 some_none s o e f = cc
@@ -171,19 +96,13 @@ wait_sets xs x s count e = elim (cases_Bool (nat_lt x 96)) [
       absurd (some_none s (slice_index_or xs x None) e none)
 ]
 
-same_tag : (o : Option ℕ) (u t : Tag) (x : ℕ) → Waits t ≡ taken o u → is_number (place_at (Some t)) x ≡ true
-    → is_number (place_at (Some u)) x ≡ true
-same_tag None u t x e f = let g : t ≡ u = cc in rw (← g) f
-same_tag (Some v) u t x e f = absurd (cc)
-
 -- registers still name who they named
-named_still : (picked k : ℕ) (old s : Pools) (first r : RegStatus) → AreNamed old.slots first
+named_still : {picked k : ℕ} {old s : Pools} {first r : RegStatus} → AreNamed old.slots first
     → AreEndedBelow picked k old s → length s.slots ≡ 96 → HaveReceived (sent_below old.slots picked k) first r
     → AreNamed s.slots r
-named_still picked k old s first r named so count heard_ q x l e station here =
+named_still {picked} {k} {old} {s} {first} {r} named so count heard_ q x l e station here =
     let low : x < 96 = wait_sets s.slots x station count here in
-    let before : names first q x ≡ true =
-    named_by (sent_below old.slots picked k) (slice_index first.values q) (slice_index r.values q)
+    let before = named_by (sent_below old.slots picked k) (slice_index first.values q) (slice_index r.values q)
     (slice_index_or first.tags q None) (slice_index_or r.tags q None) x (heard_.fields q l) e in
     let from = stood (nat_lt x k && has picked x) (sent_below old.slots picked k) (slice_index_or old.slots x None)
     station (sym (so.slots x low) ∙ here) in
@@ -192,15 +111,11 @@ named_still picked k old s first r named so count heard_ q x l e station here =
   where
     stood : (b : Bool) (sent : ℕ → Option ℕ) (o : Option Station) (s : Station) → after_ends b sent o ≡ Some s
         → (z : Station) × (o ≡ Some z) × (s.instr ≡ z.instr)
-    stood true sent o s e = absurd (cc)
-    stood false sent None s e = absurd (cc)
-    stood false sent (Some z) s e = let f : hears sent z ≡ s = cc in (z, refl, ap (λ (y : Station). y.instr) (sym f))
+    stood b sent o s e = grind (arith, nat_tests)
 
     named_by : (sent : ℕ → Option ℕ) (a b : ℕ) (p q : Option Tag) (x : ℕ) → field_from b q ≡ heard sent (field_from a p)
         → is_number (place_at q) x ≡ true → is_number (place_at p) x ≡ true
-    named_by sent a b p None x e f = absurd (cc)
-    named_by sent a b None (Some t) x e f = absurd (cc)
-    named_by sent a b (Some u) (Some t) x e f = same_tag (sent (place_of_tag u)) u t x e f
+    named_by sent a b p q x e f = grind (arith, nat_tests)
 
 -- The loop over the places that end, the least first.
 
@@ -219,66 +134,60 @@ first_applied picked st rg count = record {
   high = omega arith;
   stations = record {
     places = count;
-    slots =
-        λ x l. none_ended (sent_below st.slots picked 0) (slice_index_or st.slots x None)
-        (λ y. rw (le-ltb y 0 (omega arith)) refl)
-        ∙ sym (ap (λ b. after_ends (b && has picked x) (sent_below st.slots picked 0) (slice_index_or st.slots x None))
+    slots = λ x l. none_ended (sent_below st.slots picked 0) (slice_index_or st.slots x None)
+        (λ y. rw (le-ltb y 0 (omega arith)) refl) ∙ sym (ap
+        (λ b. after_ends (b && has picked x) (sent_below st.slots picked 0) (slice_index_or st.slots x None))
         (le-ltb x 0 (omega arith)));
     issue_numbers = refl;
   };
   registers = λ named n m. record {
     count = n;
     status = m;
-    fields =
-        λ r l. none_sent (sent_below st.slots picked 0) (reg_field rg.values rg.tags r)
+    fields = λ r l. none_sent (sent_below st.slots picked 0) (reg_field rg.values rg.tags r)
         (λ y. rw (le-ltb y 0 (omega arith)) refl);
   };
 }
 
 -- one place more
-pub one_applied : (picked rest left x : ℕ) (old s new : Pools) (first r status : RegStatus) → AreLow picked
-    → AreApplied picked rest old s first r → x < 128 → has rest x ≡ true → ((i : ℕ) → i < x → has rest i ≡ false)
-    → IsWithout rest x left
+pub one_applied : {picked rest left x : ℕ} {old s : Pools} (new : Pools) {first r : RegStatus} (status : RegStatus)
+    → AreLow picked → AreApplied picked rest old s first r → x < 128 → has rest x ≡ true
+    → ((i : ℕ) → i < x → has rest i ≡ false) → IsWithout rest x left
     → EndsIn (λ y. x == y) (only x (sends_of (slice_index_or s.slots x None))) s new
     → (AreNamed s.slots r → Hears (only x (sends_of (slice_index_or s.slots x None))) r status)
     → AreApplied picked left old new first status
-one_applied picked rest left x old s new first r status low so small member least without ends hears_ =
+one_applied {picked} {rest} {left} {x} {old} {s} new {first} {r} status low so small member least without ends hears_ =
     let from : so.k ≤ x = least_from picked rest so.k x so.from small member in
     let pick : has picked x ≡ true = least_in picked rest so.k x so.from small member in
     let below : x < 96 = low x small pick in
-    let none : (j : ℕ) → so.k ≤ j → j < x → has picked j ≡ false =
-    none_between picked rest so.k x so.from small least in
+    let none = none_between picked rest so.k x so.from small least in
     let here : AreEndedBelow picked x old s =
-    skip_to (λ j. AreEndedBelow picked j old s) picked so.k x from none (λ j e b. apply_no picked j old s e b)
-    so.stations in
+    skip_to (λ j. AreEndedBelow picked j old s) picked so.k x from none (λ j e b. apply_no e b) so.stations in
     record {
       k = x + 1;
       from = left_from picked rest left so.k x so.from small member least without;
       high = omega arith;
-      stations = apply_yes picked x old s new below pick here ends;
+      stations = apply_yes new below pick here ends;
       registers = λ named count tags.
-          let heard_ : Hears (sent_below old.slots picked x) first r =
-          skip_to (λ j. Hears (sent_below old.slots picked j) first r) picked so.k x from none
+          let heard_ = skip_to (λ j. Hears (sent_below old.slots picked j) first r) picked so.k x from none
           (λ j e b. hear_no picked j old first r e b) (so.registers named) in
-          hear_yes picked x old s first r status below pick here heard_
-          (hears_ (named_still picked x old s first r named here here.places (heard_ count tags))) count tags;
+          hear_yes first r status below pick here heard_
+          (hears_ (named_still named here here.places (heard_ count tags))) count tags;
     }
 
-pub all_applied : (picked rest : ℕ) (old s : Pools) (first r : RegStatus) → AreLow picked
-    → AreApplied picked rest old s first r → rest ≡ 0 → AreEndedBelow picked 96 old s
-    × (AreNamed old.slots first → Hears (sent_below old.slots picked 96) first r)
-all_applied picked rest old s first r low so empty =
+pub all_applied : {picked rest : ℕ} {old s : Pools} {first r : RegStatus} → AreLow picked
+    → AreApplied picked rest old s first r → rest ≡ 0
+    → AreEndedBelow picked 96 old s × (AreNamed old.slots first → Hears (sent_below old.slots picked 96) first r)
+all_applied {picked} {rest} {old} {s} {first} {r} low so empty =
     let none : (j : ℕ) → so.k ≤ j → j < 96 → has picked j ≡ false =
     λ j from to. none_after picked rest so.k so.from empty j from (omega arith) in (
-      skip_to (λ j. AreEndedBelow picked j old s) picked so.k 96 so.high none (λ j e b. apply_no picked j old s e b)
-          so.stations,
+      skip_to (λ j. AreEndedBelow picked j old s) picked so.k 96 so.high none (λ j e b. apply_no e b) so.stations,
       λ named. skip_to (λ j. Hears (sent_below old.slots picked j) first r) picked so.k 96 so.high none
           (λ j e b. hear_no picked j old first r e b) (so.registers named),
     )
 
-pub ended_below : (picked : ℕ) (old new : Pools) → AreEndedBelow picked 96 old new
+pub ended_below : {picked : ℕ} {old new : Pools} → AreEndedBelow picked 96 old new
     → AreEnded (λ x. has picked x) (sent_below old.slots picked 96) old new
-ended_below picked old new so = record {
+ended_below {picked} {old} so = record {
   places = so.places;
   slots = λ x l. so.slots x l ∙ ap
       (λ b. after_ends (b && has picked x) (sent_below old.slots picked 96) (slice_index_or old.slots x None))

@@ -1,35 +1,21 @@
 -- What ends in a cycle: the recurrence's test, by the buses that are left.
 use Rattle.std.proofs.Common.{ℕ, ◌+◌, ◌<◌, ◌≤◌, ◌≡◌, ◌∙◌, Bool, true, false, arith, refl, List, [], ◌∷◌, ◌++◌, Option}
 use Rattle.std.proofs.Common.{Some, None, ap, sym, inl, inr, ◌⊎◌, append_assoc, slice_index_or}
-use Rattle.std.specs.Prelude.{nat_lt, nat_le, if◌then◌else◌, ◌&&◌, ◌||◌, ◌==◌, is_some, count_by, MatchOption, not}
-use Rattle.std.specs.Bool.{MatchBool}
-use Rattle.std.proofs.lemmas.Bool.{cases_Bool, cases_order, ltb-true, ltb-false, lt-ltb, le-ltb, leb-false, le-leb}
-use Rattle.std.proofs.lemmas.Bool.{lt-leb, and_parts, eq-eqb, eqb-true, eqb-false, ne_eqb, both_ways}
-use Rattle.tomex_image.specs.Image.{Loaded}
-use Rattle.tomex_config.specs.Configuration.{Configuration, IsWithinLimits}
-use Rattle.tomex_rvdec.specs.declared.pool.PoolId.{PoolId}
-use Rattle.tomex_rvdec.specs.Operands.{unit_at}
-use Rattle.tomex_steps.specs.Steps.{is_number, step_dest, step_pool}
-use Rattle.tomex_timing.specs.declared.times.Done.{Done}
-use Rattle.tomex_timing.specs.Recurrence.{AreTimed, IsLeast, can_end}
-use Rattle.tomex_timing.specs.Tables.{tag_at}
-use Rattle.tomex_cycle.specs.Run.{AreIssuedBy}
-use Rattle.tomex_cycle.specs.Views.{clocks, holds_place, order_of, place_of, station_at, station_of, ShowsStations}
-use Rattle.tomex_cycle.specs.Ends.{is_finished_by, AreEnding, can_send, ends_alone}
-use Rattle.tomex_membuf.specs.Order.{is_finished_before}
-use Rattle.tomex_cycle.proofs.AddressChosen.{some_none_of}
+use Rattle.tomex_cycle.proofs.Words.{nat_lt, nat_le, if◌then◌else◌, ◌&&◌, ◌||◌, ◌==◌, is_some, count_by, MatchOption}
+use Rattle.tomex_cycle.proofs.Words.{nat_tests, not, MatchBool, cases_Bool, ltb-true, ltb-false, lt-ltb, and_parts}
+use Rattle.tomex_cycle.proofs.Words.{eq-eqb, eqb-true, ne_eqb, both_ways, Loaded, Configuration, IsWithinLimits, PoolId}
+use Rattle.tomex_cycle.proofs.Words.{unit_at, is_number, step_dest, step_pool, Done, AreTimed, IsLeast, can_end, tag_at}
+use Rattle.tomex_cycle.proofs.Words.{AreIssuedBy, clocks, holds_place, order_of, place_of, station_at, station_of}
+use Rattle.tomex_cycle.proofs.Words.{ShowsStations, is_finished_by, AreEnding, can_send, ends_alone, is_finished_before}
+use Rattle.tomex_cycle.proofs.Words.{place_at, Pools, AreBusy, Station, has, IsInIssueOrder}
 use Rattle.tomex_cycle.proofs.Addresses.{number_is_some}
 use Rattle.tomex_cycle.proofs.Places.{place_low, is_vacant, vacant, least_test, low, station_here}
-use Rattle.tomex_cycle.proofs.Fields.{dest_later, timed_part}
-use Rattle.tomex_cycle.proofs.Totals.{place_there, reach}
-use Rattle.tomex_tags.specs.Places.{place_at}
-use Rattle.tomex_tags.specs.Pools.{Pools, AreBusy}
-use Rattle.tomex_tags.specs.declared.station.Station.{Station}
-use Rattle.tomex_sets.specs.Sets.{has}
-use Rattle.tomex_bus.specs.Picks.{IsInIssueOrder}
+use Rattle.tomex_cycle.proofs.Fields.{timed_part}
+use Rattle.tomex_cycle.proofs.Totals.{reach}
 use Rattle.tomex_cycle.proofs.Serving.{AreServed, Serves, goes_at, picked_goes}
 use Rattle.tomex_cycle.proofs.Orders.{order_is}
 use Rattle.tomex_cycle.proofs.StartsPicked.{all_alone}
+use Rattle.tomex_cycle.proofs.Truth.{or_false, and_false}
 
 -- whether a step ends in the cycle that has its station in the place
 abbrev pub ends_in : ℕ → List Done → ℕ → Bool
@@ -39,14 +25,6 @@ ends_in u (d ∷ older) x = (is_number (place_of d) x && (d.at.end == u)) || end
 -- it sends its result in the cycle
 abbrev pub sends_in : ℕ → Done → Bool
 sends_in u d = is_some (step_dest d.step) && (d.at.end == u)
-
-or_false : (a : Bool) → (a || false) ≡ a
-or_false true = refl
-or_false false = refl
-
-and_false : (a : Bool) → (a && false) ≡ false
-and_false true = refl
-and_false false = refl
 
 -- The test of a turn.
 
@@ -66,64 +44,48 @@ clause_false B C true e h = absurd (cc)
 
 before_is : (u start finish : ℕ) → start ≤ finish → is_finished_before (if nat_le start u then Some finish else None) u
     ≡ nat_lt finish u
-before_is u start finish l = elim (cases_Bool (nat_le start u)) [
-  | inl e ↦ rw e refl
-  | inr e ↦ let k : u < start = leb-false start u e in rw (e, le-ltb finish u (omega arith)) refl
-]
+before_is u start finish l = grind (arith, nat_tests)
 
 by_is : (u start finish : ℕ) → start ≤ finish → is_finished_by (if nat_le start u then Some finish else None) u
     ≡ nat_le finish u
-by_is u start finish l = elim (cases_Bool (nat_le start u)) [
-  | inl e ↦ rw e refl
-  | inr e ↦ let k : u < start = leb-false start u e in rw (e, lt-leb finish u (omega arith)) refl
-]
+by_is u start finish l = grind (arith, nat_tests)
 
 last_is : (t u end : ℕ) → u ≡ t + 1 → t < end → nat_le end u ≡ (end == u)
-last_is t u end e l = elim (cases_Bool (end == u)) [
-  | inl k ↦ let f : end ≡ u = eqb-true end u k in rw (k, le-leb end u (omega arith)) refl
-  | inr k ↦ let f : end ≡ u → ⊥ = eqb-false end u k in elim (cases_order end u) [
-    | inl z ↦ absurd (f z)
-    | inr (inl z) ↦ absurd (omega arith)
-    | inr (inr z) ↦ rw (k, lt-leb end u z) refl
-  ]
-]
+last_is t u end e l = grind (arith, nat_tests)
 
 -- whether a busy step ends, as its station shows it
-one_ends : (i : Loaded) (config : Configuration) (t u p : ℕ) (d : Done) (older : List Done) → IsWithinLimits config
+one_ends : (i : Loaded) {config : Configuration} (t u p : ℕ) (d : Done) (older : List Done) → IsWithinLimits config
     → AreTimed config (d ∷ older) → place_of d ≡ Some p → u ≡ t + 1 → t < d.at.end
     → (sends_in u d || ends_alone u (Some (station_of i (clocks u u t) d older))) ≡ (d.at.end == u)
-one_ends i config t u p d older good timed place next late =
-    let l : d.at.start ≤ d.at.finish = (reach config d older good timed).order in
+one_ends i {config} t u p d older good timed place next late =
+    let l : d.at.start ≤ d.at.finish = (reach d older good timed).order in
     elim (cases_Bool (is_some (step_dest d.step))) [
       | inl dest ↦ rw dest (or_false (d.at.end == u))
       | inr dest ↦
           let clause = end_clause (step_pool d.step) d.at.station p (d.at.end ≡ d.at.issue)
           (IsLeast (can_end config older d.at.finish) d.at.end) (d.at.end ≡ d.at.finish)
           (is_some (step_dest d.step)) place timed.0.end in
-          let same : d.at.end ≡ d.at.finish =
-          clause_false (IsLeast (can_end config older d.at.finish) d.at.end) (d.at.end ≡ d.at.finish)
-          (is_some (step_dest d.step)) dest clause in
+          let same : d.at.end ≡ d.at.finish = clause_false (IsLeast (can_end config older d.at.finish) d.at.end)
+          (d.at.end ≡ d.at.finish) (is_some (step_dest d.step)) dest clause in
           let done : is_finished_by (if nat_le d.at.start u then Some d.at.finish else None) u ≡ (d.at.end == u) =
           by_is u d.at.start d.at.finish l ∙ (ap (λ k. nat_le k u) (sym same) ∙ last_is t u d.at.end next late) in
           rw (dest, done) refl
     ]
 
 -- whether it sends: the recurrence's test
-one_sends : (config : Configuration) (t u p : ℕ) (d : Done) (older : List Done) → IsWithinLimits config
+one_sends : {config : Configuration} (t u p : ℕ) (d : Done) (older : List Done) → IsWithinLimits config
     → AreTimed config (d ∷ older) → place_of d ≡ Some p → u ≡ t + 1 → t < d.at.end
     → sends_in u d ≡ ((is_some (step_dest d.step) && nat_lt d.at.finish u) && nat_lt (count_by (sends_in u) older)
     config.buses)
-one_sends config t u p d older good timed place next late = elim (cases_Bool (is_some (step_dest d.step))) [
+one_sends {config} t u p d older good timed place next late = elim (cases_Bool (is_some (step_dest d.step))) [
   | inr dest ↦ rw dest refl
   | inl dest ↦
       let clause = end_clause (step_pool d.step) d.at.station p (d.at.end ≡ d.at.issue)
       (IsLeast (can_end config older d.at.finish) d.at.end) (d.at.end ≡ d.at.finish) (is_some (step_dest d.step))
       place timed.0.end in
-      let least : IsLeast (can_end config older d.at.finish) d.at.end =
-      clause_true (IsLeast (can_end config older d.at.finish) d.at.end) (d.at.end ≡ d.at.finish)
+      let least = clause_true (IsLeast (can_end config older d.at.finish) d.at.end) (d.at.end ≡ d.at.finish)
       (is_some (step_dest d.step)) dest clause in
-      let test : can_end config older d.at.finish u ≡ (d.at.end == u) =
-      least_test (can_end config older d.at.finish) d.at.end u least (omega arith) in
+      let test = least_test (can_end config older d.at.finish) d.at.end u least (omega arith) in
       rw dest (sym test)
 ]
 
@@ -134,13 +96,9 @@ option_cases None = inl refl
 option_cases (Some p) = inr (p, refl)
 
 -- what holds no station sends nothing
-no_dest : (config : Configuration) (d : Done) (older : List Done) → IsWithinLimits config → AreTimed config (d ∷ older)
+no_dest : {config : Configuration} (d : Done) (older : List Done) → IsWithinLimits config → AreTimed config (d ∷ older)
     → place_of d ≡ None → is_some (step_dest d.step) ≡ false
-no_dest config d older good timed e = elim (cases_Bool (is_some (step_dest d.step))) [
-  | inr k ↦ k
-  | inl k ↦ absurd (some_none_of 0 (place_of d)
-      (place_there config d older timed.0 (dest_later config d older good timed k)) e)
-]
+no_dest d older good timed e = grind (arith, nat_tests)
 
 -- a place that is held is one of the 96, and the state shows the station
 pub slot_here : (i : Loaded) (config : Configuration) (t u p : ℕ) (st : Pools) (h newer : List Done) (d : Done)
@@ -153,31 +111,29 @@ slot_here i config t u p st h newer d older good timed issued next shown e place
     let part : AreTimed config (d ∷ older) = timed_part config newer (d ∷ older) here in
     let held : holds_place t p d ≡ true = rw (place, lt-ltb t d.at.end late, eq-eqb p p refl) refl in
     let small : p < 96 = place_low (step_pool d.step) d.at.station p (low config (d ∷ older) good part).0 place in
-    let there : station_at i (clocks u u t) (newer ++ (d ∷ older)) p ≡ Some (station_of i (clocks u u t) d older) =
-    station_here i config (clocks u u t) newer d older p good here (rw next at by) held in
+    let there = station_here i (clocks u u t) newer d older p good here (rw next at by) held in
     (small, shown.slots p small ∙ (ap (λ xs. station_at i (clocks u u t) xs p) e ∙ there))
 
 -- the busy steps whose results are ready are served by the recurrence
-send_serves : (i : Loaded) (config : Configuration) (t u ready : ℕ) (st : Pools) (h newer : List Done) (d : Done)
-    (older : List Done) → IsWithinLimits config → AreTimed config h → AreIssuedBy u h → u ≡ t + 1
+send_serves : {i : Loaded} {config : Configuration} (t u ready : ℕ) {st : Pools} {h : List Done} (newer : List Done)
+    (d : Done) (older : List Done) → IsWithinLimits config → AreTimed config h → AreIssuedBy u h → u ≡ t + 1
     → ShowsStations i (clocks u u t) h st → AreBusy st.slots st.busy st.issue_numbers
-    → ((x : ℕ) → x < 128 → has ready x ≡ (has st.busy x && can_send u (slice_index_or st.slots x None))) → h ≡ newer
-    ++ (d ∷ older) → Serves t config.buses ready (sends_in u) d older
-send_serves i config t u ready st h newer d older good timed issued next shown filled said e =
+    → ((x : ℕ) → x < 128 → has ready x ≡ (has st.busy x && can_send u (slice_index_or st.slots x None)))
+    → h ≡ newer ++ (d ∷ older) → Serves t config.buses ready (sends_in u) d older
+send_serves {i} {config} t u ready {st} {h} newer d older good timed issued next shown filled said e =
     let part : AreTimed config (d ∷ older) = timed_part config newer (d ∷ older) (rw e at timed) in
     record {
       idle = λ l. let k : d.at.end ≤ t = ltb-false _ _ l in
           rw (ne_eqb d.at.end u (λ (z : d.at.end ≡ u). absurd (omega arith))) (and_false (is_some (step_dest d.step)));
-      nowhere = λ none. rw (no_dest config d older good part none) refl;
+      nowhere = λ none. rw (no_dest d older good part none) refl;
       ready = λ x held.
           let two = and_parts (is_number (place_of d) x) (nat_lt t d.at.end) held in
           let late : t < d.at.end = ltb-true _ _ two.1 in
           let place : place_of d ≡ Some x = number_is_some (place_of d) x two.0 in
           let there = slot_here i config t u x st h newer d older good timed issued next shown e place late in
-          let l : d.at.start ≤ d.at.finish = (reach config d older good part).order in
-          let small : x < 96 = there.0 in
+          let l : d.at.start ≤ d.at.finish = (reach d older good part).order in
           let busy : has st.busy x ≡ true = filled.each x (omega arith) ∙ ap is_some there.1 in
-          one_sends config t u x d older good part place next late
+          one_sends t u x d older good part place next late
           ∙ sym (ap (λ b. b && nat_lt (count_by (sends_in u) older) config.buses) (said x (omega arith)
           ∙ rw (busy, there.1, before_is u d.at.start d.at.finish l) refl));
     }
@@ -189,7 +145,7 @@ all_send : (i : Loaded) (config : Configuration) (t u ready : ℕ) (st : Pools) 
     ++ part → AreServed t config.buses ready (sends_in u) part
 all_send i config t u ready st h newer [] good timed issued next shown filled said e = tt
 all_send i config t u ready st h newer (d ∷ older) good timed issued next shown filled said e = (
-  send_serves i config t u ready st h newer d older good timed issued next shown filled said e,
+  send_serves t u ready newer d older good timed issued next shown filled said e,
   all_send i config t u ready st h (newer ++ (d ∷ [])) older good timed issued next shown filled said
       (e ∙ sym (append_assoc newer (d ∷ []) older)),
 )
@@ -207,26 +163,24 @@ idle_ends t u x (d ∷ older) e free = elim (cases_Bool (is_number (place_of d) 
 ]
 
 -- what sends and what ends alone end in the cycle
-both_end : (i : Loaded) (config : Configuration) (t u x : ℕ) (h : List Done) → IsWithinLimits config → AreTimed config h
-    → AreIssuedBy u h → u ≡ t + 1 → (goes_at t (sends_in u) h x || ends_alone u (station_at i (clocks u u t) h x))
-    ≡ ends_in u h x
-both_end i config t u x [] good timed issued next = refl
-both_end i config t u x (d ∷ older) good timed issued next =
-    let before = both_end i config t u x older good timed.1 issued.1 next in
+both_end : (i : Loaded) {config : Configuration} (t u x : ℕ) (h : List Done) → IsWithinLimits config → AreTimed config h
+    → AreIssuedBy u h → u ≡ t + 1
+    → (goes_at t (sends_in u) h x || ends_alone u (station_at i (clocks u u t) h x)) ≡ ends_in u h x
+both_end i t u x [] good timed issued next = refl
+both_end i t u x (d ∷ older) good timed issued next =
+    let before = both_end i t u x older good timed.1 issued.1 next in
     elim (cases_Bool (holds_place t x d)) [
       | inl held ↦
           let two = and_parts (is_number (place_of d) x) (nat_lt t d.at.end) held in
           let place : place_of d ≡ Some x = number_is_some (place_of d) x two.0 in
           let late : t < d.at.end = ltb-true _ _ two.1 in
-          let free : is_vacant t x older ≡ true =
-          vacant config d older t x good timed (let l : d.at.issue ≤ u = issued.0 in omega arith) two.0 in
-          rw (held, two.0, idle_ends t u x older next free) (one_ends i config t u x d older good timed place next late
+          let free = vacant d older t x good timed (let l : d.at.issue ≤ u = issued.0 in omega arith) two.0 in
+          rw (held, two.0, idle_ends t u x older next free) (one_ends i t u x d older good timed place next late
           ∙ sym (or_false (d.at.end == u)))
       | inr held ↦ elim (cases_Bool (is_number (place_of d) x)) [
         | inr at ↦ rw (held, at) before
         | inl at ↦
-            let over : nat_lt t d.at.end ≡ false =
-            elim (cases_Bool (nat_lt t d.at.end))
+            let over : nat_lt t d.at.end ≡ false = elim (cases_Bool (nat_lt t d.at.end))
             [ inr l ↦ l | inl l ↦ absurd (both_ways (holds_place t x d) held (rw (at, l) refl)) ] in
             let k : d.at.end ≤ t = ltb-false _ _ over in
             rw (held, at, ne_eqb d.at.end u (λ (z : d.at.end ≡ u). absurd (omega arith))) before
@@ -238,22 +192,17 @@ and_alone None u = refl
 and_alone (Some s) u = refl
 
 -- the places that end are those whose steps end
-pub ending_is : (i : Loaded) (config : Configuration) (t u x : ℕ) (st : Pools) (h : List Done) (ending : ℕ)
+pub ending_is : {i : Loaded} {config : Configuration} (t : ℕ) {u : ℕ} (x : ℕ) {st : Pools} {h : List Done} {ending : ℕ}
     → IsWithinLimits config → AreTimed config h → AreIssuedBy u h → u ≡ t + 1 → ShowsStations i (clocks u u t) h st
     → AreBusy st.slots st.busy st.issue_numbers → AreEnding st config.buses u ending → x < 96
     → has ending x ≡ ends_in u h x
-ending_is i config t u x st h ending good timed issued next shown filled ends l =
+ending_is {i} {config} t {u} x {st} {h} good timed issued next shown filled ends l =
     let more : AreIssuedBy (t + 1) h = rw next at issued in
-    let by : IsInIssueOrder st.busy st.issue_numbers (order_of t h) =
-    order_is i config (clocks u u t) h st good timed more shown filled in
-    let sends : has ends.sending x ≡ goes_at t (sends_in u) h x =
-    picked_goes t config.buses st.busy ends.unsent ends.sending st.issue_numbers (sends_in u) h by
-    (λ y m k. (and_parts (has st.busy y) (can_send u (slice_index_or st.slots y None)) (sym (ends.are_unsent y m)
-    ∙ k)).0) ends.sent
-    (all_send i config t u ends.unsent st h [] h good timed issued next shown filled ends.are_unsent refl)
-    (all_alone config t (sends_in u) h good timed more) x (omega arith) in
-    let alone : (has st.busy x && ends_alone u (slice_index_or st.slots x None))
-    ≡ ends_alone u (station_at i (clocks u u t) h x) =
-    ap (λ b. b && ends_alone u (slice_index_or st.slots x None)) (filled.each x (omega arith))
+    let by : IsInIssueOrder st.busy st.issue_numbers (order_of t h) = order_is good timed more shown filled in
+    let sends : has ends.sending x ≡ goes_at t (sends_in u) h x = picked_goes t (sends_in u) h by (λ y m k.
+    (and_parts (has st.busy y) (can_send u (slice_index_or st.slots y None)) (sym (ends.are_unsent y m) ∙ k)).0)
+    ends.sent (all_send i config t u ends.unsent st h [] h good timed issued next shown filled ends.are_unsent refl)
+    (all_alone t (sends_in u) h good timed more) x (omega arith) in
+    let alone = ap (λ b. b && ends_alone u (slice_index_or st.slots x None)) (filled.each x (omega arith))
     ∙ (and_alone (slice_index_or st.slots x None) u ∙ ap (ends_alone u) (shown.slots x l)) in
-    ends.all x (omega arith) ∙ (rw (sends, alone) (both_end i config t u x h good timed issued next))
+    ends.all x (omega arith) ∙ (rw (sends, alone) (both_end i t u x h good timed issued next))

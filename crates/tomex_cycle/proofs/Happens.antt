@@ -1,43 +1,25 @@
 -- What a phase or a station shows is an event of the cycle.
 use Rattle.std.proofs.Common.{ℕ, ◌+◌, ◌^◌, ◌<◌, ◌≤◌, ◌≡◌, ◌∙◌, Bool, true, false, arith, refl, List, [], ◌∷◌, ◌++◌}
 use Rattle.std.proofs.Common.{Option, Some, None, ap, sym, inl, inr, ◌⊎◌, append_assoc, slice_index_or, length, max}
-use Rattle.std.specs.Prelude.{◌≢◌, nat_lt, nat_le, ◌&&◌, ◌==◌, if◌then◌else◌, is_some, not}
-use Rattle.std.specs.Int.{w128, trailing_zeros}
-use Rattle.std.proofs.lemmas.Nat.Bits.{bit_at-trailing_zeros, bit_at_above}
-use Rattle.std.proofs.lemmas.List.{get_or_past}
-use Rattle.std.proofs.lemmas.Bool.{cases_Bool, both_ways, and_parts, eq-eqb, eqb-true, ne_eqb, ltb-true, ltb-false}
-use Rattle.tomex_image.specs.Image.{Loaded, IsLoaded}
-use Rattle.tomex_config.specs.Configuration.{Configuration, IsWithinLimits}
-use Rattle.tomex_rvexec.specs.declared.outcome.EndKind.{EndKind}
-use Rattle.tomex_rvexec.specs.Machine.{State}
-use Rattle.tomex_rvexec.specs.Run.{RunEnds}
-use Rattle.tomex_steps.specs.Steps.{is_number, j_of, step_pool, step_unit}
-use Rattle.tomex_timing.specs.declared.tables.Field.{Field}
-use Rattle.tomex_timing.specs.declared.tables.Field.TheVariants.{Value, Waits, Unread}
-use Rattle.tomex_timing.specs.declared.times.Done.{Done}
-use Rattle.tomex_timing.specs.declared.times.Times.{Times}
-use Rattle.tomex_timing.specs.History.{cycle_of, greatest_end, is_memory, last_address}
-use Rattle.tomex_timing.specs.Recurrence.{AreTimed}
-use Rattle.tomex_timing.specs.Tables.{field_of}
-use Rattle.tomex_sets.specs.Sets.{has}
-use Rattle.tomex_sets.proofs.Bits.{has_one, has_none}
-use Rattle.tomex_cycle.specs.Ends.{AreDone, AreEnding, finishes}
-use Rattle.tomex_cycle.specs.Events.{events_in, events_of}
-use Rattle.tomex_cycle.specs.Phases.{AddressHappens, EndsHappen, IsSnapshot, IsYetToIssue, MakesStarts, StartsHappen}
+use Rattle.std.specs.Int.{trailing_zeros}
+use Rattle.tomex_cycle.proofs.Words.{◌≢◌, nat_lt, nat_le, ◌&&◌, ◌==◌, if◌then◌else◌, is_some, not, w128, nat_tests}
+use Rattle.tomex_cycle.proofs.Words.{bit_at-trailing_zeros, get_or_past, cases_Bool, both_ways, and_parts, eq-eqb}
+use Rattle.tomex_cycle.proofs.Words.{eqb-true, ne_eqb, ltb-true, ltb-false, Loaded, Configuration, IsWithinLimits}
+use Rattle.tomex_cycle.proofs.Words.{is_number, j_of, step_pool, step_unit, Field, Value, Unread, Done, Times, cycle_of}
+use Rattle.tomex_cycle.proofs.Words.{greatest_end, is_memory, last_address, AreTimed, field_of, has, has_one, AreDone}
+use Rattle.tomex_cycle.proofs.Words.{AreEnding, finishes, events_in, IsSnapshot, IsYetToIssue, MakesStarts}
+use Rattle.tomex_cycle.proofs.Words.{IsInIssueOrder, Fetch, Bytes, Fault, RegStatus, AreIssuedBy, IsHistory}
+use Rattle.tomex_cycle.proofs.Words.{first_timed, RunEndsAfter, IsStarting, Clocks, clocks, holds_place, order_of}
+use Rattle.tomex_cycle.proofs.Words.{place_of, station_at, station_of, ShowsStations, has_base, is_value, is_there}
+use Rattle.tomex_cycle.proofs.Words.{AreBusy, Pools, Station}
+use Rattle.tomex_timing.specs.declared.tables.Field.TheVariants.{Waits}
+use Rattle.tomex_cycle.specs.Events.{events_of}
+use Rattle.tomex_cycle.specs.Phases.{AddressHappens, EndsHappen, StartsHappen}
 use Rattle.tomex_cycle.proofs.Cycles.{IsUnderWay}
 use Rattle.tomex_cycle.proofs.Shifting.{run_split}
 use Rattle.tomex_cycle.proofs.Orders.{order_is}
 use Rattle.tomex_cycle.proofs.Addresses.{waiting_is}
-use Rattle.tomex_bus.specs.Picks.{IsInIssueOrder}
-use Rattle.tomex_cycle.proofs.IssueOrder.{first_waiting, next_address, where_base_is_there}
-use Rattle.tomex_cycle.specs.declared.fetch.Fetch.{Fetch}
-use Rattle.tomex_steps.specs.Memory.{Bytes}
-use Rattle.tomex_rvexec.specs.declared.outcome.Fault.{Fault}
-use Rattle.tomex_tags.specs.declared.register_status.RegStatus.{RegStatus}
-use Rattle.tomex_cycle.specs.Run.{AreIssuedBy, IsHistory, first_timed}
-use Rattle.tomex_cycle.specs.Starts.{IsStarting}
-use Rattle.tomex_cycle.specs.Views.{Clocks, clocks, holds_place, order_of, place_of, station_at, station_of}
-use Rattle.tomex_cycle.specs.Views.{ShowsStations}
+use Rattle.tomex_cycle.proofs.IssueOrder.{next_address, where_base_is_there}
 use Rattle.tomex_cycle.proofs.AddressChosen.{chosen, holds_by, none_waits, not_le, or_else, test_is, waits_for_address}
 use Rattle.tomex_cycle.proofs.EndsFetch.{ending_low}
 use Rattle.tomex_cycle.proofs.EndsPass.{ending_is, ends_in}
@@ -47,10 +29,6 @@ use Rattle.tomex_cycle.proofs.Quiet.{AllQuiet}
 use Rattle.tomex_cycle.proofs.Runs.{rest_to, run_history}
 use Rattle.tomex_cycle.proofs.StartsPicked.{starting_is, starts_at}
 use Rattle.tomex_cycle.proofs.Totals.{issued_more}
-use Rattle.tomex_membuf.specs.Addresses.{has_base, is_value}
-use Rattle.tomex_tags.specs.Operands.{is_there}
-use Rattle.tomex_tags.specs.Pools.{AreBusy, Pools}
-use Rattle.tomex_tags.specs.declared.station.Station.{Station}
 
 -- One event.
 
@@ -77,8 +55,7 @@ quiet_none u (d ∷ h) quiet = rw (
   ne_eqb d.at.start u quiet.0.start,
   ne_eqb d.at.finish u quiet.0.finish,
   ne_eqb d.at.end u quiet.0.end,
-)
-    (let z : events_in u h ≡ 0 = quiet_none u h quiet.1 in omega arith)
+) (let z : events_in u h ≡ 0 = quiet_none u h quiet.1 in omega arith)
 
 pub events_older : (u : ℕ) (newer h : List Done) → events_in u h ≤ events_in u (newer ++ h)
 events_older u [] h = omega arith
@@ -96,10 +73,7 @@ over_happens u (d ∷ h) l e = elim (cases_Bool (d.at.end == u)) [
 ]
   where
     rest : (a b u : ℕ) → max a b ≡ u → (a == u) ≡ false → b ≡ u
-    rest a b u e k = elim (cases_Bool (nat_lt a b)) [
-      | inl l ↦ let m : a < b = ltb-true a b l in omega arith
-      | inr l ↦ let m : b ≤ a = ltb-false a b l in absurd (both_ways (a == u) k (eq-eqb a u (omega arith)))
-    ]
+    rest a b u e f = grind (arith, nat_tests)
 
 -- Starts.
 
@@ -118,22 +92,16 @@ pub member_of : (set : ℕ) → set < 2 ^ 128 → set ≢ 0 → (x : ℕ) × (x 
 member_of set fits some =
     let one = bit_at-trailing_zeros w128 set (omega arith) fits in
     let here : has set (trailing_zeros w128 set) ≡ true = has_one set (trailing_zeros w128 set) one.1 in
-    let small : trailing_zeros w128 set < 128 = elim (cases_Bool (nat_lt (trailing_zeros w128 set) 128)) [
-      | inl l ↦ ltb-true _ _ l
-      | inr l ↦ absurd (both_ways (has set (trailing_zeros w128 set))
-          (has_none set (trailing_zeros w128 set)
-          (bit_at_above set 128 (trailing_zeros w128 set) fits (ltb-false _ _ l))) here)
-    ] in
+    let small : trailing_zeros w128 set < 128 = grind (arith, nat_tests) in
     (trailing_zeros w128 set, small, here)
 
-pub start_happens : (i : Loaded) (config : Configuration) (t u : ℕ) (st : Pools) (h : List Done) (starting : ℕ)
+pub start_happens : {i : Loaded} {config : Configuration} (t : ℕ) {u : ℕ} {st : Pools} {h : List Done} {starting : ℕ}
     → IsHistory i config h → AreIssuedBy t h → ShowsStations i (clocks t t t) h st
     → AreBusy st.slots st.busy st.issue_numbers → IsStarting config st u starting → u ≡ t + 1 → starting < 2 ^ 128
     → starting ≢ 0 → 0 < events_in u h
-start_happens i config t u st h starting past issued shown filled begins e fits some =
+start_happens t {u} {h} {starting} past issued shown filled begins e fits some =
     let x = member_of starting fits some in
-    starts_happen t u x.0 h (sym (starting_is i config t u x.0 st h starting past.lawful past.timed issued shown filled
-    begins e x.1) ∙ x.2)
+    starts_happen t u x.0 h (sym (starting_is t x.0 past.lawful past.timed issued shown filled begins e x.1) ∙ x.2)
 
 -- Ends.
 
@@ -147,22 +115,19 @@ ends_happen u x (d ∷ h) e = elim (cases_Bool (is_number (place_of d) x && (d.a
   | inr k ↦ let more : 0 < events_in u h = ends_happen u x h (rw k at e) in omega arith
 ]
 
-pub end_happens : (i : Loaded) (config : Configuration) (t u : ℕ) (st : Pools) (h : List Done) (ending : ℕ)
+pub end_happens : {i : Loaded} {config : Configuration} (t u : ℕ) {st : Pools} {h : List Done} (ending : ℕ)
     → IsHistory i config h → AreIssuedBy u h → ShowsStations i (clocks u u t) h st
     → AreBusy st.slots st.busy st.issue_numbers → AreEnding st config.buses u ending → u ≡ t + 1 → ending < 2 ^ 128
     → ending ≢ 0 → 0 < events_in u h
-end_happens i config t u st h ending past issued shown filled ends e fits some =
+end_happens {config} t u {st} {h} ending past issued shown filled ends e fits some =
     let x = member_of ending fits some in
-    ends_happen u x.0 h (sym (ending_is i config t u x.0 st h ending past.lawful past.timed issued e shown filled ends
+    ends_happen u x.0 h (sym (ending_is t x.0 past.lawful past.timed issued e shown filled ends
     (ending_low st config.buses u ending ends filled x.0 x.1 x.2)) ∙ x.2)
 
 -- Finishes.
 
 done_in : (c start finish v : ℕ) → is_number (if nat_le start c then Some finish else None) v ≡ true → finish ≡ v
-done_in c start finish v e = elim (cases_Bool (nat_le start c)) [
-  | inl l ↦ let f : (finish == v) ≡ true = rw l at e in eqb-true finish v f
-  | inr l ↦ let f : false ≡ true = rw l at e in absurd (cc)
-]
+done_in c start finish v e = grind (arith, nat_tests)
 
 pub finish_happens : (i : Loaded) (c : Clocks) (v x : ℕ) (h : List Done) → finishes v (station_at i c h x) ≡ true
     → 0 < events_in v h
@@ -178,9 +143,9 @@ finish_happens i c v x (d ∷ h) e = elim (cases_Bool (holds_place c.end x d)) [
 pub not_zero : (n : ℕ) → not (n == 0) ≡ true → n ≢ 0
 not_zero n e z = let f : false ≡ true = rw (eq-eqb n 0 z) at e in absurd (cc)
 
-pub due_happens : (i : Loaded) (t u : ℕ) (st : Pools) (h : List Done) (due : ℕ) → ShowsStations i (clocks u u t) h st
+pub due_happens : {i : Loaded} (t u : ℕ) {st : Pools} {h : List Done} (due : ℕ) → ShowsStations i (clocks u u t) h st
     → AreDone st.slots u due → due < 2 ^ 128 → due ≢ 0 → 0 < events_in u h
-due_happens i t u st h due shown done fits some =
+due_happens {i} t u {st} {h} due shown done fits some =
     let x = member_of due fits some in
     let finishes_now : finishes u (slice_index_or st.slots x.0 None) ≡ true = sym (done x.0 x.1) ∙ x.2 in
     let low : x.0 < 96 = elim (cases_Bool (nat_lt x.0 96)) [
@@ -192,12 +157,11 @@ due_happens i t u st h due shown done fits some =
 
 -- Issues.
 
-pub issue_happens : (i : Loaded) (config : Configuration) (n t u count more : ℕ) (s : State) (kind : EndKind)
-    → IsWithinLimits config → RunEnds i n s kind → u ≡ t + 1 → (count ≤ n → IsYetToIssue i config count t)
-    → count ≤ more → more ≤ n + 1 → more ≢ count → AreIssuedBy u (first_timed config i more)
-    → 0 < events_in u (first_timed config i more)
-issue_happens i config n t u count more s kind good ends e yet l few apart issued =
-    let rest = rest_to config i n count more t s kind good ends yet l few in
+pub issue_happens : {i : Loaded} {config : Configuration} {n : ℕ} (t u count more : ℕ) → RunEndsAfter i config n
+    → u ≡ t + 1 → (count ≤ n → IsYetToIssue i config count t) → count ≤ more → more ≤ n + 1 → more ≢ count
+    → AreIssuedBy u (first_timed config i more) → 0 < events_in u (first_timed config i more)
+issue_happens {i} {config} t u count more run e yet l few apart issued =
+    let rest = rest_to count more t run yet l few in
     rw rest.1.same (some_issue t u rest.0 (first_timed config i count) e rest.1.later (rw rest.1.same at issued)
     (let c : more ≡ length rest.0 + count = rest.1.count in omega arith))
   where
@@ -205,8 +169,6 @@ issue_happens i config n t u count more s kind good ends e yet l few apart issue
         → AreIssuedBy u (newer ++ h) → 0 < length newer → 0 < events_in u (newer ++ h)
     some_issue t u [] h e later issued l = absurd (omega arith)
     some_issue t u (d ∷ newer) h e later issued l =
-        let a : t < d.at.issue = later.0 in
-        let b : d.at.issue ≤ u = issued.0 in
         let one : 0 < events_of u d.at = issue_event u d.at (omega arith) in
         omega arith
 
@@ -244,15 +206,13 @@ chosen_happens i config t u x st h newer (d ∷ older) good timed issued e shown
           let by : AreIssuedBy t (newer ++ (d ∷ older)) = rw split at issued in
           let part : AreTimed config (d ∷ older) = timed_part config newer (d ∷ older) here in
           let mine : AreIssuedBy t (d ∷ older) = issued_part t newer (d ∷ older) by in
-          let last : last_address older ≤ t = none_waits config t older good part.1 mine.1 f in
-          let test = test_is config t u d older part.0 part.1 mine e b.0 last late in
+          let last : last_address older ≤ t = none_waits t older good part.1 mine.1 f in
+          let test = test_is t u d part.0 part.1 mine e b.0 last late in
           let held : holds_place t x d ≡ true = holds_by t x d place w in
           let small : x < 96 = place_low (step_pool d.step) d.at.station x (low config (d ∷ older) good part).0 place in
-          let there : station_at i (clocks u t t) (newer ++ (d ∷ older)) x ≡ Some (station_of i (clocks u t t) d older)
-          = station_here i config (clocks u t t) newer d older x good here
+          let there = station_here i (clocks u t t) newer d older x good here
           (issued_more t (t + 1) (newer ++ (d ∷ older)) (omega arith) by) held in
-          let slot : slice_index_or st.slots x None ≡ Some (station_of i (clocks u t t) d older) =
-          shown.slots x small ∙ (ap (λ xs. station_at i (clocks u t t) xs x) split ∙ there) in
+          let slot = shown.slots x small ∙ (ap (λ xs. station_at i (clocks u t t) xs x) split ∙ there) in
           let value : is_value (field_of t older (j_of d.step)) ≡ true = ap has_base (sym slot) ∙ base in
           let at : cycle_of d.at.address ≡ u =
           eqb-true _ _ (sym test ∙ there_by (field_of t older (j_of d.step)) value) in
@@ -265,64 +225,47 @@ pub address_happens : (next x : ℕ) (old : Pools) → AreBusy old.slots old.bus
     → ((order : List ℕ) → IsInIssueOrder old.busy old.issue_numbers order → Some x ≡ next_address old.slots order)
     → AddressHappens next old
 address_happens next x old filled some i config h t e past issued shown =
-    let by : IsInIssueOrder old.busy old.issue_numbers (order_of t h) =
-    order_is i config (clocks next t t) h old past.lawful past.timed (issued_more t (t + 1) h (omega arith) issued)
-    shown filled in
-    let waits : first_waiting old.slots (order_of t h) ≡ chosen t h =
-    waiting_is i config t next old h [] h past.lawful past.timed issued shown refl in
+    let by = order_is past.lawful past.timed (issued_more t (t + 1) h (omega arith) issued) shown filled in
+    let waits = waiting_is i config t next old h [] h past.lawful past.timed issued shown refl in
     let found = here old.slots (chosen t h) (rw waits at (some (order_of t h) by)) in
     chosen_happens i config t next x old h [] h past.lawful past.timed issued e shown refl found.0 found.1
   where
     here : (slots : List (Option Station)) (o : Option ℕ) → Some x ≡ where_base_is_there slots o → (o ≡ Some x)
         × (has_base (slice_index_or slots x None) ≡ true)
-    here slots None e = absurd (cc)
-    here slots (Some y) e = elim (cases_Bool (has_base (slice_index_or slots y None))) [
-      | inl k ↦
-          let f : Some x ≡ Some y = rw k at e in
-          let g : y ≡ x = cc in
-          (sym f, ap (λ (z : ℕ). has_base (slice_index_or slots z None)) (sym g) ∙ k)
-      | inr k ↦ let z : Some x ≡ None = rw k at e in absurd (cc)
-    ]
+    here slots o e = grind (arith, nat_tests)
 
 -- what happens in a part of a run happens in the run
-pub run_happens : (config : Configuration) (i : Loaded) (n k u : ℕ) (s : State) (kind : EndKind) → RunEnds i n s kind
-    → k ≤ n + 1 → 0 < events_in u (first_timed config i k) → 0 < events_in u (first_timed config i (n + 1))
-run_happens config i n k u s kind ends l some =
-    let part = run_split config i n k (n + 1) s kind ends l (omega arith) in
-    let more : events_in u (first_timed config i k) ≤ events_in u (part.0 ++ first_timed config i k) =
-    events_older u part.0 (first_timed config i k) in
+pub run_happens : {config : Configuration} {i : Loaded} {n : ℕ} (k u : ℕ) → RunEndsAfter i config n → k ≤ n + 1
+    → 0 < events_in u (first_timed config i k) → 0 < events_in u (first_timed config i (n + 1))
+run_happens {config} {i} {n} k u run l some =
+    let part = run_split k (n + 1) run l (omega arith) in
+    let more = events_older u part.0 (first_timed config i k) in
     rw part.1 (omega arith)
 
 -- a cycle whose phases tell of something has an event
-pub cycle_happens : (i : Loaded) (config : Configuration) (n t next count c : ℕ) (s : State) (kind : EndKind)
-    (fault : Option Fault) (any addressed ended : Bool)
-    (st0 st1 st3 : Pools) (rg0 rg1 : RegStatus) (ft0 ft1 : Fetch) (m0 m1 : Bytes)
+pub cycle_happens : {i : Loaded} {config : Configuration} {n t next count c : ℕ} {fault : Option Fault}
+    {any addressed ended : Bool} {st0 st1 st3 : Pools} {rg0 rg1 : RegStatus} {ft0 ft1 : Fetch} {m0 m1 : Bytes}
     → MakesStarts config next st0 m0 fault st1 m1 → (any ≡ true → StartsHappen config next st0)
     → (addressed ≡ true → AddressHappens next st1) → (ended ≡ true → EndsHappen config next st3)
-    → IsUnderWay i config n t next count c fault st3 rg1 ft1 m1 → RunEnds i n s kind → next ≡ t + 1
-    → IsWithinLimits config → IsLoaded i.window i.memory i.entry → IsSnapshot i config n t count st0 rg0 ft0 m0
+    → IsUnderWay i config n t next count c fault st3 rg1 ft1 m1 → RunEndsAfter i config n → next ≡ t + 1
+    → IsSnapshot i config n t count st0 rg0 ft0 m0
     → (any ≡ true) ⊎ ((addressed ≡ true) ⊎ ((c ≢ count) ⊎ (ended ≡ true)))
     → 0 < events_in next (first_timed config i (n + 1))
-cycle_happens i config n t next count c s kind fault any addressed ended st0 st1 st3 rg0 rg1 ft0 ft1 m0 m1 starts a b d
-    on ends e good loaded old which =
+cycle_happens {i} {config} {n} {t} {next} {count} {c} starts a b d on run e old which =
     let few : count ≤ n + 1 = old.issue.few in
-    let h0 : IsHistory i config (first_timed config i count) =
-    run_history config i n count s kind good loaded ends few in
+    let h0 : IsHistory i config (first_timed config i count) = run_history count run few in
     elim which [
-      | inl k ↦ run_happens config i n count next s kind ends few
-          (a k i (first_timed config i count) t e h0 old.issue.issued old.issue.slots)
+      | inl k ↦ run_happens count next run few (a k i (first_timed config i count) t e h0 old.issue.issued
+          old.issue.slots)
       | inr other ↦ elim other [
         | inl k ↦
             let made = starts i (first_timed config i count) t e h0 old.issue.issued old.issue.slots old.bytes in
-            run_happens config i n count next s kind ends few
-            (b k i config (first_timed config i count) t e h0 old.issue.issued made.1)
+            run_happens count next run few (b k i config (first_timed config i count) t e h0 old.issue.issued made.1)
         | inr other ↦ elim other [
-          | inl k ↦ run_happens config i n c next s kind ends on.after.few
-              (issue_happens i config n t next count c s kind good ends e old.issue.next on.low on.after.few k
-              on.after.issued)
-          | inr k ↦ run_happens config i n c next s kind ends on.after.few
-              (d k i (first_timed config i c) t e (run_history config i n c s kind good loaded ends on.after.few)
-              on.after.issued on.after.slots)
+          | inl k ↦ run_happens c next run on.after.few (issue_happens t next count c run e old.issue.next on.low
+              on.after.few k on.after.issued)
+          | inr k ↦ run_happens c next run on.after.few (d k i (first_timed config i c) t e
+              (run_history c run on.after.few) on.after.issued on.after.slots)
         ]
       ]
     ]

@@ -1,26 +1,16 @@
 -- A search by issue order finds what a pass over the busy places, the oldest first, finds.
 use Rattle.std.proofs.Common.{ℕ, ◌<◌, ◌≤◌, ◌≡◌, ◌∙◌, Bool, true, false, arith, refl, ap, sym, inl, inr, List, [], ◌∷◌}
 use Rattle.std.proofs.Common.{◌++◌, Option, Some, None, slice_index, slice_index_or}
-use Rattle.std.specs.Prelude.{◌==◌, Decides, if◌then◌else◌, is_some}
-use Rattle.std.proofs.lemmas.Bool.{cases_Bool, both_ways, eq-eqb, eqb-true, or_right}
-use Rattle.tomex_sets.specs.Sets.{has}
-use Rattle.tomex_bus.specs.Picks.{IsInIssueOrder, Rises, is_listed}
-use Rattle.tomex_tags.specs.declared.station.Station.{Station}
-use Rattle.tomex_tags.specs.Contents.{bytes_in, lacks_address}
-use Rattle.tomex_tags.specs.Pools.{AreBusy}
-use Rattle.tomex_tags.specs.WaitSets.{has_address}
-use Rattle.tomex_membuf.specs.Addresses.{has_base, IsNextAddress, IsOldestLacking}
-use Rattle.tomex_membuf.specs.Order.{HasAtMostOneAccess, IsClear, lets_pass}
+use Rattle.std.specs.Prelude.{Decides}
+use Rattle.tomex_cycle.proofs.Words.{◌==◌, if◌then◌else◌, is_some, cases_Bool, both_ways, eqb-true, has, IsInIssueOrder}
+use Rattle.tomex_cycle.proofs.Words.{Rises, is_listed, Station, bytes_in, lacks_address, AreBusy, has_address, has_base}
+use Rattle.tomex_cycle.proofs.Words.{lets_pass, is_clear}
+use Rattle.tomex_membuf.specs.Addresses.{IsNextAddress, IsOldestLacking}
+use Rattle.tomex_membuf.specs.Order.{HasAtMostOneAccess, IsClear}
 use Rattle.tomex_membuf.proofs.Older.{lets_no_address, lets_none}
-use Rattle.tomex_cycle.specs.Starts.{is_clear}
+use Rattle.tomex_bus.proofs.Listings.{in_head, in_tail}
 
 -- Lists that rise.
-
-in_here : (x : ℕ) (xs : List ℕ) → is_listed (x ∷ xs) x ≡ true
-in_here x xs = rw (eq-eqb x x refl) refl
-
-in_behind : (x y : ℕ) (xs : List ℕ) → is_listed xs y ≡ true → is_listed (x ∷ xs) y ≡ true
-in_behind x y xs h = rw h (or_right (x == y) true refl)
 
 -- the middle of a list that rises is older than what is behind it, and younger than what is before
 pub older_in : (issue_numbers older younger : List ℕ) (x y : ℕ) → Rises issue_numbers (older ++ (x ∷ younger))
@@ -38,8 +28,8 @@ older_in issue_numbers (z ∷ older) younger x y rises h l = elim (cases_Bool (z
 ]
 
 middle_in : (older younger : List ℕ) (x : ℕ) → is_listed (older ++ (x ∷ younger)) x ≡ true
-middle_in [] younger x = in_here x younger
-middle_in (z ∷ older) younger x = in_behind z x (older ++ (x ∷ younger)) (middle_in older younger x)
+middle_in [] younger x = in_head x younger
+middle_in (z ∷ older) younger x = in_tail z x (older ++ (x ∷ younger)) (middle_in older younger x)
 
 pub older_before : (issue_numbers older younger : List ℕ) (x y : ℕ) → Rises issue_numbers (older ++ (x ∷ younger))
     → is_listed older y ≡ true → slice_index issue_numbers y < slice_index issue_numbers x
@@ -63,7 +53,7 @@ all_clear : (slots : List (Option Station)) (xs : List ℕ) (s : Station) (next 
     → is_clear slots xs s next ≡ true
 all_clear slots [] s next each = refl
 all_clear slots (x ∷ xs) s next each =
-    rw (each x (in_here x xs), all_clear slots xs s next (λ y h. each y (in_behind x y xs h))) refl
+    rw (each x (in_head x xs), all_clear slots xs s next (λ y h. each y (in_tail x y xs h))) refl
 
 not_clear : (slots : List (Option Station)) (xs : List ℕ) (s : Station) (next y : ℕ) → is_listed xs y ≡ true
     → lets_pass (slice_index_or slots y None) s next ≡ false → is_clear slots xs s next ≡ false
@@ -87,17 +77,18 @@ lets_free : (o : Option Station) (s : Station) (next : ℕ) → is_some o ≡ fa
 lets_free None s next e = refl
 lets_free (Some other) s next e = let z : true ≡ false = e in absurd (cc)
 
-clear_by : (slots : List (Option Station)) (busy : ℕ) (issue_numbers older younger : List ℕ) (place : ℕ) (s : Station)
-    (next : ℕ) → IsInIssueOrder busy issue_numbers (older ++ (place ∷ younger))
+clear_by : (slots : List (Option Station)) {busy : ℕ} {issue_numbers : List ℕ} (older younger : List ℕ) (place : ℕ)
+    (s : Station) (next : ℕ) → IsInIssueOrder busy issue_numbers (older ++ (place ∷ younger))
     → IsClear slots issue_numbers place s next → is_clear slots older s next ≡ true
-clear_by slots busy issue_numbers older younger place s next by each = all_clear slots older s next (λ x h.
+clear_by slots {issue_numbers} older younger place s next by each = all_clear slots older s next (λ x h.
     let inside : is_listed (older ++ (place ∷ younger)) x ≡ true = part_in older younger place x h in
     each x (by.low x inside) (older_before issue_numbers older younger place x by.rises h))
 
-clear_all : (slots : List (Option Station)) (busy : ℕ) (issue_numbers older younger : List ℕ) (place : ℕ) (s : Station)
-    (next : ℕ) → AreBusy slots busy issue_numbers → IsInIssueOrder busy issue_numbers (older ++ (place ∷ younger))
-    → is_clear slots older s next ≡ true → IsClear slots issue_numbers place s next
-clear_all slots busy issue_numbers older younger place s next filled by clear x l less = elim
+clear_all : {slots : List (Option Station)} {busy : ℕ} {issue_numbers : List ℕ} (older younger : List ℕ) (place : ℕ)
+    (s : Station) (next : ℕ) → AreBusy slots busy issue_numbers
+    → IsInIssueOrder busy issue_numbers (older ++ (place ∷ younger)) → is_clear slots older s next ≡ true
+    → IsClear slots issue_numbers place s next
+clear_all {slots} {busy} {issue_numbers} older younger place s next filled by clear x l less = elim
     (cases_Bool (has busy x)) [
       | inr e ↦ lets_free (slice_index_or slots x None) s next (sym (filled.each x l) ∙ e)
       | inl e ↦ let_by slots older s next x clear
@@ -105,17 +96,16 @@ clear_all slots busy issue_numbers older younger place s next filled by clear x 
     ]
 
 -- no older one is in its way just where none of a listing in issue order is
-pub clear_is : (b : Bool) (slots : List (Option Station)) (busy : ℕ) (issue_numbers older younger : List ℕ) (place : ℕ)
-    (s : Station) (next : ℕ) → AreBusy slots busy issue_numbers
+pub clear_is : (b : Bool) {slots : List (Option Station)} {busy : ℕ} {issue_numbers : List ℕ} (older younger : List ℕ)
+    (place : ℕ) (s : Station) (next : ℕ) → AreBusy slots busy issue_numbers
     → IsInIssueOrder busy issue_numbers (older ++ (place ∷ younger))
     → Decides b (IsClear slots issue_numbers place s next) → b ≡ is_clear slots older s next
-clear_is true slots busy issue_numbers older younger place s next filled by says =
-    sym (clear_by slots busy issue_numbers older younger place s next by (says.0 refl))
-clear_is false slots busy issue_numbers older younger place s next filled by says = elim
-    (cases_Bool (is_clear slots older s next)) [
-      | inr e ↦ sym e
-      | inl e ↦ says.1 (clear_all slots busy issue_numbers older younger place s next filled by e) ∙ sym e
-    ]
+clear_is true {slots} older younger place s next filled by says =
+    sym (clear_by slots older younger place s next by (says.0 refl))
+clear_is false {slots} older younger place s next filled by says = elim (cases_Bool (is_clear slots older s next)) [
+  | inr e ↦ sym e
+  | inl e ↦ says.1 (clear_all older younger place s next filled by e) ∙ sym e
+]
 
 -- a station with no access waits for none
 pub no_access : (slots : List (Option Station)) (xs : List ℕ) (s : Station) (next : ℕ) → bytes_in s ≡ None
@@ -124,13 +114,12 @@ no_access slots [] s next e = refl
 no_access slots (x ∷ xs) s next e = rw (lets_none (slice_index_or slots x None) s next e) (no_access slots xs s next e)
 
 -- the one access with an address is in no way but its own
-pub alone_clear : (slots : List (Option Station)) (busy : ℕ) (issue_numbers older younger : List ℕ) (place next : ℕ)
-    (s : Station) → HasAtMostOneAccess slots → place < 128 → slice_index_or slots place None ≡ Some s
-    → has_address (Some s) ≡ true
-    → IsInIssueOrder busy issue_numbers (older ++ (place ∷ younger)) → is_clear slots older s next ≡ true
-alone_clear slots busy issue_numbers older younger place next s single l here access by =
-    clear_by slots busy issue_numbers older younger place s next by
-    (λ x low less. elim (cases_Bool (has_address (slice_index_or slots x None))) [
+pub alone_clear : (slots : List (Option Station)) {busy : ℕ} {issue_numbers : List ℕ} (older younger : List ℕ)
+    (place next : ℕ) (s : Station) → HasAtMostOneAccess slots → place < 128 → slice_index_or slots place None ≡ Some s
+    → has_address (Some s) ≡ true → IsInIssueOrder busy issue_numbers (older ++ (place ∷ younger))
+    → is_clear slots older s next ≡ true
+alone_clear slots {issue_numbers} older younger place next s single l here access by = clear_by slots older younger
+    place s next by (λ x low less. elim (cases_Bool (has_address (slice_index_or slots x None))) [
       | inr e ↦ lets_no_address (slice_index_or slots x None) s next e
       | inl e ↦
           let same : x ≡ place = single x place low l e (ap has_address here ∙ access) in
@@ -157,7 +146,7 @@ none_waits : (slots : List (Option Station)) (xs : List ℕ)
     → ((x : ℕ) → is_listed xs x ≡ true → lacks_address (slice_index_or slots x None) ≡ false)
     → first_waiting slots xs ≡ None
 none_waits slots [] each = refl
-none_waits slots (x ∷ xs) each = rw (each x (in_here x xs)) (none_waits slots xs (λ y h. each y (in_behind x y xs h)))
+none_waits slots (x ∷ xs) each = rw (each x (in_head x xs)) (none_waits slots xs (λ y h. each y (in_tail x y xs h)))
 
 oldest_waits : (slots : List (Option Station)) (issue_numbers xs : List ℕ) (x : ℕ) → Rises issue_numbers xs
     → is_listed xs x ≡ true → lacks_address (slice_index_or slots x None) ≡ true
@@ -168,11 +157,10 @@ oldest_waits slots issue_numbers (z ∷ zs) x rises h e least = elim (cases_Bool
   | inl k ↦ let same : z ≡ x = eqb-true z x k in rw (same, e) refl
   | inr k ↦ elim (cases_Bool (lacks_address (slice_index_or slots z None))) [
     | inl m ↦
-        let older : slice_index issue_numbers x ≤ slice_index issue_numbers z = least z (in_here z zs) m in
+        let older : slice_index issue_numbers x ≤ slice_index issue_numbers z = least z (in_head z zs) m in
         let younger : slice_index issue_numbers z < slice_index issue_numbers x = rises.0 x (rw k at h) in
         absurd (omega arith)
-    | inr m ↦ rw m (oldest_waits slots issue_numbers zs x rises.1 (rw k at h) e
-        (λ y i l. least y (in_behind z y zs i) l))
+    | inr m ↦ rw m (oldest_waits slots issue_numbers zs x rises.1 (rw k at h) e (λ y i l. least y (in_tail z y zs i) l))
   ]
 ]
 
@@ -180,26 +168,24 @@ lacks_busy : (o : Option Station) → lacks_address o ≡ true → is_some o ≡
 lacks_busy None e = e
 lacks_busy (Some s) e = refl
 
-first_is : (slots : List (Option Station)) (busy : ℕ) (issue_numbers order : List ℕ) (x : ℕ)
+first_is : {slots : List (Option Station)} {busy : ℕ} {issue_numbers order : List ℕ} {x : ℕ}
     → AreBusy slots busy issue_numbers → IsInIssueOrder busy issue_numbers order → IsOldestLacking slots issue_numbers x
     → first_waiting slots order ≡ Some x
-first_is slots busy issue_numbers order x filled by oldest =
-    let busy_there : has busy x ≡ true =
-    filled.each x oldest.low ∙ lacks_busy (slice_index_or slots x None) oldest.lacks in
+first_is {slots} {busy} {issue_numbers} {order} {x} filled by oldest =
+    let busy_there = filled.each x oldest.low ∙ lacks_busy (slice_index_or slots x None) oldest.lacks in
     oldest_waits slots issue_numbers order x by.rises (sym (by.members x oldest.low) ∙ busy_there) oldest.lacks
     (λ y h e. oldest.oldest y (by.low y h) e)
 
 -- the next address is the next of a listing in issue order
-pub next_in_order : (slots : List (Option Station)) (busy : ℕ) (issue_numbers order : List ℕ) (next : Option ℕ)
+pub next_in_order : {slots : List (Option Station)} {busy : ℕ} {issue_numbers order : List ℕ} (next : Option ℕ)
     → AreBusy slots busy issue_numbers → IsInIssueOrder busy issue_numbers order
     → IsNextAddress slots issue_numbers next → next ≡ next_address slots order
-next_in_order slots busy issue_numbers order (Some x) filled by is =
-    let first : first_waiting slots order ≡ Some x = first_is slots busy issue_numbers order x filled by is.0 in
+next_in_order {slots} {order} (Some x) filled by is =
+    let first : first_waiting slots order ≡ Some x = first_is filled by is.0 in
     sym (ap (where_base_is_there slots) first ∙ rw is.1 refl)
-next_in_order slots busy issue_numbers order None filled by (inl none) =
+next_in_order {slots} {order} None filled by (inl none) =
     let first : first_waiting slots order ≡ None = none_waits slots order (λ x h. none x (by.low x h)) in
     sym (ap (where_base_is_there slots) first)
-next_in_order slots busy issue_numbers order None filled by (inr waits) =
-    let first : first_waiting slots order ≡ Some waits.0 =
-    first_is slots busy issue_numbers order waits.0 filled by waits.1 in
+next_in_order {slots} {order} None filled by (inr waits) =
+    let first : first_waiting slots order ≡ Some waits.0 = first_is filled by waits.1 in
     sym (ap (where_base_is_there slots) first ∙ rw waits.2 refl)

@@ -1,131 +1,65 @@
 -- What the issue of a step makes of the stations, the register status and fetch.
-use Rattle.std.proofs.Common.{ℕ, ◌+◌, ◌<◌, ◌≤◌, ◌≡◌, ◌∙◌, Bool, true, false, arith, refl, List, ◌∷◌, Option, Some, None}
+use Rattle.std.proofs.Common.{ℕ, ◌+◌, ◌<◌, ◌≤◌, ◌≡◌, ◌∙◌, Bool, true, arith, refl, List, ◌∷◌, Option, Some, None}
 use Rattle.std.proofs.Common.{ap, sym, inl, inr, length, slice_index_or, slice_set}
-use Rattle.std.specs.Prelude.{nat_lt, nat_le, ◌&&◌, ◌==◌, if◌then◌else◌, slice_index, option_map, IfSome, MatchOption}
-use Rattle.std.proofs.lemmas.Bool.{cases_Bool, ltb-true, lt-ltb, lt-leb, and_parts, eqb-true, eqb-false}
-use Rattle.std.proofs.lemmas.List.{get_or-set_same, get_or-set_other, length-set}
-use Rattle.tomex_image.specs.Image.{Loaded}
-use Rattle.tomex_config.specs.Configuration.{Configuration, IsWithinLimits}
-use Rattle.tomex_rvdec.specs.declared.op.Form.{Form}
-use Rattle.tomex_rvdec.specs.declared.op.Form.TheVariants as forms
-use Rattle.tomex_rvdec.specs.declared.pool.PoolId.{PoolId}
+use Rattle.tomex_cycle.proofs.Words.{nat_lt, nat_le, ◌&&◌, ◌==◌, if◌then◌else◌, slice_index, option_map, IfSome}
+use Rattle.tomex_cycle.proofs.Words.{nat_tests, MatchOption, cases_Bool, ltb-true, lt-ltb, lt-leb, and_parts, eqb-true}
+use Rattle.tomex_cycle.proofs.Words.{eqb-false, get_or-set_same, get_or-set_other, length-set, Loaded, Configuration}
+use Rattle.tomex_cycle.proofs.Words.{IsWithinLimits, Form, PoolId, Instruction, form_of, sources_at, sources_of, Step}
+use Rattle.tomex_cycle.proofs.Words.{end_of, result_of, byte_after, register_after, address_of, is_branch, is_in}
+use Rattle.tomex_cycle.proofs.Words.{is_number, j_of, k_of, operand, step_dest, step_pool, dest_needs_pool, Field, Tag}
+use Rattle.tomex_cycle.proofs.Words.{Done, cycle_of, is_memory, AreTimed, IsTimed, IsLeast, can_issue}
+use Rattle.tomex_cycle.proofs.Words.{is_free, field_of, tag_at, tag_of, unsent_tag, issue_from, Fetch, IsYetToIssue}
+use Rattle.tomex_cycle.proofs.Words.{first_timed, steps_in, Clocks, ShowsRegisters, ShowsStations, clocks, fetch_after}
+use Rattle.tomex_cycle.proofs.Words.{fetch_of, place_of, station_at, station_of, issue_number_at, place_at, issued}
+use Rattle.tomex_cycle.proofs.Words.{Pools, operand_in, tags_with, RegStatus, Station}
 use Rattle.tomex_rvdec.specs.declared.pool.PoolId.TheVariants as pools
-use Rattle.tomex_rvdec.specs.declared.pool.UnitId.{UnitId}
-use Rattle.tomex_rvdec.specs.Instruction.{Instruction}
-use Rattle.tomex_rvdec.specs.Meaning.{form_of}
-use Rattle.tomex_rvdec.specs.Operands.{sources_at, sources_of, unit_at}
-use Rattle.tomex_steps.specs.declared.step.Step.{Step}
-use Rattle.tomex_rvexec.specs.Flow.{end_of}
-use Rattle.tomex_steps.specs.Results.{result_of}
-use Rattle.tomex_rvexec.specs.History.{Follows, byte_after, register_after}
-use Rattle.tomex_steps.specs.Steps.{address_of, is_branch, is_in, is_number, j_of, k_of, operand, step_dest, step_pool}
-use Rattle.tomex_steps.proofs.Fields.{dest_needs_pool}
-use Rattle.tomex_timing.specs.declared.tables.Field.{Field}
-use Rattle.tomex_timing.specs.declared.tables.Field.TheVariants.{Value}
-use Rattle.tomex_timing.specs.declared.tables.Tag.{Tag}
-use Rattle.tomex_timing.specs.declared.times.Done.{Done}
-use Rattle.tomex_timing.specs.History.{cycle_of, is_memory}
-use Rattle.tomex_timing.specs.Recurrence.{AreTimed, IsTimed, IsLeast, can_issue, can_start}
-use Rattle.tomex_timing.specs.Station.{is_free}
-use Rattle.tomex_timing.specs.Tables.{field_from, field_of, producer, tag_at, tag_of, unsent_tag}
-use Rattle.tomex_timing.proofs.Least.{least_same}
-use Rattle.tomex_timing.proofs.Width.{issue_from}
-use Rattle.tomex_cycle.specs.declared.fetch.Fetch.{Fetch}
-use Rattle.tomex_cycle.specs.Phases.{IsYetToIssue}
-use Rattle.tomex_cycle.specs.Run.{first_timed, steps_in}
-use Rattle.tomex_cycle.specs.Views.{Clocks, ShowsRegisters, ShowsStations, clocks, fetch_after, fetch_of, place_of}
-use Rattle.tomex_cycle.specs.Views.{station_at, station_of, issue_number_at}
+use Rattle.tomex_rvexec.specs.History.{Follows}
 use Rattle.tomex_cycle.proofs.AddressChosen.{address_is}
 use Rattle.tomex_cycle.proofs.Cycles.{can_start_later}
 use Rattle.tomex_cycle.proofs.Totals.{reach}
-use Rattle.tomex_tags.specs.Places.{place_at}
-use Rattle.tomex_tags.specs.Contents.{issued}
-use Rattle.tomex_tags.specs.Pools.{Pools}
-use Rattle.tomex_tags.specs.Registers.{operand_in, tags_with}
-use Rattle.tomex_tags.specs.declared.register_status.RegStatus.{RegStatus}
-use Rattle.tomex_tags.specs.declared.station.Station.{Station}
 
 -- The times of what issues lie after the cycle.
 
-starts_from : (pool : Option PoolId) (issue start : ℕ) (p : PoolId) (P : UnitId → ℕ → Bool) → pool ≡ Some p
-    → ((u : UnitId) (x : ℕ) → P u x ≡ true → issue < x)
-    → MatchOption (unit_at pool) (start ≡ issue) (λ u. IsLeast (P u) start) → issue < start
-starts_from None issue start p P e later timed = absurd (cc)
-starts_from (Some q) issue start p P e later timed = later _ start timed.0
-
-starts_after : (config : Configuration) (d : Done) (older : List Done) (p : PoolId) → IsTimed config older d.step d.at
+starts_after : {config : Configuration} (d : Done) {older : List Done} (p : PoolId) → IsTimed config older d.step d.at
     → step_pool d.step ≡ Some p → d.at.issue < d.at.start
-starts_after config d older p timed e =
-    starts_from (step_pool d.step) d.at.issue d.at.start p
-    (λ u. can_start config older d.step u d.at.issue (cycle_of d.at.address)) e (can_start_later config d older)
-    timed.start
+starts_after {config} d {older} p timed e = grind (arith, nat_tests, can_start_later config d older)
 
-address_after : (config : Configuration) (d : Done) (older : List Done) → IsTimed config older d.step d.at
+address_after : {config : Configuration} (d : Done) {older : List Done} → IsTimed config older d.step d.at
     → is_memory d.step ≡ true → d.at.issue < cycle_of d.at.address
-address_after config d older timed e =
-    ltb-true d.at.issue (cycle_of d.at.address)
-    (and_parts _ _ (and_parts _ _ (address_is config d older timed e).0).0).0
+address_after d timed e =
+    ltb-true d.at.issue (cycle_of d.at.address) (and_parts _ _ (and_parts _ _ (address_is d timed e).0).0).0
 
 -- Operands.
 
 source_j : (f : Form) (rs1 rs2 r : ℕ) → (sources_at f rs1 rs2).j ≡ Some r → r ≡ rs1
-source_j forms.Register rs1 rs2 r e = cc
-source_j forms.Store rs1 rs2 r e = cc
-source_j forms.Branch rs1 rs2 r e = cc
-source_j forms.Immediate rs1 rs2 r e = cc
-source_j forms.Offset rs1 rs2 r e = cc
-source_j forms.Shift rs1 rs2 r e = cc
-source_j forms.Upper rs1 rs2 r e = absurd (cc)
-source_j forms.Jump rs1 rs2 r e = absurd (cc)
-source_j forms.Fence rs1 rs2 r e = absurd (cc)
-source_j forms.Whole rs1 rs2 r e = absurd (cc)
+source_j f rs1 rs2 r h4 = grind (arith, nat_tests)
 
 source_k : (f : Form) (rs1 rs2 r : ℕ) → (sources_at f rs1 rs2).k ≡ Some r → r ≡ rs2
-source_k forms.Register rs1 rs2 r e = cc
-source_k forms.Store rs1 rs2 r e = cc
-source_k forms.Branch rs1 rs2 r e = cc
-source_k forms.Immediate rs1 rs2 r e = absurd (cc)
-source_k forms.Offset rs1 rs2 r e = absurd (cc)
-source_k forms.Shift rs1 rs2 r e = absurd (cc)
-source_k forms.Upper rs1 rs2 r e = absurd (cc)
-source_k forms.Jump rs1 rs2 r e = absurd (cc)
-source_k forms.Fence rs1 rs2 r e = absurd (cc)
-source_k forms.Whole rs1 rs2 r e = absurd (cc)
-
-field_same : (a b : ℕ) (tag : Option Tag) → (tag ≡ None → a ≡ b) → field_from a tag ≡ field_from b tag
-field_same a b None e = ap (λ (v : ℕ). Value v) (e refl)
-field_same a b (Some tag) e = refl
+source_k f rs1 rs2 r h4 = grind (arith, nat_tests)
 
 -- an operand that is read from the registers
-read_is : (i : Loaded) (t v : ℕ) (h : List Done) (rg : RegStatus) (source : Option ℕ) → ShowsRegisters i t h rg
+read_is : {i : Loaded} {t : ℕ} (v : ℕ) {h : List Done} {rg : RegStatus} (source : Option ℕ) → ShowsRegisters i t h rg
     → IfSome source (λ r. r < 32) → ((r : ℕ) → source ≡ Some r → v ≡ register_after i (steps_in h) r)
     → operand_in rg source ≡ field_of t h (option_map (operand v) source)
-read_is i t v h rg None shown low value = refl
-read_is i t v h rg (Some r) shown low value =
-    let tag : slice_index_or rg.tags r None ≡ producer t h r = shown.tags r low in
-    rw tag (field_same (slice_index rg.values r) v (producer t h r) (λ none. shown.values r low none
-    ∙ sym (value r refl)))
+read_is v source h2 h3 h4 = grind (arith, nat_tests)
 
-pub read_j : (i : Loaded) (t : ℕ) (h : List Done) (rg : RegStatus) (x : Step) → ShowsRegisters i t h rg
+pub read_j : {i : Loaded} {t : ℕ} {h : List Done} {rg : RegStatus} {x : Step} → ShowsRegisters i t h rg
     → Follows i (steps_in h) x → IfSome (sources_of x.instr).j (λ r. r < 32)
     → operand_in rg (sources_of x.instr).j ≡ field_of t h (j_of x)
-read_j i t h rg x shown follows low =
-    read_is i t x.vj h rg (sources_of x.instr).j shown low
+read_j {x} shown follows low = read_is x.vj (sources_of x.instr).j shown low
     (λ r e. rw (source_j (form_of x.instr.op) x.instr.rs1 x.instr.rs2 r e) follows.vj)
 
-pub read_k : (i : Loaded) (t : ℕ) (h : List Done) (rg : RegStatus) (x : Step) → ShowsRegisters i t h rg
+pub read_k : {i : Loaded} {t : ℕ} {h : List Done} {rg : RegStatus} {x : Step} → ShowsRegisters i t h rg
     → Follows i (steps_in h) x → IfSome (sources_of x.instr).k (λ r. r < 32)
     → operand_in rg (sources_of x.instr).k ≡ field_of t h (k_of x)
-read_k i t h rg x shown follows low =
-    read_is i t x.vk h rg (sources_of x.instr).k shown low
+read_k {x} shown follows low = read_is x.vk (sources_of x.instr).k shown low
     (λ r e. rw (source_k (form_of x.instr.op) x.instr.rs1 x.instr.rs2 r e) follows.vk)
 
 -- The station of what issues.
 
 none_yet : (memory : Bool) (cycle u address : ℕ) → (memory ≡ true → u < cycle)
     → (if memory && nat_le cycle u then Some address else None) ≡ None
-none_yet false cycle u address e = refl
-none_yet true cycle u address e = rw (lt-leb cycle u (e refl)) refl
+none_yet memory cycle u address e = grind (arith, nat_tests)
 
 made_from : (instr : Instruction) (pc : ℕ) (j k : Field) (start u finish value : ℕ) (address : Option ℕ) → u < start
     → address ≡ None
@@ -135,40 +69,35 @@ made_from : (instr : Instruction) (pc : ℕ) (j k : Field) (start u finish value
       j = j;
       k = k;
       address = address;
-      finish = if nat_le start u then Some finish else None;
+      finish = if nat_le start u
+          then Some finish else None;
       value = if nat_le start u then value else 0;
     }) (issued instr pc j k)
 made_from instr pc j k start u finish value address l e = rw (lt-leb start u l, e) refl
 
-pub station_made : (i : Loaded) (config : Configuration) (t u : ℕ) (d : Done) (h : List Done) (p : PoolId)
+pub station_made : (i : Loaded) {config : Configuration} (t u : ℕ) (d : Done) {h : List Done} (p : PoolId)
     → IsTimed config h d.step d.at → d.at.issue ≡ u → step_pool d.step ≡ Some p
-    → station_of i (clocks u u t) d h ≡ issued d.step.instr d.step.pc (field_of t h (j_of d.step))
-    (field_of t h (k_of d.step))
-station_made i config t u d h p timed at pool =
-    let after : d.at.issue < d.at.start = starts_after config d h p timed pool in
+    → station_of i (clocks u u t) d h ≡ issued d.step.instr d.step.pc (field_of t h (j_of d.step)) (field_of t h (k_of
+    d.step))
+station_made i t u d {h} p timed at pool =
+    let after : d.at.issue < d.at.start = starts_after d p timed pool in
     made_from d.step.instr d.step.pc (field_of t h (j_of d.step)) (field_of t h (k_of d.step)) d.at.start u d.at.finish
     (result_of d.step (byte_after i (steps_in h)))
     (if is_memory d.step && nat_le (cycle_of d.at.address) u then Some (address_of d.step) else None) (omega arith)
     (none_yet (is_memory d.step) (cycle_of d.at.address) u (address_of d.step)
-    (λ m. let k : d.at.issue < cycle_of d.at.address = address_after config d h timed m in omega arith))
+    (λ m. let k : d.at.issue < cycle_of d.at.address = address_after d timed m in omega arith))
 
 -- its tag
 tag_from : (pool : Option PoolId) (station : Option ℕ) (p : PoolId) (n issue : ℕ) (older : List Done) → pool ≡ Some p
     → IsLeast (is_free p older issue) n
     → MatchOption pool (station ≡ None) (λ p. (n : ℕ) × (station ≡ Some n) × IsLeast (is_free p older issue) n)
     → tag_at pool station ≡ Some (record { pool = p; number = n })
-tag_from None station p n issue older e least is = absurd (cc)
-tag_from (Some q) station p n issue older e least is =
-    let s : q ≡ p = cc in
-    let m : IsLeast (is_free p older issue) is.0 = rw s at is.2 in
-    let same : is.0 ≡ n = least_same (is_free p older issue) is.0 n m least in
-    let f : station ≡ Some is.0 = is.1 in
-    rw (f, s, same) refl
+tag_from pool station p n issue older h6 h7 h8 = grind (arith, nat_tests)
 
-pub tag_made : (config : Configuration) (d : Done) (h : List Done) (p : PoolId) (n u : ℕ) → IsTimed config h d.step d.at
+pub tag_made : {config : Configuration} (d : Done) {h : List Done} (p : PoolId) (n u : ℕ) → IsTimed config h d.step d.at
     → d.at.issue ≡ u → step_pool d.step ≡ Some p → IsLeast (is_free p h u) n
     → tag_of d ≡ Some (record { pool = p; number = n })
-tag_made config d h p n u timed at pool least =
+tag_made d {h} p n u timed at pool least =
     tag_from (step_pool d.step) d.at.station p n d.at.issue h pool (rw at least) timed.station
 
 -- The stations.
@@ -179,8 +108,7 @@ slot_with i c x y d h e l = rw (lt-ltb c.end d.at.end l, e) (turned (x == y))
   where
     turned : (b : Bool) → (if b && true then Some (station_of i c d h) else station_at i c h y)
         ≡ (if b then Some (station_of i c d h) else station_at i c h y)
-    turned true = refl
-    turned false = refl
+    turned b = grind (arith, nat_tests)
 
 set_slot : (xs : List (Option Station)) (x y : ℕ) (s : Station) → x < length xs
     → slice_index_or (slice_set xs x (Some s)) y None ≡ (if x == y then Some s else slice_index_or xs y None)
@@ -198,30 +126,27 @@ number_with x y n d h issue_numbers place small count same before = elim (cases_
   | inr e ↦ rw (place, e) (get_or-set_other issue_numbers x y n 0 (λ z. eqb-false x y e (sym z)) ∙ before)
 ]
 
-pub stations_with : (i : Loaded) (c : Clocks) (x n : ℕ) (d : Done) (h : List Done) (old new : Pools) (s : Station)
-    → ShowsStations i c h old → place_of d ≡ Some x → x < 96 → c.end < d.at.end → n ≡ length h → s ≡ station_of i c d h
-    → new.slots ≡ slice_set old.slots x (Some s) → new.issue_numbers ≡ slice_set old.issue_numbers x n
-    → ShowsStations i c (d ∷ h) new
-stations_with i c x n d h old new s shown place small late count_is same slots issue_numbers =
-    let count : length old.slots ≡ 96 = shown.places in
-    record {
-      places = ap length slots ∙ (length-set old.slots x (Some s) ∙ shown.places);
-      slots = λ y l. ap (λ xs. slice_index_or xs y None) slots
-          ∙ (set_slot old.slots x y s (omega arith)
-          ∙ (rw (same, shown.slots y l) refl ∙ sym (slot_with i c x y d h place late)));
-      order_count = ap length issue_numbers ∙ (length-set old.issue_numbers x n ∙ shown.order_count);
-      issue_numbers = λ y l. ap (λ xs. slice_index xs y) issue_numbers
-          ∙ number_with x y n d h old.issue_numbers place small shown.order_count count_is (shown.issue_numbers y l);
-    }
+pub stations_with : {i : Loaded} {c : Clocks} (x n : ℕ) (d : Done) {h : List Done} {old : Pools} (new : Pools)
+    (s : Station) → ShowsStations i c h old → place_of d ≡ Some x → x < 96 → c.end < d.at.end → n ≡ length h
+    → s ≡ station_of i c d h → new.slots ≡ slice_set old.slots x (Some s)
+    → new.issue_numbers ≡ slice_set old.issue_numbers x n → ShowsStations i c (d ∷ h) new
+stations_with {i} {c} x n d {h} {old} new s shown place small late count_is same slots issue_numbers = record {
+  places = ap length slots ∙ (length-set old.slots x (Some s) ∙ shown.places);
+  slots = λ y l. ap (λ xs. slice_index_or xs y None) slots ∙ (set_slot old.slots x y s (omega arith)
+      ∙ (rw (same, shown.slots y l) refl ∙ sym (slot_with i c x y d h place late)));
+  order_count = ap length issue_numbers ∙ (length-set old.issue_numbers x n ∙ shown.order_count);
+  issue_numbers = λ y l. ap (λ xs. slice_index xs y) issue_numbers
+      ∙ number_with x y n d h old.issue_numbers place small shown.order_count count_is (shown.issue_numbers y l);
+}
 
 none_place : (pool : Option PoolId) (station : Option ℕ) → pool ≡ None → tag_at pool station ≡ None
 none_place None station e = refl
 none_place (Some p) station e = absurd (cc)
 
 -- what takes no station changes none
-pub stations_same : (i : Loaded) (c : Clocks) (d : Done) (h : List Done) (st : Pools) → ShowsStations i c h st
+pub stations_same : {i : Loaded} {c : Clocks} (d : Done) {h : List Done} {st : Pools} → ShowsStations i c h st
     → step_pool d.step ≡ None → ShowsStations i c (d ∷ h) st
-stations_same i c d h st shown none =
+stations_same d shown none =
     let place : place_of d ≡ None = ap place_at (none_place (step_pool d.step) d.at.station none) in
     record {
       places = shown.places;
@@ -248,10 +173,10 @@ tags_count tags (Some q) tag = length-set tags q (Some tag)
 some_none_tag : (tag : Tag) → Some tag ≡ None → ⊥
 some_none_tag tag e = cc
 
-pub registers_with : (i : Loaded) (t : ℕ) (tag : Tag) (d : Done) (h : List Done) (old new : RegStatus)
+pub registers_with : {i : Loaded} {t : ℕ} (tag : Tag) (d : Done) {h : List Done} {old : RegStatus} (new : RegStatus)
     → ShowsRegisters i t h old → tag_of d ≡ Some tag → t < d.at.end → IfSome (step_dest d.step) (λ q. q < 32)
     → new.values ≡ old.values → new.tags ≡ tags_with old.tags (step_dest d.step) tag → ShowsRegisters i t (d ∷ h) new
-registers_with i t tag d h old new shown is late low values tags =
+registers_with {t} tag d {old} new shown is late low values tags =
     let sent : unsent_tag t d ≡ Some tag = rw (lt-ltb t d.at.end late) is in
     record {
       count = ap length values ∙ shown.count;
@@ -264,9 +189,9 @@ registers_with i t tag d h old new shown is late low values tags =
       ];
     }
 
-pub registers_same : (i : Loaded) (t : ℕ) (d : Done) (h : List Done) (rg : RegStatus) → ShowsRegisters i t h rg
+pub registers_same : {i : Loaded} {t : ℕ} (d : Done) {h : List Done} {rg : RegStatus} → ShowsRegisters i t h rg
     → step_pool d.step ≡ None → ShowsRegisters i t (d ∷ h) rg
-registers_same i t d h rg shown none =
+registers_same d shown none =
     let dest : step_dest d.step ≡ None = dest_needs_pool d.step none in
     record {
       count = shown.count;
@@ -282,17 +207,16 @@ branch_pool None p e = absurd (cc)
 branch_pool (Some q) p e = (q, refl)
 
 branch_late : (b : Bool) (t finish : ℕ) → (b ≡ true → t < finish) → b ≡ (b && nat_lt t finish)
-branch_late false t finish l = refl
-branch_late true t finish l = rw (lt-ltb t finish (l refl)) refl
+branch_late b t finish l = grind (arith, nat_tests)
 
-pub fetch_made : (i : Loaded) (config : Configuration) (t u : ℕ) (d : Done) (h : List Done) (ft : Fetch)
+pub fetch_made : (i : Loaded) {config : Configuration} (t u : ℕ) (d : Done) (h : List Done) (ft : Fetch)
     → IsWithinLimits config → AreTimed config (d ∷ h) → d.at.issue ≡ u → u ≡ t + 1
     → ft ≡ fetch_after d.step (is_branch d.step) (end_of d.step) → ft ≡ fetch_of i t (d ∷ h)
-fetch_made i config t u d h ft good timed at e is =
+fetch_made i t u d h ft good timed at e is =
     let late : is_branch d.step ≡ true → t < d.at.finish = λ b. (
     let q = branch_pool (step_pool d.step) pools.Bru b in
-    let after : d.at.issue < d.at.start = starts_after config d h q.0 timed.0 q.1 in
-    let r : d.at.start ≤ d.at.finish = (reach config d h good timed).order in
+    let after : d.at.issue < d.at.start = starts_after d q.0 timed.0 q.1 in
+    let r : d.at.start ≤ d.at.finish = (reach d h good timed).order in
     omega arith) in
     is ∙ ap (λ (w : Bool). fetch_after d.step w (end_of d.step)) (branch_late (is_branch d.step) t d.at.finish late)
 

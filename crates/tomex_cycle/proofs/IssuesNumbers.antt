@@ -1,78 +1,25 @@
 -- The numbers of a pool's stations: which are free, and how many are held.
-use Rattle.std.proofs.Common.{ℕ, zero, suc, ◌+◌, ◌*◌, ◌<◌, ◌≤◌, ◌≡◌, ◌∙◌, Bool, true, false, arith, refl, List}
-use Rattle.std.proofs.Common.{[], ◌∷◌, Option, Some, None, ap, sym, inl, inr}
-use Rattle.std.specs.Prelude.{nat_lt, nat_le, ◌&&◌, ◌==◌, not, count_by, is_none, MatchOption}
-use Rattle.std.specs.List.{list_all}
-use Rattle.std.proofs.lemmas.Bool.{cases_Bool, cases_order, ltb-true, lt-ltb, le-ltb, leb-true, leb-false, le-leb}
-use Rattle.std.proofs.lemmas.Bool.{lt-leb, and_parts, eqb-true, both_ways}
-use Rattle.std.proofs.lemmas.List.Sums.{sum_by-cons}
-use Rattle.tomex_image.specs.Image.{Loaded}
-use Rattle.tomex_config.specs.Configuration.{Configuration, stations_of}
-use Rattle.tomex_rvdec.specs.declared.pool.PoolId.{PoolId}
-use Rattle.tomex_rvdec.specs.Parts.{place_of_pool}
-use Rattle.tomex_steps.specs.Steps.{is_in, is_number, step_pool}
-use Rattle.tomex_timing.specs.declared.times.Done.{Done}
-use Rattle.tomex_timing.specs.Recurrence.{AreTimed, IsLeast}
-use Rattle.tomex_timing.specs.Search.{least}
-use Rattle.tomex_timing.specs.Station.{has_station, is_free, is_held}
-use Rattle.tomex_timing.proofs.Least.{least_same}
-use Rattle.tomex_timing.proofs.Search.{issue_station}
-use Rattle.tomex_timing.proofs.Stations.{lower, number_is, one, split_count}
-use Rattle.tomex_cycle.specs.Run.{AreIssuedBy}
-use Rattle.tomex_cycle.specs.Views.{clocks, holds_place, station_at}
+use Rattle.std.proofs.Common.{ℕ, zero, suc, ◌+◌, ◌*◌, ◌<◌, ◌≤◌, ◌≡◌, Bool, true, false, arith, refl, List, [], ◌∷◌, sym}
+use Rattle.std.proofs.Common.{◌∙◌}
+use Rattle.std.proofs.Common.{Option, Some, None, ap, inl, inr}
+use Rattle.tomex_cycle.proofs.Words.{nat_lt, nat_le, ◌&&◌, not, count_by, is_none, MatchOption, list_all, cases_Bool}
+use Rattle.tomex_cycle.proofs.Words.{eqb-true}
+use Rattle.tomex_cycle.proofs.Words.{◌==◌}
+use Rattle.tomex_cycle.proofs.Words.{nat_tests, cases_order, lt-ltb, and_parts, sum_by-cons, Loaded}
+use Rattle.tomex_cycle.proofs.Words.{Configuration, stations_of, PoolId, place_of_pool, is_in, is_number, step_pool}
+use Rattle.tomex_cycle.proofs.Words.{Done, AreTimed, IsLeast, least, has_station, is_free, is_held, least_same}
+use Rattle.tomex_cycle.proofs.Words.{issue_station, number_is, AreIssuedBy, clocks, holds_place, station_at}
+use Rattle.tomex_timing.proofs.Stations.{lower, one, split_count}
 use Rattle.tomex_cycle.proofs.Places.{AreLow, same_place}
 use Rattle.tomex_tags.specs.Places.{pool_at}
 use Rattle.tomex_tags.proofs.Serving.{pool_place}
 
-same_pool : (p q : PoolId) → (place_of_pool q == place_of_pool p) ≡ true → q ≡ p
-same_pool p q e = sym (pool_place q) ∙ (ap pool_at (eqb-true (place_of_pool q) (place_of_pool p) e) ∙ pool_place p)
+same_pool : (p q : PoolId) → (place_of_pool p == place_of_pool q) ≡ true → p ≡ q
+same_pool p q e = sym (pool_place p) ∙ (ap pool_at (eqb-true (place_of_pool p) (place_of_pool q) e) ∙ pool_place q)
 
 -- what isn't held isn't held later
 held_later : (p : PoolId) (t u : ℕ) (d : Done) → t ≤ u → is_held p t d ≡ false → is_held p u d ≡ false
-held_later p t u d l e = elim (cases_Bool (is_in p (step_pool d.step))) [
-  | inr k ↦ rw k refl
-  | inl k ↦
-      let f : nat_le t d.at.end ≡ false = rw k at e in
-      let g : d.at.end < t = leb-false _ _ f in
-      rw (k, lt-leb u d.at.end (omega arith)) refl
-]
-
-one_le : (a b : Bool) → (b ≡ false → a ≡ false) → one a ≤ one b
-one_le false b f = omega arith
-one_le true true f = omega arith
-one_le true false f = absurd (let g : true ≡ false = f refl in cc)
-
-count_later : (p : PoolId) (t u : ℕ) (h : List Done) → t ≤ u → count_by (is_held p u) h ≤ count_by (is_held p t) h
-count_later p t u [] l = omega arith
-count_later p t u (d ∷ h) l =
-    let a : count_by (is_held p u) h ≤ count_by (is_held p t) h = count_later p t u h l in
-    let b : one (is_held p u d) ≤ one (is_held p t d) = one_le (is_held p u d) (is_held p t d) (held_later p t u d l) in
-    rw (sum_by-cons, sum_by-cons) (omega arith)
-
-room_of : (config : Configuration) (older : List Done) (p : PoolId) (pool : Option PoolId) (t : ℕ) → is_in p pool ≡ true
-    → has_station config older pool t ≡ true → count_by (is_held p t) older < stations_of config p
-room_of config older p None t e has = absurd (cc)
-room_of config older p (Some q) t e has =
-    rw (same_pool p q e) at (ltb-true (count_by (is_held q t) older) (stations_of config q) has)
-
--- a pool's stations are enough for those that are held
-pub held_most : (config : Configuration) (p : PoolId) (u : ℕ) (h : List Done) → AreTimed config h → AreIssuedBy u h
-    → count_by (is_held p u) h ≤ stations_of config p
-held_most config p u [] timed issued = omega arith
-held_most config p u (d ∷ older) timed issued = elim (cases_Bool (is_held p u d)) [
-  | inr e ↦
-      let k : count_by (is_held p u) older ≤ stations_of config p = held_most config p u older timed.1 issued.1 in
-      rw (sum_by-cons, e) (omega arith)
-  | inl e ↦
-      let has : has_station config older (step_pool d.step) d.at.issue ≡ true =
-      issue_station config older d.step d.at.issue timed.0.issue.0 in
-      let f : count_by (is_held p d.at.issue) older < stations_of config p =
-      room_of config older p (step_pool d.step) d.at.issue
-      (and_parts (is_in p (step_pool d.step)) (nat_le u d.at.end) e).0 has in
-      let m : count_by (is_held p u) older ≤ count_by (is_held p d.at.issue) older =
-      count_later p d.at.issue u older issued.0 in
-      rw (sum_by-cons, e) (omega arith)
-]
+held_later p t u d l e = grind (arith, nat_tests)
 
 -- Where a number is free, a station is left.
 
@@ -87,9 +34,7 @@ none_below p u [] = refl
 none_below p u (d ∷ h) = rw (sum_by-cons, none_below p u h) (zero_one (is_held p u d) d.at.station)
   where
     zero_one : (b : Bool) (st : Option ℕ) → one (b && lower st 0) + 0 ≡ 0
-    zero_one false st = refl
-    zero_one true None = refl
-    zero_one true (Some m) = rw (le-ltb m 0 (omega arith)) refl
+    zero_one b st = grind (arith, nat_tests)
 
 few_below : (p : PoolId) (u n : ℕ) (h : List Done) → ((k : ℕ) → count_by (numbered p u k) h ≤ 1)
     → count_by (below p u n) h ≤ n
@@ -124,13 +69,10 @@ none_counted q (d ∷ h) e =
     rw (sum_by-cons, none_counted q h two.1) (zero_of (q d) two.0)
   where
     zero_of : (b : Bool) → not b ≡ true → one b + 0 ≡ 0
-    zero_of false e = refl
-    zero_of true e = absurd (cc)
+    zero_of b e = grind (arith, nat_tests)
 
 free_one : (a b c : Bool) → (a ≡ false → b ≡ false) → not (a && c) ≡ true → not (b && c) ≡ true
-free_one a false c f e = refl
-free_one true true c f e = e
-free_one false true c f e = absurd (let g : true ≡ false = f refl in cc)
+free_one a b c f e = grind (arith, nat_tests)
 
 free_later : (p : PoolId) (t u k : ℕ) (h : List Done) → t ≤ u → is_free p h t k ≡ true → is_free p h u k ≡ true
 free_later p t u k [] l e = refl
@@ -138,13 +80,11 @@ free_later p t u k (d ∷ h) l e =
     let two = and_parts (not (is_held p t d && is_number d.at.station k)) (is_free p h t k) e in
     rw (
       free_one (is_held p t d) (is_held p u d) (is_number d.at.station k) (held_later p t u d l) two.0,
-      free_later p t
-          u k h l two.1,
+      free_later p t u k h l two.1,
     ) refl
 
 number_same : (station : Option ℕ) (n k : ℕ) → station ≡ Some n → is_number station k ≡ true → n ≡ k
-number_same None n k e f = absurd (cc)
-number_same (Some m) n k e f = let g : m ≡ k = eqb-true m k f in let s : m ≡ n = cc in sym s ∙ g
+number_same station n k e f = grind (arith, nat_tests)
 
 -- the number that a step takes is free of older ones, and is one of the pool's
 taken_free : (older : List Done) (pool : Option PoolId) (station : Option ℕ) (issue k : ℕ) (p : PoolId)
@@ -152,7 +92,7 @@ taken_free : (older : List Done) (pool : Option PoolId) (station : Option ℕ) (
     → MatchOption pool (station ≡ None) (λ p. (n : ℕ) × (station ≡ Some n) × IsLeast (is_free p older issue) n)
     → is_free p older issue k ≡ true
 taken_free older None station issue k p e f is = absurd (cc)
-taken_free older (Some q) station issue k p e f is = rw (same_pool p q e, number_same station is.0 k is.1 f) at is.2.0
+taken_free older (Some q) station issue k p e f is = rw (same_pool q p e, number_same station is.0 k is.1 f) at is.2.0
 
 taken_low : (config : Configuration) (older : List Done) (pool : Option PoolId) (station : Option ℕ) (issue : ℕ)
     (p : PoolId) → is_in p pool ≡ true → has_station config older pool issue ≡ true
@@ -163,8 +103,7 @@ taken_low config older (Some q) station issue p e has is =
     let found = number_is config older q issue has in
     let same : is.0 ≡ least (is_free q older issue) (stations_of config q) =
     least_same (is_free q older issue) _ _ is.2 found.0 in
-    let few : least (is_free q older issue) (stations_of config q) < stations_of config q = found.1 in
-    let f : stations_of config q ≡ stations_of config p = ap (stations_of config) (same_pool p q e) in
+    let f : stations_of config q ≡ stations_of config p = ap (stations_of config) (same_pool q p e) in
     let s : station ≡ Some is.0 = is.1 in
     rw (s, lt-ltb is.0 (stations_of config p) (omega arith)) refl
 
@@ -178,10 +117,8 @@ one_each config p u k (d ∷ older) timed issued = elim (cases_Bool (numbered p 
   | inl e ↦
       let two = and_parts (is_held p u d) (is_number d.at.station k) e in
       let three = and_parts (is_in p (step_pool d.step)) (nat_le u d.at.end) two.0 in
-      let free : is_free p older d.at.issue k ≡ true =
-      taken_free older (step_pool d.step) d.at.station d.at.issue k p three.0 two.1 timed.0.station in
-      let a : count_by (numbered p u k) older ≡ 0 =
-      none_counted (numbered p u k) older (free_later p d.at.issue u k older issued.0 free) in
+      let free = taken_free older (step_pool d.step) d.at.station d.at.issue k p three.0 two.1 timed.0.station in
+      let a = none_counted (numbered p u k) older (free_later p d.at.issue u k older issued.0 free) in
       rw (sum_by-cons, e) (omega arith)
 ]
 
@@ -189,15 +126,12 @@ all_below : (config : Configuration) (p : PoolId) (u : ℕ) (h : List Done) → 
     → count_by (is_held p u) h ≤ count_by (below p u (stations_of config p)) h
 all_below config p u [] timed = omega arith
 all_below config p u (d ∷ older) timed =
-    let a : count_by (is_held p u) older ≤ count_by (below p u (stations_of config p)) older =
-    all_below config p u older timed.1 in
+    let a = all_below config p u older timed.1 in
     elim (cases_Bool (is_held p u d)) [
       | inr e ↦ rw (sum_by-cons, sum_by-cons, e) (omega arith)
       | inl e ↦
-          let has : has_station config older (step_pool d.step) d.at.issue ≡ true =
-          issue_station config older d.step d.at.issue timed.0.issue.0 in
-          let f : lower d.at.station (stations_of config p) ≡ true =
-          taken_low config older (step_pool d.step) d.at.station d.at.issue p
+          let has = issue_station config older d.step d.at.issue timed.0.issue.0 in
+          let f = taken_low config older (step_pool d.step) d.at.station d.at.issue p
           (and_parts (is_in p (step_pool d.step)) (nat_le u d.at.end) e).0 has timed.0.station in
           rw (sum_by-cons, sum_by-cons, e, f) (omega arith)
     ]
@@ -207,41 +141,28 @@ pub room : (config : Configuration) (p : PoolId) (u n : ℕ) (h : List Done) →
     → n < stations_of config p → is_free p h u n ≡ true → count_by (is_held p u) h < stations_of config p
 room config p u n h timed issued l free =
     let a : count_by (is_held p u) h ≤ count_by (below p u (stations_of config p)) h = all_below config p u h timed in
-    let b : count_by (below p u (stations_of config p)) h < stations_of config p =
-    less_below p u (stations_of config p) n h (λ k. one_each config p u k h timed issued) l
-    (none_counted (numbered p u n) h free) in
+    let b : count_by (below p u (stations_of config p)) h < stations_of config p = less_below p u (stations_of config p)
+    n h (λ k. one_each config p u k h timed issued) l (none_counted (numbered p u n) h free) in
     omega arith
 
 -- A number is free just where no station stands in its place.
 
 still : (t u end : ℕ) → u ≡ t + 1 → nat_le u end ≡ nat_lt t end
-still t u end e = elim (cases_Bool (nat_lt t end)) [
-  | inl l ↦ let k : t < end = ltb-true _ _ l in rw (l, le-leb u end (omega arith)) refl
-  | inr l ↦ elim (cases_Bool (nat_le u end)) [
-    | inr k ↦ rw (l, k) refl
-    | inl k ↦ let m : u ≤ end = leb-true _ _ k in absurd (both_ways _ l (lt-ltb t end (omega arith)))
-  ]
-]
+still t u end e = grind (arith, nat_tests)
 
 swap_and : (a b c : Bool) → ((a && b) && c) ≡ ((a && c) && b)
-swap_and false b c = refl
-swap_and true true true = refl
-swap_and true true false = refl
-swap_and true false true = refl
-swap_and true false false = refl
+swap_and a b c = grind (arith, nat_tests)
 
 holds_is : (p : PoolId) (t u n : ℕ) (d : Done) → u ≡ t + 1 → n < 16 → ((m : ℕ) → d.at.station ≡ Some m → m < 16)
     → (is_held p u d && is_number d.at.station n) ≡ holds_place t (16 * place_of_pool p + n) d
-holds_is p t u n d e l low =
-    rw (same_place p n (step_pool d.step) d.at.station l low, still t u d.at.end e)
+holds_is p t u n d e l low = rw (same_place p n (step_pool d.step) d.at.station l low, still t u d.at.end e)
     (swap_and (is_in p (step_pool d.step)) (nat_lt t d.at.end) (is_number d.at.station n))
 
 pub free_is : (i : Loaded) (p : PoolId) (t u n : ℕ) (h : List Done) → u ≡ t + 1 → n < 16 → AreLow h
     → is_free p h u n ≡ is_none (station_at i (clocks u u t) h (16 * place_of_pool p + n))
 free_is i p t u n [] e l low = refl
 free_is i p t u n (d ∷ h) e l low =
-    let same : (is_held p u d && is_number d.at.station n) ≡ holds_place t (16 * place_of_pool p + n) d =
-    holds_is p t u n d e l low.0 in
+    let same = holds_is p t u n d e l low.0 in
     elim (cases_Bool (holds_place t (16 * place_of_pool p + n) d)) [
       | inl k ↦ rw (same, k) refl
       | inr k ↦ rw (same, k) (free_is i p t u n h e l low.1)

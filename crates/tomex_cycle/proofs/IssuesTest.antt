@@ -1,31 +1,14 @@
 -- Whether the next step can issue in a cycle: fetch and the pool's stations say so.
 use Rattle.std.proofs.Common.{ℕ, ◌+◌, ◌<◌, ◌≤◌, ◌≡◌, ◌∙◌, Bool, true, false, arith, refl, List, [], ◌∷◌, Option, Some}
 use Rattle.std.proofs.Common.{None, sym, inl, inr}
-use Rattle.std.specs.Prelude.{nat_lt, ◌&&◌, ◌||◌, not, Ok}
-use Rattle.std.proofs.lemmas.Bool.{cases_Bool, cases_order, ltb-true, ltb-false, lt-ltb, le-ltb, and_parts}
-use Rattle.tomex_image.specs.Image.{Loaded, IsLoaded}
-use Rattle.tomex_config.specs.Configuration.{Configuration, IsWithinLimits}
-use Rattle.tomex_rvexec.specs.declared.outcome.EndKind.{EndKind}
-use Rattle.tomex_steps.specs.declared.step.Step.{Step}
-use Rattle.tomex_rvexec.specs.Fetch.{instruction_at}
-use Rattle.tomex_rvexec.specs.Flow.{end_of}
-use Rattle.tomex_steps.specs.Results.{next_pc_of}
-use Rattle.tomex_rvexec.specs.History.{Follows, pc_after, step_after}
-use Rattle.tomex_rvexec.specs.Machine.{State}
-use Rattle.tomex_rvexec.specs.Run.{RunEnds}
-use Rattle.tomex_steps.specs.Steps.{is_branch, step_pool}
-use Rattle.tomex_rvexec.proofs.FlowEnds.{step_follows}
-use Rattle.tomex_timing.specs.declared.times.Done.{Done}
-use Rattle.tomex_timing.specs.Recurrence.{AreTimed, are_branches_finished, can_issue, can_issue_another}
-use Rattle.tomex_timing.specs.Search.{times_of}
-use Rattle.tomex_timing.specs.Station.{has_station}
-use Rattle.tomex_timing.proofs.Least.{least_same}
-use Rattle.tomex_timing.proofs.Search.{times_are}
-use Rattle.tomex_cycle.specs.declared.fetch.Fetch.{Fetch}
-use Rattle.tomex_cycle.specs.declared.fetch.Fetch.TheVariants.{At, Waits, Stopped}
-use Rattle.tomex_cycle.specs.Phases.{IsYetToIssue}
-use Rattle.tomex_cycle.specs.Run.{AreIssuedBy, first_timed, steps_in}
-use Rattle.tomex_cycle.specs.Views.{fetch_after, fetch_of}
+use Rattle.tomex_cycle.proofs.Words.{nat_lt, ◌&&◌, ◌||◌, not, Ok, cases_order, lt-ltb, nat_tests, and_parts, Loaded}
+use Rattle.tomex_cycle.proofs.Words.{Configuration, IsWithinLimits, EndKind, Step, instruction_at, end_of, next_pc_of}
+use Rattle.tomex_cycle.proofs.Words.{step_after, is_branch, step_pool, step_follows, Done, AreTimed}
+use Rattle.tomex_cycle.proofs.Words.{are_branches_finished, can_issue, can_issue_another, times_of, has_station}
+use Rattle.tomex_cycle.proofs.Words.{least_same, times_are, At, IsYetToIssue, AreIssuedBy, first_timed, steps_in}
+use Rattle.tomex_cycle.proofs.Words.{RunEndsAfter, fetch_after, fetch_of}
+use Rattle.tomex_rvexec.specs.History.{Follows, pc_after}
+use Rattle.tomex_cycle.specs.declared.fetch.Fetch.TheVariants.{Waits}
 use Rattle.tomex_cycle.proofs.Runs.{step_is, steps_are}
 use Rattle.tomex_cycle.proofs.Totals.{stops}
 
@@ -35,8 +18,7 @@ is_waiting t [] = false
 is_waiting t (d ∷ older) = is_branch d.step && nat_lt t d.at.finish
 
 done_later : (b : Bool) (t u finish : ℕ) → t ≤ u → (not b || nat_lt finish t) ≡ true → (not b || nat_lt finish u) ≡ true
-done_later false t u finish l e = refl
-done_later true t u finish l e = let k : finish < t = ltb-true finish t e in lt-ltb finish u (omega arith)
+done_later b t u finish l e = grind (arith, nat_tests)
 
 finished_later : (t u : ℕ) (h : List Done) → t ≤ u → are_branches_finished h t ≡ true → are_branches_finished h u ≡ true
 finished_later t u [] l e = refl
@@ -50,11 +32,7 @@ finished_from config older x t e = (and_parts _ (are_branches_finished older t) 
 
 finished_test : (b : Bool) (t u finish : ℕ) → u ≡ t + 1
     → ((not b || nat_lt finish u) && true) ≡ not (b && nat_lt t finish)
-finished_test false t u finish e = refl
-finished_test true t u finish e = elim (cases_Bool (nat_lt t finish)) [
-  | inl l ↦ let k : t < finish = ltb-true t finish l in rw (l, le-ltb finish u (omega arith)) refl
-  | inr l ↦ let k : finish ≤ t = ltb-false t finish l in rw (l, lt-ltb finish u (omega arith)) refl
-]
+finished_test b t u finish e = grind (arith, nat_tests)
 
 -- only the youngest step can be a branch that hasn't finished
 pub branches_is : (config : Configuration) (t u : ℕ) (h : List Done) → AreTimed config h → AreIssuedBy u h → u ≡ t + 1
@@ -78,10 +56,10 @@ can_is config h x t u timed issued e slot =
     can_from config h x u _ _ (omega arith) slot (branches_is config t u h timed issued e) refl
 
 -- what couldn't issue by t and can in the next cycle issues then
-pub issues_at : (config : Configuration) (h : List Done) (x : Step) (t u : ℕ) → IsWithinLimits config
+pub issues_at : {config : Configuration} (h : List Done) (x : Step) (t u : ℕ) → IsWithinLimits config
     → AreTimed config h → u ≡ t + 1 → ((s : ℕ) → s ≤ t → can_issue config h x s ≡ false) → can_issue config h x u ≡ true
     → (times_of config h x).issue ≡ u
-issues_at config h x t u good timed e never can =
+issues_at {config} h x t u good timed e never can =
     least_same (can_issue config h x) _ u (times_are config h x good timed).issue (can, λ s l. never s (omega arith))
 
 -- and what can't doesn't by then
@@ -116,24 +94,14 @@ pub waits_is : (i : Loaded) (t : ℕ) (h : List Done) → fetch_of i t h ≡ Wai
 waits_is i t [] e = absurd (cc)
 waits_is i t (d ∷ older) e = waits_parts d.step (is_branch d.step && nat_lt t d.at.finish) (end_of d.step) e
 
-at_stopped : (f : Fetch) (pc p : ℕ) (kind : EndKind) → f ≡ At pc → f ≡ Stopped kind p → ⊥
-at_stopped f pc p kind e g = cc
-
 -- while fetch has an address steps are left
-pub left : (config : Configuration) (i : Loaded) (n t count pc : ℕ) (s : State) (kind : EndKind) → RunEnds i n s kind
-    → count ≤ n + 1 → fetch_of i t (first_timed config i count) ≡ At pc → count ≤ n
-left config i n t count pc s kind ends few e = elim (cases_order count (n + 1)) [
-  | inl k ↦
-      let z = stops config i n t s kind ends in
-      let f : fetch_of i t (first_timed config i count) ≡ Stopped kind z.0.pc = rw k z.2 in
-      absurd (at_stopped (fetch_of i t (first_timed config i count)) pc z.0.pc kind e f)
-  | inr (inl less) ↦ omega arith
-  | inr (inr more) ↦ absurd (omega arith)
-]
+pub left : {config : Configuration} {i : Loaded} {n : ℕ} (t count pc : ℕ) → RunEndsAfter i config n → count ≤ n + 1
+    → fetch_of i t (first_timed config i count) ≡ At pc → count ≤ n
+left {config} {i} {n} t count pc run few e = grind (arith, nat_tests, stops t run)
 
-fetched_by : (i : Loaded) (older : List Step) (x : Step) (pc : ℕ) → Follows i older x → pc ≡ pc_after i older
+fetched_by : {i : Loaded} {older : List Step} {x : Step} (pc : ℕ) → Follows i older x → pc ≡ pc_after i older
     → (pc ≡ x.pc) × (instruction_at i pc ≡ Ok x.instr)
-fetched_by i older x pc follows e =
+fetched_by {x} pc follows e =
     let same : pc ≡ x.pc = e ∙ sym follows.pc in
     (same, rw same (rw (follows.fetch, follows.instr) refl))
 
@@ -146,14 +114,13 @@ pub record IsComing (i : Loaded) (config : Configuration) (n t count pc : ℕ) (
   pub fetched : instruction_at i pc ≡ Ok x.instr
   pub goes : is_waiting t (first_timed config i count) ≡ false
 
-pub coming : (config : Configuration) (i : Loaded) (n t count pc : ℕ) (s : State) (kind : EndKind)
-    → IsLoaded i.window i.memory i.entry → RunEnds i n s kind → count ≤ n + 1
+pub coming : {config : Configuration} {i : Loaded} {n : ℕ} (t count pc : ℕ) → RunEndsAfter i config n → count ≤ n + 1
     → fetch_of i t (first_timed config i count) ≡ At pc → (x : Step) × IsComing i config n t count pc x
-coming config i n t count pc s kind loaded ends few e =
-    let less : count ≤ n = left config i n t count pc s kind ends few e in
-    let x = step_is i n count s kind ends less in
+coming {config} {i} {n} t count pc run few e =
+    let less : count ≤ n = left t count pc run few e in
+    let x = step_is count run less in
     let follows : Follows i (steps_in (first_timed config i count)) x.0 =
-    rw (steps_are config i count) (step_follows i n count s kind x.0 loaded ends less x.1) in
+    rw (steps_are config i count) (step_follows i n count run.state run.kind x.0 run.loaded run.ends less x.1) in
     let at = at_is i t pc (first_timed config i count) e in
-    let f = fetched_by i (steps_in (first_timed config i count)) x.0 pc follows at.0 in
+    let f = fetched_by pc follows at.0 in
     (x.0, record { less = less; is = x.1; follows = follows; at = f.0; fetched = f.1; goes = at.1 })

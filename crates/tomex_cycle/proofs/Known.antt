@@ -2,26 +2,13 @@
 -- the cycle alone.
 use Rattle.std.proofs.Common.{ℕ, ◌+◌, ◌-◌, ◌*◌, ◌<◌, ◌≤◌, ◌≡◌, ◌∙◌, Bool, true, false, arith, refl, ap, sym, inl, inr}
 use Rattle.std.proofs.Common.{List, Option, Some, None, length, slice_index_or, slice_set, option_map, replicate}
-use Rattle.std.specs.Prelude.{nat_lt, ◌==◌, ◌≢◌, ◌&&◌, ◌||◌, not, is_none, is_some, IsSome}
-use Rattle.std.proofs.lemmas.Bool.{and_right, both_ways, cases_Bool, eq-eqb, eqb-true, eqb-false, le-ltb, ltb-true}
-use Rattle.std.proofs.lemmas.Bool.{ltb-false, ne_eqb}
-use Rattle.std.proofs.lemmas.List.{get_or-replicate, get_or-set_same, get_or-set_other, get_or_past, length-set}
-use Rattle.tomex_rvdec.specs.Operands.{dest_of}
-use Rattle.tomex_rvdec.specs.Parts.{place_of_pool}
-use Rattle.tomex_rvdec.specs.declared.pool.PoolId.{PoolId}
-use Rattle.tomex_steps.specs.Steps.{is_number}
-use Rattle.tomex_sets.specs.Sets.{has}
-use Rattle.tomex_bus.specs.Wheel.{HasPut, IsEmpty, Lacks, is_due}
-use Rattle.tomex_sets.proofs.Bits.{none_in}
-use Rattle.tomex_tags.specs.Contents.{with_address}
-use Rattle.tomex_tags.specs.Pools.{is_open}
-use Rattle.tomex_tags.specs.declared.station.Station.{Station}
-use Rattle.tomex_timing.specs.declared.tables.Field.{Field}
-use Rattle.tomex_timing.specs.declared.tables.Field.TheVariants.{Value, Waits, Unread}
-use Rattle.tomex_cycle.specs.Ends.{can_send, finishes}
-use Rattle.tomex_membuf.specs.Order.{is_finished_before}
-use Rattle.tomex_cycle.specs.Finishes.{IsTimetableOf, has_stayed}
-use Rattle.tomex_cycle.specs.declared.finishes.Finishes.{Finishes}
+use Rattle.tomex_cycle.proofs.Words.{nat_lt, ◌==◌, ◌&&◌, ◌||◌, not, is_none, is_some, IsSome, and_right, both_ways}
+use Rattle.tomex_cycle.proofs.Words.{nat_tests, cases_Bool, eq-eqb, eqb-true, eqb-false, le-ltb, ltb-true, ltb-false}
+use Rattle.tomex_cycle.proofs.Words.{ne_eqb, get_or-replicate, get_or-set_same, get_or-set_other, get_or_past}
+use Rattle.tomex_cycle.proofs.Words.{length-set, dest_of, place_of_pool, PoolId, is_number, has, is_due, none_in}
+use Rattle.tomex_cycle.proofs.Words.{with_address, is_open, Station, Field, can_send, finishes, is_finished_before}
+use Rattle.tomex_cycle.proofs.Words.{IsTimetableOf, has_stayed, Finishes}
+use Rattle.tomex_bus.specs.Wheel.{HasPut, IsEmpty, Lacks}
 use Rattle.tomex_cycle.proofs.Places.{pool_low}
 
 -- A test of what stands in each place, once this stands in one.
@@ -34,12 +21,12 @@ kept_test test slots x y o l same = elim (cases_Bool (x == y)) [
   | inr e ↦ ap test (get_or-set_other slots x y o None (λ z. eqb-false x y e (sym z)))
 ]
 
-pub known_same : (slots : List (Option Station)) (x next : ℕ) (o : Option Station) (f : Finishes) → x < length slots
-    → IsTimetableOf slots next f → ((v : ℕ) → finishes v o ≡ finishes v (slice_index_or slots x None))
+pub known_same : {slots : List (Option Station)} (x : ℕ) {next : ℕ} (o : Option Station) {f : Finishes}
+    → x < length slots → IsTimetableOf slots next f
+    → ((v : ℕ) → finishes v o ≡ finishes v (slice_index_or slots x None))
     → can_send next o ≡ can_send next (slice_index_or slots x None)
-    → has_stayed next o ≡ has_stayed next (slice_index_or slots x None)
-    → IsTimetableOf (slice_set slots x o) next f
-known_same slots x next o f l known fin send stay = record {
+    → has_stayed next o ≡ has_stayed next (slice_index_or slots x None) → IsTimetableOf (slice_set slots x o) next f
+known_same {slots} x {next} o l known fin send stay = record {
   places = length-set slots x o ∙ known.places;
   ahead = λ a y m k. known.ahead a y m k ∙ sym (kept_test (finishes (next + a)) slots x y o l (fin (next + a)));
   near = λ y v m e. known.near y v m (sym (kept_test (finishes v) slots x y o l (fin v)) ∙ e);
@@ -70,10 +57,10 @@ none_stays next s e = ap (λ (z : Option ℕ). not (is_some (dest_of s.instr)) &
     ∙ and_right (not (is_some (dest_of s.instr))) false refl
 
 -- an instruction issues to a place in which nothing stands
-pub known_issued : (slots : List (Option Station)) (x next : ℕ) (s : Station) (f : Finishes) → x < length slots
+pub known_issued : {slots : List (Option Station)} (x : ℕ) {next : ℕ} (s : Station) {f : Finishes} → x < length slots
     → IsTimetableOf slots next f → slice_index_or slots x None ≡ None → s.finish ≡ None
     → IsTimetableOf (slice_set slots x (Some s)) next f
-known_issued slots x next s f l known empty idle = known_same slots x next (Some s) f l known
+known_issued x {next} s l known empty idle = known_same x (Some s) l known
     (λ v. none_finishes v s idle ∙ sym (ap (finishes v) empty))
     (none_sends next s idle ∙ sym (ap (can_send next) empty))
     (none_stays next s idle ∙ sym (ap (has_stayed next) empty))
@@ -82,14 +69,13 @@ none_of : (o : Option Station) → is_none o ≡ true → o ≡ None
 none_of None e = refl
 none_of (Some s) e = let z : false ≡ true = e in absurd (cc)
 
-pub known_taken : (slots new : List (Option Station)) (next number count : ℕ) (pool : PoolId) (s : Station)
-    (f : Finishes) → new ≡ slice_set slots (16 * place_of_pool pool + number) (Some s)
+pub known_taken : {slots : List (Option Station)} (new : List (Option Station)) {next : ℕ} (number count : ℕ)
+    (pool : PoolId) (s : Station) {f : Finishes} → new ≡ slice_set slots (16 * place_of_pool pool + number) (Some s)
     → is_open slots pool number ≡ true → number < count → count ≤ 16 → s.finish ≡ None → IsTimetableOf slots next f
     → IsTimetableOf new next f
-known_taken slots new next number count pool s f made empty less few idle known =
+known_taken {slots} new number count pool s made empty less few idle known =
     let low : place_of_pool pool < 6 = pool_low pool in
-    let places : length slots ≡ 96 = known.places in
-    rw made (known_issued slots (16 * place_of_pool pool + number) next s f (omega arith) known
+    rw made (known_issued (16 * place_of_pool pool + number) s (omega arith) known
     (none_of (slice_index_or slots (16 * place_of_pool pool + number) None) empty) idle)
 
 address_keeps : (s : Station) → ((with_address s).finish ≡ s.finish)
@@ -98,70 +84,60 @@ address_keeps s = of s.j refl
   where
     of : (j : Field) → s.j ≡ j → ((with_address s).finish ≡ s.finish)
         × (dest_of (with_address s).instr ≡ dest_of s.instr)
-    of (Value v) e = rw e (refl, refl)
-    of (Waits tag) e = rw e (refl, refl)
-    of Unread e = rw e (refl, refl)
+    of j e = grind (arith, nat_tests)
 
 -- an address is computed
-pub known_addressed : (slots new : List (Option Station)) (x next : ℕ) (f : Finishes)
+pub known_addressed : {slots : List (Option Station)} (new : List (Option Station)) (x : ℕ) {next : ℕ} {f : Finishes}
     → IsSome (slice_index_or slots x None)
     → new ≡ slice_set slots x (option_map with_address (slice_index_or slots x None)) → IsTimetableOf slots next f
     → IsTimetableOf new next f
-known_addressed slots new x next f some made known = rw made (of (slice_index_or slots x None) refl)
+known_addressed {slots} new x {next} {f} some made known = rw made (of (slice_index_or slots x None) refl)
   where
     of : (o : Option Station) → slice_index_or slots x None ≡ o
         → IsTimetableOf (slice_set slots x (option_map with_address o)) next f
     of None e = let z : false ≡ true = rw e at some in absurd (cc)
     of (Some s) e =
         let keeps = address_keeps s in
-        known_same slots x next (Some (with_address s)) f (inside_of slots x s e) known
+        known_same x (Some (with_address s)) (inside_of slots x s e) known
         (λ v. ap (λ (z : Option ℕ). is_number z v) keeps.0 ∙ sym (ap (finishes v) e))
-        (rw (keeps.0, keeps.1) (sym (ap (can_send next) e)))
-        (rw (keeps.0, keeps.1) (sym (ap (has_stayed next) e)))
+        (rw (keeps.0, keeps.1) (sym (ap (can_send next) e))) (rw (keeps.0, keeps.1) (sym (ap (has_stayed next) e)))
 
 -- An operation starts.
 
-pub lacks_idle : (slots : List (Option Station)) (x next : ℕ) (s : Station) (f : Finishes) → x < 96
+pub lacks_idle : {slots : List (Option Station)} (x : ℕ) {next : ℕ} (s : Station) {f : Finishes} → x < 96
     → IsTimetableOf slots next f → slice_index_or slots x None ≡ Some s → s.finish ≡ None → Lacks f.wheel x
-lacks_idle slots x next s f l known at idle a = elim (cases_Bool (nat_lt a 64)) [
+lacks_idle x {next} s l known at idle a = elim (cases_Bool (nat_lt a 64)) [
   | inl k ↦ known.ahead a x (ltb-true a 64 k) l ∙ (ap (finishes (next + a)) at ∙ none_finishes (next + a) s idle)
   | inr k ↦ rw k refl
 ]
 
 shift_test : (next a latency : ℕ) → 1 ≤ latency → (a == latency - 1) ≡ ((next + latency - 1) == (next + a))
-shift_test next a latency some = elim (cases_Bool (a == latency - 1)) [
-  | inl e ↦ let f : a ≡ latency - 1 = eqb-true a (latency - 1) e in
-      e ∙ sym (eq-eqb (next + latency - 1) (next + a) (omega arith))
-  | inr e ↦ let f : a ≢ latency - 1 = eqb-false a (latency - 1) e in
-      e ∙ sym (ne_eqb (next + latency - 1) (next + a) (λ z. f (omega arith)))
-]
+shift_test next a latency some = grind (arith, nat_tests)
 
-pub known_started : (slots : List (Option Station)) (x next latency : ℕ) (s t : Station) (f g : Finishes)
-    → x < length slots → x < 96 → IsTimetableOf slots next f → slice_index_or slots x None ≡ Some s → s.finish ≡ None
-    → t.finish ≡ Some (next + latency - 1) → 1 ≤ latency → latency ≤ 64
+pub known_started : {slots : List (Option Station)} (x : ℕ) {next : ℕ} (latency : ℕ) (s t : Station) {f : Finishes}
+    (g : Finishes) → x < length slots → x < 96 → IsTimetableOf slots next f → slice_index_or slots x None ≡ Some s
+    → s.finish ≡ None → t.finish ≡ Some (next + latency - 1) → 1 ≤ latency → latency ≤ 64
     → HasPut (latency - 1) x f.wheel g.wheel → g.unsent ≡ f.unsent → IsTimetableOf (slice_set slots x (Some t)) next g
-known_started slots x next latency s t f g l m known at idle fin some few put unsent = record {
+known_started {slots} x {next} latency s t {f} g l m known at idle fin some few put unsent = record {
   places = length-set slots x (Some t) ∙ known.places;
   ahead = λ a y k n. put a y ∙ elim (cases_Bool (x == y)) [
     | inl e ↦
         let same : x ≡ y = eqb-true x y e in
-        let none : is_due f.wheel a x ≡ false = lacks_idle slots x next s f m known at idle a in
+        let none : is_due f.wheel a x ≡ false = lacks_idle x s m known at idle a in
         rw (
           ← same,
           none,
           eq-eqb x x refl,
           get_or-set_same slots x (Some t) None l,
           fin,
-          ← shift_test next a latency
-              some,
+          ← shift_test next a latency some,
         ) (and_true (a == latency - 1))
     | inr e ↦
         let apart : (y == x) ≡ false = ne_eqb y x (λ z. eqb-false x y e (sym z)) in
         rw (
           apart,
           and_right (a == latency - 1) false refl,
-          get_or-set_other slots x y (Some t) None
-              (λ z. eqb-false x y e (sym z)),
+          get_or-set_other slots x y (Some t) None (λ z. eqb-false x y e (sym z)),
         ) (or_false (is_due f.wheel a y) ∙ known.ahead a y k n)
   ];
   near = λ y v n e. elim (cases_Bool (x == y)) [
@@ -181,20 +157,17 @@ known_started slots x next latency s t f g l m known at idle fin some few put un
         known.low a y (sym (put a y ∙ rw (apart, and_right (a == latency - 1) false refl)
         (or_false (is_due f.wheel a y))) ∙ e)
   ];
-  unsent = λ y n. ap (λ z. has z y) unsent
-      ∙ (known.unsent y n ∙ sym (kept_test (can_send next) slots x y (Some t) l (late (is_some (dest_of t.instr))
-      ∙ sym (ap (can_send next) at ∙ none_sends next s idle))));
+  unsent = λ y n. ap (λ z. has z y) unsent ∙ (known.unsent y n ∙ sym (kept_test (can_send next) slots x y (Some t) l
+      (late (is_some (dest_of t.instr)) ∙ sym (ap (can_send next) at ∙ none_sends next s idle))));
   gone = λ y n. kept_test (has_stayed next) slots x y (Some t) l (late (not (is_some (dest_of t.instr)))
       ∙ sym (ap (has_stayed next) at ∙ none_stays next s idle)) ∙ known.gone y n;
 }
   where
     and_true : (b : Bool) → (false || (b && true)) ≡ b
-    and_true true = refl
-    and_true false = refl
+    and_true b = grind (arith, nat_tests)
 
     or_false : (b : Bool) → (b || false) ≡ b
-    or_false true = refl
-    or_false false = refl
+    or_false b = grind (arith, nat_tests)
 
     late : (b : Bool) → (b && is_finished_before t.finish next) ≡ false
     late b = rw (fin, le-ltb (next + latency - 1) next (omega arith)) (and_right b false refl)
@@ -219,13 +192,6 @@ known_first slots f e empty unsent = rw e (record {
 })
 
 -- Beyond the wheel nothing finishes.
-pub all_ahead : (slots : List (Option Station)) (next a x : ℕ) (f : Finishes) → IsTimetableOf slots next f → x < 96
-    → is_due f.wheel a x ≡ finishes (next + a) (slice_index_or slots x None)
-all_ahead slots next a x f known l = elim (cases_Bool (nat_lt a 64)) [
-  | inl k ↦ known.ahead a x (ltb-true a 64 k) l
-  | inr k ↦ rw k (sym (elim (cases_Bool (finishes (next + a) (slice_index_or slots x None))) [
-    | inr e ↦ e
-    | inl e ↦ let near : next + a < next + 64 = known.near x (next + a) l e in let far : 64 ≤ a = ltb-false a 64 k in
-        absurd (omega arith)
-  ]))
-]
+pub all_ahead : {slots : List (Option Station)} {next : ℕ} (a x : ℕ) {f : Finishes} → IsTimetableOf slots next f
+    → x < 96 → is_due f.wheel a x ≡ finishes (next + a) (slice_index_or slots x None)
+all_ahead {slots} {next} a x known l = grind (arith, nat_tests)

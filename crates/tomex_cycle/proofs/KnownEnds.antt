@@ -1,46 +1,29 @@
 -- What is known of the finishes ahead once a cycle has ended: what was due is over or waits for a bus.
 use Rattle.std.proofs.Common.{ℕ, ◌+◌, ◌^◌, ◌<◌, ◌≤◌, ◌≡◌, ◌∙◌, Bool, true, false, arith, refl, ap, sym, inl, inr, List}
 use Rattle.std.proofs.Common.{Option, Some, None, length, slice_index_or, option_map}
-use Rattle.std.specs.Prelude.{nat_le, nat_lt, ◌==◌, ◌≢◌, ◌&&◌, ◌||◌, ◌⊎◌, not, is_some}
-use Rattle.std.proofs.lemmas.Bool.{and_parts, and_right, both_ways, cases_Bool, eqb-true, eqb-false, le-leb, le-ltb}
-use Rattle.std.proofs.lemmas.Bool.{leb-true, lt-leb, lt-ltb, ltb-true, ltb-false, ne_eqb}
-use Rattle.std.proofs.lemmas.List.{get_or_past}
-use Rattle.tomex_rvdec.specs.Operands.{dest_of}
+use Rattle.tomex_cycle.proofs.Words.{nat_le, nat_lt, ◌==◌, ◌≢◌, ◌&&◌, ◌||◌, not, is_some, and_parts, and_right}
+use Rattle.tomex_cycle.proofs.Words.{nat_tests, both_ways, cases_Bool, eqb-true, eqb-false, le-leb, leb-true, lt-leb}
+use Rattle.tomex_cycle.proofs.Words.{lt-ltb, ltb-true, ltb-false, get_or_past, dest_of, is_number, IsPicked}
+use Rattle.tomex_cycle.proofs.Words.{none_picked, has, is_due, none_in, hears, is_served, AreBusy, Pools, IsSetOf}
+use Rattle.tomex_cycle.proofs.Words.{writes, Station, AreDone, AreEnding, IsDoneBranch, after_ends, can_send}
+use Rattle.tomex_cycle.proofs.Words.{ends_alone, finishes, is_finished_by, is_finished_before, IsTimetableOf}
+use Rattle.tomex_cycle.proofs.Words.{HaveTurned, LeavesTimetable, has_stayed, Finishes}
 use Rattle.tomex_rvdec.specs.declared.pool.UnitId.TheVariants as units
-use Rattle.tomex_steps.specs.Steps.{is_number}
-use Rattle.tomex_bus.specs.Picks.{IsPicked}
-use Rattle.tomex_bus.proofs.Picking.{none_picked}
-use Rattle.tomex_sets.specs.Sets.{has}
-use Rattle.tomex_bus.specs.Wheel.{is_due}
-use Rattle.tomex_sets.proofs.Bits.{agreed, member_some, none_in}
+use Rattle.tomex_sets.proofs.Bits.{agreed, member_some}
 use Rattle.tomex_tags.proofs.Entering.{of_busy}
-use Rattle.tomex_tags.specs.Contents.{hears}
-use Rattle.tomex_tags.specs.Places.{is_served}
-use Rattle.tomex_tags.specs.Pools.{AreBusy, Pools}
-use Rattle.tomex_tags.specs.WaitSets.{IsSetOf, writes}
-use Rattle.tomex_tags.specs.declared.station.Station.{Station}
-use Rattle.tomex_cycle.specs.Ends.{AreDone, AreEnding, IsDoneBranch, after_ends, can_send, ends_alone, finishes}
-use Rattle.tomex_cycle.specs.Ends.{is_finished_by}
-use Rattle.tomex_membuf.specs.Order.{is_finished_before}
-use Rattle.tomex_cycle.specs.Finishes.{IsTimetableOf, HaveTurned, LeavesTimetable, has_stayed}
-use Rattle.tomex_cycle.specs.declared.finishes.Finishes.{Finishes}
 use Rattle.tomex_cycle.proofs.Happens.{member_of}
 use Rattle.tomex_cycle.proofs.Known.{all_ahead}
+use Rattle.tomex_cycle.proofs.Truth.{or_cases}
 
-pub all_due : (slots : List (Option Station)) (next due : ℕ) (f g : Finishes) → IsTimetableOf slots next f
+pub all_due : {slots : List (Option Station)} {next due : ℕ} {f g : Finishes} → IsTimetableOf slots next f
     → HaveTurned f g due → AreDone slots next due
-all_due slots next due f g known turned x l = turned.due x ∙ elim (cases_Bool (nat_lt x 96)) [
+all_due {slots} {next} {f} known turned x l = turned.due x ∙ elim (cases_Bool (nat_lt x 96)) [
   | inl k ↦ let now : next + 0 ≡ next = omega arith in
-      all_ahead slots next 0 x f known (ltb-true x 96 k)
-      ∙ ap (λ (v : ℕ). finishes v (slice_index_or slots x None)) now
+      all_ahead 0 x known (ltb-true x 96 k) ∙ ap (λ (v : ℕ). finishes v (slice_index_or slots x None)) now
   | inr k ↦
       let high : 96 ≤ x = ltb-false x 96 k in
-      let count : length slots ≡ 96 = known.places in
       let past : slice_index_or slots x None ≡ None = get_or_past slots x None (omega arith) in
-      rw past (elim (cases_Bool (is_due f.wheel 0 x)) [
-        | inr e ↦ e
-        | inl e ↦ let low : x < 96 = known.low 0 x e in absurd (omega arith)
-      ])
+      rw past (grind (arith, nat_tests))
 ]
 
 alone_test : (next : ℕ) (finish : Option ℕ) (d : Bool) → (not d && is_finished_before finish next) ≡ false
@@ -49,8 +32,7 @@ alone_test next None d e = sym (and_right (not d) false refl)
 alone_test next (Some v) true e = off (v == next)
   where
     off : (b : Bool) → (b && not (b && true)) ≡ false
-    off true = refl
-    off false = refl
+    off b = grind (arith, nat_tests)
 alone_test next (Some v) false e = on (v == next) ∙ elim (cases_Bool (v == next)) [
   | inl k ↦ let f : v ≡ next = eqb-true v next k in k ∙ sym (le-leb v next (omega arith))
   | inr k ↦ let f : v ≢ next = eqb-false v next k in let g : next ≤ v = ltb-false v next e in
@@ -58,17 +40,16 @@ alone_test next (Some v) false e = on (v == next) ∙ elim (cases_Bool (v == nex
 ]
   where
     on : (b : Bool) → (b && not (b && false)) ≡ b
-    on true = refl
-    on false = refl
+    on b = grind (arith, nat_tests)
 
 alone_is : (next : ℕ) (o : Option Station) → has_stayed next o ≡ false
     → (finishes next o && not (finishes next o && writes o)) ≡ (is_some o && ends_alone next o)
 alone_is next None e = refl
 alone_is next (Some s) e = alone_test next s.finish (is_some (dest_of s.instr)) e
 
-stayed_past : (slots : List (Option Station)) (next x : ℕ) (f : Finishes) → IsTimetableOf slots next f
+stayed_past : {slots : List (Option Station)} {next : ℕ} (x : ℕ) {f : Finishes} → IsTimetableOf slots next f
     → has_stayed next (slice_index_or slots x None) ≡ false
-stayed_past slots next x f known = elim (cases_Bool (nat_lt x 96)) [
+stayed_past {slots} x known = elim (cases_Bool (nat_lt x 96)) [
   | inl k ↦ known.gone x (ltb-true x 96 k)
   | inr k ↦ let high : 96 ≤ x = ltb-false x 96 k in let count : length slots ≡ 96 = known.places in
       let past : slice_index_or slots x None ≡ None = get_or_past slots x None (omega arith) in rw past refl
@@ -81,22 +62,21 @@ pub with_results : (slots : List (Option Station)) (due writing found : ℕ) →
 with_results slots due writing found of both x l = both x ∙ ap (λ b. has due x && b) (of x l)
 
 -- what ends of what is due has nothing to send
-pub are_ending : (st : Pools) (buses next due found sending silent ending : ℕ) (f g : Finishes)
+pub are_ending : (st : Pools) (buses : ℕ) {next due : ℕ} (found sending silent ending : ℕ) {f g : Finishes}
     → AreBusy st.slots st.busy st.issue_numbers → IsTimetableOf st.slots next f → HaveTurned f g due
     → ((x : ℕ) → x < 128 → has found x ≡ (has due x && writes (slice_index_or st.slots x None)))
     → IsPicked f.unsent st.issue_numbers buses sending
     → ((x : ℕ) → x < 128 → has silent x ≡ (has due x && not (has found x)))
     → ((x : ℕ) → has ending x ≡ (has sending x || has silent x)) → AreEnding st buses next ending
-are_ending st buses next due found sending silent ending f g filled known turned with_result picked but either
-    = record {
-      unsent = f.unsent;
-      sending = sending;
-      are_unsent = of_busy (can_send next) st.slots st.busy st.issue_numbers f.unsent refl filled known.unsent;
-      sent = picked;
-      all = λ x l. either x ∙ ap (λ b. has sending x || b)
-          (but x l ∙ rw (with_result x l, all_due st.slots next due f g known turned x l, filled.each x l)
-          (alone_is next (slice_index_or st.slots x None) (stayed_past st.slots next x f known)));
-    }
+are_ending st buses {next} found sending silent ending {f} filled known turned with_result picked but either = record {
+  unsent = f.unsent;
+  sending = sending;
+  are_unsent = of_busy (can_send next) st.slots st.busy st.issue_numbers f.unsent refl filled known.unsent;
+  sent = picked;
+  all = λ x l. either x ∙ ap (λ b. has sending x || b)
+      (but x l ∙ rw (with_result x l, all_due known turned x l, filled.each x l)
+      (alone_is next (slice_index_or st.slots x None) (stayed_past x known)));
+}
 
 heard_same : (test : Option Station → Bool) (sent : ℕ → Option ℕ) (o : Option Station)
     → ((s : Station) → test (Some (hears sent s)) ≡ test (Some s)) → test (option_map (hears sent) o) ≡ test o
@@ -110,124 +90,51 @@ after_test : (test : Option Station → Bool) (sent : ℕ → Option ℕ) (ended
 after_test test sent true o none same = none
 after_test test sent false o none same = heard_same test sent o same
 
-later_test : (next a : ℕ) (finish : Option ℕ) (b : Bool) → (b && is_finished_before finish next) ≡ true
-    → is_number finish (next + a) ≡ false
-later_test next a None b e = refl
-later_test next a (Some v) b e = let l : v < next = ltb-true v next (and_parts b (nat_lt v next) e).1 in
-    ne_eqb v (next + a) (λ z. absurd (omega arith))
-
--- what was unsent doesn't finish any more
-sent_before : (next a : ℕ) (o : Option Station) → can_send next o ≡ true → finishes (next + a) o ≡ false
-sent_before next a None e = refl
-sent_before next a (Some s) e = later_test next a s.finish (is_some (dest_of s.instr)) e
-
--- what finishes in a cycle finishes in no later one
-done_once : (next a : ℕ) (o : Option Station) → finishes next o ≡ true → finishes (next + 1 + a) o ≡ false
-done_once next a None e = refl
-done_once next a (Some s) e = of s.finish e
-  where
-    of : (finish : Option ℕ) → is_number finish next ≡ true → is_number finish (next + 1 + a) ≡ false
-    of None e = refl
-    of (Some v) e = let f : v ≡ next = eqb-true v next e in ne_eqb v (next + 1 + a) (λ z. absurd (omega arith))
-
-or_parts : (a b : Bool) → (a || b) ≡ true → (a ≡ true) ⊎ (b ≡ true)
-or_parts true b e = inl refl
-or_parts false b e = inr e
-
 before_next : (next : ℕ) (finish : Option ℕ)
     → is_finished_before finish (next + 1) ≡ (is_finished_before finish next || is_number finish next)
-before_next next None = refl
-before_next next (Some v) = elim (cases_Bool (nat_lt v next)) [
-  | inl e ↦ let l : v < next = ltb-true v next e in rw (e, lt-ltb v (next + 1) (omega arith)) refl
-  | inr e ↦
-      let l : next ≤ v = ltb-false v next e in
-      rw e (elim (cases_Bool (v == next)) [
-        | inl k ↦ let same : v ≡ next = eqb-true v next k in rw k (lt-ltb v (next + 1) (omega arith))
-        | inr k ↦ let apart : v ≢ next = eqb-false v next k in rw k (le-ltb v (next + 1) (omega arith))
-      ])
-]
-
--- by what is sent and what is over it follows whether a result is unsent in the next cycle
-ready_test : (r before done sending : Bool) → (sending ≡ true → (r && before) ≡ true) → (before ≡ true → done ≡ false)
-    → (((r && before) && not sending) || (done && r))
-    ≡ (not (sending || (done && not (done && r))) && (r && (before || done)))
-ready_test true true done true inside apart = rw (apart refl) refl
-ready_test true true true false inside apart = let z : true ≡ false = apart refl in absurd (cc)
-ready_test true true false false inside apart = refl
-ready_test true false done true inside apart = let z : false ≡ true = inside refl in absurd (cc)
-ready_test true false true false inside apart = refl
-ready_test true false false false inside apart = refl
-ready_test false before done true inside apart = let z : false ≡ true = inside refl in absurd (cc)
-ready_test false before true false inside apart = sym (and_right (not (true && not (true && false))) false refl)
-ready_test false before false false inside apart = refl
-
-apart_test : (next : ℕ) (finish : Option ℕ) → is_finished_before finish next ≡ true → is_number finish next ≡ false
-apart_test next None e = refl
-apart_test next (Some v) e = let l : v < next = ltb-true v next e in ne_eqb v next (λ z. absurd (omega arith))
+before_next next finish = grind (arith, nat_tests)
 
 unsent_is : (next : ℕ) (o : Option Station) (sending : Bool) → (sending ≡ true → can_send next o ≡ true)
     → ((can_send next o && not sending) || (finishes next o && writes o))
     ≡ (not (sending || (finishes next o && not (finishes next o && writes o))) && can_send (next + 1) o)
-unsent_is next None true inside = let z : false ≡ true = inside refl in absurd (cc)
-unsent_is next None false inside = refl
-unsent_is next (Some s) sending inside =
-    rw (before_next next s.finish) (ready_test (is_some (dest_of s.instr)) (is_finished_before s.finish next)
-    (is_number s.finish next) sending inside (apart_test next s.finish))
+unsent_is next o sending h3 = grind (arith, nat_tests)
 
 gone_test : (r before done sending : Bool) → (not r && before) ≡ false
     → (not (sending || (done && not (done && r))) && (not r && (before || done))) ≡ false
-gone_test true before done sending e = and_right (not (sending || (done && not (done && true)))) false refl
-gone_test false true done sending e = let z : true ≡ false = e in absurd (cc)
-gone_test false false true true e = refl
-gone_test false false true false e = refl
-gone_test false false false true e = refl
-gone_test false false false false e = refl
+gone_test r before done sending e = grind (arith, nat_tests)
 
 gone_is : (next : ℕ) (o : Option Station) (sending : Bool) → has_stayed next o ≡ false
     → (not (sending || (finishes next o && not (finishes next o && writes o))) && has_stayed (next + 1) o) ≡ false
 gone_is next None sending e = and_right (not (sending || false)) false refl
-gone_is next (Some s) sending e =
-    rw (before_next next s.finish) (gone_test (is_some (dest_of s.instr)) (is_finished_before s.finish next)
-    (is_number s.finish next) sending e)
+gone_is next (Some s) sending e = rw (before_next next s.finish) (gone_test (is_some (dest_of s.instr))
+    (is_finished_before s.finish next) (is_number s.finish next) sending e)
 
--- what ends doesn't finish later
-ended_later : (next a : ℕ) (o : Option Station) (sending : Bool) → (sending ≡ true → can_send next o ≡ true)
-    → (sending || (finishes next o && not (finishes next o && writes o))) ≡ true → finishes (next + 1 + a) o ≡ false
-ended_later next a o sending inside e = elim (or_parts sending _ e) [
-  | inl k ↦ let on : next + (1 + a) ≡ next + 1 + a = omega arith in
-      ap (λ (v : ℕ). finishes v o) (sym on) ∙ sent_before next (1 + a) o (inside k)
-  | inr k ↦ done_once next a o (and_parts (finishes next o) _ k).0
-]
-
-pub leaves_known : (st : Pools) (buses next due found sending silent ending : ℕ) (f g h : Finishes)
-    → AreBusy st.slots st.busy st.issue_numbers → IsTimetableOf st.slots next f → HaveTurned f g due
+pub leaves_known : (st : Pools) (buses : ℕ) {next due : ℕ} (found sending silent ending : ℕ) {f g : Finishes}
+    (h : Finishes) → AreBusy st.slots st.busy st.issue_numbers → IsTimetableOf st.slots next f → HaveTurned f g due
     → ((x : ℕ) → x < 128 → has found x ≡ (has due x && writes (slice_index_or st.slots x None)))
     → IsPicked f.unsent st.issue_numbers buses sending
     → ((x : ℕ) → x < 128 → has silent x ≡ (has due x && not (has found x)))
-    → ((x : ℕ) → has ending x ≡ (has sending x || has silent x))
-    → h.wheel ≡ g.wheel → ((x : ℕ) → x < 128 → has h.unsent x ≡ (has g.unsent x && not (has sending x) || has found x))
+    → ((x : ℕ) → has ending x ≡ (has sending x || has silent x)) → h.wheel ≡ g.wheel
+    → ((x : ℕ) → x < 128 → has h.unsent x ≡ (has g.unsent x && not (has sending x) || has found x))
     → LeavesTimetable st.slots next ending h
-leaves_known st buses next due found sending silent ending f g h filled known turned with_result picked but either wheel
-    unsent new sent count after =
+leaves_known st buses {next} {due} found sending silent ending {f} h filled known turned with_result picked but either
+    wheel unsent new sent count after =
     let on : (a x : ℕ) → is_due h.wheel a x ≡ is_due f.wheel (a + 1) x = λ a x. ap (λ (w : List ℕ). is_due w a x) wheel
     ∙ turned.wheel a x in
-    let done : AreDone st.slots next due = all_due st.slots next due f g known turned in
+    let done : AreDone st.slots next due = all_due known turned in
     let inside : (x : ℕ) → x < 128 → has sending x ≡ true → can_send next (slice_index_or st.slots x None) ≡ true =
     λ x l e. sym (known.unsent x l) ∙ picked.inside x l e in
-    let ends : (x : ℕ) → x < 128 → has ending x
-    ≡ (has sending x || (finishes next (slice_index_or st.slots x None) && not
-    (finishes next (slice_index_or st.slots x None) && writes (slice_index_or st.slots x None)))) = λ x l.
-    either x ∙ ap (λ b. has sending x || b) (but x l ∙ rw (with_result x l, done x l) refl) in
+    let ends : (x : ℕ) → x < 128 → has ending x ≡ (has sending x || (finishes next (slice_index_or st.slots x None) &&
+    not (finishes next (slice_index_or st.slots x None) && writes (slice_index_or st.slots x None)))) = λ x l. either x
+    ∙ ap (λ b. has sending x || b) (but x l ∙ rw (with_result x l, done x l) refl) in
     let test : (t : Option Station → Bool) (x : ℕ) → x < 96 → t None ≡ false
     → ((s : Station) → t (Some (hears sent s)) ≡ t (Some s))
     → t (slice_index_or new x None) ≡ (not (has ending x) && t (slice_index_or st.slots x None)) =
-    λ t x l none same.
-    ap t (after x l) ∙ after_test t sent (has ending x) (slice_index_or st.slots x None) none same in
+    λ t x l none same. ap t (after x l) ∙ after_test t sent (has ending x) (slice_index_or st.slots x None) none same in
     record {
       places = count;
-      ahead = λ a x l m. on a x ∙ (all_ahead st.slots next (a + 1) x f known m
-          ∙ sym (test (finishes (next + 1 + a)) x m refl (λ s. refl)
-          ∙ same_later a x m (inside x (omega arith)) (ends x (omega arith))));
+      ahead = λ a x l m. on a x ∙ (all_ahead (a + 1) x known m ∙ sym (test (finishes (next + 1 + a)) x m refl
+          (λ s. refl) ∙ same_later a x m (inside x (omega arith)) (ends x (omega arith))));
       near = λ x v l e. let k : v < next + 64 =
           known.near x v l (and_parts (not (has ending x)) _ (sym (test (finishes v) x l refl (λ s. refl)) ∙ e)).1 in
           omega arith;
@@ -242,8 +149,7 @@ leaves_known st buses next due found sending silent ending f g h filled known tu
         | inr k ↦
             let high : 96 ≤ x = ltb-false x 96 k in
             let gone : slice_index_or new x None ≡ None = get_or_past new x None (omega arith) in
-            let past : slice_index_or st.slots x None ≡ None =
-            get_or_past st.slots x None (let c : length st.slots ≡ 96 = filled.places in omega arith) in
+            let past = get_or_past st.slots x None (let c : length st.slots ≡ 96 = filled.places in omega arith) in
             rw (turned.unsent, known.unsent x l, with_result x l, done x l, past, gone) refl
       ];
       gone = λ x l. test (has_stayed (next + 1)) x l refl (λ s. refl)
@@ -257,27 +163,21 @@ leaves_known st buses next due found sending silent ending f g h filled known tu
         (finishes next (slice_index_or st.slots x None) && writes (slice_index_or st.slots x None))))
         → (not (has ending x) && finishes (next + 1 + a) (slice_index_or st.slots x None)) ≡ finishes (next + (a + 1))
         (slice_index_or st.slots x None)
-    same_later a x l inside ends =
-        let at : next + 1 + a ≡ next + (a + 1) = omega arith in
-        elim (cases_Bool (has ending x)) [
-          | inr e ↦ rw e (ap (λ (v : ℕ). finishes v (slice_index_or st.slots x None)) at)
-          | inl e ↦ rw e (sym (ap (λ (v : ℕ). finishes v (slice_index_or st.slots x None)) (sym at)
-              ∙ ended_later next a (slice_index_or st.slots x None) (has sending x) inside (sym ends ∙ e)))
-        ]
+    same_later a x e f g = grind (arith, nat_tests)
 
 -- where nothing is over no result is unsent
-pub none_unsent : (due found sending silent ending buses : ℕ) (f g h : Finishes) → sending < 2 ^ 128
+pub none_unsent : {due : ℕ} (found sending silent ending buses : ℕ) {f g : Finishes} (h : Finishes) → sending < 2 ^ 128
     → h.unsent < 2 ^ 128 → HaveTurned f g due → (0 < buses → f.unsent ≢ 0 → sending ≢ 0) → 0 < buses
     → ((x : ℕ) → x < 128 → has found x ≡ true → has due x ≡ true)
     → ((x : ℕ) → has ending x ≡ (has sending x || has silent x))
     → ((x : ℕ) → x < 128 → has h.unsent x ≡ (has g.unsent x && not (has sending x) || has found x)) → ending ≡ 0
     → due ≡ 0 → h.unsent ≡ 0
-none_unsent due found sending silent ending buses f g h sending_fits fits turned some bus inside either unsent none over
-    = elim (cases_Bool (h.unsent == 0)) [
+none_unsent {due} found sending silent ending buses {f} {g} h sending_fits fits turned some bus inside either unsent
+    none over = elim (cases_Bool (h.unsent == 0)) [
       | inl e ↦ eqb-true h.unsent 0 e
       | inr e ↦
           let x = member_of h.unsent fits (eqb-false h.unsent 0 e) in
-          elim (or_parts (has g.unsent x.0 && not (has sending x.0)) (has found x.0) (sym (unsent x.0 x.1) ∙ x.2)) [
+          elim (or_cases (has g.unsent x.0 && not (has sending x.0)) (has found x.0) (sym (unsent x.0 x.1) ∙ x.2)) [
             | inr found ↦ absurd (both_ways (has due x.0) (rw over (none_in x.0)) (inside x.0 x.1 found))
             | inl was ↦
                 let there : f.unsent ≢ 0 = member_some f.unsent x.0 (sym (ap (λ z. has z x.0) turned.unsent)
@@ -331,21 +231,18 @@ pub nothing_sent : (sending : ℕ) (g : Finishes) → sending ≡ 0 → (x : ℕ
 nothing_sent sending g none x l = rw (none, none_in x) (stays (has g.unsent x))
   where
     stays : (b : Bool) → b ≡ (b && true || false)
-    stays true = refl
-    stays false = refl
+    stays b = grind (arith, nat_tests)
 
 -- where nothing finishes and no result waits, nothing ends
-pub ending_none : (st : Pools) (buses next due : ℕ) (f g : Finishes) → AreBusy st.slots st.busy st.issue_numbers
+pub ending_none : (st : Pools) (buses : ℕ) {next due : ℕ} {f g : Finishes} → AreBusy st.slots st.busy st.issue_numbers
     → IsTimetableOf st.slots next f → HaveTurned f g due → due ≡ 0 → g.unsent ≡ 0 → AreEnding st buses next 0
-ending_none st buses next due f g filled known turned e none =
-    are_ending st buses next due 0 0 0 0 f g filled known turned (nothing_found _ due e)
-    (none_picked f.unsent buses st.issue_numbers (sym turned.unsent ∙ none)) (nothing_found _ due e)
-    (nothing_ends 0 refl)
+ending_none st buses {due} {f} filled known turned e none = are_ending st buses 0 0 0 0 filled known turned
+    (nothing_found _ due e) (none_picked f.unsent buses st.issue_numbers (sym turned.unsent ∙ none))
+    (nothing_found _ due e) (nothing_ends 0 refl)
 
 -- and what is known stays right
-pub leaves_none : (st : Pools) (buses next due : ℕ) (f g : Finishes) → AreBusy st.slots st.busy st.issue_numbers
+pub leaves_none : (st : Pools) (buses : ℕ) {next due : ℕ} {f g : Finishes} → AreBusy st.slots st.busy st.issue_numbers
     → IsTimetableOf st.slots next f → HaveTurned f g due → due ≡ 0 → g.unsent ≡ 0 → LeavesTimetable st.slots next 0 g
-leaves_none st buses next due f g filled known turned e none =
-    leaves_known st buses next due 0 0 0 0 f g g filled known turned (nothing_found _ due e)
-    (none_picked f.unsent buses st.issue_numbers (sym turned.unsent ∙ none)) (nothing_found _ due e)
-    (nothing_ends 0 refl) refl (nothing_sent 0 g refl)
+leaves_none st buses {due} {f} {g} filled known turned e none = leaves_known st buses 0 0 0 0 g filled known turned
+    (nothing_found _ due e) (none_picked f.unsent buses st.issue_numbers (sym turned.unsent ∙ none))
+    (nothing_found _ due e) (nothing_ends 0 refl) refl (nothing_sent 0 g refl)

@@ -1,51 +1,40 @@
 -- What is known of the finishes ahead once cycles are passed in which nothing finishes.
 use Rattle.std.proofs.Common.{ℕ, ◌+◌, ◌-◌, ◌<◌, ◌≤◌, ◌≡◌, ◌∙◌, Bool, true, false, arith, refl, ap, sym, inl, inr, List}
 use Rattle.std.proofs.Common.{Option, Some, None, length, slice_index_or}
-use Rattle.std.specs.Prelude.{nat_lt, ◌==◌, ◌≢◌, ◌&&◌, not, is_some}
-use Rattle.std.proofs.lemmas.Bool.{both_ways, cases_Bool, eq-eqb, eqb-true, eqb-false, lt-ltb, ltb-true, ltb-false}
-use Rattle.std.proofs.lemmas.List.{get_or_past}
-use Rattle.tomex_rvdec.specs.Operands.{dest_of}
-use Rattle.tomex_steps.specs.Steps.{is_number}
-use Rattle.tomex_bus.specs.Wheel.{HasPassed, IsClearTo, IsNext, is_due}
-use Rattle.tomex_sets.proofs.Bits.{none_in}
-use Rattle.tomex_tags.specs.declared.station.Station.{Station}
-use Rattle.tomex_cycle.specs.Ends.{can_send, finishes}
-use Rattle.tomex_membuf.specs.Order.{is_finished_before}
-use Rattle.tomex_cycle.specs.Finishes.{IsTimetableOf, FinishesNext, IsFree, CanSkip, has_stayed}
-use Rattle.tomex_cycle.specs.declared.finishes.Finishes.{Finishes}
+use Rattle.tomex_cycle.proofs.Words.{nat_lt, ◌==◌, ◌≢◌, ◌&&◌, not, is_some, both_ways, cases_Bool, eq-eqb, eqb-true}
+use Rattle.tomex_cycle.proofs.Words.{nat_tests, eqb-false, ltb-true, ltb-false, get_or_past, dest_of, is_number, is_due}
+use Rattle.tomex_cycle.proofs.Words.{none_in, Station, can_send, finishes, is_finished_before, IsTimetableOf, IsFree}
+use Rattle.tomex_cycle.proofs.Words.{has_stayed, Finishes}
+use Rattle.tomex_bus.specs.Wheel.{HasPassed, IsClearTo, IsNext}
+use Rattle.tomex_cycle.specs.Finishes.{CanSkip}
 use Rattle.tomex_cycle.proofs.Known.{all_ahead}
 
-pub free_to : (slots : List (Option Station)) (cycle k : ℕ) (f : Finishes) → IsTimetableOf slots (cycle + 1) f
+pub free_to : {slots : List (Option Station)} (cycle k : ℕ) {f : Finishes} → IsTimetableOf slots (cycle + 1) f
     → f.unsent ≡ 0 → IsClearTo f.wheel k → IsFree slots cycle (cycle + k)
-free_to slots cycle k f known none clear x v l from to = elim (cases_Bool (finishes v (slice_index_or slots x None))) [
-  | inr e ↦ e
-  | inl e ↦ elim (cases_Bool (v == cycle)) [
-    | inl h ↦
-        let here : v ≡ cycle = eqb-true v cycle h in
-        absurd (done_now (slice_index_or slots x None) (rw here at e) (sym (known.unsent x (omega arith))
-        ∙ rw none (none_in x)) (known.gone x l))
-    | inr h ↦
-        let later : v ≢ cycle = eqb-false v cycle h in
-        let at : cycle + 1 + (v - cycle - 1) ≡ v = omega arith in
-        absurd (both_ways (is_due f.wheel (v - cycle - 1) x) (clear (v - cycle - 1) x (omega arith))
-        (all_ahead slots (cycle + 1) (v - cycle - 1) x f known l
-        ∙ (ap (λ (u : ℕ). finishes u (slice_index_or slots x None)) at ∙ e)))
-  ]
-]
+free_to {slots} cycle k {f} known none clear x v l from to = elim
+    (cases_Bool (finishes v (slice_index_or slots x None))) [
+      | inr e ↦ e
+      | inl e ↦ elim (cases_Bool (v == cycle)) [
+        | inl h ↦
+            let here : v ≡ cycle = eqb-true v cycle h in
+            absurd (done_now (slice_index_or slots x None) (rw here at e) (sym (known.unsent x (omega arith))
+            ∙ rw none (none_in x)) (known.gone x l))
+        | inr h ↦
+            let later : v ≢ cycle = eqb-false v cycle h in
+            let at : cycle + 1 + (v - cycle - 1) ≡ v = omega arith in
+            absurd (both_ways (is_due f.wheel (v - cycle - 1) x) (clear (v - cycle - 1) x (omega arith)) (all_ahead
+            (v - cycle - 1) x known l ∙ (ap (λ (u : ℕ). finishes u (slice_index_or slots x None)) at ∙ e)))
+      ]
+    ]
   where
     of_finish : (finish : Option ℕ) (r : Bool) → is_number finish cycle ≡ true
         → (r && is_finished_before finish (cycle + 1)) ≡ false → (not r && is_finished_before finish (cycle + 1))
         ≡ false → ⊥
-    of_finish None r e a b = both_ways false refl e
-    of_finish (Some w) true e a b = let same : w ≡ cycle = eqb-true w cycle e in
-        both_ways (nat_lt w (cycle + 1)) a (lt-ltb w (cycle + 1) (omega arith))
-    of_finish (Some w) false e a b = let same : w ≡ cycle = eqb-true w cycle e in
-        both_ways (nat_lt w (cycle + 1)) b (lt-ltb w (cycle + 1) (omega arith))
+    of_finish finish r e f g = grind (arith, nat_tests)
 
     done_now : (o : Option Station) → finishes cycle o ≡ true → can_send (cycle + 1) o ≡ false
         → has_stayed (cycle + 1) o ≡ false → ⊥
-    done_now None e a b = both_ways false refl e
-    done_now (Some s) e a b = of_finish s.finish (is_some (dest_of s.instr)) e a b
+    done_now o e f g = grind (arith, nat_tests)
 
 before_later : (cycle w : ℕ) (r : Bool) (finish : Option ℕ) → cycle + 1 ≤ w
     → (r && is_finished_before finish (cycle + 1)) ≡ false
@@ -70,17 +59,16 @@ stay_later : (cycle w : ℕ) (o : Option Station) → cycle + 1 ≤ w → has_st
 stay_later cycle w None l e free = refl
 stay_later cycle w (Some s) l e free = before_later cycle w (not (is_some (dest_of s.instr))) s.finish l e free
 
-pub known_later : (slots : List (Option Station)) (cycle k : ℕ) (f g : Finishes) → IsTimetableOf slots (cycle + 1) f
-    → f.unsent ≡ 0 → IsClearTo f.wheel k → HasPassed k f.wheel g.wheel → g.unsent ≡ f.unsent
-    → IsTimetableOf slots (cycle + k + 1) g
-known_later slots cycle k f g known none clear passed unsent =
-    let free : IsFree slots cycle (cycle + k) = free_to slots cycle k f known none clear in
+pub known_later : {slots : List (Option Station)} (cycle k : ℕ) {f : Finishes} (g : Finishes)
+    → IsTimetableOf slots (cycle + 1) f → f.unsent ≡ 0 → IsClearTo f.wheel k → HasPassed k f.wheel g.wheel
+    → g.unsent ≡ f.unsent → IsTimetableOf slots (cycle + k + 1) g
+known_later {slots} cycle k g known none clear passed unsent =
+    let free : IsFree slots cycle (cycle + k) = free_to cycle k known none clear in
     let count : length slots ≡ 96 = known.places in
     record {
       places = count;
       ahead = λ a x l m. let at : cycle + 1 + (a + k) ≡ cycle + k + 1 + a = omega arith in
-          passed a x ∙ (all_ahead slots (cycle + 1) (a + k) x f known m
-          ∙ ap (λ (v : ℕ). finishes v (slice_index_or slots x None)) at);
+          passed a x ∙ (all_ahead (a + k) x known m ∙ ap (λ (v : ℕ). finishes v (slice_index_or slots x None)) at);
       near = λ x v l e. let n : v < cycle + 1 + 64 = known.near x v l e in omega arith;
       low = λ a x e. known.low (a + k) x (sym (passed a x) ∙ e);
       unsent = λ x l. rw (unsent, none) (none_in x) ∙ sym (elim (cases_Bool (nat_lt x 96)) [
@@ -98,19 +86,3 @@ known_later slots cycle k f g known none clear passed unsent =
 pub clear_skipped : (next : Option ℕ) (w : List ℕ) (most n : ℕ) → IsNext w next → CanSkip next most n → IsClearTo w n
 clear_skipped None w most n empty skips a x l = empty a x
 clear_skipped (Some ahead) w most n is skips a x l = let few : n ≤ ahead = skips.0 in is.1 a x (omega arith)
-
--- where they aren't all passed, something finishes in the cycle after them
-pub soon : (slots : List (Option Station)) (next : Option ℕ) (cycle most n : ℕ) (f : Finishes)
-    → IsTimetableOf slots (cycle + 1) f → IsNext f.wheel next → CanSkip next most n → n < most
-    → FinishesNext slots (cycle + n)
-soon slots None cycle most n f known empty skips l = absurd (omega (arith, skips))
-soon slots (Some ahead) cycle most n f known is skips l =
-    let e : n ≡ ahead = skips.1 l in
-    let x : ℕ = is.0.0 in
-    let low : x < 96 = known.low ahead x is.0.1 in
-    let at : cycle + 1 + ahead ≡ cycle + n + 1 = omega arith in (
-      x,
-      low,
-      ap (λ (v : ℕ). finishes v (slice_index_or slots x None)) (sym at)
-          ∙ (sym (all_ahead slots (cycle + 1) ahead x f known low) ∙ is.0.1),
-    )

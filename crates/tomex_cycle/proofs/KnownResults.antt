@@ -1,39 +1,27 @@
 -- Where nothing but results finishes in a cycle, they are unsent after it, and that is all that changes.
 use Rattle.std.proofs.Common.{ℕ, ◌+◌, ◌<◌, ◌≤◌, ◌^◌, ◌≡◌, ◌∙◌, Bool, true, false, arith, refl, ap, sym, inl, inr, List}
 use Rattle.std.proofs.Common.{Option, None, length, slice_index_or}
-use Rattle.std.specs.Prelude.{nat_le, nat_lt, ◌≢◌, ◌&&◌, not}
-use Rattle.std.proofs.lemmas.Bool.{and_parts, both_ways, cases_Bool, le-leb, leb-true, lt-ltb, ltb-true, ltb-false}
-use Rattle.std.proofs.lemmas.List.{get_or_past}
+use Rattle.tomex_cycle.proofs.Words.{nat_le, nat_lt, ◌≢◌, ◌&&◌, not, and_parts, both_ways, cases_Bool, le-leb}
+use Rattle.tomex_cycle.proofs.Words.{nat_tests, lt-ltb, ltb-true, ltb-false, get_or_past, has, is_due, none_in}
+use Rattle.tomex_cycle.proofs.Words.{is_served, AreBusy, Pools, IsSetOf, writes, Station, AreDone, finishes}
+use Rattle.tomex_cycle.proofs.Words.{IsTimetableOf, AreResults, HaveTurned, Finishes, none_picked}
 use Rattle.tomex_rvdec.specs.declared.pool.UnitId.TheVariants as units
-use Rattle.tomex_sets.specs.Sets.{has}
-use Rattle.tomex_bus.specs.Wheel.{AreDue, is_due}
-use Rattle.tomex_sets.proofs.Bits.{none_in}
-use Rattle.tomex_tags.specs.Places.{is_served}
-use Rattle.tomex_tags.specs.Pools.{AreBusy, Pools}
-use Rattle.tomex_tags.specs.WaitSets.{IsSetOf, writes}
-use Rattle.tomex_tags.specs.declared.station.Station.{Station}
-use Rattle.tomex_cycle.specs.Ends.{AreDone, finishes}
-use Rattle.tomex_cycle.specs.Finishes.{IsTimetableOf, AreResults, HaveTurned}
-use Rattle.tomex_cycle.specs.declared.finishes.Finishes.{Finishes}
+use Rattle.tomex_bus.specs.Wheel.{AreDue}
 use Rattle.tomex_cycle.proofs.Happens.{member_of}
 use Rattle.tomex_cycle.proofs.EndsNone.{none_over}
 use Rattle.tomex_cycle.proofs.Known.{all_ahead}
 use Rattle.tomex_cycle.proofs.KnownEnds.{all_due, branch_places, leaves_known, nothing_ends}
-use Rattle.tomex_bus.proofs.Picking.{none_picked}
 
 -- of what is due none is outside the results
-pub are_results : (slots : List (Option Station)) (next first writing served results others : ℕ) (f : Finishes)
+pub are_results : {slots : List (Option Station)} {next : ℕ} (first writing served results others : ℕ) {f : Finishes}
     → IsTimetableOf slots next f → AreDue f.wheel first → IsSetOf writes slots writing
     → ((x : ℕ) → x < 128 → has served x ≡ is_served units.Bru x)
     → ((x : ℕ) → x < 128 → has results x ≡ (has writing x && not (has served x)))
     → ((x : ℕ) → x < 128 → has others x ≡ (has first x && not (has results x))) → others ≡ 0 → AreResults slots next
-are_results slots next first writing served results others f known due of branches those but none x l e =
+are_results {slots} {next} first writing served results others {f} known due of branches those but none x l e =
     let now : next + 0 ≡ next = omega arith in
-    let here : has first x ≡ true =
-    due x ∙ (all_ahead slots next 0 x f known l
-    ∙ (ap (λ (v : ℕ). finishes v (slice_index_or slots x None)) now ∙ e)) in
-    let inside : has results x ≡ true =
-    member (has first x) (has results x) here (sym (but x (omega arith)) ∙ rw none (none_in x)) in
+    let here = due x ∙ (all_ahead 0 x known l ∙ (ap (λ (v : ℕ). finishes v (slice_index_or slots x None)) now ∙ e)) in
+    let inside = member (has first x) (has results x) here (sym (but x (omega arith)) ∙ rw none (none_in x)) in
     let two = and_parts (has writing x) (not (has served x)) (sym (those x (omega arith)) ∙ inside) in (
       sym (of x (omega arith)) ∙ two.0,
       elim (cases_Bool (nat_lt x 80)) [
@@ -41,45 +29,36 @@ are_results slots next first writing served results others f known due of branch
         | inr k ↦
             let high : 80 ≤ x = ltb-false x 80 k in
             let branch : has served x ≡ true =
-            branches x (omega arith) ∙ (branch_places x (omega arith) ∙ rw (le-leb 80 x high, lt-ltb x 96 l) refl)
-            in
-            let z : false ≡ true = rw branch at two.1 in
+            branches x (omega arith) ∙ (branch_places x (omega arith) ∙ rw (le-leb 80 x high, lt-ltb x 96 l) refl) in
             absurd (cc)
       ],
     )
   where
     member : (a b : Bool) → a ≡ true → (a && not b) ≡ false → b ≡ true
-    member true true e f = refl
-    member true false e f = sym f
-    member false b e f = absurd (both_ways false refl e)
+    member a b e f = grind (arith, nat_tests)
 
 -- of what is due one is outside the results
-pub others_finish : (slots : List (Option Station)) (next first writing served results others : ℕ) (f : Finishes)
+pub others_finish : {slots : List (Option Station)} {next : ℕ} (first writing served results others : ℕ) {f : Finishes}
     → IsTimetableOf slots next f → AreDue f.wheel first → IsSetOf writes slots writing
     → ((x : ℕ) → x < 128 → has served x ≡ is_served units.Bru x)
     → ((x : ℕ) → x < 128 → has results x ≡ (has writing x && not (has served x)))
     → ((x : ℕ) → x < 128 → has others x ≡ (has first x && not (has results x))) → others < 2 ^ 128 → others ≢ 0
     → AreResults slots next → ⊥
-others_finish slots next first writing served results others f known due of branches those but small some are =
+others_finish {slots} {next} first writing served results others {f} known due of branches those but small some are =
     let (x, l, e) = member_of others small some in
     let two = and_parts (has first x) (not (has results x)) (sym (but x l) ∙ e) in
     let ahead : is_due f.wheel 0 x ≡ true = sym (due x) ∙ two.0 in
     let low : x < 96 = known.low 0 x ahead in
     let now : next + 0 ≡ next = omega arith in
     let over : finishes next (slice_index_or slots x None) ≡ true =
-    ap (λ (v : ℕ). finishes v (slice_index_or slots x None)) (sym now)
-    ∙ (sym (all_ahead slots next 0 x f known low) ∙ ahead) in
+    ap (λ (v : ℕ). finishes v (slice_index_or slots x None)) (sym now) ∙ (sym (all_ahead 0 x known low) ∙ ahead) in
     let (sends, near) = are x low over in
     let branch : has served x ≡ false = branches x l ∙ (branch_places x l ∙ rw (not_from x near) refl) in
     let result : has results x ≡ true = those x l ∙ rw (branch, of x l ∙ sends) refl in
-    let z : false ≡ true = rw result at two.1 in
     cc
   where
     not_from : (x : ℕ) → x < 80 → nat_le 80 x ≡ false
-    not_from x near = elim (cases_Bool (nat_le 80 x)) [
-      | inr k ↦ k
-      | inl k ↦ let far : 80 ≤ x = leb-true 80 x k in absurd (omega arith)
-    ]
+    not_from x e = grind (arith, nat_tests)
 
 -- all that is due writes a register
 due_writes : (slots : List (Option Station)) (next due x : ℕ) → length slots ≡ 96 → AreDone slots next due
@@ -96,18 +75,14 @@ due_writes slots next due x count done results l = elim (cases_Bool (has due x))
 ]
 
 -- they wait for a bus from here on
-pub known_results : (st : Pools) (next due : ℕ) (f g h : Finishes) → AreBusy st.slots st.busy st.issue_numbers
-    → IsTimetableOf st.slots next f → HaveTurned f g due → AreResults st.slots next → f.unsent ≡ 0 → h.wheel ≡ g.wheel
-    → h.unsent ≡ due → IsTimetableOf st.slots (next + 1) h
-known_results st next due f g h filled known turned results none wheel unsent =
-    none_over st.slots next 0 h known.places
-    (leaves_known st 0 next due due 0 0 0 f g h filled known turned
-    (λ x l. due_writes st.slots next due x known.places (all_due st.slots next due f g known turned) results l)
+pub known_results : (st : Pools) {next due : ℕ} {f g : Finishes} (h : Finishes)
+    → AreBusy st.slots st.busy st.issue_numbers → IsTimetableOf st.slots next f → HaveTurned f g due
+    → AreResults st.slots next → f.unsent ≡ 0 → h.wheel ≡ g.wheel → h.unsent ≡ due → IsTimetableOf st.slots (next + 1) h
+known_results st {next} {due} {f} h filled known turned results none wheel unsent =
+    none_over st.slots next 0 h known.places (leaves_known st 0 due 0 0 0 h filled known turned
+    (λ x l. due_writes st.slots next due x known.places (all_due known turned) results l)
     (none_picked f.unsent 0 st.issue_numbers none) (λ x l. rw (none_in x) (silent (has due x))) (nothing_ends 0 refl)
-    wheel
-    (λ x l. rw (unsent, turned.unsent, none, none_in x) refl))
-    refl
+    wheel (λ x l. rw (unsent, turned.unsent, none, none_in x) refl)) refl
   where
     silent : (b : Bool) → false ≡ (b && not b)
-    silent true = refl
-    silent false = refl
+    silent b = grind (arith, nat_tests)

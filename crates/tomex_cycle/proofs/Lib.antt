@@ -1,5 +1,7 @@
+pub mod Words
 pub mod Runs
 pub mod Totals
+pub mod Truth
 pub mod Cycles
 pub mod Ticks
 pub mod Outer

@@ -1,37 +1,14 @@
 -- The busy places in issue order are those of the steps under way, the oldest first.
-use Rattle.std.proofs.Common.{ℕ, ◌+◌, ◌<◌, ◌≤◌, ◌≡◌, ◌∙◌, ◌^◌, Bool, true, false, arith, refl, List, [], ◌∷◌, ◌++◌}
-use Rattle.std.proofs.Common.{Option, Some, None, ap, sym, inl, inr, append_assoc, length, slice_index}
-use Rattle.std.specs.Prelude.{nat_lt, not, ◌||◌, ◌==◌, is_some}
-use Rattle.std.specs.Int.{w128}
-use Rattle.std.proofs.lemmas.Nat.Bits.{bit_at-trailing_zeros}
-use Rattle.std.proofs.lemmas.Bool.{cases_Bool, cases_order, both_ways, ltb-true, ltb-false, and_parts, eq-eqb, eqb-true}
-use Rattle.std.proofs.lemmas.List.{get_or_past}
-use Rattle.tomex_image.specs.Image.{Loaded}
-use Rattle.tomex_config.specs.Configuration.{Configuration, IsWithinLimits}
-use Rattle.tomex_steps.specs.Steps.{is_number, step_pool}
-use Rattle.tomex_timing.specs.declared.times.Done.{Done}
-use Rattle.tomex_timing.specs.Recurrence.{AreTimed}
-use Rattle.tomex_sets.specs.Sets.{has}
-use Rattle.tomex_bus.specs.Picks.{IsInIssueOrder, Rises, is_listed}
-use Rattle.tomex_sets.proofs.Bits.{has_one, none_in}
-use Rattle.tomex_tags.specs.Pools.{AreBusy, Pools}
-use Rattle.tomex_cycle.specs.Run.{AreIssuedBy}
-use Rattle.tomex_cycle.specs.Views.{Clocks, ShowsStations, issue_number_at, holds_place, order_of, place_of, station_at}
+use Rattle.std.proofs.Common.{ℕ, ◌+◌, ◌<◌, ◌≤◌, ◌≡◌, ◌∙◌, ◌^◌, true, false, arith, refl, List, [], ◌∷◌, ◌++◌, Option}
+use Rattle.std.proofs.Common.{Some, None, ap, sym, inl, inr, append_assoc, length, slice_index}
+use Rattle.tomex_cycle.proofs.Words.{nat_lt, not, ◌||◌, ◌==◌, is_some, w128, bit_at-trailing_zeros, cases_Bool}
+use Rattle.tomex_cycle.proofs.Words.{nat_tests, cases_order, both_ways, ltb-true, ltb-false, and_parts, eq-eqb}
+use Rattle.tomex_cycle.proofs.Words.{eqb-true, get_or_past, Loaded, Configuration, IsWithinLimits, is_number, step_pool}
+use Rattle.tomex_cycle.proofs.Words.{Done, AreTimed, has, IsInIssueOrder, Rises, is_listed, has_one, none_in, AreBusy}
+use Rattle.tomex_cycle.proofs.Words.{Pools, AreIssuedBy, Clocks, ShowsStations, issue_number_at, holds_place, order_of}
+use Rattle.tomex_cycle.proofs.Words.{place_of, station_at}
 use Rattle.tomex_cycle.proofs.Places.{is_vacant, low, place_low, vacant, AreLow}
-
-or_false : (a : Bool) → (a || false) ≡ a
-or_false true = refl
-or_false false = refl
-
-or_turn : (a b : Bool) → (a || b) ≡ (b || a)
-or_turn true true = refl
-or_turn true false = refl
-or_turn false true = refl
-or_turn false false = refl
-
-or_true : (a b : Bool) → b ≡ true → (a || b) ≡ true
-or_true true b e = refl
-or_true false b e = e
+use Rattle.tomex_cycle.proofs.Truth.{or_false, or_one}
 
 pub in-append : (xs ys : List ℕ) (x : ℕ) → is_listed (xs ++ ys) x ≡ (is_listed xs x || is_listed ys x)
 in-append [] ys x = refl
@@ -60,7 +37,7 @@ in_order i c (d ∷ older) x = in_by i c d older x (place_of d) refl (in_order i
       ]
       | inl l ↦ elim (cases_Bool (p == x)) [
         | inl k ↦ rw (e, l, k, in-append (order_of c.end older) (p ∷ []) x)
-            (sym (or_true (is_listed (order_of c.end older) x) ((p == x) || false) (rw k refl)))
+            (sym (or_one (is_listed (order_of c.end older) x) ((p == x) || false) (rw k refl)))
         | inr k ↦ rw (e, l, k, in-append (order_of c.end older) (p ∷ []) x)
             (before ∙ sym (rw k (or_false (is_listed (order_of c.end older) x))))
       ]
@@ -83,8 +60,7 @@ order_low end (d ∷ older) x few e = low_by end d older x (place_of d) refl few
         | inl k ↦ let same : p ≡ x = eqb-true p x k in rw (← same) (place_low (step_pool d.step) d.at.station p few.0 f)
         | inr k ↦
             let there : is_listed (order_of end older ++ (p ∷ [])) x ≡ true = rw (l, f) at e in
-            let here : (is_listed (order_of end older) x || ((p == x) || false)) ≡ true =
-            sym (in-append (order_of end older) (p ∷ []) x) ∙ there in
+            let here = sym (in-append (order_of end older) (p ∷ []) x) ∙ there in
             before (sym (rw k (or_false (is_listed (order_of end older) x))) ∙ here)
       ]
     ]
@@ -102,70 +78,57 @@ rises-append issue_numbers (x ∷ xs) p rises each = (
       | inl m ↦ let same : p ≡ y = eqb-true p y m in rw (← same) (each x (rw (eq-eqb x x refl) refl))
       | inr m ↦
           let f : (is_listed xs y || ((p == y) || false)) ≡ true = sym (in-append xs (p ∷ []) y) ∙ e in
-          let g : false ≡ true = sym (rw (k, m) refl) ∙ f in
           absurd (cc)
     ]
   ]),
-  rises-append issue_numbers xs p rises.1 (λ y e. each y (rw e (or_true (x == y) true refl))),
+  rises-append issue_numbers xs p rises.1 (λ y e. each y (rw e (or_one (x == y) true refl))),
 )
 
 taken : (t x : ℕ) (newer : List Done) (w : Done) (older : List Done) → holds_place t x w ≡ true
     → is_vacant t x (newer ++ (w ∷ older)) ≡ true → ⊥
-taken t x [] w older held free =
-    let f : not true ≡ true = rw held at (and_parts (not (holds_place t x w)) (is_vacant t x older) free).0 in
-    cc
+taken t x [] w older held free = cc
 taken t x (n ∷ newer) w older held free =
     taken t x newer w older held (and_parts (not (holds_place t x n)) (is_vacant t x (newer ++ (w ∷ older))) free).1
 
 -- the issue number of a busy step's place is the number of its elders
-number_here : (config : Configuration) (end x : ℕ) (newer : List Done) (d : Done) (older : List Done)
+number_here : {config : Configuration} (end x : ℕ) (newer : List Done) (d : Done) (older : List Done)
     → IsWithinLimits config → AreTimed config (newer ++ (d ∷ older)) → AreIssuedBy (end + 1) (newer ++ (d ∷ older))
     → holds_place end x d ≡ true → issue_number_at (newer ++ (d ∷ older)) x ≡ length older
-number_here config end x [] d older good timed issued held =
+number_here end x [] d older good timed issued held =
     rw (and_parts (is_number (place_of d) x) (nat_lt end d.at.end) held).0 refl
-number_here config end x (n ∷ newer) d older good timed issued held = elim (cases_Bool (is_number (place_of n) x)) [
-  | inr e ↦ rw e (number_here config end x newer d older good timed.1 issued.1 held)
-  | inl e ↦ absurd (taken end x newer d older held (vacant config n (newer ++ (d ∷ older)) end x good timed issued.0 e))
+number_here end x (n ∷ newer) d older good timed issued held = elim (cases_Bool (is_number (place_of n) x)) [
+  | inr e ↦ rw e (number_here end x newer d older good timed.1 issued.1 held)
+  | inl e ↦ absurd (taken end x newer d older held (vacant n (newer ++ (d ∷ older)) end x good timed issued.0 e))
 ]
 
 pub record AreOlder (issue_numbers : List ℕ) (end : ℕ) (part : List Done) : Type 0 where
   pub rises : Rises issue_numbers (order_of end part)
   pub below : (x : ℕ) → is_listed (order_of end part) x ≡ true → slice_index issue_numbers x < length part
 
-part_low : (config : Configuration) (newer : List Done) (d : Done) (older : List Done) → IsWithinLimits config
+part_low : {config : Configuration} (newer : List Done) (d : Done) (older : List Done) → IsWithinLimits config
     → AreTimed config (newer ++ (d ∷ older)) → (n : ℕ) → d.at.station ≡ Some n → n < 16
-part_low config [] d older good timed = (low config (d ∷ older) good timed).0
-part_low config (n ∷ newer) d older good timed = part_low config newer d older good timed.1
+part_low {config} [] d older good timed = (low config (d ∷ older) good timed).0
+part_low (n ∷ newer) d older good timed = part_low newer d older good timed.1
 
-below_by : (issue_numbers : List ℕ) (end p x : ℕ) (d : Done) (older : List Done) → AreOlder issue_numbers end older
-    → slice_index issue_numbers p ≡ length older → (is_listed (order_of end older) x || ((p == x) || false)) ≡ true
+below_by : {issue_numbers : List ℕ} {end : ℕ} (p x : ℕ) (d : Done) {older : List Done}
+    → AreOlder issue_numbers end older → slice_index issue_numbers p ≡ length older
+    → (is_listed (order_of end older) x || ((p == x) || false)) ≡ true
     → slice_index issue_numbers x < length (d ∷ older)
-below_by issue_numbers end p x d older before issue_number k = elim (cases_Bool (is_listed (order_of end older) x)) [
-  | inl m ↦ let l : slice_index issue_numbers x < length older = before.below x m in omega arith
-  | inr m ↦ elim (cases_Bool (p == x)) [
-    | inl q ↦ let same : p ≡ x = eqb-true p x q in let f : slice_index issue_numbers x ≡ length older =
-        rw same at issue_number in omega arith
-    | inr q ↦ let z : false ≡ true = rw (m, q) at k in absurd (cc)
-  ]
-]
+below_by {issue_numbers} {end} p x d {older} before issue_number k = grind (arith, nat_tests)
 
 order_rises : (i : Loaded) (config : Configuration) (c : Clocks) (h newer part : List Done) (st : Pools)
     → IsWithinLimits config → AreTimed config h → AreIssuedBy (c.end + 1) h → ShowsStations i c h st → h ≡ newer ++ part
     → AreOlder st.issue_numbers c.end part
 order_rises i config c h newer [] st good timed issued shown e = record { rises = tt; below = λ x k. absurd (cc) }
 order_rises i config c h newer (d ∷ older) st good timed issued shown e =
-    let before : AreOlder st.issue_numbers c.end older =
-    order_rises i config c h (newer ++ (d ∷ [])) older st good timed issued shown
-    (e ∙ sym (append_assoc newer (d ∷ []) older)) in
+    let before : AreOlder st.issue_numbers c.end older = order_rises i config c h (newer ++ (d ∷ [])) older st good
+    timed issued shown (e ∙ sym (append_assoc newer (d ∷ []) older)) in
     rise_by i config c h newer d older st (place_of d) refl good timed issued shown e before
   where
     longer : (issue_numbers : List ℕ) (end : ℕ) (d : Done) (older : List Done)
         → order_of end (d ∷ older) ≡ order_of end older → AreOlder issue_numbers end older
         → AreOlder issue_numbers end (d ∷ older)
-    longer issue_numbers end d older same before = record {
-      rises = rw same before.rises;
-      below = λ x k. let l : slice_index issue_numbers x < length older = before.below x (rw same at k) in omega arith;
-    }
+    longer issue_numbers end d older e f = grind (arith, nat_tests)
 
     rise_by : (i : Loaded) (config : Configuration) (c : Clocks) (h newer : List Done) (d : Done) (older : List Done)
         (st : Pools) (p : Option ℕ) → place_of d ≡ p → IsWithinLimits config → AreTimed config h
@@ -183,26 +146,23 @@ order_rises i config c h newer (d ∷ older) st good timed issued shown e =
               let here : AreTimed config (newer ++ (d ∷ older)) = rw e at timed in
               let by : AreIssuedBy (c.end + 1) (newer ++ (d ∷ older)) = rw e at issued in
               let held : holds_place c.end p d ≡ true = rw (f, l, eq-eqb p p refl) refl in
-              let small : p < 96 = place_low (step_pool d.step) d.at.station p (part_low config newer d older good here)
-              f
-              in
-              let issue_number : slice_index st.issue_numbers p ≡ length older =
-              shown.issue_numbers p small ∙ (ap (λ xs. issue_number_at xs p) e
-              ∙ number_here config c.end p newer d older good here by held) in
+              let small : p < 96 = place_low (step_pool d.step) d.at.station p (part_low newer d older good here) f in
+              let issue_number : slice_index st.issue_numbers p ≡ length older = shown.issue_numbers p small
+              ∙ (ap (λ xs. issue_number_at xs p) e ∙ number_here c.end p newer d older good here by held) in
               let order : order_of c.end (d ∷ older) ≡ order_of c.end older ++ (p ∷ []) = rw (l, f) refl in
               record {
                 rises = rw order (rises-append st.issue_numbers (order_of c.end older) p before.rises
                     (λ y k. let m : slice_index st.issue_numbers y < length older = before.below y k in omega arith));
-                below = λ x k. below_by st.issue_numbers c.end p x d older before issue_number
+                below = λ x k. below_by p x d before issue_number
                     (sym (in-append (order_of c.end older) (p ∷ []) x) ∙ (rw order at k));
               }
         ]
 
 -- the order lists the busy places in issue order
-pub order_is : (i : Loaded) (config : Configuration) (c : Clocks) (h : List Done) (st : Pools) → IsWithinLimits config
+pub order_is : {i : Loaded} {config : Configuration} {c : Clocks} {h : List Done} {st : Pools} → IsWithinLimits config
     → AreTimed config h → AreIssuedBy (c.end + 1) h → ShowsStations i c h st → AreBusy st.slots st.busy st.issue_numbers
     → IsInIssueOrder st.busy st.issue_numbers (order_of c.end h)
-order_is i config c h st good timed issued shown filled = record {
+order_is {i} {config} {c} {h} {st} good timed issued shown filled = record {
   members = λ x l. filled.each x l ∙ elim (cases_Bool (nat_lt x 96)) [
     | inl k ↦ ap is_some (shown.slots x (ltb-true x 96 k)) ∙ in_order i c h x
     | inr k ↦
@@ -222,11 +182,11 @@ order_is i config c h st good timed issued shown filled = record {
 
 -- No station is busy.
 
-pub empty_order : (i : Loaded) (config : Configuration) (c : Clocks) (h : List Done) (st : Pools)
+pub empty_order : {i : Loaded} {config : Configuration} {c : Clocks} {h : List Done} {st : Pools}
     → IsWithinLimits config → AreTimed config h → AreIssuedBy (c.end + 1) h → ShowsStations i c h st
     → AreBusy st.slots st.busy st.issue_numbers → st.busy ≡ 0 → order_of c.end h ≡ []
-empty_order i config c h st good timed issued shown filled e =
-    empty (order_of c.end h) st.busy st.issue_numbers e (order_is i config c h st good timed issued shown filled)
+empty_order {c} {h} {st} good timed issued shown filled e =
+    empty (order_of c.end h) st.busy st.issue_numbers e (order_is good timed issued shown filled)
   where
     empty : (xs : List ℕ) (busy : ℕ) (issue_numbers : List ℕ) → busy ≡ 0 → IsInIssueOrder busy issue_numbers xs
         → xs ≡ []

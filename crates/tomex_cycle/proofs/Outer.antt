@@ -1,47 +1,29 @@
 -- The first snapshot, the end and the tables.
 use Rattle.std.proofs.Common.{ℕ, ◌+◌, ◌<◌, ◌≤◌, ◌≡◌, ◌∙◌, false, arith, refl, List, [], ◌∷◌, ◌++◌, Option, Some, None}
 use Rattle.std.proofs.Common.{ap, sym, inl, inr, length, replicate, slice_index_or, subst}
-use Rattle.std.specs.Prelude.{slice_index, map}
-use Rattle.std.specs.List.{filter_map, range_with_len}
-use Rattle.std.proofs.lemmas.Bool.{cases_Bool, cases_order, lt-ltb, le-ltb, lt-leb, le-leb}
-use Rattle.std.proofs.lemmas.List.{get_or-replicate}
-use Rattle.tomex_image.specs.Image.{Loaded, IsLoaded}
-use Rattle.tomex_config.specs.Configuration.{Configuration, IsWithinLimits}
-use Rattle.tomex_rvexec.specs.declared.outcome.EndKind.{EndKind}
-use Rattle.tomex_steps.specs.declared.step.Step.{Step}
-use Rattle.tomex_rvexec.specs.History.{step_after, Follows, Leaves, byte_after, register_after, history as first_steps}
+use Rattle.tomex_cycle.proofs.Words.{slice_index, map, filter_map, range_with_len, cases_Bool, cases_order, lt-ltb}
+use Rattle.tomex_cycle.proofs.Words.{le-ltb, lt-leb, le-leb, get_or-replicate, Loaded, Configuration, IsWithinLimits}
+use Rattle.tomex_cycle.proofs.Words.{EndKind, Step, step_after, byte_after, register_after, Bytes, EndsWithin}
+use Rattle.tomex_cycle.proofs.Words.{is_number, step_dest, is_store, Busy, Tag, Done, greatest_end, Tables, tables_of}
+use Rattle.tomex_cycle.proofs.Words.{shown, qi_of, all_tags, producer, Inner, IsAt, Fetch, At, Stopped, Progress}
+use Rattle.tomex_cycle.proofs.Words.{Running, RunEndsAfter, first_timed, run_of, AreIssuedBy, IsHistory, steps_in}
+use Rattle.tomex_cycle.proofs.Words.{byte_at, clocks, ShowsRegisters, ShowsStations, IsSnapshot, IsYetToIssue, Seen}
+use Rattle.tomex_cycle.proofs.Words.{overwrites, step_ends_it, step_follows, step_joins, timed_by, IsSound, Pools}
+use Rattle.tomex_cycle.proofs.Words.{RegStatus, Station}
+use Rattle.tomex_image.specs.Image.{IsLoaded}
+use Rattle.tomex_rvexec.specs.History.{Leaves, history as first_steps}
 use Rattle.tomex_rvexec.specs.Machine.{State}
-use Rattle.tomex_steps.specs.Memory.{Bytes}
-use Rattle.tomex_rvexec.specs.Run.{RunEnds, EndsWithin, start_of}
-use Rattle.tomex_steps.specs.Steps.{is_number, step_dest, is_store}
-use Rattle.tomex_timing.specs.declared.tables.Busy.{Busy}
-use Rattle.tomex_timing.specs.declared.tables.Tag.{Tag}
-use Rattle.tomex_timing.specs.declared.times.Done.{Done}
-use Rattle.tomex_timing.specs.History.{greatest_end}
-use Rattle.tomex_timing.specs.Tables.{Tables}
-use Rattle.tomex_timing.specs.Tables.{tables_of, shown, qi_of, all_tags, producer}
-use Rattle.tomex_cycle.specs.declared.fetch.Fetch.{Fetch}
-use Rattle.tomex_cycle.specs.declared.fetch.Fetch.TheVariants.{At, Stopped}
-use Rattle.tomex_cycle.specs.declared.progress.Progress.{Progress}
-use Rattle.tomex_cycle.specs.declared.progress.Progress.TheVariants.{Running}
-use Rattle.tomex_cycle.specs.Run.{first_timed, run_of, AreIssuedBy, IsHistory, steps_in, byte_at}
-use Rattle.tomex_cycle.specs.Views.{clocks, ShowsRegisters, ShowsStations}
-use Rattle.tomex_cycle.specs.Phases.{IsIssuedTo, IsSnapshot, IsYetToIssue}
-use Rattle.tomex_cycle.specs.Seen.{Seen}
+use Rattle.tomex_rvexec.specs.Run.{start_of}
+use Rattle.tomex_cycle.specs.Inner.{IsFresh}
+use Rattle.tomex_cycle.proofs.Ticks.{sound_run}
 use Rattle.tomex_rvexec.specs.Flow.{IsState}
-use Rattle.tomex_steps.specs.Results.{overwrites}
-use Rattle.tomex_rvexec.proofs.FlowEnds.{step_ends_it, step_follows, step_joins, end_is}
+use Rattle.tomex_rvexec.proofs.FlowEnds.{end_is}
 use Rattle.tomex_rvexec.proofs.FlowHistories.{same_registers, same_memory}
 use Rattle.tomex_rvexec.proofs.FlowRuns.{run_state}
 use Rattle.tomex_rvexec.proofs.FlowStates.{end_writes_no_register, end_writes_no_byte}
-use Rattle.tomex_timing.proofs.Bound.{timed_by}
 use Rattle.tomex_timing.proofs.Settled.{AllBy}
-use Rattle.tomex_cycle.specs.Sound.{IsSound, IsAfter}
 use Rattle.tomex_cycle.proofs.Runs.{run_timed, steps_are, run_none, run_whole, run_history, rest_to, AreLater}
 use Rattle.tomex_cycle.proofs.Totals.{more_left, stops}
-use Rattle.tomex_tags.specs.Pools.{Pools}
-use Rattle.tomex_tags.specs.declared.register_status.RegStatus.{RegStatus}
-use Rattle.tomex_tags.specs.declared.station.Station.{Station}
 
 none_issued : (config : Configuration) (i : Loaded) → IsYetToIssue i config 0 0
 none_issued config i x e s l =
@@ -55,13 +37,12 @@ none_at n xs e x l = rw (e, get_or-replicate) refl
 shows_none : (i : Loaded) (st : Pools) → length st.slots ≡ 96
     → ((x : ℕ) → x < 96 → slice_index_or st.slots x None ≡ None) → st.issue_numbers ≡ replicate 128 0
     → ShowsStations i (clocks 0 0 0) [] st
-shows_none i st places slots issue_numbers =
-    record {
-      places = places;
-      slots = slots;
-      order_count = rw issue_numbers refl;
-      issue_numbers = λ x l. rw issue_numbers (get_or-replicate 128 x 0 0 (omega arith));
-    }
+shows_none i st places slots issue_numbers = record {
+  places = places;
+  slots = slots;
+  order_count = rw issue_numbers refl;
+  issue_numbers = λ x l. rw issue_numbers (get_or-replicate 128 x 0 0 (omega arith));
+}
 
 slots_count : length (replicate {A = Option Station} 96 None) ≡ 96
 slots_count = refl
@@ -73,12 +54,11 @@ start_count : (i : Loaded) → length (start_of i).regs ≡ 32
 start_count i = refl
 
 -- before the first cycle
-pub start_shown : (i : Loaded) (config : Configuration) (n : ℕ) (st : Pools) (rg : RegStatus) (ft : Fetch) (m : Bytes)
+pub start_shown : {config : Configuration} {n : ℕ} {st : Pools} {rg : RegStatus} {ft : Fetch} {m : Bytes} (i : Loaded)
     → st.slots ≡ replicate 96 None → st.issue_numbers ≡ replicate 128 0 → rg.tags ≡ replicate 32 None
-    → rg.values ≡ (start_of i).regs
-    → ft ≡ At i.entry → m.base ≡ i.window.base → m.bytes ≡ i.memory → length i.memory ≡ i.window.size
-    → IsSnapshot i config n 0 0 st rg ft m
-start_shown i config n st rg ft m slots issue_numbers tags values from base bytes size =
+    → rg.values ≡ (start_of i).regs → ft ≡ At i.entry → m.base ≡ i.window.base → m.bytes ≡ i.memory
+    → length i.memory ≡ i.window.size → IsSnapshot i config n 0 0 st rg ft m
+start_shown {config} {st = st} {rg} i slots issue_numbers tags values from base bytes size =
     let e : first_timed config i 0 ≡ [] = run_none config i in
     record {
       issue = record {
@@ -97,21 +77,19 @@ start_shown i config n st rg ft m slots issue_numbers tags values from base byte
       bytes = rw e (record { base = base; size = ap length bytes ∙ size; bytes = λ a low high. rw (base, bytes) refl });
     }
 
-pub sound_start : (i : Loaded) (config : Configuration) (count : ℕ) (st : Pools) (rg : RegStatus) (ft : Fetch)
-    (m : Bytes) → IsWithinLimits config → IsLoaded i.window i.memory i.entry
-    → ((r : Configuration) (n : ℕ) → IsSnapshot i r n 0 count st rg ft m) → count ≡ 0
-    → IsSound i config 0 Running count st rg ft m
-sound_start i config count st rg ft m good loaded seen none = record {
+pub sound_start : {A : Type 0} {i : Loaded} {config : Configuration} {inner : Inner A} → IsWithinLimits config
+    → IsLoaded i.window i.memory i.entry → IsFresh i inner → IsSound i config 0 Running inner
+sound_start {i} {config} {inner} good loaded fresh = record {
   lawful = good;
   loaded = loaded;
   low = omega arith;
-  after = λ n s kind l ends.
-      let k : 0 < greatest_end (first_timed config i (n + 1)) =
-      more_left config i n count 0 s kind good ends (omega arith) (seen config n).issue.next in
+  after = λ n run.
+      let k : 0 < greatest_end (first_timed config i (n + 1)) = more_left inner.issued 0 run
+      (let none : inner.issued ≡ 0 = fresh.none in omega arith) (fresh.start config n).issue.next in
       record {
         high = omega arith;
         answer = rw (lt-ltb 0 (greatest_end (first_timed config i (n + 1))) k) refl;
-        snapshot = seen config n;
+        snapshot = fresh.start config n;
       };
 }
 
@@ -135,10 +113,8 @@ map_same f g same (x ∷ xs) = rw (same x, map_same f g same xs) refl
 
 tables_later : (t : ℕ) (newer h : List Done) → AreLater t newer → tables_of t (newer ++ h) ≡ tables_of t h
 tables_later t newer h later =
-    let a : filter_map (shown t (newer ++ h)) all_tags ≡ filter_map (shown t h) all_tags =
-    filter_same (shown t (newer ++ h)) (shown t h) (λ tag. shown_later t newer h tag later) all_tags in
-    let b : map (qi_of t (newer ++ h)) (range_with_len 0 32) ≡ map (qi_of t h) (range_with_len 0 32) =
-    map_same (qi_of t (newer ++ h)) (qi_of t h) (λ r. qi_later t newer h r later) (range_with_len 0 32) in
+    let a = filter_same (shown t (newer ++ h)) (shown t h) (λ tag. shown_later t newer h tag later) all_tags in
+    let b = map_same (qi_of t (newer ++ h)) (qi_of t h) (λ r. qi_later t newer h r later) (range_with_len 0 32) in
     let f : List Busy → Tables = λ x. record {
       cycle = t;
       busy = x;
@@ -149,39 +125,30 @@ tables_later t newer h later =
     ap f a ∙ ap g b
 
 -- the tables of the whole run are those of what has issued
-pub tables_whole : (config : Configuration) (i : Loaded) (n count t : ℕ) (s : State) (kind : EndKind)
-    → IsWithinLimits config → RunEnds i n s kind → n < 262144 → count ≤ n + 1
-    → (count ≤ n → IsYetToIssue i config count t)
+tables_whole : {config : Configuration} {i : Loaded} {n : ℕ} (count t : ℕ) → RunEndsAfter i config n
+    → count ≤ n + 1 → (count ≤ n → IsYetToIssue i config count t)
     → tables_of t (run_of config i) ≡ tables_of t (first_timed config i count)
-tables_whole config i n count t s kind good ends l few next =
-    let rest = rest_to config i n count (n + 1) t s kind good ends next few (omega arith) in
-    let e : run_of config i ≡ rest.0 ++ first_timed config i count = run_whole config i n s kind ends l ∙ rest.1.same in
+tables_whole {config} {i} {n} count t run few next =
+    let rest = rest_to count (n + 1) t run next few (omega arith) in
+    let e : run_of config i ≡ rest.0 ++ first_timed config i count = run_whole run ∙ rest.1.same in
     ap (tables_of t) e ∙ tables_later t rest.0 (first_timed config i count) rest.1.later
 
 -- the machine's tables, pointwise
-pub whole_tables : (config : Configuration) (i : Loaded) (cycle : ℕ) (last : Progress) (count : ℕ) (st : Pools)
-    (rg : RegStatus) (ft : Fetch) (m : Bytes) (tables : Tables)
-    → ((i : Loaded) (h : List Done) (config : Configuration) → IsHistory i config h → AreIssuedBy cycle h
-    → ShowsStations i (clocks cycle cycle cycle) h st → ShowsRegisters i cycle h rg → tables ≡ tables_of cycle h)
-    → IsSound i config cycle last count st rg ft m → EndsWithin i 262144 → tables ≡ tables_of cycle (run_of config i)
-whole_tables config i cycle last count st rg ft m tables made sound ends =
-    let after : IsAfter i config ends.0 cycle last count st rg ft m = sound.after ends.0 ends.1 ends.2 ends.3 ends.4 in
-    let shot : IsIssuedTo i config ends.0 cycle (clocks cycle cycle cycle) count st rg ft = after.snapshot.issue in
-    let h : IsHistory i config (first_timed config i count) =
-    run_history config i ends.0 count ends.1 ends.2 sound.lawful sound.loaded ends.4 shot.few in
-    made i (first_timed config i count) config h shot.issued shot.slots shot.status
-    ∙ sym (tables_whole config i ends.0 count cycle ends.1 ends.2 sound.lawful ends.4 ends.3 shot.few shot.next)
-
-pub tables_seen : (config : Configuration) (i : Loaded) (cycle : ℕ) (last : Progress) (seen : Seen) (count : ℕ)
-    (st : Pools) (rg : RegStatus) (ft : Fetch) (m : Bytes) (tables : Tables)
+pub tables_seen : {A : Type 0} {config : Configuration} {i : Loaded} {cycle : ℕ} {last : Progress} {seen : Seen}
+    {inner : Inner A} {tables : Tables}
     → ◌≡◌ {A = Seen} (record { image = i; config = config; cycle = cycle; status = last }) seen
     → ((i : Loaded) (h : List Done) (config : Configuration) → IsHistory i config h → AreIssuedBy cycle h
-    → ShowsStations i (clocks cycle cycle cycle) h st → ShowsRegisters i cycle h rg → tables ≡ tables_of cycle h)
-    → IsSound i config cycle last count st rg ft m → EndsWithin seen.image 262144
+    → ShowsStations i (clocks cycle cycle cycle) h inner.pools → ShowsRegisters i cycle h inner.registers
+    → tables ≡ tables_of cycle h) → IsSound i config cycle last inner → EndsWithin seen.image 262144
     → tables ≡ tables_of seen.cycle (run_of seen.config seen.image)
-tables_seen config i cycle last seen count st rg ft m tables e made sound =
+tables_seen {config = config} {i} {cycle} {inner = inner} {tables} e made sound =
     let P : Seen → Type 0 = λ x. EndsWithin x.image 262144 → tables ≡ tables_of x.cycle (run_of x.config x.image) in
-    subst P e (λ ends. whole_tables config i cycle last count st rg ft m tables made sound ends)
+    subst P e (λ ends.
+    let run : RunEndsAfter i config ends.0 = sound_run sound ends in
+    let shot = (sound.after ends.0 run).snapshot.issue in
+    let h : IsHistory i config (first_timed config i inner.issued) = run_history inner.issued run shot.few in
+    made i (first_timed config i inner.issued) config h shot.issued shot.slots shot.status
+    ∙ sym (tables_whole inner.issued cycle run shot.few shot.next))
 
 no_writer : (t : ℕ) (h : List Done) (r : ℕ) → greatest_end h ≤ t → producer t h r ≡ None
 no_writer t [] r l = refl
@@ -197,12 +164,10 @@ end_values i x steps r e = rw e refl
 bytes_ended : (i : Loaded) (t g a : ℕ) (h : List Done) → AllBy g h → g ≤ t
     → byte_at i t h a ≡ byte_after i (steps_in h) a
 bytes_ended i t g a [] by l = refl
-bytes_ended i t g a (d ∷ older) by l =
-    let k : d.at.start ≤ g = by.0.start in
-    elim (cases_Bool (overwrites d.step a)) [
-      | inl e ↦ rw (e, le-leb d.at.start t (omega arith)) refl
-      | inr e ↦ rw e (bytes_ended i t g a older by.1 l)
-    ]
+bytes_ended i t g a (d ∷ older) by l = elim (cases_Bool (overwrites d.step a)) [
+  | inl e ↦ rw (e, le-leb d.at.start t (omega arith)) refl
+  | inr e ↦ rw e (bytes_ended i t g a older by.1 l)
+]
 
 bytes_kept : (i : Loaded) (x : Step) (steps : List Step) (a : ℕ) → is_store x ≡ false
     → byte_after i (x ∷ steps) a ≡ byte_after i steps a
@@ -217,39 +182,36 @@ pub record IsOver (i : Loaded) (n : ℕ) (s : State) (kind : EndKind) (count : �
   pub base : m.base ≡ s.image.window.base
   pub bytes : m.bytes ≡ s.memory
 
-all_issued : (config : Configuration) (i : Loaded) (n t count : ℕ) (s : State) (kind : EndKind) (st : Pools)
-    (rg : RegStatus) (ft : Fetch) → IsWithinLimits config → RunEnds i n s kind
-    → IsIssuedTo i config n t (clocks t t t) count st rg ft → greatest_end (first_timed config i (n + 1)) ≤ t
-    → count ≡ n + 1
-all_issued config i n t count s kind st rg ft good ends shot l = elim (cases_order count (n + 1)) [
+all_issued : {config : Configuration} {i : Loaded} {n : ℕ} (t count : ℕ) → RunEndsAfter i config n → count ≤ n + 1
+    → (count ≤ n → IsYetToIssue i config count t) → greatest_end (first_timed config i (n + 1)) ≤ t → count ≡ n + 1
+all_issued {config} {i} {n} t count run few next l = elim (cases_order count (n + 1)) [
   | inl e ↦ e
   | inr (inl less) ↦ let k : t < greatest_end (first_timed config i (n + 1)) =
-      more_left config i n count t s kind good ends (omega arith) shot.next in absurd (omega arith)
-  | inr (inr more) ↦ let k : count ≤ n + 1 = shot.few in absurd (omega arith)
+      more_left count t run (omega arith) next in absurd (omega arith)
+  | inr (inr more) ↦ absurd (omega arith)
 ]
 
 steps_last : (config : Configuration) (i : Loaded) (n : ℕ) (x : Step) → step_after i n ≡ Some x
     → steps_in (first_timed config i (n + 1)) ≡ x ∷ first_steps i n
 steps_last config i n x e = steps_are config i (n + 1) ∙ step_joins i n x e
 
-over_at : (config : Configuration) (i : Loaded) (n t : ℕ) (s : State) (kind : EndKind) (st : Pools) (rg : RegStatus)
-    (ft : Fetch) (m : Bytes) → IsWithinLimits config → IsLoaded i.window i.memory i.entry → RunEnds i n s kind
-    → IsSnapshot i config n t (n + 1) st rg ft m → greatest_end (first_timed config i (n + 1)) ≤ t
-    → IsOver i n s kind (n + 1) rg ft m
-over_at config i n t s kind st rg ft m good loaded ends shot l =
+over_at : {config : Configuration} {i : Loaded} {n : ℕ} {st : Pools} {rg : RegStatus} {ft : Fetch} {m : Bytes} (t : ℕ)
+    → (run : RunEndsAfter i config n) → IsSnapshot i config n t (n + 1) st rg ft m
+    → greatest_end (first_timed config i (n + 1)) ≤ t → IsOver i n run.state run.kind (n + 1) rg ft m
+over_at {config} {i} {n} {rg = rg} {ft} {m} t run shot l =
+    let s : State = run.state in
+    let kind : EndKind = run.kind in
     let h : List Done = first_timed config i (n + 1) in
-    let last = stops config i n t s kind ends in
-    let kind_is = step_ends_it i n s kind last.0 ends last.1 in
-    let steps : steps_in (first_timed config i (n + 1)) ≡ last.0 ∷ first_steps i n =
-    steps_last config i n last.0 last.1 in
-    let leaves : Leaves i (first_steps i n) s = end_is i n s kind loaded ends in
-    let state : IsState s = run_state i n s loaded ends.leads in
-    let follows : Follows i (first_steps i n) last.0 =
-    step_follows i n n s kind last.0 loaded ends (omega arith) last.1 in
+    let last = stops t run in
+    let kind_is = step_ends_it i n s kind last.0 run.ends last.1 in
+    let steps = steps_last config i n last.0 last.1 in
+    let leaves : Leaves i (first_steps i n) s = end_is i n s kind run.loaded run.ends in
+    let state : IsState s = run_state i n s run.loaded run.ends.leads in
+    let follows = step_follows i n n s kind last.0 run.loaded run.ends (omega arith) last.1 in
     let pc : last.0.pc ≡ s.pc = follows.pc ∙ sym leaves.pc in
     let no_dest : step_dest last.0 ≡ None = end_writes_no_register last.0 kind kind_is in
     let no_store : is_store last.0 ≡ false = end_writes_no_byte last.0 kind kind_is in
-    let by = timed_by config h good (run_timed config i (n + 1) good) in
+    let by = timed_by config h run.lawful (run_timed i (n + 1) run.lawful) in
     let fetch : ft ≡ Stopped kind last.0.pc = shot.issue.from ∙ last.2 in
     let size : length m.bytes ≡ i.window.size = shot.bytes.size in
     let base : m.base ≡ i.window.base = shot.bytes.base in
@@ -262,21 +224,16 @@ over_at config i n t s kind st rg ft m good loaded ends shot l =
       base = base ∙ sym (ap (λ x. x.window.base) leaves.image);
       bytes = same_memory i (first_steps i n) s m.bytes leaves state (record {
         count = size;
-        each = λ a low high. rw base at (shot.bytes.bytes a low high)
-            ∙ (bytes_ended i t (greatest_end h) a h by l
+        each = λ a low high. rw base at (shot.bytes.bytes a low high) ∙ (bytes_ended i t (greatest_end h) a h by l
             ∙ (ap (λ xs. byte_after i xs a) steps ∙ bytes_kept i last.0 (first_steps i n) a no_store));
       });
     }
 
-pub is_over_at : (config : Configuration) (i : Loaded) (n t count : ℕ) (s : State) (kind : EndKind) (st : Pools)
-    (rg : RegStatus) (ft : Fetch) (m : Bytes) → IsWithinLimits config → IsLoaded i.window i.memory i.entry
-    → RunEnds i n s kind → IsSnapshot i config n t count st rg ft m → greatest_end (first_timed config i (n + 1)) ≤ t
-    → IsOver i n s kind count rg ft m
-is_over_at config i n t count s kind st rg ft m good loaded ends shot l =
-    let e : count ≡ n + 1 = all_issued config i n t count s kind st rg ft good ends shot.issue l in
-    let P : ℕ → Type 0 = λ x. IsSnapshot i config n t x st rg ft m → IsOver i n s kind x rg ft m in
-    subst P (sym e) (λ seen. over_at config i n t s kind st rg ft m good loaded ends seen l) shot
-
-pub stopped_same : (kind k : EndKind) (pc p : ℕ) (ft : Fetch) → ft ≡ Stopped kind pc → ft ≡ Stopped k p → (k ≡ kind)
-    × (p ≡ pc)
-stopped_same kind k pc p ft e f = (cc, cc)
+pub is_over_at : {A : Type 0} {config : Configuration} {i : Loaded} {n : ℕ} (t : ℕ) (at : Inner A)
+    → (run : RunEndsAfter i config n) → IsAt i config n t at → greatest_end (first_timed config i (n + 1)) ≤ t
+    → IsOver i n run.state run.kind at.issued at.registers at.fetch at.memory
+is_over_at {config = config} {i} {n} t at run shot l =
+    let e : at.issued ≡ n + 1 = all_issued t at.issued run shot.issue.few shot.issue.next l in
+    let P : ℕ → Type 0 = λ x. IsSnapshot i config n t x at.pools at.registers at.fetch at.memory
+    → IsOver i n run.state run.kind x at.registers at.fetch at.memory in
+    subst P (sym e) (λ seen. over_at t run seen l) shot

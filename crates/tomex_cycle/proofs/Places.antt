@@ -1,29 +1,14 @@
 -- A place is held by one step at a time, and the order of the busy places is that of the history.
 use Rattle.std.proofs.Common.{ℕ, ◌+◌, ◌*◌, ◌<◌, ◌≤◌, ◌≡◌, ◌∙◌, Bool, true, false, arith, refl, List, [], ◌∷◌, ◌++◌}
-use Rattle.std.proofs.Common.{Option, Some, None, ap, sym, inl, inr, append_assoc}
-use Rattle.std.specs.Prelude.{nat_lt, nat_le, ◌&&◌, ◌==◌, not, MatchOption, ⊤}
-use Rattle.std.specs.List.{list_all}
-use Rattle.std.proofs.lemmas.Bool.{cases_Bool, cases_order, ltb-true, le-leb, both_ways, and_parts, eqb-true, eq-eqb}
-use Rattle.std.proofs.lemmas.Bool.{ne_eqb, and_right}
+use Rattle.std.proofs.Common.{Option, Some, None, sym, inl, inr, append_assoc}
 use Rattle.std.proofs.lemmas.List.{append-nil}
-use Rattle.tomex_image.specs.Image.{Loaded}
-use Rattle.tomex_config.specs.Configuration.{Configuration, IsWithinLimits, stations_of}
-use Rattle.tomex_rvdec.specs.declared.pool.PoolId.{PoolId}
-use Rattle.tomex_rvdec.specs.declared.pool.PoolId.TheVariants as pools
-use Rattle.tomex_rvdec.specs.Parts.{place_of_pool}
-use Rattle.tomex_steps.specs.Steps.{is_in, is_number, step_pool}
-use Rattle.tomex_timing.specs.declared.times.Done.{Done}
-use Rattle.tomex_timing.specs.Recurrence.{AreTimed, IsLeast}
-use Rattle.tomex_timing.specs.Search.{least}
-use Rattle.tomex_timing.specs.Station.{has_station, is_free, is_held}
-use Rattle.tomex_timing.specs.Tables.{tag_at}
-use Rattle.tomex_timing.proofs.Least.{least_same}
-use Rattle.tomex_timing.proofs.Limits.{stations_high}
-use Rattle.tomex_timing.proofs.Search.{issue_station}
-use Rattle.tomex_timing.proofs.Stations.{number_is}
-use Rattle.tomex_cycle.specs.Run.{AreIssuedBy}
-use Rattle.tomex_cycle.specs.Views.{Clocks, holds_place, onto_end, order_of, place_of, station_at, station_of}
-use Rattle.tomex_tags.specs.Places.{place_at}
+use Rattle.tomex_cycle.proofs.Words.{nat_lt, nat_le, ◌&&◌, ◌==◌, not, MatchOption, ⊤, list_all, cases_Bool, nat_tests}
+use Rattle.tomex_cycle.proofs.Words.{ltb-true, le-leb, and_parts, eqb-true, eq-eqb, and_right, Loaded, Configuration}
+use Rattle.tomex_cycle.proofs.Words.{IsWithinLimits, stations_of, PoolId, place_of_pool, is_in, is_number, step_pool}
+use Rattle.tomex_cycle.proofs.Words.{Done, AreTimed, IsLeast, least, has_station, is_free, is_held, tag_at, least_same}
+use Rattle.tomex_cycle.proofs.Words.{stations_high, issue_station, number_is, AreIssuedBy, Clocks, holds_place}
+use Rattle.tomex_cycle.proofs.Words.{onto_end, order_of, place_of, station_at, station_of, place_at}
+use Rattle.tomex_cycle.proofs.Truth.{some_not_none}
 
 -- a step's place, taken apart
 pub record IsPlace (pool : Option PoolId) (station : Option ℕ) (x : ℕ) : Type 0 where
@@ -47,46 +32,33 @@ abbrev pub AreLow : List Done → Type 0
 AreLow [] = ⊤
 AreLow (d ∷ older) = IsLow d × AreLow older
 
-station_low : (config : Configuration) (older : List Done) (pool : Option PoolId) (station : Option ℕ) (issue : ℕ)
+station_low : {config : Configuration} (older : List Done) (pool : Option PoolId) (station : Option ℕ) (issue : ℕ)
     → IsWithinLimits config → has_station config older pool issue ≡ true
     → MatchOption pool (station ≡ None) (λ p. (n : ℕ) × (station ≡ Some n) × IsLeast (is_free p older issue) n)
     → (n : ℕ) → station ≡ Some n → n < 16
-station_low config older None station issue good has is n e = let f : station ≡ None = is in absurd (cc)
-station_low config older (Some p) station issue good has is n e =
+station_low older None station issue good has is n e = let f : station ≡ None = is in absurd (cc)
+station_low {config} older (Some p) station issue good has is n e =
     let found = number_is config older p issue has in
     let same : is.0 ≡ least (is_free p older issue) (stations_of config p) =
     least_same (is_free p older issue) _ _ is.2 found.0 in
-    let f : station ≡ Some is.0 = is.1 in
     let g : n ≡ is.0 = cc in
-    let l : least (is_free p older issue) (stations_of config p) < stations_of config p = found.1 in
     let m : stations_of config p ≤ 16 = stations_high config p good in
     omega arith
 
 pub low : (config : Configuration) (h : List Done) → IsWithinLimits config → AreTimed config h → AreLow h
 low config [] good timed = tt
 low config (d ∷ older) good timed = (
-  station_low config older (step_pool d.step) d.at.station d.at.issue good
+  station_low older (step_pool d.step) d.at.station d.at.issue good
       (issue_station config older d.step d.at.issue timed.0.issue.0) timed.0.station,
   low config older good timed.1,
 )
 
 pub pool_low : (p : PoolId) → place_of_pool p < 6
-pool_low pools.Alu = omega arith
-pool_low pools.Mul = omega arith
-pool_low pools.Div = omega arith
-pool_low pools.Load = omega arith
-pool_low pools.Store = omega arith
-pool_low pools.Bru = omega arith
+pool_low p = grind (arith, nat_tests)
 
 pub place_low : (pool : Option PoolId) (station : Option ℕ) (x : ℕ) → ((n : ℕ) → station ≡ Some n → n < 16)
     → place_at (tag_at pool station) ≡ Some x → x < 96
-place_low None station x few e = absurd (cc)
-place_low (Some p) None x few e = absurd (cc)
-place_low (Some p) (Some n) x few e =
-    let f : 16 * place_of_pool p + n ≡ x = cc in
-    let a : n < 16 = few n refl in
-    let b : place_of_pool p < 6 = pool_low p in
-    omega arith
+place_low pool station x h3 h4 = grind (arith, nat_tests)
 
 -- nobody holds the place after the cycle
 abbrev pub is_vacant : ℕ → ℕ → List Done → Bool
@@ -112,10 +84,8 @@ vacant_one p n x issue end e few small sum l free = elim (cases_Bool (holds_plac
       let late : end < e.at.end = ltb-true _ _ two.1 in
       let at : IsPlace (step_pool e.step) e.at.station x = place_parts (step_pool e.step) e.at.station x two.0 in
       let less : at.n < 16 = few at.n at.station_is in
-      let held : (((place_of_pool at.p == place_of_pool p) && nat_le issue e.at.end) && (at.n == n)) ≡ true =
-      held_same p at.p n at.n x issue e.at.end small less sum at.sum (omega arith) in
-      let f : (is_held p issue e && is_number e.at.station n) ≡ true =
-      held_with (step_pool e.step) e.at.station p at.p at.n n issue e.at.end at.pool_is at.station_is held in
+      let held = held_same p at.p n at.n x issue e.at.end small less sum at.sum (omega arith) in
+      let f = held_with (step_pool e.step) e.at.station p at.p at.n n issue e.at.end at.pool_is at.station_is held in
       let g : not true ≡ true = rw f at free in
       absurd (cc)
 ]
@@ -131,18 +101,13 @@ free_here : (older : List Done) (pool : Option PoolId) (station : Option ℕ) (i
     → station ≡ Some n
     → MatchOption pool (station ≡ None) (λ p. (n : ℕ) × (station ≡ Some n) × IsLeast (is_free p older issue) n)
     → is_free p older issue n ≡ true
-free_here older None station issue n p a b is = absurd (cc)
-free_here older (Some q) station issue n p a b is =
-    let f : station ≡ Some is.0 = is.1 in
-    let g : is.0 ≡ n = cc in
-    let s : q ≡ p = cc in
-    rw (← s, ← g) is.2.0
+free_here older pool station issue n p h6 h7 h8 = grind (arith, nat_tests)
 
 -- a step's place is vacant of older ones as long as it is the step's
-pub vacant : (config : Configuration) (d : Done) (older : List Done) (end x : ℕ) → IsWithinLimits config
+pub vacant : {config : Configuration} (d : Done) (older : List Done) (end x : ℕ) → IsWithinLimits config
     → AreTimed config (d ∷ older) → d.at.issue ≤ end + 1 → is_number (place_of d) x ≡ true
     → is_vacant end x older ≡ true
-vacant config d older end x good timed l e =
+vacant {config} d older end x good timed l e =
     let at : IsPlace (step_pool d.step) d.at.station x = place_parts (step_pool d.step) d.at.station x e in
     let all = low config (d ∷ older) good timed in
     vacant_all at.p at.n x d.at.issue end older all.1 (all.0 at.n at.station_is) at.sum l
@@ -154,7 +119,6 @@ vacant_none i c [] x e = refl
 vacant_none i c (d ∷ older) x e = elim (cases_Bool (holds_place c.end x d)) [
   | inl h ↦
       let two = and_parts (not (holds_place c.end x d)) (is_vacant c.end x older) e in
-      let g : not true ≡ true = rw h at two.0 in
       absurd (cc)
   | inr h ↦ rw h (vacant_none i c older x (and_parts (not (holds_place c.end x d)) (is_vacant c.end x older) e).1)
 ]
@@ -163,24 +127,20 @@ pub holds_here : (i : Loaded) (c : Clocks) (d : Done) (older : List Done) (x : �
     → station_at i c (d ∷ older) x ≡ Some (station_of i c d older)
 holds_here i c d older x e = rw e refl
 
-some_is_none : {A : Type 0} (x : A) → Some x ≡ None → ⊥
-some_is_none x e = cc
-
 -- the station of a step that holds a place stands there, whatever is younger
-pub station_here : (i : Loaded) (config : Configuration) (c : Clocks) (newer : List Done) (d : Done) (older : List Done)
+pub station_here : (i : Loaded) {config : Configuration} (c : Clocks) (newer : List Done) (d : Done) (older : List Done)
     (x : ℕ) → IsWithinLimits config → AreTimed config (newer ++ (d ∷ older))
     → AreIssuedBy (c.end + 1) (newer ++ (d ∷ older)) → holds_place c.end x d ≡ true
     → station_at i c (newer ++ (d ∷ older)) x ≡ Some (station_of i c d older)
-station_here i config c [] d older x good timed issued e = holds_here i c d older x e
-station_here i config c (n ∷ newer) d older x good timed issued e = elim (cases_Bool (holds_place c.end x n)) [
-  | inr h ↦ rw h (station_here i config c newer d older x good timed.1 issued.1 e)
+station_here i c [] d older x good timed issued e = holds_here i c d older x e
+station_here i c (n ∷ newer) d older x good timed issued e = elim (cases_Bool (holds_place c.end x n)) [
+  | inr h ↦ rw h (station_here i c newer d older x good timed.1 issued.1 e)
   | inl h ↦
       let two = and_parts (is_number (place_of n) x) (nat_lt c.end n.at.end) h in
-      let free : is_vacant c.end x (newer ++ (d ∷ older)) ≡ true =
-      vacant config n (newer ++ (d ∷ older)) c.end x good timed issued.0 two.0 in
+      let free = vacant n (newer ++ (d ∷ older)) c.end x good timed issued.0 two.0 in
       let z : station_at i c (newer ++ (d ∷ older)) x ≡ None = vacant_none i c (newer ++ (d ∷ older)) x free in
-      let f = station_here i config c newer d older x good timed.1 issued.1 e in
-      absurd (some_is_none (station_of i c d older) (sym f ∙ z))
+      let f = station_here i c newer d older x good timed.1 issued.1 e in
+      absurd (some_not_none (station_of i c d older) (sym f ∙ z))
 ]
 
 -- The order.
@@ -196,111 +156,15 @@ order-append end (d ∷ newer) h = elim (cases_Bool (nat_lt end d.at.end)) [
   | inr e ↦ rw e (order-append end newer h)
 ]
 
--- the oldest busy step of a part of a history, whose place is the first of the order
-pub record IsFirstBusy (end : ℕ) (part : List Done) (x : ℕ) (rest : List ℕ) : Type 0 where
-  pub after : List Done
-  pub d : Done
-  pub skipped : List Done
-  pub split : part ≡ after ++ (d ∷ skipped)
-  pub idle : order_of end skipped ≡ []
-  pub holds : holds_place end x d ≡ true
-  pub left : order_of end after ≡ rest
-
--- a step at the head of a part is busy or not
-data Head (end : ℕ) (d : Done) (older : List Done) : Type 0 where
-  stays : order_of end (d ∷ older) ≡ order_of end older
-      → ((after : List Done) → order_of end (d ∷ after) ≡ order_of end after) → Head end d older
-  adds : (x : ℕ) → holds_place end x d ≡ true → order_of end (d ∷ older) ≡ order_of end older ++ (x ∷ [])
-      → ((after : List Done) → order_of end (d ∷ after) ≡ order_of end after ++ (x ∷ [])) → Head end d older
-
-head_with : (end : ℕ) (d : Done) (older : List Done) (o : Option ℕ) → place_of d ≡ o → nat_lt end d.at.end ≡ true
-    → Head end d older
-head_with end d older None e l = stays (rw (l, e) refl) (λ after. rw (l, e) refl)
-head_with end d older (Some x) e l = adds x (rw (l, e, eq-eqb x x refl) refl) (rw (l, e) refl) (λ after. rw (l, e) refl)
-
-head_is : (end : ℕ) (d : Done) (older : List Done) → Head end d older
-head_is end d older = elim (cases_Bool (nat_lt end d.at.end)) [
-  | inl l ↦ head_with end d older (place_of d) refl l
-  | inr l ↦ stays (rw l refl) (λ after. rw l refl)
-]
-
-busy_more : (end : ℕ) (d : Done) (older : List Done) (x : ℕ) (rest : List ℕ)
-    → order_of end (d ∷ older) ≡ order_of end older
-    → ((after : List Done) → order_of end (d ∷ after) ≡ order_of end after) → IsFirstBusy end older x rest
-    → IsFirstBusy end (d ∷ older) x rest
-busy_more end d older x rest same more r =
-    record {
-      after = d ∷ r.after;
-      d = r.d;
-      skipped = r.skipped;
-      split = ap (λ xs. d ∷ xs) r.split;
-      idle = r.idle;
-      holds = r.holds;
-      left = more r.after ∙ r.left;
-    }
-
-busy_last : (end : ℕ) (d : Done) (older : List Done) (p x : ℕ) (rest ys : List ℕ) → holds_place end p d ≡ true
-    → ((after : List Done) → order_of end (d ∷ after) ≡ order_of end after ++ (p ∷ []))
-    → ((y : ℕ) (zs : List ℕ) → order_of end older ≡ y ∷ zs → IsFirstBusy end older y zs) → order_of end older ≡ ys → ys
-    ++ (p ∷ []) ≡ x ∷ rest → IsFirstBusy end (d ∷ older) x rest
-busy_last end d older p x rest [] holds more before idle e =
-    let same : p ≡ x = cc in
-    let none : [] ≡ rest = cc in
-    record { after = []; d = d; skipped = older; split = refl; idle = idle; holds = rw (← same) holds; left = none }
-busy_last end d older p x rest (y ∷ zs) holds more before busy e =
-    let same : y ≡ x = cc in
-    let tail : zs ++ (p ∷ []) ≡ rest = cc in
-    let r : IsFirstBusy end older y zs = before y zs busy in
-    record {
-      after = d ∷ r.after;
-      d = r.d;
-      skipped = r.skipped;
-      split = ap (λ xs. d ∷ xs) r.split;
-      idle = r.idle;
-      holds = rw (← same) r.holds;
-      left = more r.after ∙ (ap (λ xs. xs ++ (p ∷ [])) r.left ∙ tail);
-    }
-
-eventful_by : (end : ℕ) (d : Done) (older : List Done) (x : ℕ) (rest : List ℕ) → Head end d older
-    → ((y : ℕ) (zs : List ℕ) → order_of end older ≡ y ∷ zs → IsFirstBusy end older y zs) → order_of end (d ∷ older) ≡ x
-    ∷ rest → IsFirstBusy end (d ∷ older) x rest
-eventful_by end d older x rest (stays same more) before e =
-    busy_more end d older x rest same more (before x rest (sym same ∙ e))
-eventful_by end d older x rest (adds p holds same more) before e =
-    busy_last end d older p x rest (order_of end older) holds more before refl (sym same ∙ e)
-
--- the next step of a pass over the order
-pub first_busy : (end : ℕ) (part : List Done) (x : ℕ) (rest : List ℕ) → order_of end part ≡ x ∷ rest
-    → IsFirstBusy end part x rest
-first_busy end [] x rest e = absurd (cc)
-first_busy end (d ∷ older) x rest e = eventful_by end d older x rest (head_is end d older) (first_busy end older) e
-
 -- the least number that passes is this one
 pub least_test : (p : ℕ → Bool) (a u : ℕ) → IsLeast p a → u ≤ a → p u ≡ (a == u)
-least_test p a u l le = elim (cases_order a u) [
-  | inl e ↦ let h : p a ≡ true = l.0 in rw (eq-eqb a u e, ← e) h
-  | inr (inl k) ↦ absurd (omega arith)
-  | inr (inr k) ↦ rw (l.1 u k, ne_eqb a u (λ (e : a ≡ u). absurd (omega arith))) refl
-]
+least_test p a u l le = grind (arith, nat_tests)
 
 -- Tables.
 
 same_tag : (p q : PoolId) (m n : ℕ) → m < 16 → n < 16 → (16 * place_of_pool q + n == 16 * place_of_pool p + m)
     ≡ ((place_of_pool q == place_of_pool p) && (n == m))
-same_tag p q m n a b = elim (cases_Bool (16 * place_of_pool q + n == 16 * place_of_pool p + m)) [
-  | inl e ↦ let f : 16 * place_of_pool q + n ≡ 16 * place_of_pool p + m = eqb-true _ _ e in
-      rw (e, eq-eqb (place_of_pool q) (place_of_pool p) (omega arith), eq-eqb n m (omega arith)) refl
-  | inr e ↦ elim (cases_Bool (place_of_pool q == place_of_pool p)) [
-    | inr f ↦ rw (e, f) refl
-    | inl f ↦ elim (cases_Bool (n == m)) [
-      | inr g ↦ rw (e, f, g) refl
-      | inl g ↦
-          let a : place_of_pool q ≡ place_of_pool p = eqb-true _ _ f in
-          let b : n ≡ m = eqb-true _ _ g in
-          absurd (both_ways _ e (eq-eqb _ _ (omega arith)))
-    ]
-  ]
-]
+same_tag p q m n a b = grind (arith, nat_tests)
 
 pub same_place : (p : PoolId) (m : ℕ) (pool : Option PoolId) (station : Option ℕ) → m < 16
     → ((n : ℕ) → station ≡ Some n → n < 16) → is_number (place_at (tag_at pool station)) (16 * place_of_pool p + m)
@@ -310,9 +174,4 @@ same_place p m (Some q) None a b = sym (and_right (place_of_pool q == place_of_p
 same_place p m (Some q) (Some n) a b = same_tag p q m n a (b n refl)
 
 pub turn_and : (a b c : Bool) → ((true && a) && b && c) ≡ ((b && c) && a)
-turn_and true true true = refl
-turn_and true true false = refl
-turn_and true false c = refl
-turn_and false true true = refl
-turn_and false true false = refl
-turn_and false false c = refl
+turn_and a b c = grind (arith, nat_tests)

@@ -1,29 +1,19 @@
 -- Where nothing happens in a cycle and nothing finishes for a while, nothing happens for that while.
 use Rattle.std.proofs.Common.{ℕ, zero, suc, ◌+◌, ◌-◌, ◌<◌, ◌≤◌, ◌≡◌, ◌∙◌, Bool, true, false, arith, refl, List, [], ◌∷◌}
 use Rattle.std.proofs.Common.{Option, Some, None, ap, sym, inl, inr}
-use Rattle.std.specs.Prelude.{◌≢◌, nat_lt, nat_le, ◌==◌, not, ◌&&◌, ◌||◌, is_some, count_by, if◌then◌else◌, MatchOption}
-use Rattle.std.specs.Bool.{MatchBool}
-use Rattle.std.specs.List.{AllByRecursion}
-use Rattle.std.proofs.lemmas.Bool.{cases_Bool, cases_order, both_ways, lt-ltb, ltb-true, le-leb, lt-leb, leb-true}
-use Rattle.std.proofs.lemmas.Bool.{leb-false, ne_eqb, and_parts, and_from, and_right}
-use Rattle.std.proofs.lemmas.List.Sums.{sum_by-cons}
-use Rattle.tomex_config.specs.Configuration.{Configuration, IsWithinLimits, option_of}
-use Rattle.tomex_rvdec.specs.declared.pool.PoolId.{PoolId}
-use Rattle.tomex_rvdec.specs.declared.pool.UnitId.{UnitId}
-use Rattle.tomex_steps.specs.Steps.{step_pool, step_unit, step_dest, j_of, k_of, is_branch, is_in, is_number}
-use Rattle.tomex_steps.specs.declared.step.Operand.{Operand}
-use Rattle.tomex_steps.specs.declared.step.Step.{Step}
-use Rattle.tomex_timing.specs.declared.times.Done.{Done}
-use Rattle.tomex_timing.specs.declared.times.Times.{Times}
-use Rattle.tomex_timing.specs.History.{is_of, is_memory, cycle_of, writer_end, source_end, last_issue, last_address}
-use Rattle.tomex_timing.specs.Station.{is_held, has_station}
-use Rattle.tomex_timing.specs.Recurrence.{AreTimed, IsLeast, can_issue, can_address, can_start, can_end}
-use Rattle.tomex_timing.specs.Recurrence.{can_issue_another, has_unit, has_bus, has_operands, are_branches_finished}
-use Rattle.tomex_timing.specs.Recurrence.{conflicts, are_conflicts_finished}
-use Rattle.tomex_timing.proofs.Limits.{units_low, buses_low, width_low}
+use Rattle.tomex_cycle.proofs.Words.{◌≢◌, nat_lt, nat_le, ◌==◌, not, ◌&&◌, ◌||◌, is_some, count_by, if◌then◌else◌}
+use Rattle.tomex_cycle.proofs.Words.{nat_tests, MatchOption, MatchBool, AllByRecursion, cases_Bool}
+use Rattle.tomex_cycle.proofs.Words.{both_ways, lt-ltb, ltb-true, le-leb, leb-true, leb-false, ne_eqb, and_parts}
+use Rattle.tomex_cycle.proofs.Words.{and_from, and_right, sum_by-cons, Configuration, IsWithinLimits, option_of, PoolId}
+use Rattle.tomex_cycle.proofs.Words.{UnitId, step_pool, step_unit, step_dest, j_of, k_of, is_branch, is_in, is_number}
+use Rattle.tomex_cycle.proofs.Words.{Operand, Step, Done, Times, is_of, is_memory, cycle_of, writer_end, source_end}
+use Rattle.tomex_cycle.proofs.Words.{last_issue, last_address, is_held, has_station, AreTimed, IsLeast, can_issue}
+use Rattle.tomex_cycle.proofs.Words.{can_address, can_start, can_end, can_issue_another, has_unit, has_operands}
+use Rattle.tomex_cycle.proofs.Words.{are_branches_finished, conflicts, are_conflicts_finished, units_low, width_low}
+use Rattle.tomex_cycle.proofs.Words.{none_later, AllSettled, IsSettled}
+use Rattle.tomex_timing.specs.Recurrence.{has_bus}
+use Rattle.tomex_timing.proofs.Limits.{buses_low}
 use Rattle.tomex_timing.proofs.Settled.{count_none}
-use Rattle.tomex_timing.proofs.Width.{none_later}
-use Rattle.tomex_cycle.specs.Settled.{AllSettled, IsSettled}
 use Rattle.tomex_cycle.proofs.Totals.{reach}
 
 -- nothing of the step falls in the cycle but perhaps its start
@@ -124,8 +114,7 @@ source_quiet v h None l quiet e = omega arith
 source_quiet v h (Some o) l quiet e = writer_quiet v o.register h l quiet e
 
 or_less : (a : Bool) (f v : ℕ) → (not a || nat_lt f (v + 1)) ≡ true → f ≢ v → (not a || nat_lt f v) ≡ true
-or_less true f v e apart = less f v e apart
-or_less false f v e apart = refl
+or_less a f v e apart = grind (arith, nat_tests)
 
 -- what has finished before the next cycle has before this one
 branches_quiet : (v : ℕ) (h : List Done) → AllAtRest v h → are_branches_finished h (v + 1) ≡ true
@@ -144,17 +133,13 @@ conflicts_quiet v (d ∷ h) s quiet e =
     and_from _ _ (or_less (conflicts d.step s) d.at.finish v two.0 quiet.0.finish) (conflicts_quiet v h s quiet.1 two.1)
 
 held_quiet : (v end : ℕ) → end ≢ v → nat_le (v + 1) end ≡ nat_le v end
-held_quiet v end apart = elim (cases_Bool (nat_le v end)) [
-  | inl e ↦ let k : v ≤ end = leb-true v end e in rw (e, le-leb (v + 1) end (omega arith)) refl
-  | inr e ↦ let k : end < v = leb-false v end e in rw (e, lt-leb (v + 1) end (omega arith)) refl
-]
+held_quiet v end apart = grind (arith, nat_tests)
 
 holders_quiet : (v : ℕ) (pool : PoolId) (h : List Done) → AllAtRest v h
     → count_by (is_held pool (v + 1)) h ≡ count_by (is_held pool v) h
 holders_quiet v pool [] quiet = refl
 holders_quiet v pool (d ∷ h) quiet =
-    let one : is_held pool (v + 1) d ≡ is_held pool v d =
-    ap (λ b. is_in pool (step_pool d.step) && b) (held_quiet v d.at.end quiet.0.end) in
+    let one = ap (λ b. is_in pool (step_pool d.step) && b) (held_quiet v d.at.end quiet.0.end) in
     sum_by-cons _ d h ∙ (rw (one, holders_quiet v pool h quiet.1) refl
     ∙ sym (sum_by-cons (λ (e : Done). if is_held pool v e then 1 else 0) d h))
 
@@ -163,27 +148,26 @@ station_quiet : (config : Configuration) (v : ℕ) (h : List Done) (pool : Optio
 station_quiet config v h None quiet e = refl
 station_quiet config v h (Some pool) quiet e = rw (holders_quiet v pool h quiet) at e
 
-unit_quiet : (config : Configuration) (v : ℕ) (h : List Done) (unit : UnitId) → IsWithinLimits config → AllQuiet v h
+unit_quiet : {config : Configuration} (v : ℕ) (h : List Done) (unit : UnitId) → IsWithinLimits config → AllQuiet v h
     → has_unit config h unit v ≡ true
-unit_quiet config v h unit good quiet =
+unit_quiet {config} v h unit good quiet =
     rw (count_none (λ (d : Done). is_of unit (step_unit d.step) && d.at.start == v) (IsQuiet v)
     (λ d s. and_right (is_of unit (step_unit d.step)) (d.at.start == v) (ne_eqb d.at.start v s.start)) h quiet)
     (lt-ltb 0 (option_of config unit).units (units_low config unit good))
 
-bus_quiet : (config : Configuration) (v : ℕ) (h : List Done) → IsWithinLimits config → AllAtRest v h
+bus_quiet : {config : Configuration} (v : ℕ) (h : List Done) → IsWithinLimits config → AllAtRest v h
     → has_bus config h v ≡ true
-bus_quiet config v h good quiet =
-    rw (count_none (λ (d : Done). is_some (step_dest d.step) && d.at.end == v) (IsAtRest v)
-    (λ d s. and_right (is_some (step_dest d.step)) (d.at.end == v) (ne_eqb d.at.end v s.end)) h quiet)
+bus_quiet {config} v h good quiet = rw (count_none (λ (d : Done). is_some (step_dest d.step) && d.at.end == v)
+    (IsAtRest v) (λ d s. and_right (is_some (step_dest d.step)) (d.at.end == v) (ne_eqb d.at.end v s.end)) h quiet)
     (lt-ltb 0 config.buses (buses_low config good))
 
 -- What passes a test of the next cycle passes it in a cycle in which nothing happens.
 
 -- where none has issued in either of the two, all slots of this one are left
-slot_quiet : (config : Configuration) (v : ℕ) (h : List Done) → 0 < v → IsWithinLimits config → AreTimed config h
+slot_quiet : {config : Configuration} (v : ℕ) (h : List Done) → 0 < v → IsWithinLimits config → AreTimed config h
     → AllAtRest v h → last_issue h ≢ v + 1 → can_issue_another config h (v + 1) ≡ true
     → can_issue_another config h v ≡ true
-slot_quiet config v h l good timed quiet apart e =
+slot_quiet {config} v h l good timed quiet apart e =
     let by : last_issue h ≤ v + 1 = leb-true (last_issue h) (v + 1) (and_parts _ _ e).0 in
     let here : last_issue h ≢ v = last_issue_quiet v h l quiet in
     let earlier : last_issue h < v = before (last_issue h) v by here apart in
@@ -191,21 +175,17 @@ slot_quiet config v h l good timed quiet apart e =
     (rw (none_later config h v timed earlier) (lt-ltb 0 config.width (width_low config good)))
   where
     before : (a v : ℕ) → a ≤ v + 1 → a ≢ v → a ≢ v + 1 → a < v
-    before a v by here apart = elim (cases_order a v) [
-      | inl e ↦ absurd (here e)
-      | inr (inl k) ↦ k
-      | inr (inr k) ↦ absurd (apart (omega arith))
-    ]
+    before a v e f g = grind (arith, nat_tests)
 
-pub issue_quiet : (config : Configuration) (v : ℕ) (h : List Done) (s : Step) → 0 < v → IsWithinLimits config
+pub issue_quiet : {config : Configuration} (v : ℕ) (h : List Done) (s : Step) → 0 < v → IsWithinLimits config
     → AreTimed config h → AllAtRest v h → last_issue h ≢ v + 1 → can_issue config h s (v + 1) ≡ true
     → can_issue config h s v ≡ true
-issue_quiet config v h s l good timed quiet apart e =
+issue_quiet {config} v h s l good timed quiet apart e =
     let a = and_parts (nat_lt 0 (v + 1) && can_issue_another config h (v + 1) && are_branches_finished h (v + 1))
     (has_station config h (step_pool s) (v + 1)) e in
     let b = and_parts (nat_lt 0 (v + 1) && can_issue_another config h (v + 1)) (are_branches_finished h (v + 1)) a.0 in
     let c = and_parts (nat_lt 0 (v + 1)) (can_issue_another config h (v + 1)) b.0 in
-    and_from _ _ (and_from _ _ (and_from _ _ (lt-ltb 0 v l) (slot_quiet config v h l good timed quiet apart c.1))
+    and_from _ _ (and_from _ _ (and_from _ _ (lt-ltb 0 v l) (slot_quiet v h l good timed quiet apart c.1))
     (branches_quiet v h quiet b.1)) (station_quiet config v h (step_pool s) quiet a.1)
 
 address_quiet : (v : ℕ) (h : List Done) (s : Step) (issue : ℕ) → 0 < v → AllAtRest v h → issue ≢ v
@@ -218,10 +198,10 @@ address_quiet v h s issue l quiet apart e =
     (less (source_end h (j_of s)) v b.1 (source_quiet v h (j_of s) l quiet)))
     (less (last_address h) v a.1 (last_address_quiet v h l quiet))
 
-start_quiet : (config : Configuration) (v : ℕ) (h : List Done) (s : Step) (unit : UnitId) (issue address : ℕ) → 0 < v
-    → IsWithinLimits config → AllQuiet v h → issue ≢ v → address ≢ v → can_start config h s unit issue address (v + 1)
-    ≡ true → can_start config h s unit issue address v ≡ true
-start_quiet config v h s unit issue address l good quiet i a e =
+start_quiet : {config : Configuration} (v : ℕ) (h : List Done) (s : Step) (unit : UnitId) (issue address : ℕ) → 0 < v
+    → IsWithinLimits config → AllQuiet v h → issue ≢ v → address ≢ v
+    → can_start config h s unit issue address (v + 1) ≡ true → can_start config h s unit issue address v ≡ true
+start_quiet {config} v h s unit issue address l good quiet i a e =
     let p = and_parts (nat_lt issue (v + 1) && nat_lt address (v + 1) && has_operands h s (v + 1) &&
     are_conflicts_finished h s (v + 1)) (has_unit config h unit (v + 1)) e in
     let q = and_parts (nat_lt issue (v + 1) && nat_lt address (v + 1) && has_operands h s (v + 1))
@@ -232,13 +212,13 @@ start_quiet config v h s unit issue address l good quiet i a e =
     and_from _ _ (and_from _ _ (and_from _ _ (and_from _ _ (less issue v two.0 i) (less address v two.1 a))
     (and_from _ _ (less (source_end h (j_of s)) v ops.0 (source_quiet v h (j_of s) l (quiet_rests v h quiet)))
     (less (source_end h (k_of s)) v ops.1 (source_quiet v h (k_of s) l (quiet_rests v h quiet)))))
-    (conflicts_quiet v h s (quiet_rests v h quiet) q.1)) (unit_quiet config v h unit good quiet)
+    (conflicts_quiet v h s (quiet_rests v h quiet) q.1)) (unit_quiet v h unit good quiet)
 
-end_quiet : (config : Configuration) (v : ℕ) (h : List Done) (finish : ℕ) → IsWithinLimits config → AllAtRest v h
+end_quiet : {config : Configuration} (v : ℕ) (h : List Done) (finish : ℕ) → IsWithinLimits config → AllAtRest v h
     → finish ≢ v → can_end config h finish (v + 1) ≡ true → can_end config h finish v ≡ true
-end_quiet config v h finish good quiet apart e =
+end_quiet {config} v h finish good quiet apart e =
     let two = and_parts (nat_lt finish (v + 1)) (has_bus config h (v + 1)) e in
-    and_from _ _ (less finish v two.0 apart) (bus_quiet config v h good quiet)
+    and_from _ _ (less finish v two.0 apart) (bus_quiet v h good quiet)
 
 -- so the least cycle that passes it isn't the next one
 pub not_least : (p : ℕ → Bool) (a v : ℕ) → (p (v + 1) ≡ true → p v ≡ true) → IsLeast p a → a ≢ v + 1
@@ -261,23 +241,23 @@ AllFree u w h = AllDue (λ d. ⊥) u w h
 abbrev pub AllQuietTo : ℕ → ℕ → List Done → Type 0
 AllQuietTo u v h = (k : ℕ) → u ≤ k → k ≤ v → AllQuiet k h
 
-start_by : (config : Configuration) (v : ℕ) (h : List Done) (x : Step) (at : Times) (unit : Option UnitId) → 0 < v
+start_by : {config : Configuration} (v : ℕ) (h : List Done) (x : Step) (at : Times) (unit : Option UnitId) → 0 < v
     → IsWithinLimits config → AllQuiet v h → at.issue ≢ v → cycle_of at.address ≢ v → at.issue ≢ v + 1
-    → MatchOption unit (at.start ≡ at.issue)
-    (λ u. IsLeast (can_start config h x u at.issue (cycle_of at.address)) at.start) → at.start ≢ v + 1
-start_by config v h x at None l good quiet i a next timed e = let f : at.start ≡ at.issue = timed in next (omega arith)
-start_by config v h x at (Some unit) l good quiet i a next timed e =
+    → MatchOption unit (at.start ≡ at.issue) (λ u. IsLeast (can_start config h x u at.issue (cycle_of at.address))
+    at.start) → at.start ≢ v + 1
+start_by v h x at None l good quiet i a next timed e = let f : at.start ≡ at.issue = timed in next (omega arith)
+start_by {config} v h x at (Some unit) l good quiet i a next timed e =
     not_least (can_start config h x unit at.issue (cycle_of at.address)) at.start v
-    (start_quiet config v h x unit at.issue (cycle_of at.address) l good quiet i a) timed e
+    (start_quiet v h x unit at.issue (cycle_of at.address) l good quiet i a) timed e
 
-end_by : (config : Configuration) (v : ℕ) (h : List Done) (at : Times) (unit : Option UnitId) (dest : Bool)
+end_by : {config : Configuration} (v : ℕ) (h : List Done) (at : Times) (unit : Option UnitId) (dest : Bool)
     → IsWithinLimits config → AllAtRest v h → at.finish ≢ v → at.issue ≢ v + 1 → (dest ≡ false → at.finish ≢ v + 1)
-    → MatchOption unit (at.end ≡ at.issue)
-    (λ u. MatchBool dest (IsLeast (can_end config h at.finish) at.end) (at.end ≡ at.finish)) → at.end ≢ v + 1
-end_by config v h at None dest good quiet f i g timed e = let k : at.end ≡ at.issue = timed in i (omega arith)
-end_by config v h at (Some unit) true good quiet f i g timed e =
-    not_least (can_end config h at.finish) at.end v (end_quiet config v h at.finish good quiet f) timed e
-end_by config v h at (Some unit) false good quiet f i g timed e = let k : at.end ≡ at.finish = timed in
+    → MatchOption unit (at.end ≡ at.issue) (λ u. MatchBool dest (IsLeast (can_end config h at.finish) at.end) (at.end ≡
+    at.finish)) → at.end ≢ v + 1
+end_by v h at None dest good quiet f i g timed e = let k : at.end ≡ at.issue = timed in i (omega arith)
+end_by {config} v h at (Some unit) true good quiet f i g timed e =
+    not_least (can_end config h at.finish) at.end v (end_quiet v h at.finish good quiet f) timed e
+end_by v h at (Some unit) false good quiet f i g timed e = let k : at.end ≡ at.finish = timed in
     g refl (omega arith)
 
 address_by : (v : ℕ) (h : List Done) (x : Step) (at : Times) (memory : Bool) → 0 < v → AllAtRest v h → at.issue ≢ v
@@ -291,74 +271,61 @@ address_by v h x at false l quiet i timed e = let k : at.address ≡ None = time
 -- what starts after u, and in none of the cycles from u to v + 1, finishes after v + 1
 finish_by : (u v start finish : ℕ) → u ≤ v → ((k : ℕ) → u ≤ k → k ≤ v → start ≢ k) → start ≢ v + 1 → start ≤ finish
     → (start ≤ u → finish ≢ v + 1) → finish ≢ v + 1
-finish_by u v start finish l never next order free e = elim (cases_Bool (nat_le start u)) [
-  | inl k ↦ free (leb-true start u k) e
-  | inr k ↦
-      let late : u < start = leb-false start u k in
-      never start (omega arith) (let z : start ≡ v + 1 → ⊥ = next in
-      elim (cases_order start (v + 1))
-      [ inl same ↦ absurd (z same) | inr (inl m) ↦ omega arith | inr (inr m) ↦ omega arith ]) refl
-]
+finish_by u v start finish l never next order free e = grind (arith, nat_tests)
 
-pub quiet_next : (config : Configuration) (u v : ℕ) (h : List Done) → IsWithinLimits config → AreTimed config h → 0 < u
+pub quiet_next : {config : Configuration} (u v : ℕ) (h : List Done) → IsWithinLimits config → AreTimed config h → 0 < u
     → u ≤ v → AllQuietTo u v h → AllFree u (v + 1) h → AllQuiet (v + 1) h
-quiet_next config u v [] good timed l m quiet free = tt
-quiet_next config u v (d ∷ h) good timed l m quiet free =
-    let older : AllQuiet (v + 1) h = quiet_next config u v h good timed.1 l m (λ k a b. (quiet k a b).1) free.1 in
+quiet_next u v [] good timed l m quiet free = tt
+quiet_next {config} u v (d ∷ h) good timed l m quiet free =
+    let older : AllQuiet (v + 1) h = quiet_next u v h good timed.1 l m (λ k a b. (quiet k a b).1) free.1 in
     let now : IsQuiet v d = (quiet v m (omega arith)).0 in
     let before : AllQuiet v h = (quiet v m (omega arith)).1 in
     let rest : AllAtRest v h = quiet_rests v h before in
     let low : 0 < v = omega arith in
     let apart : last_issue h ≢ v + 1 = last_issue_quiet (v + 1) h (omega arith) (quiet_rests (v + 1) h older) in
-    let issue : d.at.issue ≢ v + 1 =
-    not_least (can_issue config h d.step) d.at.issue v (issue_quiet config v h d.step low good timed.1 rest apart)
-    timed.0.issue in
-    let address : cycle_of d.at.address ≢ v + 1 =
-    address_by v h d.step d.at (is_memory d.step) low rest now.issue timed.0.address in
-    let start : d.at.start ≢ v + 1 =
-    start_by config v h d.step d.at (step_unit d.step) low good before now.issue now.address issue timed.0.start in
-    let order : d.at.start ≤ d.at.finish = (reach config d h good timed).order in
-    let finish : d.at.finish ≢ v + 1 =
-    finish_by u v d.at.start d.at.finish m (λ k a b. (quiet k a b).0.start) start order free.0 in
-    let end : d.at.end ≢ v + 1 = end_by config v h d.at (step_unit d.step) (is_some (step_dest d.step)) good rest
+    let issue : d.at.issue ≢ v + 1 = not_least (can_issue config h d.step) d.at.issue v
+    (issue_quiet v h d.step low good timed.1 rest apart) timed.0.issue in
+    let address = address_by v h d.step d.at (is_memory d.step) low rest now.issue timed.0.address in
+    let start = start_by v h d.step d.at (step_unit d.step) low good before now.issue now.address issue timed.0.start in
+    let order : d.at.start ≤ d.at.finish = (reach d h good timed).order in
+    let finish = finish_by u v d.at.start d.at.finish m (λ k a b. (quiet k a b).0.start) start order free.0 in
+    let end : d.at.end ≢ v + 1 = end_by v h d.at (step_unit d.step) (is_some (step_dest d.step)) good rest
     now.finish issue (λ silent. finish) timed.0.end in
     (record { issue = issue; address = address; start = start; finish = finish; end = end }, older)
 
 -- where nothing happens in the cycle u, and nothing that had started finishes in the next ones, nothing happens in them
-pub quiet_on : (config : Configuration) (u n : ℕ) (h : List Done) → IsWithinLimits config → AreTimed config h → 0 < u
+pub quiet_on : {config : Configuration} (u n : ℕ) (h : List Done) → IsWithinLimits config → AreTimed config h → 0 < u
     → AllQuiet u h → ((w : ℕ) → u < w → w ≤ u + n → AllFree u w h) → AllQuietTo u (u + n) h
-quiet_on config u zero h good timed l quiet free k a b = let e : k ≡ u = omega arith in rw e quiet
-quiet_on config u (suc n) h good timed l quiet free k a b =
-    let before : AllQuietTo u (u + n) h = quiet_on config u n h good timed l quiet (λ w c d. free w c (omega arith)) in
+quiet_on u zero h good timed l quiet free k a b = let e : k ≡ u = omega arith in rw e quiet
+quiet_on u (suc n) h good timed l quiet free k a b =
+    let before : AllQuietTo u (u + n) h = quiet_on u n h good timed l quiet (λ w c d. free w c (omega arith)) in
     elim (cases_Bool (nat_le k (u + n))) [
       | inl e ↦ before k a (leb-true k (u + n) e)
       | inr e ↦
           let more : u + n < k = leb-false k (u + n) e in
           let at : k ≡ u + n + 1 = omega arith in
-          rw at (quiet_next config u (u + n) h good timed l (omega arith) before
+          rw at (quiet_next u (u + n) h good timed l (omega arith) before
           (free (u + n + 1) (omega arith) (omega arith)))
     ]
 
 -- After a settled cycle.
 
 -- a cycle in which nothing happens is settled
-pub quiet_settles : (config : Configuration) (u : ℕ) (h : List Done) → IsWithinLimits config → AreTimed config h → 0 < u
+pub quiet_settles : {config : Configuration} (u : ℕ) (h : List Done) → IsWithinLimits config → AreTimed config h → 0 < u
     → AllQuiet u h → AllSettled u h
-quiet_settles config u [] good timed l quiet = tt
-quiet_settles config u (d ∷ h) good timed l quiet =
+quiet_settles u [] good timed l quiet = tt
+quiet_settles {config} u (d ∷ h) good timed l quiet =
     let now : IsQuiet u d = quiet.0 in
-    let older : AllSettled u h = quiet_settles config u h good timed.1 l quiet.1 in
-    let issue : d.at.issue ≢ u + 1 =
-    not_least (can_issue config h d.step) d.at.issue u
-    (issue_quiet config u h d.step l good timed.1 (quiet_rests u h quiet.1) (last_issue_settled u h older))
-    timed.0.issue in (
+    let older : AllSettled u h = quiet_settles u h good timed.1 l quiet.1 in
+    let issue : d.at.issue ≢ u + 1 = not_least (can_issue config h d.step) d.at.issue u
+    (issue_quiet u h d.step l good timed.1 (quiet_rests u h quiet.1) (last_issue_settled u h older)) timed.0.issue in (
       record {
         issue = now.issue;
         address = now.address;
         finish = now.finish;
         end = now.end;
         no_issue_next = issue;
-        no_start_next = start_by config u h d.step d.at (step_unit d.step) l good quiet.1 now.issue now.address
+        no_start_next = start_by u h d.step d.at (step_unit d.step) l good quiet.1 now.issue now.address
             issue timed.0.start;
       },
       older,
@@ -367,31 +334,25 @@ quiet_settles config u (d ∷ h) good timed l quiet =
 -- what finishes in the next one had started by this one
 settled_finish : (P : Type 0) (u start finish : ℕ) → start ≢ u + 1 → start ≤ finish → (start ≤ u → finish ≡ u + 1 → P)
     → finish ≡ u + 1 → P
-settled_finish P u start finish later order due e = elim (cases_Bool (nat_le start u)) [
-  | inl k ↦ due (leb-true start u k) e
-  | inr k ↦ let late : u < start = leb-false start u k in absurd (later (omega arith))
-]
+settled_finish P u start finish later order due e = grind (arith, nat_tests)
 
 -- nothing falls in the next one but such finishes, where all that finishes in it is so, and what is so has a result to
 -- send
-pub settled_next : (P : Done → Type 0) (config : Configuration) (u : ℕ) (h : List Done)
+pub settled_next : (P : Done → Type 0) {config : Configuration} (u : ℕ) (h : List Done)
     → ((d : Done) → P d → is_some (step_dest d.step) ≡ true) → IsWithinLimits config → AreTimed config h → 0 < u
     → AllSettled u h → AllDue P u (u + 1) h → AllByRecursion (IsQuietBut P (u + 1)) h
-settled_next P config u [] sends good timed l settled due = tt
-settled_next P config u (d ∷ h) sends good timed l settled due =
+settled_next P u [] sends good timed l settled due = tt
+settled_next P u (d ∷ h) sends good timed l settled due =
     let now : IsSettled u d = settled.0 in
     let rest : AllAtRest u h = settled_rests u h settled.1 in
     let issue : d.at.issue ≢ u + 1 = now.no_issue_next in
-    let address : cycle_of d.at.address ≢ u + 1 =
-    address_by u h d.step d.at (is_memory d.step) l rest now.issue timed.0.address in
-    let order : d.at.start ≤ d.at.finish = (reach config d h good timed).order in
-    let finish : d.at.finish ≡ u + 1 → P d =
-    settled_finish (P d) u d.at.start d.at.finish now.no_start_next order due.0 in
-    let end : d.at.end ≢ u + 1 = end_by config u h d.at (step_unit d.step) (is_some (step_dest d.step)) good rest
+    let address = address_by u h d.step d.at (is_memory d.step) l rest now.issue timed.0.address in
+    let order : d.at.start ≤ d.at.finish = (reach d h good timed).order in
+    let finish = settled_finish (P d) u d.at.start d.at.finish now.no_start_next order due.0 in
+    let end : d.at.end ≢ u + 1 = end_by u h d.at (step_unit d.step) (is_some (step_dest d.step)) good rest
     now.finish issue (λ silent e. both_ways (is_some (step_dest d.step)) silent (sends d (finish e))) timed.0.end in (
       record { issue = issue; address = address; start = now.no_start_next; finish = finish; end = end },
-      settled_next P
-          config u h sends good timed.1 l settled.1 due.1,
+      settled_next P u h sends good timed.1 l settled.1 due.1,
     )
 
 -- what had started by the next cycle had by this one
@@ -406,13 +367,11 @@ free_on u w (d ∷ h) settled free = (
 )
 
 -- and nothing in those after it, where nothing that had started finishes in them
-pub settled_quiet : (config : Configuration) (u n : ℕ) (h : List Done) → IsWithinLimits config → AreTimed config h
+pub settled_quiet : {config : Configuration} (u n : ℕ) (h : List Done) → IsWithinLimits config → AreTimed config h
     → 0 < u → AllSettled u h → ((w : ℕ) → u < w → w ≤ u + n → AllFree u w h) → (k : ℕ) → u < k → k ≤ u + n
     → AllQuiet k h
-settled_quiet config u n h good timed l settled free k a b =
+settled_quiet u n h good timed l settled free k a b =
     let first : AllQuiet (u + 1) h =
-    settled_next (λ d. ⊥) config u h (λ d none. absurd none) good timed l settled
-    (free (u + 1) (omega arith) (omega arith)) in
-    let at : u + 1 + (n - 1) ≡ u + n = omega arith in
-    quiet_on config (u + 1) (n - 1) h good timed (omega arith) first
+    settled_next (λ d. ⊥) u h (λ d none. absurd none) good timed l settled (free (u + 1) (omega arith) (omega arith)) in
+    quiet_on (u + 1) (n - 1) h good timed (omega arith) first
     (λ w c d. free_on u w h settled (free w (omega arith) (omega arith))) k (omega arith) (omega arith)

@@ -1,17 +1,16 @@
 -- The oldest of those that are ready are those that the recurrence serves: fewer than so many older ones are.
 use Rattle.std.proofs.Common.{ℕ, zero, suc, ◌+◌, ◌<◌, ◌≤◌, ◌≡◌, ◌∙◌, Bool, true, false, arith, refl, List, [], ◌∷◌}
 use Rattle.std.proofs.Common.{◌++◌, Option, Some, None, ap, sym, inl, inr, append-nil, length, take, filter}
-use Rattle.std.specs.Prelude.{nat_lt, if◌then◌else◌, ⊤, ◌&&◌, ◌||◌, ◌==◌, count_by, min}
-use Rattle.std.proofs.lemmas.Bool.{cases_Bool, ltb-true, ltb-false, lt-ltb, le-ltb, eq-eqb, eqb-true, and_parts}
-use Rattle.std.proofs.lemmas.List.{length-append, take-append-le, take_all}
+use Rattle.std.specs.Prelude.{min}
+use Rattle.std.proofs.lemmas.List.{take-append-le, take_all}
 use Rattle.std.proofs.lemmas.List.Elements.{filter-append}
-use Rattle.std.proofs.lemmas.List.Sums.{sum_by-cons}
-use Rattle.tomex_timing.specs.declared.times.Done.{Done}
-use Rattle.tomex_sets.specs.Sets.{has}
-use Rattle.tomex_bus.specs.Picks.{IsInIssueOrder, IsPicked, Rises, is_listed}
+use Rattle.tomex_cycle.proofs.Words.{nat_lt, if◌then◌else◌, ⊤, ◌&&◌, ◌||◌, ◌==◌, count_by, cases_Bool, ltb-true}
+use Rattle.tomex_cycle.proofs.Words.{nat_tests, ltb-false, lt-ltb, le-ltb, eq-eqb, eqb-true, and_parts, length-append}
+use Rattle.tomex_cycle.proofs.Words.{sum_by-cons, Done, has, IsInIssueOrder, IsPicked, Rises, is_listed, holds_place}
+use Rattle.tomex_cycle.proofs.Words.{order_of, place_of}
 use Rattle.tomex_bus.proofs.Picking.{first_picked}
-use Rattle.tomex_cycle.specs.Views.{holds_place, order_of, place_of}
 use Rattle.tomex_cycle.proofs.Orders.{in-append}
+use Rattle.tomex_cycle.proofs.Truth.{or_false, or_one}
 
 -- whether what holds a place goes
 abbrev pub goes_at : ℕ → (Done → Bool) → List Done → ℕ → Bool
@@ -36,50 +35,37 @@ count_off : (goes : Done → Bool) (d : Done) (older : List Done) → goes d ≡
     → count_by goes (d ∷ older) ≡ count_by goes older
 count_off goes d older e = rw (sum_by-cons, e) (omega arith)
 
-or_false : (a : Bool) → (a || false) ≡ a
-or_false true = refl
-or_false false = refl
-
 -- the first n of the ready ones, as far as a part of the history goes
 pub record IsServed (t n set : ℕ) (goes : Done → Bool) (part : List Done) : Type 0 where
   pub count : count_by goes part ≡ min n (length (filter (has set) (order_of t part)))
   pub taken : (x : ℕ) → is_listed (take n (filter (has set) (order_of t part))) x ≡ goes_at t goes part x
 
 -- who doesn't go changes nothing
-same_by : (t n set : ℕ) (goes : Done → Bool) (d : Done) (older : List Done) → goes d ≡ false
+same_by : {t n set : ℕ} {goes : Done → Bool} (d : Done) {older : List Done} → goes d ≡ false
     → filter (has set) (order_of t (d ∷ older)) ≡ filter (has set) (order_of t older)
     → ((x : ℕ) → holds_place t x d ≡ true → goes_at t goes older x ≡ false) → IsServed t n set goes older
     → IsServed t n set goes (d ∷ older)
-same_by t n set goes d older stays same alone before = record {
+same_by {t} {n} {goes} d {older} stays same alone before = record {
   count = count_off goes d older stays ∙ (before.count ∙ ap (λ (xs : List ℕ). min n (length xs)) (sym same));
-  taken = λ x. ap (λ (xs : List ℕ). is_listed (take n xs) x) same
-      ∙ (before.taken x ∙ elim (cases_Bool (holds_place t x d)) [
-        | inr h ↦ rw h refl
-        | inl h ↦ rw (h, stays) (alone x h)
-      ]);
+  taken = λ x. ap (λ (xs : List ℕ). is_listed (take n xs) x) same ∙ (before.taken x ∙ grind (arith, nat_tests));
 }
 
 one_more : (xs : List ℕ) (p n x : ℕ) → length xs < n
     → is_listed (take n (xs ++ (p ∷ []))) x ≡ (is_listed (take n xs) x || (p == x))
 one_more xs p n x l =
-    let whole : take n (xs ++ (p ∷ [])) ≡ xs ++ (p ∷ []) =
-    take_all n (xs ++ (p ∷ [])) (rw length-append (omega arith)) in
+    let whole = take_all n (xs ++ (p ∷ [])) (rw length-append (omega arith)) in
     let before : take n xs ≡ xs = take_all n xs (omega arith) in
     rw (whole, before) (in-append xs (p ∷ []) x ∙ ap (λ b. is_listed xs x || b) (or_false (p == x)))
 
 no_more : (xs : List ℕ) (p n : ℕ) → n ≤ length xs → take n (xs ++ (p ∷ [])) ≡ take n xs
 no_more xs p n l = take-append-le n xs (p ∷ []) l
 
-or_one : (a b : Bool) → b ≡ true → (a || b) ≡ true
-or_one true b e = refl
-or_one false b e = e
-
 -- who is ready goes where fewer than n do
-ready_by : (t n set p : ℕ) (goes : Done → Bool) (d : Done) (older : List Done) → place_of d ≡ Some p
+ready_by : {t n set : ℕ} (p : ℕ) {goes : Done → Bool} {d : Done} {older : List Done} → place_of d ≡ Some p
     → nat_lt t d.at.end ≡ true → has set p ≡ true → Serves t n set goes d older
     → ((x : ℕ) → holds_place t x d ≡ true → goes_at t goes older x ≡ false) → IsServed t n set goes older
     → IsServed t n set goes (d ∷ older)
-ready_by t n set p goes d older place late member serves alone before =
+ready_by {t} {n} {set} p {goes} {d} {older} place late member serves alone before =
     let held : holds_place t p d ≡ true = rw (place, late, eq-eqb p p refl) refl in
     let ready : goes d ≡ nat_lt (count_by goes older) n = serves.ready p held ∙ rw member refl in
     let order : filter (has set) (order_of t (d ∷ older)) ≡ filter (has set) (order_of t older) ++ (p ∷ []) =
@@ -139,21 +125,20 @@ served t n set goes [] each alone = record { count = omega arith; taken = λ x. 
 served t n set goes (d ∷ older) each alone =
     let before : IsServed t n set goes older = served t n set goes older each.1 alone.1 in
     elim (cases_Bool (nat_lt t d.at.end)) [
-      | inr l ↦ same_by t n set goes d older (each.0.idle l) (rw l refl) alone.0 before
+      | inr l ↦ same_by d (each.0.idle l) (rw l refl) alone.0 before
       | inl l ↦ by_place (place_of d) refl l before
     ]
   where
     by_place : (o : Option ℕ) → place_of d ≡ o → nat_lt t d.at.end ≡ true → IsServed t n set goes older
         → IsServed t n set goes (d ∷ older)
-    by_place None e l before = same_by t n set goes d older (each.0.nowhere e) (rw (l, e) refl) alone.0 before
+    by_place None e l before = same_by d (each.0.nowhere e) (rw (l, e) refl) alone.0 before
     by_place (Some p) e l before = elim (cases_Bool (has set p)) [
-      | inl m ↦ ready_by t n set p goes d older e l m each.0 alone.0 before
+      | inl m ↦ ready_by p e l m each.0 alone.0 before
       | inr m ↦
           let held : holds_place t p d ≡ true = rw (e, l, eq-eqb p p refl) refl in
           let off : goes d ≡ false = each.0.ready p held ∙ rw m refl in
-          same_by t n set goes d older off
-          (rw (l, e) (filter-append (has set) (order_of t older) (p ∷ [])
-          ∙ rw m (append-nil (filter (has set) (order_of t older))))) alone.0 before
+          same_by d off (rw (l, e) (filter-append (has set) (order_of t older) (p ∷ []) ∙ rw m
+          (append-nil (filter (has set) (order_of t older))))) alone.0 before
     ]
 
 -- Some of a listing are listed in issue order too.
@@ -162,8 +147,7 @@ in-filter : (q : ℕ → Bool) (xs : List ℕ) (x : ℕ) → is_listed (filter q
 in-filter q [] x = sym (and_none (q x))
   where
     and_none : (a : Bool) → (a && false) ≡ false
-    and_none true = refl
-    and_none false = refl
+    and_none a = grind (arith, nat_tests)
 in-filter q (y ∷ xs) x = elim (cases_Bool (q y)) [
   | inl e ↦ elim (cases_Bool (y == x)) [
     | inl k ↦ let same : y ≡ x = eqb-true y x k in rw (e, k, ← same, e) refl
@@ -181,28 +165,24 @@ rises-filter q issue_numbers (x ∷ xs) rises = elim (cases_Bool (q x)) [
   | inr e ↦ rw e (rises-filter q issue_numbers xs rises.1)
   | inl e ↦ rw e (
     (λ y k. rises.0 y (and_parts (q y) (is_listed xs y) (sym (in-filter q xs y) ∙ k)).1),
-    rises-filter q
-        issue_numbers xs rises.1,
+    rises-filter q issue_numbers xs rises.1,
   )
 ]
 
-pub some_in_order : (busy set : ℕ) (issue_numbers xs : List ℕ) → IsInIssueOrder busy issue_numbers xs
+pub some_in_order : {busy : ℕ} (set : ℕ) {issue_numbers xs : List ℕ} → IsInIssueOrder busy issue_numbers xs
     → ((x : ℕ) → x < 128 → has set x ≡ true → has busy x ≡ true)
     → IsInIssueOrder set issue_numbers (filter (has set) xs)
-some_in_order busy set issue_numbers xs by inside = record {
-  members = λ x l. elim (cases_Bool (has set x)) [
-    | inl e ↦ rw e (sym (in-filter (has set) xs x ∙ rw (e, ← by.members x l) (inside x l e)))
-    | inr e ↦ rw e (sym (in-filter (has set) xs x ∙ rw e refl))
-  ];
+some_in_order set {issue_numbers} {xs} by inside = record {
+  members = λ x l. grind (arith, nat_tests, in-filter (has set) xs x);
   low = λ x k. by.low x (and_parts (has set x) (is_listed xs x) (sym (in-filter (has set) xs x) ∙ k)).1;
   rises = rises-filter (has set) issue_numbers xs by.rises;
 }
 
 -- what is picked of the ready ones goes
-pub picked_goes : (t n busy set picked : ℕ) (issue_numbers : List ℕ) (goes : Done → Bool) (h : List Done)
+pub picked_goes : (t : ℕ) {n busy set picked : ℕ} {issue_numbers : List ℕ} (goes : Done → Bool) (h : List Done)
     → IsInIssueOrder busy issue_numbers (order_of t h) → ((x : ℕ) → x < 128 → has set x ≡ true → has busy x ≡ true)
-    → IsPicked set issue_numbers n picked → AreServed t n set goes h → AreAlone t goes h
-    → (x : ℕ) → x < 128 → has picked x ≡ goes_at t goes h x
-picked_goes t n busy set picked issue_numbers goes h by inside pick each alone x l =
+    → IsPicked set issue_numbers n picked → AreServed t n set goes h → AreAlone t goes h → (x : ℕ) → x < 128
+    → has picked x ≡ goes_at t goes h x
+picked_goes t {n} {set} {picked} {issue_numbers} goes h by inside pick each alone x l =
     first_picked set n picked issue_numbers (filter (has set) (order_of t h)) pick
-    (some_in_order busy set issue_numbers (order_of t h) by inside) x l ∙ (served t n set goes h each alone).taken x
+    (some_in_order set by inside) x l ∙ (served t n set goes h each alone).taken x

@@ -1,32 +1,14 @@
 -- What a state shows after a cycle it shows after a later one, where nothing happens between but finishes of results.
 use Rattle.std.proofs.Common.{ℕ, zero, suc, ◌+◌, ◌-◌, ◌<◌, ◌≤◌, ◌≡◌, ◌∙◌, true, arith, refl, List, [], ◌∷◌, ◌++◌}
 use Rattle.std.proofs.Common.{Option, Some, None, ap, inl, inr, subst}
-use Rattle.std.specs.Prelude.{◌≢◌, nat_lt, nat_le, ◌&&◌}
-use Rattle.std.specs.List.{AllByRecursion}
-use Rattle.std.proofs.lemmas.Bool.{both_ways, cases_Bool, le-ltb, ltb-true, ltb-false, le-leb, leb-true, leb-false}
-use Rattle.tomex_image.specs.Image.{Loaded}
-use Rattle.tomex_config.specs.Configuration.{Configuration, IsWithinLimits}
-use Rattle.tomex_rvexec.specs.declared.outcome.EndKind.{EndKind}
-use Rattle.tomex_steps.specs.declared.step.Operand.{Operand}
-use Rattle.tomex_rvexec.specs.Flow.{end_of}
-use Rattle.tomex_rvexec.specs.Machine.{State}
-use Rattle.tomex_steps.specs.Memory.{Bytes}
-use Rattle.tomex_rvexec.specs.Run.{RunEnds}
-use Rattle.tomex_steps.specs.Steps.{is_branch, is_number, step_dest, j_of, k_of}
-use Rattle.tomex_timing.specs.declared.times.Done.{Done}
-use Rattle.tomex_timing.specs.History.{cycle_of}
-use Rattle.tomex_timing.specs.Search.{times_of}
-use Rattle.tomex_timing.specs.Tables.{field_of, field_from, producer}
-use Rattle.tomex_timing.proofs.Search.{times_are}
-use Rattle.tomex_cycle.specs.declared.fetch.Fetch.{Fetch}
-use Rattle.tomex_cycle.specs.Phases.{IsSnapshot, IsYetToIssue}
-use Rattle.tomex_cycle.specs.Run.{byte_at, first_timed}
-use Rattle.tomex_cycle.specs.Views.{clocks, fetch_after, fetch_of, holds_place, place_of, station_at, station_of}
+use Rattle.tomex_cycle.proofs.Words.{◌≢◌, nat_lt, nat_le, ◌&&◌, AllByRecursion, both_ways, cases_Bool}
+use Rattle.tomex_cycle.proofs.Words.{nat_tests, Loaded, Configuration, Operand, Bytes, is_branch, is_number}
+use Rattle.tomex_cycle.proofs.Words.{step_dest, j_of, k_of, Done, cycle_of, times_of, field_of, field_from, producer}
+use Rattle.tomex_cycle.proofs.Words.{times_are, Fetch, IsSnapshot, IsYetToIssue, byte_at, first_timed, RunEndsAfter}
+use Rattle.tomex_cycle.proofs.Words.{clocks, fetch_of, holds_place, place_of, station_at, station_of, Pools, RegStatus}
 use Rattle.tomex_cycle.proofs.Quiet.{AllSteady, AllQuiet}
 use Rattle.tomex_cycle.proofs.Runs.{next_done, not_by, run_next, run_timed, step_is}
 use Rattle.tomex_cycle.proofs.Totals.{issued_more}
-use Rattle.tomex_tags.specs.Pools.{Pools}
-use Rattle.tomex_tags.specs.declared.register_status.RegStatus.{RegStatus}
 
 -- both cycles stand alike to the times of the step
 pub record IsAlike (u w : ℕ) (d : Done) : Type 0 where
@@ -47,26 +29,10 @@ abbrev pub AllSteadyAfter : ℕ → ℕ → List Done → Type 0
 AllSteadyAfter u w h = (k : ℕ) → u < k → k ≤ w → AllSteady k h
 
 le_alike : (x u w : ℕ) → u ≤ w → ((k : ℕ) → u < k → k ≤ w → x ≢ k) → nat_le x u ≡ nat_le x w
-le_alike x u w l never = elim (cases_Bool (nat_le x u)) [
-  | inl e ↦ let k : x ≤ u = leb-true x u e in rw (e, le-leb x w (omega arith)) refl
-  | inr e ↦
-      let k : u < x = leb-false x u e in
-      elim (cases_Bool (nat_le x w)) [
-        | inl f ↦ absurd (never x k (leb-true x w f) refl)
-        | inr f ↦ rw (e, f) refl
-      ]
-]
+le_alike x u w l never = grind (arith, nat_tests)
 
 lt_alike : (x u w : ℕ) → u ≤ w → ((k : ℕ) → u < k → k ≤ w → x ≢ k) → nat_lt u x ≡ nat_lt w x
-lt_alike x u w l never = elim (cases_Bool (nat_lt u x)) [
-  | inr e ↦ let k : x ≤ u = ltb-false u x e in rw (e, le-ltb w x (omega arith)) refl
-  | inl e ↦
-      let k : u < x = ltb-true u x e in
-      elim (cases_Bool (nat_lt w x)) [
-        | inr f ↦ absurd (never x k (ltb-false w x f) refl)
-        | inl f ↦ rw (e, f) refl
-      ]
-]
+lt_alike x u w l never = grind (arith, nat_tests)
 
 pub all_alike : (u w : ℕ) (h : List Done) → u ≤ w → AllSteadyAfter u w h → AllAlike u w h
 all_alike u w [] l steady = tt
@@ -95,12 +61,7 @@ field_alike u w h (Some o) same = ap (field_from o.value) (producer_alike u w o.
 station_alike : (i : Loaded) (u w : ℕ) (d : Done) (older : List Done) → AllAlike u w (d ∷ older)
     → station_of i (clocks u u u) d older ≡ station_of i (clocks w w w) d older
 station_alike i u w d older same =
-    rw (
-      field_alike u w older (j_of d.step) same.1,
-      field_alike u w older (k_of d.step) same.1,
-      same.0.address,
-      same.0.start,
-    ) refl
+    grind (arith, nat_tests, field_alike u w older (j_of d.step) same.1, field_alike u w older (k_of d.step) same.1)
 
 stations_alike : (i : Loaded) (u w x : ℕ) (h : List Done) → AllAlike u w h
     → station_at i (clocks u u u) h x ≡ station_at i (clocks w w w) h x
@@ -117,78 +78,64 @@ byte_alike i u w a [] same = refl
 byte_alike i u w a (d ∷ older) same = rw (same.0.start, byte_alike i u w a older same.1) refl
 
 fetch_alike : (i : Loaded) (u w : ℕ) (h : List Done) → AllAlike u w h → fetch_of i u h ≡ fetch_of i w h
-fetch_alike i u w [] same = refl
-fetch_alike i u w (d ∷ older) same = elim (cases_Bool (is_branch d.step)) [
-  | inl e ↦ rw e (ap (λ b. fetch_after d.step b (end_of d.step)) (same.0.finish e))
-  | inr e ↦ rw e refl
-]
+fetch_alike i u w h h4 = grind (arith, nat_tests)
 
 -- a run's beginning is a part of the run
-pub run_part : (config : Configuration) (i : Loaded) (n k j : ℕ) (s : State) (kind : EndKind) → RunEnds i n s kind → j
-    + k ≤ n + 1 → (newer : List Done) × (first_timed config i (j + k) ≡ newer ++ first_timed config i k)
-run_part config i n k zero s kind ends l = let e : 0 + k ≡ k = omega arith in ([], rw e refl)
-run_part config i n k (suc j) s kind ends l =
-    let before = run_part config i n k j s kind ends (omega arith) in
-    let x = step_is i n (j + k) s kind ends (omega arith) in
+pub run_part : {config : Configuration} {i : Loaded} {n : ℕ} (k j : ℕ) → RunEndsAfter i config n → j + k ≤ n + 1
+    → (newer : List Done) × (first_timed config i (j + k) ≡ newer ++ first_timed config i k)
+run_part k zero run l = let e : 0 + k ≡ k = omega arith in ([], rw e refl)
+run_part {config} {i} k (suc j) run l =
+    let before = run_part k j run (omega arith) in
+    let x = step_is (j + k) run (omega arith) in
     let e : suc j + k ≡ j + k + 1 = omega arith in
-    let g : first_timed config i (j + k + 1) ≡ next_done config (first_timed config i (j + k)) x.0
-    ∷ first_timed config i (j + k) = run_next config i (j + k) x.0 x.1 in
+    let g = run_next config i (j + k) x.0 x.1 in
     let same : first_timed config i (j + k) ≡ before.0 ++ first_timed config i k = before.1 in (
-      next_done config (first_timed config i (j + k)) x.0
-          ∷ before.0,
+      next_done config (first_timed config i (j + k)) x.0 ∷ before.0,
       rw (e, g) (ap (λ xs. next_done config (first_timed config i (j + k)) x.0 ∷ xs) same),
     )
 
-pub run_split : (config : Configuration) (i : Loaded) (n k m : ℕ) (s : State) (kind : EndKind) → RunEnds i n s kind
-    → k ≤ m → m ≤ n + 1 → (newer : List Done) × (first_timed config i m ≡ newer ++ first_timed config i k)
-run_split config i n k m s kind ends l high =
+pub run_split : {config : Configuration} {i : Loaded} {n : ℕ} (k m : ℕ) → RunEndsAfter i config n → k ≤ m → m ≤ n + 1
+    → (newer : List Done) × (first_timed config i m ≡ newer ++ first_timed config i k)
+run_split {config} {i} k m run l high =
     let e : m - k + k ≡ m = omega arith in
     subst (λ (x : ℕ). (newer : List Done) × (first_timed config i x ≡ newer ++ first_timed config i k)) e
-    (run_part config i n k (m - k) s kind ends (omega arith))
+    (run_part k (m - k) run (omega arith))
 
 steady_tail : (k : ℕ) (newer h : List Done) → AllSteady k (newer ++ h) → AllSteady k h
 steady_tail k [] h steady = steady
 steady_tail k (d ∷ newer) h steady = steady_tail k newer h steady.1
 
-steady_part : (config : Configuration) (i : Loaded) (n m k : ℕ) (s : State) (kind : EndKind) → RunEnds i n s kind
-    → m ≤ n + 1 → AllSteady k (first_timed config i (n + 1)) → AllSteady k (first_timed config i m)
-steady_part config i n m k s kind ends l steady =
-    let part = run_split config i n m (n + 1) s kind ends l (omega arith) in
+steady_part : {config : Configuration} {i : Loaded} {n : ℕ} (m k : ℕ) → RunEndsAfter i config n → m ≤ n + 1
+    → AllSteady k (first_timed config i (n + 1)) → AllSteady k (first_timed config i m)
+steady_part {config} {i} {n} m k run l steady =
+    let part = run_split m (n + 1) run l (omega arith) in
     steady_tail k part.0 (first_timed config i m) (rw part.1 at steady)
 
 -- the next step doesn't issue there either
-yet_later : (config : Configuration) (i : Loaded) (n count u w : ℕ) (s : State) (kind : EndKind) → IsWithinLimits config
-    → RunEnds i n s kind → count ≤ n → u ≤ w → IsYetToIssue i config count u
-    → AllSteadyAfter u w (first_timed config i (n + 1)) → IsYetToIssue i config count w
-yet_later config i n count u w s kind good ends l m yet steady x e v low =
+yet_later : {config : Configuration} {i : Loaded} {n : ℕ} (count u w : ℕ) → RunEndsAfter i config n → count ≤ n → u ≤ w
+    → IsYetToIssue i config count u → AllSteadyAfter u w (first_timed config i (n + 1)) → IsYetToIssue i config count w
+yet_later {config} {i} count u w run l m yet steady x e v low =
     let h : List Done = first_timed config i count in
-    let late : u < (times_of config h x).issue = not_by config h x u good (run_timed config i count good) (yet x e) in
-    let never : (k : ℕ) → u < k → k ≤ w → (times_of config h x).issue ≢ k =
-    λ k a b. (rw (run_next config i count x e) at
-    (steady_part config i n (count + 1) k s kind ends (omega arith) (steady k a b))).0.issue in
-    let past : w < (times_of config h x).issue = elim (cases_Bool (nat_lt w (times_of config h x).issue)) [
-      | inl f ↦ ltb-true _ _ f
-      | inr f ↦ absurd (never (times_of config h x).issue late (ltb-false w (times_of config h x).issue f) refl)
-    ] in
-    (times_are config h x good (run_timed config i count good)).issue.1 v (omega arith)
+    let late : u < (times_of config h x).issue = not_by h x u run.lawful (run_timed i count run.lawful) (yet x e) in
+    let never : (k : ℕ) → u < k → k ≤ w → (times_of config h x).issue ≢ k = λ k a b.
+    (rw (run_next config i count x e) at (steady_part (count + 1) k run (omega arith) (steady k a b))).0.issue in
+    let past : w < (times_of config h x).issue = grind (arith, nat_tests) in
+    (times_are config h x run.lawful (run_timed i count run.lawful)).issue.1 v (omega arith)
 
 -- the snapshot after the cycle u is that after w
-pub shifted : (config : Configuration) (i : Loaded) (n u w count : ℕ) (s : State) (kind : EndKind) (st : Pools)
-    (rg : RegStatus) (ft : Fetch) (m : Bytes) → IsWithinLimits config → RunEnds i n s kind → u ≤ w
-    → AllSteadyAfter u w (first_timed config i (n + 1)) → IsSnapshot i config n u count st rg ft m
-    → IsSnapshot i config n w count st rg ft m
-shifted config i n u w count s kind st rg ft m good ends l steady old =
+pub shifted : {config : Configuration} {i : Loaded} {n u : ℕ} (w : ℕ) {count : ℕ} {st : Pools} {rg : RegStatus}
+    {ft : Fetch} {m : Bytes} → RunEndsAfter i config n → u ≤ w → AllSteadyAfter u w (first_timed config i (n + 1))
+    → IsSnapshot i config n u count st rg ft m → IsSnapshot i config n w count st rg ft m
+shifted {config} {i} {n} {u} w {count} run l steady old =
     let h : List Done = first_timed config i count in
     let few : count ≤ n + 1 = old.issue.few in
-    let same : AllAlike u w h = all_alike u w h l
-    (λ k a b. steady_part config i n count k s kind ends few (steady k a b)) in
+    let same : AllAlike u w h = all_alike u w h l (λ k a b. steady_part count k run few (steady k a b)) in
     record {
       issue = record {
         few = few;
         slots = record {
           places = old.issue.slots.places;
-          slots = λ x small. old.issue.slots.slots x small
-              ∙ stations_alike i u w x h same;
+          slots = λ x small. old.issue.slots.slots x small ∙ stations_alike i u w x h same;
           order_count = old.issue.slots.order_count;
           issue_numbers = old.issue.slots.issue_numbers;
         };
@@ -200,12 +147,11 @@ shifted config i n u w count s kind st rg ft m good ends l steady old =
         };
         from = old.issue.from ∙ fetch_alike i u w h same;
         issued = issued_more u w h l old.issue.issued;
-        next = λ less. yet_later config i n count u w s kind good ends less l (old.issue.next less) steady;
+        next = λ less. yet_later count u w run less l (old.issue.next less) steady;
       };
       bytes = record {
         base = old.bytes.base;
         size = old.bytes.size;
-        bytes = λ a from to. old.bytes.bytes a from to
-            ∙ byte_alike i u w a h same;
+        bytes = λ a from to. old.bytes.bytes a from to ∙ byte_alike i u w a h same;
       };
     }

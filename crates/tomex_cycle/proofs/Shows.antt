@@ -1,44 +1,28 @@
 -- The tables of what the state shows.
-use Rattle.std.proofs.Common.{ℕ, ◌+◌, ◌*◌, ◌/◌, ◌%◌, ◌<◌, ◌≤◌, ◌≡◌, ◌∙◌, Bool, true, false, arith, refl, List, [], ◌∷◌}
-use Rattle.std.proofs.Common.{Option, Some, None, ap, sym, inl, inr, length, slice_index_or, option_map}
-use Rattle.std.specs.Prelude.{nat_lt, nat_le, if◌then◌else◌, ◌&&◌, map}
-use Rattle.std.specs.List.{filter_map, range_with_len}
+use Rattle.std.proofs.Common.{ℕ, ◌+◌, ◌*◌, ◌/◌, ◌%◌, ◌<◌, ◌≤◌, ◌≡◌, ◌∙◌, Bool, arith, refl, List, [], ◌∷◌, Option, Some}
+use Rattle.std.proofs.Common.{None, ap, sym, inl, inr, length, slice_index_or, option_map}
 use Rattle.std.proofs.lemmas.List.{ext_get_or}
 use Rattle.std.proofs.lemmas.List.FromFn.{get_or-map-range_with_len, length-map-range_with_len}
-use Rattle.std.proofs.lemmas.Bool.{cases_Bool, cases_order, ltb-true, ltb-false, le-leb, lt-leb}
-use Rattle.tomex_image.specs.Image.{Loaded}
-use Rattle.tomex_config.specs.Configuration.{Configuration}
-use Rattle.tomex_steps.specs.Steps.{is_in, is_number, step_pool, step_dest, address_of}
-use Rattle.tomex_timing.specs.declared.tables.Busy.{Busy}
-use Rattle.tomex_timing.specs.declared.tables.Tag.{Tag}
-use Rattle.tomex_timing.specs.declared.times.Done.{Done}
-use Rattle.tomex_timing.specs.History.{cycle_of, is_memory}
-use Rattle.tomex_timing.specs.Tables.{Tables}
-use Rattle.tomex_timing.specs.Tables.{tables_of, shown, qi_of, producer, busy_of, a_of, is_under_way, all_tags}
-use Rattle.tomex_rvdec.specs.Parts.{place_of_pool}
-use Rattle.tomex_cycle.specs.Run.{AreIssuedBy, IsHistory}
-use Rattle.tomex_cycle.specs.Views.{clocks, holds_place, station_at, station_of, ShowsStations, ShowsRegisters}
+use Rattle.tomex_cycle.proofs.Words.{nat_lt, nat_le, if◌then◌else◌, ◌&&◌, map, filter_map, range_with_len, cases_Bool}
+use Rattle.tomex_cycle.proofs.Words.{nat_tests, le-leb, Loaded, Configuration, is_in, is_number, step_pool, step_dest}
+use Rattle.tomex_cycle.proofs.Words.{address_of, Busy, Tag, Done, cycle_of, is_memory, Tables, tables_of, shown, qi_of}
+use Rattle.tomex_cycle.proofs.Words.{producer, all_tags, place_of_pool, AreIssuedBy, IsHistory, clocks, holds_place}
+use Rattle.tomex_cycle.proofs.Words.{station_at, station_of, ShowsStations, ShowsRegisters, place_of_tag, Pools}
+use Rattle.tomex_cycle.proofs.Words.{RegStatus}
+use Rattle.tomex_timing.specs.Tables.{busy_of, is_under_way}
 use Rattle.tomex_cycle.proofs.Places.{low, AreLow, IsLow, same_place, turn_and}
 use Rattle.tomex_tags.specs.Contents.{a_from, busy_from}
-use Rattle.tomex_tags.specs.Places.{place_of_tag, pool_at, tag_at_place}
-use Rattle.tomex_tags.specs.Pools.{Pools}
-use Rattle.tomex_tags.specs.declared.register_status.RegStatus.{RegStatus}
+use Rattle.tomex_tags.specs.Places.{pool_at, tag_at_place}
 
 a_same : (t imm address cycle : ℕ) (memory : Bool)
     → (if memory then Some (if nat_lt t cycle then imm else address) else None)
     ≡ a_from memory (if memory && nat_le cycle t then Some address else None) imm
-a_same t imm address cycle false = refl
-a_same t imm address cycle true = elim (cases_Bool (nat_lt t cycle)) [
-  | inl e ↦ let l : t < cycle = ltb-true _ _ e in rw (e, lt-leb cycle t l) refl
-  | inr e ↦ let l : cycle ≤ t = ltb-false _ _ e in rw (e, le-leb cycle t l) refl
-]
+a_same t imm address cycle memory = grind (arith, nat_tests)
 
 busy_same : (i : Loaded) (t : ℕ) (tag : Tag) (d : Done) (older : List Done)
     → busy_of t tag d older ≡ busy_from tag (station_of i (clocks t t t) d older)
 busy_same i t tag d older =
-    let a : a_of t d ≡ a_from (is_memory d.step)
-    (if is_memory d.step && nat_le (cycle_of d.at.address) t then Some (address_of d.step) else None)
-    d.step.instr.imm = a_same t d.step.instr.imm (address_of d.step) (cycle_of d.at.address) (is_memory d.step) in
+    let a = a_same t d.step.instr.imm (address_of d.step) (cycle_of d.at.address) (is_memory d.step) in
     ap (λ (x : Option ℕ). record (busy_of t tag d older) { a = x }) a
 
 holds_test : (t : ℕ) (tag : Tag) (d : Done) → tag.number < 16 → IsLow d → d.at.issue ≤ t
@@ -54,8 +38,7 @@ pub shown_is : (i : Loaded) (t : ℕ) (tag : Tag) (h : List Done) → tag.number
 shown_is i t tag [] small few issued = refl
 shown_is i t tag (d ∷ older) small few issued =
     let e = holds_test t tag d small few.0 issued.0 in
-    let rest : shown t older tag ≡ option_map (busy_from tag) (station_at i (clocks t t t) older (place_of_tag tag)) =
-    shown_is i t tag older small few.1 issued.1 in
+    let rest = shown_is i t tag older small few.1 issued.1 in
     elim (cases_Bool (holds_place t (place_of_tag tag) d)) [
       | inl h ↦ rw (e, h) (ap (λ (x : Busy). Some x) (busy_same i t tag d older))
       | inr h ↦ rw (e, h) rest
@@ -69,31 +52,8 @@ qi_is t (d ∷ older) r issued = elim (cases_Bool (is_number (step_dest d.step) 
   | inr e ↦ rw (le-leb d.at.issue t issued.0, e) (qi_is t older r issued.1)
 ]
 
-pub tags_are_places : all_tags ≡ map tag_at_place (range_with_len 0 96)
-tags_are_places = refl
-
 place_by : (x q : ℕ) → q ≡ x / 16 → x < 96 → 16 * place_of_pool (pool_at q) + x % 16 ≡ x
-place_by x q e l = elim (cases_order q 0) [
-  | inl a0 ↦ rw a0 (omega arith)
-  | inr (inl b0) ↦ absurd (omega arith)
-  | inr (inr c0) ↦ elim (cases_order q 1) [
-    | inl a1 ↦ rw a1 (omega arith)
-    | inr (inl b1) ↦ absurd (omega arith)
-    | inr (inr c1) ↦ elim (cases_order q 2) [
-      | inl a2 ↦ rw a2 (omega arith)
-      | inr (inl b2) ↦ absurd (omega arith)
-      | inr (inr c2) ↦ elim (cases_order q 3) [
-        | inl a3 ↦ rw a3 (omega arith)
-        | inr (inl b3) ↦ absurd (omega arith)
-        | inr (inr c3) ↦ elim (cases_order q 4) [
-          | inl a4 ↦ rw a4 (omega arith)
-          | inr (inl b4) ↦ absurd (omega arith)
-          | inr (inr c4) ↦ let y : q ≡ 5 = omega arith in rw y (omega arith)
-        ]
-      ]
-    ]
-  ]
-]
+place_by x q e l = grind (arith, nat_tests)
 
 same_tables : (a : Tables) (t : ℕ) (busy : List Busy) (registers : List (Option Tag)) → a.cycle ≡ t → a.busy ≡ busy
     → a.registers ≡ registers → a ≡ record { cycle = t; busy = busy; registers = registers }
@@ -117,24 +77,20 @@ list_by n xs f count each = ext_get_or None xs (map f (range_with_len 0 n))
     (count ∙ sym (length-map-range_with_len f 0 n)) (λ x l. let k : x < n = omega arith in
     each x k ∙ sym (get_or-map-range_with_len f 0 n x x None k (omega arith)))
 
-pub tables_is : (i : Loaded) (config : Configuration) (t : ℕ) (h : List Done) (st : Pools) (rg : RegStatus)
+pub tables_is : {i : Loaded} {config : Configuration} {t : ℕ} {h : List Done} {st : Pools} {rg : RegStatus}
     (busy : List (Option Busy)) (tables : Tables) → IsHistory i config h → AreIssuedBy t h
-    → ShowsStations i (clocks t t t) h st → ShowsRegisters i t h rg
-    → length busy ≡ 96 → ((x : ℕ) → x < 96 → slice_index_or busy x None ≡ option_map (busy_from (tag_at_place x))
-    (slice_index_or st.slots x None))
-    → tables.cycle ≡ t → tables.busy ≡ filter_map (λ b. b) busy → tables.registers ≡ rg.tags → tables ≡ tables_of t h
-tables_is i config t h st rg busy tables past issued slots status count each cycle shows registers =
+    → ShowsStations i (clocks t t t) h st → ShowsRegisters i t h rg → length busy ≡ 96
+    → ((x : ℕ) → x < 96 → slice_index_or busy x None ≡ option_map (busy_from (tag_at_place x)) (slice_index_or st.slots
+    x None)) → tables.cycle ≡ t → tables.busy ≡ filter_map (λ b. b) busy → tables.registers ≡ rg.tags
+    → tables ≡ tables_of t h
+tables_is {i} {config} {t} {h} {rg} busy tables past issued slots status count each cycle shows registers =
     let f : ℕ → Option Busy = λ x. shown t h (tag_at_place x) in
     let a : busy ≡ map f (range_with_len 0 96) = list_by 96 busy f count (λ x l.
     let p : place_of_tag (tag_at_place x) ≡ x = place_back x l in
-    let s : shown t h (tag_at_place x) ≡ option_map (busy_from (tag_at_place x))
-    (station_at i (clocks t t t) h (place_of_tag (tag_at_place x))) =
-    shown_is i t (tag_at_place x) h (omega arith) (low config h past.lawful past.timed) issued in
+    let s = shown_is i t (tag_at_place x) h (omega arith) (low config h past.lawful past.timed) issued in
     each x l ∙ (ap (option_map (busy_from (tag_at_place x))) (slots.slots x l) ∙ sym (rw p at s))) in
-    let b : tables.busy ≡ filter_map (shown t h) all_tags =
-    shows ∙ (ap (filter_map (λ (x : Option Busy). x)) a
-    ∙ (filter_map-map f (λ x. x) (range_with_len 0 96)
-    ∙ sym (filter_map-map tag_at_place (shown t h) (range_with_len 0 96)))) in
+    let b = shows ∙ (ap (filter_map (λ (x : Option Busy). x)) a ∙ (filter_map-map f (λ x. x) (range_with_len 0 96) ∙ sym
+    (filter_map-map tag_at_place (shown t h) (range_with_len 0 96)))) in
     let c : tables.registers ≡ map (qi_of t h) (range_with_len 0 32) =
     registers ∙ list_by 32 rg.tags (qi_of t h) status.status (λ r l. status.tags r l ∙ sym (qi_is t h r issued)) in
     same_tables tables t (filter_map (shown t h) all_tags) (map (qi_of t h) (range_with_len 0 32)) cycle b c

@@ -1,47 +1,32 @@
 -- The sets of the operations that can start, by kind of unit.
 use Rattle.std.proofs.Common.{ℕ, ◌<◌, ◌≡◌, ◌∙◌, Bool, true, false, refl, List, [], ◌∷◌, ◌++◌, Option, Some, None, ap}
-use Rattle.std.proofs.Common.{sym, inl, inr, slice_index, slice_index_or}
-use Rattle.std.specs.Prelude.{◌==◌, ◌≢◌, ◌&&◌, ◌||◌, not, is_none, is_some}
-use Rattle.std.proofs.lemmas.Bool.{cases_Bool, both_ways, and_parts, eqb-true, eqb-false}
-use Rattle.tomex_steps.specs.Steps.{bytes_at, is_in, is_number}
+use Rattle.std.proofs.Common.{arith, sym, inl, inr, slice_index, slice_index_or}
+use Rattle.tomex_cycle.proofs.Words.{◌==◌, ◌≢◌, ◌&&◌, ◌||◌, not, is_none, is_some, cases_Bool, both_ways, and_parts}
+use Rattle.tomex_cycle.proofs.Words.{nat_tests, eqb-true, eqb-false, is_in, is_number, has, IsWithout, IsInIssueOrder}
+use Rattle.tomex_cycle.proofs.Words.{IsPicked, Configuration, option_of, pool_of, unit_at, unit_of, place_of_unit}
+use Rattle.tomex_cycle.proofs.Words.{PoolId, UnitId, is_of, none_in, inside_left, none_picked, no_option, is_memory_op}
+use Rattle.tomex_cycle.proofs.Words.{is_waiting, AreBusy, Pools, IsSetOf, has_address, waits, Station, AreStartable}
+use Rattle.tomex_cycle.proofs.Words.{IsStarting, is_clear, kind_if, kind_of, wanted}
+use Rattle.tomex_steps.specs.Steps.{bytes_at}
 use Rattle.tomex_steps.proofs.Fields.{bytes_of_op}
-use Rattle.tomex_sets.specs.Sets.{has, IsWith, IsWithout}
-use Rattle.tomex_bus.specs.Picks.{IsInIssueOrder, IsPicked}
-use Rattle.tomex_config.specs.Configuration.{Configuration, option_of}
-use Rattle.tomex_rvdec.specs.Operands.{pool_of, unit_at, unit_of}
-use Rattle.tomex_rvdec.specs.Parts.{place_of_unit}
-use Rattle.tomex_rvdec.specs.declared.pool.PoolId.{PoolId}
+use Rattle.tomex_sets.specs.Sets.{IsWith}
 use Rattle.tomex_rvdec.specs.declared.pool.PoolId.TheVariants as pools
-use Rattle.tomex_rvdec.specs.declared.pool.UnitId.{UnitId}
 use Rattle.tomex_rvdec.specs.declared.pool.UnitId.TheVariants as units
-use Rattle.tomex_timing.specs.History.{is_of}
-use Rattle.tomex_sets.proofs.Bits.{none_in}
-use Rattle.tomex_sets.proofs.Members.{inside_left, none_rest}
-use Rattle.tomex_bus.proofs.Picking.{none_picked, single_picked}
-use Rattle.tomex_membuf.proofs.Older.{no_option}
+use Rattle.tomex_sets.proofs.Members.{none_rest}
+use Rattle.tomex_bus.proofs.Picking.{single_picked}
 use Rattle.tomex_cycle.proofs.IssueOrder.{no_access}
 use Rattle.tomex_tags.proofs.Entering.{is_busy_there}
-use Rattle.tomex_tags.specs.Contents.{bytes_from, is_memory_op, is_ready, is_waiting}
-use Rattle.tomex_tags.specs.Pools.{AreBusy, Pools}
-use Rattle.tomex_tags.specs.WaitSets.{IsSetOf, has_address, waits, waits_for}
-use Rattle.tomex_tags.specs.declared.station.Station.{Station}
-use Rattle.tomex_cycle.specs.Starts.{AreStartable, AreStartableFor, IsStarting, IsWanted, is_clear, kind_if, kind_of}
-use Rattle.tomex_cycle.specs.Starts.{wanted}
-use Rattle.tomex_cycle.proofs.StartsPicked.{unit_same}
+use Rattle.tomex_tags.specs.Contents.{bytes_from, is_ready}
+use Rattle.tomex_tags.specs.WaitSets.{waits_for}
+use Rattle.tomex_cycle.specs.Starts.{AreStartableFor, IsWanted}
 
 no_kind : (w c : Bool) (u : Option UnitId) (unit : UnitId) → (w && is_of unit u) ≡ false
     → is_number (kind_if (w && c) (kind_of u)) (place_of_unit unit) ≡ false
-no_kind false c u unit e = refl
-no_kind true false u unit e = refl
-no_kind true true None unit e = refl
-no_kind true true (Some v) unit e = e
+no_kind w c u unit h4 = grind (arith, nat_tests)
 
 one_kind : (w c : Bool) (u : Option UnitId) (unit : UnitId) → (w && is_of unit u) ≡ true
     → is_number (kind_if (w && c) (kind_of u)) (place_of_unit unit) ≡ c
-one_kind false c u unit e = absurd (both_ways false refl e)
-one_kind true false u unit e = refl
-one_kind true true None unit e = sym (absurd (both_ways false refl e))
-one_kind true true (Some v) unit e = e
+one_kind w c u unit h4 = grind (arith, nat_tests)
 
 -- what waits for no unit of this kind wants none
 wants_not : (slots : List (Option Station)) (older : List ℕ) (next : ℕ) (unit : UnitId) (o : Option Station)
@@ -77,53 +62,45 @@ first_cleared st next waiting of = record {
   later = λ x l e. none_in x;
 }
 
-left_other : (rest left p x : ℕ) → x < 128 → IsWithout rest p left → (p == x) ≡ false → has left x ≡ has rest x
-left_other rest left p x l without e = without.others x l (λ z. eqb-false p x e (sym z))
+left_other : {rest left p : ℕ} (x : ℕ) → x < 128 → IsWithout rest p left → (p == x) ≡ false → has left x ≡ has rest x
+left_other {p} x l without e = without.others x l (λ z. eqb-false p x e (sym z))
 
-pub one_clear : (st : Pools) (next waiting rest left p clear more : ℕ) → AreCleared st next waiting rest clear → p < 128
+pub one_clear : {st : Pools} {next waiting rest left p clear more : ℕ} → AreCleared st next waiting rest clear → p < 128
     → has rest p ≡ true → IsWithout rest p left → IsWanted st next units.Mem p true → IsWith clear p more
     → AreCleared st next waiting left more
-one_clear st next waiting rest left p clear more so small member without wants with = record {
+one_clear {waiting} {rest} {left} {p} so small member without wants with = record {
   inside = inside_left waiting rest left p so.inside without;
-  found = λ x l e. elim (cases_Bool (p == x)) [
-    | inl f ↦ ap (has waiting) (sym (eqb-true p x f)) ∙ so.inside p small member
-    | inr f ↦ so.found x l (sym (with.others x (λ z. eqb-false p x f (sym z))) ∙ e)
-  ];
+  found = λ x l e. grind (arith, nat_tests);
   wants = λ x l e. elim (cases_Bool (p == x)) [
     | inl f ↦ let same : p ≡ x = eqb-true p x f in rw (← same, with.same) wants
-    | inr f ↦ rw (with.others x (λ z. eqb-false p x f (sym z)))
-        (so.wants x l (sym (left_other rest left p x l without f) ∙ e))
+    | inr f ↦ rw (with.others x (λ z. eqb-false p x f (sym z))) (so.wants x l (sym (left_other x l without f) ∙ e))
   ];
   later = λ x l e. elim (cases_Bool (p == x)) [
     | inl f ↦ absurd (both_ways (has left p) without.same (ap (has left) (eqb-true p x f) ∙ e))
-    | inr f ↦ with.others x (λ z. eqb-false p x f (sym z))
-        ∙ so.later x l (sym (left_other rest left p x l without f) ∙ e)
+    | inr f ↦ with.others x (λ z. eqb-false p x f (sym z)) ∙ so.later x l (sym (left_other x l without f) ∙ e)
   ];
 }
 
-pub none_clear : (st : Pools) (next waiting rest left p clear : ℕ) → AreCleared st next waiting rest clear → p < 128
+pub none_clear : {st : Pools} {next waiting rest left p clear : ℕ} → AreCleared st next waiting rest clear → p < 128
     → has rest p ≡ true → IsWithout rest p left → IsWanted st next units.Mem p false
     → AreCleared st next waiting left clear
-none_clear st next waiting rest left p clear so small member without wants = record {
+none_clear {waiting} {rest} {left} {p} so small member without wants = record {
   inside = inside_left waiting rest left p so.inside without;
   found = so.found;
-  wants = λ x l e. elim (cases_Bool (p == x)) [
-    | inl f ↦ let same : p ≡ x = eqb-true p x f in rw (← same, so.later p small member) wants
-    | inr f ↦ so.wants x l (sym (left_other rest left p x l without f) ∙ e)
-  ];
+  wants = λ x l e. grind (arith, nat_tests);
   later = λ x l e. elim (cases_Bool (p == x)) [
     | inl f ↦ absurd (both_ways (has left p) without.same (ap (has left) (eqb-true p x f) ∙ e))
-    | inr f ↦ so.later x l (sym (left_other rest left p x l without f) ∙ e)
+    | inr f ↦ so.later x l (sym (left_other x l without f) ∙ e)
   ];
 }
 
 none_waits : (unit : UnitId) → waits_for unit None ≡ false
 none_waits unit = refl
 
-pub all_cleared : (st : Pools) (next waiting rest clear : ℕ) → AreBusy st.slots st.busy st.issue_numbers
+pub all_cleared : {st : Pools} {next waiting rest clear : ℕ} → AreBusy st.slots st.busy st.issue_numbers
     → IsSetOf (waits_for units.Mem) st.slots waiting → AreCleared st next waiting rest clear → rest ≡ 0
     → AreStartableFor st next units.Mem clear
-all_cleared st next waiting rest clear filled of so empty = record {
+all_cleared {st} {waiting} {rest} filled of so empty = record {
   inside = λ x l e. is_busy_there (waits_for units.Mem) st.slots st.busy st.issue_numbers waiting (none_waits units.Mem)
       filled of x l (so.found x l e);
   wants = λ x l. so.wants x l (none_rest rest x empty);
@@ -132,13 +109,7 @@ all_cleared st next waiting rest clear filled of so empty = record {
 -- Units of the other kinds.
 
 memory_unit : (o : Option PoolId) → (is_in pools.Load o || is_in pools.Store o) ≡ is_of units.Mem (unit_at o)
-memory_unit None = refl
-memory_unit (Some pools.Alu) = refl
-memory_unit (Some pools.Mul) = refl
-memory_unit (Some pools.Div) = refl
-memory_unit (Some pools.Load) = refl
-memory_unit (Some pools.Store) = refl
-memory_unit (Some pools.Bru) = refl
+memory_unit o = grind (arith, nat_tests)
 
 -- Memory operations of which none is in another's way.
 
@@ -163,21 +134,15 @@ all_waiting st next waiting filled of clear = record {
       of;
   wants = λ x l older younger by. of x l ∙ elim (cases_Bool (waits_for units.Mem (slice_index_or st.slots x None))) [
     | inr e ↦ e ∙ sym (wants_not st.slots older next units.Mem (slice_index_or st.slots x None) e)
-    | inl e ↦ e ∙ wants_clear st.slots older next units.Mem (slice_index_or st.slots x None) true e
-        (λ s here. sym (clear x next s older younger l here
-        (addressed_one s (ap (waits_for units.Mem) (sym here) ∙ e)) by))
+    | inl e ↦ e ∙ wants_clear st.slots older next units.Mem (slice_index_or st.slots x None) true e (λ s here. sym
+        (clear x next s older younger l here (addressed_one s (ap (waits_for units.Mem) (sym here) ∙ e)) by))
   ];
 }
 
 -- An operation of another kind needs no access.
 
 other_unit : (unit : UnitId) (u : Option UnitId) → unit ≢ units.Mem → is_of unit u ≡ true → is_of units.Mem u ≡ false
-other_unit unit None apart e = refl
-other_unit unit (Some v) apart e = elim (cases_Bool (place_of_unit v == place_of_unit units.Mem)) [
-  | inr f ↦ f
-  | inl f ↦ absurd (apart (unit_same unit units.Mem (sym (eqb-true (place_of_unit v) (place_of_unit unit) e)
-      ∙ eqb-true (place_of_unit v) (place_of_unit units.Mem) f)))
-]
+other_unit unit u h2 h3 = grind (arith, nat_tests)
 
 no_bytes : (s : Station) (a : Option ℕ) → is_memory_op s.instr.op ≡ false → bytes_from s.instr.op a ≡ None
 no_bytes s None e = refl
@@ -215,8 +180,7 @@ single_of unit slots waiting set n issue_numbers single are some wait =
     single_picked set n issue_numbers some (λ a b l m e f. single a b l m (among a l e) (among b m f))
   where
     waits_too : (o : Option Station) → waits_for unit o ≡ true → waits o ≡ true
-    waits_too None e = e
-    waits_too (Some s) e = (and_parts (is_waiting s) (is_of unit (unit_of s.instr.op)) e).0
+    waits_too o e = grind (arith, nat_tests)
 
     among : (x : ℕ) → x < 128 → has set x ≡ true → has waiting x ≡ true
     among x l e = are x l ∙ waits_too (slice_index_or slots x None) (wait x l e)
@@ -225,13 +189,13 @@ pub all_of : (unit : UnitId) (slots : List (Option Station)) (set : ℕ) → IsS
     → x < 128 → has set x ≡ true → waits_for unit (slice_index_or slots x None) ≡ true
 all_of unit slots set of x l e = sym (of x l) ∙ e
 
-pub found_waiting : (st : Pools) (next waiting rest clear : ℕ) → IsSetOf (waits_for units.Mem) st.slots waiting
+pub found_waiting : {st : Pools} {next waiting rest clear : ℕ} → IsSetOf (waits_for units.Mem) st.slots waiting
     → AreCleared st next waiting rest clear → (x : ℕ) → x < 128 → has clear x ≡ true
     → waits_for units.Mem (slice_index_or st.slots x None) ≡ true
-found_waiting st next waiting rest clear of so x l e = sym (of x l) ∙ so.found x l e
+found_waiting of so x l e = sym (of x l) ∙ so.found x l e
 
 -- the oldest of each kind together
-pub are_starting : (config : Configuration) (st : Pools) (next : ℕ) (ra rb rc rd re a b c d e all : ℕ)
+pub are_starting : (config : Configuration) {st : Pools} {next ra rb rc rd re : ℕ} (a b c d e all : ℕ)
     → AreStartableFor st next units.Alu ra → AreStartableFor st next units.Mul rb → AreStartableFor st next units.Div rc
     → AreStartableFor st next units.Mem rd → AreStartableFor st next units.Bru re
     → IsPicked ra st.issue_numbers (option_of config units.Alu).units a
@@ -241,8 +205,8 @@ pub are_starting : (config : Configuration) (st : Pools) (next : ℕ) (ra rb rc 
     → IsPicked re st.issue_numbers (option_of config units.Bru).units e
     → ((x : ℕ) → has all x ≡ (has a x || (has b x || (has c x || (has d x || has e x)))))
     → IsStarting config st next all
-are_starting config st next ra rb rc rd re a b c d e all is_alu is_mul is_div is_mem is_bru alu mul div mem bru together
-    = record {
+are_starting config {st} {next} {ra} {rb} {rc} {rd} {re} a b c d e all is_alu is_mul is_div is_mem is_bru alu mul div
+    mem bru together = record {
       startable = ra ∷ rb ∷ rc ∷ rd ∷ re ∷ [];
       kinds = a ∷ b ∷ c ∷ d ∷ e ∷ [];
       are_startable = kinds;
@@ -252,42 +216,30 @@ are_starting config st next ra rb rc rd re a b c d e all is_alu is_mul is_div is
     }
   where
     or_none : (z : Bool) → (z || false) ≡ z
-    or_none true = refl
-    or_none false = refl
+    or_none z = grind (arith, nat_tests)
 
     kinds : AreStartable st next (ra ∷ rb ∷ rc ∷ rd ∷ re ∷ [])
-    kinds units.Alu = is_alu
-    kinds units.Mul = is_mul
-    kinds units.Div = is_div
-    kinds units.Mem = is_mem
-    kinds units.Bru = is_bru
+    kinds = grind (arith, nat_tests)
 
     each : (unit : UnitId) → IsPicked (slice_index (ra ∷ rb ∷ rc ∷ rd ∷ re ∷ []) (place_of_unit unit)) st.issue_numbers
         (option_of config unit).units (slice_index (a ∷ b ∷ c ∷ d ∷ e ∷ []) (place_of_unit unit))
-    each units.Alu = alu
-    each units.Mul = mul
-    each units.Div = div
-    each units.Mem = mem
-    each units.Bru = bru
+    each unit = grind (arith, nat_tests)
 
 -- where nothing waits, nothing starts
 pub none_starts : (config : Configuration) (st : Pools) (next waiting : ℕ) → AreBusy st.slots st.busy st.issue_numbers
     → IsSetOf waits st.slots waiting → waiting ≡ 0 → IsStarting config st next 0
 none_starts config st next waiting filled of empty =
-    are_starting config st next 0 0 0 0 0 0 0 0 0 0 0
-    (ready_for st next 0 units.Alu filled (none_for units.Alu) (λ e. absurd (cc)))
+    are_starting config 0 0 0 0 0 0 (ready_for st next 0 units.Alu filled (none_for units.Alu) (λ e. absurd (cc)))
     (ready_for st next 0 units.Mul filled (none_for units.Mul) (λ e. absurd (cc)))
     (ready_for st next 0 units.Div filled (none_for units.Div) (λ e. absurd (cc)))
-    (all_cleared st next 0 0 0 filled (none_for units.Mem) (first_cleared st next 0 (none_for units.Mem)) refl)
+    (all_cleared filled (none_for units.Mem) (first_cleared st next 0 (none_for units.Mem)) refl)
     (ready_for st next 0 units.Bru filled (none_for units.Bru) (λ e. absurd (cc)))
     (none_picked 0 _ st.issue_numbers refl) (none_picked 0 _ st.issue_numbers refl)
     (none_picked 0 _ st.issue_numbers refl) (none_picked 0 _ st.issue_numbers refl)
     (none_picked 0 _ st.issue_numbers refl) (λ x. rw (none_in x) refl)
   where
     none_too : (unit : UnitId) (o : Option Station) → waits o ≡ false → waits_for unit o ≡ false
-    none_too unit None e = refl
-    none_too unit (Some s) e = ap (λ b. b && is_of unit (unit_of s.instr.op)) e
+    none_too unit o e = grind (arith, nat_tests)
 
     none_for : (unit : UnitId) → IsSetOf (waits_for unit) st.slots 0
-    none_for unit x l = none_in x ∙ sym
-        (none_too unit (slice_index_or st.slots x None) (sym (of x l) ∙ (rw empty (none_in x))))
+    none_for unit = grind (arith, nat_tests)

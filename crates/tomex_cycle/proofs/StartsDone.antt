@@ -1,46 +1,30 @@
 -- The phase of starts.
-use Rattle.std.proofs.Common.{length, slice_index_or, ℕ, ◌+◌, ◌<◌, ◌≡◌, ◌∙◌, Bool, true, false, arith, refl, List, []}
-use Rattle.std.proofs.Common.{◌∷◌, Option, Some, None, ap, sym, inl, inr, subst, ◌⊎◌, slice_index, ◌≤◌}
-use Rattle.std.specs.Prelude.{◌==◌, is_some, ◌||◌, nat_lt, if◌then◌else◌, nat_le}
-use Rattle.std.proofs.lemmas.Bool.{cases_Bool, lt-ltb, and_parts, ltb-true, ltb-false, both_ways, eqb-true, lt-leb}
-use Rattle.tomex_image.specs.Image.{Loaded}
-use Rattle.tomex_config.specs.Configuration.{Configuration}
-use Rattle.tomex_steps.specs.Results.{byte_in}
-use Rattle.tomex_steps.specs.Memory.{Bytes}
-use Rattle.tomex_steps.specs.Steps.{step_unit}
-use Rattle.tomex_rvexec.specs.declared.outcome.Fault.{Fault}
-use Rattle.tomex_steps.specs.declared.step.Step.{Step}
-use Rattle.tomex_timing.specs.declared.times.Done.{Done}
-use Rattle.tomex_timing.specs.Recurrence.{AreTimed}
-use Rattle.tomex_cycle.specs.Phases.{MakesStarts}
-use Rattle.tomex_cycle.specs.Run.{AreIssuedBy, ArePast}
-use Rattle.tomex_steps.specs.Access.{IsInside}
-use Rattle.tomex_cycle.specs.Starts.{AllCanBegin, AllInside, CanBegin, HaveBegun, HaveStored, begun, IsStarting, AreLow}
-use Rattle.tomex_cycle.specs.Views.{ShowsMemory, clocks, holds_place, station_at, station_of}
+use Rattle.std.proofs.Common.{length, slice_index_or, ℕ, ◌+◌, ◌<◌, ◌≡◌, ◌∙◌, true, arith, refl, List, []}
+use Rattle.std.proofs.Common.{◌∷◌, Option, Some, None, ap, sym, inl, inr, subst, slice_index, ◌≤◌}
+use Rattle.tomex_cycle.proofs.Words.{◌==◌, is_some, nat_lt, if◌then◌else◌, nat_le, cases_Bool, lt-ltb, and_parts}
+use Rattle.tomex_cycle.proofs.Words.{ltb-true, ltb-false, both_ways, eqb-true, lt-leb, Loaded, Configuration, byte_in}
+use Rattle.tomex_cycle.proofs.Words.{Bytes, step_unit, Fault, Step, Done, AreTimed, MakesStarts, AreIssuedBy, ArePast}
+use Rattle.tomex_cycle.proofs.Words.{IsInside, AllCanBegin, AllInside, CanBegin, HaveBegun, HaveStored, begun}
+use Rattle.tomex_cycle.proofs.Words.{IsStarting, AreLow, ShowsMemory, clocks, holds_place, station_at, station_of}
+use Rattle.tomex_cycle.proofs.Words.{step_in, Pools, AreBusy, Station, has, get_or_past, place_of_unit, UnitId}
 use Rattle.tomex_cycle.proofs.StartsMade.{begins_at, inside_is, some_is, step_is}
 use Rattle.tomex_cycle.proofs.StartsPicked.{starting_is, starts_at, starts_in, five}
 use Rattle.tomex_cycle.proofs.StartsWritten.{written_is}
-use Rattle.tomex_tags.specs.Contents.{step_in}
-use Rattle.tomex_tags.specs.Pools.{Pools, AreBusy}
-use Rattle.tomex_tags.specs.declared.station.Station.{Station}
-use Rattle.tomex_sets.specs.Sets.{has}
-use Rattle.std.proofs.lemmas.List.{get_or_past}
-use Rattle.tomex_rvdec.specs.Parts.{place_of_unit}
-use Rattle.tomex_rvdec.specs.declared.pool.UnitId.{UnitId}
 use Rattle.tomex_rvdec.specs.declared.pool.UnitId.TheVariants as units
+use Rattle.tomex_cycle.proofs.Truth.{or_cases}
 
 unstarted : (t u start finish : ℕ) → u ≡ t + 1 → (start == u) ≡ true → (if nat_le start t then Some finish else None)
     ≡ None
 unstarted t u start finish e f = let at : start ≡ u = eqb-true start u f in rw (lt-leb start t (omega arith)) refl
 
 -- what starts has a unit and an access inside memory
-can_begin : (i : Loaded) (config : Configuration) (t u x : ℕ) (h part : List Done) (m : Bytes) → AreTimed config part
-    → AreIssuedBy t part → ArePast i part → u ≡ t + 1 → ShowsMemory i t h m → starts_at t u part x ≡ true
-    → (s : Station) × (station_at i (clocks t t t) part x ≡ Some s) × CanBegin m s
-can_begin i config t u x h [] m timed issued past e shown starts = absurd (cc)
-can_begin i config t u x h (d ∷ older) m timed issued past e shown starts = elim (cases_Bool (holds_place t x d)) [
+can_begin : {i : Loaded} (config : Configuration) {t : ℕ} (u x : ℕ) {h : List Done} (part : List Done) (m : Bytes)
+    → AreTimed config part → AreIssuedBy t part → ArePast i part → u ≡ t + 1 → ShowsMemory i t h m
+    → starts_at t u part x ≡ true → (s : Station) × (station_at i (clocks t t t) part x ≡ Some s) × CanBegin m s
+can_begin config u x [] m timed issued past e shown starts = absurd (cc)
+can_begin {i} config {t} u x (d ∷ older) m timed issued past e shown starts = elim (cases_Bool (holds_place t x d)) [
   | inr free ↦
-      let r = can_begin i config t u x h older m timed.1 issued.1 past.2 e shown (rw free at starts) in
+      let r = can_begin config u x older m timed.1 issued.1 past.2 e shown (rw free at starts) in
       (r.0, rw free r.1, r.2)
   | inl held ↦
       let s : starts_in u d ≡ true = rw held at starts in
@@ -49,7 +33,7 @@ can_begin i config t u x h (d ∷ older) m timed issued past e shown starts = el
         station_of i (clocks t t t) d older,
         rw held refl,
         record {
-          inside = subst (λ (y : Step). IsInside m y) (sym same) (inside_is i t u d older h m past s shown);
+          inside = subst (λ (y : Step). IsInside m y) (sym same) (inside_is u d older past s shown);
           not_started = unstarted t u d.at.start d.at.finish e
               (and_parts (is_some (step_unit d.step)) (d.at.start == u) s).1;
           unit = some_is (step_unit d.step) (and_parts (is_some (step_unit d.step)) (d.at.start == u) s).0;
@@ -61,12 +45,11 @@ inside_begun : (config : Configuration) (u : ℕ) (m : Bytes) (s0 s : Station) �
     → IsInside m (step_in s0) → IsInside m (step_in s)
 inside_begun config u m s0 s e inside = let f : begun config u m s0 ≡ s = cc in rw (← f) inside
 
-all_inside : (config : Configuration) (u : ℕ) (m : Bytes) (picked : ℕ) (old new : Pools)
+all_inside : {config : Configuration} {u : ℕ} {m : Bytes} {picked : ℕ} {old new : Pools}
     → AllCanBegin m picked old.slots → HaveBegun config u m picked 96 old new → AllInside m picked new.slots
-all_inside config u m picked old new can made x l pick s e =
+all_inside {config} {u} {m} {new} can made x l pick s e =
     let one = can x l pick in
-    let f : slice_index_or new.slots x None ≡ Some (begun config u m one.0) =
-    made.slots x l ∙ rw (lt-ltb x 96 l, pick, one.1) refl in
+    let f = made.slots x l ∙ rw (lt-ltb x 96 l, pick, one.1) refl in
     inside_begun config u m one.0 s (sym f ∙ e) one.2.inside
 
 pub low_of : (st : Pools) (x : ℕ) → AreBusy st.slots st.busy st.issue_numbers → x < 128 → has st.busy x ≡ true → x < 96
@@ -74,19 +57,14 @@ low_of st x filled l e = elim (cases_Bool (nat_lt x 96)) [
   | inl k ↦ ltb-true x 96 k
   | inr k ↦
       let high : 96 ≤ x = ltb-false x 96 k in
-      let count : length st.slots ≡ 96 = filled.places in
       let none : slice_index_or st.slots x None ≡ None = get_or_past st.slots x None (omega arith) in
       absurd (both_ways (has st.busy x) (filled.each x l ∙ ap is_some none) e)
 ]
 
-pub or_cases : (a b : Bool) → (a || b) ≡ true → (a ≡ true) ⊎ (b ≡ true)
-or_cases true b e = inl refl
-or_cases false b e = inr e
-
 -- what starts is busy
-starting_low : (config : Configuration) (st : Pools) (next starting : ℕ) → IsStarting config st next starting
+starting_low : {config : Configuration} {st : Pools} {next starting : ℕ} → IsStarting config st next starting
     → AreBusy st.slots st.busy st.issue_numbers → (x : ℕ) → x < 128 → has starting x ≡ true → x < 96
-starting_low config st next starting begins filled x l e =
+starting_low {st} begins filled x l e =
     let kind : (unit : UnitId) → has (slice_index begins.kinds (place_of_unit unit)) x ≡ true → has st.busy x ≡ true =
     λ unit k. (begins.are_startable unit).inside x l ((begins.units unit).inside x l k) in
     low_of st x filled l (elim (or_cases _ _ (sym (five begins.kinds x begins.count) ∙ (sym (begins.all x l) ∙ e))) [
@@ -116,18 +94,16 @@ pub start_made : (config : Configuration) (next : ℕ) (old new : Pools) (m writ
 start_made config next old new m written fault picked starting filled begins good writes i h t e past issued shown
     memory =
     let picks : (x : ℕ) → x < 96 → has picked x ≡ starts_at t next h x =
-    λ x l. starting_is i config t next x old h picked past.lawful past.timed issued shown filled starting e
-    (omega arith) in
-    let low : AreLow picked = λ x l k. starting_low config old next picked starting filled x l k in
+    λ x l. starting_is t x past.lawful past.timed issued shown filled starting e (omega arith) in
+    let low : AreLow picked = λ x l k. starting_low starting filled x l k in
     let can : AllCanBegin m picked old.slots = λ x l pick.
-    let r = can_begin i config t next x h h m past.timed issued past.past e memory (sym (picks x l) ∙ pick) in
+    let r = can_begin config next x h m past.timed issued past.past e memory (sym (picks x l) ∙ pick) in
     (r.0, shown.slots x l ∙ r.1, r.2) in
     let made : HaveBegun config next m picked 96 old new = begins shown.places low can in
     let slots : (x : ℕ) → x < 96 → slice_index_or new.slots x None ≡ station_at i (clocks next t t) h x = λ x l.
     made.slots x l ∙ (rw (lt-ltb x 96 l, picks x l, shown.slots x l) refl
     ∙ sym (begins_at i config t next x h [] h m past.lawful past.timed issued past.past e memory refl)) in
-    let stored : HaveStored new.slots picked 96 m written =
-    writes low (all_inside config next m picked old new can made) in
+    let stored : HaveStored new.slots picked 96 m written = writes low (all_inside can made) in
     let base : m.base ≡ i.window.base = memory.base in (
       good shown.places low can,
       record {
@@ -139,7 +115,7 @@ start_made config next old new m written fault picked starting filled begins goo
       record {
         base = stored.base ∙ memory.base;
         size = stored.size ∙ memory.size;
-        bytes = λ a from to. stored.bytes a (omega arith) ∙ written_is i config t next a h new.slots picked (byte_in m)
+        bytes = λ a from to. stored.bytes a (omega arith) ∙ written_is i t next a h new.slots picked (byte_in m)
             past.lawful past.timed issued past.past e picks slots (memory.bytes a from to);
       },
     )

@@ -1,41 +1,25 @@
 -- What starts has its finish and its result.
 use Rattle.std.proofs.Common.{length, append_assoc, ℕ, ◌+◌, ◌-◌, ◌<◌, ◌≤◌, ◌≡◌, ◌∙◌, true, false, arith, refl, List, []}
 use Rattle.std.proofs.Common.{◌∷◌, ◌++◌, Option, Some, None, ap, sym, inl, inr}
-use Rattle.std.specs.Prelude.{nat_lt, nat_le, ◌&&◌, ◌==◌, is_some, MatchOption, option_map, IfSome, IsSome}
-use Rattle.std.proofs.lemmas.Bool.{cases_Bool, ltb-true, lt-ltb, leb-true, leb-false, le-leb, lt-leb, and_parts}
-use Rattle.std.proofs.lemmas.Bool.{eqb-true, eqb-false}
-use Rattle.tomex_image.specs.Image.{Loaded}
-use Rattle.tomex_config.specs.Configuration.{Configuration, IsWithinLimits, option_of}
-use Rattle.tomex_rvdec.specs.declared.op.Op.{Op}
+use Rattle.tomex_cycle.proofs.Words.{nat_lt, nat_le, ◌&&◌, ◌==◌, is_some, MatchOption, option_map, IfSome, IsSome}
+use Rattle.tomex_cycle.proofs.Words.{nat_tests, cases_Bool, le-leb, and_parts, eqb-true, eqb-false, Loaded}
+use Rattle.tomex_cycle.proofs.Words.{Configuration, IsWithinLimits, option_of, Op, UnitId, sources_of, unit_of}
+use Rattle.tomex_cycle.proofs.Words.{ByteRange, Step, IsAllowed, byte_in, result_of, byte_after, Bytes, bytes_of, j_of}
+use Rattle.tomex_cycle.proofs.Words.{k_of, operand, step_pool, step_unit, unit_with_pool, unread_j, unread_k, Done}
+use Rattle.tomex_cycle.proofs.Words.{cycle_of, source_end, AreTimed, IsLeast, are_conflicts_finished, can_start}
+use Rattle.tomex_cycle.proofs.Words.{has_unit, field_of, producer, AreIssuedBy, ArePast, steps_in, IsInside, begun}
+use Rattle.tomex_cycle.proofs.Words.{begun_if, ShowsMemory, clocks, holds_place, station_at, station_of, step_in}
+use Rattle.tomex_cycle.proofs.Words.{is_there, value_in, Station}
 use Rattle.tomex_rvdec.specs.declared.op.Op.TheVariants as ops
-use Rattle.tomex_rvdec.specs.declared.pool.UnitId.{UnitId}
-use Rattle.tomex_rvdec.specs.Operands.{sources_of, unit_of}
-use Rattle.tomex_steps.specs.declared.step.ByteRange.{ByteRange}
-use Rattle.tomex_steps.specs.declared.step.Step.{Step}
-use Rattle.tomex_rvexec.specs.Flow.{IsAllowed, end_at}
-use Rattle.tomex_steps.specs.Results.{byte_in, is_among, result_of}
-use Rattle.tomex_rvexec.specs.History.{byte_after}
-use Rattle.tomex_steps.specs.Memory.{Bytes}
-use Rattle.tomex_steps.specs.Steps.{bytes_of, j_of, k_of, operand, step_pool, step_unit}
-use Rattle.tomex_steps.proofs.Fields.{unit_with_pool}
-use Rattle.tomex_rvexec.proofs.FlowHistories.{unread_j, unread_k}
+use Rattle.tomex_rvexec.specs.Flow.{end_at}
+use Rattle.tomex_steps.specs.Results.{is_among}
 use Rattle.tomex_rvexec.proofs.FlowRuns.{same_result}
-use Rattle.tomex_timing.specs.declared.times.Done.{Done}
-use Rattle.tomex_timing.specs.History.{cycle_of, source_end}
-use Rattle.tomex_timing.specs.Recurrence.{AreTimed, IsLeast, are_conflicts_finished, can_start, has_unit}
-use Rattle.tomex_timing.specs.Tables.{field_of, producer}
-use Rattle.tomex_cycle.specs.Run.{AreIssuedBy, ArePast, steps_in}
-use Rattle.tomex_steps.specs.Access.{IsInside}
-use Rattle.tomex_cycle.specs.Starts.{begun, begun_if, finish_from}
-use Rattle.tomex_cycle.specs.Views.{ShowsMemory, clocks, holds_place, station_at, station_of}
+use Rattle.tomex_cycle.specs.Starts.{finish_from}
 use Rattle.tomex_cycle.proofs.Accesses.{found_is}
 use Rattle.tomex_cycle.proofs.Fields.{there_test, timed_part, issued_part}
 use Rattle.tomex_cycle.proofs.StartsStored.{inside_as}
 use Rattle.tomex_cycle.proofs.StartsTests.{there_value}
 use Rattle.tomex_cycle.proofs.StartsPicked.{start_least, starts_at, starts_in}
-use Rattle.tomex_tags.specs.Contents.{step_in}
-use Rattle.tomex_tags.specs.Operands.{is_there, value_in}
-use Rattle.tomex_tags.specs.declared.station.Station.{Station}
 
 pub past_part : (i : Loaded) (newer h : List Done) → ArePast i (newer ++ h) → ArePast i h
 past_part i [] h past = past
@@ -51,23 +35,20 @@ operands_there : (config : Configuration) (t u : ℕ) (d : Done) (older : List D
     × (is_there (field_of t older (k_of d.step)) ≡ true)
 operands_there config t u d older timed issued e starts =
     let two = and_parts (is_some (step_unit d.step)) (d.at.start == u) starts in
-    let at : d.at.start ≡ u = eqb-true _ _ two.1 in
     let unit = unit_some (step_unit d.step) two.0 in
-    let least = start_least config d older unit.0 timed.0 unit.1 in
+    let least = start_least d unit.0 timed.0 unit.1 in
     let can : can_start config older d.step unit.0 d.at.issue (cycle_of d.at.address) d.at.start ≡ true = least.0 in
     let a = and_parts _ (has_unit config older unit.0 d.at.start) can in
     let b = and_parts _ (are_conflicts_finished older d.step d.at.start) a.0 in
     let ops = and_parts (nat_lt d.at.issue d.at.start && nat_lt (cycle_of d.at.address) d.at.start)
-    (nat_lt (source_end older (j_of d.step)) d.at.start && nat_lt (source_end older (k_of d.step)) d.at.start) b.0
-    in
+    (nat_lt (source_end older (j_of d.step)) d.at.start && nat_lt (source_end older (k_of d.step)) d.at.start) b.0 in
     let jk = and_parts (nat_lt (source_end older (j_of d.step)) d.at.start)
     (nat_lt (source_end older (k_of d.step)) d.at.start) ops.1 in
-    let j : source_end older (j_of d.step) < d.at.start = ltb-true _ _ jk.0 in
-    let k : source_end older (k_of d.step) < d.at.start = ltb-true _ _ jk.1 in (
-      there_test config t older (j_of d.step) timed.1 issued.1
-          ∙ lt-ltb (source_end older (j_of d.step)) (t + 1) (omega arith),
-      there_test config t older (k_of d.step) timed.1 issued.1
-          ∙ lt-ltb (source_end older (k_of d.step)) (t + 1) (omega arith),
+    grind (
+      arith,
+      nat_tests,
+      there_test config t older (j_of d.step) timed.1 issued.1,
+      there_test config t older (k_of d.step) timed.1 issued.1,
     )
 
 value_is : (t v : ℕ) (older : List Done) (source : Option ℕ)
@@ -86,11 +67,9 @@ pub step_is : (i : Loaded) (config : Configuration) (t u : ℕ) (d : Done) (olde
     → step_in (station_of i (clocks t t t) d older) ≡ d.step
 step_is i config t u d older timed issued past e starts =
     let there = operands_there config t u d older timed issued e starts in
-    let pool : is_some (step_pool d.step) ≡ true =
-    sym (unit_with_pool d.step) ∙ (and_parts (is_some (step_unit d.step)) (d.at.start == u) starts).0 in
-    let j : value_in (field_of t older (j_of d.step)) ≡ d.step.vj =
-    value_is t d.step.vj older (sources_of d.step.instr).j there.0
-    (unread_j i (steps_in older) d.step past.0 (some_is (step_pool d.step) pool)) in
+    let pool = sym (unit_with_pool d.step) ∙ (and_parts (is_some (step_unit d.step)) (d.at.start == u) starts).0 in
+    let j : value_in (field_of t older (j_of d.step)) ≡ d.step.vj = value_is t d.step.vj older
+    (sources_of d.step.instr).j there.0 (unread_j i (steps_in older) d.step past.0 (some_is (step_pool d.step) pool)) in
     let k : value_in (field_of t older (k_of d.step)) ≡ d.step.vk =
     value_is t d.step.vk older (sources_of d.step.instr).k there.1 (unread_k i (steps_in older) d.step past.0) in
     rw (j, k) refl
@@ -101,37 +80,29 @@ goes_on ops.Ebreak e = absurd (cc)
 goes_on _ e = refl
 
 -- and its access is inside memory
-pub inside_is : (i : Loaded) (t u : ℕ) (d : Done) (older h : List Done) (m : Bytes) → ArePast i (d ∷ older)
-    → starts_in u d ≡ true → ShowsMemory i t h m → IsInside m d.step
-inside_is i t u d older h m past starts shown =
-    let unit : is_some (step_unit d.step) ≡ true =
-    (and_parts (is_some (step_unit d.step)) (d.at.start == u) starts).0 in
+pub inside_is : {i : Loaded} {t : ℕ} (u : ℕ) (d : Done) (older : List Done) {h : List Done} {m : Bytes}
+    → ArePast i (d ∷ older) → starts_in u d ≡ true → ShowsMemory i t h m → IsInside m d.step
+inside_is {i} u d older {m} past starts shown =
+    let unit = (and_parts (is_some (step_unit d.step)) (d.at.start == u) starts).0 in
     let allowed : IsAllowed i d.step = past.1 (goes_on d.step.instr.op unit) in
     inside_as (bytes_of d.step) m.base i.window.base (length m.bytes) i.window.size shown.base shown.size allowed.access
 
 covered : (o : Option ByteRange) (a base size : ℕ) → IfSome o (λ r. (base ≤ r.from) × (r.to ≤ base + size))
     → is_among o a ≡ true → (base ≤ a) × (a < base + size)
-covered None a base size inside e = absurd (cc)
-covered (Some r) a base size inside e =
-    let two = and_parts (nat_le r.from a) (nat_lt a r.to) e in
-    let low : r.from ≤ a = leb-true _ _ two.0 in
-    let high : a < r.to = ltb-true _ _ two.1 in
-    let x : base ≤ r.from = inside.0 in
-    let y : r.to ≤ base + size = inside.1 in
-    (omega arith, omega arith)
+covered o a base size h4 h5 = grind (arith, nat_tests)
 
 -- its result is that of the run
-result_is : (i : Loaded) (config : Configuration) (t u : ℕ) (d : Done) (newer older : List Done) (m : Bytes)
+result_is : {i : Loaded} {config : Configuration} {t : ℕ} (u : ℕ) (d : Done) (newer older : List Done) {m : Bytes}
     → IsWithinLimits config → AreTimed config (newer ++ (d ∷ older)) → ArePast i (newer ++ (d ∷ older)) → u ≡ t + 1
     → starts_in u d ≡ true → ShowsMemory i t (newer ++ (d ∷ older)) m
     → result_of d.step (byte_in m) ≡ result_of d.step (byte_after i (steps_in older))
-result_is i config t u d newer older m good timed past e starts shown =
+result_is {i} {t} u d newer older {m} good timed past e starts shown =
     let two = and_parts (is_some (step_unit d.step)) (d.at.start == u) starts in
     let at : d.at.start ≡ u = eqb-true _ _ two.1 in
     let allowed : IsAllowed i d.step = (past_part i newer (d ∷ older) past).1 (goes_on d.step.instr.op two.0) in
     same_result d.step (byte_in m) (byte_after i (steps_in older)) (λ a c.
     let in_window = covered (bytes_of d.step) a i.window.base i.window.size allowed.access c in
-    shown.bytes a in_window.0 in_window.1 ∙ found_is i config t a d newer older good timed two.0 c (at ∙ e))
+    shown.bytes a in_window.0 in_window.1 ∙ found_is i t a d newer older good timed two.0 c (at ∙ e))
 
 finish_at : (config : Configuration) (finish start issue u : ℕ) (o : Option UnitId) → is_some o ≡ true
     → MatchOption o (finish ≡ issue) (λ unit. finish ≡ start + (option_of config unit).latency - 1) → start ≡ u
@@ -141,28 +112,24 @@ finish_at config finish start issue u (Some unit) some timed e =
     ap (λ (n : ℕ). Some n) (timed ∙ ap (λ (n : ℕ). n + (option_of config unit).latency - 1) e)
 
 -- a station as its operation starts
-pub begun_is : (i : Loaded) (config : Configuration) (t u : ℕ) (d : Done) (newer older : List Done) (m : Bytes)
+pub begun_is : (i : Loaded) {config : Configuration} (t u : ℕ) (d : Done) (newer older : List Done) (m : Bytes)
     → IsWithinLimits config → AreTimed config (newer ++ (d ∷ older)) → AreIssuedBy t (newer ++ (d ∷ older))
     → ArePast i (newer ++ (d ∷ older)) → u ≡ t + 1 → starts_in u d ≡ true → ShowsMemory i t (newer ++ (d ∷ older)) m
     → station_of i (clocks u t t) d older ≡ begun config u m (station_of i (clocks t t t) d older)
-begun_is i config t u d newer older m good timed issued past e starts shown =
+begun_is i {config} t u d newer older m good timed issued past e starts shown =
     let two = and_parts (is_some (step_unit d.step)) (d.at.start == u) starts in
     let at : d.at.start ≡ u = eqb-true _ _ two.1 in
     let here : AreTimed config (d ∷ older) = timed_part config newer (d ∷ older) timed in
-    let step : step_in (station_of i (clocks t t t) d older) ≡ d.step =
-    step_is i config t u d older here (issued_part t newer (d ∷ older) issued) (past_part i newer (d ∷ older) past)
-    e starts in
+    let step : step_in (station_of i (clocks t t t) d older) ≡ d.step = step_is i config t u d older here
+    (issued_part t newer (d ∷ older) issued) (past_part i newer (d ∷ older) past) e starts in
     let finish : Some d.at.finish ≡ finish_from config u (step_unit d.step) =
     finish_at config d.at.finish d.at.start d.at.issue u (step_unit d.step) two.0 here.0.finish at in
-    let value : result_of d.step (byte_after i (steps_in older))
-    ≡ result_of (step_in (station_of i (clocks t t t) d older)) (byte_in m) =
-    sym (result_is i config t u d newer older m good timed past e starts shown)
-    ∙ ap (λ (x : Step). result_of x (byte_in m)) (sym step) in
+    let value = sym (result_is u d newer older good timed past e starts shown) ∙ ap
+    (λ (x : Step). result_of x (byte_in m)) (sym step) in
     let set : Option ℕ → ℕ → Station = λ f v. record (station_of i (clocks t t t) d older) { finish = f; value = v } in
     let first : station_of i (clocks u t t) d older ≡ set (Some d.at.finish)
     (result_of d.step (byte_after i (steps_in older))) = rw (le-leb d.at.start u (omega arith)) refl in
-    first ∙ (ap (λ f. set f (result_of d.step (byte_after i (steps_in older)))) finish
-    ∙ ap (set (finish_from config u (step_unit d.step))) value)
+    grind (arith, nat_tests)
 
 -- what has no unit issued before
 pub late_unit : (o : Option UnitId) (start issue t u : ℕ) (Q : UnitId → Type 0) → MatchOption o (start ≡ issue) Q
@@ -170,25 +137,15 @@ pub late_unit : (o : Option UnitId) (start issue t u : ℕ) (Q : UnitId → Type
 late_unit None start issue t u Q timed l e starts at = let f : start ≡ issue = timed in omega arith
 late_unit (Some v) start issue t u Q timed l e starts at = eqb-false start u starts at
 
-above : (start t u : ℕ) → u ≡ t + 1 → (start ≡ u → ⊥) → t < start → u < start
-above start t u e f l = elim (cases_Bool (start == u)) [
-  | inl k ↦ absurd (f (eqb-true _ _ k))
-  | inr k ↦ omega arith
-]
-
 pub not_u : (start t u : ℕ) → u ≡ t + 1 → (start ≡ u → ⊥) → nat_le start u ≡ nat_le start t
-not_u start t u e f = elim (cases_Bool (nat_le start t)) [
-  | inl l ↦ let k : start ≤ t = leb-true _ _ l in rw l (le-leb start u (omega arith))
-  | inr l ↦ let k : t < start = leb-false _ _ l in rw l (lt-leb start u (above start t u e f k))
-]
+not_u start t u e f = grind (arith, nat_tests)
 
 -- the station of a step that doesn't start stays
 pub kept_is : (i : Loaded) (config : Configuration) (t u : ℕ) (d : Done) (older : List Done)
     → AreTimed config (d ∷ older) → AreIssuedBy t (d ∷ older) → u ≡ t + 1 → starts_in u d ≡ false
     → station_of i (clocks u t t) d older ≡ station_of i (clocks t t t) d older
 kept_is i config t u d older timed issued e starts =
-    let same : nat_le d.at.start u ≡ nat_le d.at.start t =
-    not_u d.at.start t u e (late_unit (step_unit d.step) d.at.start d.at.issue t u
+    let same = not_u d.at.start t u e (late_unit (step_unit d.step) d.at.start d.at.issue t u
     (λ v. IsLeast (can_start config older d.step v d.at.issue (cycle_of d.at.address)) d.at.start) timed.0.start
     issued.0 e starts) in
     rw same refl
@@ -205,11 +162,9 @@ begins_at i config t u x h newer (d ∷ older) m good timed issued past e shown 
       | inr held ↦ rw held (begins_at i config t u x h (newer ++ (d ∷ [])) older m good timed issued past e shown
           (f ∙ sym (append_assoc newer (d ∷ []) older)))
       | inl held ↦ elim (cases_Bool (starts_in u d)) [
-        | inl starts ↦ rw (held, starts)
-            (ap (λ (s : Station). Some s) (begun_is i config t u d newer older m good (rw f at timed) (rw f at issued)
-            (rw f at past) e starts (rw f at shown)))
-        | inr starts ↦ rw (held, starts)
-            (ap (λ (s : Station). Some s) (kept_is i config t u d older
+        | inl starts ↦ rw (held, starts) (ap (λ (s : Station). Some s) (begun_is i t u d newer older m good
+            (rw f at timed) (rw f at issued) (rw f at past) e starts (rw f at shown)))
+        | inr starts ↦ rw (held, starts) (ap (λ (s : Station). Some s) (kept_is i config t u d older
             (timed_part config newer (d ∷ older) (rw f at timed)) (issued_part t newer (d ∷ older) (rw f at issued)) e
             starts))
       ]

@@ -1,41 +1,25 @@
 -- The pass over the order picks the stations that the recurrence starts.
 use Rattle.std.proofs.Common.{length, slice_index, slice_index_or, append_assoc, ℕ, ◌+◌, ◌<◌, ◌≤◌, ◌≡◌, ◌∙◌, Bool, true}
 use Rattle.std.proofs.Common.{false, arith, refl, List, [], ◌∷◌, ◌++◌, Option, Some, None, ap, sym, inl, inr}
-use Rattle.std.specs.Prelude.{nat_lt, if◌then◌else◌, ◌&&◌, ◌||◌, ◌==◌, not, is_some, count_by}
-use Rattle.std.specs.Prelude.{MatchOption}
-use Rattle.std.proofs.lemmas.Bool.{cases_Bool, ltb-true, ltb-false, lt-ltb}
-use Rattle.std.proofs.lemmas.Bool.{and_parts, and_right, eqb-true, ne_eqb}
-use Rattle.tomex_image.specs.Image.{Loaded}
-use Rattle.tomex_config.specs.Configuration.{Configuration, IsWithinLimits, option_of}
-use Rattle.tomex_rvdec.specs.declared.pool.UnitId.{UnitId}
+use Rattle.tomex_cycle.proofs.Words.{nat_lt, if◌then◌else◌, ◌&&◌, ◌||◌, ◌==◌, not, is_some, count_by, MatchOption}
+use Rattle.tomex_cycle.proofs.Words.{nat_tests, cases_Bool, ltb-true, ltb-false, lt-ltb, and_parts, and_right}
+use Rattle.tomex_cycle.proofs.Words.{ne_eqb, Loaded, Configuration, IsWithinLimits, option_of, UnitId, place_of_unit}
+use Rattle.tomex_cycle.proofs.Words.{bytes_of, is_number, j_of, k_of, step_pool, step_unit, unit_with_pool, Tag, Done}
+use Rattle.tomex_cycle.proofs.Words.{cycle_of, is_memory, is_of, last_address, source_end, AreTimed, IsTimed, IsLeast}
+use Rattle.tomex_cycle.proofs.Words.{are_conflicts_finished, can_start, has_unit, tag_at, tag_of, AreIssuedBy, wanted}
+use Rattle.tomex_cycle.proofs.Words.{kind_if, kind_of, IsStarting, AreStartable, is_clear, ShowsStations, clocks}
+use Rattle.tomex_cycle.proofs.Words.{holds_place, order_of, place_of, station_of, no_option, is_waiting, place_at}
+use Rattle.tomex_cycle.proofs.Words.{Pools, AreBusy, IsInIssueOrder, has, PoolId, is_free}
 use Rattle.tomex_rvdec.specs.declared.pool.UnitId.TheVariants as units
-use Rattle.tomex_rvdec.specs.Parts.{place_of_unit}
-use Rattle.tomex_steps.specs.Steps.{bytes_of, is_number, j_of, k_of, step_pool, step_unit}
-use Rattle.tomex_steps.proofs.Fields.{unit_with_pool}
-use Rattle.tomex_timing.specs.declared.tables.Tag.{Tag}
-use Rattle.tomex_timing.specs.declared.times.Done.{Done}
-use Rattle.tomex_timing.specs.History.{cycle_of, is_memory, is_of, last_address, source_end}
-use Rattle.tomex_timing.specs.Recurrence.{AreTimed, IsTimed, IsLeast, are_conflicts_finished, can_start, has_unit}
-use Rattle.tomex_timing.specs.Tables.{tag_at, tag_of}
-use Rattle.tomex_cycle.specs.Run.{AreIssuedBy}
-use Rattle.tomex_cycle.specs.Starts.{wanted, kind_if, is_among, kind_of, IsStarting, AreStartable, is_clear}
-use Rattle.tomex_cycle.specs.Views.{ShowsStations, clocks, holds_place, order_of, place_of, station_of}
+use Rattle.tomex_cycle.specs.Starts.{is_among}
 use Rattle.tomex_cycle.proofs.AddressChosen.{address_rises}
 use Rattle.tomex_cycle.proofs.Addresses.{order_here, number_is_some}
 use Rattle.tomex_cycle.proofs.Totals.{issued_more, reach}
 use Rattle.tomex_cycle.proofs.Places.{order-append, is_vacant, vacant, least_test}
 use Rattle.tomex_cycle.proofs.Fields.{timed_part, issued_part}
-use Rattle.tomex_membuf.proofs.Older.{no_option}
 use Rattle.tomex_cycle.proofs.IssueOrder.{no_access}
-use Rattle.tomex_tags.specs.Contents.{bytes_in, is_waiting}
-use Rattle.tomex_tags.specs.Places.{place_at}
-use Rattle.tomex_tags.specs.Pools.{Pools, AreBusy}
-use Rattle.tomex_bus.specs.Picks.{IsInIssueOrder}
 use Rattle.tomex_cycle.proofs.Serving.{AreAlone, goes_at, AreServed, Serves, picked_goes}
-use Rattle.tomex_sets.specs.Sets.{has}
 use Rattle.tomex_cycle.proofs.Orders.{order_is}
-use Rattle.tomex_rvdec.specs.declared.pool.PoolId.{PoolId}
-use Rattle.tomex_timing.specs.Station.{is_free}
 use Rattle.tomex_cycle.proofs.StartsTests.{ready_is, no_bytes, bytes_are, conflicts_none, seen, clear_is}
 
 -- Which start.
@@ -53,64 +37,49 @@ starts_at t u (d ∷ older) x = if holds_place t x d then starts_in u d else sta
 abbrev pub count_of : UnitId → ℕ → List Done → ℕ
 count_of unit u h = count_by (λ d. is_of unit (step_unit d.step) && (d.at.start == u)) h
 
-tests_three : (i a c b w : Bool) → i ≡ true → (a ≡ true → c ≡ b)
-    → ((((((true && true) && true) && a) && c) && w) ≡ ((((i && a) && (true && true)) && b) && w))
-tests_three i true c b w e f = rw (e, f refl) refl
-tests_three i false c b w e f = rw e refl
-
-tests_off : (a b w : Bool) → false ≡ ((((true && a) && false) && b) && w)
-tests_off true b w = refl
-tests_off false b w = refl
-
 -- the tests of the pass and of the recurrence, one after the other
 tests_same : (i a j k c b w : Bool) → i ≡ true → (a ≡ true → j ≡ true → k ≡ true → c ≡ b)
     → ((((((true && j) && k) && a) && c) && w) ≡ ((((i && a) && (j && k)) && b) && w))
-tests_same i a true true c b w e f = tests_three i a c b w e (λ z. f z refl refl)
-tests_same i a true false c b w e f = rw e (tests_off a b w)
-tests_same i a false k c b w e f = rw e (tests_off a b w)
+tests_same i a j k c b w e f = grind (arith, nat_tests)
 
 least_from : (o : Option UnitId) (unit : UnitId) (P : Type 0) (Q : UnitId → Type 0) → o ≡ Some unit → MatchOption o P Q
     → Q unit
 least_from None unit P Q e h = absurd (cc)
 least_from (Some v) unit P Q e h = let f : v ≡ unit = cc in rw (← f) h
 
-pub start_least : (config : Configuration) (d : Done) (older : List Done) (unit : UnitId)
+pub start_least : {config : Configuration} (d : Done) {older : List Done} (unit : UnitId)
     → IsTimed config older d.step d.at → step_unit d.step ≡ Some unit
     → IsLeast (can_start config older d.step unit d.at.issue (cycle_of d.at.address)) d.at.start
-start_least config d older unit timed e =
-    least_from (step_unit d.step) unit (d.at.start ≡ d.at.issue)
+start_least {config} d {older} unit timed e = least_from (step_unit d.step) unit (d.at.start ≡ d.at.issue)
     (λ v. IsLeast (can_start config older d.step v d.at.issue (cycle_of d.at.address)) d.at.start) e timed.start
 
-clear_here : (i : Loaded) (config : Configuration) (t u : ℕ) (st : Pools) (h newer : List Done) (d : Done)
+clear_here : {i : Loaded} {config : Configuration} (t u : ℕ) {st : Pools} {h : List Done} (newer : List Done) (d : Done)
     (older : List Done) → IsWithinLimits config → AreTimed config h → AreIssuedBy t h
     → ShowsStations i (clocks t t t) h st → h ≡ newer ++ (d ∷ older) → u ≡ t + 1 → cycle_of d.at.address < u
     → is_clear st.slots (order_of t older) (station_of i (clocks t t t) d older) u ≡ are_conflicts_finished older d.step
     u
-clear_here i config t u st h newer d older good timed issued shown e f l =
+clear_here {i} {config} t u {st} newer d older good timed issued shown e f l =
     let part : AreTimed config (d ∷ older) = timed_part config newer (d ∷ older) (rw e at timed) in
     let by : AreIssuedBy t (d ∷ older) = issued_part t newer (d ∷ older) (rw e at issued) in
-    let bytes : bytes_in (station_of i (clocks t t t) d older) ≡ bytes_of d.step =
-    bytes_are i config t d older part by (λ m. omega arith) in
+    let bytes = bytes_are i config t d older part by (λ m. omega arith) in
     elim (cases_Bool (is_memory d.step)) [
       | inr m ↦
           let none : bytes_of d.step ≡ None = no_bytes d.step m in
           no_access st.slots (order_of t older) (station_of i (clocks t t t) d older) u (bytes ∙ none)
           ∙ sym (conflicts_none older d.step u none)
       | inl m ↦
-          let k : last_address older < cycle_of d.at.address = address_rises config d older part.0 m in
-          clear_is i config t u st h (newer ++ (d ∷ [])) older (station_of i (clocks t t t) d older) d.step good timed
+          let k : last_address older < cycle_of d.at.address = address_rises d part.0 m in
+          clear_is t u (newer ++ (d ∷ [])) older (station_of i (clocks t t t) d older) d.step good timed
           issued shown (e ∙ sym (append_assoc newer (d ∷ []) older)) f (omega arith) bytes refl
     ]
 
 -- an operation that is ready starts where a unit of its kind is left: the recurrence's test
-pub begins_is : (i : Loaded) (config : Configuration) (t u : ℕ) (st : Pools) (h newer : List Done) (d : Done)
-    (older : List Done) (unit : UnitId) → IsWithinLimits config → AreTimed config h → AreIssuedBy t h
-    → ShowsStations i (clocks t t t) h st → h ≡ newer ++ (d ∷ older) → u ≡ t + 1
-    → step_unit d.step ≡ Some unit
-    → (is_waiting (station_of i (clocks t t t) d older) && is_clear st.slots (order_of t older)
-    (station_of i (clocks t t t) d older) u && nat_lt (count_of unit u older) (option_of config unit).units)
-    ≡ (d.at.start == u)
-begins_is i config t u st h newer d older unit good timed issued shown e f some =
+pub begins_is : {i : Loaded} {config : Configuration} (t u : ℕ) {st : Pools} {h : List Done} (newer : List Done)
+    (d : Done) (older : List Done) (unit : UnitId) → IsWithinLimits config → AreTimed config h → AreIssuedBy t h
+    → ShowsStations i (clocks t t t) h st → h ≡ newer ++ (d ∷ older) → u ≡ t + 1 → step_unit d.step ≡ Some unit
+    → (is_waiting (station_of i (clocks t t t) d older) && is_clear st.slots (order_of t older) (station_of i (clocks t
+    t t) d older) u && nat_lt (count_of unit u older) (option_of config unit).units) ≡ (d.at.start == u)
+begins_is {i} {config} t u {st} newer d older unit good timed issued shown e f some =
     let part : AreTimed config (d ∷ older) = timed_part config newer (d ∷ older) (rw e at timed) in
     let by : AreIssuedBy t (d ∷ older) = issued_part t newer (d ∷ older) (rw e at issued) in
     let ready = ready_is i config t u d older part by f in
@@ -120,14 +89,12 @@ begins_is i config t u st h newer d older unit good timed issued shown e f some 
           rw (ready, l, ne_eqb d.at.start u (λ (z : d.at.start ≡ u). absurd (omega arith))) refl
       | inl l ↦
           let k : t < d.at.start = ltb-true _ _ l in
-          let test : can_start config older d.step unit d.at.issue (cycle_of d.at.address) u ≡ (d.at.start == u) =
-          least_test (can_start config older d.step unit d.at.issue (cycle_of d.at.address)) d.at.start u
-          (start_least config d older unit part.0 some) (omega arith) in
+          let test = least_test (can_start config older d.step unit d.at.issue (cycle_of d.at.address)) d.at.start u
+          (start_least d unit part.0 some) (omega arith) in
           let issue : nat_lt d.at.issue u ≡ true = lt-ltb d.at.issue u (let z : d.at.issue ≤ t = by.0 in omega arith) in
-          let clear : nat_lt (cycle_of d.at.address) u ≡ true
-          → is_clear st.slots (order_of t older) (station_of i (clocks t t t) d older) u ≡ are_conflicts_finished
-          older d.step u = λ a. clear_here i config t u st h newer d older good timed issued shown e f
-          (ltb-true _ _ a) in
+          let clear : nat_lt (cycle_of d.at.address) u ≡ true → is_clear st.slots (order_of t older)
+          (station_of i (clocks t t t) d older) u ≡ are_conflicts_finished older d.step u = λ a. clear_here t u newer d
+          older good timed issued shown e f (ltb-true _ _ a) in
           rw (ready, l) (tests_same (nat_lt d.at.issue u) (nat_lt (cycle_of d.at.address) u)
           (nat_lt (source_end older (j_of d.step)) u) (nat_lt (source_end older (k_of d.step)) u) _ _
           (has_unit config older unit u) issue (λ a b c. clear a) ∙ test)
@@ -137,68 +104,15 @@ begins_is i config t u st h newer d older unit good timed issued shown e f some 
 abbrev pub starts_of : UnitId → ℕ → Done → Bool
 starts_of unit u d = is_of unit (step_unit d.step) && (d.at.start == u)
 
-pub unit_low : (unit : UnitId) → place_of_unit unit < 5
-unit_low units.Alu = omega arith
-unit_low units.Mul = omega arith
-unit_low units.Div = omega arith
-unit_low units.Mem = omega arith
-unit_low units.Bru = omega arith
-
 none_of_start : (u start : ℕ) (unit : UnitId) (o : Option UnitId) → (start == u) ≡ false
     → (is_of unit o && (start == u)) ≡ false
 none_of_start u start unit o e = rw e (and_right (is_of unit o) false refl)
-
-pub unit_same : (v w : UnitId) → place_of_unit v ≡ place_of_unit w → v ≡ w
-unit_same units.Alu units.Alu e = refl
-unit_same units.Mul units.Mul e = refl
-unit_same units.Div units.Div e = refl
-unit_same units.Mem units.Mem e = refl
-unit_same units.Bru units.Bru e = refl
-unit_same units.Alu units.Mul e = absurd (omega arith)
-unit_same units.Alu units.Div e = absurd (omega arith)
-unit_same units.Alu units.Mem e = absurd (omega arith)
-unit_same units.Alu units.Bru e = absurd (omega arith)
-unit_same units.Mul units.Alu e = absurd (omega arith)
-unit_same units.Mul units.Div e = absurd (omega arith)
-unit_same units.Mul units.Mem e = absurd (omega arith)
-unit_same units.Mul units.Bru e = absurd (omega arith)
-unit_same units.Div units.Alu e = absurd (omega arith)
-unit_same units.Div units.Mul e = absurd (omega arith)
-unit_same units.Div units.Mem e = absurd (omega arith)
-unit_same units.Div units.Bru e = absurd (omega arith)
-unit_same units.Mem units.Alu e = absurd (omega arith)
-unit_same units.Mem units.Mul e = absurd (omega arith)
-unit_same units.Mem units.Div e = absurd (omega arith)
-unit_same units.Mem units.Bru e = absurd (omega arith)
-unit_same units.Bru units.Alu e = absurd (omega arith)
-unit_same units.Bru units.Mul e = absurd (omega arith)
-unit_same units.Bru units.Div e = absurd (omega arith)
-unit_same units.Bru units.Mem e = absurd (omega arith)
-
-kind_none : (c : Bool) (n : ℕ) (w : Bool) → (is_number (kind_if c None) n && w) ≡ false
-kind_none true n w = refl
-kind_none false n w = refl
-
-kind_other : (c w : Bool) (k n : ℕ) → (k == n) ≡ false → (is_number (kind_if c (Some k)) n && w) ≡ false
-kind_other true w k n e = rw e refl
-kind_other false w k n e = refl
-
-kind_here : (c w : Bool) (k n : ℕ) → (k == n) ≡ true → (is_number (kind_if c (Some k)) n && w) ≡ (c && w)
-kind_here true w k n e = rw e refl
-kind_here false w k n e = refl
 
 -- what is wanted for the station of a step
 wants_is : (ready b : Bool) (unit : UnitId) (o : Option UnitId) (left : UnitId → Bool)
     → ((v : UnitId) → o ≡ Some v → (ready && left v) ≡ b)
     → (is_number (kind_if ready (kind_of o)) (place_of_unit unit) && left unit) ≡ (is_of unit o && b)
-wants_is ready b unit None left test = kind_none ready (place_of_unit unit) (left unit)
-wants_is ready b unit (Some v) left test = elim (cases_Bool (place_of_unit v == place_of_unit unit)) [
-  | inr e ↦ rw e (kind_other ready (left unit) (place_of_unit v) (place_of_unit unit) e)
-  | inl e ↦
-      let same : v ≡ unit = unit_same v unit (eqb-true _ _ e) in
-      kind_here ready (left unit) (place_of_unit v) (place_of_unit unit) e
-      ∙ (ap (λ u. ready && left u) (sym same) ∙ (test v refl ∙ sym (rw e refl)))
-]
+wants_is ready b unit o left h5 = grind (arith, nat_tests)
 
 -- a busy place splits the order into its elders and the others
 order_split : (t p : ℕ) (newer : List Done) (d : Done) (older : List Done) → holds_place t p d ≡ true
@@ -206,8 +120,7 @@ order_split : (t p : ℕ) (newer : List Done) (d : Done) (older : List Done) →
 order_split t p newer d older held =
     let two = and_parts (is_number (place_of d) p) (nat_lt t d.at.end) held in
     let place : place_of d ≡ Some p = number_is_some (place_of d) p two.0 in
-    order-append t newer (d ∷ older)
-    ∙ (ap (λ xs. xs ++ order_of t newer) (order_here t p d older place two.1)
+    order-append t newer (d ∷ older) ∙ (ap (λ xs. xs ++ order_of t newer) (order_here t p d older place two.1)
     ∙ append_assoc (order_of t older) (p ∷ []) (order_of t newer))
 
 none_with : (pool : Option PoolId) (station : Option ℕ) (p : PoolId) (R : PoolId → ℕ → Type 0) → pool ≡ Some p
@@ -225,52 +138,46 @@ pool_none None never = refl
 pool_none (Some p) never = absurd (never p refl)
 
 -- what has no station uses no unit
-no_pool_unit : (config : Configuration) (d : Done) (older : List Done) → IsTimed config older d.step d.at
+no_pool_unit : {config : Configuration} (d : Done) {older : List Done} → IsTimed config older d.step d.at
     → place_of d ≡ None → step_unit d.step ≡ None
-no_pool_unit config d older timed e =
+no_pool_unit d {older} timed e =
     let none : tag_of d ≡ None = place_none (tag_of d) e in
-    let pool : step_pool d.step ≡ None =
-    pool_none (step_pool d.step) (λ p f. none_with (step_pool d.step) d.at.station p
-    (λ p n. IsLeast (is_free p older d.at.issue) n) f none timed.station) in
+    let pool : step_pool d.step ≡ None = pool_none (step_pool d.step) (λ p f. none_with (step_pool d.step) d.at.station
+    p (λ p n. IsLeast (is_free p older d.at.issue) n) f none timed.station) in
     no_option (step_unit d.step) (unit_with_pool d.step ∙ ap is_some pool)
 
 -- one step of a kind is served by the recurrence
-one_serves : (i : Loaded) (config : Configuration) (t u : ℕ) (st : Pools) (sets : List ℕ) (unit : UnitId)
-    (h newer : List Done) (d : Done) (older : List Done) → IsWithinLimits config → AreTimed config h → AreIssuedBy t h
-    → ShowsStations i (clocks t t t) h st → IsInIssueOrder st.busy st.issue_numbers (order_of t h)
+one_serves : {i : Loaded} {config : Configuration} (t u : ℕ) {st : Pools} (sets : List ℕ) (unit : UnitId)
+    {h : List Done} (newer : List Done) (d : Done) (older : List Done) → IsWithinLimits config → AreTimed config h
+    → AreIssuedBy t h → ShowsStations i (clocks t t t) h st → IsInIssueOrder st.busy st.issue_numbers (order_of t h)
     → AreStartable st u sets → u ≡ t + 1 → h ≡ newer ++ (d ∷ older)
     → Serves t (option_of config unit).units (slice_index sets (place_of_unit unit)) (starts_of unit u) d older
-one_serves i config t u st sets unit h newer d older good timed issued shown by ready f e =
+one_serves {i} {config} t u {st} sets unit {h} newer d older good timed issued shown by ready f e =
     let part : AreTimed config (d ∷ older) = timed_part config newer (d ∷ older) (rw e at timed) in
-    let reached = reach config d older good part in
+    let reached = reach d older good part in
     record {
       idle = λ l. let k : d.at.end ≤ t = ltb-false _ _ l in let r : d.at.start ≤ d.at.end = reached.start in
           none_of_start u d.at.start unit (step_unit d.step)
           (ne_eqb d.at.start u (λ (z : d.at.start ≡ u). absurd (omega arith)));
-      nowhere = λ none. no_unit (step_unit d.step) (no_pool_unit config d older part.0 none);
+      nowhere = λ none. no_unit (step_unit d.step) (no_pool_unit d part.0 none);
       ready = λ x held.
           let late : nat_lt t d.at.end ≡ true = (and_parts (is_number (place_of d) x) (nat_lt t d.at.end) held).1 in
-          let at = seen i config t st h newer d older good timed issued shown e late in
+          let at = seen t newer d older good timed issued shown e late in
           let same : at.x ≡ x = one_place (place_of d) at.x x at.place
           (and_parts (is_number (place_of d) x) (nat_lt t d.at.end) held).0 in
-          let small : x < 96 = rw same at at.small in
           let slot : slice_index_or st.slots x None ≡ Some (station_of i (clocks t t t) d older) = rw same at at.slot in
-          let order : order_of t h ≡ order_of t older ++ (x ∷ order_of t newer) =
-          ap (order_of t) e ∙ order_split t x newer d older held in
-          let wants : has (slice_index sets (place_of_unit unit)) x
-          ≡ is_number (wanted st.slots (order_of t older) u (slice_index_or st.slots x None)) (place_of_unit unit) =
-          (ready unit).wants x (omega arith) (order_of t older) (order_of t newer) (rw order at by) in
+          let order = ap (order_of t) e ∙ order_split t x newer d older held in
+          let wants = (ready unit).wants x (omega arith) (order_of t older) (order_of t newer) (rw order at by) in
           sym (ap (λ b. b && nat_lt (count_by (starts_of unit u) older) (option_of config unit).units)
           (wants ∙ ap (λ o. is_number (wanted st.slots (order_of t older) u o) (place_of_unit unit)) slot)
           ∙ wants_is (is_waiting (station_of i (clocks t t t) d older) && is_clear st.slots (order_of t older)
           (station_of i (clocks t t t) d older) u) (d.at.start == u) unit (step_unit d.step)
           (λ v. nat_lt (count_of v u older) (option_of config v).units)
-          (λ v some. begins_is i config t u st h newer d older v good timed issued shown e f some));
+          (λ v some. begins_is t u newer d older v good timed issued shown e f some));
     }
   where
     one_place : (o : Option ℕ) (a b : ℕ) → o ≡ Some a → is_number o b ≡ true → a ≡ b
-    one_place None a b e h = absurd (cc)
-    one_place (Some c) a b e h = let f : c ≡ b = eqb-true c b h in let g : c ≡ a = cc in sym g ∙ f
+    one_place o a b e f = grind (arith, nat_tests)
 
     no_unit : (o : Option UnitId) → o ≡ None → (is_of unit o && (d.at.start == u)) ≡ false
     no_unit o e = rw e refl
@@ -282,7 +189,7 @@ all_serve : (i : Loaded) (config : Configuration) (t u : ℕ) (st : Pools) (sets
     → AreServed t (option_of config unit).units (slice_index sets (place_of_unit unit)) (starts_of unit u) part
 all_serve i config t u st sets unit h newer [] good timed issued shown by ready f e = tt
 all_serve i config t u st sets unit h newer (d ∷ older) good timed issued shown by ready f e = (
-  one_serves i config t u st sets unit h newer d older good timed issued shown by ready f e,
+  one_serves t u sets unit newer d older good timed issued shown by ready f e,
   all_serve i config t u st sets unit h (newer ++ (d ∷ [])) older good timed issued shown by ready f
       (e ∙ sym (append_assoc newer (d ∷ []) older)),
 )
@@ -296,22 +203,20 @@ goes_free t x goes (d ∷ older) e = elim (cases_Bool (holds_place t x d)) [
       absurd (cc)
 ]
 
-pub all_alone : (config : Configuration) (t : ℕ) (goes : Done → Bool) (h : List Done) → IsWithinLimits config
+pub all_alone : {config : Configuration} (t : ℕ) (goes : Done → Bool) (h : List Done) → IsWithinLimits config
     → AreTimed config h → AreIssuedBy (t + 1) h → AreAlone t goes h
-all_alone config t goes [] good timed issued = tt
-all_alone config t goes (d ∷ older) good timed issued = (
-  (λ x held. goes_free t x goes older
-      (vacant config d older t x good timed issued.0
+all_alone t goes [] good timed issued = tt
+all_alone t goes (d ∷ older) good timed issued = (
+  (λ x held. goes_free t x goes older (vacant d older t x good timed issued.0
       (and_parts (is_number (place_of d) x) (nat_lt t d.at.end) held).0)),
-  all_alone config t goes older good timed.1 issued.1,
+  all_alone t goes older good timed.1 issued.1,
 )
 
 -- of all kinds together
 kinds_at : (t u : ℕ) (h : List Done) (x : ℕ)
-    → (goes_at t (starts_of units.Alu u) h x ||
-    (goes_at t (starts_of units.Mul u) h x ||
-    (goes_at t (starts_of units.Div u) h x ||
-    (goes_at t (starts_of units.Mem u) h x || (goes_at t (starts_of units.Bru u) h x || false))))) ≡ starts_at t u h x
+    → (goes_at t (starts_of units.Alu u) h x || (goes_at t (starts_of units.Mul u) h x || (goes_at t (starts_of
+    units.Div u) h x || (goes_at t (starts_of units.Mem u) h x || (goes_at t (starts_of units.Bru u) h x || false))))) ≡
+    starts_at t u h x
 kinds_at t u [] x = refl
 kinds_at t u (d ∷ older) x = elim (cases_Bool (holds_place t x d)) [
   | inr h ↦ rw h (kinds_at t u older x)
@@ -322,40 +227,25 @@ kinds_at t u (d ∷ older) x = elim (cases_Bool (holds_place t x d)) [
         → ((is_of units.Alu o && b) || ((is_of units.Mul o && b) ||
         ((is_of units.Div o && b) || ((is_of units.Mem o && b) || ((is_of units.Bru o && b) || false)))))
         ≡ (is_some o && b)
-    one_kind None b = refl
-    one_kind (Some units.Alu) false = refl
-    one_kind (Some units.Mul) false = refl
-    one_kind (Some units.Div) false = refl
-    one_kind (Some units.Mem) false = refl
-    one_kind (Some units.Bru) false = refl
-    one_kind (Some units.Alu) true = refl
-    one_kind (Some units.Mul) true = refl
-    one_kind (Some units.Div) true = refl
-    one_kind (Some units.Mem) true = refl
-    one_kind (Some units.Bru) true = refl
+    one_kind o b = grind (arith, nat_tests)
 
 pub five : (xs : List ℕ) (x : ℕ) → length xs ≡ 5
-    → is_among xs x ≡ (has (slice_index xs 0) x ||
-    (has (slice_index xs 1) x || (has (slice_index xs 2) x ||
-    (has (slice_index xs 3) x || (has (slice_index xs 4) x || false)))))
+    → is_among xs x ≡ (has (slice_index xs 0) x || (has (slice_index xs 1) x || (has (slice_index xs 2) x || (has
+    (slice_index xs 3) x || (has (slice_index xs 4) x || false)))))
 five (a ∷ b ∷ c ∷ d ∷ e ∷ []) x count = refl
 five _ x count = absurd (omega arith)
 
 -- the places that start are those whose steps start
-pub starting_is : (i : Loaded) (config : Configuration) (t u x : ℕ) (st : Pools) (h : List Done) (starting : ℕ)
-    → IsWithinLimits config → AreTimed config h → AreIssuedBy t h → ShowsStations i (clocks t t t) h st
+pub starting_is : {i : Loaded} {config : Configuration} (t : ℕ) {u : ℕ} (x : ℕ) {st : Pools} {h : List Done}
+    {starting : ℕ} → IsWithinLimits config → AreTimed config h → AreIssuedBy t h → ShowsStations i (clocks t t t) h st
     → AreBusy st.slots st.busy st.issue_numbers → IsStarting config st u starting → u ≡ t + 1 → x < 128
     → has starting x ≡ starts_at t u h x
-starting_is i config t u x st h starting good timed issued shown filled begins e l =
+starting_is {i} {config} t {u} x {st} {h} good timed issued shown filled begins e l =
     let more : AreIssuedBy (t + 1) h = issued_more t (t + 1) h (omega arith) issued in
-    let by : IsInIssueOrder st.busy st.issue_numbers (order_of t h) =
-    order_is i config (clocks t t t) h st good timed more shown filled in
+    let by : IsInIssueOrder st.busy st.issue_numbers (order_of t h) = order_is good timed more shown filled in
     let kind : (unit : UnitId) → has (slice_index begins.kinds (place_of_unit unit)) x ≡ goes_at t (starts_of unit u) h
-    x = λ unit.
-    picked_goes t (option_of config unit).units st.busy (slice_index begins.startable (place_of_unit unit))
-    (slice_index begins.kinds (place_of_unit unit)) st.issue_numbers (starts_of unit u) h by
-    (begins.are_startable unit).inside (begins.units unit)
-    (all_serve i config t u st begins.startable unit h [] h good timed issued shown by begins.are_startable e refl)
-    (all_alone config t (starts_of unit u) h good timed more) x l in
+    x = λ unit. picked_goes t (starts_of unit u) h by (begins.are_startable unit).inside (begins.units unit) (all_serve
+    i config t u st begins.startable unit h [] h good timed issued shown by begins.are_startable e refl)
+    (all_alone t (starts_of unit u) h good timed more) x l in
     begins.all x l ∙ (five begins.kinds x begins.count
     ∙ (rw (kind units.Alu, kind units.Mul, kind units.Div, kind units.Mem, kind units.Bru) (kinds_at t u h x)))

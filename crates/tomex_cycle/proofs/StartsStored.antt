@@ -1,20 +1,12 @@
 -- What a store leaves in memory.
 use Rattle.std.proofs.Common.{length, slice_index_or, zero, suc, Option, Some, None, ℕ, ◌+◌, ◌<◌, ◌≤◌, ◌≡◌, ◌∙◌, Bool}
 use Rattle.std.proofs.Common.{true, false, arith, refl, List, ap, sym}
-use Rattle.std.specs.Prelude.{if◌then◌else◌, ◌&&◌, IfSome}
-use Rattle.std.proofs.lemmas.Bool.{and_parts}
-use Rattle.tomex_steps.specs.declared.step.ByteRange.{ByteRange}
-use Rattle.tomex_steps.specs.Access.{HasStored, IsInside}
-use Rattle.tomex_steps.specs.Results.{byte_in, covers, overwrites, stored_byte}
-use Rattle.tomex_steps.specs.Memory.{Bytes}
-use Rattle.tomex_steps.specs.Steps.{bytes_of}
-use Rattle.tomex_cycle.specs.Starts.{AllInside, HaveStored, stored_at, written_by, AreLow}
-use Rattle.tomex_tags.specs.Contents.{step_in}
-use Rattle.tomex_tags.specs.WaitSets.{IsSetOf, holds_store}
-use Rattle.tomex_tags.specs.declared.station.Station.{Station}
-use Rattle.tomex_sets.specs.Sets.{has, IsWithout}
-use Rattle.tomex_sets.proofs.Members.{AreFrom, all_left, least_from, least_in, left_from, none_after, none_between}
-use Rattle.tomex_sets.proofs.Members.{skip_to}
+use Rattle.tomex_cycle.proofs.Words.{if◌then◌else◌, ◌&&◌, IfSome, and_parts, ByteRange, IsInside, byte_in, covers}
+use Rattle.tomex_cycle.proofs.Words.{nat_tests, overwrites, stored_byte, Bytes, bytes_of, AllInside, HaveStored}
+use Rattle.tomex_cycle.proofs.Words.{stored_at, written_by, AreLow, step_in, IsSetOf, Station, has, IsWithout, AreFrom}
+use Rattle.tomex_cycle.proofs.Words.{all_left, least_from, least_in, left_from, none_after, none_between, skip_to}
+use Rattle.tomex_steps.specs.Access.{HasStored}
+use Rattle.tomex_tags.specs.WaitSets.{holds_store}
 
 -- The stores of the picked places, one after the other.
 
@@ -30,26 +22,25 @@ written_more : (slots : List (Option Station)) (picked : ℕ) (byte : ℕ → �
     (written_by slots picked byte k a)
 written_more slots picked byte k a = let e : k + 1 ≡ suc k = omega arith in rw e refl
 
-stored_skip : (o : Option Station) (a before : ℕ) → stored_at false o a before ≡ before
+pub stored_skip : (o : Option Station) (a before : ℕ) → stored_at false o a before ≡ before
 stored_skip None a before = refl
 stored_skip (Some s) a before = refl
 
-pub skip_stored : (slots : List (Option Station)) (picked : ℕ) (k : ℕ) (old now : Bytes) → has picked k ≡ false
+pub skip_stored : {slots : List (Option Station)} {picked k : ℕ} {old now : Bytes} → has picked k ≡ false
     → HaveStored slots picked k old now → HaveStored slots picked (k + 1) old now
-skip_stored slots picked k old now e before = record {
+skip_stored {slots} {picked} {k} {old} e before = record {
   base = before.base;
   size = before.size;
-  bytes = λ a l. before.bytes a l
-      ∙ sym (written_more slots picked (byte_in old) k a
-      ∙ rw e (stored_skip (slice_index_or slots k None) a (written_by slots picked (byte_in old) k a)));
+  bytes = λ a l. before.bytes a l ∙ sym (written_more slots picked (byte_in old) k a ∙ rw e
+      (stored_skip (slice_index_or slots k None) a (written_by slots picked (byte_in old) k a)));
 }
 
-stored_by : (slots : List (Option Station)) (picked : ℕ) (k : ℕ) (old now new : Bytes) (o : Option Station)
+stored_by : {slots : List (Option Station)} {picked k : ℕ} {old now : Bytes} (new : Bytes) (o : Option Station)
     → slice_index_or slots k None ≡ o → has picked k ≡ true
     → ((s : Station) → o ≡ Some s → HasStored (step_in s) now new) → (o ≡ None → new ≡ now)
     → ((s : Station) → o ≡ Some s → IsInside old (step_in s)) → HaveStored slots picked k old now
     → HaveStored slots picked (k + 1) old new
-stored_by slots picked k old now new None e pick some none inside before =
+stored_by {slots} {picked} {k} {old} {now} new None e pick some none inside before =
     let same : new ≡ now = none refl in
     record {
       base = ap (λ (m : Bytes). m.base) same ∙ before.base;
@@ -57,26 +48,23 @@ stored_by slots picked k old now new None e pick some none inside before =
       bytes = λ a l. ap (λ (m : Bytes). byte_in m a) same
           ∙ (before.bytes a l ∙ sym (written_more slots picked (byte_in old) k a ∙ rw e refl));
     }
-stored_by slots picked k old now new (Some s) e pick some none inside before =
+stored_by {slots} {picked} {k} {old} {now} new (Some s) e pick some none inside before =
     let one : HasStored (step_in s) now new = some s refl in
-    let b : now.base ≡ old.base = before.base in
     record {
       base = one.base ∙ before.base;
       size = one.size ∙ before.size;
-      bytes = λ a l.
-          one.bytes (inside_as (bytes_of (step_in s)) now.base old.base (length now.bytes) (length old.bytes)
-          before.base before.size (inside s refl)) a (omega arith)
-          ∙ (ap (λ (n : ℕ). if overwrites (step_in s) a then stored_byte (step_in s) a else n) (before.bytes a l)
-          ∙ sym (written_more slots picked (byte_in old) k a ∙ rw (e, pick) refl));
+      bytes = λ a l. one.bytes (inside_as (bytes_of (step_in s)) now.base old.base (length now.bytes) (length old.bytes)
+          before.base before.size (inside s refl)) a (omega arith) ∙ (ap
+          (λ (n : ℕ). if overwrites (step_in s) a then stored_byte (step_in s) a else n) (before.bytes a l) ∙ sym
+          (written_more slots picked (byte_in old) k a ∙ rw (e, pick) refl));
     }
 
-pub more_stored : (slots : List (Option Station)) (picked : ℕ) (k : ℕ) (old now new : Bytes) → k < 96
-    → has picked k ≡ true
-    → ((s : Station) → slice_index_or slots k None ≡ Some s → HasStored (step_in s) now new)
+pub more_stored : {slots : List (Option Station)} {picked k : ℕ} {old now : Bytes} (new : Bytes) → k < 96
+    → has picked k ≡ true → ((s : Station) → slice_index_or slots k None ≡ Some s → HasStored (step_in s) now new)
     → (slice_index_or slots k None ≡ None → new ≡ now) → AllInside old picked slots → HaveStored slots picked k old now
     → HaveStored slots picked (k + 1) old new
-more_stored slots picked k old now new l pick some none inside before =
-    stored_by slots picked k old now new (slice_index_or slots k None) refl pick some none (inside k l pick) before
+more_stored {slots} {k} new l pick some none inside before =
+    stored_by new (slice_index_or slots k None) refl pick some none (inside k l pick) before
 
 -- The loop over the picked places, the least first.
 
@@ -94,31 +82,29 @@ first_stored slots picked m = record {
   stored = none_stored slots picked m;
 }
 
-pub member_stored : (slots : List (Option Station)) (picked rest left x : ℕ) (old now new : Bytes) → AreLow picked
-    → AllInside old picked slots → x < 128 → has rest x ≡ true → ((i : ℕ) → i < x → has rest i ≡ false)
-    → IsWithout rest x left
-    → ((s : Station) → slice_index_or slots x None ≡ Some s → HasStored (step_in s) now new)
+pub member_stored : {slots : List (Option Station)} {picked rest left x : ℕ} {old now : Bytes} (new : Bytes)
+    → AreLow picked → AllInside old picked slots → x < 128 → has rest x ≡ true → ((i : ℕ) → i < x → has rest i ≡ false)
+    → IsWithout rest x left → ((s : Station) → slice_index_or slots x None ≡ Some s → HasStored (step_in s) now new)
     → (slice_index_or slots x None ≡ None → new ≡ now) → IsStored slots picked rest old now
     → IsStored slots picked left old new
-member_stored slots picked rest left x old now new low inside l member least without some none so =
+member_stored {slots} {picked} {rest} {left} {x} {old} {now} new low inside l member least without some none so =
     let pick : has picked x ≡ true = least_in picked rest so.k x so.from l member in
     let below : x < 96 = low x l pick in
     let before : HaveStored slots picked x old now =
     skip_to (λ j. HaveStored slots picked j old now) picked so.k x (least_from picked rest so.k x so.from l member)
-    (none_between picked rest so.k x so.from l least) (λ j e b. skip_stored slots picked j old now e b) so.stored in
+    (none_between picked rest so.k x so.from l least) (λ j e b. skip_stored e b) so.stored in
     record {
       k = x + 1;
       from = left_from picked rest left so.k x so.from l member least without;
       high = omega arith;
-      stored = more_stored slots picked x old now new below pick some none inside before;
+      stored = more_stored new below pick some none inside before;
     }
 
-pub all_stored : (slots : List (Option Station)) (picked rest : ℕ) (old now : Bytes) → AreLow picked → rest ≡ 0
+pub all_stored : {slots : List (Option Station)} {picked rest : ℕ} {old now : Bytes} → AreLow picked → rest ≡ 0
     → IsStored slots picked rest old now → HaveStored slots picked 96 old now
-all_stored slots picked rest old now low empty so =
+all_stored {slots} {picked} {rest} {old} {now} low empty so =
     skip_to (λ j. HaveStored slots picked j old now) picked so.k 96 so.high
-    (λ j from to. none_after picked rest so.k so.from empty j from (omega arith))
-    (λ j e b. skip_stored slots picked j old now e b) so.stored
+    (λ j from to. none_after picked rest so.k so.from empty j from (omega arith)) (λ j e b. skip_stored e b) so.stored
 
 -- What is no store leaves memory as it is.
 
@@ -130,16 +116,12 @@ stores_not (Some s) picked a before none =
     rw (not_here, and_false picked) refl
   where
     and_false : (b : Bool) → (b && false) ≡ false
-    and_false true = refl
-    and_false false = refl
+    and_false b = grind (arith, nat_tests)
 
 same_stored : (o : Option Station) (picked kept : Bool) (a before : ℕ)
     → (kept ≡ false → stored_at picked o a before ≡ before) → stored_at (picked && kept) o a before ≡ stored_at picked o
     a before
-same_stored o true true a before none = refl
-same_stored o false true a before none = refl
-same_stored o true false a before none = stored_skip o a before ∙ sym (none refl)
-same_stored o false false a before none = refl
+same_stored o picked kept a before h5 = grind (arith, nat_tests)
 
 -- so the stores among the picked places write what all of them do
 same_written : (slots : List (Option Station)) (picked found stores : ℕ) (byte : ℕ → ℕ) (k a : ℕ) → k ≤ 128
@@ -148,16 +130,15 @@ same_written : (slots : List (Option Station)) (picked found stores : ℕ) (byte
 same_written slots picked found stores byte zero a l are both = refl
 same_written slots picked found stores byte (suc k) a l are both =
     ap (stored_at (has found k) (slice_index_or slots k None) a)
-    (same_written slots picked found stores byte k a (omega arith) are both)
-    ∙ rw (both k) (same_stored (slice_index_or slots k None) (has picked k) (has stores k) a
-    (written_by slots picked byte k a) (λ none.
-    stores_not (slice_index_or slots k None) (has picked k) a (written_by slots picked byte k a)
+    (same_written slots picked found stores byte k a (omega arith) are both) ∙ rw (both k) (same_stored
+    (slice_index_or slots k None) (has picked k) (has stores k) a (written_by slots picked byte k a) (λ none. stores_not
+    (slice_index_or slots k None) (has picked k) a (written_by slots picked byte k a)
     (sym (are k (omega arith)) ∙ none)))
 
-pub stores_stored : (slots : List (Option Station)) (picked found stores : ℕ) (old now : Bytes)
+pub stores_stored : {slots : List (Option Station)} (picked : ℕ) {found : ℕ} (stores : ℕ) {old now : Bytes}
     → IsSetOf holds_store slots stores → ((x : ℕ) → has found x ≡ (has picked x && has stores x))
     → HaveStored slots found 96 old now → HaveStored slots picked 96 old now
-stores_stored slots picked found stores old now are both stored = record {
+stores_stored {slots} picked {found} stores {old} are both stored = record {
   base = stored.base;
   size = stored.size;
   bytes = λ a l. stored.bytes a l ∙ same_written slots picked found stores (byte_in old) 96 a (omega arith) are both;

@@ -1,45 +1,28 @@
 -- The tests that an operation passes as it starts are those of the recurrence: operands, address, older accesses.
-use Rattle.std.proofs.Common.{slice_index_or, append_assoc, ℕ, ◌+◌, ◌<◌, ◌≤◌, ◌≡◌, ◌∙◌, Bool, true}
-use Rattle.std.proofs.Common.{false, arith, refl, List, [], ◌∷◌, ◌++◌, Option, Some, None, ap, sym, inl, inr}
-use Rattle.std.specs.Prelude.{nat_lt, nat_le, if◌then◌else◌, ◌&&◌, ◌||◌, not, is_some, is_none}
-use Rattle.std.proofs.lemmas.Bool.{MatchBool-at_false, cases_Bool, ltb-true, ltb-false, lt-ltb, le-ltb, leb-true}
-use Rattle.std.proofs.lemmas.Bool.{leb-false, le-leb, or_right, eq-eqb}
-use Rattle.tomex_image.specs.Image.{Loaded}
-use Rattle.tomex_config.specs.Configuration.{Configuration, IsWithinLimits}
-use Rattle.tomex_steps.specs.declared.step.Step.{Step}
-use Rattle.tomex_steps.specs.Steps.{address_of, bytes_of, is_store, j_of, k_of, step_pool}
+use Rattle.std.proofs.Common.{slice_index_or, append_assoc, ℕ, ◌+◌, ◌<◌, ◌≤◌, ◌≡◌, ◌∙◌, Bool, true, false, arith, refl}
+use Rattle.std.proofs.Common.{List, [], ◌∷◌, ◌++◌, Option, Some, None, ap, sym, inl, inr}
+use Rattle.std.proofs.lemmas.Bool.{MatchBool-at_false}
+use Rattle.tomex_cycle.proofs.Words.{nat_lt, nat_le, if◌then◌else◌, ◌&&◌, ◌||◌, not, is_some, cases_Bool, nat_tests}
+use Rattle.tomex_cycle.proofs.Words.{ltb-true, ltb-false, lt-ltb, or_right, eq-eqb, Loaded, Configuration}
+use Rattle.tomex_cycle.proofs.Words.{IsWithinLimits, Step, address_of, bytes_of, is_store, j_of, k_of, step_pool, Tag}
+use Rattle.tomex_cycle.proofs.Words.{Done, cycle_of, is_memory, last_address, source_end, AreTimed, IsTimed, IsLeast}
+use Rattle.tomex_cycle.proofs.Words.{are_conflicts_finished, can_address, conflicts, field_from, AreIssuedBy, is_clear}
+use Rattle.tomex_cycle.proofs.Words.{Clocks, ShowsStations, clocks, holds_place, order_of, place_of, station_at}
+use Rattle.tomex_cycle.proofs.Words.{station_of, no_option, is_finished_before, lets_pass, bytes_in, is_waiting}
+use Rattle.tomex_cycle.proofs.Words.{step_in, is_there, value_in, place_at, place_of_tag, Pools, Station}
 use Rattle.tomex_steps.proofs.Fields.{bytes_of_memory}
-use Rattle.tomex_timing.specs.declared.tables.Tag.{Tag}
-use Rattle.tomex_timing.specs.declared.times.Done.{Done}
-use Rattle.tomex_timing.specs.History.{cycle_of, is_memory, last_address, source_end}
-use Rattle.tomex_timing.specs.Recurrence.{AreTimed, IsTimed, IsLeast, are_conflicts_finished, can_address, conflicts}
-use Rattle.tomex_timing.specs.Tables.{field_of, field_from}
-use Rattle.tomex_cycle.specs.Run.{AreIssuedBy}
-use Rattle.tomex_cycle.specs.Starts.{is_clear}
-use Rattle.tomex_cycle.specs.Views.{Clocks, ShowsStations, clocks, holds_place, order_of, place_of, station_at}
-use Rattle.tomex_cycle.specs.Views.{station_of}
 use Rattle.tomex_cycle.proofs.AddressChosen.{address_rises}
 use Rattle.tomex_cycle.proofs.Addresses.{order_here}
 use Rattle.tomex_cycle.proofs.Totals.{issued_more, reach}
 use Rattle.tomex_cycle.proofs.Places.{place_low, low, station_here}
 use Rattle.tomex_cycle.proofs.Fields.{there_test, tag_there, timed_part, issued_part}
-use Rattle.tomex_membuf.proofs.Older.{no_option, share_none}
-use Rattle.tomex_membuf.specs.Order.{is_finished_before, lets_pass}
-use Rattle.tomex_tags.specs.Contents.{bytes_in, is_waiting, step_in}
-use Rattle.tomex_tags.specs.Operands.{is_there, value_in}
-use Rattle.tomex_tags.specs.Places.{place_at, place_of_tag}
-use Rattle.tomex_tags.specs.Pools.{Pools}
-use Rattle.tomex_tags.specs.declared.station.Station.{Station}
+use Rattle.tomex_membuf.proofs.Older.{share_none}
 
 and_swap : (a b c : Bool) → (a && (b && c)) ≡ ((a && b) && c)
-and_swap true b c = refl
-and_swap false b c = refl
+and_swap a b c = grind (arith, nat_tests)
 
 and_turn : (a b : Bool) → (a && b) ≡ (b && a)
-and_turn true true = refl
-and_turn true false = refl
-and_turn false true = refl
-and_turn false false = refl
+and_turn a b = grind (arith, nat_tests)
 
 clear-append : (slots : List (Option Station)) (xs : List ℕ) (x : ℕ) (s : Station) (next : ℕ)
     → is_clear slots (xs ++ (x ∷ [])) s next
@@ -47,57 +30,36 @@ clear-append : (slots : List (Option Station)) (xs : List ℕ) (x : ℕ) (s : St
 clear-append slots [] x s next = refl
 clear-append slots (y ∷ xs) x s next =
     let before = clear-append slots xs x s next in
-    ap (λ b. lets_pass (slice_index_or slots y None) s next && b) before
-    ∙ (and_swap (lets_pass (slice_index_or slots y None) s next) (lets_pass (slice_index_or slots x None) s next)
-    (is_clear slots xs s next)
-    ∙ (ap (λ b. b && is_clear slots xs s next)
-    (and_turn (lets_pass (slice_index_or slots y None) s next) (lets_pass (slice_index_or slots x None) s next))
-    ∙ sym (and_swap (lets_pass (slice_index_or slots x None) s next) (lets_pass (slice_index_or slots y None) s next)
+    ap (λ b. lets_pass (slice_index_or slots y None) s next && b) before ∙ (and_swap
+    (lets_pass (slice_index_or slots y None) s next) (lets_pass (slice_index_or slots x None) s next)
+    (is_clear slots xs s next) ∙ (ap (λ b. b && is_clear slots xs s next)
+    (and_turn (lets_pass (slice_index_or slots y None) s next) (lets_pass (slice_index_or slots x None) s next)) ∙ sym
+    (and_swap (lets_pass (slice_index_or slots x None) s next) (lets_pass (slice_index_or slots y None) s next)
     (is_clear slots xs s next))))
 
 -- Readiness.
 
-finish_is : (start t finish : ℕ) → is_none (if nat_le start t then Some finish else None) ≡ nat_lt t start
-finish_is start t finish = elim (cases_Bool (nat_le start t)) [
-  | inl e ↦ let l : start ≤ t = leb-true _ _ e in rw (e, le-ltb t start l) refl
-  | inr e ↦ let l : t < start = leb-false _ _ e in rw (e, lt-ltb t start l) refl
-]
-
 addressed_is : (memory : Bool) (a t u address : ℕ) → u ≡ t + 1 → (memory ≡ false → a ≡ 0)
     → (not memory || is_some (if memory && nat_le a t then Some address else None)) ≡ nat_lt a u
-addressed_is false a t u address e none = let z : a ≡ 0 = none refl in rw (lt-ltb a u (omega arith)) refl
-addressed_is true a t u address e none = elim (cases_Bool (nat_le a t)) [
-  | inl l ↦ let k : a ≤ t = leb-true _ _ l in rw (l, lt-ltb a u (omega arith)) refl
-  | inr l ↦ let k : t < a = leb-false _ _ l in rw (l, le-ltb a u (omega arith)) refl
-]
+addressed_is memory a t u address e none = grind (arith, nat_tests)
 
-no_address : (config : Configuration) (d : Done) (older : List Done) → IsTimed config older d.step d.at
+pub no_address : {config : Configuration} (d : Done) {older : List Done} → IsTimed config older d.step d.at
     → is_memory d.step ≡ false → cycle_of d.at.address ≡ 0
-no_address config d older timed e =
+no_address d {older} timed e =
     let z : d.at.address ≡ None = MatchBool-at_false
     (IsLeast (can_address older d.step d.at.issue) (cycle_of d.at.address)) _ e timed.address in
     rw z refl
 
-regroup : (a j k m n : Bool) → m ≡ n → ((a && (j && k)) && m) ≡ (((a && j) && k) && n)
-regroup true j k m n e = ap (λ b. (j && k) && b) e
-regroup false j k m n e = refl
-
 -- the operands are there, the address is, and it hasn't started
 pub ready_is : (i : Loaded) (config : Configuration) (t u : ℕ) (d : Done) (older : List Done)
     → AreTimed config (d ∷ older) → AreIssuedBy t (d ∷ older) → u ≡ t + 1
-    → is_waiting (station_of i (clocks t t t) d older)
-    ≡ (nat_lt t d.at.start && nat_lt (source_end older (j_of d.step)) u && nat_lt (source_end older (k_of d.step)) u &&
-    nat_lt (cycle_of d.at.address) u)
+    → is_waiting (station_of i (clocks t t t) d older) ≡ (nat_lt t d.at.start && nat_lt (source_end older (j_of d.step))
+    u && nat_lt (source_end older (k_of d.step)) u && nat_lt (cycle_of d.at.address) u)
 ready_is i config t u d older timed issued e =
-    let j : is_there (field_of t older (j_of d.step)) ≡ nat_lt (source_end older (j_of d.step)) (t + 1) =
-    there_test config t older (j_of d.step) timed.1 issued.1 in
-    let k : is_there (field_of t older (k_of d.step)) ≡ nat_lt (source_end older (k_of d.step)) (t + 1) =
-    there_test config t older (k_of d.step) timed.1 issued.1 in
-    let a = addressed_is (is_memory d.step) (cycle_of d.at.address) t u (address_of d.step) e
-    (no_address config d older timed.0) in
-    rw (e, j, k, finish_is d.at.start t d.at.finish)
-    (regroup (nat_lt t d.at.start) (nat_lt (source_end older (j_of d.step)) (t + 1))
-    (nat_lt (source_end older (k_of d.step)) (t + 1)) _ _ (rw e at a))
+    let j = there_test config t older (j_of d.step) timed.1 issued.1 in
+    let k = there_test config t older (k_of d.step) timed.1 issued.1 in
+    let a = addressed_is (is_memory d.step) (cycle_of d.at.address) t u (address_of d.step) e (no_address d timed.0) in
+    grind (arith, nat_tests)
 
 -- Older accesses.
 
@@ -110,20 +72,13 @@ no_bytes x e = no_option (bytes_of x) (bytes_of_memory x ∙ e)
 
 -- an older access shows its bytes once its address is computed
 pub bytes_are : (i : Loaded) (config : Configuration) (t : ℕ) (d : Done) (older : List Done)
-    → AreTimed config (d ∷ older)
-    → AreIssuedBy t (d ∷ older) → (is_memory d.step ≡ true → cycle_of d.at.address ≤ t)
+    → AreTimed config (d ∷ older) → AreIssuedBy t (d ∷ older) → (is_memory d.step ≡ true → cycle_of d.at.address ≤ t)
     → bytes_in (station_of i (clocks t t t) d older) ≡ bytes_of d.step
-bytes_are i config t d older timed issued l = elim (cases_Bool (is_memory d.step)) [
-  | inr m ↦ rw m (sym (no_bytes d.step m))
-  | inl m ↦ rw (m, le-leb (cycle_of d.at.address) t (l m)) refl
-]
+bytes_are i config t d older timed issued l = grind (arith, nat_tests)
 
 before_is : (start finish t u : ℕ) → u ≡ t + 1 → start ≤ finish
     → is_finished_before (if nat_le start t then Some finish else None) u ≡ nat_lt finish u
-before_is start finish t u e l = elim (cases_Bool (nat_le start t)) [
-  | inl k ↦ rw k refl
-  | inr k ↦ let m : t < start = leb-false _ _ k in rw (k, le-ltb finish u (omega arith)) refl
-]
+before_is start finish t u e l = grind (arith, nat_tests)
 
 -- no access: nothing to wait for
 pub conflicts_none : (h : List Done) (x : Step) (u : ℕ) → bytes_of x ≡ None → are_conflicts_finished h x u ≡ true
@@ -132,13 +87,13 @@ conflicts_none (d ∷ older) x u e =
     let one : (not (conflicts d.step x) || nat_lt d.at.finish u) ≡ true = rw (e, share_none (bytes_of d.step)) refl in
     rw one (conflicts_none older x u e)
 
-lets_is : (i : Loaded) (config : Configuration) (t u : ℕ) (d : Done) (older : List Done) (s : Station) (x : Step)
+lets_is : (i : Loaded) {config : Configuration} (t u : ℕ) (d : Done) (older : List Done) (s : Station) (x : Step)
     → IsWithinLimits config → AreTimed config (d ∷ older) → AreIssuedBy t (d ∷ older) → u ≡ t + 1
-    → (is_memory d.step ≡ true → cycle_of d.at.address ≤ t)
-    → bytes_in s ≡ bytes_of x → is_store (step_in s) ≡ is_store x
+    → (is_memory d.step ≡ true → cycle_of d.at.address ≤ t) → bytes_in s ≡ bytes_of x
+    → is_store (step_in s) ≡ is_store x
     → lets_pass (Some (station_of i (clocks t t t) d older)) s u ≡ (not (conflicts d.step x) || nat_lt d.at.finish u)
-lets_is i config t u d older s x good timed issued e l bytes store =
-    let order : d.at.start ≤ d.at.finish = (reach config d older good timed).order in
+lets_is i {config} t u d older s x good timed issued e l bytes store =
+    let order : d.at.start ≤ d.at.finish = (reach d older good timed).order in
     rw (bytes_are i config t d older timed issued l, bytes, store, before_is d.at.start d.at.finish t u e order) refl
 
 -- a busy step of a history, in its place, whatever starts and addresses are made
@@ -149,23 +104,22 @@ pub record IsHeld (i : Loaded) (c : Clocks) (st : Pools) (d : Done) (older : Lis
   pub held : holds_place c.end x d ≡ true
   pub slot : slice_index_or st.slots x None ≡ Some (station_of i c d older)
 
-pub held_at : (i : Loaded) (config : Configuration) (c : Clocks) (st : Pools) (h newer : List Done) (d : Done)
-    (older : List Done) → IsWithinLimits config → AreTimed config h → AreIssuedBy c.end h → ShowsStations i c h st
-    → h ≡ newer ++ (d ∷ older) → nat_lt c.end d.at.end ≡ true → IsHeld i c st d older
-held_at i config c st h newer d older good timed issued shown e l =
+pub held_at : {i : Loaded} {config : Configuration} {c : Clocks} {st : Pools} {h : List Done} (newer : List Done)
+    (d : Done) (older : List Done) → IsWithinLimits config → AreTimed config h → AreIssuedBy c.end h
+    → ShowsStations i c h st → h ≡ newer ++ (d ∷ older) → nat_lt c.end d.at.end ≡ true → IsHeld i c st d older
+held_at {i} {config} {c} newer d older good timed issued shown e l =
     let here : AreTimed config (newer ++ (d ∷ older)) = rw e at timed in
     let by : AreIssuedBy c.end (newer ++ (d ∷ older)) = rw e at issued in
     let k : c.end < d.at.end = ltb-true _ _ l in
     let part : AreTimed config (d ∷ older) = timed_part config newer (d ∷ older) here in
     let at : d.at.issue ≤ c.end = (issued_part c.end newer (d ∷ older) by).0 in
-    let tag = tag_there config d older c.end part.0 at k in
+    let tag = tag_there d c.end part.0 at k in
     let place : place_of d ≡ Some (place_of_tag tag.0) = ap place_at tag.1 in
     let held : holds_place c.end (place_of_tag tag.0) d ≡ true =
     rw (place, l, eq-eqb (place_of_tag tag.0) (place_of_tag tag.0) refl) refl in
     let small : place_of_tag tag.0 < 96 =
     place_low (step_pool d.step) d.at.station (place_of_tag tag.0) (low config (d ∷ older) good part).0 place in
-    let there : station_at i c (newer ++ (d ∷ older)) (place_of_tag tag.0) ≡ Some (station_of i c d older) =
-    station_here i config c newer d older (place_of_tag tag.0) good here
+    let there = station_here i c newer d older (place_of_tag tag.0) good here
     (issued_more c.end (c.end + 1) (newer ++ (d ∷ older)) (omega arith) by) held in
     record {
       x = place_of_tag tag.0;
@@ -184,12 +138,11 @@ pub record IsSeen (i : Loaded) (t : ℕ) (st : Pools) (d : Done) (older : List D
   pub slot : slice_index_or st.slots x None ≡ Some (station_of i (clocks t t t) d older)
   pub order : order_of t (d ∷ older) ≡ order_of t older ++ (x ∷ [])
 
-pub seen : (i : Loaded) (config : Configuration) (t : ℕ) (st : Pools) (h newer : List Done) (d : Done)
+pub seen : {i : Loaded} {config : Configuration} (t : ℕ) {st : Pools} {h : List Done} (newer : List Done) (d : Done)
     (older : List Done) → IsWithinLimits config → AreTimed config h → AreIssuedBy t h
     → ShowsStations i (clocks t t t) h st → h ≡ newer ++ (d ∷ older) → nat_lt t d.at.end ≡ true → IsSeen i t st d older
-seen i config t st h newer d older good timed issued shown e l =
-    let at : IsHeld i (clocks t t t) st d older =
-    held_at i config (clocks t t t) st h newer d older good timed issued shown e l in
+seen {i} t {st} newer d older good timed issued shown e l =
+    let at : IsHeld i (clocks t t t) st d older = held_at newer d older good timed issued shown e l in
     record {
       x = at.x;
       place = at.place;
@@ -200,34 +153,31 @@ seen i config t st h newer d older good timed issued shown e l =
     }
 
 -- the older accesses that a station with an address waits for are those of the recurrence
-pub clear_is : (i : Loaded) (config : Configuration) (t u : ℕ) (st : Pools) (h newer part : List Done) (s : Station)
-    (x : Step) → IsWithinLimits config → AreTimed config h → AreIssuedBy t h → ShowsStations i (clocks t t t) h st
-    → h ≡ newer ++ part → u ≡ t + 1
-    → last_address part ≤ t → bytes_in s ≡ bytes_of x → is_store (step_in s) ≡ is_store x
+pub clear_is : {i : Loaded} {config : Configuration} (t u : ℕ) {st : Pools} {h : List Done} (newer part : List Done)
+    (s : Station) (x : Step) → IsWithinLimits config → AreTimed config h → AreIssuedBy t h
+    → ShowsStations i (clocks t t t) h st → h ≡ newer ++ part → u ≡ t + 1 → last_address part ≤ t
+    → bytes_in s ≡ bytes_of x → is_store (step_in s) ≡ is_store x
     → is_clear st.slots (order_of t part) s u ≡ are_conflicts_finished part x u
-clear_is i config t u st h newer [] s x good timed issued shown e f last bytes store = refl
-clear_is i config t u st h newer (d ∷ older) s x good timed issued shown e f last bytes store =
+clear_is t u newer [] s x good timed issued shown e f last bytes store = refl
+clear_is {i} {config} t u {st} newer (d ∷ older) s x good timed issued shown e f last bytes store =
     let part : AreTimed config (d ∷ older) = timed_part config newer (d ∷ older) (rw e at timed) in
     let by : AreIssuedBy t (d ∷ older) = issued_part t newer (d ∷ older) (rw e at issued) in
     let made : is_memory d.step ≡ true → cycle_of d.at.address ≤ t = λ m. rw m at last in
     let before : last_address older ≤ t = elim (cases_Bool (is_memory d.step)) [
-      | inl m ↦ let k : last_address older < cycle_of d.at.address = address_rises config d older part.0 m in
+      | inl m ↦ let k : last_address older < cycle_of d.at.address = address_rises d part.0 m in
           let l : cycle_of d.at.address ≤ t = made m in omega arith
       | inr m ↦ rw m at last
     ] in
-    let rest : is_clear st.slots (order_of t older) s u ≡ are_conflicts_finished older x u =
-    clear_is i config t u st h (newer ++ (d ∷ [])) older s x good timed issued shown
+    let rest = clear_is t u (newer ++ (d ∷ [])) older s x good timed issued shown
     (e ∙ sym (append_assoc newer (d ∷ []) older)) f before bytes store in
     elim (cases_Bool (nat_lt t d.at.end)) [
       | inr l ↦
           let k : d.at.end ≤ t = ltb-false _ _ l in
-          let r : d.at.finish ≤ d.at.end = (reach config d older good part).finish in
+          let r : d.at.finish ≤ d.at.end = (reach d older good part).finish in
           rw (l, lt-ltb d.at.finish u (omega arith), or_right (not (conflicts d.step x)) true refl) rest
       | inl l ↦
-          let at = seen i config t st h newer d older good timed issued shown e l in
-          let one : lets_pass (slice_index_or st.slots at.x None) s u
-          ≡ (not (conflicts d.step x) || nat_lt d.at.finish u) = ap (λ o. lets_pass o s u) (at.slot)
-          ∙ lets_is i config t u d older s x good part by f made bytes store in
+          let at = seen t newer d older good timed issued shown e l in
+          let one = ap (λ o. lets_pass o s u) (at.slot) ∙ lets_is i t u d older s x good part by f made bytes store in
           ap (λ xs. is_clear st.slots xs s u) at.order
           ∙ (clear-append st.slots (order_of t older) at.x s u ∙ rw (one, rest) refl)
     ]

@@ -1,30 +1,19 @@
 -- Memory after the stores that start in a cycle.
 use Rattle.std.proofs.Common.{slice_index_or, suc, zero, ℕ, ◌+◌, ◌<◌, ◌≤◌, ◌≡◌, ◌∙◌, Bool, true, false, arith, refl}
 use Rattle.std.proofs.Common.{List, [], ◌∷◌, Option, Some, None, ap, sym, inl, inr}
-use Rattle.std.specs.Prelude.{nat_lt, nat_le, if◌then◌else◌, ◌&&◌, ◌||◌, ◌==◌, not, is_some}
-use Rattle.std.proofs.lemmas.Bool.{cases_Bool, ltb-true, lt-ltb, le-leb, lt-leb, and_parts, or_left, eq-eqb, eqb-true}
-use Rattle.std.proofs.lemmas.Bool.{eqb-false, ne_eqb, both_ways, cases_order}
-use Rattle.tomex_image.specs.Image.{Loaded}
-use Rattle.tomex_config.specs.Configuration.{Configuration, IsWithinLimits}
-use Rattle.tomex_steps.specs.declared.step.Step.{Step}
-use Rattle.tomex_steps.specs.Results.{covers, overwrites, stored_byte}
-use Rattle.tomex_steps.specs.Steps.{is_number, is_store, step_pool, step_unit}
-use Rattle.tomex_timing.specs.declared.times.Done.{Done}
-use Rattle.tomex_timing.specs.History.{cycle_of}
-use Rattle.tomex_timing.specs.Recurrence.{AreTimed, IsLeast, are_conflicts_finished, can_start, conflicts}
-use Rattle.tomex_cycle.specs.Run.{AreIssuedBy, ArePast, byte_at}
-use Rattle.tomex_cycle.specs.Starts.{stored_at, written_by}
-use Rattle.tomex_cycle.specs.Views.{clocks, holds_place, place_of, station_at, station_of}
+use Rattle.tomex_cycle.proofs.Words.{nat_lt, nat_le, if◌then◌else◌, ◌&&◌, ◌||◌, ◌==◌, not, is_some, cases_Bool}
+use Rattle.tomex_cycle.proofs.Words.{nat_tests, ltb-true, lt-ltb, le-leb, lt-leb, and_parts, or_left, eq-eqb, eqb-true}
+use Rattle.tomex_cycle.proofs.Words.{eqb-false, ne_eqb, Loaded, Configuration, IsWithinLimits, Step, covers, overwrites}
+use Rattle.tomex_cycle.proofs.Words.{stored_byte, is_number, is_store, step_pool, step_unit, Done, AreTimed}
+use Rattle.tomex_cycle.proofs.Words.{are_conflicts_finished, conflicts, AreIssuedBy, ArePast, byte_at, stored_at}
+use Rattle.tomex_cycle.proofs.Words.{written_by, clocks, holds_place, place_of, station_at, step_in, place_at}
+use Rattle.tomex_cycle.proofs.Words.{place_of_tag, Station, has}
 use Rattle.tomex_cycle.proofs.Accesses.{conflict_at, starts_clear, store_unit}
 use Rattle.tomex_cycle.proofs.Places.{place_low, is_vacant, low, vacant}
 use Rattle.tomex_cycle.proofs.Fields.{tag_there}
-use Rattle.tomex_cycle.proofs.StartsMade.{late_unit, not_u, step_is}
+use Rattle.tomex_cycle.proofs.StartsMade.{step_is}
 use Rattle.tomex_cycle.proofs.StartsPicked.{starts_at, starts_in}
 use Rattle.tomex_cycle.proofs.Totals.{reach}
-use Rattle.tomex_tags.specs.Contents.{step_in}
-use Rattle.tomex_tags.specs.Places.{place_at, place_of_tag}
-use Rattle.tomex_tags.specs.declared.station.Station.{Station}
-use Rattle.tomex_sets.specs.Sets.{has}
 
 -- the byte that a step leaves at an address as it starts in the cycle, if any
 abbrev pub leaves : ℕ → ℕ → Done → Option ℕ
@@ -67,41 +56,28 @@ none_leaves u a d e = rw e refl
 none_not : {A : Type 0} (x : A) → None ≡ Some x → ⊥
 none_not x e = cc
 
-quiet_start : (b c : Bool) → c ≡ true → (b && c) ≡ false → b ≡ false
-quiet_start true c e f = absurd (both_ways c f e)
-quiet_start false c e f = refl
-
 -- a step that leaves no byte changes none as the clock goes on
 made_same : (i : Loaded) (config : Configuration) (t u a : ℕ) (d : Done) (older : List Done)
     → AreTimed config (d ∷ older) → AreIssuedBy t (d ∷ older) → u ≡ t + 1 → (starts_in u d && overwrites d.step a)
     ≡ false → (overwrites d.step a && nat_le d.at.start u) ≡ (overwrites d.step a && nat_le d.at.start t)
-made_same i config t u a d older timed issued e quiet = elim (cases_Bool (overwrites d.step a)) [
-  | inr o ↦ rw o refl
-  | inl o ↦
-      let starts : starts_in u d ≡ false = quiet_start (starts_in u d) (overwrites d.step a) o quiet in
-      rw o (not_u d.at.start t u e (late_unit (step_unit d.step) d.at.start d.at.issue t u
-      (λ v. IsLeast (can_start config older d.step v d.at.issue (cycle_of d.at.address)) d.at.start) timed.0.start
-      issued.0 e starts))
-]
+made_same i config t u a d older timed issued e quiet = grind (arith, nat_tests)
 
 -- a step on top that leaves a byte
-left_here : (i : Loaded) (config : Configuration) (t u a : ℕ) (d : Done) (older : List Done) → IsWithinLimits config
-    → AreTimed config (d ∷ older) → AreIssuedBy t (d ∷ older) → u ≡ t + 1 → (starts_in u d && overwrites d.step a)
-    ≡ true → Left i t u a older → Left i t u a (d ∷ older)
-left_here i config t u a d older good timed issued e leaves_it (one y v small here others byte later) =
+left_here : (i : Loaded) {config : Configuration} (t u a : ℕ) (d : Done) (older : List Done) → IsWithinLimits config
+    → AreTimed config (d ∷ older) → AreIssuedBy t (d ∷ older) → u ≡ t + 1
+    → (starts_in u d && overwrites d.step a) ≡ true → Left i t u a older → Left i t u a (d ∷ older)
+left_here i t u a d older good timed issued e leaves_it (one y v small here others byte later) =
     let two = and_parts (starts_in u d) (overwrites d.step a) leaves_it in
     let unit = and_parts (is_some (step_unit d.step)) (d.at.start == u) two.0 in
     let at : d.at.start ≡ u = eqb-true _ _ unit.1 in
-    let l : u < d.at.start = later d.step d.at.start two.1 (starts_clear config d older timed.0 unit.0) in
+    let l : u < d.at.start = later d.step d.at.start two.1 (starts_clear d timed.0 unit.0) in
     absurd (omega arith)
-left_here i config t u a d older good timed issued e leaves_it (none others byte) =
+left_here i {config} t u a d older good timed issued e leaves_it (none others byte) =
     let two = and_parts (starts_in u d) (overwrites d.step a) leaves_it in
     let unit = and_parts (is_some (step_unit d.step)) (d.at.start == u) two.0 in
     let at : d.at.start ≡ u = eqb-true _ _ unit.1 in
-    let r = reach config d older good timed in
-    let end : d.at.start ≤ d.at.end = r.start in
-    let order : d.at.start ≤ d.at.finish = r.order in
-    let tag = tag_there config d older t timed.0 issued.0 (omega arith) in
+    let r = reach d older good timed in
+    let tag = tag_there d t timed.0 issued.0 (omega arith) in
     let place : place_of d ≡ Some (place_of_tag tag.0) = ap place_at tag.1 in
     let busy : nat_lt t d.at.end ≡ true = lt-ltb t d.at.end (omega arith) in
     let small : place_of_tag tag.0 < 96 =
@@ -109,25 +85,22 @@ left_here i config t u a d older good timed issued e leaves_it (none others byte
     one (place_of_tag tag.0) (stored_byte d.step a) small
     (rw (place, busy, eq-eqb (place_of_tag tag.0) (place_of_tag tag.0) refl, leaves_it) refl)
     (λ x other. rw (place, ne_eqb (place_of_tag tag.0) x (λ z. other (sym z))) (others x))
-    (rw (two.1, le-leb d.at.start u (omega arith)) refl)
-    (λ x s o clear. let k : d.at.finish < s =
+    (rw (two.1, le-leb d.at.start u (omega arith)) refl) (λ x s o clear. let k : d.at.finish < s =
     later_one d x s a two.1 o (and_parts (not (conflicts d.step x) || nat_lt d.at.finish s)
     (are_conflicts_finished older x s) clear).0 in omega arith)
 
 -- and one that leaves none
-left_on : (i : Loaded) (config : Configuration) (t u a : ℕ) (d : Done) (older : List Done) → IsWithinLimits config
-    → AreTimed config (d ∷ older) → AreIssuedBy t (d ∷ older) → u ≡ t + 1 → (starts_in u d && overwrites d.step a)
-    ≡ false → Left i t u a older → Left i t u a (d ∷ older)
-left_on i config t u a d older good timed issued e quiet (none others byte) =
-    none
-    (λ x. elim (cases_Bool (holds_place t x d)) [ inl h ↦ rw h (none_leaves u a d quiet) | inr h ↦ rw h (others x) ])
+left_on : (i : Loaded) {config : Configuration} (t u a : ℕ) (d : Done) (older : List Done) → IsWithinLimits config
+    → AreTimed config (d ∷ older) → AreIssuedBy t (d ∷ older) → u ≡ t + 1
+    → (starts_in u d && overwrites d.step a) ≡ false → Left i t u a older → Left i t u a (d ∷ older)
+left_on i {config} t u a d older good timed issued e quiet (none others byte) = none (λ x. elim
+    (cases_Bool (holds_place t x d)) [ inl h ↦ rw h (none_leaves u a d quiet) | inr h ↦ rw h (others x) ])
     (rw (made_same i config t u a d older timed issued e quiet, byte) refl)
-left_on i config t u a d older good timed issued e quiet (one y v small here others byte later) =
+left_on i t u a d older good timed issued e quiet (one y v small here others byte later) =
     let free : holds_place t y d ≡ false = elim (cases_Bool (holds_place t y d)) [
       | inr h ↦ h
       | inl h ↦
-          let vacant_there : is_vacant t y older ≡ true =
-          vacant config d older t y good timed (let k : d.at.issue ≤ t = issued.0 in
+          let vacant_there = vacant d older t y good timed (let k : d.at.issue ≤ t = issued.0 in
           omega arith) (and_parts (is_number (place_of d) y) (nat_lt t d.at.end) h).0 in
           absurd (none_not v (sym (left_free t u a y older vacant_there) ∙ here))
     ] in
@@ -135,25 +108,19 @@ left_on i config t u a d older good timed issued e quiet (one y v small here oth
       | inr o ↦ rw o refl
       | inl o ↦
           let store : is_store d.step ≡ true = (and_parts (is_store d.step) (covers d.step a) o).0 in
-          let l : u < d.at.start = later d.step d.at.start o
-          (starts_clear config d older timed.0 (store_unit d.step store)) in
+          let l : u < d.at.start = later d.step d.at.start o (starts_clear d timed.0 (store_unit d.step store)) in
           rw o (lt-leb d.at.start u l)
     ] in
-    one y v small
-    (rw free here)
-    (λ x other. elim (cases_Bool (holds_place t x d))
-    [ inl h ↦ rw h (none_leaves u a d quiet) | inr h ↦ rw h (others x other) ])
-    (rw unmade byte)
-    (λ x s o clear. later x s o (and_parts (not (conflicts d.step x) || nat_lt d.at.finish s)
-    (are_conflicts_finished older x s) clear).1)
+    one y v small (rw free here) (λ x other. elim (cases_Bool (holds_place t x d))
+    [ inl h ↦ rw h (none_leaves u a d quiet) | inr h ↦ rw h (others x other) ]) (rw unmade byte) (λ x s o clear. later x
+    s o (and_parts (not (conflicts d.step x) || nat_lt d.at.finish s) (are_conflicts_finished older x s) clear).1)
 
-pub left_is : (i : Loaded) (config : Configuration) (t u a : ℕ) (h : List Done) → IsWithinLimits config
+pub left_is : (i : Loaded) {config : Configuration} (t u a : ℕ) (h : List Done) → IsWithinLimits config
     → AreTimed config h → AreIssuedBy t h → u ≡ t + 1 → Left i t u a h
-left_is i config t u a [] good timed issued e = none (λ x. refl) refl
-left_is i config t u a (d ∷ older) good timed issued e = elim (cases_Bool (starts_in u d && overwrites d.step a)) [
-  | inl l ↦ left_here i config t u a d older good timed issued e l
-      (left_is i config t u a older good timed.1 issued.1 e)
-  | inr l ↦ left_on i config t u a d older good timed issued e l (left_is i config t u a older good timed.1 issued.1 e)
+left_is i t u a [] good timed issued e = none (λ x. refl) refl
+left_is i t u a (d ∷ older) good timed issued e = elim (cases_Bool (starts_in u d && overwrites d.step a)) [
+  | inl l ↦ left_here i t u a d older good timed issued e l (left_is i t u a older good timed.1 issued.1 e)
+  | inr l ↦ left_on i t u a d older good timed issued e l (left_is i t u a older good timed.1 issued.1 e)
 ]
 
 -- By place.
@@ -171,8 +138,7 @@ left_slot i config t u a x (d ∷ older) timed issued past e = elim (cases_Bool 
   | inl h ↦ elim (cases_Bool (starts_in u d)) [
     | inr s ↦ rw (h, s) refl
     | inl s ↦
-        let same : step_in (station_of i (clocks u t t) d older) ≡ d.step =
-        step_is i config t u d older timed issued past e s in
+        let same = step_is i config t u d older timed issued past e s in
         rw (h, s) (ap (λ (z : Step). if overwrites z a then Some (stored_byte z a) else None) same)
   ]
 ]
@@ -183,11 +149,7 @@ or_value (Some v) b = v
 
 stored_is : (picked : Bool) (o : Option Station) (a before : ℕ) (left : Option ℕ) → left_in picked o a ≡ left
     → stored_at picked o a before ≡ or_value left before
-stored_is picked None a before left e = rw (← e) refl
-stored_is picked (Some s) a before left e = elim (cases_Bool (picked && overwrites (step_in s) a)) [
-  | inl k ↦ rw (← e, k) refl
-  | inr k ↦ rw (← e, k) refl
-]
+stored_is picked o a before left h5 = grind (arith, nat_tests)
 
 written_none : (slots : List (Option Station)) (picked : ℕ) (byte : ℕ → ℕ) (k a : ℕ) → k ≤ 96
     → ((x : ℕ) → x < 96 → left_in (has picked x) (slice_index_or slots x None) a ≡ None)
@@ -198,11 +160,7 @@ written_none slots picked byte (suc k) a l none_left =
     (none_left k (omega arith)) ∙ written_none slots picked byte k a (omega arith) none_left
 
 less_one : (k y : ℕ) → (k ≡ y → ⊥) → y < suc k → y < k
-less_one k y other l = elim (cases_order k y) [
-  | inl e ↦ absurd (other e)
-  | inr (inl e) ↦ absurd (omega arith)
-  | inr (inr e) ↦ e
-]
+less_one k y other l = grind (arith, nat_tests)
 
 written_one : (slots : List (Option Station)) (picked : ℕ) (byte : ℕ → ℕ) (k a y v : ℕ) → k ≤ 96 → y < k
     → left_in (has picked y) (slice_index_or slots y None) a ≡ Some v
@@ -226,17 +184,15 @@ written_left : (i : Loaded) (t u a : ℕ) (h : List Done) (slots : List (Option 
     → byte a ≡ byte_at i t h a → Left i t u a h → written_by slots picked byte 96 a ≡ byte_at i u h a
 written_left i t u a h slots picked byte same before (none others made) =
     written_none slots picked byte 96 a (omega arith) (λ x l. same x l ∙ others x) ∙ (before ∙ sym made)
-written_left i t u a h slots picked byte same before (one y v small here others made later) =
-    written_one slots picked byte 96 a y v (omega arith) small (same y small ∙ here) (λ x l other. same x l
-    ∙ others x other) ∙ sym made
+written_left i t u a h slots picked byte same before (one y v small here others made later) = written_one slots picked
+    byte 96 a y v (omega arith) small (same y small ∙ here) (λ x l other. same x l ∙ others x other) ∙ sym made
 
 -- the stores of the places that start make memory what it is after the cycle's starts
-pub written_is : (i : Loaded) (config : Configuration) (t u a : ℕ) (h : List Done) (slots : List (Option Station))
+pub written_is : (i : Loaded) {config : Configuration} (t u a : ℕ) (h : List Done) (slots : List (Option Station))
     (picked : ℕ) (byte : ℕ → ℕ) → IsWithinLimits config → AreTimed config h → AreIssuedBy t h → ArePast i h → u ≡ t + 1
     → ((x : ℕ) → x < 96 → has picked x ≡ starts_at t u h x)
     → ((x : ℕ) → x < 96 → slice_index_or slots x None ≡ station_at i (clocks u t t) h x) → byte a ≡ byte_at i t h a
     → written_by slots picked byte 96 a ≡ byte_at i u h a
-written_is i config t u a h slots picked byte good timed issued past e picks shows before =
-    written_left i t u a h slots picked byte
-    (λ x l. rw (picks x l, shows x l) (left_slot i config t u a x h timed issued past e)) before
-    (left_is i config t u a h good timed issued e)
+written_is i {config} t u a h slots picked byte good timed issued past e picks shows before = written_left i t u a h
+    slots picked byte (λ x l. rw (picks x l, shows x l) (left_slot i config t u a x h timed issued past e)) before
+    (left_is i t u a h good timed issued e)

@@ -1,28 +1,11 @@
 -- What contracts see of a machine follows from what holds of each one.
 use Rattle.std.proofs.Common.{ℕ, ◌+◌, ◌<◌, ◌≤◌, ◌≡◌, ◌∙◌, ◌^◌, true, arith, refl, ap, inl, inr, min, subst}
-use Rattle.std.specs.Prelude.{nat_lt, if◌then◌else◌}
-use Rattle.std.proofs.lemmas.Bool.{cases_Bool, ltb-true, ltb-false, le-ltb}
-use Rattle.tomex_image.specs.Image.{Loaded, IsLoaded}
-use Rattle.tomex_config.specs.Configuration.{Configuration, IsWithinLimits}
-use Rattle.tomex_rvexec.specs.declared.outcome.EndKind.{EndKind}
-use Rattle.tomex_rvexec.specs.Machine.{State}
-use Rattle.tomex_steps.specs.Memory.{Bytes}
-use Rattle.tomex_rvexec.specs.Run.{RunEnds, EndsWithin}
-use Rattle.tomex_timing.specs.History.{greatest_end}
-use Rattle.tomex_cycle.specs.declared.fetch.Fetch.{Fetch}
-use Rattle.tomex_cycle.specs.declared.progress.Progress.{Progress}
-use Rattle.tomex_cycle.specs.declared.progress.Progress.TheVariants.{Running, Ended}
-use Rattle.tomex_cycle.specs.Run.{RunEndsAfter, first_timed, total}
-use Rattle.tomex_cycle.specs.Phases.{IsSnapshot}
-use Rattle.tomex_cycle.specs.Seen.{Seen, seen_after, is_end}
-use Rattle.tomex_cycle.specs.Sound.{IsSound, IsAfter}
+use Rattle.tomex_cycle.proofs.Words.{nat_lt, if◌then◌else◌, cases_Bool, ltb-true, ltb-false, le-ltb, Loaded}
+use Rattle.tomex_cycle.proofs.Words.{Configuration, EndsWithin, greatest_end, Inner, Progress, Running, Ended, IsAt}
+use Rattle.tomex_cycle.proofs.Words.{RunEndsAfter, first_timed, Seen, seen_after, IsSound}
+use Rattle.tomex_cycle.specs.Run.{total}
+use Rattle.tomex_cycle.specs.Seen.{is_end}
 use Rattle.tomex_cycle.proofs.Runs.{run_whole}
-use Rattle.tomex_tags.specs.Pools.{Pools}
-use Rattle.tomex_tags.specs.declared.register_status.RegStatus.{RegStatus}
-
-pub total_is : (config : Configuration) (i : Loaded) (n : ℕ) (s : State) (kind : EndKind) → RunEnds i n s kind
-    → n < 262144 → total config i ≡ greatest_end (first_timed config i (n + 1))
-total_is config i n s kind ends l = ap greatest_end (run_whole config i n s kind ends l)
 
 -- while the answer is Running the total lies ahead
 pub running_low : (cycle all : ℕ) (last : Progress) → last ≡ (if nat_lt cycle all then Running else Ended)
@@ -47,52 +30,54 @@ same_seen i config a b x y e f =
     let h : Progress → Seen = λ k. record { image = i; config = config; cycle = b; status = k } in
     ap g e ∙ ap h f
 
+-- the run of a sound machine whose program ends
+pub sound_run : {A : Type 0} {i : Loaded} {config : Configuration} {cycle : ℕ} {last : Progress} {inner : Inner A}
+    → IsSound i config cycle last inner → (ends : EndsWithin i 262144) → RunEndsAfter i config ends.0
+sound_run sound ends = record {
+  lawful = sound.lawful;
+  loaded = sound.loaded;
+  few = ends.3;
+  state = ends.1;
+  kind = ends.2;
+  ends = ends.4;
+}
+
 -- the machine is as it is after as many ticks as its cycle says
-pub seen_is : (i : Loaded) (config : Configuration) (cycle : ℕ) (last : Progress) (count : ℕ) (st : Pools)
-    (rg : RegStatus) (ft : Fetch) (m : Bytes) → IsSound i config cycle last count st rg ft m → EndsWithin i 262144
+pub seen_is : {A : Type 0} {i : Loaded} {config : Configuration} {cycle : ℕ} {last : Progress} {inner : Inner A}
+    → IsSound i config cycle last inner → EndsWithin i 262144
     → ◌≡◌ {A = Seen} (record { image = i; config = config; cycle = cycle; status = last }) (seen_after i config cycle)
-seen_is i config cycle last count st rg ft m sound ends =
-    let after : IsAfter i config ends.0 cycle last count st rg ft m = sound.after ends.0 ends.1 ends.2 ends.3 ends.4 in
-    let e : total config i ≡ greatest_end (first_timed config i (ends.0 + 1)) =
-    total_is config i ends.0 ends.1 ends.2 ends.4 ends.3 in
-    let high : cycle ≤ greatest_end (first_timed config i (ends.0 + 1)) = after.high in
+seen_is {i} {config} {cycle} {last} sound ends =
+    let run : RunEndsAfter i config ends.0 = sound_run sound ends in
+    let after = sound.after ends.0 run in
+    let e : total config i ≡ greatest_end (first_timed config i (ends.0 + 1)) = ap greatest_end (run_whole run) in
     same_seen i config cycle (min cycle (total config i)) last
     (if nat_lt cycle (total config i) then Running else Ended) (omega arith) (rw e after.answer)
 
--- the parts of a run that ends
-pub ending_run : (i : Loaded) (config : Configuration) (n : ℕ) (s : State) (kind : EndKind) → IsWithinLimits config
-    → IsLoaded i.window i.memory i.entry → n < 262144 → RunEnds i n s kind → RunEndsAfter i config n
-ending_run i config n s kind good loaded few ends =
-    record { lawful = good; loaded = loaded; few = few; state = s; kind = kind; ends = ends }
-
 -- a cycle keeps what holds
-pub sound_next : (i : Loaded) (config : Configuration) (cycle : ℕ) (last now : Progress) (count more : ℕ)
-    (st st2 : Pools) (rg rg2 : RegStatus) (ft ft2 : Fetch) (m m2 : Bytes) → IsSound i config cycle last count st rg ft m
-    → last ≡ Running → cycle < 2 ^ 40
-    → ((n t : ℕ) → RunEndsAfter i config n → cycle + 1 ≡ t + 1 → IsSnapshot i config n t count st rg ft m
-    → IsSnapshot i config n (cycle + 1) more st2 rg2 ft2 m2
+pub sound_next : {A : Type 0} {i : Loaded} {config : Configuration} {cycle : ℕ} {last : Progress} {old : Inner A}
+    (now : Progress) (new : Inner A) → IsSound i config cycle last old → last ≡ Running → cycle < 2 ^ 40
+    → ((n t : ℕ) → RunEndsAfter i config n → cycle + 1 ≡ t + 1 → IsAt i config n t old → IsAt i config n (cycle + 1) new
     × (now ≡ (if nat_lt (cycle + 1) (greatest_end (first_timed config i (n + 1))) then Running else Ended)))
-    → IsSound i config (cycle + 1) now more st2 rg2 ft2 m2
-sound_next i config cycle last now count more st st2 rg rg2 ft ft2 m m2 sound run low made = record {
+    → IsSound i config (cycle + 1) now new
+sound_next {i} {config} {cycle} {last} now new sound runs low made = record {
   lawful = sound.lawful;
   loaded = sound.loaded;
   low = omega arith;
-  after = λ n s kind l ends.
-      let before : IsAfter i config n cycle last count st rg ft m = sound.after n s kind l ends in
-      let k : cycle < greatest_end (first_timed config i (n + 1)) = running_low cycle _ last before.answer run in
-      let next = made n cycle (ending_run i config n s kind sound.lawful sound.loaded l ends) refl before.snapshot in
+  after = λ n run.
+      let before = sound.after n run in
+      let k : cycle < greatest_end (first_timed config i (n + 1)) = running_low cycle _ last before.answer runs in
+      let next = made n cycle run refl before.snapshot in
       record { high = omega arith; answer = next.1; snapshot = next.0 };
 }
 
 -- the same, of a value that is seen
-pub now_seen : (i : Loaded) (config : Configuration) (cycle : ℕ) (last : Progress) (seen : Seen) (count : ℕ)
-    (st : Pools) (rg : RegStatus) (ft : Fetch) (m : Bytes)
-    → ◌≡◌ {A = Seen} (record { image = i; config = config; cycle = cycle; status = last }) seen
-    → IsSound i config cycle last count st rg ft m → EndsWithin seen.image 262144
+pub now_seen : {A : Type 0} {i : Loaded} {config : Configuration} {cycle : ℕ} {last : Progress} {inner : Inner A}
+    {seen : Seen} → ◌≡◌ {A = Seen} (record { image = i; config = config; cycle = cycle; status = last }) seen
+    → IsSound i config cycle last inner → EndsWithin seen.image 262144
     → seen ≡ seen_after seen.image seen.config seen.cycle
-now_seen i config cycle last seen count st rg ft m e sound =
+now_seen e sound =
     let P : Seen → Type 0 = λ x. EndsWithin x.image 262144 → x ≡ seen_after x.image x.config x.cycle in
-    subst P e (λ ends. seen_is i config cycle last count st rg ft m sound ends)
+    subst P e (λ ends. seen_is sound ends)
 
 -- a machine that has ended is as it is after any more ticks
 pub over_seen : (i : Loaded) (config : Configuration) (k to : ℕ) (seen : Seen) → seen ≡ seen_after i config k
@@ -108,16 +93,15 @@ end_is_not_running : (last : Progress) → is_end last ≡ true → last ≡ Run
 end_is_not_running last e f = let g : is_end Running ≡ true = rw f at e in absurd (cc)
 
 -- a machine that has ended hands out the end of the run
-pub finish_seen : (P : Loaded → Type 0) (i : Loaded) (config : Configuration) (cycle : ℕ) (last : Progress)
-    (seen : Seen) (count : ℕ) (st : Pools) (rg : RegStatus) (ft : Fetch) (m : Bytes)
+pub finish_seen : {A : Type 0} {i : Loaded} {config : Configuration} {cycle : ℕ} {last : Progress} {inner : Inner A}
+    {seen : Seen} (P : Loaded → Type 0)
     → ◌≡◌ {A = Seen} (record { image = i; config = config; cycle = cycle; status = last }) seen
-    → ((i : Loaded) (config : Configuration) (n t : ℕ) → RunEndsAfter i config n
-    → IsSnapshot i config n t count st rg ft m → greatest_end (first_timed config i (n + 1)) ≤ t → P i)
-    → IsSound i config cycle last count st rg ft m → is_end seen.status ≡ true → EndsWithin seen.image 262144
-    → P seen.image
-finish_seen P i config cycle last seen count st rg ft m e made sound =
+    → ((i : Loaded) (config : Configuration) (n t : ℕ) → RunEndsAfter i config n → IsAt i config n t inner
+    → greatest_end (first_timed config i (n + 1)) ≤ t → P i)
+    → IsSound i config cycle last inner → is_end seen.status ≡ true → EndsWithin seen.image 262144 → P seen.image
+finish_seen {i} {config} {cycle} {last} P e made sound =
     let Q : Seen → Type 0 = λ x. is_end x.status ≡ true → EndsWithin x.image 262144 → P x.image in
     subst Q e (λ over ends.
-    let after : IsAfter i config ends.0 cycle last count st rg ft m = sound.after ends.0 ends.1 ends.2 ends.3 ends.4 in
-    made i config ends.0 cycle (ending_run i config ends.0 ends.1 ends.2 sound.lawful sound.loaded ends.3 ends.4)
-    after.snapshot (other_high cycle _ last after.answer (end_is_not_running last over)))
+    let after = sound.after ends.0 (sound_run sound ends) in
+    made i config ends.0 cycle (sound_run sound ends) after.snapshot
+    (other_high cycle _ last after.answer (end_is_not_running last over)))

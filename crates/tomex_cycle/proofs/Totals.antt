@@ -1,85 +1,48 @@
 -- When a run is over: no station is busy, and no instruction is left.
 use Rattle.std.proofs.Common.{ℕ, zero, suc, ◌+◌, ◌<◌, ◌≤◌, ◌≡◌, ◌∙◌, Bool, true, false, arith, refl, List, [], ◌∷◌}
 use Rattle.std.proofs.Common.{◌++◌, Option, Some, None, ap, sym, inl, inr, length}
-use Rattle.std.specs.Prelude.{nat_lt, is_some, MatchOption, ◌&&◌, ◌==◌, not}
-use Rattle.std.proofs.lemmas.Bool.{cases_Bool, ltb-true, ltb-false, lt-ltb, le-ltb, cases_order, eqb-true, eqb-false}
-use Rattle.std.specs.Bool.{MatchBool}
-use Rattle.std.proofs.lemmas.List.{length-append}
-use Rattle.tomex_image.specs.Image.{Loaded, IsLoaded}
-use Rattle.tomex_config.specs.Configuration.{Configuration, IsWithinLimits}
-use Rattle.tomex_rvdec.specs.declared.pool.PoolId.{PoolId}
-use Rattle.tomex_rvdec.specs.declared.pool.UnitId.{UnitId}
-use Rattle.tomex_rvdec.specs.Operands.{unit_at}
-use Rattle.tomex_rvexec.specs.declared.outcome.EndKind.{EndKind}
-use Rattle.tomex_steps.specs.declared.step.Step.{Step}
-use Rattle.tomex_rvexec.specs.Flow.{end_of}
-use Rattle.tomex_steps.specs.Results.{next_pc_of}
-use Rattle.tomex_rvexec.specs.Machine.{State}
-use Rattle.tomex_rvexec.specs.Run.{RunEnds}
-use Rattle.tomex_steps.specs.Steps.{step_pool, step_dest, is_branch}
-use Rattle.tomex_timing.specs.declared.times.Done.{Done}
-use Rattle.tomex_timing.specs.History.{greatest_end}
-use Rattle.tomex_timing.specs.Recurrence.{AreTimed, IsTimed, IsLeast, can_end}
-use Rattle.tomex_timing.specs.Station.{is_free}
-use Rattle.tomex_timing.specs.Tables.{tag_at}
-use Rattle.tomex_timing.proofs.Bound.{InReach, in_reach, timed_by}
-use Rattle.tomex_cycle.specs.declared.fetch.Fetch.{Fetch}
-use Rattle.tomex_cycle.specs.declared.fetch.Fetch.TheVariants.{At, Waits, Stopped}
-use Rattle.tomex_cycle.specs.Run.{first_timed, AreIssuedBy}
-use Rattle.tomex_cycle.specs.Views.{clocks, order_of, onto_end, place_of, fetch_of, fetch_after}
-use Rattle.tomex_rvexec.specs.History.{step_after}
-use Rattle.tomex_rvexec.proofs.FlowEnds.{step_goes_on, step_ends_it}
-use Rattle.tomex_cycle.specs.Phases.{is_done, IsIssuedTo, IsYetToIssue}
-use Rattle.tomex_bus.specs.Picks.{IsInIssueOrder}
-use Rattle.tomex_tags.specs.Pools.{AreBusy, Pools}
+use Rattle.tomex_cycle.proofs.Words.{nat_lt, is_some, ◌&&◌, ◌==◌, not, cases_Bool, ltb-true, ltb-false, nat_tests}
+use Rattle.tomex_cycle.proofs.Words.{lt-ltb, le-ltb, cases_order, eqb-true, eqb-false, length-append, Loaded}
+use Rattle.tomex_cycle.proofs.Words.{Configuration, IsWithinLimits, EndKind, Step, end_of, next_pc_of, is_branch, Done}
+use Rattle.tomex_cycle.proofs.Words.{greatest_end, AreTimed, IsTimed, timed_by, Fetch, At, Stopped, first_timed}
+use Rattle.tomex_cycle.proofs.Words.{AreIssuedBy, RunEndsAfter, clocks, order_of, onto_end, place_of, fetch_of}
+use Rattle.tomex_cycle.proofs.Words.{fetch_after, step_after, step_goes_on, step_ends_it, is_done, IsIssuedTo}
+use Rattle.tomex_cycle.proofs.Words.{IsYetToIssue, IsInIssueOrder, AreBusy, Pools, RegStatus}
+use Rattle.tomex_timing.proofs.Bound.{InReach, in_reach}
+use Rattle.tomex_cycle.specs.declared.fetch.Fetch.TheVariants.{Waits}
 use Rattle.tomex_cycle.proofs.Orders.{empty_order, empty_set, order_is}
 use Rattle.tomex_cycle.proofs.Runs.{rest_to, run_next, run_none, run_timed, step_is, AreLater, next_done}
-use Rattle.tomex_tags.specs.Places.{place_at}
-use Rattle.tomex_tags.specs.declared.register_status.RegStatus.{RegStatus}
 
 -- what holds of the times of each step of a history
-pub reach : (config : Configuration) (d : Done) (older : List Done) → IsWithinLimits config
+pub reach : {config : Configuration} (d : Done) (older : List Done) → IsWithinLimits config
     → AreTimed config (d ∷ older) → InReach (greatest_end older) d.at
-reach config d older good timed =
+reach {config} d older good timed =
     in_reach config older d.step d.at (greatest_end older) good (timed_by config older good timed.1) timed.0
 
--- a step that hasn't ended has a station
-tag_is_there : (pool : Option PoolId) (station : Option ℕ) (issue end : ℕ) (Q : UnitId → Type 0)
-    (R : PoolId → ℕ → Type 0)
-    → MatchOption (unit_at pool) (end ≡ issue) Q
-    → MatchOption pool (station ≡ None) (λ p. (n : ℕ) × (station ≡ Some n) × R p n) → issue < end
-    → is_some (place_at (tag_at pool station)) ≡ true
-tag_is_there None station issue end Q R e s l = let f : end ≡ issue = e in absurd (omega arith)
-tag_is_there (Some pool) station issue end Q R e s l = let f : station ≡ Some s.0 = s.1 in rw f refl
-
-pub place_there : (config : Configuration) (d : Done) (older : List Done) → IsTimed config older d.step d.at
+pub place_there : {config : Configuration} (d : Done) {older : List Done} → IsTimed config older d.step d.at
     → d.at.issue < d.at.end → is_some (place_of d) ≡ true
-place_there config d older timed l =
-    tag_is_there (step_pool d.step) d.at.station d.at.issue d.at.end
-    (λ unit. MatchBool (is_some (step_dest d.step)) (IsLeast (can_end config older d.at.finish) d.at.end)
-    (d.at.end ≡ d.at.finish)) (λ p n. IsLeast (is_free p older d.at.issue) n) timed.end timed.station l
+place_there {config} d {older} timed l = grind (arith, nat_tests)
 
 onto_end-some : (xs : List ℕ) (o : Option ℕ) → is_some o ≡ true → 0 < length (onto_end xs o)
 onto_end-some xs None h = absurd (cc)
 onto_end-some xs (Some x) h = simp length-append (omega arith)
 
 -- where a step hasn't ended a place is busy, and none is where all have
-pub none_busy : (config : Configuration) (h : List Done) (t : ℕ) → IsWithinLimits config → AreTimed config h
+pub none_busy : {config : Configuration} (h : List Done) (t : ℕ) → IsWithinLimits config → AreTimed config h
     → AreIssuedBy t h → order_of t h ≡ [] → greatest_end h ≤ t
-none_busy config [] t good timed issued e = omega arith
-none_busy config (d ∷ older) t good timed issued e = elim (cases_Bool (nat_lt t d.at.end)) [
+none_busy [] t good timed issued e = omega arith
+none_busy (d ∷ older) t good timed issued e = elim (cases_Bool (nat_lt t d.at.end)) [
   | inl l ↦
       let less : t < d.at.end = ltb-true _ _ l in
       let f : onto_end (order_of t older) (place_of d) ≡ [] = rw l at e in
-      let some : is_some (place_of d) ≡ true = place_there config d older timed.0 (let h : d.at.issue ≤ t = issued.0 in
+      let some : is_some (place_of d) ≡ true = place_there d timed.0 (let h : d.at.issue ≤ t = issued.0 in
       omega arith) in
-      let k : 0 < length (onto_end (order_of t older) (place_of d)) =
-      onto_end-some (order_of t older) (place_of d) some in
+      let k = onto_end-some (order_of t older) (place_of d) some in
       let z : length (onto_end (order_of t older) (place_of d)) ≡ 0 = ap length f in
       absurd (omega arith)
   | inr l ↦
       let less : d.at.end ≤ t = ltb-false _ _ l in
-      let f : greatest_end older ≤ t = none_busy config older t good timed.1 issued.1 (rw l at e) in
+      let f : greatest_end older ≤ t = none_busy older t good timed.1 issued.1 (rw l at e) in
       omega arith
 ]
 
@@ -93,85 +56,74 @@ stopped_not x true kind pc e f = let g : Waits ≡ Stopped kind pc = rw e at f i
 stopped_not x false kind pc e f = let g : At (next_pc_of x) ≡ Stopped kind pc = rw e at f in cc
 
 -- fetch stops just where the last step is issued
-pub stopped_is : (config : Configuration) (i : Loaded) (n k t : ℕ) (s : State) (kind end : EndKind) (pc : ℕ)
-    → IsLoaded i.window i.memory i.entry → RunEnds i n s kind → k ≤ n + 1
-    → fetch_of i t (first_timed config i k) ≡ Stopped end pc → k ≡ n + 1
-stopped_is config i n zero t s kind end pc loaded ends l e = let f : At i.entry ≡ Stopped end pc = rw run_none at e in
+pub stopped_is : {config : Configuration} {i : Loaded} {n : ℕ} (k t : ℕ) (end : EndKind) (pc : ℕ)
+    → RunEndsAfter i config n → k ≤ n + 1 → fetch_of i t (first_timed config i k) ≡ Stopped end pc → k ≡ n + 1
+stopped_is {i} zero t end pc run l e = let f : At i.entry ≡ Stopped end pc = rw run_none at e in
     absurd (cc)
-stopped_is config i n (suc k) t s kind end pc loaded ends l e = elim (cases_order k n) [
+stopped_is {config} {i} {n} (suc k) t end pc run l e = elim (cases_order k n) [
   | inl same ↦ omega arith
   | inr (inl less) ↦
-      let x = step_is i n k s kind ends (omega arith) in
+      let x = step_is k run (omega arith) in
       let f : suc k ≡ k + 1 = omega arith in
-      let g : first_timed config i (k + 1) ≡ next_done config (first_timed config i k) x.0 ∷ first_timed config i k =
-      run_next config i k x.0 x.1 in
+      let g = run_next config i k x.0 x.1 in
       let d : Done = next_done config (first_timed config i k) x.0 in
       let h : fetch_after x.0 (is_branch x.0 && nat_lt t d.at.finish) (end_of x.0) ≡ Stopped end pc = rw (f, g) at e in
       absurd (stopped_not x.0 (is_branch x.0 && nat_lt t d.at.finish) end pc
-      (step_goes_on i n k s kind x.0 loaded ends less x.1).on h)
+      (step_goes_on i n k run.state run.kind x.0 run.loaded run.ends less x.1).on h)
   | inr (inr more) ↦ absurd (omega arith)
 ]
 
 -- and it has stopped then
-pub stops : (config : Configuration) (i : Loaded) (n t : ℕ) (s : State) (kind : EndKind) → RunEnds i n s kind
-    → (x : Step) × (step_after i n ≡ Some x) × (fetch_of i t (first_timed config i (n + 1)) ≡ Stopped kind x.pc)
-stops config i n t s kind ends =
-    let x = step_is i n n s kind ends (omega arith) in
-    let g : first_timed config i (n + 1) ≡ next_done config (first_timed config i n) x.0 ∷ first_timed config i n =
-    run_next config i n x.0 x.1 in
-    (x.0, x.1, rw (g, step_ends_it i n s kind x.0 ends x.1) refl)
+pub stops : {config : Configuration} {i : Loaded} {n : ℕ} (t : ℕ) (run : RunEndsAfter i config n)
+    → (x : Step) × (step_after i n ≡ Some x) × (fetch_of i t (first_timed config i (n + 1)) ≡ Stopped run.kind x.pc)
+stops {config} {i} {n} t run =
+    let x = step_is n run (omega arith) in
+    let g = run_next config i n x.0 x.1 in
+    (x.0, x.1, rw (g, step_ends_it i n run.state run.kind x.0 run.ends x.1) refl)
 
-later_end : (config : Configuration) (newer h : List Done) (t : ℕ) → IsWithinLimits config
+later_end : {config : Configuration} (newer h : List Done) (t : ℕ) → IsWithinLimits config
     → AreTimed config (newer ++ h) → AreLater t newer → 0 < length newer → t < greatest_end (newer ++ h)
-later_end config [] h t good timed later l = absurd (omega arith)
-later_end config (d ∷ newer) h t good timed later l =
-    let r : d.at.issue ≤ d.at.end = (reach config d (newer ++ h) good timed).issue in
-    let a : t < d.at.issue = later.0 in
+later_end [] h t good timed later l = absurd (omega arith)
+later_end (d ∷ newer) h t good timed later l =
+    let r : d.at.issue ≤ d.at.end = (reach d (newer ++ h) good timed).issue in
     omega arith
 
 -- while steps are left the run isn't over
-pub more_left : (config : Configuration) (i : Loaded) (n k t : ℕ) (s : State) (kind : EndKind) → IsWithinLimits config
-    → RunEnds i n s kind → k ≤ n → (k ≤ n → IsYetToIssue i config k t) → t < greatest_end (first_timed config i (n + 1))
-more_left config i n k t s kind good ends l next =
-    let rest = rest_to config i n k (n + 1) t s kind good ends next (omega arith) (omega arith) in
+pub more_left : {config : Configuration} {i : Loaded} {n : ℕ} (k t : ℕ) → RunEndsAfter i config n → k ≤ n
+    → (k ≤ n → IsYetToIssue i config k t) → t < greatest_end (first_timed config i (n + 1))
+more_left {config} {i} {n} k t run l next =
+    let rest = rest_to k (n + 1) t run next (omega arith) (omega arith) in
     let timed : AreTimed config (rest.0 ++ first_timed config i k) =
-    rw (← rest.1.same) (run_timed config i (n + 1) good) in
-    let c : n + 1 ≡ length rest.0 + k = rest.1.count in
-    rw rest.1.same (later_end config rest.0 (first_timed config i k) t good timed rest.1.later (omega arith))
+    rw (← rest.1.same) (run_timed i (n + 1) run.lawful) in
+    rw rest.1.same (later_end rest.0 (first_timed config i k) t run.lawful timed rest.1.later (omega arith))
 
 -- the run is over just where fetch has stopped and no station is busy
-pub is_over : (config : Configuration) (i : Loaded) (n t count : ℕ) (s : State) (kind end : EndKind) (pc : ℕ)
-    (stations : Pools) (registers : RegStatus) (fetch : Fetch) → IsWithinLimits config
-    → IsLoaded i.window i.memory i.entry → RunEnds i n s kind
+pub is_over : {config : Configuration} {i : Loaded} {n t count : ℕ} (end : EndKind) (pc : ℕ) {stations : Pools}
+    {registers : RegStatus} {fetch : Fetch} → RunEndsAfter i config n
     → IsIssuedTo i config n t (clocks t t t) count stations registers fetch → fetch ≡ Stopped end pc
     → order_of t (first_timed config i count) ≡ [] → greatest_end (first_timed config i (n + 1)) ≤ t
-is_over config i n t count s kind end pc stations registers fetch good loaded ends shown stopped empty =
-    let k : count ≡ n + 1 = stopped_is config i n count t s kind end pc loaded ends shown.few (sym shown.from ∙ stopped)
-    in
+is_over {config} {i} {n} {t} {count} end pc run shown stopped empty =
+    let k : count ≡ n + 1 = stopped_is count t end pc run shown.few (sym shown.from ∙ stopped) in
     let e : order_of t (first_timed config i (n + 1)) ≡ [] = rw (← k) empty in
     let issued : AreIssuedBy t (first_timed config i (n + 1)) = rw (← k) shown.issued in
-    none_busy config (first_timed config i (n + 1)) t good (run_timed config i (n + 1) good) issued e
+    none_busy (first_timed config i (n + 1)) t run.lawful (run_timed i (n + 1) run.lawful) issued e
 
-pub not_stopped : (config : Configuration) (i : Loaded) (n t count : ℕ) (s : State) (kind : EndKind) (stations : Pools)
-    (registers : RegStatus) (fetch : Fetch) → IsWithinLimits config → IsLoaded i.window i.memory i.entry
-    → RunEnds i n s kind
-    → IsIssuedTo i config n t (clocks t t t) count stations registers fetch
+pub not_stopped : {config : Configuration} {i : Loaded} {n t count : ℕ} {stations : Pools} {registers : RegStatus}
+    {fetch : Fetch} → RunEndsAfter i config n → IsIssuedTo i config n t (clocks t t t) count stations registers fetch
     → ((end : EndKind) (pc : ℕ) → fetch ≡ Stopped end pc → ⊥) → t < greatest_end (first_timed config i (n + 1))
-not_stopped config i n t count s kind stations registers fetch good loaded ends shown on = elim
-    (cases_order count (n + 1)) [
-      | inl k ↦
-          let z = stops config i n t s kind ends in
-          let f : fetch_of i t (first_timed config i count) ≡ Stopped kind z.0.pc = rw k z.2 in
-          absurd (on kind z.0.pc (shown.from ∙ f))
-      | inr (inl less) ↦ more_left config i n count t s kind good ends (omega arith) shown.next
-      | inr (inr more) ↦ let l : count ≤ n + 1 = shown.few in absurd (omega arith)
-    ]
+not_stopped {config} {i} {n} {t} {count} run shown on = elim (cases_order count (n + 1)) [
+  | inl k ↦
+      let z = stops t run in
+      let f : fetch_of i t (first_timed config i count) ≡ Stopped run.kind z.0.pc = rw k z.2 in
+      absurd (on run.kind z.0.pc (shown.from ∙ f))
+  | inr (inl less) ↦ more_left count t run (omega arith) shown.next
+  | inr (inr more) ↦ let l : count ≤ n + 1 = shown.few in absurd (omega arith)
+]
 
-pub still_busy : (config : Configuration) (i : Loaded) (n t count : ℕ) (s : State) (kind : EndKind) (stations : Pools)
-    (registers : RegStatus) (fetch : Fetch) → IsWithinLimits config → RunEnds i n s kind
-    → IsIssuedTo i config n t (clocks t t t) count stations registers fetch
+pub still_busy : {config : Configuration} {i : Loaded} {n t count : ℕ} {stations : Pools} {registers : RegStatus}
+    {fetch : Fetch} → RunEndsAfter i config n → IsIssuedTo i config n t (clocks t t t) count stations registers fetch
     → (order_of t (first_timed config i count) ≡ [] → ⊥) → t < greatest_end (first_timed config i (n + 1))
-still_busy config i n t count s kind stations registers fetch good ends shown busy = elim (cases_order count (n + 1)) [
+still_busy {config} {i} {n} {t} {count} run shown busy = elim (cases_order count (n + 1)) [
   | inl k ↦ elim (cases_Bool (nat_lt t (greatest_end (first_timed config i (n + 1))))) [
     | inl l ↦ ltb-true _ _ l
     | inr l ↦
@@ -179,7 +131,7 @@ still_busy config i n t count s kind stations registers fetch good ends shown bu
         let e : order_of t (first_timed config i count) ≡ [] = rw k (some_busy (first_timed config i (n + 1)) t less) in
         absurd (busy e)
   ]
-  | inr (inl less) ↦ more_left config i n count t s kind good ends (omega arith) shown.next
+  | inr (inl less) ↦ more_left count t run (omega arith) shown.next
   | inr (inr more) ↦ let l : count ≤ n + 1 = shown.few in absurd (omega arith)
 ]
 
@@ -189,35 +141,27 @@ issued_more t u (d ∷ older) l issued =
     ((let k : d.at.issue ≤ t = issued.0 in omega arith), issued_more t u older l issued.1)
 
 -- the test that the machine makes
-pub done_is : (config : Configuration) (i : Loaded) (n t count : ℕ) (s : State) (kind : EndKind) (stations : Pools)
-    (registers : RegStatus) (fetch : Fetch) → IsWithinLimits config → IsLoaded i.window i.memory i.entry
-    → RunEnds i n s kind
-    → IsIssuedTo i config n t (clocks t t t) count stations registers fetch
+pub done_is : {config : Configuration} {i : Loaded} {n t count : ℕ} {stations : Pools} {registers : RegStatus}
+    (fetch : Fetch) → RunEndsAfter i config n → IsIssuedTo i config n t (clocks t t t) count stations registers fetch
     → AreBusy stations.slots stations.busy stations.issue_numbers
     → is_done fetch stations.busy ≡ not (nat_lt t (greatest_end (first_timed config i (n + 1))))
-done_is config i n t count s kind stations registers (At pc) good loaded ends shown filled =
-    rw (lt-ltb t (greatest_end (first_timed config i (n + 1)))
-    (not_stopped config i n t count s kind stations registers (At pc) good loaded ends shown (λ end pc e. cc))) refl
-done_is config i n t count s kind stations registers Waits good loaded ends shown filled =
-    rw (lt-ltb t (greatest_end (first_timed config i (n + 1)))
-    (not_stopped config i n t count s kind stations registers Waits good loaded ends shown (λ end pc e. cc))) refl
-done_is config i n t count s kind stations registers (Stopped end pc) good loaded ends shown filled =
+done_is {config} {i} {n} {t} (At pc) run shown filled =
+    rw (lt-ltb t (greatest_end (first_timed config i (n + 1))) (not_stopped run shown (λ end pc e. cc))) refl
+done_is {config} {i} {n} {t} Waits run shown filled =
+    rw (lt-ltb t (greatest_end (first_timed config i (n + 1))) (not_stopped run shown (λ end pc e. cc))) refl
+done_is {config} {i} {n} {t} {count} {stations} (Stopped end pc) run shown filled =
     let h : List Done = first_timed config i count in
-    let timed : AreTimed config h = run_timed config i count good in
+    let timed : AreTimed config h = run_timed i count run.lawful in
     let issued : AreIssuedBy (t + 1) h = issued_more t (t + 1) h (omega arith) shown.issued in
     elim (cases_Bool (stations.busy == 0)) [
       | inl e ↦
-          let none : order_of t h ≡ [] = empty_order i config (clocks t t t) h stations good timed issued shown.slots
-          filled (eqb-true _ _ e) in
-          let l : greatest_end (first_timed config i (n + 1)) ≤ t =
-          is_over config i n t count s kind end pc stations registers (Stopped end pc) good loaded ends shown refl
-          none in
+          let none : order_of t h ≡ [] = empty_order run.lawful timed issued shown.slots filled (eqb-true _ _ e) in
+          let l : greatest_end (first_timed config i (n + 1)) ≤ t = is_over end pc run shown refl none in
           rw (e, le-ltb t (greatest_end (first_timed config i (n + 1))) l) refl
       | inr e ↦
-          let l : t < greatest_end (first_timed config i (n + 1)) =
-          still_busy config i n t count s kind stations registers (Stopped end pc) good ends shown (λ z.
+          let l : t < greatest_end (first_timed config i (n + 1)) = still_busy run shown (λ z.
           let by : IsInIssueOrder stations.busy stations.issue_numbers [] =
-          rw z at (order_is i config (clocks t t t) h stations good timed issued shown.slots filled) in
+          rw z at (order_is run.lawful timed issued shown.slots filled) in
           eqb-false _ _ e (empty_set stations.busy stations.issue_numbers filled.small by)) in
           rw (e, lt-ltb t (greatest_end (first_timed config i (n + 1))) l) refl
     ]

@@ -37,7 +37,7 @@ pub struct Machine<'a, A: Allocator = Global> {
 impl<'a, A: Allocator> Model for Machine<'a, A> {
     ghost use Rattle.std.specs.Prelude.{◌≤◌, ◌+◌};
     ghost use Rattle.tomex_cycle.specs.Seen.{Machine};
-    ghost use Rattle.tomex_cycle.specs.Sound.{HasTimetableWhileRunning, IsSoundWith};
+    ghost use Rattle.tomex_cycle.specs.Sound.{HasTimetableWhileRunning, IsSound};
 
     ghost Value = { Machine };
 
@@ -50,7 +50,7 @@ impl<'a, A: Allocator> Model for Machine<'a, A> {
     } };
 
     ghost invariant = { λ m.
-        IsSoundWith m.fetcher m.config m.cycle m.status m.inner × (m.inner.cycles_made ≤ m.cycle)
+        IsSound m.fetcher m.config m.cycle m.status m.inner × (m.inner.cycles_made ≤ m.cycle)
         × HasTimetableWhileRunning m.status m.inner.pools.slots (m.cycle + 1) m.finishes };
 }
 

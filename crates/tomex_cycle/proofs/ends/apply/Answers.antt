@@ -5,19 +5,14 @@ pub members-init : goal.members-init
 members-init c = λ low count. first_applied c.args.picked c.args.pools.now c.args.registers.now count
 
 pub members-preserved-then-place-lt96 : goal.members-preserved-then-place-lt96
-members-preserved-then-place-lt96 c =
-    λ low count. one_applied c.args.picked c.members.rest c.without_lowest-rest.result c.lowest-place.result
-    c.args.pools.now c.members.pools c.end_at.new.pools c.args.registers.now c.members.registers c.end_at.new.registers
-    low (c.members.invariant low count) c.lowest-place.ensures.below c.lowest-place.ensures.member
+members-preserved-then-place-lt96 c = λ low count. one_applied c.end_at.new.pools c.end_at.new.registers low
+    (c.members.invariant low count) c.lowest-place.ensures.below c.lowest-place.ensures.member
     c.lowest-place.ensures.least (c.without_lowest-rest.ensures.others c.lowest-place.result
     c.lowest-place.ensures.member c.lowest-place.ensures.least) c.end_at.ensures.stations c.end_at.ensures.registers
 
 pub returns-clause-stations : goal.returns-clause-stations
-returns-clause-stations c = λ low count. ended_below c.args.picked c.args.pools.now c.members.pools
-    (all_applied c.args.picked c.members.rest c.args.pools.now c.members.pools c.args.registers.now c.members.registers
-    low (c.members.invariant low count) c.members-test.false).0
+returns-clause-stations c = λ low count. ended_below
+    (all_applied low (c.members.invariant low count) c.members-test.false).0
 
 pub returns-clause-registers : goal.returns-clause-registers
-returns-clause-registers c = λ count low.
-    (all_applied c.args.picked c.members.rest c.args.pools.now c.members.pools c.args.registers.now c.members.registers
-    low (c.members.invariant low count) c.members-test.false).1
+returns-clause-registers c = λ count low. (all_applied low (c.members.invariant low count) c.members-test.false).1

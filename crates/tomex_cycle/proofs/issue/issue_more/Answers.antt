@@ -16,9 +16,8 @@ issues-preserved g c =
     let less : c.issues.made < c.args.config.now.width =
     omega (arith, c.width-width.ensures.count, c.issues-test.true) in
     record {
-      on = on_more c.args.fetcher.now c.args.config.now c.args.count.now c.issues.made c.issues.count _ _ _ _ _ _ _ _ _
-          _ c.issue_next.result c.issues.invariant.on less
-          (rw c.issues.invariant.same at c.issue_next.ensures.issues)
+      on = on_more c.args.fetcher.now c.args.config.now c.args.count.now c.issues.made c.issues.count
+          c.issue_next.result c.issues.invariant.on less (rw c.issues.invariant.same at c.issue_next.ensures.issues)
           (one_is c.issue_next.result (sym c.unwrap_or-more.ensures ∙ c.if-not-more.false)) refl;
       known = λ next f known. c.issue_next.ensures.timetable next f (c.issues.invariant.known next f known);
       same = c.issue_next.ensures.same ∙ c.issues.invariant.same;
@@ -28,7 +27,7 @@ pub returns-then-not-more-clause-issues : goal.returns-then-not-more-clause-issu
 returns-then-not-more-clause-issues g c =
     let less : c.issues.made < c.args.config.now.width =
     omega (arith, c.width-width.ensures.count, c.issues-test.true) in
-    on_wait c.args.fetcher.now c.args.config.now c.args.count.now c.issues.made _ _ _ _ _ _ _ _ _ _ c.issue_next.result
+    on_wait c.args.fetcher.now c.args.config.now c.args.count.now c.issues.made c.issue_next.result
     c.issues.invariant.on less
     (rw c.issues.invariant.same at c.issue_next.ensures.issues) (sym c.unwrap_or-more.ensures ∙ c.if-not-more.true)
 
@@ -40,5 +39,5 @@ pub returns-clause-issues : goal.returns-clause-issues
 returns-clause-issues g c =
     let most : c.args.config.now.width ≤ c.issues.made =
     omega (arith, c.width-width.ensures.count, c.issues-test.false) in
-    on_full c.args.fetcher.now c.args.config.now c.args.count.now c.issues.made c.issues.count _ _ _ _ _ _
+    on_full c.args.fetcher.now c.args.config.now c.args.count.now c.issues.made c.issues.count
     c.issues.invariant.on most

@@ -1,8 +1,6 @@
 -- As many issues of the cycle are made as are counted.
 use Rattle.std.proofs.Common.{ℕ, ◌≡◌, ◌-◌}
-use Rattle.tomex_cycle.specs.Finishes.{IsTimetableOf}
-use Rattle.tomex_cycle.specs.Issue.{IssuesOn}
-use Rattle.tomex_cycle.specs.declared.finishes.Finishes.{Finishes}
+use Rattle.tomex_cycle.proofs.Words.{IsTimetableOf, IssuesOn, Finishes}
 use Rattle.tomex_cycle.proofs.issue.issue_more.Given as goal
 
 abbrev pub invariant-issues : goal.invariant-issues

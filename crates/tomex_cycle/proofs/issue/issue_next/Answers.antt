@@ -4,9 +4,8 @@ use Rattle.tomex_cycle.proofs.Known.{known_taken}
 use Rattle.tomex_cycle.proofs.issue.issue_next.Goals as goal
 
 pub returns-in_default-clause-issues : goal.returns-in_default-clause-issues
-returns-in_default-clause-issues g c =
-    waits_case c.args.fetcher.now c.args.config.now c.args.count c.args.pools.now c.args.registers.now c.args.fetch.now
-    c.in_default.not-At
+returns-in_default-clause-issues g c = waits_case c.args.fetcher.now c.args.config.now c.args.count c.args.pools.now
+    c.args.registers.now c.args.fetch.now c.in_default.not-At
 
 pub returns-in-Err-clause-issues : goal.returns-in-Err-clause-issues
 returns-in-Err-clause-issues g c =
@@ -14,10 +13,9 @@ returns-in-Err-clause-issues g c =
     c.in-At.pc c.in-Err.kind _ c.in-At.is (sym c.fetch.ensures.value ∙ c.in-Err.is)
 
 pub returns-in-None-clause-issues : goal.returns-in-None-clause-issues
-returns-in-None-clause-issues g c =
-    none_case c.args.fetcher.now c.args.config.now c.args.count c.args.pools.now c.args.registers.now c.args.fetch.now
-    c.after.result c.in-At.pc c.in-Ok.instr c.in-At.is (sym c.fetch.ensures.value ∙ c.in-Ok.is)
-    (sym c.pool.ensures ∙ c.in-None.is) c.after.ensures
+returns-in-None-clause-issues g c = none_case c.args.fetcher.now c.args.config.now c.args.count c.args.pools.now
+    c.args.registers.now c.args.fetch.now c.after.result c.in-At.pc c.in-Ok.instr c.in-At.is
+    (sym c.fetch.ensures.value ∙ c.in-Ok.is) (sym c.pool.ensures ∙ c.in-None.is) c.after.ensures
 
 pub returns-in-None-free-clause-issues : goal.returns-in-None-free-clause-issues
 returns-in-None-free-clause-issues g c =
@@ -28,14 +26,13 @@ returns-in-None-free-clause-issues g c =
 pub returns-clause-issues : goal.returns-clause-issues
 returns-clause-issues g c =
     some_case c.args.fetcher.now c.args.config.now c.args.count c.args.pools.now c.issue.new.pools c.args.registers.now
-    c.issue.new.registers c.args.fetch.now c.after-2.result c.in-At.pc c.in-Ok.instr c.in-Some.pool
-    c.stations.result c.in-Some-free.number _ _
-    c.in-At.is (sym c.fetch.ensures.value ∙ c.in-Ok.is) (sym c.pool.ensures ∙ c.in-Some.is) c.stations.ensures.count
-    c.in-Some-free.ensures.some.0 c.in-Some-free.ensures.some.1
-    refl refl c.issue.ensures.sources.0 c.issue.ensures.sources.1 c.issue.ensures.dest
-    c.issue.ensures.slots c.issue.ensures.issue_numbers c.issue.ensures.values c.issue.ensures.status c.after-2.ensures
+    c.issue.new.registers c.args.fetch.now c.after-2.result c.in-At.pc c.in-Ok.instr c.in-Some.pool c.stations.result
+    c.in-Some-free.number _ _ c.in-At.is (sym c.fetch.ensures.value ∙ c.in-Ok.is) (sym c.pool.ensures ∙ c.in-Some.is)
+    c.stations.ensures.count c.in-Some-free.ensures.some.0 c.in-Some-free.ensures.some.1 refl refl
+    c.issue.ensures.sources.0 c.issue.ensures.sources.1 c.issue.ensures.dest c.issue.ensures.slots
+    c.issue.ensures.issue_numbers c.issue.ensures.values c.issue.ensures.status c.after-2.ensures
 
 pub returns-clause-timetable : goal.returns-clause-timetable
-returns-clause-timetable g c = λ next f known. known_taken c.args.pools.now.slots c.issue.new.pools.slots next
-    c.in-Some-free.number c.stations.result c.in-Some.pool _ f c.issue.ensures.slots c.in-Some-free.ensures.some.0.0
+returns-clause-timetable g c = λ next f known. known_taken c.issue.new.pools.slots
+    c.in-Some-free.number c.stations.result c.in-Some.pool _ c.issue.ensures.slots c.in-Some-free.ensures.some.0.0
     c.in-Some-free.ensures.some.1 c.stations.ensures.range.1 refl known

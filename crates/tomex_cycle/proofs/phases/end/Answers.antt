@@ -9,21 +9,15 @@ use Rattle.tomex_cycle.proofs.phases.end.Goals as goal
 
 pub returns-then-finishes-eq0-clause-ends : goal.returns-then-finishes-eq0-clause-ends
 returns-then-finishes-eq0-clause-ends c =
-    ends_none c.args.config.now c.args.cycle 0 c.args.pools.now c.args.registers.now c.args.fetch.now c.args.fetch.now
-    (ending_none c.args.pools.now c.args.config.now.buses c.args.cycle c.turn-due.result c.args.finishes.now
-    c.turn-due.new.self c.keeps_places.ensures.busy c.requires.timetable c.turn-due.ensures c.if-due-eq0.true
-    c.if-finishes-eq0.true)
-    c.keeps_places.ensures.busy
-    (none_followed c.args.cycle c.turn-due.result c.args.pools.now.slots c.args.fetch.now
-    (all_due c.args.pools.now.slots c.args.cycle c.turn-due.result c.args.finishes.now c.turn-due.new.self
-    c.requires.timetable c.turn-due.ensures) c.if-due-eq0.true) refl
+    ends_none c.args.config.now 0 c.args.pools.now c.args.registers.now (ending_none c.args.pools.now
+    c.args.config.now.buses c.keeps_places.ensures.busy c.requires.timetable c.turn-due.ensures c.if-due-eq0.true
+    c.if-finishes-eq0.true) c.keeps_places.ensures.busy (none_followed c.args.cycle c.turn-due.result
+    c.args.pools.now.slots c.args.fetch.now (all_due c.requires.timetable c.turn-due.ensures) c.if-due-eq0.true) refl
 
 pub returns-then-finishes-eq0-clause-timetable : goal.returns-then-finishes-eq0-clause-timetable
-returns-then-finishes-eq0-clause-timetable c =
-    none_over c.args.pools.now.slots c.args.cycle 0 c.turn-due.new.self c.requires.timetable.places
-    (leaves_none c.args.pools.now c.args.config.now.buses c.args.cycle c.turn-due.result c.args.finishes.now
-    c.turn-due.new.self c.keeps_places.ensures.busy c.requires.timetable c.turn-due.ensures c.if-due-eq0.true
-    c.if-finishes-eq0.true) refl
+returns-then-finishes-eq0-clause-timetable c = none_over c.args.pools.now.slots c.args.cycle 0 c.turn-due.new.self
+    c.requires.timetable.places (leaves_none c.args.pools.now c.args.config.now.buses c.keeps_places.ensures.busy
+    c.requires.timetable c.turn-due.ensures c.if-due-eq0.true c.if-finishes-eq0.true) refl
 
 pub choose_ending-chosen-requires : goal.choose_ending-chosen-requires
 choose_ending-chosen-requires c = record {
@@ -32,34 +26,29 @@ choose_ending-chosen-requires c = record {
 }
 
 pub returns-then-chosen-eq0-clause-ends : goal.returns-then-chosen-eq0-clause-ends
-returns-then-chosen-eq0-clause-ends c =
-    ends_none c.args.config.now c.args.cycle c.choose_ending-chosen.result.ending c.args.pools.now c.args.registers.now
-    c.args.fetch.now c.follow.new.fetch
-    (rw c.buses.ensures.count at c.choose_ending-chosen.ensures.ending) c.choose_ending-chosen.ensures.busy
-    c.follow.ensures c.if-chosen-eq0.true
+returns-then-chosen-eq0-clause-ends c = ends_none c.args.config.now c.choose_ending-chosen.result.ending
+    c.args.pools.now c.args.registers.now (rw c.buses.ensures.count at c.choose_ending-chosen.ensures.ending)
+    c.choose_ending-chosen.ensures.busy c.follow.ensures c.if-chosen-eq0.true
 
 pub returns-then-chosen-eq0-clause-any : goal.returns-then-chosen-eq0-clause-any
-returns-then-chosen-eq0-clause-any c =
-    λ some i h t e past issued shown. due_happens i t c.args.cycle c.args.pools.now h c.choose_ending-chosen.result.due
-    shown c.choose_ending-chosen.ensures.due c.choose_ending-chosen.ensures.fits.0
+returns-then-chosen-eq0-clause-any c = λ some i h t e past issued shown. due_happens t c.args.cycle
+    c.choose_ending-chosen.result.due shown c.choose_ending-chosen.ensures.due c.choose_ending-chosen.ensures.fits.0
     (not_zero c.choose_ending-chosen.result.due some)
 
 pub returns-then-chosen-eq0-clause-timetable : goal.returns-then-chosen-eq0-clause-timetable
-returns-then-chosen-eq0-clause-timetable c =
-    none_over c.args.pools.now.slots c.args.cycle c.choose_ending-chosen.result.ending
-    c.choose_ending-chosen.new.finishes c.choose_ending-chosen.ensures.busy.places
+returns-then-chosen-eq0-clause-timetable c = none_over c.args.pools.now.slots c.args.cycle
+    c.choose_ending-chosen.result.ending c.choose_ending-chosen.new.finishes c.choose_ending-chosen.ensures.busy.places
     c.choose_ending-chosen.ensures.timetable c.if-chosen-eq0.true
 
 pub returns-clause-ends : goal.returns-clause-ends
 returns-clause-ends c =
-    made_ends c.args.config.now c.args.cycle c.args.pools.now c.apply.new.pools c.args.registers.now
-    c.apply.new.registers c.args.fetch.now c.follow.new.fetch c.choose_ending-chosen.result.ending
-    (rw c.buses.ensures.count at c.choose_ending-chosen.ensures.ending) c.choose_ending-chosen.ensures.busy
-    c.follow.ensures c.apply.ensures.stations c.apply.ensures.registers
+    made_ends c.args.config.now c.args.pools.now c.apply.new.pools c.args.registers.now c.apply.new.registers
+    c.choose_ending-chosen.result.ending (rw c.buses.ensures.count at c.choose_ending-chosen.ensures.ending)
+    c.choose_ending-chosen.ensures.busy c.follow.ensures c.apply.ensures.stations c.apply.ensures.registers
 
 pub returns-clause-any : goal.returns-clause-any
 returns-clause-any c = λ some i h t e past issued shown.
-    end_happens i c.args.config.now t c.args.cycle c.args.pools.now h c.choose_ending-chosen.result.ending past issued
+    end_happens t c.args.cycle c.choose_ending-chosen.result.ending past issued
     shown c.choose_ending-chosen.ensures.busy (rw c.buses.ensures.count at c.choose_ending-chosen.ensures.ending) e
     c.choose_ending-chosen.ensures.fits.1 c.if-chosen-eq0.false
 

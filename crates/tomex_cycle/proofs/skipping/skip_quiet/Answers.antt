@@ -11,14 +11,12 @@ returns-then-take_results-clause-skipped g c = record {
     refl,
     c.if-last_free-to.true,
     c.make_cycle.ensures.cycles_made,
-    rw c.pools-pools.ensures at
-        (c.take_results.ensures.results c.if-take_results.true (c.skip_free-last_free.result + 1)
-        c.skip_free-last_free.ensures.timetable).0,
+    rw c.pools-pools.ensures at (c.take_results.ensures.results c.if-take_results.true
+        (c.skip_free-last_free.result + 1) c.skip_free-last_free.ensures.timetable).0,
   );
 }
 
 pub returns-then-take_results-clause-timetable : goal.returns-then-take_results-clause-timetable
 returns-then-take_results-clause-timetable g c =
-    rw (c.make_cycle.ensures.count_only refl).1
-    (rw c.pools-pools.ensures at (c.take_results.ensures.results c.if-take_results.true (c.skip_free-last_free.result
-    + 1) c.skip_free-last_free.ensures.timetable).1)
+    rw (c.make_cycle.ensures.count_only refl).1 (rw c.pools-pools.ensures at (c.take_results.ensures.results
+    c.if-take_results.true (c.skip_free-last_free.result + 1) c.skip_free-last_free.ensures.timetable).1)

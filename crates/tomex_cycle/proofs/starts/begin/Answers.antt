@@ -1,7 +1,5 @@
 use Rattle.std.proofs.Common.{◌∙◌, refl, sym}
-use Rattle.std.proofs.lemmas.Option.{IfSome_then}
-use Rattle.tomex_sets.proofs.Members.{inside_left}
-use Rattle.tomex_membuf.proofs.Older.{no_option}
+use Rattle.tomex_cycle.proofs.Words.{IfSome_then, inside_left, no_option}
 use Rattle.tomex_cycle.proofs.StartsBegun.{all_begun, first_begun, left_in, member_begun, no_fault_at, some_not}
 use Rattle.tomex_cycle.proofs.starts.begin.Goals as goal
 
@@ -14,34 +12,26 @@ members-init g c = record {
 }
 
 pub returns-then-is_some-clause-begins : goal.returns-then-is_some-clause-begins
-returns-then-is_some-clause-begins g c = λ e low can.
-    absurd (some_not c.begin_at-fault.result (sym c.if-is_some.true ∙ c.is_some.ensures)
-    (no_fault_at c.args.config.now c.args.cycle c.lowest-place.result c.args.memory.now c.args.picked c.members.rest
-    c.args.pools.now c.members.pools c.begin_at-fault.result c.lowest-place.ensures.below
-    c.lowest-place.ensures.member c.lowest-place.ensures.least c.begin_at-fault.ensures.good low can
-    (c.members.invariant.begun e low can)))
+returns-then-is_some-clause-begins g c = λ e low can. absurd (some_not c.begin_at-fault.result
+    (sym c.if-is_some.true ∙ c.is_some.ensures) (no_fault_at c.lowest-place.result c.begin_at-fault.result
+    c.lowest-place.ensures.below c.lowest-place.ensures.member c.lowest-place.ensures.least
+    c.begin_at-fault.ensures.good low can (c.members.invariant.begun e low can)))
 
 pub returns-then-is_some-clause-good : goal.returns-then-is_some-clause-good
-returns-then-is_some-clause-good g c = λ e low can.
-    no_fault_at c.args.config.now c.args.cycle c.lowest-place.result c.args.memory.now c.args.picked c.members.rest
-    c.args.pools.now c.members.pools c.begin_at-fault.result c.lowest-place.ensures.below
-    c.lowest-place.ensures.member c.lowest-place.ensures.least c.begin_at-fault.ensures.good low can
-    (c.members.invariant.begun e low can)
+returns-then-is_some-clause-good g c = λ e low can. no_fault_at c.lowest-place.result c.begin_at-fault.result
+    c.lowest-place.ensures.below c.lowest-place.ensures.member c.lowest-place.ensures.least
+    c.begin_at-fault.ensures.good low can (c.members.invariant.begun e low can)
 
 pub members-preserved : goal.members-preserved
 members-preserved g c = record {
-  begun = λ e low can.
-      member_begun c.args.config.now c.args.cycle c.lowest-place.result c.args.memory.now c.args.picked c.members.rest
-      c.without_lowest-rest.result c.args.pools.now c.members.pools c.begin_at-fault.new.pools
-      c.lowest-place.ensures.below c.lowest-place.ensures.member c.lowest-place.ensures.least
-      (c.without_lowest-rest.ensures.others c.lowest-place.result c.lowest-place.ensures.member
-      c.lowest-place.ensures.least) c.begin_at-fault.ensures.slots c.begin_at-fault.ensures.issue_numbers low can
-      (c.members.invariant.begun e low can);
+  begun = λ e low can. member_begun c.begin_at-fault.new.pools c.lowest-place.ensures.below
+      c.lowest-place.ensures.member c.lowest-place.ensures.least (c.without_lowest-rest.ensures.others
+      c.lowest-place.result c.lowest-place.ensures.member c.lowest-place.ensures.least) c.begin_at-fault.ensures.slots
+      c.begin_at-fault.ensures.issue_numbers low can (c.members.invariant.begun e low can);
   known = c.begin_at-fault.ensures.timetable
       (no_option c.begin_at-fault.result (sym c.is_some.ensures ∙ c.if-is_some.false));
   kept = λ x l h.
-      let two = left_in c.members.rest c.lowest-place.result c.without_lowest-rest.result x
-      (c.without_lowest-rest.ensures.others c.lowest-place.result c.lowest-place.ensures.member
+      let two = left_in x (c.without_lowest-rest.ensures.others c.lowest-place.result c.lowest-place.ensures.member
       c.lowest-place.ensures.least) l h in
       c.begin_at-fault.ensures.others x two.0 ∙ c.members.invariant.kept x l two.1;
   inside = inside_left c.args.picked c.members.rest c.without_lowest-rest.result c.lowest-place.result
@@ -59,8 +49,7 @@ returns-then-is_some-clause-fault g c =
     (λ f only. (c.lowest-place.result, inside, (only.0, sym kept ∙ only.1, only.2, only.3)))
 
 pub returns-clause-begins : goal.returns-clause-begins
-returns-clause-begins g c = λ e low can. all_begun c.args.config.now c.args.cycle c.args.memory.now c.args.picked
-    c.members.rest c.args.pools.now c.members.pools low c.members-test.false (c.members.invariant.begun e low can)
+returns-clause-begins g c = λ e low can. all_begun low c.members-test.false (c.members.invariant.begun e low can)
 
 pub returns-then-is_some-clause-timetable : goal.returns-then-is_some-clause-timetable
 returns-then-is_some-clause-timetable g c =

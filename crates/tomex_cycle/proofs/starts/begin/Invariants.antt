@@ -1,7 +1,5 @@
 use Rattle.std.proofs.Common.{ℕ, ◌≡◌, ◌<◌, None, length, slice_index_or, true}
-use Rattle.tomex_sets.specs.Sets.{has}
-use Rattle.tomex_cycle.specs.Finishes.{IsTimetableOf}
-use Rattle.tomex_cycle.specs.Starts.{AllCanBegin, AreLow}
+use Rattle.tomex_cycle.proofs.Words.{has, IsTimetableOf, AllCanBegin, AreLow}
 use Rattle.tomex_cycle.proofs.StartsBegun.{IsBegun}
 use Rattle.tomex_cycle.proofs.starts.begin.Given as goal
 

@@ -8,10 +8,9 @@ pub returns-in-Some-outcome-clause-timetable : goal.returns-in-Some-outcome-clau
 returns-in-Some-outcome-clause-timetable g c = λ none.
     let at = sym c.at.ensures.value ∙ c.in-Some.is in
     let idle = no_option c.in-Some.station.finish (sym c.is_some.ensures ∙ c.if-is_some.false) in
-    rw (c.start.ensures.slots, at, c.from.ensures)
-    (known_started c.args.pools.now.slots c.args.place c.args.cycle c.in-Some-outcome.latency c.in-Some.station
-    (started (c.args.cycle + c.in-Some-outcome.latency - 1) c.in-Some-outcome.value c.in-Some.station)
-    c.args.finishes.now (record { wheel = c.put.new.self; unsent = c.args.finishes.now.unsent })
+    rw (c.start.ensures.slots, at, c.from.ensures) (known_started c.args.place c.in-Some-outcome.latency
+    c.in-Some.station (started (c.args.cycle + c.in-Some-outcome.latency - 1) c.in-Some-outcome.value c.in-Some.station)
+    (record { wheel = c.put.new.self; unsent = c.args.finishes.now.unsent })
     (inside_of c.args.pools.now.slots c.args.place c.in-Some.station at) (c.in-Some.ensures.low refl)
     c.requires.timetable at idle refl c.in-Some-outcome.ensures.range.0 c.in-Some-outcome.ensures.range.1
     (rw c.from-in-Some-outcome.ensures at c.put.ensures) refl)

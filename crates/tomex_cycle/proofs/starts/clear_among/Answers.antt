@@ -10,24 +10,18 @@ is_clear-requires-clause-waits c = sym (c.requires.set c.lowest-place.result c.l
     ∙ c.members.invariant.inside c.lowest-place.result c.lowest-place.ensures.below c.lowest-place.ensures.member
 
 pub members-preserved-then-is_clear : goal.members-preserved-then-is_clear
-members-preserved-then-is_clear c =
-    one_clear c.args.pools.now c.args.cycle c.args.waiting c.members.rest c.without_lowest-rest.result
-    c.lowest-place.result c.members.clear c.with-clear.result c.members.invariant c.lowest-place.ensures.below
+members-preserved-then-is_clear c = one_clear c.members.invariant c.lowest-place.ensures.below
     c.lowest-place.ensures.member (c.without_lowest-rest.ensures.others c.lowest-place.result
     c.lowest-place.ensures.member c.lowest-place.ensures.least)
     (λ older younger by. sym c.if-is_clear.true ∙ c.is_clear.ensures older younger by) c.with-clear.ensures
 
 pub members-preserved : goal.members-preserved
-members-preserved c = none_clear c.args.pools.now c.args.cycle c.args.waiting c.members.rest
-    c.without_lowest-rest.result c.lowest-place.result c.members.clear c.members.invariant c.lowest-place.ensures.below
-    c.lowest-place.ensures.member (c.without_lowest-rest.ensures.others c.lowest-place.result
-    c.lowest-place.ensures.member c.lowest-place.ensures.least)
-    (λ older younger by. sym c.if-is_clear.false ∙ c.is_clear.ensures older younger by)
+members-preserved c = none_clear c.members.invariant c.lowest-place.ensures.below c.lowest-place.ensures.member
+    (c.without_lowest-rest.ensures.others c.lowest-place.result c.lowest-place.ensures.member
+    c.lowest-place.ensures.least) (λ older younger by. sym c.if-is_clear.false ∙ c.is_clear.ensures older younger by)
 
 pub returns-clause-startable : goal.returns-clause-startable
-returns-clause-startable c = all_cleared c.args.pools.now c.args.cycle c.args.waiting c.members.rest c.members.clear
-    c.requires.busy c.requires.set c.members.invariant c.members-test.false
+returns-clause-startable c = all_cleared c.requires.busy c.requires.set c.members.invariant c.members-test.false
 
 pub returns-clause-wait : goal.returns-clause-wait
-returns-clause-wait c = found_waiting c.args.pools.now c.args.cycle c.args.waiting c.members.rest c.members.clear
-    c.requires.set c.members.invariant
+returns-clause-wait c = found_waiting c.requires.set c.members.invariant

@@ -7,7 +7,6 @@ use Rattle.tomex_cycle.proofs.starts.is_clear.Goals as goal
 
 pub returns : goal.returns
 returns c older younger by = wants_clear c.args.pools.now.slots older c.args.cycle units.Mem
-    (slice_index_or c.args.pools.now.slots c.args.place None) c.may_access.result c.requires.waits (λ s here.
-    clear_is c.may_access.result c.args.pools.now.slots c.args.pools.now.busy c.args.pools.now.issue_numbers older
-    younger c.args.place s c.args.cycle c.requires.busy by
+    (slice_index_or c.args.pools.now.slots c.args.place None) c.may_access.result c.requires.waits (λ s here. clear_is
+    c.may_access.result older younger c.args.place s c.args.cycle c.requires.busy by
     (clear_there c.args.pools.now c.args.place c.args.cycle s c.may_access.result here c.may_access.ensures))

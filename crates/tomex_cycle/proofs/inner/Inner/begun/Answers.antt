@@ -6,13 +6,10 @@ use Rattle.tomex_cycle.proofs.inner.Inner.begun.Goals as goal
 
 pub returns : goal.returns
 returns g c = record {
-  start = λ config n. start_shown c.args.image.now config n _ _ _ _ c.new.ensures.slots c.new.ensures.issue_numbers
-      c.new-2.ensures.tags
+  start = λ config n. start_shown c.args.image.now c.new.ensures.slots c.new.ensures.issue_numbers c.new-2.ensures.tags
       (rw (c.initial_sp.ensures, c.window.ensures.value) at c.new-2.ensures.values)
-      (ap (λ (x : ℕ). At x) c.entry.ensures.value)
-      (ap (λ (m : Bytes). m.base) c.requires)
-      (ap (λ (m : Bytes). m.bytes) c.requires)
-      c.entry.ensures.loaded.filled;
+      (ap (λ (x : ℕ). At x) c.entry.ensures.value) (ap (λ (m : Bytes). m.base) c.requires)
+      (ap (λ (m : Bytes). m.bytes) c.requires) c.entry.ensures.loaded.filled;
   none = refl;
   none_made = refl;
   empty = c.new.ensures.slots;

@@ -1,14 +1,12 @@
 use Rattle.std.proofs.Common.{◌∙◌, ap}
 use Rattle.tomex_cycle.specs.Views.{stop_of}
-use Rattle.tomex_cycle.proofs.Outer.{is_over_at, IsOver}
+use Rattle.tomex_cycle.proofs.Outer.{is_over_at}
 use Rattle.tomex_cycle.proofs.inner.Inner.into_end.Goals as goal
 
 pub returns : goal.returns
 returns g c = record {
   ends = λ i config n t run shot done.
-      let over : IsOver i n run.state run.kind c.args.self.issued c.args.self.registers c.args.self.fetch
-      c.args.self.memory = is_over_at config i n t c.args.self.issued run.state run.kind c.args.self.pools
-      c.args.self.registers c.args.self.fetch c.args.self.memory run.lawful run.loaded run.ends shot done in
+      let over = is_over_at t c.args.self run shot done in
       let e = c.stop-kind.ensures ∙ ap stop_of over.stopped in (
         n,
         run.state,

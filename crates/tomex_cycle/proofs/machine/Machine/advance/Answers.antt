@@ -17,7 +17,7 @@ returns-clause-advances g c = elim c.match-self.branch [
     same_if_there = λ low. refl;
     after_ticks = λ e. over_seen c.args.self.now.image c.args.self.now.config c.args.self.now.cycle
         (max c.args.self.now.cycle c.args.to) (seen c.args.self.now)
-        (now_seen _ _ _ _ _ _ _ _ _ _ (ap seen c.self.view_is) c.self.invariant.0 e)
+        (now_seen (ap seen c.self.view_is) c.self.invariant.0 e)
         (λ runs. w.in_default.not-Running (ap (λ x. x.status) c.self.view_is ∙ runs)) (omega arith);
     cycles_made = λ e. record { least = omega arith; most = omega arith };
   })

@@ -4,4 +4,4 @@ use Rattle.tomex_cycle.proofs.Ticks.{now_seen}
 use Rattle.tomex_cycle.proofs.machine.Machine.cycle.Goals as goal
 
 pub returns-clause-ends : goal.returns-clause-ends
-returns-clause-ends g c = now_seen _ _ _ _ _ _ _ _ _ _ (ap seen c.self.view_is) c.self.invariant.0
+returns-clause-ends g c = now_seen (ap seen c.self.view_is) c.self.invariant.0

@@ -1,11 +1,8 @@
 use Rattle.std.proofs.Common.{◌≡◌, ◌≤◌, ◌+◌, ◌∙◌, ap, arith, inl, refl, sym, subst}
-use Rattle.tomex_cycle.specs.Events.{GoesOn}
-use Rattle.tomex_cycle.specs.CycleOutcome.{progress_of}
-use Rattle.tomex_cycle.specs.Run.{EndsWithinLimit, run_of}
-use Rattle.tomex_cycle.specs.Seen.{Machine, seen}
-use Rattle.tomex_cycle.specs.declared.progress.Progress.TheVariants.{Running}
+use Rattle.tomex_cycle.proofs.Words.{GoesOn, progress_of, EndsWithinLimit, run_of, seen, Running}
+use Rattle.tomex_cycle.specs.Seen.{Machine}
 use Rattle.tomex_cycle.proofs.Moves.{go_passes, active_not_settled, passed_low, settled_goes}
-use Rattle.tomex_cycle.proofs.Skips.{later_seen, sound_later, sound_passed}
+use Rattle.tomex_cycle.proofs.Skips.{later_seen, sound_counted, sound_later, sound_passed}
 use Rattle.tomex_cycle.proofs.machine.Machine.go_on.Goals as goal
 
 pub invariant_of-self : goal.invariant_of-self
@@ -13,10 +10,10 @@ invariant_of-self g c =
     let running : c.self.inside.status ≡ Running = ap (λ x. x.status) c.self.view_is ∙ c.requires.running in
     let ahead : c.self.inside.cycle + 1 ≤ c.args.to = let at : c.self.inside.cycle ≡ c.args.self.now.cycle =
     ap (λ x. x.cycle) c.self.view_is in omega (arith, c.requires.ahead) in (
-      rw c.make_cycle.ensures.same (sound_later _ _ c.self.inside.cycle (c.self.inside.cycle + 1) c.self.inside.status
-          c.self.inside.status c.make_cycle.result _ _ _ _ _ _ _ _ _ _ c.self.invariant.0 running
-          (c.make_cycle.ensures.makes refl) (ap progress_of c.in-Active.is ∙ sym running) (omega arith)
-          (omega (arith, c.requires.low)) (λ less. absurd (omega arith))),
+      rw c.make_cycle.ensures.same (sound_later (c.self.inside.cycle + 1) c.self.inside.status c.make_cycle.result
+          c.make_cycle.new.self c.self.invariant.0 running (c.make_cycle.ensures.makes refl)
+          (ap progress_of c.in-Active.is ∙ sym running) (omega arith) (omega (arith, c.requires.low))
+          (λ less. absurd (omega arith))),
       omega (arith, c.make_cycle.ensures.cycles_made, c.self.invariant.1),
       (λ runs. c.make_cycle.ensures.timetable refl (ap progress_of c.in-Active.is)),
     )
@@ -24,15 +21,14 @@ invariant_of-self g c =
 pub invariant_of-self-in-Settled : goal.invariant_of-self-in-Settled
 invariant_of-self-in-Settled g c =
     let running : c.self.inside.status ≡ Running = ap (λ x. x.status) c.self.view_is ∙ c.requires.running in
-    let most : c.skip_quiet-self-inside.result ≤ c.args.to = c.skip_quiet-self-inside.ensures.most in
     let low : c.make_cycle.new.self.cycles_made ≤ c.self.inside.cycle + 1 =
     omega (arith, c.make_cycle.ensures.cycles_made, c.self.invariant.1) in (
       rw (c.skip_quiet-self-inside.ensures.inner, c.skip_quiet-self-inside.ensures.same, c.make_cycle.ensures.same)
-          (sound_passed _ _ c.self.inside.cycle c.args.to c.skip_quiet-self-inside.result _ _ c.self.inside.status
-          c.self.inside.status c.make_cycle.result _ _ _ _ _ _ _ _ _ _ c.self.invariant.0 running
-          (c.make_cycle.ensures.makes refl) c.in-Settled.is (ap progress_of c.in-Settled.is ∙ sym running)
-          (omega (arith, c.requires.low)) c.skip_quiet-self-inside.ensures.skipped),
-      passed_low _ (c.self.inside.cycle + 1) c.args.to _ _ _ c.skip_quiet-self-inside.ensures.skipped low,
+          (sound_counted c.skip_quiet-self-inside.new.inner.cycles_made (sound_passed c.self.inside.status
+          c.make_cycle.result c.make_cycle.new.self c.self.invariant.0 running (c.make_cycle.ensures.makes refl)
+          c.in-Settled.is (ap progress_of c.in-Settled.is ∙ sym running) (omega (arith, c.requires.low))
+          c.skip_quiet-self-inside.ensures.skipped)),
+      passed_low c.skip_quiet-self-inside.ensures.skipped low,
       (λ runs. rw c.skip_quiet-self-inside.ensures.inner c.skip_quiet-self-inside.ensures.timetable),
     )
 
@@ -42,65 +38,53 @@ invariant_of-self-in_default g c =
     let ahead : c.self.inside.cycle + 1 ≤ c.args.to = let at : c.self.inside.cycle ≡ c.args.self.now.cycle =
     ap (λ x. x.cycle) c.self.view_is in omega (arith, c.requires.ahead) in
     let told : progress_of c.make_cycle.result ≡ c.progress-self-inside.result = sym c.progress-self-inside.ensures in (
-      rw c.make_cycle.ensures.same (sound_later _ _ c.self.inside.cycle (c.self.inside.cycle + 1) c.self.inside.status
-          c.progress-self-inside.result c.make_cycle.result _ _ _ _ _ _ _ _ _ _ c.self.invariant.0 running
-          (c.make_cycle.ensures.makes refl) told (omega arith) (omega (arith, c.requires.low))
-          (λ less. absurd (omega arith))),
+      rw c.make_cycle.ensures.same (sound_later (c.self.inside.cycle + 1) c.progress-self-inside.result
+          c.make_cycle.result c.make_cycle.new.self c.self.invariant.0 running (c.make_cycle.ensures.makes refl) told
+          (omega arith) (omega (arith, c.requires.low)) (λ less. absurd (omega arith))),
       omega (arith, c.make_cycle.ensures.cycles_made, c.self.invariant.1),
       (λ runs. c.make_cycle.ensures.timetable refl (told ∙ runs)),
     )
 
 pub returns-in-Active-clause-ends : goal.returns-in-Active-clause-ends
-returns-in-Active-clause-ends g c =
-    rw c.make_cycle.ensures.same (later_seen _ _ _ _ _ _ _ _ _ _ _ _ (ap seen c.self.view_is)
-    (rw c.make_cycle.ensures.same at (invariant_of-self g c).0))
+returns-in-Active-clause-ends g c = rw c.make_cycle.ensures.same
+    (later_seen (ap seen c.self.view_is) (rw c.make_cycle.ensures.same at (invariant_of-self g c).0))
 
 pub returns-in-Settled-clause-ends : goal.returns-in-Settled-clause-ends
 returns-in-Settled-clause-ends g c =
-    rw (c.skip_quiet-self-inside.ensures.same, c.make_cycle.ensures.same)
-    (later_seen _ _ _ _ _ _ _ _ _ _ _ _ (ap seen c.self.view_is)
-    (rw (c.skip_quiet-self-inside.ensures.same, c.make_cycle.ensures.same) at (invariant_of-self-in-Settled g c).0))
+    rw (c.skip_quiet-self-inside.ensures.same, c.make_cycle.ensures.same) (later_seen (ap seen c.self.view_is) (rw
+    (c.skip_quiet-self-inside.ensures.same, c.make_cycle.ensures.same) at (invariant_of-self-in-Settled g c).0))
 
 pub returns-in_default-clause-ends : goal.returns-in_default-clause-ends
-returns-in_default-clause-ends g c =
-    rw c.make_cycle.ensures.same (later_seen _ _ _ _ _ _ _ _ _ _ _ _ (ap seen c.self.view_is)
-    (rw c.make_cycle.ensures.same at (invariant_of-self-in_default g c).0))
+returns-in_default-clause-ends g c = rw c.make_cycle.ensures.same
+    (later_seen (ap seen c.self.view_is) (rw c.make_cycle.ensures.same at (invariant_of-self-in_default g c).0))
 
 pub returns-in-Active-clause-goes : goal.returns-in-Active-clause-goes
 returns-in-Active-clause-goes g c =
     let running : c.self.inside.status ≡ Running = ap (λ x. x.status) c.self.view_is ∙ c.requires.running in
-    subst (λ (x : Machine). EndsWithinLimit x.image
-    → GoesOn (run_of x.config x.image) c.args.to x.cycle (c.self.inside.cycle + 1) x.cycles_made
-    c.make_cycle.new.self.cycles_made) c.self.view_is
-    (λ ends. inl (
+    subst (λ (x : Machine). EndsWithinLimit x.image → GoesOn (run_of x.config x.image) c.args.to x.cycle
+    (c.self.inside.cycle + 1) x.cycles_made c.make_cycle.new.self.cycles_made) c.self.view_is (λ ends. inl (
       c.make_cycle.ensures.cycles_made,
-      go_passes _ _ c.self.inside.cycle (c.self.inside.cycle + 1)
-          c.args.to c.self.inside.status c.make_cycle.result _ _ _ _ _ _ _ _ _ _ c.self.invariant.0 running
-          (c.make_cycle.ensures.makes refl) (omega arith) (λ less. absurd (omega arith))
+      go_passes (c.self.inside.cycle + 1) c.args.to c.make_cycle.result c.make_cycle.new.self
+          c.self.invariant.0 running (c.make_cycle.ensures.makes refl) (omega arith) (λ less. absurd (omega arith))
           (λ settled. absurd (active_not_settled c.make_cycle.result c.in-Active.is settled)) ends,
     ))
 
 pub returns-in-Settled-clause-goes : goal.returns-in-Settled-clause-goes
 returns-in-Settled-clause-goes g c =
     let running : c.self.inside.status ≡ Running = ap (λ x. x.status) c.self.view_is ∙ c.requires.running in
-    subst (λ (x : Machine). EndsWithinLimit x.image
-    → GoesOn (run_of x.config x.image) c.args.to x.cycle c.skip_quiet-self-inside.result x.cycles_made
-    c.skip_quiet-self-inside.new.inner.cycles_made) c.self.view_is
-    (settled_goes _ _ c.self.inside.cycle c.args.to c.skip_quiet-self-inside.result c.self.inside.inner.cycles_made _
-    c.self.inside.status c.make_cycle.result _ _ _ _ _ _ _ _ _ _ c.self.invariant.0 running
+    subst (λ (x : Machine). EndsWithinLimit x.image → GoesOn (run_of x.config x.image) c.args.to x.cycle
+    c.skip_quiet-self-inside.result x.cycles_made c.skip_quiet-self-inside.new.inner.cycles_made) c.self.view_is
+    (settled_goes c.self.inside.inner.cycles_made c.make_cycle.result c.make_cycle.new.self c.self.invariant.0 running
     (c.make_cycle.ensures.makes refl) c.in-Settled.is
     (rw c.make_cycle.ensures.cycles_made at c.skip_quiet-self-inside.ensures.skipped))
 
 pub returns-in_default-clause-goes : goal.returns-in_default-clause-goes
 returns-in_default-clause-goes g c =
     let running : c.self.inside.status ≡ Running = ap (λ x. x.status) c.self.view_is ∙ c.requires.running in
-    subst (λ (x : Machine). EndsWithinLimit x.image
-    → GoesOn (run_of x.config x.image) c.args.to x.cycle (c.self.inside.cycle + 1) x.cycles_made
-    c.make_cycle.new.self.cycles_made) c.self.view_is
-    (λ ends. inl (
+    subst (λ (x : Machine). EndsWithinLimit x.image → GoesOn (run_of x.config x.image) c.args.to x.cycle
+    (c.self.inside.cycle + 1) x.cycles_made c.make_cycle.new.self.cycles_made) c.self.view_is (λ ends. inl (
       c.make_cycle.ensures.cycles_made,
-      go_passes _ _ c.self.inside.cycle (c.self.inside.cycle + 1)
-          c.args.to c.self.inside.status c.make_cycle.result _ _ _ _ _ _ _ _ _ _ c.self.invariant.0 running
-          (c.make_cycle.ensures.makes refl) (omega arith) (λ less. absurd (omega arith))
+      go_passes (c.self.inside.cycle + 1) c.args.to c.make_cycle.result c.make_cycle.new.self
+          c.self.invariant.0 running (c.make_cycle.ensures.makes refl) (omega arith) (λ less. absurd (omega arith))
           (λ settled. absurd (c.in_default.not-Settled settled)) ends,
     ))

@@ -4,4 +4,4 @@ use Rattle.tomex_cycle.proofs.Ticks.{now_seen}
 use Rattle.tomex_cycle.proofs.machine.Machine.keeps_step.Goals as goal
 
 pub returns : goal.returns
-returns g c = now_seen _ _ _ _ _ _ _ _ _ _ (ap seen c.self.view_is) c.self.invariant.0
+returns g c = now_seen (ap seen c.self.view_is) c.self.invariant.0

@@ -5,10 +5,7 @@ use Rattle.tomex_cycle.proofs.machine.Machine.new.Goals as goal
 
 pub invariant_of-result : goal.invariant_of-result
 invariant_of-result g c = (
-  rw c.new.ensures
-      (sound_start _ _ _ _ _ _ _ c.keeps_limits.ensures c.fills_its_window.ensures c.in_ok-new.ensures.start
-      c.in_ok-new.ensures.none),
+  rw c.new.ensures (sound_start c.keeps_limits.ensures c.fills_its_window.ensures c.in_ok-new.ensures),
   omega (arith, c.in_ok-new.ensures.none_made),
-  λ runs. known_first _ _
-      c.in_ok-new.ensures.empty c.new-2.ensures.wheel c.new-2.ensures.unsent,
+  λ runs. known_first _ _ c.in_ok-new.ensures.empty c.new-2.ensures.wheel c.new-2.ensures.unsent,
 )

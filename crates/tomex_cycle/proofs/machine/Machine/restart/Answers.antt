@@ -5,10 +5,7 @@ use Rattle.tomex_cycle.proofs.machine.Machine.restart.Goals as goal
 
 pub invariant_of-result : goal.invariant_of-result
 invariant_of-result g c = (
-  rw c.new-in-Ok.ensures
-      (sound_start _ _ _ _ _ _ _ c.keeps_limits.ensures c.fills_its_window.ensures c.in-Ok.ensures.fresh.start
-      c.in-Ok.ensures.fresh.none),
+  rw c.new-in-Ok.ensures (sound_start c.keeps_limits.ensures c.fills_its_window.ensures c.in-Ok.ensures.fresh),
   omega (arith, c.in-Ok.ensures.fresh.none_made),
-  λ runs. known_first _ _
-      c.in-Ok.ensures.fresh.empty c.new.ensures.wheel c.new.ensures.unsent,
+  λ runs. known_first _ _ c.in-Ok.ensures.fresh.empty c.new.ensures.wheel c.new.ensures.unsent,
 )

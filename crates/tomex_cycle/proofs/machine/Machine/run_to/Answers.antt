@@ -13,13 +13,12 @@ loop-self-init g c = record {
   running = c.requires.running;
   none = λ h. refl;
   ends = c.keeps_step.ensures;
-  paid = λ ends. paid_first _ _ _ _;
+  paid = λ ends. paid_first;
 }
 
 pub loop-self-preserved : goal.loop-self-preserved
 loop-self-preserved g c =
-    let at : c.self-in-loop-self.inside.cycle ≡ c.loop-self.self.cycle =
-    ap (λ x. x.cycle) c.self-in-loop-self.view_is in
+    let at = ap (λ x. x.cycle) c.self-in-loop-self.view_is in
     let ahead : c.loop-self.self.cycle < c.args.to = omega (arith, c.loop-self-test.true) in
     record {
       image = c.go_on.ensures.image ∙ c.loop-self.invariant.image;
@@ -29,15 +28,13 @@ loop-self-preserved g c =
       running = sym c.go_on.ensures.answer ∙ c.in-Running.is;
       none = λ h. absurd (omega (arith, h, c.loop-self.invariant.low));
       ends = rw (c.loop-self.invariant.image, c.loop-self.invariant.config) at c.go_on.ensures.ends;
-      paid = λ e. paid_on _ c.args.to c.args.self.now.cycle c.loop-self.self.cycle _ _ _ _ ahead
-          (c.loop-self.invariant.paid e) ((rw (c.loop-self.invariant.image, c.loop-self.invariant.config) at
-          c.go_on.ensures.goes) e);
+      paid = λ e. paid_on ahead (c.loop-self.invariant.paid e)
+          ((rw (c.loop-self.invariant.image, c.loop-self.invariant.config) at c.go_on.ensures.goes) e);
     }
 
 pub returns-in_default : goal.returns-in_default
 returns-in_default g c =
-    let at : c.self-in-loop-self.inside.cycle ≡ c.loop-self.self.cycle =
-    ap (λ x. x.cycle) c.self-in-loop-self.view_is in
+    let at = ap (λ x. x.cycle) c.self-in-loop-self.view_is in
     let ahead : c.loop-self.self.cycle < c.args.to = omega (arith, c.loop-self-test.true) in
     record {
       image = c.go_on.ensures.image ∙ c.loop-self.invariant.image;
@@ -51,15 +48,13 @@ returns-in_default g c =
           (max c.args.self.now.cycle c.args.to) (seen c.go_on.new.self)
           ((rw (c.loop-self.invariant.image, c.loop-self.invariant.config) at c.go_on.ensures.ends) e)
           (λ runs. c.in_default.not-Running (c.go_on.ensures.answer ∙ runs)) (omega (arith, c.go_on.ensures.most));
-      cycles_made = λ e. paid_counts _ c.args.to c.args.self.now.cycle c.go_on.new.self.cycle _ _
-          (paid_on _ c.args.to c.args.self.now.cycle c.loop-self.self.cycle _ _ _ _ ahead (c.loop-self.invariant.paid e)
+      cycles_made = λ e. paid_counts (paid_on ahead (c.loop-self.invariant.paid e)
           ((rw (c.loop-self.invariant.image, c.loop-self.invariant.config) at c.go_on.ensures.goes) e));
     }
 
 pub returns : goal.returns
 returns g c =
-    let at : c.self-in-loop-self.inside.cycle ≡ c.loop-self.self.cycle =
-    ap (λ x. x.cycle) c.self-in-loop-self.view_is in
+    let at = ap (λ x. x.cycle) c.self-in-loop-self.view_is in
     let there : c.loop-self.self.cycle ≡ max c.args.self.now.cycle c.args.to =
     omega (arith, c.loop-self-test.false, c.loop-self.invariant.low, c.loop-self.invariant.high) in
     record {
@@ -71,6 +66,5 @@ returns g c =
       same_if_over = λ stopped. absurd (stopped c.requires.running);
       same_if_there = c.loop-self.invariant.none;
       after_ticks = λ e. rw (← there) (c.loop-self.invariant.ends e);
-      cycles_made = λ e. paid_counts _ c.args.to c.args.self.now.cycle c.loop-self.self.cycle _ _
-          (c.loop-self.invariant.paid e);
+      cycles_made = λ e. paid_counts (c.loop-self.invariant.paid e);
     }

@@ -1,7 +1,5 @@
 use Rattle.std.proofs.Common.{◌≡◌, ◌≤◌, ◌-◌, max}
-use Rattle.tomex_cycle.specs.Seen.{seen, seen_after}
-use Rattle.tomex_cycle.specs.declared.progress.Progress.TheVariants.{Running}
-use Rattle.tomex_cycle.specs.Run.{EndsWithinLimit, run_of}
+use Rattle.tomex_cycle.proofs.Words.{seen, seen_after, Running, EndsWithinLimit, run_of}
 use Rattle.tomex_cycle.proofs.Counts.{IsPaid}
 use Rattle.tomex_cycle.proofs.machine.Machine.run_to.Given as goal
 
